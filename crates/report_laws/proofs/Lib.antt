@@ -1,4 +1,5 @@
 pub mod Aborted
 pub mod Growing
+pub mod Once
 pub mod ReportMarks
 pub mod RunOf

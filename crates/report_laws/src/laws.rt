@@ -1,6 +1,11 @@
 //! What is reported of a transaction is what the history has of it.
 ghost use Rattle.report_laws.specs.Growing.{HistoriesGrow};
-ghost use Rattle.report_laws.specs.Reported.{AbortsAreInNone};
+ghost use Rattle.report_laws.specs.Reported.{AbortsAreInNone, EndsAreReportedOnce};
+
+/// The end of a transaction is reported once at most, as a commit or as an abort.
+pub fn ends_are_reported_once()
+    ensures { EndsAreReportedOnce }
+{}
 
 /// Where a transaction was reported aborted, however late, no closed cut has it in its history.
 pub fn aborts_are_in_none()
