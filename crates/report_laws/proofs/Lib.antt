@@ -3,3 +3,5 @@ pub mod Growing
 pub mod Once
 pub mod ReportMarks
 pub mod RunOf
+pub mod Words
+pub mod Written
