@@ -1,7 +1,11 @@
 pub mod Aborted
+pub mod Committed
+pub mod Facts
 pub mod Growing
 pub mod Once
 pub mod ReportMarks
 pub mod RunOf
+pub mod Steps
+pub mod Turns
 pub mod Words
 pub mod Written
