@@ -2,6 +2,7 @@ pub mod Aborted
 pub mod Committed
 pub mod Facts
 pub mod Growing
+pub mod InHistory
 pub mod Once
 pub mod ReportMarks
 pub mod RunOf

@@ -1,10 +1,16 @@
 //! What is reported of a transaction is what the history has of it.
 ghost use Rattle.report_laws.specs.Growing.{HistoriesGrow};
-ghost use Rattle.report_laws.specs.Reported.{AbortsAreInNone, EndsAreReportedOnce};
+ghost use Rattle.report_laws.specs.Reported.{AbortsAreInNone, CommitsAreInHistory, EndsAreReportedOnce};
 
 /// The end of a transaction is reported once at most, as a commit or as an abort.
 pub fn ends_are_reported_once()
     ensures { EndsAreReportedOnce }
+{}
+
+/// Where a transaction was reported committed in an epoch, the history of each closed cut that has
+/// the report has an entry of the transaction with this epoch.
+pub fn commits_are_in_history()
+    ensures { CommitsAreInHistory }
 {}
 
 /// Where a transaction was reported aborted, however late, no closed cut has it in its history.
