@@ -1,11 +1,13 @@
 pub mod Aborted
 pub mod Committed
+pub mod Confs
 pub mod Facts
 pub mod Growing
 pub mod InHistory
 pub mod Once
 pub mod ReportMarks
 pub mod RunOf
+pub mod Said
 pub mod Steps
 pub mod Turns
 pub mod Words
