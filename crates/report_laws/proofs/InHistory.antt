@@ -53,7 +53,7 @@ module _ (tx : TxId) (epoch : ℕ) (ops : List (Op × Answer)) where
   marks_keep h stamp log (m ∷ marks) before has = marks_keep h stamp log marks before has
 
   -- the operations of a request that a step took
-  ops_taken : (e : HostStep) (log : List HostStep) → e.step.taken.body ≡ Epoch (DiVerifyReq tx ops) → ops_of tx (e ∷ log) ≡ ops
+  pub ops_taken : (e : HostStep) (log : List HostStep) → e.step.taken.body ≡ Epoch (DiVerifyReq tx ops) → ops_of tx (e ∷ log) ≡ ops
   ops_taken e log took = ap (λ body. else_of (verified_by tx body) (ops_of tx log)) took ∙ ap (λ b. else_of (if b then Some ops else None) (ops_of tx log)) (same_tx-self tx)
 
   log_entry : (h : ℕ) (log : List HostStep) (step : HostStep) → IsIn step log → step.step.marks ≡ Decided tx epoch ∷ [] → step.step.taken.body ≡ Epoch (DiVerifyReq tx ops)

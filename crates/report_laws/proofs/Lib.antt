@@ -2,11 +2,13 @@ pub mod Aborted
 pub mod Committed
 pub mod Confs
 pub mod Facts
+pub mod Given
 pub mod Growing
 pub mod InHistory
 pub mod Once
 pub mod ReportMarks
 pub mod RunOf
+pub mod Replied
 pub mod Said
 pub mod Steps
 pub mod Turns

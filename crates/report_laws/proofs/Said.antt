@@ -57,7 +57,8 @@ use Rattle.world_core.specs.Machine.{after, machine, signals_of, step_after}
 use Rattle.world_core.specs.Start.{Start}
 use Rattle.world_core.specs.Steps.{Addressed, HostStep}
 use Rattle.host_laws.proofs.ApiMoves.{ApiMove, api_moves, begun_as, ends, goes, is_api_kind, opens, refuses, rests}
-use Rattle.host_laws.proofs.BlocksAlong.{first_live}
+use Rattle.host_laws.proofs.BlocksAlong.{at_own_node, first_live}
+use Rattle.host_laws.proofs.BlocksAlong as blocks
 use Rattle.host_laws.proofs.DihSends.{dih_kinds}
 use Rattle.host_laws.proofs.LinkCounts.{steps}
 use Rattle.host_laws.proofs.LqhSends.{lqh_kinds}
@@ -71,6 +72,7 @@ use Rattle.host_laws.specs.Counts.{one_if}
 use Rattle.answer_laws.proofs.ApiEntries.{is_commit_req}
 use Rattle.run_laws.specs.Live.{live_at, of_host, of_live}
 use Rattle.run_laws.specs.Transit.{AreInTransit, Comes, IsRun, Takes, joined, logs_of}
+use Rattle.run_laws.proofs.Addressed.{comes_below}
 use Rattle.run_laws.proofs.HomeSteps.{IsHome, all_home, away, here_now, here_was, own_home}
 use Rattle.run_laws.proofs.LiveOf.{of_each}
 use Rattle.run_laws.proofs.TcCircle.{ready_is}
@@ -206,6 +208,9 @@ module _ (start : Start) (tx : TxId) where
     pub shut : IsShut start tx logs ops
     pub said : newest ops [] ≡ said start tx logs
     pub wanted : 1 ≤ steps (is_commit_req tx) (logs (home start tx))
+    -- its coordinator's node is there
+    pub some : 1 ≤ tx.tc
+    pub low : tx.tc ≤ start.shape.nodes
 
   abbrev pub SaidTells : (ℕ → List HostStep) → Body → Type 0
   SaidTells logs (Epoch (DiVerifyReq other ops)) = same_tx other tx ≡ true → IsSaid logs ops
@@ -328,6 +333,8 @@ module _ (start : Start) (tx : TxId) where
             shut = record { old = old_now s.shut.old; live = λ u is. s.shut.live u (sym live ∙ is) };
             said = s.said ∙ sym same_said;
             wanted = wanted_now s.wanted;
+            some = s.some;
+            low = s.low;
           };
           sent = mute sends none;
           live = λ u is. held.live u (sym live ∙ is) ∙ sym same_said;
@@ -338,7 +345,8 @@ module _ (start : Start) (tx : TxId) where
     of_state s is = ap (λ (c : TcState). of_live tx c.live) is
 
     -- a turn of it
-    module _ (at_tc : e.step.taken.to.block ≡ block.Tc) (t : Transaction) (same : h ≡ at_home) (was : live_at start old tx ≡ Some t) (early : tx.seq < next_number (after start at_home (now at_home))) where
+    module _ (at_tc : e.step.taken.to.block ≡ block.Tc) (t : Transaction) (same : h ≡ at_home) (was : live_at start old tx ≡ Some t) (early : tx.seq < next_number (after start at_home (now at_home)))
+        (there : blocks.IsHome start tx h) where
       record Turned (turn : Turn) : Type 0 where
         sent : Each (λ (o : Outgoing). SaidTells now o.body) turn.step.effects.sends
         said_is : (u : Transaction) → left_by turn ≡ Some u → newest u.ops [] ≡ confs_in tx turn.step.effects.sends (newest t.ops [])
@@ -419,6 +427,8 @@ module _ (start : Start) (tx : TxId) where
         shut = record { old = early; live = λ u at. subst (IsShutWith t.ops) (the_same (at_phase t Verifying) u (sym left ∙ at)) (record { shut = refl; ops_are = refl }) };
         said = sym told;
         wanted = wished is;
+        some = there.some;
+        low = there.low;
       }
 
       verify_none : (node : ℕ) (list : List Answer) → (if node == 0 then list else list) ≡ list
@@ -509,6 +519,8 @@ module _ (start : Start) (tx : TxId) where
                 shut = record { old = old_now s.shut.old; live = λ u is. let k = leaves.shut at.shut u (sym left_now ∙ is) in record { shut = k.shut; ops_are = k.ops_are ∙ at.ops_are } };
                 said = s.said ∙ sym (said_now ∙ leaves.still at.shut (said start tx old));
                 wanted = wanted_now s.wanted;
+                some = s.some;
+                low = s.low;
               };
           sent = subst (Each (λ (o : Outgoing). SaidTells now o.body)) (sym sent_is) leaves.sent;
           live = λ u is. leaves.said_is u (sym left_now ∙ is) ∙ sym told_now;
@@ -520,6 +532,11 @@ module _ (start : Start) (tx : TxId) where
 
             same : h ≡ at_home
             same = own_home start es e come tx step.runs own_is.home
+
+            there : blocks.IsHome start tx h
+            there =
+                let at = at_own_node start h (old h) (comes_below start es e come) step.runs in
+                record { some = omega (arith, at.some, own_is.home); low = omega (arith, at.low, own_is.home); is = same }
 
             live_was : live_at start old tx ≡ Some t
             live_was = ap (of_host tx) (here_was start es e come tx same) ∙ was
@@ -539,8 +556,8 @@ module _ (start : Start) (tx : TxId) where
             told_now : said start tx now ≡ confs_in tx (turn_for (tc_of g).node (tc_of g).layout tx e.step.taken.body t).step.effects.sends (newest t.ops [])
             told_now = said_now ∙ ap (confs_in tx (turn_for (tc_of g).node (tc_of g).layout tx e.step.taken.body t).step.effects.sends) (sym (held.live t live_was))
 
-            leaves : Turned step.at t same live_was early (turn_for (tc_of g).node (tc_of g).layout tx e.step.taken.body t)
-            leaves = turned step.at t same live_was early (tc_of g).node (tc_of g).layout own left_now told_now
+            leaves : Turned step.at t same live_was early there (turn_for (tc_of g).node (tc_of g).layout tx e.step.taken.body t)
+            leaves = turned step.at t same live_was early there (tc_of g).node (tc_of g).layout own left_now told_now
 
     leaves : Leaves
     leaves = by (row g e.step.taken) refl (block_case g e.step.taken)
