@@ -1,4 +1,5 @@
 pub mod Aborted
+pub mod Answers
 pub mod Committed
 pub mod Confs
 pub mod Facts

@@ -58,5 +58,6 @@ GivenAreOfEntries =
 abbrev pub ReportedAreGiven : Type 0
 ReportedAreGiven =
     (start : Start) (inside logs : ℕ → List HostStep) → IsShape start.shape → IsWithin (hosts start) logs → AreLogs (machine start) logs → IsCut inside logs
+    → IsClosed (machine start) inside
     → (entry : Entry) → IsIn entry (entries (hosts start) logs) → have_mark (is_reported entry.tx) (hosts start) inside ≡ true
     → given start entry.tx (inside 0) ≡ answers_of entry

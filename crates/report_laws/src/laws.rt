@@ -1,4 +1,5 @@
 //! What is reported of a transaction is what the history has of it.
+ghost use Rattle.report_laws.specs.Answered.{GivenAreOfEntries, ReportedAreGiven};
 ghost use Rattle.report_laws.specs.Growing.{HistoriesGrow};
 ghost use Rattle.report_laws.specs.Reported.{AbortsAreInNone, CommitsAreInHistory, EndsAreReportedOnce};
 
@@ -23,4 +24,16 @@ pub fn aborts_are_in_none()
 /// them.
 pub fn histories_grow()
     ensures { HistoriesGrow }
+{}
+
+/// The answers that the client was given for a transaction, by whichever moment, are the first of
+/// those that its entry has, in their order, whenever it is decided.
+pub fn given_are_of_entries()
+    ensures { GivenAreOfEntries }
+{}
+
+/// Where a transaction was reported committed inside a closed cut, the answers that the client was
+/// given for it there are those of its entry, in their order.
+pub fn reported_are_given()
+    ensures { ReportedAreGiven }
 {}

@@ -3,4 +3,7 @@
 
 mod laws;
 
-pub use laws::{aborts_are_in_none, commits_are_in_history, ends_are_reported_once, histories_grow};
+pub use laws::{
+    aborts_are_in_none, commits_are_in_history, ends_are_reported_once, given_are_of_entries, histories_grow,
+    reported_are_given,
+};
