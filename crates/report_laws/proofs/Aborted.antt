@@ -1,8 +1,7 @@
 -- What was reported aborted is given up, and so no history has it.
-use Rattle.std.proofs.Common.{◌≡◌, ◌⊎◌, ℕ, Bool, true, false, cond, ◌||◌, List, [], ◌∷◌, filter, refl, sym, ap, ◌∙◌, subst, inl, inr}
+use Rattle.std.proofs.Common.{◌≡◌, ℕ, Bool, true, false, cond, ◌||◌, List, [], ◌∷◌, filter, refl, sym, ap, ◌∙◌, subst}
 use Rattle.std.specs.Prelude.{if◌then◌else◌}
 use Rattle.std.proofs.lemmas.Bool.{or_left, or_right}
-use Rattle.run_theory.specs.Cuts.{IsCut}
 use Rattle.run_theory.specs.Lists.{Each, IsPast}
 use Rattle.run_theory.proofs.Orders.{each_next}
 use Rattle.run_theory.proofs.Pasts.{each_map}
@@ -15,7 +14,7 @@ use Rattle.sig_core.specs.declared.outcome.Outcome.TheVariants as outcome
 use Rattle.sig_core.specs.Same.{same_tx}
 use Rattle.sig_core.proofs.TxLemmas.{same_tx-is}
 use Rattle.world_core.specs.Entries.{entries}
-use Rattle.world_core.specs.History.{history, is_applied, is_kept, is_reported, writes}
+use Rattle.world_core.specs.History.{is_applied, is_kept, is_reported, writes}
 use Rattle.world_core.specs.Hosts.{hosts}
 use Rattle.world_core.specs.Machine.{after, machine}
 use Rattle.world_core.specs.Marks.{have_mark}

@@ -1,8 +1,7 @@
 -- The answers that the client was given for a transaction are those of its entry.
-use Rattle.std.proofs.Common.{◌≡◌, ◌≢◌, ◌⊎◌, ◌≤◌, ◌+◌, ℕ, Bool, true, false, ◌||◌, List, [], ◌∷◌, ◌++◌, length, map, reverse, refl, sym, ap, ◌∙◌, subst, inl, inr, arith}
+use Rattle.std.proofs.Common.{◌≡◌, ◌≤◌, ℕ, Bool, true, false, ◌||◌, List, [], ◌∷◌, ◌++◌, length, map, reverse, refl, sym, ap, ◌∙◌, subst, inl, inr, arith}
 use Rattle.std.specs.List.{list_any}
 use Rattle.std.specs.Prelude.{if◌then◌else◌}
-use Rattle.run_theory.specs.Cuts.{IsCut}
 use Rattle.run_theory.specs.Links.{sent}
 use Rattle.run_theory.specs.Lists.{Each, IsIn, IsPast}
 use Rattle.run_theory.specs.Logs.{IsLog}
@@ -25,7 +24,6 @@ use Rattle.sig_core.specs.declared.signal.client.ClientSignal.TheVariants.{TcBeg
 use Rattle.sig_core.specs.declared.signal.epoch.EpochSignal.TheVariants.{DiVerifyConf, DiVerifyReq}
 use Rattle.sig_core.specs.Same.{same_tx}
 use Rattle.sig_core.proofs.Keys.{same_tx-self}
-use Rattle.sig_core.proofs.TxLemmas.{same_tx-is}
 use Rattle.api_block.specs.Opened.{has_tx}
 use Rattle.lqh_block.proofs.EachLqh.{lqh_marks_each}
 use Rattle.lqh_block.specs.Lqh.{lqh_table}
@@ -38,14 +36,13 @@ use Rattle.node_core.specs.Row.{row}
 use Rattle.tc_block.specs.State.{TcState}
 use Rattle.tc_block.specs.Tc.{tc_table}
 use Rattle.world_core.proofs.HostNumbers.{api_found}
-use Rattle.world_core.specs.Entries.{entries, entries_in, entries_of, entry_of, ops_of}
+use Rattle.world_core.specs.Entries.{entries, entries_in, entries_of}
 use Rattle.world_core.specs.History.{is_reported}
 use Rattle.world_core.specs.Hosts.{home, hosts}
 use Rattle.world_core.specs.Machine.{after, machine}
 use Rattle.world_core.specs.Start.{Start}
 use Rattle.world_core.specs.Steps.{Addressed, HostStep}
 use Rattle.host_laws.proofs.HostMarks.{AreMarks, decides, plain}
-use Rattle.host_laws.proofs.TcKeys.{is_answer, is_key}
 use Rattle.host_laws.proofs.TcMarks.{tc_marks}
 use Rattle.host_laws.specs.Causes.{is_decision}
 use Rattle.host_laws.specs.Counts.{tally}

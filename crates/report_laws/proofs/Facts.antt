@@ -1,6 +1,6 @@
 -- What is true of a transaction once its epoch is asked for, given, and told to the client.
-use Rattle.std.proofs.Common.{◌≡◌, ◌⊎◌, ◌<◌, ℕ, Bool, true, false, List, [], ◌∷◌, refl}
-use Rattle.std.specs.Prelude.{Option, None, Some}
+use Rattle.std.proofs.Common.{◌≡◌, ◌⊎◌, ◌<◌, ℕ, true, false, List, [], ◌∷◌}
+use Rattle.std.specs.Prelude.{Some}
 use Rattle.run_theory.specs.Lists.{Each, IsIn}
 use Rattle.sig_core.specs.declared.mark.Mark.{Mark}
 use Rattle.sig_core.specs.declared.mark.Mark.TheVariants.{Decided, Reported}

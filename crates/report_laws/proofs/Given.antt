@@ -1,8 +1,8 @@
 -- The client is given each answer of a transaction that it has open, as it is heard.
-use Rattle.std.proofs.Common.{◌≡◌, ◌≢◌, ◌⊎◌, ◌≤◌, ◌+◌, ℕ, zero, suc, Bool, true, false, List, [], ◌∷◌, ◌++◌, filter_map, length, drop, reverse, refl, sym, ap, ◌∙◌, subst, inl, inr, arith}
+use Rattle.std.proofs.Common.{◌≡◌, ◌≢◌, ◌⊎◌, ◌≤◌, ◌+◌, ℕ, Bool, true, false, List, [], ◌∷◌, ◌++◌, filter_map, length, drop, reverse, refl, sym, ap, ◌∙◌, subst, inl, inr, arith}
 use Rattle.std.proofs.lemmas.Bool.{cases_eq, false≢true}
 use Rattle.std.specs.List.{cons_option}
-use Rattle.std.specs.Prelude.{◌==◌, ◌&&◌, if◌then◌else◌, Option, None, Some}
+use Rattle.std.specs.Prelude.{◌&&◌, if◌then◌else◌, None, Some}
 use Rattle.run_theory.specs.Links.{is_from, sent, taken}
 use Rattle.run_theory.specs.Lists.{IsIn, IsPast}
 use Rattle.run_theory.specs.Runs.{AreLogs, IsWithin, log_of}
@@ -12,7 +12,6 @@ use Rattle.sig_core.specs.declared.op.Answer.{Answer}
 use Rattle.sig_core.specs.declared.place.BlockId.{BlockId}
 use Rattle.sig_core.specs.declared.place.BlockId.TheVariants as block
 use Rattle.sig_core.specs.declared.place.Place.{Place}
-use Rattle.sig_core.specs.declared.reply.ApiReply.{ApiReply}
 use Rattle.sig_core.specs.declared.reply.ApiReply.TheVariants.{Answered}
 use Rattle.sig_core.specs.declared.signal.Body.{Body}
 use Rattle.sig_core.specs.declared.signal.Body.TheVariants.{Client}
@@ -30,13 +29,13 @@ use Rattle.api_block.specs.State.{ApiState}
 use Rattle.node_core.specs.Replies.{replies_of}
 use Rattle.node_core.specs.Row.{row, shell_row}
 use Rattle.world_core.specs.Hosts.{home, hosts}
-use Rattle.world_core.specs.Machine.{after, machine, step_after}
+use Rattle.world_core.specs.Machine.{after, machine}
 use Rattle.world_core.specs.Start.{Start}
-use Rattle.world_core.specs.Steps.{Addressed, HostStep}
+use Rattle.world_core.specs.Steps.{HostStep}
 use Rattle.host_laws.proofs.ApiBegins.{IsGood, each_at, in_middle}
 use Rattle.host_laws.proofs.ApiHolds.{shell_holds}
 use Rattle.host_laws.proofs.LinkCounts.{sent_signals, signals, steps, steps_from, taken_steps, to_host}
-use Rattle.host_laws.proofs.ShellHost.{opened_first, opened_next, shell_after, shell_sends}
+use Rattle.host_laws.proofs.ShellHost.{opened_next, shell_after, shell_sends}
 use Rattle.host_laws.proofs.TcKeys.{answer_of, is_answer, is_key}
 use Rattle.host_laws.proofs.TcLives.{is_start, start_of}
 use Rattle.host_laws.proofs.Wishes.{is_api, sends_of}
@@ -46,7 +45,7 @@ use Rattle.answer_laws.specs.Answered.{is_operating}
 use Rattle.answer_laws.proofs.ApiEntries.{is_commit_req, of_opened, opened_at}
 use Rattle.answer_laws.proofs.Asks.{plain_answer}
 use Rattle.answer_laws.proofs.Heard.{AllHeard, all_heard}
-use Rattle.answer_laws.proofs.Missed.{api_is, shell_stays}
+use Rattle.answer_laws.proofs.Missed.{shell_stays}
 use Rattle.answer_laws.proofs.Strangers.{answers_asked, answers_few, keys_few, never_answers, starts_once}
 use Rattle.answer_laws.proofs.Wants.{IsHeld, held_few}
 use Rattle.run_laws.proofs.AlongSteps.{Goes, along, none_else}

@@ -13,7 +13,7 @@ use Rattle.world_core.specs.History.{history, is_applied, is_kept, is_reported, 
 use Rattle.world_core.specs.Hosts.{hosts}
 use Rattle.world_core.specs.Marks.{has_mark, have_mark}
 use Rattle.world_core.specs.Steps.{HostStep}
-use Rattle.report_laws.specs.Growing.{BeginsWith, HistoriesGrow, IsSublist}
+use Rattle.report_laws.specs.Growing.{HistoriesGrow, IsSublist}
 
 each_sublist : {A : Type 0} (P : A → Type 0) (xs ys : List A) → IsSublist xs ys → Each P ys → Each P xs
 each_sublist P xs [] none all = subst (Each P) (sym none) tt

@@ -1,5 +1,5 @@
 -- What was reported committed is in the history, with its epoch.
-use Rattle.std.proofs.Common.{◌≡◌, ◌⊎◌, ◌≤◌, ◌<◌, ℕ, zero, suc, Bool, true, false, ◌&&◌, ◌||◌, List, [], ◌∷◌, filter, refl, sym, ap, ◌∙◌, subst, inl, inr, arith}
+use Rattle.std.proofs.Common.{◌≡◌, ◌⊎◌, ◌≤◌, ◌<◌, ℕ, zero, suc, Bool, true, false, ◌||◌, List, [], ◌∷◌, refl, sym, ap, ◌∙◌, subst, inl, inr, arith}
 use Rattle.std.proofs.lemmas.Bool.{and_parts, cases_lt, eqb-true, or_cases, or_left, or_right}
 use Rattle.std.specs.List.{list_any}
 use Rattle.std.specs.Prelude.{◌==◌, if◌then◌else◌, None, Some}
@@ -12,12 +12,10 @@ use Rattle.sig_core.specs.declared.member.TxId.{TxId}
 use Rattle.sig_core.specs.declared.op.Answer.{Answer}
 use Rattle.sig_core.specs.declared.op.Op.{Op}
 use Rattle.sig_core.specs.declared.outcome.Outcome.TheVariants as outcome
-use Rattle.sig_core.specs.declared.signal.Body.{Body}
 use Rattle.sig_core.specs.declared.signal.Body.TheVariants.{Epoch}
 use Rattle.sig_core.specs.declared.signal.epoch.EpochSignal.TheVariants.{DiVerifyReq}
 use Rattle.sig_core.specs.Same.{same_tx}
 use Rattle.sig_core.proofs.Keys.{same_tx-self}
-use Rattle.sig_core.proofs.TxLemmas.{same_tx-is}
 use Rattle.world_core.specs.Entries.{else_of, entries, entries_in, entries_of, entry_of, insert, insert_all, is_before, ops_of, verified_by}
 use Rattle.world_core.specs.History.{history, is_applied, is_kept, is_reported, writes}
 use Rattle.world_core.specs.Hosts.{home, hosts}
@@ -30,7 +28,7 @@ use Rattle.run_laws.proofs.GivenUp.{kept_are_not_given_up}
 use Rattle.run_laws.proofs.TransitRuns.{runs_have_transit}
 use Rattle.report_laws.specs.Reported.{CommitsAreInHistory, HasEntryOf, is_committed_in}
 use Rattle.report_laws.proofs.Committed.{all_told}
-use Rattle.report_laws.proofs.Facts.{IsDecidedWith, IsSettledIn, MarkTells}
+use Rattle.report_laws.proofs.Facts.{IsSettledIn, MarkTells}
 use Rattle.report_laws.proofs.ReportMarks.{marks_show}
 use Rattle.report_laws.proofs.RunOf.{IsRunTo, run_inside}
 use Rattle.report_laws.proofs.Written.{filter_in, have_done}

@@ -1,14 +1,11 @@
 -- The end of a transaction is reported once: by then the API has it no more, and it begins but once.
-use Rattle.std.proofs.Common.{◌≡◌, ◌≢◌, ◌⊎◌, ◌≤◌, ◌+◌, ℕ, zero, suc, Bool, true, false, List, [], ◌∷◌, ◌++◌, refl, sym, ap, ◌∙◌, subst, inl, inr, arith}
-use Rattle.std.specs.Prelude.{◌&&◌, remove, Option, None, Some}
-use Rattle.std.proofs.lemmas.Bool.{cases_eq, false≢true}
+use Rattle.std.proofs.Common.{◌≡◌, ◌≢◌, ◌⊎◌, ◌≤◌, ◌+◌, ℕ, zero, suc, Bool, true, false, List, [], ◌∷◌, refl, sym, ap, ◌∙◌, subst, inl, inr, arith}
+use Rattle.std.specs.Prelude.{◌&&◌, remove}
+use Rattle.std.proofs.lemmas.Bool.{false≢true}
 use Rattle.run_theory.specs.Lists.{Each}
 use Rattle.run_theory.specs.Logs.{IsLog}
-use Rattle.run_theory.proofs.Pasts.{each_map}
 use Rattle.sig_core.specs.declared.mark.Mark.{Mark}
-use Rattle.sig_core.specs.declared.mark.Mark.TheVariants.{Reported}
 use Rattle.sig_core.specs.declared.member.TxId.{TxId}
-use Rattle.sig_core.specs.declared.outcome.Outcome.{Outcome}
 use Rattle.sig_core.specs.declared.place.BlockId.{BlockId}
 use Rattle.sig_core.specs.declared.place.BlockId.TheVariants as block
 use Rattle.sig_core.specs.declared.request.ApiReq.{ApiReq}
@@ -22,14 +19,13 @@ use Rattle.sig_core.specs.Same.{same_tx}
 use Rattle.sig_core.specs.Step.{Step}
 use Rattle.sig_core.proofs.TxLemmas.{same_tx-is}
 use Rattle.api_block.specs.Api.{api_table}
-use Rattle.api_block.specs.declared.opened.OpenTransaction.{OpenTransaction}
 use Rattle.api_block.specs.Opened.{has_tx}
 use Rattle.api_block.specs.State.{ApiState}
 use Rattle.lqh_block.proofs.EachLqh.{lqh_marks_each}
 use Rattle.lqh_block.specs.Lqh.{lqh_table}
 use Rattle.lqh_block.specs.State.{LqhState}
 use Rattle.node_core.proofs.HostCases.{each_mark}
-use Rattle.node_core.specs.Blocks.{api_of, dih_of, has_api, lqh_of, tc_of}
+use Rattle.node_core.specs.Blocks.{dih_of, has_api, lqh_of, tc_of}
 use Rattle.node_core.specs.Dih.{DihState, decide_if, decide_row, dih_table}
 use Rattle.node_core.specs.declared.host.Host as host
 use Rattle.node_core.specs.Row.{row, shell_row}
@@ -52,7 +48,7 @@ use Rattle.world_core.specs.Machine.{after, machine, step_after}
 use Rattle.world_core.specs.Start.{Start}
 use Rattle.world_core.specs.Steps.{HostStep}
 use Rattle.answer_laws.proofs.Strangers.{starts_once}
-use Rattle.report_laws.specs.Reported.{EndsAreReportedOnce, is_ended, marks_in, marks_of}
+use Rattle.report_laws.specs.Reported.{EndsAreReportedOnce, is_ended, marks_in}
 
 module _ (tx : TxId) where
   -- a step reports nothing of the transaction, or has it once less for each report

@@ -1,9 +1,7 @@
 -- What is true of a transaction stays true in a step of a run.
-use Rattle.std.proofs.Common.{◌≡◌, ◌≢◌, ◌⊎◌, ◌<◌, ℕ, Bool, true, false, ◌||◌, List, [], ◌∷◌, refl, sym, ap, ◌∙◌, subst, inl, inr, arith}
-use Rattle.std.proofs.lemmas.Bool.{cases_eq}
+use Rattle.std.proofs.Common.{◌≡◌, ◌⊎◌, ℕ, Bool, true, false, ◌||◌, List, ◌∷◌, refl, sym, ap, ◌∙◌, inl, inr}
 use Rattle.std.specs.List.{list_any}
-use Rattle.std.specs.Prelude.{◌==◌, Option, None, Some}
-use Rattle.run_theory.specs.Lists.{Each, IsIn, IsPast}
+use Rattle.run_theory.specs.Lists.{IsPast}
 use Rattle.run_theory.proofs.Pasts.{each_map, in_past}
 use Rattle.run_theory.proofs.Runs.{log_of-past}
 use Rattle.sig_core.specs.declared.mark.Mark.{Mark}
@@ -24,11 +22,10 @@ use Rattle.node_core.specs.Requests.{is_request}
 use Rattle.tc_block.specs.declared.phase.Phase.{Phase}
 use Rattle.tc_block.specs.declared.phase.Phase.TheVariants.{Committing, Completing}
 use Rattle.tc_block.specs.declared.touched.Touched.{Touched}
-use Rattle.tc_block.specs.declared.transaction.Transaction.{Transaction}
 use Rattle.key_laws.specs.Primary.{HasPrepared}
 use Rattle.world_core.specs.History.{is_applied}
 use Rattle.world_core.specs.Hosts.{home, hosts}
-use Rattle.world_core.specs.Machine.{after, machine}
+use Rattle.world_core.specs.Machine.{machine}
 use Rattle.world_core.specs.Marks.{has_mark}
 use Rattle.world_core.specs.Start.{Start}
 use Rattle.world_core.specs.Steps.{Addressed, HostStep}
@@ -36,7 +33,6 @@ use Rattle.host_laws.specs.Causes.{is_decision}
 use Rattle.host_laws.proofs.TcWays.{not_both}
 use Rattle.run_laws.specs.Circle.{at_host}
 use Rattle.run_laws.specs.GivenUp.{is_given_up}
-use Rattle.run_laws.specs.Live.{live_at}
 use Rattle.run_laws.specs.Owed.{is_decided}
 use Rattle.run_laws.specs.Routes.{primary_host}
 use Rattle.run_laws.specs.Transit.{AreInTransit, Comes, Takes, logs_of}
@@ -44,7 +40,6 @@ use Rattle.run_laws.proofs.Decided.{in_mark}
 use Rattle.run_laws.proofs.GivenUp.{aborts_are_of_given_up}
 use Rattle.run_laws.proofs.RoutedEvents.{commits_end_at_primary}
 use Rattle.run_laws.proofs.StepFades.{StepFades, step_fades}
-use Rattle.run_laws.proofs.TxSteps.{next_number}
 use Rattle.run_laws.proofs.Undecided.{decided_have_none}
 use Rattle.run_laws.proofs.Ways.{given_more}
 use Rattle.run_laws.proofs.Weighing.{each_taken}

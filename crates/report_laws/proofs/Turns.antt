@@ -1,23 +1,20 @@
 -- What a turn of a transaction tells of it, and leaves.
-use Rattle.std.proofs.Common.{◌≡◌, ◌≢◌, ◌⊎◌, ◌≤◌, ◌<◌, ◌-◌, ◌+◌, ℕ, suc, Bool, true, false, List, [], ◌∷◌, length, refl, sym, ap, ◌∙◌, subst, inl, inr, arith}
+use Rattle.std.proofs.Common.{◌≡◌, ◌⊎◌, ◌≤◌, ◌<◌, ℕ, suc, Bool, true, false, List, [], ◌∷◌, length, refl, sym, ap, ◌∙◌, subst, inl, inr, arith}
 use Rattle.std.proofs.lemmas.Bool.{and_parts, cases_lt, eqb-true}
-use Rattle.std.specs.Prelude.{◌==◌, ◌&&◌, if◌then◌else◌, is_some, Option, None, Some}
+use Rattle.std.specs.Prelude.{◌==◌, None, Some}
 use Rattle.run_theory.specs.Lists.{Each}
 use Rattle.run_theory.proofs.EachSent.{each_mapped}
 use Rattle.run_theory.proofs.Pasts.{each_from, each_in}
 use Rattle.sig_core.specs.declared.member.TxId.{TxId}
-use Rattle.sig_core.specs.declared.op.Answer.{Answer}
 use Rattle.sig_core.specs.declared.op.Op.{Op}
 use Rattle.sig_core.specs.declared.outcome.AbortCause.{AbortCause}
 use Rattle.sig_core.specs.declared.outs.Outgoing.{Outgoing}
-use Rattle.sig_core.specs.declared.place.BlockId.TheVariants as block
 use Rattle.sig_core.specs.declared.signal.Body.{Body}
 use Rattle.sig_core.specs.declared.signal.Body.TheVariants.{Chain, Client, Epoch}
 use Rattle.sig_core.specs.declared.signal.chain.ChainSignal.TheVariants.{Committed}
 use Rattle.sig_core.specs.declared.signal.client.ClientSignal.TheVariants.{TcCommitConf}
 use Rattle.sig_core.specs.declared.signal.epoch.EpochSignal.TheVariants.{DiVerifyConf, DiVerifyReq}
 use Rattle.sig_core.specs.Op.{key_of}
-use Rattle.sig_core.specs.Same.{same_tx}
 use Rattle.sig_core.specs.Step.{Step, sends_only}
 use Rattle.sig_core.proofs.Keys.{same_tx-self}
 use Rattle.frag_map.specs.Layout.{Layout, chain_of}
@@ -31,18 +28,14 @@ use Rattle.tc_block.specs.declared.transaction.Transaction.{Transaction}
 use Rattle.tc_block.specs.Operate.{can_operate, is_ready, late_answer}
 use Rattle.tc_block.specs.Phases.{is_open}
 use Rattle.tc_block.specs.Sends.{abort_of, entering, front_sends, go_on_if, reported, verify_end, wait_of}
-use Rattle.tc_block.specs.State.{TcState}
 use Rattle.tc_block.specs.Touched.{fits}
 use Rattle.tc_block.specs.Turn.{Turn, asking, at_phase, ending, going}
 use Rattle.key_laws.specs.OneKey.{ops_on}
 use Rattle.key_laws.specs.Primary.{HasPrepared}
 use Rattle.key_laws.specs.Records.{found}
-use Rattle.node_core.specs.Blocks.{tc_of}
-use Rattle.node_core.specs.declared.host.Host.{Host}
-use Rattle.node_core.specs.Row.{row}
 use Rattle.world_core.specs.History.{is_applied}
 use Rattle.world_core.specs.Hosts.{home, hosts}
-use Rattle.world_core.specs.Machine.{after, signals_of, step_after}
+use Rattle.world_core.specs.Machine.{after, signals_of}
 use Rattle.world_core.specs.Marks.{has_mark, have_mark}
 use Rattle.world_core.specs.Start.{Start}
 use Rattle.world_core.specs.Steps.{Addressed, HostStep}
@@ -59,7 +52,7 @@ use Rattle.run_laws.specs.Keyed.{IsTouchedRightly}
 use Rattle.run_laws.specs.Live.{live_at}
 use Rattle.run_laws.specs.Routes.{primary_host}
 use Rattle.run_laws.specs.Transit.{AreInTransit, Comes, Takes, joined, logs_of}
-use Rattle.run_laws.proofs.CarriedOut.{IsCarried, IsLiveAhead}
+use Rattle.run_laws.proofs.CarriedOut.{IsLiveAhead}
 use Rattle.run_laws.proofs.Completions.{under_way}
 use Rattle.run_laws.proofs.FirstCommits.{part}
 use Rattle.run_laws.proofs.TcCircle.{ready_is}
@@ -68,10 +61,10 @@ use Rattle.run_laws.proofs.TxSteps.{next_number}
 use Rattle.run_laws.proofs.TxTurns.{is_for, left_by, turn_each, turn_for}
 use Rattle.run_laws.proofs.VerifiedSettled.{verified_settled}
 use Rattle.run_laws.proofs.Ways.{carried_more}
-use Rattle.run_laws.proofs.Weighing.{in_transit, takes_weigh}
+use Rattle.run_laws.proofs.Weighing.{takes_weigh}
 use Rattle.report_laws.proofs.Facts.{AllTold, HeldIf, IsDecidedWith, IsGranted, IsHeld, IsKeeping, IsSettledIn, IsShut, IsShutWith, LiveTells, Tells}
-use Rattle.report_laws.proofs.Steps.{decided_stays, fades, held_stays, keeping_stays, live_stays, not_before, past, settled_stays, was_decided}
-use Rattle.report_laws.proofs.Written.{Passing, agree_prepared, have_done, none_touched, some_written, written_counts}
+use Rattle.report_laws.proofs.Steps.{decided_stays, keeping_stays, live_stays, not_before, past}
+use Rattle.report_laws.proofs.Written.{agree_prepared, have_done, none_touched, some_written, written_counts}
 
 -- signals that tell of no epoch but, as that of a commit, of one that passes the test
 abbrev is_telling : (ℕ → Bool) → Body → Bool
@@ -223,11 +216,11 @@ module _ (start : Start) (tx : TxId) (es : List HostStep) (e : HostStep) (come :
   held_verified : t.phase ≡ Verifying → is_given_up start old tx ≡ false → Each (HeldIf start tx old) t.touched
   held_verified at off =
       each_from (HeldIf start tx old) t.touched (λ u inside written.
-          let s = settled.settled u.key in
-          record {
-            held = inl (agree_prepared tx (found tx (at_primary start old u.key).replica.cell.pending) (at_host start old u.key (primary_host start u.key)).cell.pending
-                (s.agreed (primary_host start u.key) (primary_is start u.key come.before.shape)) (s.written ∙ (sym (each_in (λ (v : Touched). v.written ≡ have_done (ops_on v.key t.ops)) u t.touched keyed.written inside) ∙ written)));
-          })
+      let s = settled.settled u.key in
+      record {
+        held = inl (agree_prepared tx (found tx (at_primary start old u.key).replica.cell.pending) (at_host start old u.key (primary_host start u.key)).cell.pending
+            (s.agreed (primary_host start u.key) (primary_is start u.key come.before.shape)) (s.written ∙ (sym (each_in (λ (v : Touched). v.written ≡ have_done (ops_on v.key t.ops)) u t.touched keyed.written inside) ∙ written)));
+      })
     where
       settled : IsSettled start old tx t
       settled = verified_settled start es before tx t come.before transit off was at
@@ -299,12 +292,14 @@ module _ (start : Start) (tx : TxId) (es : List HostStep) (e : HostStep) (come :
           (fronts (only epoch) (Completing epoch (complete.written_count t.touched)) (λ other more same. let one : other ≡ epoch = cc in ap (λ n. n == epoch) one ∙ itself epoch))))
           s (λ off. record { shut = refl; ops_are = refl });
       ends = λ none left.
-          ends t (reported tx epoch ∷ verify_end node tx ∷ [])
-          ((λ same. record {
-            ops = t.ops;
-            decided = decided_stays start tx es e come before between transit takes epoch t.ops keeping.decided;
-            applied = λ off done. absurd (written_counts t.touched (some_written t keyed done) none);
-          }), (tt, tt));
+          ends t (reported tx epoch ∷ verify_end node tx ∷ []) (
+            (λ same. record {
+              ops = t.ops;
+              decided = decided_stays start tx es e come before between transit takes epoch t.ops keeping.decided;
+              applied = λ off done. absurd (written_counts t.touched (some_written t keyed done) none);
+            }),
+            (tt, tt),
+          );
     }
 
   -- without keys it is over at once
@@ -312,12 +307,14 @@ module _ (start : Start) (tx : TxId) (es : List HostStep) (e : HostStep) (come :
   commits_none node layout epoch is none = record {
     enters = λ some left. not_both (complete.written_count t.touched == 0) (no_count t.touched none) some;
     ends = λ zero left.
-        ends t (reported tx epoch ∷ verify_end node tx ∷ [])
-        ((λ same. record {
-          ops = t.ops;
-          decided = decided_stays start tx es e come before between transit takes epoch t.ops (given_with epoch is);
-          applied = λ off done. absurd (none_touched t keyed none done);
-        }), (tt, tt));
+        ends t (reported tx epoch ∷ verify_end node tx ∷ []) (
+          (λ same. record {
+            ops = t.ops;
+            decided = decided_stays start tx es e come before between transit takes epoch t.ops (given_with epoch is);
+            applied = λ off done. absurd (none_touched t keyed none done);
+          }),
+          (tt, tt),
+        );
   }
     where
       no_count : (touched : List Touched) → (length touched == 0) ≡ true → (complete.written_count touched == 0) ≡ true

@@ -1,5 +1,5 @@
 -- The signals that ask for the epoch of a transaction, give it, or tell that it is committed; who sends none of them.
-use Rattle.std.proofs.Common.{◌≡◌, ℕ, List, Bool, true, false, refl, ap, sym, ◌∙◌, subst}
+use Rattle.std.proofs.Common.{◌≡◌, List, Bool, true, false, refl, sym, subst}
 use Rattle.run_theory.specs.Lists.{Each}
 use Rattle.sig_core.specs.declared.member.TxId.{TxId}
 use Rattle.sig_core.specs.declared.outs.Outgoing.{Outgoing}
