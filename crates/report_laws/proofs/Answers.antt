@@ -77,7 +77,8 @@ record Asks (tx : TxId) (body : Body) : Type 0 where
   is : body ≡ Epoch (DiVerifyReq tx ops)
 
 asks_for : (tx : TxId) (body : Body) → kind_of body ≡ kind.verified tx → Asks tx body
-asks_for tx (Epoch (DiVerifyReq other ops)) is = record { ops = ops; is = let same : other ≡ tx = cc in ap (λ v. Epoch (DiVerifyReq v ops)) same }
+asks_for tx (Epoch (DiVerifyReq other ops)) is = record
+    { ops = ops; is = let same : other ≡ tx = cc in ap (λ v. Epoch (DiVerifyReq v ops)) same }
 asks_for tx (Epoch (DiVerifyConf other epoch)) is = absurd cc
 asks_for tx (Client (TcBeginConf name other)) is = absurd cc
 asks_for tx (Client (TcCommitReq other)) is = absurd cc
@@ -95,14 +96,19 @@ itself : (b : Bool) → b ≡ true → (b || false) ≡ true
 itself true is = refl
 itself false is = is
 
-log_asked : (start : Start) (whole : ℕ → List HostStep) (h : ℕ) (log : List HostStep) → IsLog (machine start) h log → Each (DecidesRightly start whole) log → Each (IsAskedIn log) (entries_of h log)
+log_asked : (start : Start) (whole : ℕ → List HostStep) (h : ℕ) (log : List HostStep) → IsLog (machine start) h log
+    → Each (DecidesRightly start whole) log → Each (IsAskedIn log) (entries_of h log)
 log_asked start whole h [] l right = tt
 log_asked start whole h (e ∷ log) l right =
     by (step_marks start h log e l.0)
-    (each_map (IsAskedIn log) (IsAskedIn (e ∷ log)) (entries_of h log) (λ b is. record { step = is.step; inside = inr is.inside; took = is.took }) (log_asked start whole h log l.1 right.1))
+    (each_map (IsAskedIn log) (IsAskedIn (e ∷ log)) (entries_of h log)
+    (λ b is. record { step = is.step; inside = inr is.inside; took = is.took })
+    (log_asked start whole h log l.1 right.1))
   where
-    by : AreMarks start.epoch e.step.marks → Each (IsAskedIn (e ∷ log)) (entries_of h log) → Each (IsAskedIn (e ∷ log)) (entries_of h (e ∷ log))
-    by (plain all) before = plain_entries (IsAskedIn (e ∷ log)) h e.step.stamp (e ∷ log) e.step.marks (entries_of h log) all before
+    by : AreMarks start.epoch e.step.marks → Each (IsAskedIn (e ∷ log)) (entries_of h log)
+        → Each (IsAskedIn (e ∷ log)) (entries_of h (e ∷ log))
+    by (plain all) before = plain_entries (IsAskedIn (e ∷ log)) h e.step.stamp (e ∷ log) e.step.marks (entries_of h log)
+        all before
     by (decides tx is) before =
         let at = right.0 tx (ap (list_any (is_decision tx)) is ∙ itself (same_tx tx tx) (same_tx-self tx)) in
         let asked = asks_for tx e.step.taken.body at.took in
@@ -110,7 +116,8 @@ log_asked start whole h (e ∷ log) l right =
           record {
             step = e;
             inside = inl refl;
-            took = asked.is ∙ ap (λ ops. Epoch (DiVerifyReq tx ops)) (sym (ops_taken tx start.epoch asked.ops e log asked.is));
+            took = asked.is ∙ ap (λ ops. Epoch (DiVerifyReq tx ops))
+                (sym (ops_taken tx start.epoch asked.ops e log asked.is));
           },
           before,
         )
@@ -125,12 +132,15 @@ past_prefix [] past = past
 past_prefix (z ∷ zs) past = past_more z (past_prefix zs past)
 
 -- what was given stays given
-pub given_past : (start : Start) (tx : TxId) (small large : List HostStep) → IsPast small large → IsPast (given start tx small) (given start tx large)
-given_past start tx small large past = subst (λ log. IsPast (given start tx small) (given start tx log)) (sym past.is) (by past.newer)
+pub given_past : (start : Start) (tx : TxId) (small large : List HostStep) → IsPast small large
+    → IsPast (given start tx small) (given start tx large)
+given_past start tx small large past = subst (λ log. IsPast (given start tx small) (given start tx log)) (sym past.is)
+    (by past.newer)
   where
     by : (newer : List HostStep) → IsPast (given start tx small) (given start tx (newer ++ small))
     by [] = past_self (given start tx small)
-    by (e ∷ newer) = past_prefix (if is_answered tx e.step.taken.body then reverse (answers_among (new_replies start e (newer ++ small))) else []) (by newer)
+    by (e ∷ newer) = past_prefix (if is_answered tx e.step.taken.body then reverse
+        (answers_among (new_replies start e (newer ++ small))) else []) (by newer)
 
 append_none : {A : Type 0} (xs : List A) → xs ++ [] ≡ xs
 append_none [] = refl
@@ -158,11 +168,13 @@ module _ (start : Start) (end : List HostStep) (run : IsRun start end) where
   whole = logs_of start end
 
   -- a transaction whose epoch was asked for
-  asked_said : (tx : TxId) (ops : List (Op × Answer)) (h : ℕ) (step : HostStep) → IsIn step (whole h) → step.step.taken.body ≡ Epoch (DiVerifyReq tx ops) → IsSaid start tx whole ops
+  asked_said : (tx : TxId) (ops : List (Op × Answer)) (h : ℕ) (step : HostStep) → IsIn step (whole h)
+      → step.step.taken.body ≡ Epoch (DiVerifyReq tx ops) → IsSaid start tx whole ops
   asked_said tx ops h step inside took =
       let (xs, transit) = runs_have_transit start end run in
       let tells : SaidTells start tx whole step.step.taken.body =
-      each_in (λ (e : HostStep). SaidTells start tx whole e.step.taken.body) step (whole h) ((all_said start tx end xs run transit).taken h) inside in
+      each_in (λ (e : HostStep). SaidTells start tx whole e.step.taken.body) step (whole h)
+      ((all_said start tx end xs run transit).taken h) inside in
       subst (SaidTells start tx whole) took tells (same_tx-self tx)
 
   pub entry_said : (entry : Entry) → IsIn entry (entries (hosts start) whole) → IsSaid start entry.tx whole entry.ops
@@ -170,12 +182,14 @@ module _ (start : Start) (end : List HostStep) (run : IsRun start end) where
       let right = logs_of_run (machine start) end run.run in
       let of = each_in (IsAskedOf whole) entry (entries (hosts start) whole)
       (each_entry (IsAskedOf whole) (hosts start) whole
-      (λ h. each_map (IsAskedIn (whole h)) (IsAskedOf whole) (entries_of h (whole h)) (λ b is. record { host = h; is = is })
+      (λ h. each_map (IsAskedIn (whole h)) (IsAskedOf whole) (entries_of h (whole h))
+      (λ b is. record { host = h; is = is })
       (log_asked start whole h (whole h) (right.local h) ((run_is_causal start end run).decisions h)))) inside in
       asked_said entry.tx entry.ops of.host of.is.step of.is.inside of.is.took
 
   -- what was given of it is the first of what was said
-  pub given_said : (tx : TxId) (ops : List (Op × Answer)) → IsSaid start tx whole ops → IsPast (given start tx (whole 0)) (newest ops [])
+  pub given_said : (tx : TxId) (ops : List (Op × Answer)) → IsSaid start tx whole ops
+      → IsPast (given start tx (whole 0)) (newest ops [])
   given_said tx ops s =
       let right = logs_of_run (machine start) end run.run in
       subst (IsPast (given start tx (whole 0))) (sym s.said)
@@ -187,7 +201,8 @@ given_are_of_entries start inside logs shape within right cut entry at =
     let s = entry_said start to.end to.run entry (subst (λ w. IsIn entry (entries (hosts start) w)) (sym to.same) at) in
     subst (IsPast (given start entry.tx (inside 0))) (answers_newest entry)
     (past_trans (given_past start entry.tx (inside 0) (logs 0) (cut 0))
-    (subst (λ w. IsPast (given start entry.tx (w 0)) (newest entry.ops [])) to.same (given_said start to.end to.run entry.tx entry.ops s)))
+    (subst (λ w. IsPast (given start entry.tx (w 0)) (newest entry.ops [])) to.same
+    (given_said start to.end to.run entry.tx entry.ops s)))
 
 -- what was reported was open
 module _ (tx : TxId) (s : host.Host) where
@@ -225,7 +240,8 @@ module _ (tx : TxId) (s : host.Host) where
   step_there : (x : Signal) → Each IsThere (row s x).effects.marks
   step_there x =
       each_mark IsThere s x (record {
-        api = λ runs at. each_map (λ (m : Mark). is_ended tx m ≡ true → 1 ≤ tally (has_tx tx) (api_of s).opened) IsThere _ (λ m there own. (runs, there own)) (reported_there tx (api_of s) x.body);
+        api = λ runs at. each_map (λ (m : Mark). is_ended tx m ≡ true → 1 ≤ tally (has_tx tx) (api_of s).opened) IsThere
+            _ (λ m there own. (runs, there own)) (reported_there tx (api_of s) x.body);
         tc = λ runs at. tc_there (tc_of s) x.body;
         dih = λ runs at. dih_there (dih_of s) x.body;
         rows = λ runs at. rows_there (lqh_of s) x.body;
@@ -245,15 +261,25 @@ module _ (start : Start) (tx : TxId) where
   MarkGiven logs _ = Unit {0}
 
   abbrev AreAllGiven : List HostStep → Type 0
-  AreAllGiven es = (h : ℕ) → Each (λ (e : HostStep). Each (MarkGiven (logs_of start es)) e.step.marks) (logs_of start es h)
+  AreAllGiven es = (h : ℕ) → Each (λ (e : HostStep). Each (MarkGiven (logs_of start es)) e.step.marks)
+      (logs_of start es h)
 
-  more_given : (small large : ℕ → List HostStep) → ((h : ℕ) → IsPast (small h) (large h)) → (m : Mark) → MarkGiven small m → MarkGiven large m
+  more_given : (small large : ℕ → List HostStep) → ((h : ℕ) → IsPast (small h) (large h)) → (m : Mark)
+      → MarkGiven small m → MarkGiven large m
   more_given small large past (mark.Reported other (outcome.Committed epoch)) is =
       λ same. let a = is same in
-      record { ops = a.ops; step = a.step; inside = in_past a.step (past (home start tx)) a.inside; took = a.took; all = past_trans a.all (given_past start tx (small 0) (large 0) (past 0)) }
+      record {
+        ops = a.ops;
+        step = a.step;
+        inside = in_past a.step (past (home start tx)) a.inside;
+        took = a.took;
+        all =
+            past_trans a.all (given_past start tx (small 0) (large 0) (past 0));
+      }
   more_given small large past _ is = tt
 
-  module _ (es : List HostStep) (e : HostStep) (before between : List Addressed) (come : Comes start es e) (transit : AreInTransit start es before) (takes : Takes e before between) where
+  module _ (es : List HostStep) (e : HostStep) (before between : List Addressed) (come : Comes start es e)
+      (transit : AreInTransit start es before) (takes : Takes e before between) where
     abbrev old : ℕ → List HostStep
     old = logs_of start es
 
@@ -266,7 +292,8 @@ module _ (start : Start) (tx : TxId) where
     past : (h : ℕ) → IsPast (logs_of start es h) (logs_of start (e ∷ es) h)
     past h = log_of-past (machine start) e es h
 
-    all_given : (epoch : ℕ) → IsSettledIn start tx old epoch → 1 ≤ tally (has_tx tx) (opened_in (after start 0 (old 0))) → IsAllGiven now
+    all_given : (epoch : ℕ) → IsSettledIn start tx old epoch → 1 ≤ tally (has_tx tx) (opened_in (after start 0 (old 0)))
+        → IsAllGiven now
     all_given epoch settled there = record {
       ops = settled.ops;
       step = settled.decided.step;
@@ -276,7 +303,8 @@ module _ (start : Start) (tx : TxId) where
     }
       where
         s : IsSaid start tx old settled.ops
-        s = asked_said start es come.before tx settled.ops (home start tx) settled.decided.step settled.decided.inside settled.decided.took
+        s = asked_said start es come.before tx settled.ops (home start tx) settled.decided.step settled.decided.inside
+            settled.decided.took
 
         right : AreLogs (machine start) old
         right = logs_of_run (machine start) es come.before.run
@@ -292,7 +320,8 @@ module _ (start : Start) (tx : TxId) where
               conf_counts tx (sent (machine start) (home start tx) 0 (old (home start tx))),
               answers_asked start tx old right come.before.within,
               keys_few start tx old right come.before.within,
-              (all_heard start tx s.some s.low old come.before.within right).asking.done (omega (arith, commits_few start tx old right come.before.within, s.wanted)),
+              (all_heard start tx s.some s.low old come.before.within right).asking.done
+                  (omega (arith, commits_few start tx old right come.before.within, s.wanted)),
               heard_counts start tx s.some s.low old right come.before.within,
             ))
 
@@ -304,7 +333,8 @@ module _ (start : Start) (tx : TxId) where
         let at = there same in
         let zero : e.host ≡ 0 = api_found start e.host (old e.host) at.0 in
         all_given epoch
-        (subst (Tells start tx old) is (taken_tells start tx es e come before between transit takes (all_told start tx es before come.before transit)) same)
+        (subst (Tells start tx old) is (taken_tells start tx es e come before between transit takes
+        (all_told start tx es before come.before transit)) same)
         (subst (λ k. 1 ≤ tally (has_tx tx) (opened_in (after start k (old k)))) zero at.1)
     own_given _ both = tt
 
@@ -313,14 +343,18 @@ module _ (start : Start) (tx : TxId) where
         each_next (machine start) (λ (f : HostStep). Each (MarkGiven now) f.step.marks) es e h
         (each_map (λ (m : Mark). IsReportOf e.step.taken.body m × IsThere tx g m) (MarkGiven now) e.step.marks own_given
         (subst (Each (λ (m : Mark). IsReportOf e.step.taken.body m × IsThere tx g m)) (sym come.happens.step.fits.marks)
-        (each_pair (IsReportOf e.step.taken.body) (IsThere tx g) (row g e.step.taken).effects.marks (step_reports g e.step.taken) (step_there tx g e.step.taken))))
-        (each_map (λ (f : HostStep). Each (MarkGiven old) f.step.marks) (λ (f : HostStep). Each (MarkGiven now) f.step.marks) (old h)
+        (each_pair (IsReportOf e.step.taken.body) (IsThere tx g) (row g e.step.taken).effects.marks
+        (step_reports g e.step.taken) (step_there tx g e.step.taken))))
+        (each_map (λ (f : HostStep). Each (MarkGiven old) f.step.marks)
+        (λ (f : HostStep). Each (MarkGiven now) f.step.marks) (old h)
         (λ f all. each_map (MarkGiven old) (MarkGiven now) f.step.marks (more_given old now past) all) (held h))
 
   are_given : (es : List HostStep) → IsRun start es → AreAllGiven es
   are_given es run =
       let (xs, transit) = runs_have_transit start es run in
-      along_transit start (λ es xs. AreAllGiven es) (λ h. tt) (λ es e before between come rest held takes. given_next es e before between come rest takes held) es xs run transit
+      along_transit start (λ es xs. AreAllGiven es) (λ h. tt)
+      (λ es e before between come rest held takes. given_next es e before between come rest takes held) es xs run
+      transit
 
   shows : (logs : ℕ → List HostStep) (m : Mark) → is_reported tx m ≡ true → MarkGiven logs m → IsAllGiven logs
   shows logs (mark.Reported other (outcome.Committed epoch)) own is = is own
@@ -328,7 +362,8 @@ module _ (start : Start) (tx : TxId) where
   shows logs _ own is = absurd cc
 
 pub reported_are_given : ReportedAreGiven
-reported_are_given start inside logs shape within right cut closed entry at marked = given_is ∙ (newest_same ∙ answers_newest entry)
+reported_are_given start inside logs shape within right cut closed entry at marked = given_is
+    ∙ (newest_same ∙ answers_newest entry)
   where
     to : IsRunTo start logs
     to = run_to start shape logs within right
@@ -338,21 +373,28 @@ reported_are_given start inside logs shape within right cut closed entry at mark
 
     all : IsAllGiven start entry.tx inside
     all =
-        marks_show (is_reported entry.tx) (MarkGiven start entry.tx inside) (IsAllGiven start entry.tx inside) (shows start entry.tx inside) (hosts start) inside
-        (subst (λ (w : ℕ → List HostStep). (h : ℕ) → Each (λ (e : HostStep). Each (MarkGiven start entry.tx w) e.step.marks) (w h)) own.same (are_given start entry.tx own.end own.run)) marked
+        marks_show (is_reported entry.tx) (MarkGiven start entry.tx inside) (IsAllGiven start entry.tx inside)
+        (shows start entry.tx inside) (hosts start) inside
+        (subst (λ (w : ℕ → List HostStep). (h : ℕ)
+        → Each (λ (e : HostStep). Each (MarkGiven start entry.tx w) e.step.marks) (w h)) own.same
+        (are_given start entry.tx own.end own.run)) marked
 
     said_inside : IsSaid start entry.tx (logs_of start own.end) all.ops
-    said_inside = asked_said start own.end own.run entry.tx all.ops (home start entry.tx) all.step (subst (λ w. IsIn all.step (w (home start entry.tx))) (sym own.same) all.inside) all.took
+    said_inside = asked_said start own.end own.run entry.tx all.ops (home start entry.tx) all.step
+        (subst (λ w. IsIn all.step (w (home start entry.tx))) (sym own.same) all.inside) all.took
 
     given_is : given start entry.tx (inside 0) ≡ newest all.ops []
     given_is =
         past_both (given start entry.tx (inside 0)) (newest all.ops [])
-        (subst (λ w. IsPast (given start entry.tx (w 0)) (newest all.ops [])) own.same (given_said start own.end own.run entry.tx all.ops said_inside)) all.all
+        (subst (λ w. IsPast (given start entry.tx (w 0)) (newest all.ops [])) own.same
+        (given_said start own.end own.run entry.tx all.ops said_inside)) all.all
 
     said_whole : IsSaid start entry.tx (logs_of start to.end) all.ops
     said_whole =
         asked_said start to.end to.run entry.tx all.ops (home start entry.tx) all.step
-        (subst (λ w. IsIn all.step (w (home start entry.tx))) (sym to.same) (in_past all.step (cut (home start entry.tx)) all.inside)) all.took
+        (subst (λ w. IsIn all.step (w (home start entry.tx))) (sym to.same)
+        (in_past all.step (cut (home start entry.tx)) all.inside)) all.took
 
     newest_same : newest all.ops [] ≡ newest entry.ops []
-    newest_same = said_whole.said ∙ sym (entry_said start to.end to.run entry (subst (λ w. IsIn entry (entries (hosts start) w)) (sym to.same) at)).said
+    newest_same = said_whole.said ∙ sym (entry_said start to.end to.run entry
+        (subst (λ w. IsIn entry (entries (hosts start) w)) (sym to.same) at)).said

@@ -57,7 +57,8 @@ use Rattle.report_laws.proofs.Turns.{TurnTells, turn_tells}
 use Rattle.report_laws.proofs.Words.{AreMute, api_mute, beside_mute, is_word, others_mute, rows_mute}
 
 module _ (start : Start) (tx : TxId) where
-  module _ (es : List HostStep) (e : HostStep) (come : Comes start es e) (before between : List Addressed) (transit : AreInTransit start es before) (takes : Takes e before between)
+  module _ (es : List HostStep) (e : HostStep) (come : Comes start es e) (before between : List Addressed)
+      (transit : AreInTransit start es before) (takes : Takes e before between)
       (held : AllTold start tx es before) where
     abbrev h : ℕ
     h = e.host
@@ -87,14 +88,20 @@ module _ (start : Start) (tx : TxId) where
     taken = taken_tells start tx es e come before between transit takes held
 
     -- numbers rise
-    old_now : tx.seq < next_number (after start at_home (old at_home)) → tx.seq < next_number (after start at_home (now at_home))
+    old_now : tx.seq < next_number (after start at_home (old at_home)) → tx.seq < next_number
+        (after start at_home (now at_home))
     old_now low = by (cases_eq h at_home)
       where
         by : (h ≡ at_home) ⊎ (h ≢ at_home) → tx.seq < next_number (after start at_home (now at_home))
         by (inr differs) = subst (λ x. tx.seq < next_number x) (sym (away start es e come tx differs)) low
         by (inl same) =
             subst (λ x. tx.seq < next_number x) (sym (here_now start es e come tx same))
-            (omega (arith, number_rises g e.step.taken, subst (λ x. tx.seq < next_number x) (here_was start es e come tx same) low))
+            (omega (
+              arith,
+              number_rises g e.step.taken,
+              subst (λ x. tx.seq < next_number x)
+                  (here_was start es e come tx same) low,
+            ))
 
     -- what a step tells, and leaves
     record Leaves : Type 0 where
@@ -103,17 +110,20 @@ module _ (start : Start) (tx : TxId) where
       live : (u : Transaction) → live_at start now tx ≡ Some u → LiveTells start tx now u.ops u.touched u.phase
 
     mute : (os : List Outgoing) → AreMute tx os → Each (λ (o : Outgoing). Tells start tx now o.body) os
-    mute os all = each_map (λ (o : Outgoing). is_word tx o.body ≡ false) (λ (o : Outgoing). Tells start tx now o.body) os (λ o off. mute_tells start tx now o.body off) all
+    mute os all = each_map (λ (o : Outgoing). is_word tx o.body ≡ false) (λ (o : Outgoing). Tells start tx now o.body)
+        os (λ o off. mute_tells start tx now o.body off) all
 
     -- where it is as it was
     same_live : of_host tx then_is.state ≡ of_host tx g → live_at start now tx ≡ live_at start old tx
     same_live same = by (cases_eq h at_home)
       where
         by : (h ≡ at_home) ⊎ (h ≢ at_home) → live_at start now tx ≡ live_at start old tx
-        by (inl own) = ap (of_host tx) (here_now start es e come tx own) ∙ (same ∙ ap (of_host tx) (sym (here_was start es e come tx own)))
+        by (inl own) = ap (of_host tx) (here_now start es e come tx own)
+            ∙ (same ∙ ap (of_host tx) (sym (here_was start es e come tx own)))
         by (inr differs) = ap (of_host tx) (away start es e come tx differs)
 
-    same_shut : live_at start now tx ≡ live_at start old tx → (ops : List (Op × Answer)) → IsShut start tx old ops → IsShut start tx now ops
+    same_shut : live_at start now tx ≡ live_at start old tx → (ops : List (Op × Answer)) → IsShut start tx old ops
+        → IsShut start tx now ops
     same_shut same ops s = record { old = old_now s.old; live = λ u is. s.live u (sym same ∙ is) }
 
     stays : of_host tx then_is.state ≡ of_host tx g → Each (λ (o : Outgoing). Tells start tx now o.body) sends → Leaves
@@ -122,15 +132,18 @@ module _ (start : Start) (tx : TxId) where
         record {
           shut = same_shut live;
           sent = sent;
-          live = λ u is. live_stays start tx es e come before between transit takes u.ops u.touched u.phase (held.live u (sym live ∙ is));
+          live = λ u is. live_stays start tx es e come before between transit takes u.ops u.touched u.phase
+              (held.live u (sym live ∙ is));
         }
 
     of_state : (s : TcState) → tc_of then_is.state ≡ s → of_host tx then_is.state ≡ of_live tx s.live
     of_state s is = ap (λ (c : TcState). of_live tx c.live) is
 
     -- it is decided
-    decides : (one : TxId) (ops : List (Op × Answer)) (epoch : ℕ) → e.step.taken.body ≡ Epoch (DiVerifyReq one ops) → e.step.marks ≡ Decided one epoch ∷ []
-        → ((os : List (Op × Answer)) → IsShut start tx old os → IsShut start tx now os) → same_tx one tx ≡ true → IsGranted start tx now epoch
+    decides : (one : TxId) (ops : List (Op × Answer)) (epoch : ℕ) → e.step.taken.body ≡ Epoch (DiVerifyReq one ops)
+        → e.step.marks ≡ Decided one epoch ∷ []
+        → ((os : List (Op × Answer)) → IsShut start tx old os → IsShut start tx now os) → same_tx one tx ≡ true
+        → IsGranted start tx now epoch
     decides one ops epoch is marks shut same =
         record {
           ops = ops;
@@ -160,17 +173,21 @@ module _ (start : Start) (tx : TxId) where
             (ap (list_any (is_decision tx)) own ∙ itself (same_tx tx tx) (same_tx-self tx))
 
     module _ (shut : (os : List (Op × Answer)) → IsShut start tx old os → IsShut start tx now os) where
-      decide_tells : (s : DihState) (one : TxId) (ops : List (Op × Answer)) (b : Bool) → e.step.taken.body ≡ Epoch (DiVerifyReq one ops) → e.step.marks ≡ (decide_if s one b).effects.marks
+      decide_tells : (s : DihState) (one : TxId) (ops : List (Op × Answer)) (b : Bool)
+          → e.step.taken.body ≡ Epoch (DiVerifyReq one ops) → e.step.marks ≡ (decide_if s one b).effects.marks
           → Each (λ (o : Outgoing). Tells start tx now o.body) (decide_if s one b).effects.sends
       decide_tells s one ops true is marks = ((λ same. decides one ops s.epoch is marks shut same), tt)
       decide_tells s one ops false is marks = tt
 
-      row_tells : (s : DihState) (one : TxId) (ops : List (Op × Answer)) → e.step.taken.body ≡ Epoch (DiVerifyReq one ops) → e.step.marks ≡ (decide_row s one).effects.marks
+      row_tells : (s : DihState) (one : TxId) (ops : List (Op × Answer)) → e.step.taken.body ≡ Epoch
+          (DiVerifyReq one ops) → e.step.marks ≡ (decide_row s one).effects.marks
           → Each (λ (o : Outgoing). Tells start tx now o.body) (decide_row s one).effects.sends
       unfolding decide_row
       row_tells s one ops is marks = decide_tells s one ops (nat_lt (length s.counted) 64) is marks
 
-      dih_tells : (s : DihState) (body : Body) → e.step.taken.body ≡ body → e.step.marks ≡ (dih_table s body).effects.marks → Each (λ (o : Outgoing). Tells start tx now o.body) (dih_table s body).effects.sends
+      dih_tells : (s : DihState) (body : Body) → e.step.taken.body ≡ body
+          → e.step.marks ≡ (dih_table s body).effects.marks → Each (λ (o : Outgoing). Tells start tx now o.body)
+          (dih_table s body).effects.sends
       dih_tells s (Epoch (DiVerifyReq one ops)) is marks = row_tells s one ops is marks
       dih_tells s _ is marks = tt
 
@@ -179,7 +196,8 @@ module _ (start : Start) (tx : TxId) where
         let same = of_state (tc_of g) step.tc in
         stays same
         (subst (λ (f : Effects). Each (λ (o : Outgoing). Tells start tx now o.body) f.sends) (sym step.effects)
-        (dih_tells (same_shut (same_live same)) (dih_of g) e.step.taken.body refl (come.happens.step.fits.marks ∙ ap (λ (f : Effects). f.marks) step.effects)))
+        (dih_tells (same_shut (same_live same)) (dih_of g) e.step.taken.body refl
+        (come.happens.step.fits.marks ∙ ap (λ (f : Effects). f.marks) step.effects)))
 
     -- a step of its coordinator
     facts : IsHome tx (tc_of g)
@@ -187,20 +205,29 @@ module _ (start : Start) (tx : TxId) where
 
     of_tc : IsTcStep g e.step.taken then_is → Leaves
     of_tc step =
-        by (tc_turn (λ (o : Outgoing). is_word tx o.body ≡ false) tx (tc_of g) (beside_mute tx (tc_of g)) facts.own facts.once e.step.taken.body (others_mute tx (tc_of g) e.step.taken.body))
+        by (tc_turn (λ (o : Outgoing). is_word tx o.body ≡ false) tx (tc_of g) (beside_mute tx (tc_of g)) facts.own
+        facts.once e.step.taken.body (others_mute tx (tc_of g) e.step.taken.body))
       where
         live_is : of_host tx then_is.state ≡ of_live tx (tc_row (tc_of g) e.step.taken).state.live
         live_is = of_state (tc_row (tc_of g) e.step.taken).state step.state
 
-        all_mute : AreMute tx (tc_row (tc_of g) e.step.taken).effects.sends → Each (λ (o : Outgoing). Tells start tx now o.body) sends
+        all_mute : AreMute tx (tc_row (tc_of g) e.step.taken).effects.sends → Each
+            (λ (o : Outgoing). Tells start tx now o.body) sends
         all_mute all = mute sends (subst (λ (f : Effects). AreMute tx f.sends) (sym step.effects) all)
 
-        by : TcTurn (λ (o : Outgoing). is_word tx o.body ≡ false) tx (tc_of g) e.step.taken.body (tc_row (tc_of g) e.step.taken) → Leaves
+        by : TcTurn (λ (o : Outgoing). is_word tx o.body ≡ false) tx (tc_of g) e.step.taken.body
+            (tc_row (tc_of g) e.step.taken) → Leaves
         by (turn.idle same quiet next) = stays (live_is ∙ same) (all_mute quiet)
         by (turn.begins is left quiet off) = record {
-          shut = λ ops s. absurd (omega (arith, subst (λ x. tx.seq < next_number x) (here_was start es e come tx own) s.old, ap (λ (v : TxId). v.seq) is));
+          shut = λ ops s. absurd (omega (
+            arith,
+            subst (λ x. tx.seq < next_number x) (here_was start es e come tx own)
+                s.old,
+            ap (λ (v : TxId). v.seq) is,
+          ));
           sent = all_mute quiet;
-          live = λ u at. subst (λ (v : Transaction). LiveTells start tx now v.ops v.touched v.phase) (the_same u (sym left_now ∙ at)) tt;
+          live = λ u at. subst (λ (v : Transaction). LiveTells start tx now v.ops v.touched v.phase)
+              (the_same u (sym left_now ∙ at)) tt;
         }
           where
             own : h ≡ at_home
@@ -214,8 +241,13 @@ module _ (start : Start) (tx : TxId) where
         by (turn.turns t was own sent left) = record {
           shut = λ ops s.
               let at = s.live t live_was in
-              record { old = old_now s.old; live = λ u is. let k = leaves.shut at.shut u (sym left_now ∙ is) in record { shut = k.shut; ops_are = k.ops_are ∙ at.ops_are } };
-          sent = subst (Each (λ (o : Outgoing). Tells start tx now o.body)) (sym (ap (λ (f : Effects). f.sends) step.effects ∙ sent)) leaves.sent;
+              record {
+                old = old_now s.old;
+                live = λ u is. let k = leaves.shut at.shut u (sym left_now ∙ is) in record
+                    { shut = k.shut; ops_are = k.ops_are ∙ at.ops_are };
+              };
+          sent = subst (Each (λ (o : Outgoing). Tells start tx now o.body))
+              (sym (ap (λ (f : Effects). f.sends) step.effects ∙ sent)) leaves.sent;
           live = λ u is. leaves.live u (sym left_now ∙ is);
         }
           where
@@ -237,8 +269,10 @@ module _ (start : Start) (tx : TxId) where
             early : tx.seq < next_number (after start at_home (now at_home))
             early = old_now (subst (λ x. tx.seq < next_number x) (sym (here_was start es e come tx same)) own_is.early)
 
-            leaves : TurnTells start tx es e come before between transit takes held taken t live_was keyed early (turn_for (tc_of g).node (tc_of g).layout tx e.step.taken.body t)
-            leaves = turn_tells start tx es e come before between transit takes held taken t live_was keyed early (tc_of g).node (tc_of g).layout own left_now
+            leaves : TurnTells start tx es e come before between transit takes held taken t live_was keyed early
+                (turn_for (tc_of g).node (tc_of g).layout tx e.step.taken.body t)
+            leaves = turn_tells start tx es e come before between transit takes held taken t live_was keyed early
+                (tc_of g).node (tc_of g).layout own left_now
 
     leaves : Leaves
     leaves = by (row g e.step.taken) refl (block_case g e.step.taken)
@@ -246,46 +280,60 @@ module _ (start : Start) (tx : TxId) where
         by : (s : Step Host) → row g e.step.taken ≡ s → BlockCase g e.step.taken s → Leaves
         by s is (api_takes step) = quiet s is step.tc step.effects (api_mute tx (api_of g) e.step.taken.body)
           where
-            quiet : (s : Step Host) → row g e.step.taken ≡ s → tc_of s.state ≡ tc_of g → {f : Effects} → s.effects ≡ f → AreMute tx f.sends → Leaves
+            quiet : (s : Step Host) → row g e.step.taken ≡ s → tc_of s.state ≡ tc_of g → {f : Effects} → s.effects ≡ f
+                → AreMute tx f.sends → Leaves
             quiet s is tc effects all =
                 stays (of_state (tc_of g) (ap (λ (u : Step Host). tc_of u.state) is ∙ tc))
-                (mute sends (subst (λ (f : Effects). AreMute tx f.sends) (sym (ap (λ (u : Step Host). u.effects) is ∙ effects)) all))
+                (mute sends (subst (λ (f : Effects). AreMute tx f.sends)
+                (sym (ap (λ (u : Step Host). u.effects) is ∙ effects)) all))
         by s is (tc_takes step) = of_tc (subst (IsTcStep g e.step.taken) (sym is) step)
         by s is (dih_takes step) = of_dih (subst (IsDihStep g e.step.taken) (sym is) step)
         by s is (rows_take step) =
             stays (of_state (tc_of g) (ap (λ (u : Step Host). tc_of u.state) is ∙ step.tc))
-            (mute sends (subst (λ (f : Effects). AreMute tx f.sends) (sym (ap (λ (u : Step Host). u.effects) is ∙ step.effects)) (rows_mute tx (lqh_of g) e.step.taken.body)))
+            (mute sends (subst (λ (f : Effects). AreMute tx f.sends)
+            (sym (ap (λ (u : Step Host). u.effects) is ∙ step.effects))
+            (rows_mute tx (lqh_of g) e.step.taken.body)))
         by s is (none_takes step) =
             stays (of_state (tc_of g) (ap (λ (u : Step Host). tc_of u.state) (is ∙ step.is)))
-            (mute sends (subst (λ (f : Effects). AreMute tx f.sends) (sym (ap (λ (u : Step Host). u.effects) (is ∙ step.is))) tt))
+            (mute sends (subst (λ (f : Effects). AreMute tx f.sends)
+            (sym (ap (λ (u : Step Host). u.effects) (is ∙ step.is))) tt))
 
     -- its marks
     mark_tells : (m : Mark) → IsReportOf e.step.taken.body m → MarkTells start tx now m
     mark_tells (Reported other (outcome.Committed epoch)) is =
-        λ same. settled_stays start tx es e come before between transit takes epoch (subst (Tells start tx old) is taken same)
+        λ same. settled_stays start tx es e come before between transit takes epoch
+        (subst (Tells start tx old) is taken same)
     mark_tells _ is = tt
 
     told_next : AllTold start tx (e ∷ es) later
     told_next = record {
       signals = each_joins (λ to body. Tells start tx now body) start h (logs_of start es h) e between leaves.sent
-          (each_map (λ (x : Addressed). Tells start tx old x.signal.body) (λ (x : Addressed). Tells start tx now x.signal.body) between
+          (each_map (λ (x : Addressed). Tells start tx old x.signal.body)
+          (λ (x : Addressed). Tells start tx now x.signal.body) between
           (λ x tells. tells_still start tx es e come before between transit takes leaves.shut x.signal.body tells)
           (each_between (λ (x : Addressed). Tells start tx old x.signal.body) e before between takes held.signals));
       live = leaves.live;
       marks = λ k. each_next (machine start) (λ (f : HostStep). Each (MarkTells start tx now) f.step.marks) es e k
           (each_map (IsReportOf e.step.taken.body) (MarkTells start tx now) e.step.marks mark_tells
-          (subst (Each (IsReportOf e.step.taken.body)) (sym come.happens.step.fits.marks) (step_reports g e.step.taken)))
-          (each_map (λ (f : HostStep). Each (MarkTells start tx old) f.step.marks) (λ (f : HostStep). Each (MarkTells start tx now) f.step.marks) (old k)
-          (λ f all. each_map (MarkTells start tx old) (MarkTells start tx now) f.step.marks (mark_still start tx es e come before between transit takes) all) (held.marks k));
+          (subst (Each (IsReportOf e.step.taken.body)) (sym come.happens.step.fits.marks)
+          (step_reports g e.step.taken)))
+          (each_map (λ (f : HostStep). Each (MarkTells start tx old) f.step.marks)
+          (λ (f : HostStep). Each (MarkTells start tx now) f.step.marks) (old k)
+          (λ f all. each_map (MarkTells start tx old) (MarkTells start tx now) f.step.marks
+          (mark_still start tx es e come before between transit takes) all) (held.marks k));
     }
 
   first_told : AllTold start tx [] []
   first_told = record {
     signals = tt;
-    live = λ t is. absurd (let both : None ≡ Some t = sym (ap (of_live tx) (first_live start (home start tx))) ∙ is in cc);
+    live = λ t is. absurd (let both : None ≡ Some t = sym (ap (of_live tx) (first_live start (home start tx)))
+        ∙ is in cc);
     marks = λ h. tt;
   }
 
-  pub all_told : (es : List HostStep) (xs : List Addressed) → IsRun start es → AreInTransit start es xs → AllTold start tx es xs
+  pub all_told : (es : List HostStep) (xs : List Addressed) → IsRun start es → AreInTransit start es xs
+      → AllTold start tx es xs
   all_told es xs run transit =
-      along_transit start (AllTold start tx) first_told (λ es e before between come rest held takes. told_next es e come before between rest takes held) es xs run transit
+      along_transit start (AllTold start tx) first_told
+      (λ es e before between come rest held takes. told_next es e come before between rest takes held) es xs run
+      transit

@@ -62,7 +62,8 @@ module _ (start : Start) (tx : TxId) where
   pub record IsSettledIn (logs : ℕ → List HostStep) (epoch : ℕ) : Type 0 where
     pub ops : List (Op × Answer)
     pub decided : IsDecidedWith logs epoch ops
-    pub applied : is_given_up start logs tx ≡ false → have_done ops ≡ true → have_mark (is_applied tx) (hosts start) logs ≡ true
+    pub applied : is_given_up start logs tx ≡ false → have_done ops ≡ true → have_mark (is_applied tx) (hosts start)
+        logs ≡ true
 
   -- what a signal tells of it
   abbrev pub Tells : (ℕ → List HostStep) → Body → Type 0
@@ -78,13 +79,15 @@ module _ (start : Start) (tx : TxId) where
 
   -- the primary of a key has its record prepared, or has marked it applied
   pub record IsHeld (logs : ℕ → List HostStep) (key : List ℕ) : Type 0 where
-    pub held : HasPrepared tx (at_host start logs key (primary_host start key)).cell.pending ⊎ (has_mark (is_applied tx) (logs (primary_host start key)) ≡ true)
+    pub held : HasPrepared tx (at_host start logs key (primary_host start key)).cell.pending
+        ⊎ (has_mark (is_applied tx) (logs (primary_host start key)) ≡ true)
 
   abbrev pub HeldIf : (ℕ → List HostStep) → Touched → Type 0
   HeldIf logs u = u.written ≡ true → IsHeld logs u.key
 
   -- while it commits
-  pub record IsKeeping (logs : ℕ → List HostStep) (epoch : ℕ) (ops : List (Op × Answer)) (touched : List Touched) : Type 0 where
+  pub record IsKeeping (logs : ℕ → List HostStep) (epoch : ℕ) (ops : List (Op × Answer)) (touched : List Touched) : Type
+      0 where
     pub decided : IsDecidedWith logs epoch ops
     pub held : is_given_up start logs tx ≡ false → Each (HeldIf logs) touched
 
@@ -96,7 +99,8 @@ module _ (start : Start) (tx : TxId) where
   -- all of that, after a run
   pub record AllTold (es : List HostStep) (xs : List Addressed) : Type 0 where
     pub signals : Each (λ (x : Addressed). Tells (logs_of start es) x.signal.body) xs
-    pub live : (t : Transaction) → live_at start (logs_of start es) tx ≡ Some t → LiveTells (logs_of start es) t.ops t.touched t.phase
+    pub live : (t : Transaction) → live_at start (logs_of start es) tx ≡ Some t → LiveTells (logs_of start es) t.ops
+        t.touched t.phase
     pub marks : (h : ℕ) → Each (λ (e : HostStep). Each (MarkTells (logs_of start es)) e.step.marks) (logs_of start es h)
 
   -- what says nothing of it

@@ -59,7 +59,8 @@ record Tells (tx : TxId) (body : Body) : Type 0 where
   is : body ≡ Client (TcKeyConf tx answer)
 
 tells_answer : (tx : TxId) (body : Body) → answer_of tx body ≡ true → Tells tx body
-tells_answer tx (Client (TcKeyConf other answer)) own = record { answer = answer; is = ap (λ v. Client (TcKeyConf v answer)) (same_tx-is other tx own) }
+tells_answer tx (Client (TcKeyConf other answer)) own = record
+    { answer = answer; is = ap (λ v. Client (TcKeyConf v answer)) (same_tx-is other tx own) }
 tells_answer tx _ own = absurd cc
 
 same_answer : (tx : TxId) (body : Body) → is_answered tx body ≡ answer_of tx body
@@ -97,7 +98,8 @@ past_none xs ys past none = by past.newer (sym none ∙ past.is)
     by [] is = sym is
     by (y ∷ newer) is = absurd cc
 
-shell_replies : (tx : TxId) (s : ApiState) (at : BlockId) (x : Signal) → is_api at ≡ true → answer_of tx x.body ≡ true → Replies tx s x.body (shell_row s at x)
+shell_replies : (tx : TxId) (s : ApiState) (at : BlockId) (x : Signal) → is_api at ≡ true → answer_of tx x.body ≡ true
+    → Replies tx s x.body (shell_row s at x)
 unfolding shell_row
 shell_replies tx s block.Api x is own = api_replies tx s x.body own
 shell_replies tx s _ x is own = absurd cc
@@ -107,12 +109,15 @@ module _ (start : Start) where
   unfolding replies_of
   replies_was log = ap replies_of (shell_after start log).is
 
-  replies_now : (e : HostStep) (log : List HostStep) → replies_of (after start 0 (e ∷ log)) ≡ (shell_row (shell_after start log).state e.step.taken.to.block e.step.taken).state.replies
+  replies_now : (e : HostStep) (log : List HostStep)
+      → replies_of (after start 0 (e ∷ log)) ≡ (shell_row (shell_after start log).state e.step.taken.to.block
+      e.step.taken).state.replies
   unfolding replies_of row
   replies_now e log = ap (λ h. replies_of (row h e.step.taken).state) (shell_after start log).is
 
   new_is : (e : HostStep) (log : List HostStep)
-      → new_replies start e log ≡ drop (length (shell_after start log).state.replies) (shell_row (shell_after start log).state e.step.taken.to.block e.step.taken).state.replies
+      → new_replies start e log ≡ drop (length (shell_after start log).state.replies)
+      (shell_row (shell_after start log).state e.step.taken.to.block e.step.taken).state.replies
   new_is e log =
       ap (λ rs. drop (length rs) (replies_of (after start 0 (e ∷ log)))) (replies_was log)
       ∙ ap (drop (length (shell_after start log).state.replies)) (replies_now e log)
@@ -120,14 +125,17 @@ module _ (start : Start) where
 module _ (start : Start) (tx : TxId) (some : 1 ≤ tx.tc) (low : tx.tc ≤ start.shape.nodes) where
   -- what was given is what was heard while the transaction is open, and an older part of it afterwards
   pub record IsGivenIn (logs : ℕ → List HostStep) : Type 0 where
-    pub held : 1 ≤ tally (has_tx tx) (opened_in (after start 0 (logs 0))) → given start tx (logs 0) ≡ heard start tx logs
+    pub held : 1 ≤ tally (has_tx tx) (opened_in (after start 0 (logs 0))) → given start tx (logs 0) ≡ heard start tx
+        logs
     pub past : IsPast (given start tx (logs 0)) (heard start tx logs)
 
-  pub heard_counts : (logs : ℕ → List HostStep) → AreLogs (machine start) logs → IsWithin (hosts start) logs → length (heard start tx logs) ≡ steps (is_answer tx) (logs 0)
+  pub heard_counts : (logs : ℕ → List HostStep) → AreLogs (machine start) logs → IsWithin (hosts start) logs
+      → length (heard start tx logs) ≡ steps (is_answer tx) (logs 0)
   heard_counts logs right within =
       omega (
         arith,
-        steps_from start (is_answer tx) (home start tx) (λ to body e. plain_answer tx body (right_of (is_api to.block) (answer_of tx body) e)) (logs 0)
+        steps_from start (is_answer tx) (home start tx)
+            (λ to body e. plain_answer tx body (right_of (is_api to.block) (answer_of tx body) e)) (logs 0)
             (none_else start logs right within (is_answer tx) (home start tx) (never_answers start tx)),
         taken_steps start (is_answer tx) (home start tx) (logs 0),
         conf_counts tx (taken (machine start) (home start tx) (logs 0)),
@@ -153,9 +161,11 @@ module _ (start : Start) (tx : TxId) (some : 1 ≤ tx.tc) (low : tx.tc ≤ start
     was_is = ap (λ h. tally (has_tx tx) (opened_in h)) (shell_after start (logs 0)).is
 
     now_is : tally (has_tx tx) (opened_in (after start 0 (now 0))) ≡ tally (has_tx tx) step.state.opened
-    now_is = ap (λ l. tally (has_tx tx) (opened_in (after start 0 l))) g.own ∙ ap (tally (has_tx tx)) (opened_next start e (logs 0))
+    now_is = ap (λ l. tally (has_tx tx) (opened_in (after start 0 l))) g.own ∙ ap (tally (has_tx tx))
+        (opened_next start e (logs 0))
 
-    grows : tally (has_tx tx) step.state.opened ≤ tally (has_tx tx) s.opened + one_if (is_api x.to.block && start_of tx x.body)
+    grows : tally (has_tx tx) step.state.opened ≤ tally (has_tx tx) s.opened + one_if
+        (is_api x.to.block && start_of tx x.body)
     grows = (shell_holds tx s x.to.block x (shell_after start (logs 0)).good).0
 
     -- what was given
@@ -163,10 +173,12 @@ module _ (start : Start) (tx : TxId) (some : 1 ≤ tx.tc) (low : tx.tc ≤ start
     given_is = ap (given start tx) g.own
 
     given_none : is_answered tx x.body ≡ false → given start tx (now 0) ≡ given start tx log
-    given_none off = given_is ∙ ap (λ b. (if b then reverse (answers_among (new_replies start e log)) else []) ++ given start tx log) off
+    given_none off = given_is ∙ ap (λ b. (if b then reverse (answers_among (new_replies start e log)) else []) ++ given
+        start tx log) off
 
     given_same : step.state.replies ≡ s.replies → given start tx (now 0) ≡ given start tx log
-    given_same same = given_is ∙ (ap (λ rs. (if is_answered tx x.body then reverse (answers_among rs) else []) ++ given start tx log) nothing ∙ by (is_answered tx x.body))
+    given_same same = given_is ∙ (ap (λ rs. (if is_answered tx x.body then reverse (answers_among rs) else []) ++ given
+        start tx log) nothing ∙ by (is_answered tx x.body))
       where
         nothing : new_replies start e log ≡ []
         nothing = new_is start e log ∙ (ap (drop (length s.replies)) same ∙ drop_all s.replies)
@@ -175,11 +187,16 @@ module _ (start : Start) (tx : TxId) (some : 1 ≤ tx.tc) (low : tx.tc ≤ start
         by true = refl
         by false = refl
 
-    given_more : (name : _) (answer : Answer) → x.body ≡ Client (TcKeyConf tx answer) → step.state.replies ≡ s.replies ++ Answered name answer ∷ [] → given start tx (now 0) ≡ answer ∷ given start tx log
+    given_more : (name : _) (answer : Answer) → x.body ≡ Client (TcKeyConf tx answer)
+        → step.state.replies ≡ s.replies ++ Answered name answer ∷ [] → given start tx (now 0) ≡ answer ∷ given start tx
+        log
     given_more name answer is replies =
         given_is
-        ∙ (ap (λ b. (if b then reverse (answers_among (new_replies start e log)) else []) ++ given start tx log) (ap (is_answered tx) is ∙ same_tx-self tx)
-        ∙ ap (λ rs. reverse (answers_among rs) ++ given start tx log) (new_is start e log ∙ (ap (drop (length s.replies)) replies ∙ drop_front s.replies (Answered name answer ∷ []))))
+        ∙ (ap (λ b. (if b then reverse (answers_among (new_replies start e log)) else []) ++ given start tx log)
+        (ap (is_answered tx) is ∙ same_tx-self tx)
+        ∙ ap (λ rs. reverse (answers_among rs) ++ given start tx log)
+        (new_is start e log ∙ (ap (drop (length s.replies)) replies ∙ drop_front s.replies
+        (Answered name answer ∷ []))))
 
     -- what was heard
     heard_is : heard start tx now ≡ filter_map (conf tx) (taken (machine start) (home start tx) (e ∷ log))
@@ -188,14 +205,18 @@ module _ (start : Start) (tx : TxId) (some : 1 ≤ tx.tc) (low : tx.tc ≤ start
     heard_none : is_answer tx x.to x.body ≡ false → heard start tx now ≡ heard start tx logs
     heard_none off = heard_is ∙ by (is_from (machine start) (home start tx) e)
       where
-        by : (b : Bool) → filter_map (conf tx) (if b then (machine start).signal e ∷ taken (machine start) (home start tx) log else taken (machine start) (home start tx) log) ≡ heard start tx logs
+        by : (b : Bool) → filter_map (conf tx) (if b then (machine start).signal e ∷ taken (machine start)
+            (home start tx) log else taken (machine start) (home start tx) log) ≡ heard start tx logs
         by true = ap (λ o. cons_option o (heard start tx logs)) (told_none tx x.to x.body off)
         by false = refl
 
-    heard_more : (answer : Answer) → x.body ≡ Client (TcKeyConf tx answer) → is_api x.to.block ≡ true → heard start tx now ≡ answer ∷ heard start tx logs
+    heard_more : (answer : Answer) → x.body ≡ Client (TcKeyConf tx answer) → is_api x.to.block ≡ true
+        → heard start tx now ≡ answer ∷ heard start tx logs
     heard_more answer is api = by (is_from (machine start) (home start tx) e) refl
       where
-        from : (b : Bool) → filter_map (conf tx) (if b then (machine start).signal e ∷ taken (machine start) (home start tx) log else taken (machine start) (home start tx) log)
+        from : (b : Bool) → filter_map (conf tx)
+            (if b then (machine start).signal e ∷ taken (machine start) (home start tx) log else taken (machine start)
+            (home start tx) log)
             ≡ (if b then cons_option (told_by tx x.to x.body) (heard start tx logs) else heard start tx logs)
         from true = refl
         from false = refl
@@ -204,15 +225,21 @@ module _ (start : Start) (tx : TxId) (some : 1 ≤ tx.tc) (low : tx.tc ≤ start
         own = ap (λ b. b && answer_of tx x.body) api ∙ (ap (answer_of tx) is ∙ same_tx-self tx)
 
         told : told_by tx x.to x.body ≡ Some answer
-        told = ap (told_by tx x.to) is ∙ ap (λ b. if b then Some answer else None) (ap (λ b. b && same_tx tx tx) api ∙ same_tx-self tx)
+        told = ap (told_by tx x.to) is ∙ ap (λ b. if b then Some answer else None)
+            (ap (λ b. b && same_tx tx tx) api ∙ same_tx-self tx)
 
-        by : (b : Bool) → is_from (machine start) (home start tx) e ≡ b → heard start tx now ≡ answer ∷ heard start tx logs
+        by : (b : Bool) → is_from (machine start) (home start tx) e ≡ b → heard start tx now ≡ answer ∷ heard start tx
+            logs
         by true is_so =
-            heard_is ∙ (from (is_from (machine start) (home start tx) e) ∙ (ap (λ b. if b then cons_option (told_by tx x.to x.body) (heard start tx logs) else heard start tx logs) is_so
+            heard_is ∙ (from (is_from (machine start) (home start tx) e)
+            ∙ (ap (λ b. if b then cons_option (told_by tx x.to x.body) (heard start tx logs) else heard start tx
+            logs) is_so
             ∙ ap (λ o. cons_option o (heard start tx logs)) told))
         by false is_so =
             let same : heard start tx now ≡ heard start tx logs =
-            heard_is ∙ (from (is_from (machine start) (home start tx) e) ∙ ap (λ b. if b then cons_option (told_by tx x.to x.body) (heard start tx logs) else heard start tx logs) is_so) in
+            heard_is ∙ (from (is_from (machine start) (home start tx) e)
+            ∙ ap (λ b. if b then cons_option (told_by tx x.to x.body) (heard start tx logs) else heard start tx
+            logs) is_so) in
             absurd (omega (
               arith,
               heard_counts now g.right g.within,
@@ -223,20 +250,24 @@ module _ (start : Start) (tx : TxId) (some : 1 ≤ tx.tc) (low : tx.tc ≤ start
             ))
 
     -- nothing was given and nothing heard, and it was held before
-    quiet : given start tx (now 0) ≡ given start tx log → heard start tx now ≡ heard start tx logs → tally (has_tx tx) step.state.opened ≤ tally (has_tx tx) s.opened → IsGivenIn now
+    quiet : given start tx (now 0) ≡ given start tx log → heard start tx now ≡ heard start tx logs
+        → tally (has_tx tx) step.state.opened ≤ tally (has_tx tx) s.opened → IsGivenIn now
     quiet same_given same_heard fewer = record {
       held = λ there. same_given ∙ (q.held (omega (arith, there, was_is, now_is, fewer)) ∙ sym same_heard);
-      past = subst (λ l. IsPast l (heard start tx now)) (sym same_given) (subst (IsPast (given start tx log)) (sym same_heard) q.past);
+      past = subst (λ l. IsPast l (heard start tx now)) (sym same_given)
+          (subst (IsPast (given start tx log)) (sym same_heard) q.past);
     }
 
     all : AllHeard start tx some low logs
     all = all_heard start tx some low logs g.was_within g.before
 
     -- it begins
-    begun : given start tx (now 0) ≡ given start tx log → heard start tx now ≡ heard start tx logs → is_api x.to.block ≡ true → start_of tx x.body ≡ true → IsGivenIn now
+    begun : given start tx (now 0) ≡ given start tx log → heard start tx now ≡ heard start tx logs
+        → is_api x.to.block ≡ true → start_of tx x.body ≡ true → IsGivenIn now
     begun same_given same_heard api starts = record {
       held = λ there. same_given ∙ (none_given ∙ sym (same_heard ∙ none_heard));
-      past = subst (λ l. IsPast l (heard start tx now)) (sym same_given) (subst (IsPast (given start tx log)) (sym same_heard) q.past);
+      past = subst (λ l. IsPast l (heard start tx now)) (sym same_given)
+          (subst (IsPast (given start tx log)) (sym same_heard) q.past);
     }
       where
         none_started : steps (is_start tx) (logs 0) ≡ 0
@@ -277,15 +308,18 @@ module _ (start : Start) (tx : TxId) (some : 1 ≤ tx.tc) (low : tx.tc ≤ start
 
         by : (b : Bool) → start_of tx x.body ≡ b → IsGivenIn now
         by true starts = begun same_given same_heard api starts
-        by false starts = quiet same_given same_heard (omega (arith, grows, ap one_if (ap (λ b. b && start_of tx x.body) api ∙ starts)))
+        by false starts = quiet same_given same_heard
+            (omega (arith, grows, ap one_if (ap (λ b. b && start_of tx x.body) api ∙ starts)))
 
     -- it is operating when an answer comes
-    never_idle : {A : Type 0} (front : List OpenTransaction) (t : OpenTransaction) (back : List OpenTransaction) → s.opened ≡ front ++ t ∷ back → has_tx tx t ≡ true → is_operating t.doing ≡ false
+    never_idle : {A : Type 0} (front : List OpenTransaction) (t : OpenTransaction) (back : List OpenTransaction)
+        → s.opened ≡ front ++ t ∷ back → has_tx tx t ≡ true → is_operating t.doing ≡ false
         → step ≡ stay s → is_answer tx x.to x.body ≡ true → A
     never_idle front t back is has idle_is stays own =
         absurd (omega (
           arith,
-          few (signals (is_commit_req tx) (sent (machine start) 0 (home start tx) (logs 0))) t.doing idle_is refl (all.asking.held t there),
+          few (signals (is_commit_req tx) (sent (machine start) 0 (home start tx) (logs 0))) t.doing idle_is refl
+              (all.asking.held t there),
           answers_few start tx now g.right g.within,
           answers_asked start tx now g.right g.within,
           keys_few start tx now g.right g.within,
@@ -307,17 +341,24 @@ module _ (start : Start) (tx : TxId) (some : 1 ≤ tx.tc) (low : tx.tc ≤ start
             )
 
         there : of_opened tx (opened_in (after start 0 (logs 0))) ≡ Some t
-        there = ap (λ h. of_opened tx (opened_in h)) (shell_after start (logs 0)).is ∙ opened_at tx t s.opened once (subst (IsIn t) (sym is) (in_middle front t back)) has
+        there = ap (λ h. of_opened tx (opened_in h)) (shell_after start (logs 0)).is
+            ∙ opened_at tx t s.opened once (subst (IsIn t) (sym is) (in_middle front t back)) has
 
         good : IsGood s.view t
         good = each_at (λ u. IsGood s.view u) front t back s.opened is (shell_after start (logs 0)).good.each
 
-        few : (c : ℕ) → (d : Doing) → is_operating t.doing ≡ false → t.doing ≡ d → IsHeld t.operations (signals (is_key tx) (sent (machine start) 0 (home start tx) (logs 0))) c (steps (is_answer tx) (logs 0)) t.doing
+        few : (c : ℕ) → (d : Doing) → is_operating t.doing ≡ false → t.doing ≡ d
+            → IsHeld t.operations (signals (is_key tx) (sent (machine start) 0 (home start tx) (logs 0))) c
+            (steps (is_answer tx) (logs 0)) t.doing
             → signals (is_key tx) (sent (machine start) 0 (home start tx) (logs 0)) ≤ steps (is_answer tx) (logs 0)
         few c (Beginning op) off d h = absurd (false≢true (sym (ap (is_tx tx) (good.fresh (ap is_beginning d))) ∙ has))
-        few c Ready off d h = let own = subst (IsHeld t.operations (signals (is_key tx) (sent (machine start) 0 (home start tx) (logs 0))) c (steps (is_answer tx) (logs 0))) d h in own.0
+        few c Ready off d h = let own = subst (IsHeld t.operations
+            (signals (is_key tx) (sent (machine start) 0 (home start tx) (logs 0))) c (steps (is_answer tx) (logs 0))) d
+            h in own.0
         few c Operating off d h = absurd (false≢true (sym off ∙ ap is_operating d))
-        few c Committing off d h = let own = subst (IsHeld t.operations (signals (is_key tx) (sent (machine start) 0 (home start tx) (logs 0))) c (steps (is_answer tx) (logs 0))) d h in own.1
+        few c Committing off d h = let own = subst
+            (IsHeld t.operations (signals (is_key tx) (sent (machine start) 0 (home start tx) (logs 0))) c
+            (steps (is_answer tx) (logs 0))) d h in own.1
 
     an_answer : is_api x.to.block ≡ true → answer_of tx x.body ≡ true → IsGivenIn now
     an_answer api own = by (shell_replies tx s x.to.block x api own)
@@ -333,14 +374,29 @@ module _ (start : Start) (tx : TxId) (some : 1 ≤ tx.tc) (low : tx.tc ≤ start
 
         by : Replies tx s x.body step → IsGivenIn now
         by (absent none same) = record {
-          held = λ there. absurd (omega (arith, there, now_is, grows, none, ap one_if (ap (λ b. b && start_of tx x.body) api ∙ no_start)));
-          past = subst (λ l. IsPast l (heard start tx now)) (sym (given_same same)) (subst (IsPast (given start tx log)) (sym more) (past_more told.answer q.past));
+          held = λ there. absurd (omega (
+            arith,
+            there,
+            now_is,
+            grows,
+            none,
+            ap one_if
+                (ap (λ b. b && start_of tx x.body) api ∙ no_start),
+          ));
+          past = subst (λ l. IsPast l (heard start tx now)) (sym (given_same same))
+              (subst (IsPast (given start tx log)) (sym more) (past_more told.answer q.past));
         }
-        by (idle front t back is has off stays) = never_idle front t back is has off stays (ap (λ b. b && answer_of tx x.body) api ∙ own)
+        by (idle front t back is has off stays) = never_idle front t back is has off stays
+            (ap (λ b. b && answer_of tx x.body) api ∙ own)
         by (tells name answer is replies there) =
             let both : given start tx (now 0) ≡ heard start tx now =
-            given_more name answer is replies ∙ (ap (λ l. answer ∷ l) (q.held (omega (arith, there, was_is))) ∙ sym (heard_more answer is api)) in
-            record { held = λ now_there. both; past = subst (λ l. IsPast l (heard start tx now)) (sym both) (past_self (heard start tx now)) }
+            given_more name answer is replies ∙ (ap (λ l. answer ∷ l) (q.held (omega (arith, there, was_is)))
+            ∙ sym (heard_more answer is api)) in
+            record {
+              held = λ now_there. both;
+              past = subst (λ l. IsPast l (heard start tx now)) (sym both)
+                  (past_self (heard start tx now));
+            }
 
     pub given_next : IsGivenIn now
     given_next = by (is_api x.to.block) refl (answer_of tx x.body) refl
@@ -348,7 +404,8 @@ module _ (start : Start) (tx : TxId) (some : 1 ≤ tx.tc) (low : tx.tc ≤ start
         by : (a : Bool) → is_api x.to.block ≡ a → (b : Bool) → answer_of tx x.body ≡ b → IsGivenIn now
         by false api b ans =
             let stays = shell_stays s x.to.block x api in
-            quiet (given_same (ap (λ (st : Step ApiState). st.state.replies) stays)) (heard_none (ap (λ a. a && answer_of tx x.body) api))
+            quiet (given_same (ap (λ (st : Step ApiState). st.state.replies) stays))
+            (heard_none (ap (λ a. a && answer_of tx x.body) api))
             (omega (arith, ap (λ (st : Step ApiState). tally (has_tx tx) st.state.opened) stays))
         by true api false ans = no_answer api ans
         by true api true ans = an_answer api ans
@@ -356,7 +413,8 @@ module _ (start : Start) (tx : TxId) (some : 1 ≤ tx.tc) (low : tx.tc ≤ start
   first : IsGivenIn (log_of (machine start) [])
   first = record { held = λ there. refl; past = past_nil [] }
 
-  next : (logs now : ℕ → List HostStep) (h : ℕ) (e : HostStep) → Goes start logs now h e → IsGivenIn logs → IsGivenIn now
+  next : (logs now : ℕ → List HostStep) (h : ℕ) (e : HostStep) → Goes start logs now h e → IsGivenIn logs
+      → IsGivenIn now
   next logs now h e g q = by (cases_eq h 0)
     where
       by : (h ≡ 0) ⊎ (h ≢ 0) → IsGivenIn now
@@ -365,9 +423,12 @@ module _ (start : Start) (tx : TxId) (some : 1 ≤ tx.tc) (low : tx.tc ≤ start
           let same = g.others 0 (λ z. off (sym z)) in
           record {
             held = λ there. ap (given start tx) same
-                ∙ (q.held (omega (arith, there, ap (λ l. tally (has_tx tx) (opened_in (after start 0 l))) same)) ∙ ap (λ l. filter_map (conf tx) (taken (machine start) (home start tx) l)) (sym same));
-            past = subst (λ l. IsPast (given start tx l) (filter_map (conf tx) (taken (machine start) (home start tx) l))) (sym same) q.past;
+                ∙ (q.held (omega (arith, there, ap (λ l. tally (has_tx tx) (opened_in (after start 0 l))) same))
+                ∙ ap (λ l. filter_map (conf tx) (taken (machine start) (home start tx) l)) (sym same));
+            past = subst (λ l. IsPast (given start tx l)
+                (filter_map (conf tx) (taken (machine start) (home start tx) l))) (sym same) q.past;
           }
 
-  pub given_in : (logs : ℕ → List HostStep) → IsWithin (hosts start) logs → AreLogs (machine start) logs → IsGivenIn logs
+  pub given_in : (logs : ℕ → List HostStep) → IsWithin (hosts start) logs → AreLogs (machine start) logs
+      → IsGivenIn logs
   given_in logs within right = along start IsGivenIn first next logs within right

@@ -53,7 +53,8 @@ use Rattle.report_laws.specs.Reported.{EndsAreReportedOnce, is_ended, marks_in}
 module _ (tx : TxId) where
   -- a step reports nothing of the transaction, or has it once less for each report
   abbrev Spends : ℕ → Step ApiState → Type 0
-  Spends before step = (tally (is_ended tx) step.effects.marks ≡ 0) ⊎ (tally (has_tx tx) step.state.opened + tally (is_ended tx) step.effects.marks ≤ before)
+  Spends before step = (tally (is_ended tx) step.effects.marks ≡ 0)
+      ⊎ (tally (has_tx tx) step.state.opened + tally (is_ended tx) step.effects.marks ≤ before)
 
   module _ (s : ApiState) where
     abbrev SpendsAt : Body → Step ApiState → Type 0
@@ -81,7 +82,13 @@ module _ (tx : TxId) where
     over_spends one at f false e = inl refl
     over_spends one at f true e =
         let here : has_tx tx f.item ≡ true = subst (λ x. has_tx x f.item ≡ true) (same_tx-is one tx e) f.passes in
-        inr (omega (arith, tally_between (has_tx tx) f.front f.item f.back s.opened f.is, ap (tally (has_tx tx)) f.removed, ap one_if here))
+        inr (omega (
+          arith,
+          tally_between (has_tx tx) f.front f.item f.back s.opened f.is,
+          ap (tally (has_tx tx))
+              f.removed,
+          ap one_if here,
+        ))
 
     at_signal : (body : Body) → ApiSignalForms s body (SpendsAt body)
     at_signal body = record {
@@ -111,7 +118,9 @@ module _ (tx : TxId) where
 
   module _ (start : Start) where
     -- what a step of the shell's host marks
-    shell_marks : (e : HostStep) (log : List HostStep) → (step_after start 0 log e).effects.marks ≡ (shell_row (shell_after start log).state e.step.taken.to.block e.step.taken).effects.marks
+    shell_marks : (e : HostStep) (log : List HostStep)
+        → (step_after start 0 log e).effects.marks ≡ (shell_row (shell_after start log).state e.step.taken.to.block
+        e.step.taken).effects.marks
     unfolding row
     shell_marks e log = ap (λ h. (row h e.step.taken).effects.marks) (shell_after start log).is
 
@@ -120,7 +129,8 @@ module _ (tx : TxId) where
         → tally (has_tx tx) (opened_in (after start 0 log)) + marks_in (is_ended tx) log ≤ steps (is_start tx) log
     spent [] l = omega (arith, ap (tally (has_tx tx)) (opened_first start))
     spent (e ∷ log) l =
-        by (shell_holds tx s e.step.taken.to.block e.step.taken (shell_after start log).good).0 (shell_spends s e.step.taken.to.block e.step.taken) (spent log l.1)
+        by (shell_holds tx s e.step.taken.to.block e.step.taken (shell_after start log).good).0
+        (shell_spends s e.step.taken.to.block e.step.taken) (spent log l.1)
       where
         s : ApiState
         s = (shell_after start log).state
@@ -128,21 +138,26 @@ module _ (tx : TxId) where
         was : tally (has_tx tx) (opened_in (after start 0 log)) ≡ tally (has_tx tx) s.opened
         was = ap (λ g. tally (has_tx tx) (opened_in g)) (shell_after start log).is
 
-        now : tally (has_tx tx) (opened_in (after start 0 (e ∷ log))) ≡ tally (has_tx tx) (shell_row s e.step.taken.to.block e.step.taken).state.opened
+        now : tally (has_tx tx) (opened_in (after start 0 (e ∷ log))) ≡ tally (has_tx tx)
+            (shell_row s e.step.taken.to.block e.step.taken).state.opened
         now = ap (tally (has_tx tx)) (opened_next start e log)
 
-        marks : tally (is_ended tx) e.step.marks ≡ tally (is_ended tx) (shell_row s e.step.taken.to.block e.step.taken).effects.marks
+        marks : tally (is_ended tx) e.step.marks ≡ tally (is_ended tx)
+            (shell_row s e.step.taken.to.block e.step.taken).effects.marks
         marks = ap (tally (is_ended tx)) (l.0.fits.marks ∙ shell_marks e log)
 
-        by : tally (has_tx tx) (shell_row s e.step.taken.to.block e.step.taken).state.opened ≤ tally (has_tx tx) s.opened + one_if (is_api e.step.taken.to.block && start_of tx e.step.taken.body)
+        by : tally (has_tx tx) (shell_row s e.step.taken.to.block e.step.taken).state.opened ≤ tally (has_tx tx)
+            s.opened + one_if (is_api e.step.taken.to.block && start_of tx e.step.taken.body)
             → Spends (tally (has_tx tx) s.opened) (shell_row s e.step.taken.to.block e.step.taken)
             → tally (has_tx tx) (opened_in (after start 0 log)) + marks_in (is_ended tx) log ≤ steps (is_start tx) log
-            → tally (has_tx tx) (opened_in (after start 0 (e ∷ log))) + marks_in (is_ended tx) (e ∷ log) ≤ steps (is_start tx) (e ∷ log)
+            → tally (has_tx tx) (opened_in (after start 0 (e ∷ log))) + marks_in (is_ended tx) (e ∷ log) ≤ steps
+            (is_start tx) (e ∷ log)
         by grows (inl none) held = omega (arith, grows, none, held, was, now, marks)
         by grows (inr spends) held = omega (arith, spends, held, was, now, marks)
 
     -- no other host reports
-    decide_none : (s : DihState) (one : TxId) → Each (λ (m : Mark). is_ended tx m ≡ false) (decide_row s one).effects.marks
+    decide_none : (s : DihState) (one : TxId) → Each (λ (m : Mark). is_ended tx m ≡ false)
+        (decide_row s one).effects.marks
     unfolding decide_row
     decide_none s one = by _
       where
@@ -150,14 +165,16 @@ module _ (tx : TxId) where
         by true = (refl, tt)
         by false = tt
 
-    dih_none : (s : DihState) (body : Body) → Each (λ (m : Mark). is_ended tx m ≡ false) (dih_table s body).effects.marks
+    dih_none : (s : DihState) (body : Body) → Each (λ (m : Mark). is_ended tx m ≡ false)
+        (dih_table s body).effects.marks
     dih_none s (Epoch (DiVerifyReq one ops)) = decide_none s one
     dih_none s _ = tt
 
     tc_none : (s : TcState) (body : Body) → Each (λ (m : Mark). is_ended tx m ≡ false) (tc_table s body).effects.marks
     tc_none s body = subst (Each (λ (m : Mark). is_ended tx m ≡ false)) (sym (tc_marks s body)) tt
 
-    rows_none : (s : LqhState) (body : Body) → Each (λ (m : Mark). is_ended tx m ≡ false) (lqh_table s body).effects.marks
+    rows_none : (s : LqhState) (body : Body) → Each (λ (m : Mark). is_ended tx m ≡ false)
+        (lqh_table s body).effects.marks
     rows_none s body =
         lqh_marks_each (λ (m : Mark). is_ended tx m ≡ false) s body (record {
           prepared = λ one key. refl;
@@ -167,7 +184,8 @@ module _ (tx : TxId) where
           expired = λ one key. refl;
         })
 
-    host_none : (s : host.Host) (x : Signal) → has_api s ≡ false → Each (λ (m : Mark). is_ended tx m ≡ false) (row s x).effects.marks
+    host_none : (s : host.Host) (x : Signal) → has_api s ≡ false → Each (λ (m : Mark). is_ended tx m ≡ false)
+        (row s x).effects.marks
     host_none s x other =
         each_mark (λ (m : Mark). is_ended tx m ≡ false) s x (record {
           api = λ runs at. absurd (false≢true (sym other ∙ runs));
@@ -182,7 +200,8 @@ module _ (tx : TxId) where
         omega (
           arith,
           tally_none (is_ended tx) e.step.marks
-              (subst (Each (λ (m : Mark). is_ended tx m ≡ false)) (sym l.0.fits.marks) (host_none (after start h log) e.step.taken (no_api start h log other))),
+              (subst (Each (λ (m : Mark). is_ended tx m ≡ false)) (sym l.0.fits.marks)
+              (host_none (after start h log) e.step.taken (no_api start h log other))),
           none_else h other log l.1,
         )
 
@@ -199,7 +218,8 @@ pub ends_are_reported_once : EndsAreReportedOnce
 ends_are_reported_once start logs shape within right tx =
     omega (
       arith,
-      total_first (hosts start) (λ h. marks_in (is_ended tx) (logs h)) (λ h other. none_else tx start h other (logs h) (right.local h)),
+      total_first (hosts start) (λ h. marks_in (is_ended tx) (logs h))
+          (λ h other. none_else tx start h other (logs h) (right.local h)),
       spent tx start (logs 0) (right.local 0),
       starts_once start tx logs right within,
     )

@@ -30,12 +30,16 @@ use Rattle.host_laws.specs.Counts.{one_if, tally}
 use Rattle.answer_laws.specs.Answered.{is_operating}
 use Rattle.report_laws.specs.Reported.{is_ended}
 
--- the API replies the answer of the transaction that it has; or it hasn't it, or not operating, and then it stays as it is
+-- the API replies the answer of the transaction that it has; or it hasn't it, or not operating, and then it stays as it
+-- is
 pub data Replies (tx : TxId) (s : ApiState) (body : Body) (step : Step ApiState) : Type 0 where
   absent : tally (has_tx tx) s.opened ≡ 0 → step.state.replies ≡ s.replies → Replies tx s body step
-  idle : (front : List OpenTransaction) (t : OpenTransaction) (back : List OpenTransaction) → s.opened ≡ front ++ t ∷ back → has_tx tx t ≡ true → is_operating t.doing ≡ false → step ≡ stay s
+  idle : (front : List OpenTransaction) (t : OpenTransaction) (back : List OpenTransaction)
+      → s.opened ≡ front ++ t ∷ back → has_tx tx t ≡ true → is_operating t.doing ≡ false → step ≡ stay s
       → Replies tx s body step
-  tells : (name : _) (answer : Answer) → body ≡ Client (TcKeyConf tx answer) → step.state.replies ≡ s.replies ++ Answered name answer ∷ [] → 1 ≤ tally (has_tx tx) s.opened → Replies tx s body step
+  tells : (name : _) (answer : Answer) → body ≡ Client (TcKeyConf tx answer)
+      → step.state.replies ≡ s.replies ++ Answered name answer ∷ [] → 1 ≤ tally (has_tx tx) s.opened
+      → Replies tx s body step
 
 not_operating : (d : Doing) → (d ≡ Operating → ⊥) → is_operating d ≡ false
 not_operating (Beginning op) other = refl
@@ -67,20 +71,30 @@ module _ (tx : TxId) (s : ApiState) where
   }
 
   -- the transaction that was found
-  has_one : (one : TxId) (at : ℕ) (f : IsFocus (has_tx one) s.opened at) → same_tx one tx ≡ true → has_tx tx f.item ≡ true
+  has_one : (one : TxId) (at : ℕ) (f : IsFocus (has_tx one) s.opened at) → same_tx one tx ≡ true
+      → has_tx tx f.item ≡ true
   has_one one at f same = subst (λ v. has_tx v f.item ≡ true) (same_tx-is one tx same) f.passes
 
-  some_one : (one : TxId) (at : ℕ) (f : IsFocus (has_tx one) s.opened at) → same_tx one tx ≡ true → 1 ≤ tally (has_tx tx) s.opened
-  some_one one at f same = omega (arith, tally_between (has_tx tx) f.front f.item f.back s.opened f.is, ap one_if (has_one one at f same))
+  some_one : (one : TxId) (at : ℕ) (f : IsFocus (has_tx one) s.opened at) → same_tx one tx ≡ true
+      → 1 ≤ tally (has_tx tx) s.opened
+  some_one one at f same = omega (
+    arith,
+    tally_between (has_tx tx) f.front f.item f.back s.opened f.is,
+    ap one_if
+        (has_one one at f same),
+  )
 
-  told : (one : TxId) (answer : Answer) (body : Body) → body ≡ Client (TcKeyConf one answer) → answer_of tx body ≡ true → same_tx one tx ≡ true
+  told : (one : TxId) (answer : Answer) (body : Body) → body ≡ Client (TcKeyConf one answer) → answer_of tx body ≡ true
+      → same_tx one tx ≡ true
   told one answer body is own = ap (answer_of tx) (sym is) ∙ own
 
-  told_body : (one : TxId) (answer : Answer) (body : Body) → body ≡ Client (TcKeyConf one answer) → same_tx one tx ≡ true → body ≡ Client (TcKeyConf tx answer)
+  told_body : (one : TxId) (answer : Answer) (body : Body) → body ≡ Client (TcKeyConf one answer)
+      → same_tx one tx ≡ true → body ≡ Client (TcKeyConf tx answer)
   told_body one answer body is same = is ∙ ap (λ v. Client (TcKeyConf v answer)) (same_tx-is one tx same)
 
   stray_none : (body : Body) → IsStray s.opened body → answer_of tx body ≡ true → tally (has_tx tx) s.opened ≡ 0
-  stray_none (Client (TcKeyConf one answer)) stray own = subst (λ v. tally (has_tx v) s.opened ≡ 0) (same_tx-is one tx own) stray
+  stray_none (Client (TcKeyConf one answer)) stray own = subst (λ v. tally (has_tx v) s.opened ≡ 0)
+      (same_tx-is one tx own) stray
   stray_none _ stray own = absurd cc
 
   at_signal : (body : Body) → ApiSignalForms s body (RepliesAt body)
@@ -90,11 +104,14 @@ module _ (tx : TxId) (s : ApiState) where
     begins_idle = λ name one at f is own. off body _ is refl own;
     refuses = λ name at f is own. off body _ is refl own;
     answers = λ one answer at f name is d e own.
-        let same = told one answer body is own in tells (Some name) answer (told_body one answer body is same) refl (some_one one at f same);
+        let same = told one answer body is own in tells (Some name) answer (told_body one answer body is same) refl
+        (some_one one at f same);
     answers_last = λ one answer at f is d e own.
-        let same = told one answer body is own in tells None answer (told_body one answer body is same) refl (some_one one at f same);
+        let same = told one answer body is own in tells None answer (told_body one answer body is same) refl
+        (some_one one at f same);
     answers_none = λ one answer at f is other own.
-        idle f.front f.item f.back f.is (has_one one at f (told one answer body is own)) (not_operating f.item.doing other) refl;
+        idle f.front f.item f.back f.is (has_one one at f (told one answer body is own))
+        (not_operating f.item.doing other) refl;
     commits = λ one epoch at f is own. off body _ is refl own;
     acknowledges = λ one epoch is none own. off body _ is refl own;
     aborts = λ one cause at f is own. off body _ is refl own;

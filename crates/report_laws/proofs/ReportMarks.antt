@@ -91,9 +91,11 @@ module _ (test : Mark → Bool) (P : Mark → Type 0) (Q : Type 0) (shows : (m :
       by (inl own) more = mark_shows e.step.marks all.0 own
       by (inr rest) more = more rest
 
-  pub marks_show : (n : ℕ) (logs : ℕ → List HostStep) → ((h : ℕ) → Each (λ (e : HostStep). Each P e.step.marks) (logs h)) → have_mark test n logs ≡ true → Q
+  pub marks_show : (n : ℕ) (logs : ℕ → List HostStep)
+      → ((h : ℕ) → Each (λ (e : HostStep). Each P e.step.marks) (logs h)) → have_mark test n logs ≡ true → Q
   marks_show zero logs all is = absurd cc
-  marks_show (suc n) logs all is = by (or_cases (has_mark test (logs n)) (have_mark test n logs) is) (marks_show n logs all)
+  marks_show (suc n) logs all is = by (or_cases (has_mark test (logs n)) (have_mark test n logs) is)
+      (marks_show n logs all)
     where
       by : (has_mark test (logs n) ≡ true) ⊎ (have_mark test n logs ≡ true) → (have_mark test n logs ≡ true → Q) → Q
       by (inl own) more = log_shows (logs n) (all n) own

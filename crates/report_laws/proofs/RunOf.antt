@@ -21,7 +21,8 @@ pub record IsRunTo (start : Start) (logs : ℕ → List HostStep) : Type 0 where
   pub same : logs_of start end ≡ logs
 
 module _ (start : Start) (shape : IsShape start.shape) where
-  pub run_to : (logs : ℕ → List HostStep) → IsWithin (hosts start) logs → AreLogs (machine start) logs → IsRunTo start logs
+  pub run_to : (logs : ℕ → List HostStep) → IsWithin (hosts start) logs → AreLogs (machine start) logs
+      → IsRunTo start logs
   run_to logs within right =
       let same = logs_merged (machine start) (hosts start) logs within right in
       record {
@@ -34,7 +35,8 @@ module _ (start : Start) (shape : IsShape start.shape) where
         same = same;
       }
 
-  pub run_inside : (inside logs : ℕ → List HostStep) → IsWithin (hosts start) logs → AreLogs (machine start) logs → IsCut inside logs
+  pub run_inside : (inside logs : ℕ → List HostStep) → IsWithin (hosts start) logs → AreLogs (machine start) logs
+      → IsCut inside logs
       → IsClosed (machine start) inside → IsRunTo start inside
   run_inside inside logs within right cut closed =
       run_to inside (within_cut (machine start) (stamped start) (hosts start) inside logs within cut)

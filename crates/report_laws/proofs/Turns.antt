@@ -80,14 +80,22 @@ abbrev only : ℕ → ℕ → Bool
 only epoch other = other == epoch
 
 telling_chains : (tx : TxId) (told : ℕ → Bool) → HasChains tx (is_telling told)
-telling_chains tx told = record { commits = λ key epoch chain at. refl; completes = λ key chain at. refl; aborts = λ key. refl; goes_on = λ at. refl }
+telling_chains tx told = record {
+  commits = λ key epoch chain at. refl;
+  completes = λ key chain at. refl;
+  aborts =
+      λ key. refl;
+  goes_on = λ at. refl;
+}
 
 itself : (n : ℕ) → (n == n) ≡ true
 itself n = grind arith
 
-module _ (start : Start) (tx : TxId) (es : List HostStep) (e : HostStep) (come : Comes start es e) (before between : List Addressed) (transit : AreInTransit start es before) (takes : Takes e before between)
+module _ (start : Start) (tx : TxId) (es : List HostStep) (e : HostStep) (come : Comes start es e)
+    (before between : List Addressed) (transit : AreInTransit start es before) (takes : Takes e before between)
     (held : AllTold start tx es before) (taken : Tells start tx (logs_of start es) e.step.taken.body)
-    (t : Transaction) (was : live_at start (logs_of start es) tx ≡ Some t) (keyed : IsTouchedRightly t) (old_now : tx.seq < next_number (after start (home start tx) (logs_of start (e ∷ es) (home start tx)))) where
+    (t : Transaction) (was : live_at start (logs_of start es) tx ≡ Some t) (keyed : IsTouchedRightly t)
+    (old_now : tx.seq < next_number (after start (home start tx) (logs_of start (e ∷ es) (home start tx)))) where
   abbrev old : ℕ → List HostStep
   old = logs_of start es
 
@@ -107,24 +115,30 @@ module _ (start : Start) (tx : TxId) (es : List HostStep) (e : HostStep) (come :
   R turn = live_at start now tx ≡ left_by turn → TurnTells turn
 
   -- signals of such a kind
-  telling_one : (told : ℕ → Bool) → ((epoch : ℕ) → told epoch ≡ true → IsSettledIn start tx now epoch) → (body : Body) → is_telling told body ≡ true → Tells start tx now body
+  telling_one : (told : ℕ → Bool) → ((epoch : ℕ) → told epoch ≡ true → IsSettledIn start tx now epoch) → (body : Body)
+      → is_telling told body ≡ true → Tells start tx now body
   telling_one told settled (Epoch (DiVerifyReq other ops)) is = absurd cc
   telling_one told settled (Epoch (DiVerifyConf other epoch)) is = absurd cc
   telling_one told settled (Client (TcCommitConf other epoch)) is = λ same. settled epoch is
   telling_one told settled _ is = tt
 
-  telling : (told : ℕ → Bool) → ((epoch : ℕ) → told epoch ≡ true → IsSettledIn start tx now epoch) → (sends : List Outgoing) → are_of (is_telling told) sends ≡ true
+  telling : (told : ℕ → Bool) → ((epoch : ℕ) → told epoch ≡ true → IsSettledIn start tx now epoch)
+      → (sends : List Outgoing) → are_of (is_telling told) sends ≡ true
       → Each (λ (o : Outgoing). Tells start tx now o.body) sends
-  telling told settled sends kind = each_of (is_telling told) (λ (o : Outgoing). Tells start tx now o.body) (λ o is. telling_one told settled o.body is) sends kind
+  telling told settled sends kind = each_of (is_telling told) (λ (o : Outgoing). Tells start tx now o.body)
+      (λ o is. telling_one told settled o.body is) sends kind
 
-  telling_none : (sends : List Outgoing) → are_of (is_telling never) sends ≡ true → Each (λ (o : Outgoing). Tells start tx now o.body) sends
+  telling_none : (sends : List Outgoing) → are_of (is_telling never) sends ≡ true
+      → Each (λ (o : Outgoing). Tells start tx now o.body) sends
   telling_none sends kind = telling never (λ epoch is. absurd cc) sends kind
 
-  only_settled : (epoch : ℕ) → IsSettledIn start tx now epoch → (other : ℕ) → only epoch other ≡ true → IsSettledIn start tx now other
+  only_settled : (epoch : ℕ) → IsSettledIn start tx now epoch → (other : ℕ) → only epoch other ≡ true
+      → IsSettledIn start tx now other
   only_settled epoch settled other is = subst (IsSettledIn start tx now) (sym (eqb-true other epoch is)) settled
 
   -- a turn that goes on, and one that is the last
-  goes : (step : Step Transaction) → Each (λ (o : Outgoing). Tells start tx now o.body) step.effects.sends → LiveTells start tx now step.state.ops step.state.touched step.state.phase
+  goes : (step : Step Transaction) → Each (λ (o : Outgoing). Tells start tx now o.body) step.effects.sends
+      → LiveTells start tx now step.state.ops step.state.touched step.state.phase
       → (is_open t.phase ≡ false → IsShutWith t.ops step.state) → TurnTells (going step)
   goes step sent live shut = record {
     sent = sent;
@@ -135,7 +149,8 @@ module _ (start : Start) (tx : TxId) (es : List HostStep) (e : HostStep) (come :
       the_same : (u : Transaction) → Some step.state ≡ Some u → step.state ≡ u
       the_same u is = cc
 
-  ends : (u : Transaction) (sends : List Outgoing) → Each (λ (o : Outgoing). Tells start tx now o.body) sends → TurnTells (ending u (sends_only sends))
+  ends : (u : Transaction) (sends : List Outgoing) → Each (λ (o : Outgoing). Tells start tx now o.body) sends
+      → TurnTells (ending u (sends_only sends))
   ends u sends sent = record { sent = sent; live = λ v is. absurd (none v is); shut = λ off v is. absurd (none v is) }
     where
       none : (v : Transaction) → None ≡ Some v → ⊥
@@ -155,7 +170,9 @@ module _ (start : Start) (tx : TxId) (es : List HostStep) (e : HostStep) (come :
   not_open is off = not_both (is_open t.phase) (ap is_open is) off
 
   -- it goes on with a list
-  fronts : (told : ℕ → Bool) (phase : Phase) → ((epoch awaited : ℕ) → phase ≡ Completing epoch awaited → told epoch ≡ true) → are_of (is_telling told) (front_sends tx phase) ≡ true
+  fronts : (told : ℕ → Bool) (phase : Phase)
+      → ((epoch awaited : ℕ) → phase ≡ Completing epoch awaited → told epoch ≡ true)
+      → are_of (is_telling told) (front_sends tx phase) ≡ true
   unfolding front_sends
   fronts told (Completing epoch awaited) is = one_kind (told epoch) (is epoch awaited refl)
   fronts told (Committing epoch awaited) is = refl
@@ -163,46 +180,58 @@ module _ (start : Start) (tx : TxId) (es : List HostStep) (e : HostStep) (come :
   fronts told Open is = refl
   fronts told Verifying is = refl
 
-  goes_on : (node : ℕ) (layout : Layout) (at : ℕ) → Each (λ (o : Outgoing). Tells start tx now o.body) (go_on_if node layout tx t at true).effects.sends
+  goes_on : (node : ℕ) (layout : Layout) (at : ℕ) → Each (λ (o : Outgoing). Tells start tx now o.body)
+      (go_on_if node layout tx t at true).effects.sends
   goes_on node layout at = by t.phase refl
     where
       sends : List Outgoing
       sends = (go_on_if node layout tx t at true).effects.sends
 
-      none : (phase : Phase) → t.phase ≡ phase → ((epoch awaited : ℕ) → phase ≡ Completing epoch awaited → false ≡ true) → Each (λ (o : Outgoing). Tells start tx now o.body) sends
+      none : (phase : Phase) → t.phase ≡ phase → ((epoch awaited : ℕ) → phase ≡ Completing epoch awaited → false ≡ true)
+          → Each (λ (o : Outgoing). Tells start tx now o.body) sends
       none phase is off =
           telling_none sends
-          (rest_of_kind (is_telling never) layout tx (telling_chains tx never) node t at (subst (λ p. are_of (is_telling never) (front_sends tx p) ≡ true) (sym is) (fronts never phase off)))
+          (rest_of_kind (is_telling never) layout tx (telling_chains tx never) node t at
+          (subst (λ p. are_of (is_telling never) (front_sends tx p) ≡ true) (sym is) (fronts never phase off)))
 
       by : (phase : Phase) → t.phase ≡ phase → Each (λ (o : Outgoing). Tells start tx now o.body) sends
       by (Completing epoch awaited) is =
           telling (only epoch) (only_settled epoch (at_now (Completing epoch awaited) is)) sends
           (rest_of_kind (is_telling (only epoch)) layout tx (telling_chains tx (only epoch)) node t at
           (subst (λ p. are_of (is_telling (only epoch)) (front_sends tx p) ≡ true) (sym is)
-          (fronts (only epoch) (Completing epoch awaited) (λ other more same. let one : other ≡ epoch = cc in ap (λ n. n == epoch) one ∙ itself epoch))))
+          (fronts (only epoch) (Completing epoch awaited)
+          (λ other more same. let one : other ≡ epoch = cc in ap (λ n. n == epoch) one ∙ itself epoch))))
       by (Committing epoch awaited) is = none (Committing epoch awaited) is (λ other more same. absurd cc)
       by (Aborting why verifying awaited) is = none (Aborting why verifying awaited) is (λ other more same. absurd cc)
       by Open is = none Open is (λ other more same. absurd cc)
       by Verifying is = none Verifying is (λ other more same. absurd cc)
 
   -- it comes to a phase of which nothing is told
-  enters_mute : (node : ℕ) (layout : Layout) (u : Transaction) (phase : Phase) → ((epoch awaited : ℕ) → phase ≡ Completing epoch awaited → false ≡ true)
+  enters_mute : (node : ℕ) (layout : Layout) (u : Transaction) (phase : Phase)
+      → ((epoch awaited : ℕ) → phase ≡ Completing epoch awaited → false ≡ true)
       → Each (λ (o : Outgoing). Tells start tx now o.body) (entering node layout tx u phase).effects.sends
   enters_mute node layout u phase off =
-      telling_none (entering node layout tx u phase).effects.sends (entering_of_kind (is_telling never) layout tx (telling_chains tx never) node u phase (fronts never phase off))
+      telling_none (entering node layout tx u phase).effects.sends
+      (entering_of_kind (is_telling never) layout tx (telling_chains tx never) node u phase
+      (fronts never phase off))
 
   -- it is aborted
-  abort_mute : (node : ℕ) (why : AbortCause) (verifying : Bool) → Each (λ (o : Outgoing). Tells start tx now o.body) (abort.abort_end node tx why verifying)
+  abort_mute : (node : ℕ) (why : AbortCause) (verifying : Bool) → Each (λ (o : Outgoing). Tells start tx now o.body)
+      (abort.abort_end node tx why verifying)
   abort_mute node why true = (tt, (tt, tt))
   abort_mute node why false = (tt, tt)
 
-  aborts : (node : ℕ) (layout : Layout) (u : Transaction) (why : AbortCause) → u.ops ≡ t.ops → AbortForms node layout tx u why R
+  aborts : (node : ℕ) (layout : Layout) (u : Transaction) (why : AbortCause) → u.ops ≡ t.ops
+      → AbortForms node layout tx u why R
   unfolding entering
   aborts node layout u why same = record {
-    enters = λ some left. goes (entering node layout tx u (Aborting why (abort.is_verifying u.phase) (abort.aborts_awaited layout u)))
-        (enters_mute node layout u (Aborting why (abort.is_verifying u.phase) (abort.aborts_awaited layout u)) (λ epoch awaited is. absurd cc)) tt
+    enters = λ some left. goes (entering node layout tx u
+        (Aborting why (abort.is_verifying u.phase) (abort.aborts_awaited layout u)))
+        (enters_mute node layout u (Aborting why (abort.is_verifying u.phase) (abort.aborts_awaited layout u))
+        (λ epoch awaited is. absurd cc)) tt
         (λ off. record { shut = refl; ops_are = same });
-    ends = λ none left. ends u (abort.abort_end node tx why (abort.is_verifying u.phase)) (abort_mute node why (abort.is_verifying u.phase));
+    ends = λ none left. ends u (abort.abort_end node tx why (abort.is_verifying u.phase))
+        (abort_mute node why (abort.is_verifying u.phase));
   }
 
   -- its epoch is given
@@ -210,7 +239,8 @@ module _ (start : Start) (tx : TxId) (es : List HostStep) (e : HostStep) (come :
   granted epoch is = subst (Tells start tx old) is taken (same_tx-self tx)
 
   given_with : (epoch : ℕ) → e.step.taken.body ≡ Epoch (DiVerifyConf tx epoch) → IsDecidedWith start tx old epoch t.ops
-  given_with epoch is = let g = granted epoch is in subst (IsDecidedWith start tx old epoch) (sym (g.shut.live t was).ops_are) g.decided
+  given_with epoch is = let g = granted epoch is in subst (IsDecidedWith start tx old epoch)
+      (sym (g.shut.live t was).ops_are) g.decided
 
   -- what it wrote is prepared at the primary then
   held_verified : t.phase ≡ Verifying → is_given_up start old tx ≡ false → Each (HeldIf start tx old) t.touched
@@ -218,18 +248,23 @@ module _ (start : Start) (tx : TxId) (es : List HostStep) (e : HostStep) (come :
       each_from (HeldIf start tx old) t.touched (λ u inside written.
       let s = settled.settled u.key in
       record {
-        held = inl (agree_prepared tx (found tx (at_primary start old u.key).replica.cell.pending) (at_host start old u.key (primary_host start u.key)).cell.pending
-            (s.agreed (primary_host start u.key) (primary_is start u.key come.before.shape)) (s.written ∙ (sym (each_in (λ (v : Touched). v.written ≡ have_done (ops_on v.key t.ops)) u t.touched keyed.written inside) ∙ written)));
+        held = inl (agree_prepared tx (found tx (at_primary start old u.key).replica.cell.pending)
+            (at_host start old u.key (primary_host start u.key)).cell.pending
+            (s.agreed (primary_host start u.key) (primary_is start u.key come.before.shape))
+            (s.written ∙ (sym (each_in (λ (v : Touched). v.written ≡ have_done (ops_on v.key t.ops)) u t.touched
+            keyed.written inside) ∙ written)));
       })
     where
       settled : IsSettled start old tx t
       settled = verified_settled start es before tx t come.before transit off was at
 
-  keeps : (epoch : ℕ) → e.step.taken.body ≡ Epoch (DiVerifyConf tx epoch) → t.phase ≡ Verifying → IsKeeping start tx old epoch t.ops t.touched
+  keeps : (epoch : ℕ) → e.step.taken.body ≡ Epoch (DiVerifyConf tx epoch) → t.phase ≡ Verifying
+      → IsKeeping start tx old epoch t.ops t.touched
   keeps epoch is at = record { decided = given_with epoch is; held = λ off. held_verified at off }
 
   -- with the last answer of a commit all is committed
-  module _ (key : List ℕ) (epoch awaited : ℕ) (is : e.step.taken.body ≡ Chain (Committed tx key)) (at : t.phase ≡ Committing epoch awaited) where
+  module _ (key : List ℕ) (epoch awaited : ℕ) (is : e.step.taken.body ≡ Chain (Committed tx key))
+      (at : t.phase ≡ Committing epoch awaited) where
     keeping : IsKeeping start tx old epoch t.ops t.touched
     keeping = subst (LiveTells start tx old t.ops t.touched) at (held.live t was)
 
@@ -247,39 +282,55 @@ module _ (start : Start) (tx : TxId) (es : List HostStep) (e : HostStep) (come :
             ))
 
     held_now : is_given_up start now tx ≡ false → Each (HeldIf start tx now) t.touched
-    held_now off = (keeping_stays start tx es e come before between transit takes epoch t.ops t.touched keeping).held off
+    held_now off = (keeping_stays start tx es e come before between transit takes epoch t.ops t.touched keeping).held
+        off
 
     -- a key that was written is marked
-    applied_at : (u : Touched) → IsHeld start tx now u.key → IsCommittedAtAll start now tx u.key → have_mark (is_applied tx) (hosts start) now ≡ true
+    applied_at : (u : Touched) → IsHeld start tx now u.key → IsCommittedAtAll start now tx u.key
+        → have_mark (is_applied tx) (hosts start) now ≡ true
     applied_at u h c = by h.held
       where
-        here : has_mark (is_applied tx) (now (primary_host start u.key)) ≡ true → have_mark (is_applied tx) (hosts start) now ≡ true
+        here : has_mark (is_applied tx) (now (primary_host start u.key)) ≡ true → have_mark (is_applied tx)
+            (hosts start) now ≡ true
         here marked = which (cases_lt (primary_host start u.key) (hosts start))
           where
-            which : (primary_host start u.key < hosts start) ⊎ (hosts start ≤ primary_host start u.key) → have_mark (is_applied tx) (hosts start) now ≡ true
+            which : (primary_host start u.key < hosts start) ⊎ (hosts start ≤ primary_host start u.key)
+                → have_mark (is_applied tx) (hosts start) now ≡ true
             which (inl low) = mark_all (is_applied tx) (hosts start) (primary_host start u.key) now low marked
-            which (inr high) = absurd (let both : false ≡ true = sym (ap (has_mark (is_applied tx)) (come.now.within (primary_host start u.key) high)) ∙ marked in cc)
+            which (inr high) = absurd (let both : false ≡ true = sym
+                (ap (has_mark (is_applied tx)) (come.now.within (primary_host start u.key) high)) ∙ marked in cc)
 
-        by : HasPrepared tx (at_host start now u.key (primary_host start u.key)).cell.pending ⊎ (has_mark (is_applied tx) (now (primary_host start u.key)) ≡ true)
+        by : HasPrepared tx (at_host start now u.key (primary_host start u.key)).cell.pending
+            ⊎ (has_mark (is_applied tx) (now (primary_host start u.key)) ≡ true)
             → have_mark (is_applied tx) (hosts start) now ≡ true
         by (inl p) = absurd (c.committed (primary_host start u.key) p)
         by (inr marked) = here marked
 
-    settled_now : (next : ℕ) → live_at start now tx ≡ Some (at_phase t (Completing epoch next)) → IsSettledIn start tx now epoch
-    settled_now next left = record { ops = t.ops; decided = decided_stays start tx es e come before between transit takes epoch t.ops keeping.decided; applied = applied }
+    settled_now : (next : ℕ) → live_at start now tx ≡ Some (at_phase t (Completing epoch next))
+        → IsSettledIn start tx now epoch
+    settled_now next left = record {
+      ops = t.ops;
+      decided = decided_stays start tx es e come before between transit
+          takes epoch t.ops keeping.decided;
+      applied = applied;
+    }
       where
-        applied : is_given_up start now tx ≡ false → have_done t.ops ≡ true → have_mark (is_applied tx) (hosts start) now ≡ true
+        applied : is_given_up start now tx ≡ false → have_done t.ops ≡ true → have_mark (is_applied tx) (hosts start)
+            now ≡ true
         applied off done =
             let u = some_written t keyed done in
-            applied_at u.item (each_in (HeldIf start tx now) u.item t.touched (held_now off) u.inside u.passes) (each_in (λ (v : Touched). IsCommittedAtAll start now tx v.key) u.item t.touched all u.inside)
+            applied_at u.item (each_in (HeldIf start tx now) u.item t.touched (held_now off) u.inside u.passes)
+            (each_in (λ (v : Touched). IsCommittedAtAll start now tx v.key) u.item t.touched all u.inside)
           where
             is_now : is_carried_out start now tx ≡ true
-            is_now = carried_more start old now tx (past start tx es e come before between transit takes) (carried (not_before start tx es e come before between transit takes off))
+            is_now = carried_more start old now tx (past start tx es e come before between transit takes)
+                (carried (not_before start tx es e come before between transit takes off))
 
             all : Each (λ (v : Touched). IsCommittedAtAll start now tx v.key) t.touched
             all =
                 subst (IsLiveAhead start now later tx) left
-                ((under_way start tx (e ∷ es) later come.now (before, (transit, record { between = between; takes = takes; is = refl }))).carried is_now).live
+                ((under_way start tx (e ∷ es) later come.now
+                (before, (transit, record { between = between; takes = takes; is = refl }))).carried is_now).live
 
     commits_all : (node : ℕ) (layout : Layout) → CommittedForms node layout tx t epoch R
     unfolding entering
@@ -287,9 +338,12 @@ module _ (start : Start) (tx : TxId) (es : List HostStep) (e : HostStep) (come :
       enters = λ some left.
           let s = settled_now (complete.written_count t.touched) left in
           goes (entering node layout tx t (Completing epoch (complete.written_count t.touched)))
-          (telling (only epoch) (only_settled epoch s) (entering node layout tx t (Completing epoch (complete.written_count t.touched))).effects.sends
-          (entering_of_kind (is_telling (only epoch)) layout tx (telling_chains tx (only epoch)) node t (Completing epoch (complete.written_count t.touched))
-          (fronts (only epoch) (Completing epoch (complete.written_count t.touched)) (λ other more same. let one : other ≡ epoch = cc in ap (λ n. n == epoch) one ∙ itself epoch))))
+          (telling (only epoch) (only_settled epoch s)
+          (entering node layout tx t (Completing epoch (complete.written_count t.touched))).effects.sends
+          (entering_of_kind (is_telling (only epoch)) layout tx (telling_chains tx (only epoch)) node t
+          (Completing epoch (complete.written_count t.touched))
+          (fronts (only epoch) (Completing epoch (complete.written_count t.touched))
+          (λ other more same. let one : other ≡ epoch = cc in ap (λ n. n == epoch) one ∙ itself epoch))))
           s (λ off. record { shut = refl; ops_are = refl });
       ends = λ none left.
           ends t (reported tx epoch ∷ verify_end node tx ∷ []) (
@@ -303,7 +357,8 @@ module _ (start : Start) (tx : TxId) (es : List HostStep) (e : HostStep) (come :
     }
 
   -- without keys it is over at once
-  commits_none : (node : ℕ) (layout : Layout) (epoch : ℕ) → e.step.taken.body ≡ Epoch (DiVerifyConf tx epoch) → (length t.touched == 0) ≡ true → CommittedForms node layout tx t epoch R
+  commits_none : (node : ℕ) (layout : Layout) (epoch : ℕ) → e.step.taken.body ≡ Epoch (DiVerifyConf tx epoch)
+      → (length t.touched == 0) ≡ true → CommittedForms node layout tx t epoch R
   commits_none node layout epoch is none = record {
     enters = λ some left. not_both (complete.written_count t.touched == 0) (no_count t.touched none) some;
     ends = λ zero left.
@@ -336,32 +391,47 @@ module _ (start : Start) (tx : TxId) (es : List HostStep) (e : HostStep) (come :
     stays = λ other left. goes _ tt live_now same_shut;
     stops = λ at is high left. goes _ tt live_now same_shut;
     goes_on = λ at is left. goes (go_on_if node layout tx t at true) (goes_on node layout at) live_now same_shut;
-    operates = λ op is can left. goes _ (tt, tt) (subst (LiveTells start tx now t.ops _) (sym (can_open op can)) tt) (λ off. not_open (can_open op can) off);
-    answers = λ key answer asked is on at left. goes _ (tt, tt) (subst (LiveTells start tx now _ _) (sym at) tt) (λ off. not_open at off);
+    operates = λ op is can left. goes _ (tt, tt) (subst (LiveTells start tx now t.ops _) (sym (can_open op can)) tt)
+        (λ off. not_open (can_open op can) off);
+    answers = λ key answer asked is on at left. goes _ (tt, tt) (subst (LiveTells start tx now _ _) (sym at) tt)
+        (λ off. not_open at off);
     late = λ key asked why verifying awaited on at left.
-        goes (late_answer layout tx t key) (each_mapped (λ (o : Outgoing). Tells start tx now o.body) (abort_of tx key) (chain_of layout key) (λ r. tt)) live_now (λ off. record { shut = off; ops_are = refl });
+        goes (late_answer layout tx t key) (each_mapped (λ (o : Outgoing). Tells start tx now o.body) (abort_of tx key)
+        (chain_of layout key) (λ r. tt)) live_now (λ off. record { shut = off; ops_are = refl });
     waits = λ asked is on left.
-        goes _ (each_mapped (λ (o : Outgoing). Tells start tx now o.body) (wait_of tx (key_of asked.op)) asked.chain (λ r. tt)) live_now same_shut;
+        goes _ (each_mapped (λ (o : Outgoing). Tells start tx now o.body) (wait_of tx (key_of asked.op)) asked.chain
+        (λ r. tt)) live_now same_shut;
     decides = λ is ready left. goes _ ((λ same. shut_now left), tt) tt (λ off. not_open (ready_open ready) off);
     commits = λ epoch is at some left.
-        goes (entering node layout tx t (Committing epoch (length t.touched))) (enters_mute node layout t (Committing epoch (length t.touched)) (λ other awaited same. absurd cc))
-        (keeping_stays start tx es e come before between transit takes epoch t.ops t.touched (keeps epoch is at)) (λ off. record { shut = refl; ops_are = refl });
+        goes (entering node layout tx t (Committing epoch (length t.touched)))
+        (enters_mute node layout t (Committing epoch (length t.touched)) (λ other awaited same. absurd cc))
+        (keeping_stays start tx es e come before between transit takes epoch t.ops t.touched (keeps epoch is at))
+        (λ off. record { shut = refl; ops_are = refl });
     commits_none = λ epoch is at none. commits_none node layout epoch is none;
-    committed = λ key epoch awaited is at more left. goes _ tt (at_now (Committing epoch awaited) at) (λ off. record { shut = refl; ops_are = refl });
+    committed = λ key epoch awaited is at more left. goes _ tt (at_now (Committing epoch awaited) at)
+        (λ off. record { shut = refl; ops_are = refl });
     committed_all = λ key epoch awaited is at last. commits_all key epoch awaited is at node layout;
-    completed = λ key epoch awaited is at more left. goes _ tt (at_now (Completing epoch awaited) at) (λ off. record { shut = refl; ops_are = refl });
+    completed = λ key epoch awaited is at more left. goes _ tt (at_now (Completing epoch awaited) at)
+        (λ off. record { shut = refl; ops_are = refl });
     completed_all = λ key epoch awaited is at last left. ends t (verify_end node tx ∷ []) (tt, tt);
     rolls_back = λ is undecided unaborted. aborts node layout t _ refl;
     refuses = λ key why asked is on at. aborts node layout (asking t None) why refl;
     aborted = λ key why verifying awaited is at more left. goes _ tt tt (λ off. record { shut = refl; ops_are = refl });
-    aborted_all = λ key why verifying awaited is at last left. ends t (abort.abort_end node tx why verifying) (abort_mute node why verifying);
+    aborted_all = λ key why verifying awaited is at last left. ends t (abort.abort_end node tx why verifying)
+        (abort_mute node why verifying);
   }
     where
       shut_now : live_at start now tx ≡ Some (at_phase t Verifying) → IsShut start tx now t.ops
-      shut_now left = record { old = old_now; live = λ u is. subst (IsShutWith t.ops) (the_same u (sym left ∙ is)) (record { shut = refl; ops_are = refl }) }
+      shut_now left = record {
+        old = old_now;
+        live = λ u is. subst (IsShutWith t.ops) (the_same u (sym left ∙ is))
+            (record { shut = refl; ops_are = refl });
+      }
         where
           the_same : (u : Transaction) → Some (at_phase t Verifying) ≡ Some u → at_phase t Verifying ≡ u
           the_same u is = cc
 
-  pub turn_tells : (node : ℕ) (layout : Layout) → is_for tx e.step.taken.body ≡ true → R (turn_for node layout tx e.step.taken.body t)
-  turn_tells node layout own = turn_each node layout tx e.step.taken.body t R (rows_at node layout tx t e.step.taken.body R (forms node layout)) own
+  pub turn_tells : (node : ℕ) (layout : Layout) → is_for tx e.step.taken.body ≡ true
+      → R (turn_for node layout tx e.step.taken.body t)
+  turn_tells node layout own = turn_each node layout tx e.step.taken.body t R
+      (rows_at node layout tx t e.step.taken.body R (forms node layout)) own

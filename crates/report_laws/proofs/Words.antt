@@ -93,7 +93,8 @@ module _ (tx : TxId) where
   kind_mute : (sends : List Outgoing) → are_of is_api_kind sends ≡ true → AreMute tx sends
   kind_mute sends kind = each_of is_api_kind (λ o. is_word tx o.body ≡ false) (λ o e. api_kind_mute o.body e) sends kind
 
-  move_mute : (s : ApiState) (body : Body) (after : View × List OpenTransaction) (sends : List Outgoing) → ApiMove s body after sends → AreMute tx sends
+  move_mute : (s : ApiState) (body : Body) (after : View × List OpenTransaction) (sends : List Outgoing)
+      → ApiMove s body after sends → AreMute tx sends
   move_mute s body after sends (rests is kind void) = kind_mute sends kind
   move_mute s body after sends (opens other at op new request is told) = subst (AreMute tx) (sym told) (refl, tt)
   move_mute s body after sends (begun_as other one front t u back about passes begun was is kind) = kind_mute sends kind
@@ -111,4 +112,5 @@ module _ (tx : TxId) where
   rows_kind_mute _ e = refl
 
   pub rows_mute : (s : LqhState) (body : Body) → AreMute tx (lqh_table s body).effects.sends
-  rows_mute s body = each_of is_lqh_kind (λ o. is_word tx o.body ≡ false) (λ o e. rows_kind_mute o.body e) (lqh_table s body).effects.sends (lqh_kinds s body)
+  rows_mute s body = each_of is_lqh_kind (λ o. is_word tx o.body ≡ false) (λ o e. rows_kind_mute o.body e)
+      (lqh_table s body).effects.sends (lqh_kinds s body)

@@ -41,23 +41,29 @@ is_answered tx body = false
 -- the answers that the client was given for the transaction in this log of host 0, the newest first
 abbrev pub given : Start → TxId → List HostStep → List Answer
 given start tx [] = []
-given start tx (e ∷ log) = (if is_answered tx e.step.taken.body then reverse (answers_among (new_replies start e log)) else []) ++ given start tx log
+given start tx (e ∷ log) =
+    (if is_answered tx e.step.taken.body then reverse (answers_among (new_replies start e log)) else [])
+    ++ given start tx log
 
 -- the answers of an entry, the newest first
 abbrev pub answers_of : Entry → List Answer
 answers_of entry = reverse (map (λ (op : Op × Answer). op.1) entry.ops)
 
--- the answers that were given for a transaction by some moment are the first of those that its entry has, whenever it is decided
+-- the answers that were given for a transaction by some moment are the first of those that its entry has, whenever it
+-- is decided
 abbrev pub GivenAreOfEntries : Type 0
 GivenAreOfEntries =
-    (start : Start) (inside logs : ℕ → List HostStep) → IsShape start.shape → IsWithin (hosts start) logs → AreLogs (machine start) logs → IsCut inside logs
+    (start : Start) (inside logs : ℕ → List HostStep) → IsShape start.shape → IsWithin (hosts start) logs
+    → AreLogs (machine start) logs → IsCut inside logs
     → (entry : Entry) → IsIn entry (entries (hosts start) logs)
     → IsPast (given start entry.tx (inside 0)) (answers_of entry)
 
 -- and where it was reported committed they are all of these
 abbrev pub ReportedAreGiven : Type 0
 ReportedAreGiven =
-    (start : Start) (inside logs : ℕ → List HostStep) → IsShape start.shape → IsWithin (hosts start) logs → AreLogs (machine start) logs → IsCut inside logs
+    (start : Start) (inside logs : ℕ → List HostStep) → IsShape start.shape → IsWithin (hosts start) logs
+    → AreLogs (machine start) logs → IsCut inside logs
     → IsClosed (machine start) inside
-    → (entry : Entry) → IsIn entry (entries (hosts start) logs) → have_mark (is_reported entry.tx) (hosts start) inside ≡ true
+    → (entry : Entry) → IsIn entry (entries (hosts start) logs)
+    → have_mark (is_reported entry.tx) (hosts start) inside ≡ true
     → given start entry.tx (inside 0) ≡ answers_of entry

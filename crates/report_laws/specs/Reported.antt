@@ -45,7 +45,8 @@ marks_of test n logs = total n (λ h. marks_in test (logs h))
 -- the end of a transaction is reported once at most
 abbrev pub EndsAreReportedOnce : Type 0
 EndsAreReportedOnce =
-    (start : Start) (logs : ℕ → List HostStep) → IsShape start.shape → IsWithin (hosts start) logs → AreLogs (machine start) logs
+    (start : Start) (logs : ℕ → List HostStep) → IsShape start.shape → IsWithin (hosts start) logs
+    → AreLogs (machine start) logs
     → (tx : TxId) → marks_of (is_ended tx) (hosts start) logs ≤ 1
 
 -- a list has an entry of the transaction with this epoch
@@ -58,7 +59,8 @@ pub record HasEntryOf (tx : TxId) (epoch : ℕ) (list : List Entry) : Type 0 whe
 -- what was reported committed inside a closed cut is in its history, with the epoch that was reported
 abbrev pub CommitsAreInHistory : Type 0
 CommitsAreInHistory =
-    (start : Start) (inside logs : ℕ → List HostStep) → IsShape start.shape → IsWithin (hosts start) logs → AreLogs (machine start) logs → IsCut inside logs
+    (start : Start) (inside logs : ℕ → List HostStep) → IsShape start.shape → IsWithin (hosts start) logs
+    → AreLogs (machine start) logs → IsCut inside logs
     → IsClosed (machine start) inside
     → (tx : TxId) (epoch : ℕ) → have_mark (is_committed_in tx epoch) (hosts start) inside ≡ true
     → HasEntryOf tx epoch (history (hosts start) inside)
@@ -66,7 +68,8 @@ CommitsAreInHistory =
 -- what was reported aborted, also outside a closed cut, isn't in its history
 abbrev pub AbortsAreInNone : Type 0
 AbortsAreInNone =
-    (start : Start) (inside logs : ℕ → List HostStep) → IsShape start.shape → IsWithin (hosts start) logs → AreLogs (machine start) logs → IsCut inside logs
+    (start : Start) (inside logs : ℕ → List HostStep) → IsShape start.shape → IsWithin (hosts start) logs
+    → AreLogs (machine start) logs → IsCut inside logs
     → IsClosed (machine start) inside
     → (tx : TxId) → have_mark (is_aborted tx) (hosts start) logs ≡ true
     → Each (λ (entry : Entry). same_tx entry.tx tx ≡ false) (history (hosts start) inside)
