@@ -83,7 +83,7 @@ drop_all : {A : Type 0} (xs : List A) → drop (length xs) xs ≡ []
 drop_all [] = refl
 drop_all (x ∷ xs) = drop_all xs
 
-drop_front : {A : Type 0} (xs ys : List A) → drop (length xs) (xs ++ ys) ≡ ys
+pub drop_front : {A : Type 0} (xs ys : List A) → drop (length xs) (xs ++ ys) ≡ ys
 drop_front [] ys = refl
 drop_front (x ∷ xs) ys = drop_front xs ys
 
@@ -115,7 +115,7 @@ module _ (start : Start) where
   unfolding replies_of row
   replies_now e log = ap (λ h. replies_of (row h e.step.taken).state) (shell_after start log).is
 
-  new_is : (e : HostStep) (log : List HostStep)
+  pub new_is : (e : HostStep) (log : List HostStep)
       → new_replies start e log ≡ drop (length (shell_after start log).state.replies)
       (shell_row (shell_after start log).state e.step.taken.to.block e.step.taken).state.replies
   new_is e log =

@@ -12,6 +12,7 @@ pub mod RunOf
 pub mod Replied
 pub mod Said
 pub mod Steps
+pub mod Told
 pub mod Turns
 pub mod Words
 pub mod Written

@@ -2,6 +2,13 @@
 ghost use Rattle.report_laws.specs.Answered.{GivenAreOfEntries, ReportedAreGiven};
 ghost use Rattle.report_laws.specs.Growing.{HistoriesGrow};
 ghost use Rattle.report_laws.specs.Reported.{AbortsAreInNone, CommitsAreInHistory, EndsAreReportedOnce};
+ghost use Rattle.report_laws.specs.Told.{OutcomesAreMarked};
+
+/// In each step of host 0 the client is told the ends of transactions that are marked as reported
+/// in it, with the same outcomes.
+pub fn outcomes_are_marked()
+    ensures { OutcomesAreMarked }
+{}
 
 /// The end of a transaction is reported once at most, as a commit or as an abort.
 pub fn ends_are_reported_once()
