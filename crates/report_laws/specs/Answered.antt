@@ -1,0 +1,69 @@
+-- The answers that the client was given for a transaction, and those of its entry.
+use Rattle.std.specs.Prelude.{◌≡◌, ℕ, Bool, true, false, if◌then◌else◌, List, [], ◌∷◌, ◌++◌, length, drop, map, reverse}
+use Rattle.frag_map.specs.Shape.{IsShape}
+use Rattle.run_theory.specs.Cuts.{IsCut, IsClosed}
+use Rattle.run_theory.specs.Lists.{IsIn, IsPast}
+use Rattle.run_theory.specs.Runs.{AreLogs, IsWithin}
+use Rattle.sig_core.specs.declared.entry.Entry.{Entry}
+use Rattle.sig_core.specs.declared.member.TxId.{TxId}
+use Rattle.sig_core.specs.declared.op.Answer.{Answer}
+use Rattle.sig_core.specs.declared.op.Op.{Op}
+use Rattle.sig_core.specs.declared.reply.ApiReply.{ApiReply}
+use Rattle.sig_core.specs.declared.reply.ApiReply.TheVariants.{Answered}
+use Rattle.sig_core.specs.declared.signal.Body.{Body}
+use Rattle.sig_core.specs.declared.signal.Body.TheVariants.{Client}
+use Rattle.sig_core.specs.declared.signal.client.ClientSignal.TheVariants.{TcKeyConf}
+use Rattle.sig_core.specs.Same.{same_tx}
+use Rattle.node_core.specs.Replies.{replies_of}
+use Rattle.world_core.specs.Entries.{entries}
+use Rattle.world_core.specs.History.{is_reported}
+use Rattle.world_core.specs.Hosts.{hosts}
+use Rattle.world_core.specs.Machine.{after, machine}
+use Rattle.world_core.specs.Marks.{have_mark}
+use Rattle.world_core.specs.Start.{Start}
+use Rattle.world_core.specs.Steps.{HostStep}
+
+-- the answers among replies
+abbrev pub answers_among : List ApiReply → List Answer
+answers_among [] = []
+answers_among (Answered name answer ∷ replies) = answer ∷ answers_among replies
+answers_among (reply ∷ replies) = answers_among replies
+
+-- the replies that host 0 gave in the newest step of its log
+abbrev pub new_replies : Start → HostStep → List HostStep → List ApiReply
+new_replies start e log = drop (length (replies_of (after start 0 log))) (replies_of (after start 0 (e ∷ log)))
+
+-- the signal tells the client what an operation of the transaction was answered
+abbrev pub is_answered : TxId → Body → Bool
+is_answered tx (Client (TcKeyConf other answer)) = same_tx other tx
+is_answered tx body = false
+
+-- the answers that the client was given for the transaction in this log of host 0, the newest first
+abbrev pub given : Start → TxId → List HostStep → List Answer
+given start tx [] = []
+given start tx (e ∷ log) =
+    (if is_answered tx e.step.taken.body then reverse (answers_among (new_replies start e log)) else [])
+    ++ given start tx log
+
+-- the answers of an entry, the newest first
+abbrev pub answers_of : Entry → List Answer
+answers_of entry = reverse (map (λ (op : Op × Answer). op.1) entry.ops)
+
+-- the answers that were given for a transaction by some moment are the first of those that its entry has, whenever it
+-- is decided
+abbrev pub GivenAreOfEntries : Type 0
+GivenAreOfEntries =
+    (start : Start) (inside logs : ℕ → List HostStep) → IsShape start.shape → IsWithin (hosts start) logs
+    → AreLogs (machine start) logs → IsCut inside logs
+    → (entry : Entry) → IsIn entry (entries (hosts start) logs)
+    → IsPast (given start entry.tx (inside 0)) (answers_of entry)
+
+-- and where it was reported committed they are all of these
+abbrev pub ReportedAreGiven : Type 0
+ReportedAreGiven =
+    (start : Start) (inside logs : ℕ → List HostStep) → IsShape start.shape → IsWithin (hosts start) logs
+    → AreLogs (machine start) logs → IsCut inside logs
+    → IsClosed (machine start) inside
+    → (entry : Entry) → IsIn entry (entries (hosts start) logs)
+    → have_mark (is_reported entry.tx) (hosts start) inside ≡ true
+    → given start entry.tx (inside 0) ≡ answers_of entry

@@ -1,0 +1,4 @@
+pub mod Answered
+pub mod Growing
+pub mod Reported
+pub mod Told

@@ -1,0 +1,46 @@
+//! What is reported of a transaction is what the history has of it.
+ghost use Rattle.report_laws.specs.Answered.{GivenAreOfEntries, ReportedAreGiven};
+ghost use Rattle.report_laws.specs.Growing.{HistoriesGrow};
+ghost use Rattle.report_laws.specs.Reported.{AbortsAreInNone, CommitsAreInHistory, EndsAreReportedOnce};
+ghost use Rattle.report_laws.specs.Told.{OutcomesAreMarked};
+
+/// In each step of host 0 the client is told the ends of transactions that are marked as reported
+/// in it, with the same outcomes.
+pub fn outcomes_are_marked()
+    ensures { OutcomesAreMarked }
+{}
+
+/// The end of a transaction is reported once at most, as a commit or as an abort.
+pub fn ends_are_reported_once()
+    ensures { EndsAreReportedOnce }
+{}
+
+/// Where a transaction was reported committed in an epoch, the history of each closed cut that has
+/// the report has an entry of the transaction with this epoch.
+pub fn commits_are_in_history()
+    ensures { CommitsAreInHistory }
+{}
+
+/// Where a transaction was reported aborted, however late, no closed cut has it in its history.
+pub fn aborts_are_in_none()
+    ensures { AbortsAreInNone }
+{}
+
+/// Of two closed cuts, one within the other, the history of the smaller one is that of the larger
+/// one with some entries left out: none of its entries is lost, and none changes its place among
+/// them.
+pub fn histories_grow()
+    ensures { HistoriesGrow }
+{}
+
+/// The answers that the client was given for a transaction, by whichever moment, are the first of
+/// those that its entry has, in their order, whenever it is decided.
+pub fn given_are_of_entries()
+    ensures { GivenAreOfEntries }
+{}
+
+/// Where a transaction was reported committed inside a closed cut, the answers that the client was
+/// given for it there are those of its entry, in their order.
+pub fn reported_are_given()
+    ensures { ReportedAreGiven }
+{}

@@ -1,0 +1,9 @@
+//! What is reported is the history: what the client is told of a transaction is what the history has of it.
+#![tactic(auto)]
+
+mod laws;
+
+pub use laws::{
+    aborts_are_in_none, commits_are_in_history, ends_are_reported_once, given_are_of_entries, histories_grow,
+    outcomes_are_marked, reported_are_given,
+};
