@@ -41,6 +41,7 @@ pub mod ReadyAtQuiet
 pub mod RepliesLive
 pub mod Reported
 pub mod RequestsAnswered
+pub mod RowAsks
 pub mod SampleServed
 pub mod ServedBetween
 pub mod Since
@@ -48,6 +49,7 @@ pub mod TcPath
 pub mod TellsOnce
 pub mod TellsSince
 pub mod Tests
+pub mod Ticks
 pub mod Told
 pub mod TurnTells
 pub mod TurnedDown

@@ -16,6 +16,7 @@ use Rattle.command_laws.proofs.LoneAnswered.{lone_answered}
 use Rattle.command_laws.proofs.LoneCommitted.{lone_committed}
 use Rattle.command_laws.proofs.OperationAnswered.{operations_answered}
 use Rattle.command_laws.proofs.ServedBetween.{requests_served}
+use Rattle.command_laws.proofs.Ticks.{ticks}
 use Rattle.command_laws.proofs.TurnedDown.{refused_where_due}
 use Rattle.command_laws.specs.Alone.{IsRefusedAlone, IsTurnedAway, WaitsAlone}
 use Rattle.command_laws.specs.Answers.{AnswersRequest, LoneComesTo, RequestsAreAnswered}
@@ -38,6 +39,7 @@ answers_request start was now (request.Commit name) served =
     (commits_come_to start was now name served, (λ tx t. commits_committed each_answered start was now name t.item tx served t.named t.ready t.own))
 answers_request start was now (request.Abort name) served = λ tx t. aborts_answered each_answered start was now name t.item tx served t.named t.ready t.own
 answers_request start was now request.Pending served = λ first waits left. holders_told each_answered each_held_up start first was now waits served left
+answers_request start was now (request.Tick round of) served = ticks start was now round of served
 answers_request start was now _ served = tt
 
 pub requests_answered : RequestsAreAnswered

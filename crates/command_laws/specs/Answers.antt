@@ -25,6 +25,7 @@ use Rattle.host_laws.specs.OpenedAfter.{opened_after}
 use Rattle.command_laws.specs.Alone.{IsRefusedAlone, IsTurnedAway, WaitsAlone}
 use Rattle.command_laws.specs.Between.{IsAskedAgain, IsServedIn}
 use Rattle.command_laws.specs.Served.{IsAnsweredAlone, IsAnsweredAs, IsCommittedAlone, IsRefusedAs, IsServedBetween, IsToldCommitted, IsToldHolder, StillWaits, named_in, replies_since}
+use Rattle.command_laws.specs.Ticked.{IsTicked}
 use Rattle.command_laws.specs.TurnedDown.{IsRefusedWhereDue, IsTurnedDown}
 
 -- its operation waits for a lock
@@ -101,6 +102,7 @@ AnswersRequest start was now (request.Abort name) =
 AnswersRequest start was now request.Pending =
     (first : ℕ → List HostStep) → IsServedBetween start first was request.Waits → is_left_open
     (after start 0 (first 0)) ≡ true → IsToldHolder start first was now
+AnswersRequest start was now (request.Tick round of) = IsTicked start was now round of
 AnswersRequest start was now request = Unit {0}
 
 -- The request that comes after `before` in the log of the shell's host is served between two quiet moments of these logs and

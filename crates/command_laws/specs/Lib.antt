@@ -5,4 +5,5 @@ pub mod Between
 pub mod Living
 pub mod Sample
 pub mod Served
+pub mod Ticked
 pub mod TurnedDown
