@@ -32,6 +32,7 @@ pub mod LoneBegins
 pub mod LoneCommitted
 pub mod LoneWishes
 pub mod LqhFair
+pub mod OneAtATime
 pub mod OperateAsks
 pub mod OperationAnswered
 pub mod Places
