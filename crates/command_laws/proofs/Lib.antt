@@ -3,7 +3,10 @@ pub mod AbortFirst
 pub mod AbortSteps
 pub mod AbortTurns
 pub mod ApiChanges
+pub mod BeginRows
+pub mod Begins
 pub mod BlockSteps
+pub mod BlocksTake
 pub mod ComesTo
 pub mod CommitFirst
 pub mod Committed
@@ -23,6 +26,7 @@ pub mod HoldersTold
 pub mod Homes
 pub mod HostKinds
 pub mod HostSends
+pub mod LastOne
 pub mod LivingReplies
 pub mod LivingRows
 pub mod LivingTurns

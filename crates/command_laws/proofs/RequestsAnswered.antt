@@ -8,6 +8,7 @@ use Rattle.world_core.specs.Start.{Start}
 use Rattle.world_core.specs.Steps.{HostStep}
 use Rattle.answer_laws.proofs.Answers.{each_answered}
 use Rattle.command_laws.proofs.AbortAnswered.{aborts_answered}
+use Rattle.command_laws.proofs.Begins.{begin_comes_to}
 use Rattle.command_laws.proofs.ComesTo.{commits_come_to, operations_come_to}
 use Rattle.command_laws.proofs.Committed.{commits_committed}
 use Rattle.command_laws.proofs.HeldUp.{each_held_up}
@@ -39,6 +40,7 @@ answers_request start was now (request.Commit name) served =
     (commits_come_to start was now name served, (λ tx t. commits_committed each_answered start was now name t.item tx served t.named t.ready t.own))
 answers_request start was now (request.Abort name) served = λ tx t. aborts_answered each_answered start was now name t.item tx served t.named t.ready t.own
 answers_request start was now request.Pending served = λ first waits left. holders_told each_answered each_held_up start first was now waits served left
+answers_request start was now (request.Begin name at) served = begin_comes_to start was now name at served
 answers_request start was now (request.Tick round of) served = ticks start was now round of served
 answers_request start was now _ served = tt
 

@@ -1,6 +1,7 @@
 pub mod Aborts
 pub mod Alone
 pub mod Answers
+pub mod Begun
 pub mod Between
 pub mod Living
 pub mod Sample
