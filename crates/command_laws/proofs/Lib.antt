@@ -10,6 +10,8 @@ pub mod BlocksTake
 pub mod ComesTo
 pub mod CommitFirst
 pub mod Committed
+pub mod DumpState
+pub mod Dumps
 pub mod EarlyNodes
 pub mod EarlyRun
 pub mod EarlySteps
@@ -21,6 +23,7 @@ pub mod Firm
 pub mod FirmAtQuiet
 pub mod FirmHosts
 pub mod First
+pub mod GatheredRows
 pub mod HeldUp
 pub mod HoldersTold
 pub mod Homes
@@ -39,6 +42,7 @@ pub mod LqhFair
 pub mod OneAtATime
 pub mod OperateAsks
 pub mod OperationAnswered
+pub mod PlacedRows
 pub mod Places
 pub mod Pushes
 pub mod QuietCuts

@@ -3,6 +3,7 @@ pub mod Alone
 pub mod Answers
 pub mod Begun
 pub mod Between
+pub mod Dumped
 pub mod Living
 pub mod Sample
 pub mod Served
