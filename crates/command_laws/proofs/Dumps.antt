@@ -7,6 +7,7 @@ use Rattle.std.specs.List.{list_any}
 use Rattle.run_theory.specs.Lists.{IsIn}
 use Rattle.sig_core.specs.declared.place.Place.{Place}
 use Rattle.sig_core.specs.declared.request.ApiReq.{ApiReq}
+use Rattle.sig_core.specs.declared.request.ApiReq.TheVariants as request
 use Rattle.sig_core.specs.declared.signal.Body.TheVariants.{Client}
 use Rattle.sig_core.specs.declared.signal.client.ClientSignal.TheVariants.{DumpConf, DumpReq}
 use Rattle.sig_core.specs.declared.signal.Signal.{Signal}
@@ -45,7 +46,8 @@ use Rattle.command_laws.proofs.HostKinds.{replies_are}
 use Rattle.command_laws.proofs.LoneAnswered.{shell_view}
 use Rattle.command_laws.proofs.OneAtATime.{IsNext, Leads, is_done}
 use Rattle.command_laws.proofs.PlacedRows.{listed_distinct, listed_row, part_listed, row_listed, rows_at, rows_from}
-use Rattle.command_laws.specs.Dumped.{IsDumped}
+use Rattle.command_laws.specs.Dumped.{DumpComesTo, IsDumped}
+use Rattle.command_laws.specs.TurnedDown.{no_member_at}
 use Rattle.command_laws.specs.Served.{IsServedBetween}
 
 module _ (start : Start) (was now : ℕ → List HostStep) (r : ApiReq) (node : ℕ) (digest : Bool)
@@ -282,3 +284,21 @@ module _ (start : Start) (was now : ℕ → List HostStep) (r : ApiReq) (node : 
       of_all : (q : KeyedRow) → IsIn q [] ⊎ IsIn q all → IsIn q all
       of_all q (inl never) = absurd never
       of_all q (inr inside) = inside
+
+-- so it is of a request that isn't turned down
+module _ (start : Start) (was now : ℕ → List HostStep) (idle : (api_of (after start 0 (was 0))).dump ≡ None) where
+  full_of : (node : ℕ) (full : Bool) → no_member_at node full ≡ None → full ≡ true
+  full_of node true free = refl
+  full_of node false free = absurd cc
+
+  pub rows_come_to : (node : ℕ) → IsServedBetween start was now (request.Rows node) → DumpComesTo start was now (request.Rows node) node false
+  unfolding request_row
+  rows_come_to node served free =
+      is_dumped start was now (request.Rows node) node false served refl
+      (full_of node (members.is_full (api_of (after start 0 (was 0))).view node) free) idle
+
+  pub digest_comes_to : (node : ℕ) → IsServedBetween start was now (request.Digest node) → DumpComesTo start was now (request.Digest node) node true
+  unfolding request_row
+  digest_comes_to node served free =
+      is_dumped start was now (request.Digest node) node true served refl
+      (full_of node (members.is_full (api_of (after start 0 (was 0))).view node) free) idle

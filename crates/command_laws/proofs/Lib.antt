@@ -39,6 +39,7 @@ pub mod LoneBegins
 pub mod LoneCommitted
 pub mod LoneWishes
 pub mod LqhFair
+pub mod NoDump
 pub mod OneAtATime
 pub mod OperateAsks
 pub mod OperationAnswered

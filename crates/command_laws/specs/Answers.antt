@@ -1,6 +1,6 @@
 -- What each request of the shell comes to.
 use Rattle.frag_map.specs.Shape.{IsShape}
-use Rattle.std.specs.Prelude.{◌≡◌, ◌<◌, ◌⊎◌, ℕ, true, List, ◌∷◌, ◌++◌, None, Some}
+use Rattle.std.specs.Prelude.{◌≡◌, ◌<◌, ◌⊎◌, ℕ, true, false, List, ◌∷◌, ◌++◌, None, Some}
 use Rattle.run_theory.specs.Lists.{IsIn}
 use Rattle.run_theory.specs.Runs.{AreLogs, IsWithin}
 use Rattle.api_block.specs.declared.operate.TheConstants.{OPERATIONS}
@@ -24,6 +24,7 @@ use Rattle.host_laws.specs.OpenedAfter.{opened_after}
 use Rattle.command_laws.specs.Alone.{IsRefusedAlone, IsTurnedAway, WaitsAlone}
 use Rattle.command_laws.specs.Begun.{BeginComesTo, TakesCommands}
 use Rattle.command_laws.specs.Between.{IsAskedAgain, IsServedIn}
+use Rattle.command_laws.specs.Dumped.{DumpComesTo}
 use Rattle.command_laws.specs.Served.{IsAnsweredAlone, IsAnsweredAs, IsCommittedAlone, IsRefusedAs, IsServedBetween, IsToldCommitted, IsToldHolder, StillWaits, replies_since}
 use Rattle.command_laws.specs.Ticked.{IsTicked}
 use Rattle.command_laws.specs.TurnedDown.{IsRefusedWhereDue, IsTurnedDown}
@@ -97,6 +98,8 @@ AnswersRequest start was now request.Pending =
     (after start 0 (first 0)) ≡ true → IsToldHolder start first was now
 AnswersRequest start was now (request.Begin name at) = BeginComesTo start was now name at
 AnswersRequest start was now (request.Tick round of) = IsTicked start was now round of
+AnswersRequest start was now (request.Rows node) = DumpComesTo start was now (request.Rows node) node false
+AnswersRequest start was now (request.Digest node) = DumpComesTo start was now (request.Digest node) node true
 AnswersRequest start was now request = Unit {0}
 
 -- The request that comes after `before` in the log of the shell's host is served between two quiet moments of these logs and
