@@ -48,14 +48,17 @@ module _ (s : ApiState) (name node : ℕ) (free : IsFree s name node) (calm : No
   abbrev pub asking : ApiState
   asking = about (opening s entry) (Some (Some name))
 
-  pub begin_is : (at : Option ℕ) → node_for s.view at ≡ node → request_row s (Begin name at) ≡ beginning s (Some name) node None
+  pub begin_is : (at : Option ℕ) → node_for s.view at ≡ node
+      → request_row s (Begin name at) ≡ beginning s (Some name) node None
   unfolding request_row begin_row
   begin_is at is =
       ap (λ o. begin_if s name at (is_some o)) free.unnamed
       ∙ ap (λ n. begin_at s name n (is_full s.view n)) is ∙ ap (begin_at s name node) free.full
 
   none_begins : (others : Option ℕ) → Each (λ (t : OpenTransaction). begins others t ≡ false) s.opened
-  none_begins others = each_map (λ (t : OpenTransaction). is_beginning t.doing ≡ false) (λ (t : OpenTransaction). begins others t ≡ false)
+  none_begins others =
+      each_map (λ (t : OpenTransaction). is_beginning t.doing ≡ false)
+      (λ (t : OpenTransaction). begins others t ≡ false)
       s.opened (λ t off. ap (λ b. b && same_name t.name others) off) calm
 
   begins_now : begins (Some name) entry ≡ true
@@ -64,14 +67,18 @@ module _ (s : ApiState) (name node : ℕ) (free : IsFree s name node) (calm : No
   -- it is refused
   pub refused_is : (refuse_row asking (Some name)).replies ≡ s.replies ++ reply.Refused (Some name) TooManyOpen ∷ []
   unfolding refuse_row
-  refused_is = where_last (begins (Some name)) s.opened entry asking (λ at t. over asking at (reply.Refused (Some name) TooManyOpen))
-      (λ (after : ApiState). after.replies ≡ s.replies ++ reply.Refused (Some name) TooManyOpen ∷ []) (none_begins (Some name)) begins_now
+  refused_is = where_last (begins (Some name)) s.opened entry asking
+      (λ at t. over asking at (reply.Refused (Some name) TooManyOpen))
+      (λ (after : ApiState). after.replies ≡ s.replies ++ reply.Refused (Some name) TooManyOpen ∷ [])
+      (none_begins (Some name)) begins_now
       (λ at item last. refl)
 
   pub refused_left : (refuse_row asking (Some name)).opened ≡ s.opened
   unfolding refuse_row
-  refused_left = where_last (begins (Some name)) s.opened entry asking (λ at t. over asking at (reply.Refused (Some name) TooManyOpen))
-      (λ (after : ApiState). after.opened ≡ s.opened) (none_begins (Some name)) begins_now (λ at item last. last.removed)
+  refused_left = where_last (begins (Some name)) s.opened entry asking
+      (λ at t. over asking at (reply.Refused (Some name) TooManyOpen))
+      (λ (after : ApiState). after.opened ≡ s.opened) (none_begins (Some name)) begins_now
+      (λ at item last. last.removed)
 
   -- it begins
   module _ (tx : TxId) (home : tx.tc ≡ node) where
@@ -81,11 +88,14 @@ module _ (s : ApiState) (name node : ℕ) (free : IsFree s name node) (calm : No
 
     begun_is : HasBegun (begun_row asking (Some name) tx)
     unfolding begun_row HasBegun
-    begun_is = where_last (begins_at (Some name) tx.tc) s.opened entry _ (λ at t. begun_by asking tx at t t.name t.doing) HasBegun
-        (each_map (λ (t : OpenTransaction). begins (Some name) t ≡ false) (λ (t : OpenTransaction). begins_at (Some name) tx.tc t ≡ false)
+    begun_is = where_last (begins_at (Some name) tx.tc) s.opened entry _
+        (λ at t. begun_by asking tx at t t.name t.doing) HasBegun
+        (each_map (λ (t : OpenTransaction). begins (Some name) t ≡ false)
+        (λ (t : OpenTransaction). begins_at (Some name) tx.tc t ≡ false)
         s.opened (λ t off. ap (λ b. b && (t.node == tx.tc)) off) (none_begins (Some name)))
         (ap (λ b. b && (node == tx.tc)) begins_now ∙ eq-eqb node tx.tc (sym home))
-        (λ at item last. subst (λ (t : OpenTransaction). HasBegun (begun_by asking tx at t t.name t.doing)) (sym last.item_is)
+        (λ at item last. subst (λ (t : OpenTransaction). HasBegun (begun_by asking tx at t t.name t.doing))
+        (sym last.item_is)
         (ap (λ n. s.replies ++ reply.Begun name n ∷ []) home, (last.set (begun entry tx), refl)))
 
     pub begun_replies : (begun_row asking (Some name) tx).state.replies ≡ s.replies ++ reply.Begun name node ∷ []

@@ -137,7 +137,9 @@ module _ (start : Start) (was now : ℕ → List HostStep) (name : ℕ) (at : Op
     holds = λ y to at body. inl (record { to = to; place = at; body = body; shell = refl; same = not_first c c_some });
   })
     where
-      by : (h : ℕ) → h ≡ 0 → (step_after start h (was h) f.first).effects.sends ≡ to_place (coordinator node) (Client (TcBeginReq (Some name))) ∷ []
+      by : (h : ℕ) → h ≡ 0
+          → (step_after start h (was h) f.first).effects.sends
+          ≡ to_place (coordinator node) (Client (TcBeginReq (Some name))) ∷ []
       by zero is = ap (λ (step : Step ApiState). step.effects.sends) first_is
       by (suc h) is = absurd (omega (arith, is))
 
@@ -183,7 +185,8 @@ module _ (start : Start) (was now : ℕ → List HostStep) (name : ℕ) (at : Op
       at_api = at_host ∙ answered.to
 
       api_before : api_of (after start 0 (before 0)) ≡ asking s name node free calm
-      api_before = ap (λ log. api_of (after start 0 log)) answered.shell ∙ ap (λ (step : Step ApiState). step.state) first_is
+      api_before = ap (λ log. api_of (after start 0 log)) answered.shell
+          ∙ ap (λ (step : Step ApiState). step.state) first_is
 
       api_is : api_seen (step_after start 0 (before 0) e) ≡ api_table (asking s name node free calm) answer
       api_is =
@@ -196,7 +199,8 @@ module _ (start : Start) (was now : ℕ → List HostStep) (name : ℕ) (at : Op
       sent_none true = refl
       sent_none false = begun_sends s name node free calm (next_tx tc) home
 
-      replied : (b : Bool) → (api_table (asking s name node free calm) (answer_by b)).state.replies ≡ s.replies ++ reply_by b ∷ []
+      replied : (b : Bool)
+          → (api_table (asking s name node free calm) (answer_by b)).state.replies ≡ s.replies ++ reply_by b ∷ []
       replied true = refused_is s name node free calm
       replied false = begun_replies s name node free calm (next_tx tc) home
 

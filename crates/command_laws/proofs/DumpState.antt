@@ -81,7 +81,8 @@ module _ (s : ApiState) where
   operate_keeps : (name : ℕ) (op : Op) → Keeps (operate.operate_row s name op)
   unfolding operate.operate_row
   operate_keeps name op =
-      at_either _ (λ at t. operate.operate_by s name op at t t.doing t.tx) refl (λ at t. by at t t.doing t.tx) (place_named s (Some name))
+      at_either _ (λ at t. operate.operate_by s name op at t t.doing t.tx) refl (λ at t. by at t t.doing t.tx)
+      (place_named s (Some name))
     where
       few : (at : ℕ) (t : OpenTransaction) (tx : TxId) (b : Bool) → Keeps (operate.operate_if s name op at t tx b)
       few at t tx true = refl
@@ -97,7 +98,8 @@ module _ (s : ApiState) where
   commit_keeps : (name : ℕ) → Keeps (commands.commit_row s name)
   unfolding commands.commit_row
   commit_keeps name =
-      at_either _ (λ at t. commands.commit_by s name at t t.doing t.tx) refl (λ at t. by at t t.doing t.tx) (place_named s (Some name))
+      at_either _ (λ at t. commands.commit_by s name at t t.doing t.tx) refl (λ at t. by at t t.doing t.tx)
+      (place_named s (Some name))
     where
       by : (at : ℕ) (t : OpenTransaction) (d : Doing) (o : Option TxId) → Keeps (commands.commit_by s name at t d o)
       by at t Ready (Some tx) = refl
@@ -108,7 +110,8 @@ module _ (s : ApiState) where
 
   abort_keeps : (name : ℕ) → Keeps (commands.abort_row s name)
   unfolding commands.abort_row
-  abort_keeps name = at_either _ (λ at t. commands.abort_by s name t.tx) refl (λ at t. by t.tx) (place_named s (Some name))
+  abort_keeps name = at_either _ (λ at t. commands.abort_by s name t.tx) refl (λ at t. by t.tx)
+      (place_named s (Some name))
     where
       by : (o : Option TxId) → Keeps (commands.abort_by s name o)
       by None = refl
@@ -125,7 +128,8 @@ module _ (s : ApiState) where
   waits_keeps : Keeps (wait.waits_row s)
   unfolding wait.waits_row
   waits_keeps =
-      at_either _ (λ at t. wait.waits_if s at t (is_unanswered t.doing) t.tx) refl (λ at t. by at t (is_unanswered t.doing) t.tx) (own_place s)
+      at_either _ (λ at t. wait.waits_if s at t (is_unanswered t.doing) t.tx) refl
+      (λ at t. by at t (is_unanswered t.doing) t.tx) (own_place s)
     where
       by : (at : ℕ) (t : OpenTransaction) (b : Bool) (o : Option TxId) → Keeps (wait.waits_if s at t b o)
       by at t true (Some tx) = refl
@@ -135,7 +139,8 @@ module _ (s : ApiState) where
   pending_keeps : Keeps (wait.pending_row s)
   unfolding wait.pending_row
   pending_keeps =
-      at_either _ (λ at t. wait.pending_if s t (is_unanswered t.doing) t.ahead) refl (λ at t. by t (is_unanswered t.doing) t.ahead) (own_place s)
+      at_either _ (λ at t. wait.pending_if s t (is_unanswered t.doing) t.ahead) refl
+      (λ at t. by t (is_unanswered t.doing) t.ahead) (own_place s)
     where
       told : (holder name : Option ℕ) (o : Option TxId) → Keeps (wait.pending_by s holder name o)
       told holder None (Some tx) = refl
@@ -184,18 +189,21 @@ module _ (s : ApiState) where
   -- and where none is under way that doesn't either
   signal_none : (body : Body) → is_request body ≡ false → s.dump ≡ None → (api_table s body).state.dump ≡ None
   unfolding dumped_row
-  signal_none (Client (DumpConf rows next)) plain none = ap (λ (d : Option Dump). (dumped_by s rows next d).state.dump) none ∙ none
+  signal_none (Client (DumpConf rows next)) plain none =
+      ap (λ (d : Option Dump). (dumped_by s rows next d).state.dump) none ∙ none
   signal_none body plain none = signal_keeps body refl plain ∙ none
 
 -- so along steps that aren't requests
-pub none_along : (start : Start) (newer log : List HostStep) → Each (λ (e : HostStep). is_request e.step.taken.body ≡ false) newer
+pub none_along : (start : Start) (newer log : List HostStep)
+    → Each (λ (e : HostStep). is_request e.step.taken.body ≡ false) newer
     → (api_of (after start 0 log)).dump ≡ None → (api_of (after start 0 (newer ++ log))).dump ≡ None
 none_along start [] log plain none = none
 none_along start (e ∷ newer) log plain none = by (none_along start newer log plain.1 none)
   where
     by : (api_of (after start 0 (newer ++ log))).dump ≡ None → (api_of (after start 0 (e ∷ (newer ++ log)))).dump ≡ None
     by before = api_host (λ (step : Step ApiState). step.state.dump ≡ None) (after start 0 (newer ++ log)) e.step.taken
-        (api_runs start (newer ++ log)) (λ at. signal_none (api_of (after start 0 (newer ++ log))) e.step.taken.body plain.0 before)
+        (api_runs start (newer ++ log))
+        (λ at. signal_none (api_of (after start 0 (newer ++ log))) e.step.taken.body plain.0 before)
         (λ off. before)
 
 -- at first none is

@@ -144,7 +144,8 @@ module _ (start : Start) (was now : ℕ → List HostStep) (r : ApiReq) (node : 
     });
   })
     where
-      by : (k : ℕ) → k ≡ 0 → (step_after start k (was k) f.first).effects.sends ≡ to_place (rows_of node) (Client (DumpReq 0)) ∷ []
+      by : (k : ℕ) → k ≡ 0
+          → (step_after start k (was k) f.first).effects.sends ≡ to_place (rows_of node) (Client (DumpReq 0)) ∷ []
       by zero is = ap (λ (step : Step ApiState). step.effects.sends) first_is
       by (suc k) is = absurd (omega (arith, is))
 
@@ -172,7 +173,8 @@ module _ (start : Start) (was now : ℕ → List HostStep) (r : ApiReq) (node : 
       tells : Leads start P IsDone before later e
       tells = inr (record {
         out = to_place client (Client (DumpConf part more));
-        is = subst (λ k. (step_after start k (before k) e).effects.sends ≡ to_place client (Client (DumpConf part more)) ∷ []) (sym at_rows)
+        is = subst (λ k. (step_after start k (before k) e).effects.sends
+            ≡ to_place client (Client (DumpConf part more)) ∷ []) (sym at_rows)
             (ap (λ (step : Step LqhState). step.effects.sends) rows_are);
         there = omega (arith, client_host start);
         holds = λ y to at body. inr (record {
@@ -182,7 +184,8 @@ module _ (start : Start) (was now : ℕ → List HostStep) (r : ApiReq) (node : 
           next = more;
           body = body;
           had = asked.had;
-          shell = ap (λ log. api_of (after start 0 log)) (next.others 0 (λ same. omega (arith, same, at_rows, h_some))) ∙ asked.shell;
+          shell = ap (λ log. api_of (after start 0 log)) (next.others 0 (λ same. omega (arith, same, at_rows, h_some)))
+              ∙ asked.shell;
           rest = ap (λ rows. asked.had ++ rows) (part_listed l.rows asked.at) ∙ asked.rest;
           same = ap (λ log. lqh_of (after start h log)) (subst (λ k. later k ≡ e ∷ before k) at_rows next.own)
               ∙ ap (λ (step : Step LqhState). step.state) rows_are;
@@ -198,7 +201,8 @@ module _ (start : Start) (was now : ℕ → List HostStep) (r : ApiReq) (node : 
       had = told.had ++ told.part
 
       abbrev turn : Option ℕ → Step ApiState
-      turn more = dumped_next (with_rows (gathered [] told.had)) (record { node = node; digest = digest; rows = gathered [] told.had }) told.part more
+      turn more = dumped_next (with_rows (gathered [] told.had))
+          (record { node = node; digest = digest; rows = gathered [] told.had }) told.part more
 
       api_is : api_seen (step_after start 0 (before 0) e) ≡ turn told.next
       unfolding dumped_row
@@ -214,7 +218,8 @@ module _ (start : Start) (was now : ℕ → List HostStep) (r : ApiReq) (node : 
       own : later 0 ≡ e ∷ before 0
       own = subst (λ k. later k ≡ e ∷ before k) at_api next.own
 
-      sent_as : (sends : _) → (api_seen (step_after start 0 (before 0) e)).effects.sends ≡ sends → (step_after start e.host (before e.host) e).effects.sends ≡ sends
+      sent_as : (sends : _) → (api_seen (step_after start 0 (before 0) e)).effects.sends ≡ sends
+          → (step_after start e.host (before e.host) e).effects.sends ≡ sends
       sent_as sends is = subst (λ k. (step_after start k (before k) e).effects.sends ≡ sends) (sym at_api) is
 
       further : (more : Option ℕ) → told.next ≡ more → Leads start P IsDone before later e
@@ -228,18 +233,22 @@ module _ (start : Start) (was now : ℕ → List HostStep) (r : ApiReq) (node : 
           at = at;
           body = body;
           had = had;
-          shell = ap (λ log. api_of (after start 0 log)) own ∙ ap (λ (step : Step ApiState). step.state) (api_is ∙ ap turn is)
+          shell = ap (λ log. api_of (after start 0 log)) own
+              ∙ ap (λ (step : Step ApiState). step.state) (api_is ∙ ap turn is)
               ∙ ap with_rows joined;
           rest = append_assoc told.had told.part (rows_at (drop at l.rows.places))
               ∙ ap (λ o. told.had ++ (told.part ++ rows_from l.rows o)) (sym is) ∙ told.rest;
-          same = ap (λ log. lqh_of (after start h log)) (next.others h (λ same. omega (arith, same, at_api, h_some))) ∙ told.same;
+          same = ap (λ log. lqh_of (after start h log)) (next.others h (λ same. omega (arith, same, at_api, h_some)))
+              ∙ told.same;
         });
       })
       further None is = inl (
         sent_as [] (ap (λ (step : Step ApiState). step.effects.sends) (api_is ∙ ap turn is)),
         record {
-          state = ap (λ log. api_of (after start 0 log)) own ∙ ap (λ (step : Step ApiState). step.state) (api_is ∙ ap turn is)
-              ∙ ap (λ rows. replied (with_dump (about s None) None) (dump_replies node digest rows)) (joined ∙ ap (gathered []) whole);
+          state = ap (λ log. api_of (after start 0 log)) own
+              ∙ ap (λ (step : Step ApiState). step.state) (api_is ∙ ap turn is)
+              ∙ ap (λ rows. replied (with_dump (about s None) None) (dump_replies node digest rows))
+              (joined ∙ ap (gathered []) whole);
         },
       )
         where
@@ -276,7 +285,8 @@ module _ (start : Start) (was now : ℕ → List HostStep) (r : ApiReq) (node : 
         ∙ ap (λ rs. rs ++ dump_replies node digest (gathered [] all)) (sym (replies_are (after start 0 (was 0)))))
         ∙ drop-append_seam (replies_of (after start 0 (was 0))) (dump_replies node digest (gathered [] all));
     rising = gathered_rising [] all tt;
-    committed = λ key value inside. row_is key ∙ listed_row l.rows.places key value apart (of_all (key, value) (gathered_from (key, value) [] all inside));
+    committed = λ key value inside. row_is key
+        ∙ listed_row l.rows.places key value apart (of_all (key, value) (gathered_from (key, value) [] all inside));
     all = λ key value is. gathered_there (key, value) [] all (listed_distinct l.rows.places apart)
         (row_listed l.rows.places key value (sym (row_is key) ∙ is));
   }
@@ -291,13 +301,15 @@ module _ (start : Start) (was now : ℕ → List HostStep) (idle : (api_of (afte
   full_of node true free = refl
   full_of node false free = absurd cc
 
-  pub rows_come_to : (node : ℕ) → IsServedBetween start was now (request.Rows node) → DumpComesTo start was now (request.Rows node) node false
+  pub rows_come_to : (node : ℕ) → IsServedBetween start was now (request.Rows node)
+      → DumpComesTo start was now (request.Rows node) node false
   unfolding request_row
   rows_come_to node served free =
       is_dumped start was now (request.Rows node) node false served refl
       (full_of node (members.is_full (api_of (after start 0 (was 0))).view node) free) idle
 
-  pub digest_comes_to : (node : ℕ) → IsServedBetween start was now (request.Digest node) → DumpComesTo start was now (request.Digest node) node true
+  pub digest_comes_to : (node : ℕ) → IsServedBetween start was now (request.Digest node)
+      → DumpComesTo start was now (request.Digest node) node true
   unfolding request_row
   digest_comes_to node served free =
       is_dumped start was now (request.Digest node) node true served refl

@@ -37,7 +37,8 @@ module _ (k v : List ℕ) where
   put rows = insert_entry key_cmp rows k v
 
   -- what is so of each, by its key, is so with the new one
-  each_put : (P : List ℕ → Type 0) (rows : List KeyedRow) → Each (λ (r : KeyedRow). P r.0) rows → P k → Each (λ (r : KeyedRow). P r.0) (put rows)
+  each_put : (P : List ℕ → Type 0) (rows : List KeyedRow) → Each (λ (r : KeyedRow). P r.0) rows → P k
+      → Each (λ (r : KeyedRow). P r.0) (put rows)
   each_put P [] all new = (new, tt)
   each_put P (r ∷ rows) all new = by (key_cmp k r.0) (each_put P rows all.1 new)
     where
@@ -53,7 +54,8 @@ module _ (k v : List ℕ) where
     where
       by : (o : Ordering) → key_cmp k r.0 ≡ o → AreRising (put rows)
           → AreRising (match_ordering o ((k, v) ∷ r ∷ rows) ((r.0, v) ∷ rows) (r ∷ put rows))
-      by Less is rest = ((is, each_map (λ (q : KeyedRow). key_cmp r.0 q.0 ≡ Less) (λ (q : KeyedRow). key_cmp k q.0 ≡ Less) rows
+      by Less is rest = ((is,
+          each_map (λ (q : KeyedRow). key_cmp r.0 q.0 ≡ Less) (λ (q : KeyedRow). key_cmp k q.0 ≡ Less) rows
           (λ q behind. nat_list_cmp_total.trans k r.0 q.0 is behind) rising.0), rising)
       by Equal is rest = rising
       by Greater is rest = (each_put (λ key. key_cmp r.0 key ≡ Less) rows rising.0 (turned k r.0 is), rest)
@@ -87,7 +89,8 @@ module _ (k v : List ℕ) where
   put_from q [] inside = inside
   put_from q (r ∷ rows) inside = by (key_cmp k r.0) refl inside (put_from q rows)
     where
-      by : (o : Ordering) → key_cmp k r.0 ≡ o → IsIn q (match_ordering o ((k, v) ∷ r ∷ rows) ((r.0, v) ∷ rows) (r ∷ put rows))
+      by : (o : Ordering) → key_cmp k r.0 ≡ o
+          → IsIn q (match_ordering o ((k, v) ∷ r ∷ rows) ((r.0, v) ∷ rows) (r ∷ put rows))
           → (IsIn q (put rows) → (q ≡ (k, v)) ⊎ IsIn q rows) → (q ≡ (k, v)) ⊎ ((q ≡ r) ⊎ IsIn q rows)
       by Less is here rest = here
       by Equal is (inl same) rest = inl (same ∙ ap (λ key. (key, v)) (sym (tied k r.0 is)))
@@ -115,12 +118,14 @@ gathered_from q rows (r ∷ more) inside = by (gathered_from q (put r.0 r.1 rows
     by (inl early) = first (put_from r.0 r.1 q rows early)
     by (inr late) = inr (inr late)
 
-gathered_kept : (q : KeyedRow) (rows more : List KeyedRow) → HaveNot q.0 more → IsIn q rows → IsIn q (gathered rows more)
+gathered_kept : (q : KeyedRow) (rows more : List KeyedRow) → HaveNot q.0 more → IsIn q rows
+    → IsIn q (gathered rows more)
 gathered_kept q rows [] others inside = inside
 gathered_kept q rows (r ∷ more) others inside =
     gathered_kept q (put r.0 r.1 rows) more others.1 (put_kept r.0 r.1 q rows (λ same. others.0 (sym same)) inside)
 
-pub gathered_there : (q : KeyedRow) (rows more : List KeyedRow) → AreDistinct more → IsIn q more → IsIn q (gathered rows more)
+pub gathered_there : (q : KeyedRow) (rows more : List KeyedRow) → AreDistinct more → IsIn q more
+    → IsIn q (gathered rows more)
 gathered_there q rows [] distinct inside = absurd inside
 gathered_there q rows (r ∷ more) distinct (inl same) =
     gathered_kept q (put r.0 r.1 rows) more (subst (λ (x : KeyedRow). HaveNot x.0 more) (sym same) distinct.0)

@@ -49,14 +49,16 @@ module _ (start : Start) (was now : ℕ → List HostStep) (idle : IsIdle start 
       f : IsFirst start was now r
       f = request_first start was now r served
 
-  asked : (r : ApiReq) (node : ℕ) (digest : Bool) → request_row s r ≡ dump_row s node digest → IsServedBetween start was now r → IsIdle start now
+  asked : (r : ApiReq) (node : ℕ) (digest : Bool) → request_row s r ≡ dump_row s node digest
+      → IsServedBetween start was now r → IsIdle start now
   unfolding dump_row
   asked r node digest is served = by (is_full s.view node) refl
     where
       by : (full : Bool) → is_full s.view node ≡ full → IsIdle start now
       by true full = dump_over start was now r node digest served is full idle
       by false full = left r served
-          (ap (λ (step : Step ApiState). step.state.dump) (is ∙ ap (λ b. dump_if s node digest b (is_some s.dump)) full) ∙ idle)
+          (ap (λ (step : Step ApiState). step.state.dump)
+          (is ∙ ap (λ b. dump_if s node digest b (is_some s.dump)) full) ∙ idle)
 
   -- each leaves none in the end
   pub still_idle : (r : ApiReq) → IsServedBetween start was now r → IsIdle start now
@@ -78,12 +80,14 @@ last_asked : (log : List HostStep) → Each (λ (e : HostStep). is_request e.ste
 last_asked [] = inl tt
 last_asked (e ∷ log) = by (is_request e.step.taken.body) refl (last_asked log)
   where
-    by : (b : Bool) → is_request e.step.taken.body ≡ b → Each (λ (d : HostStep). is_request d.step.taken.body ≡ false) log ⊎ LastAsked log
+    by : (b : Bool) → is_request e.step.taken.body ≡ b
+        → Each (λ (d : HostStep). is_request d.step.taken.body ≡ false) log ⊎ LastAsked log
         → Each (λ (d : HostStep). is_request d.step.taken.body ≡ false) (e ∷ log) ⊎ LastAsked (e ∷ log)
     by true is rest = inr (record { newer = []; step = e; older = log; is = refl; asks = is; plain = tt })
     by false is (inl plain) = inl (is, plain)
     by false is (inr l) =
-        inr (record { newer = e ∷ l.newer; step = l.step; older = l.older; is = ap (λ w. e ∷ w) l.is; asks = l.asks; plain = (is, l.plain) })
+        inr (record { newer = e ∷ l.newer; step = l.step; older = l.older; is = ap (λ w. e ∷ w) l.is; asks =
+        l.asks; plain = (is, l.plain) })
 
 request_there : (body : Body) → is_request body ≡ true → (r : ApiReq) × (request_in body ≡ Some r)
 request_there (Host (Continue (Request r) at)) is = (r, refl)
@@ -93,22 +97,27 @@ none_in : (body : Body) → is_request body ≡ false → option_to_list (reques
 none_in (Host (Continue (Request r) at)) is = cc
 none_in _ is = refl
 
-no_requests : (newer : List HostStep) → Each (λ (e : HostStep). is_request e.step.taken.body ≡ false) newer → requests newer ≡ []
+no_requests : (newer : List HostStep) → Each (λ (e : HostStep). is_request e.step.taken.body ≡ false) newer
+    → requests newer ≡ []
 no_requests [] plain = refl
 no_requests (e ∷ newer) plain =
-    ap (λ rs. rs ++ option_to_list (request_in e.step.taken.body)) (no_requests newer plain.1) ∙ none_in e.step.taken.body plain.0
+    ap (λ rs. rs ++ option_to_list (request_in e.step.taken.body)) (no_requests newer plain.1)
+    ∙ none_in e.step.taken.body plain.0
 
-module _ (start : Start) (logs : ℕ → List HostStep) (right : AreLogs (machine start) logs) (within : IsWithin (hosts start) logs)
+module _ (start : Start) (logs : ℕ → List HostStep) (right : AreLogs (machine start) logs)
+    (within : IsWithin (hosts start) logs)
     (at_quiet : AreAskedAtQuiet start logs) (shape : IsShape start.shape) where
   -- none is where none was at each earlier one
   none_if : (was : ℕ → List HostStep) → AreQuiet start was → IsCut was logs
-      → ((earlier : ℕ → List HostStep) → AreQuiet start earlier → IsCut earlier logs → length (earlier 0) < length (was 0) → IsIdle start earlier)
+      → ((earlier : ℕ → List HostStep) → AreQuiet start earlier → IsCut earlier logs
+      → length (earlier 0) < length (was 0) → IsIdle start earlier)
       → IsIdle start was
   none_if was quiet cut before = by (last_asked (was 0))
     where
       by : Each (λ (e : HostStep). is_request e.step.taken.body ≡ false) (was 0) ⊎ LastAsked (was 0) → IsIdle start was
       by (inl plain) =
-          ap (λ log. (api_of (after start 0 log)).dump) (sym (append-nil (was 0))) ∙ none_along start (was 0) [] plain (none_first start)
+          ap (λ log. (api_of (after start 0 log)).dump) (sym (append-nil (was 0)))
+          ∙ none_along start (was 0) [] plain (none_first start)
       by (inr l) =
           still_idle start q.inside was
           (before q.inside (are_quiet start logs right within at_quiet shape l.older q) q.cut
@@ -116,7 +125,8 @@ module _ (start : Start) (logs : ℕ → List HostStep) (right : AreLogs (machin
           asked.0 (served_is start logs right within at_quiet shape l.step l.older asked.0 asked.1 q d)
         where
           past : logs 0 ≡ ((cut 0).newer ++ l.newer) ++ l.step ∷ l.older
-          past = (cut 0).is ∙ ap (λ log. (cut 0).newer ++ log) l.is ∙ sym (append_assoc (cut 0).newer l.newer (l.step ∷ l.older))
+          past = (cut 0).is ∙ ap (λ log. (cut 0).newer ++ log) l.is
+              ∙ sym (append_assoc (cut 0).newer l.newer (l.step ∷ l.older))
 
           q : QuietBefore start logs l.older
           q = at_quiet ((cut 0).newer ++ l.newer) l.step l.older past l.asks
@@ -131,9 +141,11 @@ module _ (start : Start) (logs : ℕ → List HostStep) (right : AreLogs (machin
             ends = record { inside = was; cut = cut; at = l.is; right = quiet.right; quiet = quiet.quiet };
           }
 
-  none_before : (n : ℕ) (was : ℕ → List HostStep) → AreQuiet start was → IsCut was logs → length (was 0) ≤ n → IsIdle start was
+  none_before : (n : ℕ) (was : ℕ → List HostStep) → AreQuiet start was → IsCut was logs → length (was 0) ≤ n
+      → IsIdle start was
   none_before zero was quiet cut few = none_if was quiet cut (λ earlier q c less. absurd (omega (arith, less, few)))
-  none_before (suc n) was quiet cut few = none_if was quiet cut (λ earlier q c less. none_before n earlier q c (omega (arith, less, few)))
+  none_before (suc n) was quiet cut few =
+      none_if was quiet cut (λ earlier q c less. none_before n earlier q c (omega (arith, less, few)))
 
   -- so none is at a quiet moment of these logs
   pub none_under_way : (was : ℕ → List HostStep) → AreQuiet start was → IsCut was logs → IsIdle start was

@@ -1,5 +1,5 @@
--- A command at which one signal at a time is under way: what a host does at it follows from the signal before, and where none
--- follows the command is done.
+-- A command at which one signal at a time is under way: what a host does at it follows from the signal before, and where
+-- none follows the command is done.
 use Rattle.std.proofs.Common.{◌≡◌, ◌≢◌, ◌⊎◌, ◌+◌, ◌<◌, ◌≤◌, ◌==◌, ℕ, zero, suc, Bool, true, false, List, [], ◌∷◌, ◌++◌, if◌then◌else◌, length, refl, sym, ap, ◌∙◌, subst, inl, inr, length-append, eq-eqb, ne_eqb, arith}
 use Rattle.std.proofs.lemmas.Bool.{cases_eq, cases_lt}
 use Rattle.run_theory.proofs.Growth.{along_cuts}
@@ -56,8 +56,10 @@ pub record GoesOn (start : Start) (P : Addressed → (ℕ → List HostStep) →
   pub out : Outgoing
   pub is : sends ≡ out ∷ []
   pub there : host_for start out.to < hosts start
-  pub holds : (y : Addressed) → y.to ≡ host_for start out.to → y.signal.to ≡ out.to → y.signal.body ≡ out.body → P y logs
+  pub holds : (y : Addressed) → y.to ≡ host_for start out.to → y.signal.to ≡ out.to → y.signal.body ≡ out.body
+      → P y logs
 
+-- P is so of the signal that is under way, and the logs then; D is so of the logs when the command is done
 module _ (start : Start) (P : Addressed → (ℕ → List HostStep) → Type 0) (D : (ℕ → List HostStep) → Type 0) where
   abbrev m : Machine HostStep Addressed
   m = machine start
@@ -72,7 +74,8 @@ module _ (start : Start) (P : Addressed → (ℕ → List HostStep) → Type 0) 
   abbrev pub IsPhase : (ℕ → List HostStep) → Type 0
   IsPhase logs = ((x : Addressed) × (IsUnderWay start logs x × P x logs)) ⊎ (IsQuiet m (hosts start) logs × D logs)
 
-  module _ (before after : ℕ → List HostStep) (e : HostStep) (next : IsNext before after e) (low : e.host < hosts start) where
+  module _ (before after : ℕ → List HostStep) (e : HostStep) (next : IsNext before after e)
+      (low : e.host < hosts start) where
     abbrev sends : List Outgoing
     sends = (step_after start e.host (before e.host) e).effects.sends
 
@@ -89,7 +92,9 @@ module _ (start : Start) (P : Addressed → (ℕ → List HostStep) → Type 0) 
         own : (k : ℕ) → e.host ≡ k → sent m k j (after k) ≡ sent m k j (before k)
         own k same = subst (λ h. sent m h j (after h) ≡ sent m h j (before h)) same
             (ap (sent m e.host j) next.own
-            ∙ ap (λ (os : List Outgoing). put m j (all_addressed (first_membership start) e.host e.step.stamp (sent_count start e.host (before e.host)) os) (sent m e.host j (before e.host))) none)
+            ∙ ap (λ (os : List Outgoing). put m j
+            (all_addressed (first_membership start) e.host e.step.stamp (sent_count start e.host (before e.host)) os)
+            (sent m e.host j (before e.host))) none)
 
         by : (e.host ≡ i) ⊎ (e.host ≢ i) → sent m i j (after i) ≡ sent m i j (before i)
         by (inl same) = own i same
@@ -100,17 +105,25 @@ module _ (start : Start) (P : Addressed → (ℕ → List HostStep) → Type 0) 
 
     module _ (out : Outgoing) (one : sends ≡ out ∷ []) where
       abbrev y : Addressed
-      y = addressed (first_membership start) e.host e.step.stamp (sent_count start e.host (before e.host) (host_for start out.to)) out
+      y = addressed (first_membership start) e.host e.step.stamp
+          (sent_count start e.host (before e.host) (host_for start out.to)) out
 
-      sent_own : (j : ℕ) → sent m e.host j (after e.host) ≡ (if host_for start out.to == j then y ∷ sent m e.host j (before e.host) else sent m e.host j (before e.host))
+      sent_own : (j : ℕ) → sent m e.host j (after e.host)
+          ≡ (if host_for start out.to == j then y ∷ sent m e.host j (before e.host) else sent m e.host j
+          (before e.host))
       sent_own j = ap (sent m e.host j) next.own
-          ∙ ap (λ (os : List Outgoing). put m j (all_addressed (first_membership start) e.host e.step.stamp (sent_count start e.host (before e.host)) os) (sent m e.host j (before e.host))) one
+          ∙ ap (λ (os : List Outgoing). put m j
+          (all_addressed (first_membership start) e.host e.step.stamp (sent_count start e.host (before e.host)) os)
+          (sent m e.host j (before e.host))) one
 
-      sent_apart : (i j : ℕ) → (i ≡ e.host → j ≡ host_for start out.to → ⊥) → sent m i j (after i) ≡ sent m i j (before i)
+      sent_apart : (i j : ℕ) → (i ≡ e.host → j ≡ host_for start out.to → ⊥)
+          → sent m i j (after i) ≡ sent m i j (before i)
       sent_apart i j apart = by (cases_eq e.host i)
         where
-          own : (k : ℕ) → e.host ≡ k → (k ≡ e.host → j ≡ host_for start out.to → ⊥) → sent m k j (after k) ≡ sent m k j (before k)
-          own k same = subst (λ h. (h ≡ e.host → j ≡ host_for start out.to → ⊥) → sent m h j (after h) ≡ sent m h j (before h)) same
+          own : (k : ℕ) → e.host ≡ k → (k ≡ e.host → j ≡ host_for start out.to → ⊥)
+              → sent m k j (after k) ≡ sent m k j (before k)
+          own k same = subst (λ h. (h ≡ e.host → j ≡ host_for start out.to → ⊥)
+              → sent m h j (after h) ≡ sent m h j (before h)) same
               (λ other. sent_own j ∙ if_false (y ∷ sent m e.host j (before e.host)) (sent m e.host j (before e.host))
               (ne_eqb (host_for start out.to) j (λ at. other refl (sym at))))
 
@@ -123,7 +136,8 @@ module _ (start : Start) (P : Addressed → (ℕ → List HostStep) → Type 0) 
         from = low;
         to = there;
         ahead = sent_own (host_for start out.to)
-            ∙ if_true (y ∷ sent m e.host (host_for start out.to) (before e.host)) (sent m e.host (host_for start out.to) (before e.host))
+            ∙ if_true (y ∷ sent m e.host (host_for start out.to) (before e.host))
+            (sent m e.host (host_for start out.to) (before e.host))
             (eq-eqb (host_for start out.to) (host_for start out.to) refl)
             ∙ ap (λ xs. y ∷ xs) (sym (all e.host (host_for start out.to) low there));
         others = λ i j under below apart. all i j under below ∙ sym (sent_apart i j apart);
@@ -131,7 +145,9 @@ module _ (start : Start) (P : Addressed → (ℕ → List HostStep) → Type 0) 
 
     leads_on : AllTaken → Leads before after e → IsPhase after
     leads_on all (inl (none, done)) = inr (ends_quiet all none, done)
-    leads_on all (inr goes) = inl (y goes.out goes.is, (goes_under_way goes.out goes.is all goes.there, goes.holds (y goes.out goes.is) refl refl refl))
+    leads_on all (inr goes) =
+        inl (y goes.out goes.is,
+        (goes_under_way goes.out goes.is all goes.there, goes.holds (y goes.out goes.is) refl refl refl))
 
     -- a request takes nothing from a link
     asked_all : is_request e.step.taken.body ≡ true → IsQuiet m (hosts start) before → AllTaken
@@ -154,7 +170,8 @@ module _ (start : Start) (P : Addressed → (ℕ → List HostStep) → Type 0) 
     module _ (plain : is_request e.step.taken.body ≡ false) (source_low : source < hosts start)
         (past : IsPast (it ∷ taken m source (before e.host)) (sent m source e.host (before source))) where
       not_at_quiet : taken m source (before e.host) ≡ sent m source e.host (before source) → ⊥
-      not_at_quiet even = longer it (taken m source (before e.host)) (subst (IsPast (it ∷ taken m source (before e.host))) (sym even) past)
+      not_at_quiet even = longer it (taken m source (before e.host))
+          (subst (IsPast (it ∷ taken m source (before e.host))) (sym even) past)
 
       module _ (x : Addressed) (way : IsUnderWay start before x) where
         -- the step takes what is under way
@@ -178,7 +195,8 @@ module _ (start : Start) (P : Addressed → (ℕ → List HostStep) → Type 0) 
             (subst (λ i. sent m i x.to (before i) ≡ x ∷ taken m i (before x.to)) (sym same_source) way.ahead)
 
         takes_it : it ≡ x
-        takes_it = first_of it x (taken m source (before e.host)) (subst (IsPast (it ∷ taken m source (before e.host))) ahead_here past)
+        takes_it = first_of it x (taken m source (before e.host))
+            (subst (IsPast (it ∷ taken m source (before e.host))) ahead_here past)
 
         taken_all : AllTaken
         taken_all i j under below = by (cases_eq e.host j)
@@ -205,7 +223,8 @@ module _ (start : Start) (P : Addressed → (ℕ → List HostStep) → Type 0) 
   -- how the command goes on from the request, and from each signal
   pub record IsSteered (was : ℕ → List HostStep) (first : HostStep) : Type 0 where
     pub begins : Leads was (with_first was first) first
-    pub goes : (before after : ℕ → List HostStep) (e : HostStep) (x : Addressed) → IsNext before after e → e.step.taken ≡ x.signal → e.host ≡ x.to
+    pub goes : (before after : ℕ → List HostStep) (e : HostStep) (x : Addressed) → IsNext before after e
+        → e.step.taken ≡ x.signal → e.host ≡ x.to
         → P x before → Leads before after e
 
   module _ (was now : ℕ → List HostStep) (request : ApiReq) (served : IsServedBetween start was now request)
@@ -226,7 +245,8 @@ module _ (start : Start) (P : Addressed → (ℕ → List HostStep) → Type 0) 
 
     phase_first : IsPhase (with_first was f.first)
     phase_first = leads_on was (with_first was f.first) f.first next_first first_low
-        (asked_all was (with_first was f.first) f.first next_first first_low (ap is_request f.body) served.before.quiet) steered.begins
+        (asked_all was (with_first was f.first) f.first next_first first_low
+        (ap is_request f.body) served.before.quiet) steered.begins
       where
         first_low : f.first.host < hosts start
         first_low = omega (arith, at_shell)
@@ -272,7 +292,8 @@ module _ (start : Start) (P : Addressed → (ℕ → List HostStep) → Type 0) 
           by (inl low) = low
           by (inr high) =
               let p = cut e.host in
-              absurd (front_none p.newer e (before e.host) (sym (served.since.within e.host high) ∙ p.is ∙ ap (λ log. p.newer ++ log) next_here.own))
+              absurd (front_none p.newer e (before e.host)
+              (sym (served.since.within e.host high) ∙ p.is ∙ ap (λ log. p.newer ++ log) next_here.own))
 
       plain_here : is_request e.step.taken.body ≡ false
       plain_here = by (is_request e.step.taken.body) refl
@@ -280,7 +301,8 @@ module _ (start : Start) (P : Addressed → (ℕ → List HostStep) → Type 0) 
           by : (b : Bool) → is_request e.step.taken.body ≡ b → b ≡ false
           by false is = refl
           by true is =
-              let asked = fits_asked start e.host (last_stamp (before e.host)) e.step.taken (is_request e.step.taken.body) is happens.step.fits.asked in
+              let asked = fits_asked start e.host (last_stamp (before e.host)) e.step.taken
+                  (is_request e.step.taken.body) is happens.step.fits.asked in
               absurd (omega (
                 arith,
                 asks_once,
@@ -294,7 +316,8 @@ module _ (start : Start) (P : Addressed → (ℕ → List HostStep) → Type 0) 
       abbrev from_here : ℕ
       from_here = e.step.taken.from.0
 
-      past_here : IsPast (it before after e next_here low_here ∷ taken m from_here (before e.host)) (sent m from_here e.host (before from_here))
+      past_here : IsPast (it before after e next_here low_here ∷ taken m from_here (before e.host))
+          (sent m from_here e.host (before from_here))
       past_here = given_past start from_here e.host (before from_here) _ (happens.takes plain_here)
 
       source_here : from_here < hosts start
@@ -311,18 +334,24 @@ module _ (start : Start) (P : Addressed → (ℕ → List HostStep) → Type 0) 
           by : (from_here < hosts start) ⊎ (hosts start ≤ from_here) → from_here < hosts start
           by (inl under) = under
           by (inr high) =
-              let none : before from_here ≡ [] = empty (cut_before from_here).newer (before from_here) (sym (served.since.within from_here high) ∙ (cut_before from_here).is) in
+              let none : before from_here ≡ [] =
+                  empty (cut_before from_here).newer (before from_here)
+                  (sym (served.since.within from_here high) ∙ (cut_before from_here).is) in
               absurd (nothing past_here.newer _ _ (sym (ap (sent m from_here e.host) none) ∙ past_here.is))
 
       phase_here : IsPhase before → IsPhase after
       phase_here (inl (x, (way, holds))) =
           let takes = takes_it before after e next_here low_here plain_here source_here past_here x way in
-          leads_on before after e next_here low_here (taken_all before after e next_here low_here plain_here source_here past_here x way)
-          (steered.goes before after e x next_here (ap (λ (z : Addressed). z.signal) takes) (ap (λ (z : Addressed). z.to) takes) holds)
+          leads_on before after e next_here low_here
+          (taken_all before after e next_here low_here plain_here source_here past_here x way)
+          (steered.goes before after e x next_here (ap (λ (z : Addressed). z.signal) takes)
+          (ap (λ (z : Addressed). z.to) takes) holds)
       phase_here (inr (quiet, done)) =
-          absurd (not_at_quiet before after e next_here low_here plain_here source_here past_here (quiet from_here e.host source_here low_here))
+          absurd (not_at_quiet before after e next_here low_here plain_here source_here past_here
+          (quiet from_here e.host source_here low_here))
 
-    goes_step : (es : List HostStep) (e : HostStep) → Run m es → Happens m es e → Goes (log_of m es) → Goes (log_of m (e ∷ es))
+    goes_step : (es : List HostStep) (e : HostStep) → Run m es → Happens m es e → Goes (log_of m es)
+        → Goes (log_of m (e ∷ es))
     goes_step es e run happens goes = record {
       since = past_trans goes.since (log_of-past m e es 0);
       phase = λ cut. phase_here es e run happens goes cut (goes.phase (λ h. past_trans (log_of-past m e es h) (cut h)));
@@ -334,7 +363,8 @@ module _ (start : Start) (P : Addressed → (ℕ → List HostStep) → Type 0) 
 
     phase_now : IsPhase now
     phase_now =
-        (along_cuts m (stamped start) Goes goes_step (hosts start) (with_first was f.first) now served.since.within served.since.right f.right cut_first
+        (along_cuts m (stamped start) Goes goes_step (hosts start)
+        (with_first was f.first) now served.since.within served.since.right f.right cut_first
         (record { since = past_self (f.first ∷ was 0); phase = λ cut. phase_first })).phase (λ h. past_self (now h))
 
     -- when nothing is under way any more it is done
@@ -344,5 +374,6 @@ module _ (start : Start) (P : Addressed → (ℕ → List HostStep) → Type 0) 
         by : IsPhase now → D now
         by (inl (x, (way, holds))) =
             absurd (longer x (taken m x.signal.from.0 (now x.to))
-            (subst (λ xs. IsPast xs (taken m x.signal.from.0 (now x.to))) (served.since.quiet x.signal.from.0 x.to way.from way.to ∙ way.ahead) (past_self _)))
+            (subst (λ xs. IsPast xs (taken m x.signal.from.0 (now x.to)))
+            (served.since.quiet x.signal.from.0 x.to way.from way.to ∙ way.ahead) (past_self _)))
         by (inr (quiet, done)) = done

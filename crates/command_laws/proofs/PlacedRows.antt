@@ -39,12 +39,15 @@ skip_one slot places (Some n) is = is
 none_skipped : (places : List (Option Slot)) → skipped places (position has_row places) ≡ rows_at places
 none_skipped [] = refl
 none_skipped (None ∷ places) =
-    ap (skipped (None ∷ places)) (position-cons has_row None places) ∙ skip_one None places (position has_row places) (none_skipped places)
+    ap (skipped (None ∷ places)) (position-cons has_row None places)
+    ∙ skip_one None places (position has_row places) (none_skipped places)
 none_skipped (Some slot ∷ places) =
-    ap (skipped (Some slot ∷ places)) (position-cons has_row (Some slot) places) ∙ by slot.row refl (none_skipped places)
+    ap (skipped (Some slot ∷ places)) (position-cons has_row (Some slot) places)
+    ∙ by slot.row refl (none_skipped places)
   where
     by : (row : Option (List ℕ)) → slot.row ≡ row → skipped places (position has_row places) ≡ rows_at places
-        → skipped (Some slot ∷ places) (place_by (is_some row) (position has_row places)) ≡ row_with slot.key slot.row ++ rows_at places
+        → skipped (Some slot ∷ places) (place_by (is_some row) (position has_row places)) ≡ row_with slot.key slot.row
+        ++ rows_at places
     by None is rest = skip_one (Some slot) places (position has_row places) rest
         ∙ ap (λ (r : Option (List ℕ)). row_with slot.key r ++ rows_at places) (sym is)
     by (Some value) is rest = refl
@@ -69,12 +72,14 @@ at_place (slot ∷ places) (suc at) = at_place places at
 abbrev all_of : RowsState → Dumped → List KeyedRow
 all_of s d = d.rows ++ rows_from s d.next
 
-one_listed : (s : RowsState) (rows : List KeyedRow) (next : Option ℕ) → all_of s (one_more_by s rows next) ≡ rows ++ rows_from s next
+one_listed : (s : RowsState) (rows : List KeyedRow) (next : Option ℕ)
+    → all_of s (one_more_by s rows next) ≡ rows ++ rows_from s next
 one_listed s rows None = refl
 one_listed s rows (Some at) =
     let behind : at + 1 ≡ suc at = omega arith in
     append_assoc rows (row_of_slot (slice_index_or s.places at None)) (rows_from s (next_place s (at + 1)))
-    ∙ ap (λ w. rows ++ (row_of_slot (slice_index_or s.places at None) ++ w)) (next_listed s (at + 1) ∙ ap (λ n. rows_at (drop n s.places)) behind)
+    ∙ ap (λ w. rows ++ (row_of_slot (slice_index_or s.places at None) ++ w))
+    (next_listed s (at + 1) ∙ ap (λ n. rows_at (drop n s.places)) behind)
     ∙ ap (λ w. rows ++ w) (at_place s.places at)
 
 more_listed : (s : RowsState) (n : ℕ) (d : Dumped) → all_of s (more s n d) ≡ all_of s d
@@ -82,7 +87,8 @@ more_listed s zero d = refl
 more_listed s (suc n) d = one_listed s (more s n d).rows (more s n d).next ∙ more_listed s n d
 
 -- a part of a dump, and what comes behind it
-pub part_listed : (s : RowsState) (at : ℕ) → (dumped_from s at).rows ++ rows_from s (dumped_from s at).next ≡ rows_at (drop at s.places)
+pub part_listed : (s : RowsState) (at : ℕ)
+    → (dumped_from s at).rows ++ rows_from s (dumped_from s at).next ≡ rows_at (drop at s.places)
 unfolding dumped_from
 part_listed s at = more_listed s 8 (dumped [] (next_place s at)) ∙ next_listed s at
 
@@ -124,12 +130,14 @@ listed_distinct (Some slot ∷ places) apart = by slot.row (listed_distinct plac
     )
 
 -- a key has the row of its place
-pub row_listed : (places : List (Option Slot)) (key value : List ℕ) → row_at places key ≡ Some value → IsIn (key, value) (rows_at places)
+pub row_listed : (places : List (Option Slot)) (key value : List ℕ) → row_at places key ≡ Some value
+    → IsIn (key, value) (rows_at places)
 row_listed [] key value is = cc
 row_listed (None ∷ places) key value is = row_listed places key value is
 row_listed (Some slot ∷ places) key value is = by (same_key slot.key key) refl is (row_listed places key value)
   where
-    own : (row : Option (List ℕ)) → slot.key ≡ key → row ≡ Some value → IsIn (key, value) (row_with slot.key row ++ rows_at places)
+    own : (row : Option (List ℕ)) → slot.key ≡ key → row ≡ Some value
+        → IsIn (key, value) (row_with slot.key row ++ rows_at places)
     own None same there = cc
     own (Some w) same there =
         let both : w ≡ value = cc in
@@ -141,7 +149,8 @@ row_listed (Some slot ∷ places) key value is = by (same_key slot.key key) refl
     by true at there rest = own slot.row (same slot.key key at) there
     by false at there rest = in_append (key, value) (row_with slot.key slot.row) (rows_at places) (rest there)
 
-pub listed_row : (places : List (Option Slot)) (key value : List ℕ) → AreApart places → IsIn (key, value) (rows_at places)
+pub listed_row : (places : List (Option Slot)) (key value : List ℕ) → AreApart places
+    → IsIn (key, value) (rows_at places)
     → row_at places key ≡ Some value
 listed_row [] key value apart inside = absurd inside
 listed_row (None ∷ places) key value apart inside = listed_row places key value apart inside
@@ -150,7 +159,8 @@ listed_row (Some slot ∷ places) key value apart inside = by slot.row refl insi
     later : (b : Bool) → same_key slot.key key ≡ b → IsIn (key, value) (rows_at places) → row_at places key ≡ Some value
         → (if b then slot.row else row_at places key) ≡ Some value
     later true at there rest =
-        absurd (false≢true (sym apart.0 ∙ ap (has_place places) (same slot.key key at) ∙ listed_has places (key, value) there))
+        absurd (false≢true (sym apart.0 ∙ ap (has_place places) (same slot.key key at)
+        ∙ listed_has places (key, value) there))
     later false at there rest = rest
 
     by : (row : Option (List ℕ)) → slot.row ≡ row → IsIn (key, value) (row_with slot.key row ++ rows_at places)
@@ -158,6 +168,8 @@ listed_row (Some slot ∷ places) key value apart inside = by slot.row refl insi
         → (if same_key slot.key key then slot.row else row_at places key) ≡ Some value
     by None is there rest = later (same_key slot.key key) refl there (rest there)
     by (Some w) is (inl this) rest =
-        let at : same_key slot.key key ≡ true = ap (same_key slot.key) (ap (λ (x : KeyedRow). x.0) this) ∙ same_key-self slot.key in
-        ap (λ b. if b then slot.row else row_at places key) at ∙ is ∙ ap (λ v. Some v) (sym (ap (λ (x : KeyedRow). x.1) this))
+        let at : same_key slot.key key ≡ true = ap (same_key slot.key) (ap (λ (x : KeyedRow). x.0) this)
+            ∙ same_key-self slot.key in
+        ap (λ b. if b then slot.row else row_at places key) at ∙ is
+        ∙ ap (λ v. Some v) (sym (ap (λ (x : KeyedRow). x.1) this))
     by (Some w) is (inr there) rest = later (same_key slot.key key) refl there (rest there)

@@ -55,7 +55,8 @@ begin_asks_none s name false = refl
 tc_sends_none : (s : TcState) (body : Body) → are_of is_no_ask (tc_table s body).effects.sends ≡ true
 unfolding begin_row
 tc_sends_none s (Client (TcBeginReq name)) = begin_asks_none s name (is_full s)
-tc_sends_none s body = of_kind (is_tc_kind (tx_in body)) is_no_ask (tc_asks_none (tx_in body)) (tc_table s body).effects.sends
+tc_sends_none s body =
+    of_kind (is_tc_kind (tx_in body)) is_no_ask (tc_asks_none (tx_in body)) (tc_table s body).effects.sends
     (tc_kinds s body refl)
 
 host_asks_none : (g : host.Host) (x : Signal) → has_api g ≡ false → are_of is_no_ask (row g x).effects.sends ≡ true
@@ -74,7 +75,8 @@ pub none_asked : (start : Start) (test : Place → Body → Bool)
     → sent_since start test (suc h) newer log ≡ 0
 none_asked start test fails h [] log = refl
 none_asked start test fails h (e ∷ newer) log =
-    let here = host_asks_none (after start (suc h) (newer ++ log)) e.step.taken (node_runs_none start h (newer ++ log)) in
+    let here = host_asks_none (after start (suc h) (newer ++ log)) e.step.taken
+        (node_runs_none start h (newer ++ log)) in
     omega (
       arith,
       none_asked start test fails h newer log,

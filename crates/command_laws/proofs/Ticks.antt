@@ -57,7 +57,8 @@ use Rattle.command_laws.specs.Ticked.{IsTicked, is_lqh, is_round, is_round_to, i
 
 -- a list of signals that are told to members
 told_append : (test : Place → Body → Bool) (what : News) (xs ys : List Member)
-    → sends_of test (telling_all what (xs ++ ys)) ≡ sends_of test (telling_all what xs) + sends_of test (telling_all what ys)
+    → sends_of test (telling_all what (xs ++ ys))
+    ≡ sends_of test (telling_all what xs) + sends_of test (telling_all what ys)
 told_append test what [] ys = omega arith
 told_append test what (x ∷ xs) ys = omega (arith, told_append test what xs ys)
 
@@ -73,7 +74,8 @@ no_news : (tx : TxId) (xs : List Member) → sends_of is_round_to (telling_all (
 no_news tx [] = refl
 no_news tx (x ∷ xs) = omega (arith, no_news tx xs)
 
-no_round : (s : ApiState) (body : Body) → is_request body ≡ false → sends_of is_round_to (api_table s body).effects.sends ≡ 0
+no_round : (s : ApiState) (body : Body) → is_request body ≡ false
+    → sends_of is_round_to (api_table s body).effects.sends ≡ 0
 no_round s body = signal_turns s body (λ step. sends_of is_round_to step.effects.sends ≡ 0) (record {
   begins_named = λ name tx at f called is e. refl;
   begins_alone = λ name tx at f op is e d. refl;
@@ -112,7 +114,8 @@ adds_none s step more is none =
 no_tick : (s : ApiState) (body : Body) (step : Step ApiState) → ApiChange s body step → TicksNone s step
 no_tick s body step (rests is adds kind) = adds_none s step adds.more adds.is (none_ticked adds.more adds.rows)
 no_tick s body step (waits tx ahead one about is replies sends) = ap (filter is_ticked) replies
-no_tick s body step (answers tx answer name one about passes does named is replies sends) = adds_none s step _ replies refl
+no_tick s body step (answers tx answer name one about passes does named is replies sends) =
+    adds_none s step _ replies refl
 no_tick s body step (commits tx answer one about passes does named is replies sends) = adds_none s step _ replies refl
 no_tick s body step (ends tx end one about passes is replies marks sends) = adds_none s step _ replies refl
 no_tick s body step (starts name tx one u about passes is (told called named same replies sends)) =
@@ -124,7 +127,8 @@ no_tick s body step (refuses name one about passes is replies sends) = adds_none
 
 module _ (start : Start) where
   -- the shell's host sends no round at what isn't a request
-  no_round_later : (r : ℕ) (later log : List HostStep) → Each (λ (e : HostStep). is_request e.step.taken.body ≡ false) later
+  no_round_later : (r : ℕ) (later log : List HostStep)
+      → Each (λ (e : HostStep). is_request e.step.taken.body ≡ false) later
       → sent_since_to start is_round_to 0 r later log ≡ 0
   no_round_later r [] log plain = refl
   no_round_later r (e ∷ later) log plain =
@@ -136,7 +140,8 @@ module _ (start : Start) where
       )
     where
       here : sends_of is_round_to (step_after start 0 (later ++ log) e).effects.sends ≡ 0
-      here = api_host (λ (step : Step ApiState). sends_of is_round_to step.effects.sends ≡ 0) (after start 0 (later ++ log))
+      here = api_host (λ (step : Step ApiState). sends_of is_round_to step.effects.sends ≡ 0)
+          (after start 0 (later ++ log))
           e.step.taken (api_runs start (later ++ log))
           (λ at. no_round (api_of (after start 0 (later ++ log))) e.step.taken.body plain.0) (λ off. refl)
 
@@ -160,7 +165,8 @@ module _ (start : Start) where
     abbrev for_node : Place → Body → Bool
     for_node = to_host start (rows_host start node) is_round_to
 
-    at_other : (k : ℕ) → suc k ≤ start.shape.nodes → k + 1 ≢ node → sends_of for_node (telling_all news.Round (first_start (k + 1) ∷ [])) ≡ 0
+    at_other : (k : ℕ) → suc k ≤ start.shape.nodes → k + 1 ≢ node
+        → sends_of for_node (telling_all news.Round (first_start (k + 1) ∷ [])) ≡ 0
     at_other k few apart = ap (λ b. one_if (b && true) + 0)
         (ne_eqb (rows_host start (k + 1)) (rows_host start node)
         (λ same. apart (rows_host_apart start (k + 1) node (omega arith) (omega (arith, few)) some low same)))
@@ -206,7 +212,8 @@ module _ (start : Start) where
     sent_all =
         ap (λ (xs : List Member). sends_of for_node (telling_all news.Round (members start.shape.nodes ++ xs)))
         (take_none (12 - length (members start.shape.nodes)))
-        ∙ ap (λ (xs : List Member). sends_of for_node (telling_all news.Round xs)) (append-nil (members start.shape.nodes))
+        ∙ ap (λ (xs : List Member). sends_of for_node (telling_all news.Round xs))
+        (append-nil (members start.shape.nodes))
         ∙ one_for start.shape.nodes low (omega arith)
 
 plain_round : (to : Place) (body : Body) → is_round_to to body ≡ true → is_request body ≡ false
@@ -243,7 +250,8 @@ module _ (start : Start) (was now : ℕ → List HostStep) (round of : ℕ)
   first_is = first_step start was now (Tick round of) f
 
   -- what is replied at the request
-  first_replies : replies_of (after start 0 (f.first ∷ was 0)) ≡ replies_of (after start 0 (was 0)) ++ ticked_at of (round == of)
+  first_replies : replies_of (after start 0 (f.first ∷ was 0)) ≡ replies_of (after start 0 (was 0))
+      ++ ticked_at of (round == of)
   unfolding tick_row
   first_replies =
       replies_are (after start 0 (f.first ∷ was 0)) ∙ ap (λ (step : Step ApiState). step.state.replies) first_is
@@ -272,9 +280,12 @@ module _ (start : Start) (was now : ℕ → List HostStep) (round of : ℕ)
   told_once =
       ap (filter is_ticked) since_is
       ∙ cancel (filter is_ticked (replies_of (after start 0 (was 0)))) _ _
-      (sym (filter-append is_ticked (replies_of (after start 0 (was 0))) before_all.more) ∙ ap (filter is_ticked) (sym before_all.is)
-      ∙ ap (λ log. filter is_ticked (replies_of (after start 0 log))) f.is ∙ no_tick_later start f.later (f.first ∷ was 0) f.plain
-      ∙ ap (filter is_ticked) first_replies ∙ filter-append is_ticked (replies_of (after start 0 (was 0))) (ticked_at of (round == of))
+      (sym (filter-append is_ticked (replies_of (after start 0 (was 0))) before_all.more)
+      ∙ ap (filter is_ticked) (sym before_all.is)
+      ∙ ap (λ log. filter is_ticked (replies_of (after start 0 log))) f.is
+      ∙ no_tick_later start f.later (f.first ∷ was 0) f.plain
+      ∙ ap (filter is_ticked) first_replies
+      ∙ filter-append is_ticked (replies_of (after start 0 (was 0))) (ticked_at of (round == of))
       ∙ ap (λ xs. filter is_ticked (replies_of (after start 0 (was 0))) ++ xs) (ticked_self (round == of)))
 
   module _ (node : ℕ) (some : 1 ≤ node) (low : node ≤ start.shape.nodes) where
@@ -288,7 +299,8 @@ module _ (start : Start) (was now : ℕ → List HostStep) (round of : ℕ)
     unfolding tick_row
     first_sends =
         ap (λ (step : Step ApiState). sends_of (to_host start r is_round_to) step.effects.sends) first_is
-        ∙ ap (λ (v : View). sends_of (to_host start r is_round_to) (telling_all news.Round (everyone v))) (shell_view start (was 0))
+        ∙ ap (λ (v : View). sends_of (to_host start r is_round_to) (telling_all news.Round (everyone v)))
+        (shell_view start (was 0))
         ∙ sent_all start node some low
 
     sent_one : sent_since_to start is_round_to 0 r (cut 0).newer (was 0) ≡ 1
