@@ -10,7 +10,7 @@ pub returns-clause-ok : goal.returns-clause-ok
 returns-clause-ok c =
     let stamps = c.args.self.now.stamps.items in
     let there = first_there (whole_of c.args.self.now) c.requires in
-    asked_ok c.handle.result (whole_of c.args.self.now) (whole_of c.handle.new.self) (arriving 0 c.in_ok-new.field-0) c.args.request
-    (ap (arriving 0) (c.in_ok-new.ensures ∙ c.in_ok-signal.ensures
+    asked_ok c.handle.result (whole_of c.args.self.now) (whole_of c.handle.new.self) (arriving 0 c.in_ok-signal.signal) c.args.request
+    (ap (arriving 0) (c.in_ok-signal.ensures
     ∙ ap (λ n. request_signal c.args.self.now.who n c.args.request) (c.index.ensures ∙ get_or_default_zero stamps 0 c.index.result.now there.stamps)))
     c.handle.ensures.ok
