@@ -66,7 +66,7 @@ all_true true false c p q r = cc
 all_true false b c p q r = cc
 
 -- the members of the first view are the nodes from 1 on
-within : (n node : ℕ) → list_any (is_at node) (members n) ≡ true → (1 ≤ node) × (node ≤ n)
+pub within : (n node : ℕ) → list_any (is_at node) (members n) ≡ true → (1 ≤ node) × (node ≤ n)
 within zero node e = cc
 within (suc n) node e = go (list_any (is_at node) (members n)) (n + 1 == node) refl refl (within n node) (list_any-append (is_at node) (members n) (record { node = n + 1; start = 0 } ∷ []))
   where

@@ -3,10 +3,15 @@ pub mod AbortFirst
 pub mod AbortSteps
 pub mod AbortTurns
 pub mod ApiChanges
+pub mod BeginRows
+pub mod Begins
 pub mod BlockSteps
+pub mod BlocksTake
 pub mod ComesTo
 pub mod CommitFirst
 pub mod Committed
+pub mod DumpState
+pub mod Dumps
 pub mod EarlyNodes
 pub mod EarlyRun
 pub mod EarlySteps
@@ -18,11 +23,13 @@ pub mod Firm
 pub mod FirmAtQuiet
 pub mod FirmHosts
 pub mod First
+pub mod GatheredRows
 pub mod HeldUp
 pub mod HoldersTold
 pub mod Homes
 pub mod HostKinds
 pub mod HostSends
+pub mod LastOne
 pub mod LivingReplies
 pub mod LivingRows
 pub mod LivingTurns
@@ -32,8 +39,11 @@ pub mod LoneBegins
 pub mod LoneCommitted
 pub mod LoneWishes
 pub mod LqhFair
+pub mod NoDump
+pub mod OneAtATime
 pub mod OperateAsks
 pub mod OperationAnswered
+pub mod PlacedRows
 pub mod Places
 pub mod Pushes
 pub mod QuietCuts
@@ -41,6 +51,7 @@ pub mod ReadyAtQuiet
 pub mod RepliesLive
 pub mod Reported
 pub mod RequestsAnswered
+pub mod RowAsks
 pub mod SampleServed
 pub mod ServedBetween
 pub mod Since
@@ -48,6 +59,7 @@ pub mod TcPath
 pub mod TellsOnce
 pub mod TellsSince
 pub mod Tests
+pub mod Ticks
 pub mod Told
 pub mod TurnTells
 pub mod TurnedDown

@@ -67,7 +67,7 @@ module _ (start : Start) (newer : List HostStep) (step : HostStep) (older log : 
   }
 
 -- the API's view stays the first
-shell_view : (start : Start) (log : List HostStep) → (api_of (after start 0 log)).view ≡ first_view start.shape.nodes
+pub shell_view : (start : Start) (log : List HostStep) → (api_of (after start 0 log)).view ≡ first_view start.shape.nodes
 shell_view start log = let s = shell_after start log in ap (λ g. (api_of g).view) s.is ∙ s.view
 
 module _ (answered : EachIsAnswered) (start : Start) (was now : ℕ → List HostStep) (op : Op) (served : IsServedBetween start was now (Operate None op)) where

@@ -1,6 +1,7 @@
 -- Each request is answered.
 use Rattle.std.proofs.Common.{◌⊎◌, ℕ, List, inl, inr}
 use Rattle.std.specs.Prelude.{None, Some}
+use Rattle.run_theory.proofs.Pasts.{past_trans}
 use Rattle.sig_core.specs.declared.op.Op.{Op}
 use Rattle.sig_core.specs.declared.request.ApiReq.{ApiReq}
 use Rattle.sig_core.specs.declared.request.ApiReq.TheVariants as request
@@ -8,14 +9,18 @@ use Rattle.world_core.specs.Start.{Start}
 use Rattle.world_core.specs.Steps.{HostStep}
 use Rattle.answer_laws.proofs.Answers.{each_answered}
 use Rattle.command_laws.proofs.AbortAnswered.{aborts_answered}
+use Rattle.command_laws.proofs.Begins.{begin_comes_to}
 use Rattle.command_laws.proofs.ComesTo.{commits_come_to, operations_come_to}
 use Rattle.command_laws.proofs.Committed.{commits_committed}
+use Rattle.command_laws.proofs.Dumps.{digest_comes_to, rows_come_to}
 use Rattle.command_laws.proofs.HeldUp.{each_held_up}
 use Rattle.command_laws.proofs.HoldersTold.{holders_told}
 use Rattle.command_laws.proofs.LoneAnswered.{lone_answered}
 use Rattle.command_laws.proofs.LoneCommitted.{lone_committed}
+use Rattle.command_laws.proofs.NoDump.{IsIdle, none_under_way}
 use Rattle.command_laws.proofs.OperationAnswered.{operations_answered}
 use Rattle.command_laws.proofs.ServedBetween.{requests_served}
+use Rattle.command_laws.proofs.Ticks.{ticks}
 use Rattle.command_laws.proofs.TurnedDown.{refused_where_due}
 use Rattle.command_laws.specs.Alone.{IsRefusedAlone, IsTurnedAway, WaitsAlone}
 use Rattle.command_laws.specs.Answers.{AnswersRequest, LoneComesTo, RequestsAreAnswered}
@@ -28,24 +33,32 @@ lone_comes_to start was now op served = by (lone_answered each_answered start wa
     by (inl answered) = inl (record { answered = answered; committed = lone_committed each_answered start was now op served answered })
     by (inr other) = inr other
 
-answers_request : (start : Start) (was now : ℕ → List HostStep) (r : ApiReq) → IsServedBetween start was now r → AnswersRequest start was now r
-answers_request start was now (request.Operate (Some name) op) served = (
+answers_request : (start : Start) (was now : ℕ → List HostStep) → IsIdle start was → (r : ApiReq) → IsServedBetween start was now r
+    → AnswersRequest start was now r
+answers_request start was now idle (request.Operate (Some name) op) served = (
   operations_come_to start was now name op served,
   (λ tx t. operations_answered each_answered start was now name op t.takes.item tx served t.takes.named t.takes.ready t.takes.own t.few),
 )
-answers_request start was now (request.Operate None op) served = lone_comes_to start was now op served
-answers_request start was now (request.Commit name) served =
+answers_request start was now idle (request.Operate None op) served = lone_comes_to start was now op served
+answers_request start was now idle (request.Commit name) served =
     (commits_come_to start was now name served, (λ tx t. commits_committed each_answered start was now name t.item tx served t.named t.ready t.own))
-answers_request start was now (request.Abort name) served = λ tx t. aborts_answered each_answered start was now name t.item tx served t.named t.ready t.own
-answers_request start was now request.Pending served = λ first waits left. holders_told each_answered each_held_up start first was now waits served left
-answers_request start was now _ served = tt
+answers_request start was now idle (request.Abort name) served = λ tx t. aborts_answered each_answered start was now name t.item tx served t.named t.ready t.own
+answers_request start was now idle request.Pending served = λ first waits left. holders_told each_answered each_held_up start first was now waits served left
+answers_request start was now idle (request.Begin name at) served = begin_comes_to start was now name at served
+answers_request start was now idle (request.Tick round of) served = ticks start was now round of served
+answers_request start was now idle (request.Rows node) served = rows_come_to start was now idle node served
+answers_request start was now idle (request.Digest node) served = digest_comes_to start was now idle node served
+answers_request start was now idle _ served = tt
 
 pub requests_answered : RequestsAreAnswered
 requests_answered start logs shape right within asked newer e before r at is on =
     let moments = requests_served start logs shape right within asked newer e before r at is on in
     record {
       moments = moments;
-      answers = answers_request start moments.was moments.now r moments.served;
+      answers = answers_request start moments.was moments.now
+          (none_under_way start logs right within asked shape moments.was moments.served.before
+          (λ h. past_trans (moments.served.cut h) (moments.within h)))
+          r moments.served;
       turned_down = refused_where_due start moments.was moments.now r moments.served;
       left = λ t inside. each_answered start moments.now t moments.served.since inside;
     }

@@ -27,6 +27,7 @@ use Rattle.answer_laws.specs.Answered.{AreQuiet}
 use Rattle.command_laws.proofs.First.{fits_asked, no_requests, requests_append}
 use Rattle.command_laws.proofs.QuietCuts.{IsAskedAtFirst, quiet_cut}
 use Rattle.command_laws.specs.Between.{IsAskedAgain, IsServedIn, RequestsAreServed}
+use Rattle.command_laws.specs.Served.{IsServedBetween}
 
 -- what brings a request is a step that a request makes
 asks_it : (body : Body) (request : ApiReq) → request_in body ≡ Some request → is_request body ≡ true
@@ -62,10 +63,10 @@ only_first start =
 
 module _ (start : Start) (logs : ℕ → List HostStep) (right : AreLogs (machine start) logs) (within : IsWithin (hosts start) logs) (at_quiet : AreAskedAtQuiet start logs) where
   -- behind this log of host 0 comes a quiet moment before anything else is asked for
-  record IsDriven (log : List HostStep) : Type 0 where
-    between : List HostStep
-    none : requests between ≡ []
-    ends : QuietBefore start logs (between ++ log)
+  pub record IsDriven (log : List HostStep) : Type 0 where
+    pub between : List HostStep
+    pub none : requests between ≡ []
+    pub ends : QuietBefore start logs (between ++ log)
 
   driven : (newer log : List HostStep) → logs 0 ≡ newer ++ log → IsQuiet (machine start) (hosts start) logs ⊎ IsAskedAgain start newer → IsDriven log
   driven newer log is ends = by (first_asked newer) ends
@@ -87,7 +88,7 @@ module _ (start : Start) (logs : ℕ → List HostStep) (right : AreLogs (machin
           absurd (false≢true (sym rest.0 ∙ again.asked))
 
   module _ (shape : IsShape start.shape) where
-    are_quiet : (log : List HostStep) → (q : QuietBefore start logs log) → AreQuiet start q.inside
+    pub are_quiet : (log : List HostStep) → (q : QuietBefore start logs log) → AreQuiet start q.inside
     are_quiet log q =
         record {
           shape = shape;
@@ -96,15 +97,11 @@ module _ (start : Start) (logs : ℕ → List HostStep) (right : AreLogs (machin
           quiet = q.quiet;
         }
 
-    served_between : (e : HostStep) (before : List HostStep) (request : ApiReq) → request_in e.step.taken.body ≡ Some request → QuietBefore start logs before → IsDriven (e ∷ before) → IsServedIn start logs request before
-    served_between e before request asks begins d =
-        record {
-          was = begins.inside;
-          now = d.ends.inside;
-          served = record { before = are_quiet before begins; since = are_quiet (d.between ++ e ∷ before) d.ends; cut = cut; asked = asked };
-          at = begins.at;
-          within = d.ends.cut;
-        }
+    -- the request is served between the quiet moment before it and the one to which it is driven
+    pub served_is : (e : HostStep) (before : List HostStep) (request : ApiReq) → request_in e.step.taken.body ≡ Some request
+        → (begins : QuietBefore start logs before) (d : IsDriven (e ∷ before)) → IsServedBetween start begins.inside d.ends.inside request
+    served_is e before request asks begins d =
+        record { before = are_quiet before begins; since = are_quiet (d.between ++ e ∷ before) d.ends; cut = cut; asked = asked }
       where
         first : IsPast (begins.inside 0) (d.ends.inside 0)
         first =
@@ -122,6 +119,17 @@ module _ (start : Start) (logs : ℕ → List HostStep) (right : AreLogs (machin
         asked =
             ap requests d.ends.at ∙ requests_append d.between (e ∷ before) ∙ ap (λ rs. requests (e ∷ before) ++ rs) d.none ∙ append-nil (requests (e ∷ before))
             ∙ ap (λ o. requests before ++ option_to_list o) asks ∙ ap (λ w. requests w ++ request ∷ []) (sym begins.at)
+
+    served_between : (e : HostStep) (before : List HostStep) (request : ApiReq) → request_in e.step.taken.body ≡ Some request
+        → QuietBefore start logs before → IsDriven (e ∷ before) → IsServedIn start logs request before
+    served_between e before request asks begins d =
+        record {
+          was = begins.inside;
+          now = d.ends.inside;
+          served = served_is e before request asks begins d;
+          at = begins.at;
+          within = d.ends.cut;
+        }
 
 -- each request that was driven to quiet is served between two quiet moments
 pub requests_served : RequestsAreServed

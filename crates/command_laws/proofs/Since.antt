@@ -42,11 +42,11 @@ module _ (start : Start) (test : Place → Body → Bool) where
   link_sent h j (e ∷ newer) log =
       omega (arith, link_sent h j newer log, sent_signals start test h j e (newer ++ log), few_sends start j test (step_after start h (newer ++ log) e).effects.sends)
 
-  link_sent_to : (h j : ℕ) (newer log : List HostStep) → signals test (sent (machine start) h j (newer ++ log)) ≡ sent_since_to h j newer log + signals test (sent (machine start) h j log)
+  pub link_sent_to : (h j : ℕ) (newer log : List HostStep) → signals test (sent (machine start) h j (newer ++ log)) ≡ sent_since_to h j newer log + signals test (sent (machine start) h j log)
   link_sent_to h j [] log = omega arith
   link_sent_to h j (e ∷ newer) log = omega (arith, link_sent_to h j newer log, sent_signals start test h j e (newer ++ log))
 
-  link_taken : (i : ℕ) (newer log : List HostStep) → signals test (taken (machine start) i (newer ++ log)) ≡ taken_since i newer + signals test (taken (machine start) i log)
+  pub link_taken : (i : ℕ) (newer log : List HostStep) → signals test (taken (machine start) i (newer ++ log)) ≡ taken_since i newer + signals test (taken (machine start) i log)
   link_taken i [] log = omega arith
   link_taken i (e ∷ newer) log = omega (arith, link_taken i newer log, taken_signals start test i e (newer ++ log))
 

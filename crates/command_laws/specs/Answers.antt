@@ -1,10 +1,9 @@
 -- What each request of the shell comes to.
 use Rattle.frag_map.specs.Shape.{IsShape}
-use Rattle.std.specs.Prelude.{◌≡◌, ◌<◌, ◌⊎◌, ℕ, true, List, ◌∷◌, ◌++◌, None, Some}
+use Rattle.std.specs.Prelude.{◌≡◌, ◌<◌, ◌⊎◌, ℕ, true, false, List, ◌∷◌, ◌++◌, None, Some}
 use Rattle.run_theory.specs.Lists.{IsIn}
 use Rattle.run_theory.specs.Runs.{AreLogs, IsWithin}
 use Rattle.api_block.specs.declared.operate.TheConstants.{OPERATIONS}
-use Rattle.api_block.specs.declared.opened.Doing.TheVariants.{Ready}
 use Rattle.api_block.specs.declared.opened.OpenTransaction.{OpenTransaction}
 use Rattle.world_core.specs.Steps.{HostStep}
 use Rattle.sig_core.specs.declared.member.TxId.{TxId}
@@ -23,8 +22,11 @@ use Rattle.world_core.specs.Start.{Start}
 use Rattle.answer_laws.specs.Answered.{IsAnswered}
 use Rattle.host_laws.specs.OpenedAfter.{opened_after}
 use Rattle.command_laws.specs.Alone.{IsRefusedAlone, IsTurnedAway, WaitsAlone}
+use Rattle.command_laws.specs.Begun.{BeginComesTo, TakesCommands}
 use Rattle.command_laws.specs.Between.{IsAskedAgain, IsServedIn}
-use Rattle.command_laws.specs.Served.{IsAnsweredAlone, IsAnsweredAs, IsCommittedAlone, IsRefusedAs, IsServedBetween, IsToldCommitted, IsToldHolder, StillWaits, named_in, replies_since}
+use Rattle.command_laws.specs.Dumped.{DumpComesTo}
+use Rattle.command_laws.specs.Served.{IsAnsweredAlone, IsAnsweredAs, IsCommittedAlone, IsRefusedAs, IsServedBetween, IsToldCommitted, IsToldHolder, StillWaits, replies_since}
+use Rattle.command_laws.specs.Ticked.{IsTicked}
 use Rattle.command_laws.specs.TurnedDown.{IsRefusedWhereDue, IsTurnedDown}
 
 -- its operation waits for a lock
@@ -69,13 +71,6 @@ CommitsComeTo =
     (start : Start) (was now : ℕ → List HostStep) (name : ℕ) → IsServedBetween start was now
     (request.Commit name) → CommitComesTo start was now name
 
--- the transaction of this name takes commands
-pub record TakesCommands (start : Start) (logs : ℕ → List HostStep) (name : ℕ) (tx : TxId) : Type 0 where
-  pub item : OpenTransaction
-  pub named : named_in (opened_after start logs) name ≡ Some item
-  pub ready : item.doing ≡ Ready
-  pub own : item.tx ≡ Some tx
-
 -- and operations, of which it has had fewer than it may
 pub record TakesOperations (start : Start) (logs : ℕ → List HostStep) (name : ℕ) (tx : TxId) : Type 0 where
   pub takes : TakesCommands start logs name tx
@@ -101,6 +96,10 @@ AnswersRequest start was now (request.Abort name) =
 AnswersRequest start was now request.Pending =
     (first : ℕ → List HostStep) → IsServedBetween start first was request.Waits → is_left_open
     (after start 0 (first 0)) ≡ true → IsToldHolder start first was now
+AnswersRequest start was now (request.Begin name at) = BeginComesTo start was now name at
+AnswersRequest start was now (request.Tick round of) = IsTicked start was now round of
+AnswersRequest start was now (request.Rows node) = DumpComesTo start was now (request.Rows node) node false
+AnswersRequest start was now (request.Digest node) = DumpComesTo start was now (request.Digest node) node true
 AnswersRequest start was now request = Unit {0}
 
 -- The request that comes after `before` in the log of the shell's host is served between two quiet moments of these logs and

@@ -1,8 +1,11 @@
 pub mod Aborts
 pub mod Alone
 pub mod Answers
+pub mod Begun
 pub mod Between
+pub mod Dumped
 pub mod Living
 pub mod Sample
 pub mod Served
+pub mod Ticked
 pub mod TurnedDown
