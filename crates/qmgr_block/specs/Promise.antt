@@ -3,6 +3,7 @@ use Rattle.std.specs.Prelude.{ℕ, ◌+◌, ◌-◌, ◌%◌, ◌==◌, ◌&&◌
 use Rattle.sig_core.specs.declared.mark.Mark.TheVariants.{Promised}
 use Rattle.sig_core.specs.declared.member.Member.{Member}
 use Rattle.sig_core.specs.declared.outs.Outgoing.{Outgoing}
+use Rattle.sig_core.specs.declared.place.Place.{Place}
 use Rattle.sig_core.specs.declared.signal.Body.TheVariants.{Membership}
 use Rattle.sig_core.specs.declared.signal.membership.MembershipSignal.TheVariants.{FenceReq, PrepFailConf, PrepFailRef}
 use Rattle.sig_core.specs.declared.view.View.{View}
@@ -38,13 +39,13 @@ unfoldable pub promising : Known → View → Known
 promising k set =
     with_closed (record k { promised = set; seen = all_noted k.seen (members_of set) })
 
+-- a block is told to raise its fence
+abbrev pub fence_of : Place → View → Outgoing
+fence_of to set = to_place to (Membership (FenceReq set))
+
 -- the blocks of the node that are fenced
 abbrev pub fences : ℕ → View → List Outgoing
-fences node set =
-    to_place (coordinator node) (Membership (FenceReq set))
-    ∷ to_place (epochs node) (Membership (FenceReq set))
-    ∷ to_place (rows_of node) (Membership (FenceReq set))
-    ∷ []
+fences node set = fence_of (coordinator node) set ∷ fence_of (epochs node) set ∷ fence_of (rows_of node) set ∷ []
 
 -- a promise that waits for the two blocks of the part tc, and for the one of the part ldm
 abbrev pub waiting_promise : View → ℕ → Promise

@@ -1,5 +1,5 @@
 -- Sets of members, and views made of others. A set stands as a list, in order of age.
-use Rattle.std.specs.Prelude.{if◌then◌else◌, ℕ, ◌&&◌, Bool, true, nat_eq, not, List, [], ◌∷◌, ◌++◌, filter, take}
+use Rattle.std.specs.Prelude.{ℕ, ◌&&◌, ◌||◌, Bool, nat_eq, not, List, [], ◌∷◌, ◌++◌, filter, take}
 use Rattle.std.specs.Cmp.Lexicographic.{pointwise}
 use Rattle.std.specs.List.{list_all, list_any}
 use Rattle.sig_core.specs.declared.member.Member.{Member}
@@ -68,6 +68,14 @@ abbrev pub promotes : View → View → Member → Bool
 promotes view set member =
     is_among view.starting member && are_same_parts set (promoted_view view set.number member)
 
+-- the set is a join of the view
+unfoldable pub is_join : View → View → Bool
+is_join view set = list_any (joins view set) set.starting
+
+-- it is a promotion
+unfoldable pub is_promotion : View → View → Bool
+is_promotion view set = list_any (promotes view set) set.full
+
 -- the set is a join or a promotion of the view
 unfoldable pub is_special : View → View → Bool
-is_special view set = if list_any (joins view set) set.starting then true else list_any (promotes view set) set.full
+is_special view set = is_join view set || is_promotion view set

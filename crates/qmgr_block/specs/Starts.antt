@@ -1,7 +1,8 @@
 -- Starts of nodes, of which the latest is remembered for each node.
-use Rattle.std.specs.Prelude.{ℕ, ◌+◌, ◌&&◌, Bool, true, false, if◌then◌else◌, nat_lt, List, [], ◌∷◌, slice_index_or, slice_set}
+use Rattle.std.specs.Prelude.{ℕ, ◌+◌, ◌&&◌, Bool, if◌then◌else◌, nat_lt, not, List, [], ◌∷◌, slice_index_or, slice_set}
 use Rattle.sig_core.specs.declared.member.Member.{Member}
 use Rattle.qmgr_block.specs.declared.starts.Starts.{Starts}
+use Rattle.qmgr_block.specs.declared.starts.TheConstants.{NODES}
 
 -- no start of any node
 abbrev pub no_starts : Starts
@@ -14,9 +15,9 @@ covers starts member = nat_lt member.start (slice_index_or starts.ends member.no
 -- the member's start is among them from now on, and with it the earlier ones of its node
 unfoldable pub noted : Starts → Member → Starts
 noted starts member =
-    if covers starts member
-    then starts
-    else record { ends = slice_set starts.ends member.node (member.start + 1) }
+    if nat_lt member.node NODES && not (covers starts member)
+    then record { ends = slice_set starts.ends member.node (member.start + 1) }
+    else starts
 
 -- the starts of all these members are
 unfoldable pub all_noted : Starts → List Member → Starts

@@ -1,10 +1,9 @@
 -- Suspects, and who is told of them.
-use Rattle.std.specs.Prelude.{◌==◌, ◌&&◌, ◌||◌, Bool, true, false, if◌then◌else◌, nat_lt, not, List, [], ◌∷◌, filter, length, Option, None, Some}
+use Rattle.std.specs.Prelude.{ℕ, ◌==◌, ◌&&◌, ◌||◌, Bool, true, false, if◌then◌else◌, nat_lt, not, List, [], ◌∷◌, filter, length, Option, None, Some, position, slice_get}
 use Rattle.sig_core.specs.declared.member.Member.{Member}
 use Rattle.sig_core.specs.declared.signal.Body.TheVariants.{Membership}
 use Rattle.sig_core.specs.declared.signal.membership.MembershipSignal.TheVariants.{FailRep}
 use Rattle.sig_core.specs.declared.view.View.{View}
-use Rattle.sig_core.specs.Firsts.{first}
 use Rattle.sig_core.specs.Place.{membership}
 use Rattle.sig_core.specs.Step.{Step, sending, stay}
 use Rattle.qmgr_block.specs.declared.known.Known.{Known}
@@ -45,9 +44,18 @@ with_closed k =
 abbrev pub has_more : Known → Known → Bool
 has_more before k = nat_lt (length before.suspects) (length k.suspects)
 
+-- the member isn't suspected
+abbrev pub is_trusted : List Member → Member → Bool
+is_trusted suspects member = not (is_among suspects member)
+
+-- the member at a place
+abbrev pub member_at : List Member → Option ℕ → Option Member
+member_at members None = None
+member_at members (Some at) = slice_get members at
+
 -- the oldest full member that isn't suspected: whom the node takes for the president
 unfoldable pub president : Known → Option Member
-president k = first (λ member. not (is_among k.suspects member)) k.layout.view.full
+president k = member_at k.layout.view.full (position (is_trusted k.suspects) k.layout.view.full)
 
 -- the node takes itself for the president
 abbrev pub presides_by : Member → Option Member → Bool

@@ -4,7 +4,7 @@ ghost use Rattle.sig_core.specs.declared.signal.host.Work.TheVariants.{Members};
 ghost use Rattle.sig_core.specs.Place.{membership};
 ghost use Rattle.sig_core.specs.Portion.{all_offered, portion_effects, so_far};
 ghost use Rattle.sig_core.specs.Step.{HasRoom, IsTaken, joined};
-ghost use Rattle.qmgr_block.specs.Install.{commit_of, copy_of, installed_row, installing, is_oldest, is_of_view, is_some_suspect, left_of, left_open, order_row, orders, own_orders, work_if};
+ghost use Rattle.qmgr_block.specs.Install.{commit_of, copy_of, copying, installed_row, installing, is_oldest, is_of_view, is_some_suspect, left_of, left_open, order_row, orders, own_orders, work_if};
 
 use crate::known::{Known, Proposal};
 use crate::sets::{is_in, is_same, members_of, within};
@@ -70,6 +70,7 @@ impl Known {
         requires { length out.old.sends + 1 ≤ 16 }
         ensures taken { IsTaken (installed_row self.old view.now) self.new out.old out.new }
         ensures few { length out.new.sends ≤ length out.old.sends + 1 }
+        ensures unmarked { out.new.marks ≡ out.old.marks }
     {
         self.enter(view);
         let me = membership(self.me.node);
@@ -173,11 +174,17 @@ fn offer_copies(node: u8, starting: &Members, portion: &mut Portion, out: &mut O
     ensures fits { length out.new.sends + portion.new.room ≤ 15 }
 {
     for member in starting.as_slice() {
-        let to = Place {
-            node,
-            block: BlockId::Copy,
-        };
         let body = Body::Joining(JoiningSignal::CopyOrd { member: *member });
-        portion.offer(to, body, out);
+        portion.offer(copying(node), body, out);
+    }
+}
+
+// The copying of a node.
+fn copying(node: u8) -> Place
+    ensures { result ≡ copying node }
+{
+    Place {
+        node,
+        block: BlockId::Copy,
     }
 }

@@ -1,12 +1,12 @@
 //! Promises: a node promises one set for each number, and its fences are up before it says so.
-ghost use Rattle.std.specs.Prelude.{◌≡◌, ◌≤◌, IfOk, length, [], ◌∷◌};
-ghost use Rattle.qmgr_block.specs.Promise.{fences, is_fenced, is_ldm, less, may_promise, promising, refusal_of, waiting_promise, waits_for, with_absent};
+ghost use Rattle.std.specs.Prelude.{◌≡◌, ◌≤◌, ◌<◌, IfOk, IfSome, length, position, [], ◌∷◌};
+ghost use Rattle.qmgr_block.specs.Promise.{fence_of, fences, is_fenced, is_ldm, less, may_promise, promising, refusal_of, waiting_promise, waits_for, with_absent};
 
 use crate::known::Known;
 use crate::sends::one_signal;
 use crate::sets::{is_part, is_special, members_of, without};
 use sig_core::{
-    Body, Held, HostId, MembershipSignal, NoMemory, Outgoing, View, coordinator, epochs,
+    Body, Held, HostId, MembershipSignal, NoMemory, Outgoing, Place, View, coordinator, epochs,
     membership, rows_of,
 };
 use std::alloc::Global;
@@ -84,13 +84,28 @@ pub fn fences(alloc: Global, node: u8, set: &Held<View>) -> Result<Vec<Outgoing>
     ensures value { IfOk result (λ sends. sends.items ≡ fences node set.now) }
     ensures few { IfOk result (λ sends. length sends.items ≤ 3) }
 {
-    let mut sends = Vec::with_capacity(alloc, 3)?;
-    for to in [coordinator(node), epochs(node), rows_of(node)] {
-        let proposal = set.share()?;
-        let body = Body::Membership(MembershipSignal::FenceReq { proposal });
-        sends.push(Outgoing { to, body })?;
-    }
+    let tc = fence(coordinator(node), set)?;
+    let dih = fence(epochs(node), set)?;
+    let lqh = fence(rows_of(node), set)?;
+    let sends = Vec::from_array(alloc, [tc, dih, lqh])?;
     Ok(sends)
+}
+
+// A block is told to raise its fence.
+fn fence(to: Place, set: &Held<View>) -> Result<Outgoing, NoMemory>
+    ensures { IfOk result (λ send. send ≡ fence_of to set.now) }
+{
+    let proposal = set.share()?;
+    let body = Body::Membership(MembershipSignal::FenceReq { proposal });
+    Ok(Outgoing { to, body })
+}
+
+/// Where the first promise stands that waits for a block of that part.
+pub fn first_waiting(promises: &[Promise], ldm: bool) -> Option<usize>
+    ensures value { result ≡ position (waits_for ldm) promises.now }
+    ensures inside { IfSome result (λ at. at < length promises.now) }
+{
+    promises.iter().position(|promise| promise.waits_for(ldm))
 }
 
 impl Known {

@@ -1,14 +1,14 @@
 //! The membership of a node.
-ghost use Rattle.std.specs.Prelude.{◌≡◌, ◌≤◌, ◌+◌, IfOk, OnOk, OnErr, length};
+ghost use Rattle.std.specs.Prelude.{◌≡◌, ◌<◌, ◌≤◌, IfOk, OnOk, OnErr, length, slice_get};
 ghost use Rattle.sig_core.specs.Step.{HasRoom, IsTaken, IsUntouched};
-ghost use Rattle.qmgr_block.specs.Promise.{fence_row, promise_row};
+ghost use Rattle.qmgr_block.specs.Promise.{confirmed_at, fence_row, promise_by, promise_row};
 ghost use Rattle.qmgr_block.specs.Decide.{unpromised_row};
 ghost use Rattle.qmgr_block.specs.Qmgr.{host_table, joining_table, membership_table, qmgr_installed, qmgr_row};
 ghost use Rattle.qmgr_block.specs.Install.{work_row};
 ghost use Rattle.qmgr_block.specs.State.{beside, fresh_qmgr, sending_all};
 
 use crate::known::Known;
-use crate::promise::{Promise, fences, is_ldm};
+use crate::promise::{Promise, fences, first_waiting, is_ldm};
 use crate::sends::{send_all, send_stops};
 use crate::sets::is_in;
 use frag_map::Layout;
@@ -73,22 +73,51 @@ impl Qmgr {
         ensures ok { OnOk result (IsTaken (promise_row self.old to set.now) self.new out.old out.new) }
         ensures err { OnErr result (IsUntouched self.old self.new out.old out.new) }
     {
-        let allowed = self.known.may_promise(set.get());
+        if self.known.may_promise(set.get()) {
+            self.allow(alloc, to, set, out)
+        } else {
+            self.refuse(alloc, to, set.get(), out)
+        }
+    }
+
+    // Promises a set, and has the blocks of the node fenced before it says so.
+    fn allow(
+        &mut self,
+        alloc: Global,
+        to: u8,
+        set: &Held<View>,
+        out: &mut Outs,
+    ) -> Result<(), NoMemory>
+        requires { HasRoom out.old }
+        ensures ok { OnOk result (IsTaken (promise_by self.old to set.now true) self.new out.old out.new) }
+        ensures err { OnErr result (IsUntouched self.old self.new out.old out.new) }
+    {
+        let mut sends = fences(alloc, self.known.me.node, set)?;
         let mut next = self.known;
         let before = next.count();
         next.suspect_absent(set.get());
-        let mut sends = if allowed {
-            next.promise(set.get());
-            fences(alloc, next.me.node, set)?
-        } else {
-            next.refuse(alloc, to)?
-        };
+        next.promise(set.get());
         let changed = before < next.count();
         let mut told = next.tell_if(alloc, changed)?;
         sends.append(&mut told)?;
-        if allowed {
-            self.promises.push(Promise::new(set.get(), to))?;
-        }
+        self.promises.push(Promise::new(set.get(), to))?;
+        self.settle(&next, sends, out);
+        Ok(())
+    }
+
+    // Refuses to promise a set, and names the last promise.
+    fn refuse(&mut self, alloc: Global, to: u8, set: &View, out: &mut Outs) -> Result<(), NoMemory>
+        requires { HasRoom out.old }
+        ensures ok { OnOk result (IsTaken (promise_by self.old to set.now false) self.new out.old out.new) }
+        ensures err { OnErr result (IsUntouched self.old self.new out.old out.new) }
+    {
+        let mut sends = self.known.refuse(alloc, to)?;
+        let mut next = self.known;
+        let before = next.count();
+        next.suspect_absent(set);
+        let changed = before < next.count();
+        let mut told = next.tell_if(alloc, changed)?;
+        sends.append(&mut told)?;
         self.settle(&next, sends, out);
         Ok(())
     }
@@ -100,9 +129,17 @@ impl Qmgr {
         ensures { IsTaken (fence_row self.old host.0) self.new out.old out.new }
     {
         let ldm = is_ldm(host);
-        let Some(at) = self.promises.iter().position(|p| p.waits_for(ldm)) else {
-            return;
-        };
+        if let Some(at) = first_waiting(self.promises.as_slice(), ldm) {
+            self.fence_at(at, ldm, out);
+        }
+    }
+
+    // A block of that part has raised its fence for the promise at a place.
+    fn fence_at(&mut self, at: usize, ldm: bool, out: &mut Outs)
+        requires room { HasRoom out.old }
+        requires inside { at < length self.old.promises }
+        ensures { IsTaken (confirmed_at self.old ldm at (slice_get self.old.promises at)) self.new out.old out.new }
+    {
         let promise = self.promises[at].less(ldm);
         if promise.is_fenced() {
             self.promises.remove(at);

@@ -17,8 +17,7 @@ use std::alloc::Global;
 pub fn one_signal(alloc: Global, outgoing: Outgoing) -> Result<Vec<Outgoing>, NoMemory>
     ensures { IfOk result (λ sends. sends.items ≡ outgoing ∷ []) }
 {
-    let mut sends = Vec::with_capacity(alloc, 1)?;
-    sends.push_reserved(outgoing);
+    let sends = Vec::from_array(alloc, [outgoing])?;
     Ok(sends)
 }
 

@@ -1,6 +1,6 @@
 //! Sets of members, and views made of others.
-ghost use Rattle.std.specs.Prelude.{◌≡◌};
-ghost use Rattle.qmgr_block.specs.Sets.{are_same_parts, is_among, is_in, is_part, is_same_set, is_special, joined_view, joins, lie_in, members_of, promoted_view, promotes, same_member, with_member, within, without};
+ghost use Rattle.std.specs.Prelude.{◌≡◌, ◌≤◌, ◌++◌, length, take};
+ghost use Rattle.qmgr_block.specs.Sets.{are_same_parts, is_among, is_in, is_join, is_part, is_promotion, is_same_set, is_special, joined_view, joins, lie_in, members_of, promoted_view, promotes, same_member, with_member, within, without};
 
 use sig_core::{MEMBERS, Member, Members, View};
 
@@ -62,11 +62,22 @@ pub fn add(members: &mut Members, member: Member)
 pub fn members_of(view: &View) -> Members
     ensures { result ≡ members_of view.now }
 {
-    let mut members = view.full;
-    for member in view.starting.as_slice() {
-        add(&mut members, *member);
-    }
+    let mut members = Members::new();
+    add_all(&mut members, &view.full);
+    add_all(&mut members, &view.starting);
     members
+}
+
+// Adds members behind the others, as long as there is room.
+#[tactic(auto, using(crate::proofs::SetLemmas::fronts))]
+fn add_all(members: &mut Members, others: &Members)
+    requires { length members.old ≤ 8 }
+    ensures value { members.new ≡ take 8 (members.old ++ others.now) }
+    ensures few { length members.new ≤ 8 }
+{
+    for member in others.as_slice() {
+        add(members, *member);
+    }
 }
 
 /// Whether the member is of the view.
@@ -157,8 +168,23 @@ fn promotes(view: &View, set: &View, member: &Member) -> bool
 pub fn is_special(view: &View, set: &View) -> bool
     ensures { result ≡ is_special view.now set.now }
 {
+    is_join(view, set) || is_promotion(view, set)
+}
+
+// Whether the set is the view with one member joined.
+#[tactic(auto, unfolding(crate::specs::Sets::is_join))]
+fn is_join(view: &View, set: &View) -> bool
+    ensures { result ≡ is_join view.now set.now }
+{
     let starting = set.starting.as_slice();
-    let full = set.full.as_slice();
     starting.iter().any(|member| joins(view, set, member))
-        || full.iter().any(|member| promotes(view, set, member))
+}
+
+// Whether the set is the view with one member promoted.
+#[tactic(auto, unfolding(crate::specs::Sets::is_promotion))]
+fn is_promotion(view: &View, set: &View) -> bool
+    ensures { result ≡ is_promotion view.now set.now }
+{
+    let full = set.full.as_slice();
+    full.iter().any(|member| promotes(view, set, member))
 }

@@ -4,12 +4,15 @@ ghost use Rattle.qmgr_block.specs.Starts.{all_noted, covers, no_starts, noted};
 
 use sig_core::Member;
 
+/// How many numbers a node may have, with 0 for the shell's host.
+pub const NODES: usize = 9;
+
 /// Starts of nodes. Of each node all starts up to one are among them: a node starts anew only when
 /// the hosts of its start before have stopped.
 #[derive(Clone, Copy)]
 pub struct Starts {
     /// For each node, at its number, the first start that isn't among them.
-    pub ends: [u64; 9],
+    pub ends: [u64; NODES],
 }
 
 impl Starts {
@@ -17,7 +20,7 @@ impl Starts {
     pub fn new() -> Starts
         ensures { result ≡ no_starts }
     {
-        Starts { ends: [0; 9] }
+        Starts { ends: [0; NODES] }
     }
 
     /// Whether the member's start is among them.
@@ -36,15 +39,14 @@ impl Starts {
     pub fn note(&mut self, member: &Member)
         ensures { self.new ≡ noted self.old member.now }
     {
-        if !self.covers(member) {
-            if let Some(end) = self.ends.get_mut(member.node as usize) {
-                *end = u64::from(member.start) + 1;
-            }
+        let node = member.node as usize;
+        if node < NODES && !self.covers(member) {
+            self.ends[node] = u64::from(member.start) + 1;
         }
     }
 
     /// The starts of all these members are.
-    #[tactic(auto, unfolding(crate::specs::Starts::all_noted))]
+    #[tactic(auto, using(crate::proofs::FoldLemmas::folds))]
     pub fn note_all(&mut self, members: &[Member])
         ensures { self.new ≡ all_noted self.old members.now }
     {

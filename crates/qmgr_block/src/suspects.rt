@@ -1,7 +1,7 @@
 //! Suspects, and who is told of them.
-ghost use Rattle.std.specs.Prelude.{◌≡◌, ◌≤◌, IfOk, length};
+ghost use Rattle.std.specs.Prelude.{◌≡◌, ◌≤◌, IfOk, length, position};
 ghost use Rattle.qmgr_block.specs.State.{sending_all};
-ghost use Rattle.qmgr_block.specs.Suspects.{close_row, closed_of, is_kept_suspect, is_left_out, is_new, president, presides, report_row, told, told_if, with_closed, with_suspect, with_suspects};
+ghost use Rattle.qmgr_block.specs.Suspects.{close_row, closed_of, is_kept_suspect, is_left_out, is_new, is_trusted, president, presides, report_row, told, told_if, with_closed, with_suspect, with_suspects};
 
 use crate::known::{Known, Proposal};
 use crate::sends::one_signal;
@@ -36,6 +36,20 @@ fn is_left_out(outstanding: &Option<Proposal>, member: &Member) -> bool
     }
 }
 
+// Whether the member isn't suspected.
+fn is_trusted(suspects: &[Member], member: &Member) -> bool
+    ensures { result ≡ is_trusted suspects.now member.now }
+{
+    !is_among(suspects, member)
+}
+
+// Where the first member stands that isn't suspected.
+fn first_trusted(members: &[Member], suspects: &[Member]) -> Option<usize>
+    ensures { result ≡ position (is_trusted suspects.now) members.now }
+{
+    members.iter().position(|member| is_trusted(suspects, member))
+}
+
 impl Known {
     // Whether it is another member of the view or of the last promise, and no suspect yet.
     #[tactic(auto, unfolding(crate::specs::Suspects::is_new))]
@@ -58,7 +72,7 @@ impl Known {
     }
 
     /// All these are.
-    #[tactic(auto, unfolding(crate::specs::Suspects::with_suspects))]
+    #[tactic(auto, using(crate::proofs::FoldLemmas::folds))]
     pub fn suspect_all(&mut self, members: &[Member])
         ensures { self.new ≡ with_suspects self.old members.now }
     {
@@ -83,12 +97,11 @@ impl Known {
     fn president(&self) -> Option<Member>
         ensures { result ≡ president self.now }
     {
-        for member in self.layout.view().full.as_slice() {
-            if !is_among(self.suspects.as_slice(), member) {
-                return Some(*member);
-            }
+        let full = self.layout.view().full.as_slice();
+        match first_trusted(full, self.suspects.as_slice()) {
+            Some(at) => full.get(at).copied(),
+            None => None,
         }
-        None
     }
 
     /// Whether the node takes itself for the president.
