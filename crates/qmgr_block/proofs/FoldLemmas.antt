@@ -16,7 +16,7 @@ noted_more items i d s next inside is =
 
 pub noted_over : (items : List Member) (i : ℕ) (s : Starts) → length items ≤ i → all_noted s (drop i items) ≡ s
 unfolding all_noted
-noted_over items i s past = ap (all_noted s) (drop_all items i past)
+noted_over items i s past = ap (all_noted s) (drop_all i items past)
 
 pub suspects_more : (items : List Member) (i : ℕ) (d : Member) (k next : Known) → i < length items
     → next ≡ with_suspect k (get_or items i d) → with_suspects next (drop (i + 1) items) ≡ with_suspects k (drop i items)
@@ -26,6 +26,6 @@ suspects_more items i d k next inside is =
 
 pub suspects_over : (items : List Member) (i : ℕ) (k : Known) → length items ≤ i → with_suspects k (drop i items) ≡ k
 unfolding with_suspects
-suspects_over items i k past = ap (with_suspects k) (drop_all items i past)
+suspects_over items i k past = ap (with_suspects k) (drop_all i items past)
 
 pub ruleset folds = (noted_more, noted_over, suspects_more, suspects_over)

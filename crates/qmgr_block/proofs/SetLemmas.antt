@@ -23,22 +23,22 @@ filter_over p now items at past = rw (drop_all at items past, append-nil now) re
 pub ruleset filters = (append_assoc, append-nil)
 
 -- of what is kept of a list, and of the list, the same is kept with more behind it
-take_take_append : {X : Type 0} (n : ℕ) (xs ys : List X) → take n (take n xs ++ ys) ≡ take n (xs ++ ys)
+pub take_take_append : {X : Type 0} (n : ℕ) (xs ys : List X) → take n (take n xs ++ ys) ≡ take n (xs ++ ys)
 take_take_append zero xs ys = refl
 take_take_append (suc n) [] ys = refl
 take_take_append (suc n) (x ∷ xs) ys = ap (λ zs. x ∷ zs) (take_take_append n xs ys)
 
 -- one more item that is kept moves from what is left to what is there
-take_add : {X : Type 0} (n : ℕ) (xs : List X) (x : X) (ys : List X)
+pub take_add : {X : Type 0} (n : ℕ) (xs : List X) (x : X) (ys : List X)
     → take n (take n (xs ++ x ∷ []) ++ ys) ≡ take n (xs ++ x ∷ ys)
 take_add n xs x ys = take_take_append n (xs ++ x ∷ []) ys ∙ ap (take n) (append_assoc xs (x ∷ []) ys)
 
 -- what is kept is no more than that
-take_few : {X : Type 0} (n : ℕ) (xs : List X) → length (take n xs) ≤ n
+pub take_few : {X : Type 0} (n : ℕ) (xs : List X) → length (take n xs) ≤ n
 take_few n xs = omega (arith, length-take n xs)
 
 -- where a list is full already, no more is kept
-take_full : {X : Type 0} (n : ℕ) (xs ys : List X) → n ≤ length xs → length xs ≤ n → take n (xs ++ ys) ≡ xs
+pub take_full : {X : Type 0} (n : ℕ) (xs ys : List X) → n ≤ length xs → length xs ≤ n → take n (xs ++ ys) ≡ xs
 take_full n xs ys full few = take-append-le n xs ys full ∙ take_all n xs few
 
 pub ruleset fronts = (take_take_append, take_add, take_few, take_full, take_all, append-nil)

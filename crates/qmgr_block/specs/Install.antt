@@ -114,8 +114,12 @@ orders k =
 abbrev pub is_of_view : Known → ℕ → Bool
 is_of_view k number = k.layout.view.number == number
 
+-- what an event sends of the orders, from a place on
+abbrev pub order_effects : Known → ℕ → Effects
+order_effects k at = portion_effects (membership k.me.node) Members (orders k) at
+
 abbrev pub order_if : Known → ℕ → Bool → Step Known
-order_if k at true = record { state = k; effects = portion_effects (membership k.me.node) Members (orders k) at }
+order_if k at true = record { state = k; effects = order_effects k at }
 order_if k at false = stay k
 
 -- the orders go on from a place, unless another view was installed since

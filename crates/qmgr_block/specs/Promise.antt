@@ -83,6 +83,10 @@ less false promise = record promise { tc = promise.tc - 1 }
 abbrev pub is_fenced : Promise → Bool
 is_fenced promise = (promise.tc == 0) && (promise.ldm == 0)
 
+-- the promise at a place has come so far
+abbrev pub with_promise : QmgrState → ℕ → Promise → QmgrState
+with_promise s at promise = record { known = s.known; promises = slice_set s.promises at promise }
+
 abbrev pub confirmed_if : QmgrState → ℕ → Promise → Bool → Step QmgrState
 confirmed_if s at promise true = record {
   state = record { known = s.known; promises = remove s.promises at };
@@ -91,7 +95,7 @@ confirmed_if s at promise true = record {
     marks = Promised promise.number ∷ [];
   };
 }
-confirmed_if s at promise false = stay (record { known = s.known; promises = slice_set s.promises at promise })
+confirmed_if s at promise false = stay (with_promise s at promise)
 
 abbrev pub confirmed_at : QmgrState → Bool → ℕ → Option Promise → Step QmgrState
 confirmed_at s ldm at None = stay s

@@ -21,6 +21,14 @@ impl Proposal {
         self.view.number == number && is_among(self.awaited.as_slice(), member)
     }
 
+    // The proposal when this member has confirmed.
+    fn heard(&self, member: &Member) -> Proposal
+        ensures { result ≡ heard self.now member.now }
+    {
+        let awaited = without(&self.awaited, &[*member]);
+        Proposal { awaited, ..*self }
+    }
+
     // Whether the arbitrator was asked for it.
     fn is_asked(&self) -> bool
         ensures { result ≡ is_asked self.now }
@@ -53,12 +61,14 @@ impl Known {
         ensures ok { OnOk result (IsTaken (confirm_row self.old number member.now) self.new out.old out.new) }
         ensures err { OnErr result (IsUntouched self.old self.new out.old out.new) }
     {
-        match self.outstanding {
-            Some(mut p) if p.awaits(number, member) => {
-                p.awaited = without(&p.awaited, &[*member]);
-                self.hear_from(alloc, &p, out)
-            }
-            _ => Ok(()),
+        let Some(p) = &self.outstanding else {
+            return Ok(());
+        };
+        if p.awaits(number, member) {
+            let next = p.heard(member);
+            self.hear_from(alloc, &next, out)
+        } else {
+            Ok(())
         }
     }
 

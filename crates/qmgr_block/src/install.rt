@@ -1,15 +1,13 @@
 //! Installing a view.
 ghost use Rattle.std.specs.Prelude.{◌≡◌, ◌+◌, ◌≤◌, ◌<◌, ◌^◌, length, map};
-ghost use Rattle.sig_core.specs.declared.signal.host.Work.TheVariants.{Members};
-ghost use Rattle.sig_core.specs.Place.{membership};
-ghost use Rattle.sig_core.specs.Portion.{all_offered, portion_effects, so_far};
+ghost use Rattle.sig_core.specs.Portion.{all_offered, offered, so_far};
 ghost use Rattle.sig_core.specs.Step.{HasRoom, IsTaken, joined};
-ghost use Rattle.qmgr_block.specs.Install.{commit_of, copy_of, copying, installed_row, installing, is_oldest, is_of_view, is_some_suspect, left_of, left_open, order_row, orders, own_orders, work_if};
+ghost use Rattle.qmgr_block.specs.Install.{commit_of, copy_of, copying, installed_row, installing, is_oldest, is_of_view, is_some_suspect, left_of, left_open, order_effects, order_row, orders, own_orders, work_if};
 
 use crate::known::{Known, Proposal};
 use crate::sets::{is_in, is_same, members_of, within};
 use sig_core::{
-    BlockId, Body, CLIENT, ClientSignal, EpochSignal, HostSignal, JoiningSignal, Members,
+    BlockId, Body, CLIENT, ClientSignal, EpochSignal, HostSignal, JoiningSignal, Member, Members,
     MembershipSignal, Outs, PORTION, Place, Portion, TakeoverSignal, View, Work, checkpoints,
     membership, takeover,
 };
@@ -105,7 +103,7 @@ impl Known {
     fn send_orders(&self, at: u64, out: &mut Outs)
         requires room { HasRoom out.old }
         requires place { at < 2 ^ 32 }
-        ensures { out.new ≡ joined out.old (portion_effects (membership self.now.me.node) Members (orders self.now) at) }
+        ensures { out.new ≡ joined out.old (order_effects self.now at) }
     {
         let mut portion = Portion::new(at);
         self.offer_orders(&mut portion, out);
@@ -174,9 +172,18 @@ fn offer_copies(node: u8, starting: &Members, portion: &mut Portion, out: &mut O
     ensures fits { length out.new.sends + portion.new.room ≤ 15 }
 {
     for member in starting.as_slice() {
-        let body = Body::Joining(JoiningSignal::CopyOrd { member: *member });
-        portion.offer(copying(node), body, out);
+        offer_copy(node, *member, portion, out);
     }
+}
+
+// It is told of one.
+fn offer_copy(node: u8, member: Member, portion: &mut Portion, out: &mut Outs)
+    requires { length out.old.sends + portion.old.room ≤ 15 }
+    ensures offered { so_far portion.new out.new ≡ offered (so_far portion.old out.old) (copy_of node member) }
+    ensures fits { length out.new.sends + portion.new.room ≤ 15 }
+{
+    let body = Body::Joining(JoiningSignal::CopyOrd { member });
+    portion.offer(copying(node), body, out);
 }
 
 // The copying of a node.

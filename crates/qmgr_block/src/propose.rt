@@ -7,9 +7,7 @@ use crate::known::{Known, Proposal};
 use crate::sends::{one_signal, requests};
 use crate::sets::{members_of, without};
 use frag_map::lost_group;
-use sig_core::{
-    ARBITER, Body, Member, Members, MembershipSignal, NoMemory, Outgoing, View,
-};
+use sig_core::{ARBITER, Body, Member, Members, MembershipSignal, NoMemory, Outgoing, View};
 use std::alloc::Global;
 
 // What goes out with a proposal: requests to the members, or the question about a set that isn't

@@ -1,7 +1,7 @@
 //! The membership of a node.
-ghost use Rattle.std.specs.Prelude.{◌≡◌, ◌<◌, ◌≤◌, IfOk, OnOk, OnErr, length, slice_get};
+ghost use Rattle.std.specs.Prelude.{◌≡◌, ◌<◌, ◌≤◌, false, true, IfOk, OnOk, OnErr, length, slice_get};
 ghost use Rattle.sig_core.specs.Step.{HasRoom, IsTaken, IsUntouched};
-ghost use Rattle.qmgr_block.specs.Promise.{confirmed_at, fence_row, promise_by, promise_row};
+ghost use Rattle.qmgr_block.specs.Promise.{confirmed_at, confirmed_if, fence_row, is_fenced, promise_by, promise_row, with_promise};
 ghost use Rattle.qmgr_block.specs.Decide.{unpromised_row};
 ghost use Rattle.qmgr_block.specs.Qmgr.{host_table, joining_table, membership_table, qmgr_installed, qmgr_row};
 ghost use Rattle.qmgr_block.specs.Install.{work_row};
@@ -134,6 +134,14 @@ impl Qmgr {
         }
     }
 
+    // The promise at a place has come so far.
+    fn keep(&mut self, at: usize, promise: Promise)
+        requires { at < length self.old.promises }
+        ensures { self.new ≡ with_promise self.old at promise }
+    {
+        self.promises[at] = promise;
+    }
+
     // A block of that part has raised its fence for the promise at a place.
     fn fence_at(&mut self, at: usize, ldm: bool, out: &mut Outs)
         requires room { HasRoom out.old }
@@ -141,14 +149,28 @@ impl Qmgr {
         ensures { IsTaken (confirmed_at self.old ldm at (slice_get self.old.promises at)) self.new out.old out.new }
     {
         let promise = self.promises[at].less(ldm);
+        self.come_to(at, promise, out);
+    }
+
+    // The promise at a place has come so far: with the last of the blocks it is marked and confirmed.
+    fn come_to(&mut self, at: usize, promise: Promise, out: &mut Outs)
+        requires room { HasRoom out.old }
+        requires inside { at < length self.old.promises }
+        ensures { IsTaken (confirmed_if self.old at promise (is_fenced promise)) self.new out.old out.new }
+    {
         if promise.is_fenced() {
             self.promises.remove(at);
-            let Promise { number, to, tc: _, ldm: _ } = promise;
+            let Promise {
+                number,
+                to,
+                tc: _,
+                ldm: _,
+            } = promise;
             out.mark(Mark::Promised { number });
             let confirmation = MembershipSignal::PrepFailConf { number };
             out.send(membership(to), Body::Membership(confirmation));
         } else {
-            self.promises[at] = promise;
+            self.keep(at, promise);
         }
     }
 

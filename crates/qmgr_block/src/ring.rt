@@ -8,9 +8,7 @@ ghost use Rattle.qmgr_block.specs.State.{sending_all};
 use crate::known::{Known, MISSED};
 use crate::sends::one_signal;
 use crate::sets::{is_same, members_of};
-use sig_core::{
-    Body, Member, MembershipSignal, NoMemory, Outgoing, membership,
-};
+use sig_core::{Body, Member, MembershipSignal, NoMemory, Outgoing, membership};
 use std::alloc::Global;
 
 /// The members on both sides of one in the ring: none where it is alone.

@@ -7,9 +7,7 @@ use crate::known::{Known, Proposal};
 use crate::sends::one_signal;
 use crate::sets::{add, is_among, is_in, is_same, members_of};
 use crate::starts::Starts;
-use sig_core::{
-    Body, Member, Members, MembershipSignal, NoMemory, Outgoing, membership,
-};
+use sig_core::{Body, Member, Members, MembershipSignal, NoMemory, Outgoing, membership};
 use std::alloc::Global;
 
 // Those of the members that have closed, as far as is known.
@@ -47,7 +45,9 @@ fn is_trusted(suspects: &[Member], member: &Member) -> bool
 fn first_trusted(members: &[Member], suspects: &[Member]) -> Option<usize>
     ensures { result ≡ position (is_trusted suspects.now) members.now }
 {
-    members.iter().position(|member| is_trusted(suspects, member))
+    members
+        .iter()
+        .position(|member| is_trusted(suspects, member))
 }
 
 impl Known {
