@@ -26,7 +26,10 @@ abbrev pub sides_at : List Member → Option ℕ → Sides
 sides_at members None = record { next = None; before = None }
 sides_at members (Some at) =
     if nat_lt 1 (length members)
-    then record { next = slice_get members (place_behind (length members) at); before = slice_get members (place_in_front (length members) at) }
+    then record {
+      next = slice_get members (place_behind (length members) at);
+      before = slice_get members (place_in_front (length members) at);
+    }
     else record { next = None; before = None }
 
 -- the neighbours of the node in the ring of its view, the full members first, each part in order of age
