@@ -1,0 +1,3 @@
+mod FoldLemmas
+mod SendLemmas
+mod SetLemmas

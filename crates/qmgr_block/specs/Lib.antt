@@ -1,0 +1,11 @@
+pub mod Decide
+pub mod Install
+pub mod Join
+pub mod Promise
+pub mod Propose
+pub mod Qmgr
+pub mod Ring
+pub mod Sets
+pub mod Starts
+pub mod State
+pub mod Suspects
