@@ -185,9 +185,8 @@ module _ (start : Start) (shape : IsShape start.shape) (tx : TxId) where
 
   owes : (h : ℕ) (log : List HostStep) (body : Body) → has_tc (after start h log) ≡ true
       → AreKnown (tc_of (after start h log))
-      → StepOwes nodes tx (tc_of (after start h log)) (tc_table (tc_of (after start h log)) body).state (tc_table (tc_of (after start h log)) body).effects.sends (came_in tx body) (cont_in tx body)
       → StepOwes nodes tx (tc_of (after start h log)) (tc_table (tc_of (after start h log)) body).state
-      (tc_table (tc_of (after start h log)) body).effects.sends (came_in nodes tx body) (cont_in nodes tx body)
+      (tc_table (tc_of (after start h log)) body).effects.sends (came_in tx body) (cont_in tx body)
   owes h log body on known =
       let x = at_tc start tx h log in
       tc_owes nodes tx (tc_of (after start h log)) body known x.once x.own
@@ -345,10 +344,8 @@ module _ (start : Start) (shape : IsShape start.shape) (tx : TxId) where
             owed (cont_in tx e.step.taken.body) (came_in tx e.step.taken.body)
             (few_answers nodes tx e.step.taken.to e.step.taken.body (ap is_lqh step.at))
             (λ a c. cont_is nodes tx a e.step.taken.to e.step.taken.body c)
-            (subst (λ f. OwesOf nodes tx (tc_of (after start at (logs at))) u f.sends k (came_in tx e.step.taken.body) (cont_in tx e.step.taken.body)) (sym step.effects)
-            ((owes at (logs at) e.step.taken.body step.runs (known_after at (logs at))).owes u epoch k (subst (λ (t : TcState). IsIn (tx, u) t.live) step.state live_now) is))
             (subst (λ f. OwesOf nodes tx (tc_of (after start at (logs at))) u f.sends k
-            (came_in nodes tx e.step.taken.body) (cont_in nodes tx e.step.taken.body)) (sym step.effects)
+            (came_in tx e.step.taken.body) (cont_in tx e.step.taken.body)) (sym step.effects)
             ((owes at (logs at) e.step.taken.body step.runs (known_after at (logs at))).owes u epoch k
             (subst (λ (t : TcState). IsIn (tx, u) t.live) step.state live_now) is))
         by (inr other) =

@@ -112,9 +112,8 @@ module _ (start : Start) (tx : TxId) where
       )
 
   -- no other host answers its operations
-  never_answers : (h : ℕ) (log : List HostStep) → h < hosts start → h ≢ home start tx
+  pub never_answers : (h : ℕ) (log : List HostStep) → h < hosts start → h ≢ home start tx
       → signals (is_answer tx) (sent (machine start) h 0 log) ≡ 0
-  pub never_answers : (h : ℕ) (log : List HostStep) → h < hosts start → h ≢ home start tx → signals (is_answer tx) (sent (machine start) h 0 log) ≡ 0
   never_answers h [] low differs = refl
   never_answers h (e ∷ log) low differs =
       omega (arith, never_answers h log low differs, shell_signals start (is_answer tx) h e log,

@@ -207,8 +207,6 @@ module _ (s : ApiState) (asked : ApiReq) (R : Step ApiState → Type 0) (forms :
       → R (operate_by s name op at f.item doing tx)
   operate_by_turns name op at f Ready (Some tx) e d =
       operate_if_turns name op at f tx (nat_lt f.item.operations OPERATIONS) e d refl
-  operate_by_turns name op at f _ _ e d = forms.refuses (Some name) refusal.Busy (λ e. cc)
-      operate_if_turns name op at f tx (nat_lt f.item.operations 64) e d refl
   operate_by_turns name op at f _ _ e d = forms.refuses (Some name) refusal.Busy refl
 
   operate_turns : (name : ℕ) (op : Op) → R (operate_row s name op)
