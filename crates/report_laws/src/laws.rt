@@ -2,7 +2,15 @@
 ghost use Rattle.report_laws.specs.Answered.{GivenAreOfEntries, ReportedAreGiven};
 ghost use Rattle.report_laws.specs.Growing.{HistoriesGrow};
 ghost use Rattle.report_laws.specs.Reported.{AbortsAreInNone, CommitsAreInHistory, EndsAreReportedOnce};
+ghost use Rattle.report_laws.specs.Reports.{ReportsAreTheHistory};
 ghost use Rattle.report_laws.specs.Told.{OutcomesAreMarked};
+
+/// Of all right logs: the client is told just the ends that are marked as reported, each once; every
+/// closed cut's history has what was reported committed in it, with its epoch and the answers that
+/// were given, and nothing of what was reported aborted; and histories grow by entries alone.
+pub fn reports_are_the_history()
+    ensures { ReportsAreTheHistory }
+{}
 
 /// In each step of host 0 the client is told the ends of transactions that are marked as reported
 /// in it, with the same outcomes.
