@@ -2,7 +2,7 @@
 ghost use Rattle.report_laws.specs.Answered.{GivenAreOfEntries, ReportedAreGiven};
 ghost use Rattle.report_laws.specs.Growing.{HistoriesGrow};
 ghost use Rattle.report_laws.specs.Reported.{AbortsAreInNone, CommitsAreInHistory, EndsAreReportedOnce};
-ghost use Rattle.report_laws.specs.Told.{OutcomesAreMarked};
+ghost use Rattle.report_laws.specs.Told.{AnswersAreHeard, OutcomesAreMarked};
 
 /// In each step of host 0 the client is told the ends of transactions that are marked as reported
 /// in it, with the same outcomes.
@@ -31,6 +31,12 @@ pub fn aborts_are_in_none()
 /// them.
 pub fn histories_grow()
     ensures { HistoriesGrow }
+{}
+
+/// In each step of host 0 the client is told no answer of an operation, or just the one that the
+/// step's signal tells.
+pub fn answers_are_heard()
+    ensures { AnswersAreHeard }
 {}
 
 /// The answers that the client was given for a transaction, by whichever moment, are the first of
