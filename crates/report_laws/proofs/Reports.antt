@@ -5,11 +5,12 @@ use Rattle.report_laws.proofs.Answers.{given_are_of_entries, reported_are_given}
 use Rattle.report_laws.proofs.Growing.{histories_grow}
 use Rattle.report_laws.proofs.InHistory.{commits_are_in_history}
 use Rattle.report_laws.proofs.Once.{ends_are_reported_once}
-use Rattle.report_laws.proofs.Told.{outcomes_are_marked}
+use Rattle.report_laws.proofs.Told.{answers_are_heard, outcomes_are_marked}
 
 pub reports_are_the_history : ReportsAreTheHistory
 reports_are_the_history start logs shape within right = record {
   told = outcomes_are_marked start logs right;
+  heard = answers_are_heard start logs right;
   once = ends_are_reported_once start logs shape within right;
   cuts = λ inside cut closed. record {
     committed = commits_are_in_history start inside logs shape within right cut closed;
