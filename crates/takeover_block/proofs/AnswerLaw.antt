@@ -204,7 +204,8 @@ ruled tx s f none distinct keys = by (slice_get s.gathered 0) refl
         keys = keys;
         fits = (
           none,
-          first_with (λ x. x.tx ≡ tx → rule.replica_count s.layout x.keys ≤ rule.replica_count s.layout g.keys + f.aborted)
+          first_with
+        (λ x. x.tx ≡ tx → rule.replica_count s.layout x.keys ≤ rule.replica_count s.layout g.keys + f.aborted)
               s.gathered g there (λ same. omega arith),
         );
       };
@@ -294,7 +295,8 @@ module _ (tx : TxId) (s : TakeoverState) (f : Followed) (is : IsFollowed tx s f)
       (sym (none_left tx s.layout f s.gathered s.stage idle is.fits))
       (record { same = refl; state = is; sends = tt })
 
-  told : (u : TxId) (key : List ℕ) (epoch : Option ℕ) (n : ℕ) → s.stage ≡ Gathering n → (own : Bool) → same_tx u tx ≡ own
+  told : (u : TxId) (key : List ℕ) (epoch : Option ℕ) (n : ℕ) → s.stage ≡ Gathering n
+      → (own : Bool) → same_tx u tx ≡ own
       → StepIsFollowed tx s.layout (key_if f key (true && own)) (stay (with_gathered s (noted s.gathered u key epoch)))
   told u key epoch n at true own =
       let fits = fits_at tx s f is (Gathering n) at in

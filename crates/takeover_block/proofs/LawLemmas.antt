@@ -61,7 +61,8 @@ pub each_first : (P : Gathered → Type 0) (gs : List Gathered) (g : Gathered) �
 each_first P [] g is each = absurd cc
 each_first P (x ∷ xs) g is each = let same : x ≡ g = cc in subst P same each.0
 
-pub first_with : (P : Gathered → Type 0) (gs : List Gathered) (g : Gathered) → slice_get gs 0 ≡ Some g → P g → First P gs
+pub first_with : (P : Gathered → Type 0) (gs : List Gathered) (g : Gathered) → slice_get gs 0 ≡ Some g → P g
+    → First P gs
 first_with P [] g is own = absurd cc
 first_with P (x ∷ xs) g is own = let same : g ≡ x = cc in subst P same own
 

@@ -1,5 +1,6 @@
 -- What holds of all that is sent at a stage, where it does of what goes to the client.
-use Rattle.std.proofs.Common.{◌≡◌, ◌+◌, ℕ, zero, suc, Bool, true, false, List, [], ◌∷◌, take, drop, length, map, nat_lt, refl}
+use Rattle.std.proofs.Common.{◌≡◌, ◌+◌, ℕ, zero, suc, Bool, true, false, List, []}
+use Rattle.std.proofs.Common.{◌∷◌, take, drop, length, map, nat_lt, refl}
 use Rattle.std.specs.List.{flat_map}
 use Rattle.run_theory.specs.Lists.{Each}
 use Rattle.run_theory.proofs.Pasts.{each_append}
@@ -78,7 +79,8 @@ module _ (Q : Outgoing → Type 0) (plain : (o : Outgoing) → is_plain o.body �
       (some_along tx stage key (chain_of layout key)) (some_keys layout tx stage keys)
 
   -- what goes to the client decides
-  pub stage_each : (node : ℕ) (layout : Layout) (stage : Stage) (g : Gathered) (at : ℕ) → Each Q (front_sends g.tx stage)
+  pub stage_each : (node : ℕ) (layout : Layout) (stage : Stage) (g : Gathered) (at : ℕ)
+      → Each Q (front_sends g.tx stage)
       → Each Q (stage_effects node layout stage g at).sends
   unfolding stage_effects stage_sends
   stage_each node layout stage g at front =
