@@ -6,6 +6,7 @@ use Rattle.run_theory.proofs.Links.{log_after}
 use Rattle.sig_core.specs.declared.place.BlockId.{BlockId}
 use Rattle.sig_core.specs.declared.place.BlockId.TheVariants as block
 use Rattle.sig_core.specs.declared.reply.ApiReply.{ApiReply}
+use Rattle.sig_core.specs.declared.request.ApiReq.{ApiReq}
 use Rattle.sig_core.specs.declared.signal.Body.{Body}
 use Rattle.sig_core.specs.declared.signal.Body.TheVariants.{Host}
 use Rattle.sig_core.specs.declared.signal.Signal.{Signal}
@@ -78,18 +79,18 @@ module _ (s : ApiState) (body : Body) where
       → (answers_among more ≡ []) ⊎ (answers_among more ≡ answer_in body) → TellsMarked s body step
   some step more is same answers = record { more = more; is = is; same = same; answers = answers }
 
-  at_request : ApiRequestForms s (TellsMarked s body)
-  at_request = record {
+  at_request : (r : ApiReq) → ApiRequestForms s r (TellsMarked s body)
+  at_request r = record {
     opens = λ name node op new. none _ refl refl;
     refuses = λ name why living. some _ _ refl refl (inl refl);
     operates = λ name op at f tx ready own low. none _ refl refl;
     commits = λ name at f tx ready own. none _ refl refl;
-    aborts = λ name at f tx own. none _ refl refl;
+    aborts = λ name at f tx is own. none _ refl refl;
     ticks = ticks;
     dumps = λ node digest. none _ refl refl;
     waits = λ p at f tx own. none _ refl refl;
     pends = λ name holder. some _ _ refl refl (inl refl);
-    gives_up = λ holder tx. some _ _ refl refl (inl refl);
+    gives_up = λ p at f holder tx is alone own. some _ _ refl refl (inl refl);
     is_about_none = none _ refl refl;
     rests = none _ refl refl;
   }
@@ -123,7 +124,7 @@ module _ (s : ApiState) (body : Body) where
   }
 
 api_tells : (s : ApiState) (body : Body) → TellsMarked s body (api_table s body)
-api_tells s body = api_turns s (TellsMarked s) body (λ r at. at_request s (Host (Continue (work.Request r) at)))
+api_tells s body = api_turns s (TellsMarked s) body (λ r at. at_request s (Host (Continue (work.Request r) at)) r)
     (at_signal s body)
 
 shell_tells : (s : ApiState) (at : BlockId) (x : Signal) → TellsMarked s x.body (shell_row s at x)
