@@ -39,7 +39,7 @@ use Rattle.command_laws.proofs.BlockSteps.{api_seen, tc_seen}
 use Rattle.command_laws.proofs.Committed.{calm_at}
 use Rattle.command_laws.proofs.Entries.{NoneBegins}
 use Rattle.command_laws.proofs.First.{IsFirst, first_step, request_first, with_first}
-use Rattle.command_laws.proofs.HostKinds.{replies_are}
+use Rattle.host_laws.proofs.BlocksAlong.{replies_are}
 use Rattle.command_laws.proofs.LoneAnswered.{shell_view}
 use Rattle.command_laws.proofs.OneAtATime.{IsNext, Leads, is_done}
 use Rattle.command_laws.specs.Begun.{BeginComesTo, BeginsAt, BeginsBy, coordinator_at}
