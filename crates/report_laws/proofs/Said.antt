@@ -510,9 +510,9 @@ module _ (start : Start) (tx : TxId) where
       forms : (node : ℕ) (layout : Layout) → TurnFormsAt node layout tx t e.step.taken.body R
       unfolding entering
       forms node layout = record {
-        stays = λ other left told. goes_quiet _ refl refl (λ off. off);
+        stays = λ other missed left told. goes_quiet _ refl refl (λ off. off);
         stops = λ at is high left told. goes_quiet _ refl refl (λ off. off);
-        goes_on = λ at is left told. goes_quiet (go_on_if node layout tx t at true)
+        goes_on = λ at is low left told. goes_quiet (go_on_if node layout tx t at true)
             (rest_of_kind is_quiet layout tx (quiet_chains tx) node t at (quiet_front tx t.phase)) refl (λ off. off);
         operates = λ op is can left told. goes_quiet _ refl refl (λ off. not_open (can_open op can) off);
         answers = λ key answer asked is on at left told. record {
@@ -522,7 +522,7 @@ module _ (start : Start) (tx : TxId) where
           still = λ off list. not_open at off;
           shut = λ off u is_u. not_open at off;
         };
-        late = λ key asked why verifying awaited on at left told. goes_quiet (late_answer layout tx t key)
+        late = λ key asked why verifying awaited by on at left told. goes_quiet (late_answer layout tx t key)
             (aborts_of_kind is_quiet layout tx (quiet_chains tx) key (chain_of layout key)) refl (λ off. off);
         waits = λ asked is on left told. goes_quiet _
             (of_map is_quiet (wait_of tx (key_of asked.op)) asked.chain (λ r. refl)) refl (λ off. off);

@@ -389,14 +389,14 @@ module _ (start : Start) (tx : TxId) (es : List HostStep) (e : HostStep) (come :
   forms : (node : ℕ) (layout : Layout) → TurnFormsAt node layout tx t e.step.taken.body R
   unfolding entering
   forms node layout = record {
-    stays = λ other left. goes _ tt live_now same_shut;
+    stays = λ other missed left. goes _ tt live_now same_shut;
     stops = λ at is high left. goes _ tt live_now same_shut;
-    goes_on = λ at is left. goes (go_on_if node layout tx t at true) (goes_on node layout at) live_now same_shut;
+    goes_on = λ at is low left. goes (go_on_if node layout tx t at true) (goes_on node layout at) live_now same_shut;
     operates = λ op is can left. goes _ (tt, tt) (subst (LiveTells start tx now t.ops _) (sym (can_open op can)) tt)
         (λ off. not_open (can_open op can) off);
     answers = λ key answer asked is on at left. goes _ (tt, tt) (subst (LiveTells start tx now _ _) (sym at) tt)
         (λ off. not_open at off);
-    late = λ key asked why verifying awaited on at left.
+    late = λ key asked why verifying awaited by on at left.
         goes (late_answer layout tx t key) (each_mapped (λ (o : Outgoing). Tells start tx now o.body) (abort_of tx key)
         (chain_of layout key) (λ r. tt)) live_now (λ off. record { shut = off; ops_are = refl });
     waits = λ asked is on left.
