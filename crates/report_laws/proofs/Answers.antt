@@ -142,7 +142,7 @@ given_past start tx small large past = subst (λ log. IsPast (given start tx sma
     by (e ∷ newer) = past_prefix (if is_answered tx e.step.taken.body then reverse
         (answers_among (new_replies start e (newer ++ small))) else []) (by newer)
 
-append_none : {A : Type 0} (xs : List A) → xs ++ [] ≡ xs
+pub append_none : {A : Type 0} (xs : List A) → xs ++ [] ≡ xs
 append_none [] = refl
 append_none (x ∷ xs) = ap (λ ys. x ∷ ys) (append_none xs)
 

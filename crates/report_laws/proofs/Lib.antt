@@ -6,7 +6,9 @@ pub mod Facts
 pub mod Given
 pub mod Growing
 pub mod InHistory
+pub mod Keys
 pub mod Once
+pub mod Operations
 pub mod ReportMarks
 pub mod RunOf
 pub mod Replied
