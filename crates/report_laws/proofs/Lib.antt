@@ -2,6 +2,7 @@ pub mod Aborted
 pub mod Answers
 pub mod Committed
 pub mod Confs
+pub mod EntryOperations
 pub mod Facts
 pub mod Given
 pub mod Growing

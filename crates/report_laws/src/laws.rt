@@ -1,5 +1,6 @@
 //! What is reported of a transaction is what the history has of it.
 ghost use Rattle.report_laws.specs.Answered.{GivenAreOfEntries, ReportedAreGiven};
+ghost use Rattle.report_laws.specs.Asked.{AskedAreOfEntries};
 ghost use Rattle.report_laws.specs.Growing.{HistoriesGrow};
 ghost use Rattle.report_laws.specs.Reported.{AbortsAreInNone, CommitsAreInHistory, EndsAreReportedOnce};
 ghost use Rattle.report_laws.specs.Told.{AnswersAreHeard, OutcomesAreMarked};
@@ -31,6 +32,12 @@ pub fn aborts_are_in_none()
 /// them.
 pub fn histories_grow()
     ensures { HistoriesGrow }
+{}
+
+/// A transaction that is decided has just the operations that the client asked its coordinator for,
+/// all of them, in their order.
+pub fn asked_are_of_entries()
+    ensures { AskedAreOfEntries }
 {}
 
 /// In each step of host 0 the client is told no answer of an operation, or just the one that the
