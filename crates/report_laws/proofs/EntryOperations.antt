@@ -1,5 +1,6 @@
--- A decided transaction has the operations that the client asked for: where its commit is asked for all of them are answered.
-use Rattle.std.proofs.Common.{◌≡◌, ◌≤◌, ◌+◌, ℕ, List, [], ◌∷◌, length, map, reverse, refl, sym, ap, ◌∙◌, subst, arith}
+-- A decided transaction has the operations that the client asked for: where its commit is asked for all of them are
+-- answered.
+use Rattle.std.proofs.Common.{◌≡◌, ℕ, List, [], ◌∷◌, length, map, reverse, refl, sym, ap, ◌∙◌, subst, arith}
 use Rattle.run_theory.specs.Lists.{IsIn, IsPast}
 use Rattle.run_theory.specs.Links.{sent}
 use Rattle.run_theory.specs.Runs.{AreLogs}
@@ -26,11 +27,13 @@ use Rattle.report_laws.proofs.Operations.{asked_came}
 use Rattle.report_laws.proofs.RunOf.{IsRunTo, run_to}
 
 -- as many operations as answers
-same_length : (ops : List (Op × Answer)) (xs : List Op) (ys : List Answer) → length xs ≡ length ys → length (newest_ops ops xs) ≡ length (newest ops ys)
+same_length : (ops : List (Op × Answer)) (xs : List Op) (ys : List Answer) → length xs ≡ length ys
+    → length (newest_ops ops xs) ≡ length (newest ops ys)
 same_length [] xs ys same = same
 same_length (op ∷ ops) xs ys same = same_length ops (op.0 ∷ xs) (op.1 ∷ ys) (omega (arith, same))
 
-module _ (start : Start) (end : List HostStep) (run : IsRun start end) (entry : Entry) (inside : IsIn entry (entries (hosts start) (logs_of start end))) where
+module _ (start : Start) (end : List HostStep) (run : IsRun start end) (entry : Entry)
+    (inside : IsIn entry (entries (hosts start) (logs_of start end))) where
   abbrev whole : ℕ → List HostStep
   whole = logs_of start end
 
@@ -46,11 +49,13 @@ module _ (start : Start) (end : List HostStep) (run : IsRun start end) (entry : 
   all_wanted : newest_ops entry.ops [] ≡ wanted start entry.tx whole
   all_wanted =
       let s = entry_said start end run entry inside in
-      past_whole (newest_ops entry.ops []) (wanted start entry.tx whole) (past_trans came_ops (came_past start entry.tx whole right))
+      past_whole (newest_ops entry.ops []) (wanted start entry.tx whole)
+      (past_trans came_ops (came_past start entry.tx whole right))
       (omega (
         arith,
         key_counts entry.tx (sent (machine start) 0 (home start entry.tx) (whole 0)),
-        (all_heard start entry.tx s.some s.low whole run.within right).asking.done (omega (arith, commits_few start entry.tx whole right run.within, s.wanted)),
+        (all_heard start entry.tx s.some s.low whole run.within right).asking.done
+            (omega (arith, commits_few start entry.tx whole right run.within, s.wanted)),
         heard_counts start entry.tx s.some s.low whole right run.within,
         past_long (heard start entry.tx whole) (said start entry.tx whole) (heard_past start entry.tx whole right),
         ap (λ (l : List Answer). length l) s.said,
@@ -60,7 +65,8 @@ module _ (start : Start) (end : List HostStep) (run : IsRun start end) (entry : 
   pub all_asked : asked start entry.tx (whole 0) ≡ operations_of entry
   all_asked =
       sym (wanted_asked start entry.tx (whole 0))
-      ∙ (sym all_wanted ∙ (newest_ops_is entry.ops [] ∙ append_none (reverse (map (λ (op : Op × Answer). op.0) entry.ops))))
+      ∙ (sym all_wanted ∙ (newest_ops_is entry.ops []
+      ∙ append_none (reverse (map (λ (op : Op × Answer). op.0) entry.ops))))
 
 pub asked_are_of_entries : AskedAreOfEntries
 asked_are_of_entries start logs shape within right entry at =

@@ -1,13 +1,13 @@
--- The operations of a transaction that its coordinator is asked for, as they are sent and as they are taken, the newest first.
-use Rattle.std.proofs.Common.{◌≡◌, ◌≢◌, ◌⊎◌, ◌≤◌, ◌+◌, ℕ, Bool, true, false, List, [], ◌∷◌, ◌++◌, filter_map, length, map, reverse, refl, sym, ap, ◌∙◌, subst, inl, inr, arith}
-use Rattle.std.proofs.lemmas.Bool.{false≢true}
+-- The operations of a transaction that its coordinator is asked for, as they are sent and as they are taken, the newest
+-- first.
+use Rattle.std.proofs.Common.{◌≡◌, ◌⊎◌, ◌+◌, ℕ, Bool, true, false, List, [], ◌∷◌, ◌++◌, filter_map, length, map, reverse, refl, sym, ap, ◌∙◌, subst, inl, inr, arith}
 use Rattle.std.proofs.lemmas.Bool.Decides.{nat_tests}
 use Rattle.std.proofs.lemmas.List.{reverse-append}
 use Rattle.std.specs.List.{cons_option}
 use Rattle.std.specs.Prelude.{◌==◌, ◌&&◌, if◌then◌else◌, Option, None, Some}
-use Rattle.run_theory.specs.Links.{is_from, put, sent, taken}
+use Rattle.run_theory.specs.Links.{put, sent, taken}
 use Rattle.run_theory.specs.Lists.{Each, IsPast}
-use Rattle.run_theory.specs.Runs.{AreLogs, IsWithin}
+use Rattle.run_theory.specs.Runs.{AreLogs}
 use Rattle.run_theory.proofs.Pasts.{past_map}
 use Rattle.sig_core.specs.declared.member.TxId.{TxId}
 use Rattle.sig_core.specs.declared.op.Answer.{Answer}
@@ -28,11 +28,11 @@ use Rattle.api_block.specs.State.{ApiState}
 use Rattle.api_block.proofs.EachApi.{api_each}
 use Rattle.api_block.specs.declared.opened.OpenTransaction.{OpenTransaction}
 use Rattle.node_core.specs.Row.{shell_row}
-use Rattle.world_core.specs.Hosts.{first_membership, home, host_for, hosts}
+use Rattle.world_core.specs.Hosts.{first_membership, home, host_for}
 use Rattle.world_core.specs.Machine.{addressed, all_addressed, counted, machine, sent_count, step_after}
 use Rattle.world_core.specs.Start.{Start}
 use Rattle.world_core.specs.Steps.{Addressed, HostStep}
-use Rattle.host_laws.proofs.LinkCounts.{signals, steps}
+use Rattle.host_laws.proofs.LinkCounts.{signals}
 use Rattle.host_laws.proofs.ShellHost.{shell_after, shell_sends}
 use Rattle.host_laws.proofs.TcKeys.{is_key}
 use Rattle.host_laws.proofs.Wishes.{is_tc}
@@ -55,19 +55,23 @@ wanted start tx logs = filter_map (keyed tx) (sent (machine start) 0 (home start
 abbrev pub came : Start → TxId → (ℕ → List HostStep) → List Op
 came start tx logs = filter_map (keyed tx) (taken (machine start) 0 (logs (home start tx)))
 
-pub came_past : (start : Start) (tx : TxId) (logs : ℕ → List HostStep) → AreLogs (machine start) logs → IsPast (came start tx logs) (wanted start tx logs)
+pub came_past : (start : Start) (tx : TxId) (logs : ℕ → List HostStep) → AreLogs (machine start) logs
+    → IsPast (came start tx logs) (wanted start tx logs)
 came_past start tx logs right =
-    past_map (keyed tx) (taken (machine start) 0 (logs (home start tx))) (sent (machine start) 0 (home start tx) (logs 0)) (link start logs right 0 (home start tx))
+    past_map (keyed tx) (taken (machine start) 0 (logs (home start tx)))
+    (sent (machine start) 0 (home start tx) (logs 0)) (link start logs right 0 (home start tx))
 
 pub key_counts : (tx : TxId) (xs : List Addressed) → length (filter_map (keyed tx) xs) ≡ signals (is_key tx) xs
 key_counts tx [] = refl
 key_counts tx (x ∷ xs) = by x.signal.to x.signal.body (key_counts tx xs)
   where
     by : (to : Place) (body : Body) → length (filter_map (keyed tx) xs) ≡ signals (is_key tx) xs
-        → length (cons_option (keyed_by tx to body) (filter_map (keyed tx) xs)) ≡ one_if (is_key tx to body) + signals (is_key tx) xs
+        → length (cons_option (keyed_by tx to body) (filter_map (keyed tx) xs)) ≡ one_if (is_key tx to body) + signals
+        (is_key tx) xs
     by to (Client (TcKeyReq other op)) rest = which (is_tc to.block && same_tx other tx)
       where
-        which : (b : Bool) → length (cons_option (if b then Some op else None) (filter_map (keyed tx) xs)) ≡ one_if b + signals (is_key tx) xs
+        which : (b : Bool) → length (cons_option (if b then Some op else None) (filter_map (keyed tx) xs)) ≡ one_if b +
+            signals (is_key tx) xs
         which true = omega (arith, rest)
         which false = omega (arith, rest)
     by to _ rest = by_none (is_tc to.block)
@@ -102,21 +106,26 @@ api_placed tx s body =
     all [] = tt
     all (t ∷ opened) = (tt, all opened)
 
-    by : (one : TxId) (op : Op) (b : Bool) → same_tx one tx ≡ b → ((if same_tx one tx then Some op else None) ≡ None) ⊎ (coordinator_of one ≡ coordinator_of tx)
+    by : (one : TxId) (op : Op) (b : Bool) → same_tx one tx ≡ b → ((if same_tx one tx then Some op else None) ≡ None)
+        ⊎ (coordinator_of one ≡ coordinator_of tx)
     by one op true e = inr (ap coordinator_of (same_tx-is one tx e))
     by one op false e = inl (ap (λ b. if b then Some op else None) e)
 
-shell_placed : (tx : TxId) (s : ApiState) (at : BlockId) (x : Signal) → Each (IsPlaced tx) (shell_row s at x).effects.sends
+shell_placed : (tx : TxId) (s : ApiState) (at : BlockId) (x : Signal) → Each (IsPlaced tx)
+    (shell_row s at x).effects.sends
 unfolding shell_row
 shell_placed tx s block.Api x = api_placed tx s x.body
 shell_placed tx s _ x = tt
 
 module _ (start : Start) (tx : TxId) where
   put_keys : (stamp : ℕ) (count : ℕ → ℕ) (sends : List Outgoing) (before : List Addressed) → Each (IsPlaced tx) sends
-      → filter_map (keyed tx) (put (machine start) (home start tx) (all_addressed (first_membership start) 0 stamp count sends) before) ≡ asked_in tx sends (filter_map (keyed tx) before)
+      → filter_map (keyed tx) (put (machine start) (home start tx)
+      (all_addressed (first_membership start) 0 stamp count sends) before) ≡ asked_in tx sends
+      (filter_map (keyed tx) before)
   put_keys stamp count [] before all = refl
   put_keys stamp count (o ∷ more) before all =
-      put_keys stamp (counted (host_for start o.to) count) more (if host_for start o.to == home start tx then one ∷ before else before) all.1
+      put_keys stamp (counted (host_for start o.to) count) more
+      (if host_for start o.to == home start tx then one ∷ before else before) all.1
       ∙ ap (asked_in tx more) (by (host_for start o.to == home start tx) ∙ which all.0.placed)
     where
       one : Addressed
@@ -125,7 +134,8 @@ module _ (start : Start) (tx : TxId) where
       olds : List Op
       olds = filter_map (keyed tx) before
 
-      by : (b : Bool) → filter_map (keyed tx) (if b then one ∷ before else before) ≡ (if b then cons_option (keyed_by tx o.to o.body) (filter_map (keyed tx) before) else filter_map (keyed tx) before)
+      by : (b : Bool) → filter_map (keyed tx) (if b then one ∷ before else before) ≡ (if b then cons_option
+          (keyed_by tx o.to o.body) (filter_map (keyed tx) before) else filter_map (keyed tx) before)
       by true = refl
       by false = refl
 
@@ -142,7 +152,8 @@ module _ (start : Start) (tx : TxId) where
       at_tc (Client (TcKeyReq other op)) = refl
       at_tc _ = refl
 
-      rest : (b : Bool) → (if b then cons_option None (filter_map (keyed tx) before) else filter_map (keyed tx) before) ≡ filter_map (keyed tx) before
+      rest : (b : Bool) → (if b then cons_option None (filter_map (keyed tx) before) else filter_map (keyed tx)
+          before) ≡ filter_map (keyed tx) before
       rest true = refl
       rest false = refl
 
@@ -150,22 +161,30 @@ module _ (start : Start) (tx : TxId) where
       here = grind (arith, nat_tests)
 
       which : (asked_by tx o.body ≡ None) ⊎ (o.to ≡ coordinator_of tx)
-          → (if host_for start o.to == home start tx then cons_option (keyed_by tx o.to o.body) (filter_map (keyed tx) before) else filter_map (keyed tx) before)
+          → (if host_for start o.to == home start tx then cons_option (keyed_by tx o.to o.body)
+          (filter_map (keyed tx) before) else filter_map (keyed tx) before)
           ≡ cons_option (asked_by tx o.body) (filter_map (keyed tx) before)
       which (inl off) =
-          ap (λ k. if host_for start o.to == home start tx then cons_option k (filter_map (keyed tx) before) else filter_map (keyed tx) before) (none o.to o.body off)
-          ∙ (rest (host_for start o.to == home start tx) ∙ ap (λ k. cons_option k (filter_map (keyed tx) before)) (sym off))
+          ap (λ k. if host_for start o.to == home start tx then cons_option k (filter_map (keyed tx) before) else
+          filter_map (keyed tx) before) (none o.to o.body off)
+          ∙ (rest (host_for start o.to == home start tx) ∙ ap (λ k. cons_option k (filter_map (keyed tx) before))
+          (sym off))
       which (inr at) =
-          ap (λ to. if host_for start to == home start tx then cons_option (keyed_by tx to o.body) (filter_map (keyed tx) before) else filter_map (keyed tx) before) at
-          ∙ (ap (λ b. if b then cons_option (keyed_by tx (coordinator_of tx) o.body) (filter_map (keyed tx) before) else filter_map (keyed tx) before) here
+          ap (λ to. if host_for start to == home start tx then cons_option (keyed_by tx to o.body)
+          (filter_map (keyed tx) before) else filter_map (keyed tx) before) at
+          ∙ (ap (λ b. if b then cons_option (keyed_by tx (coordinator_of tx) o.body) (filter_map (keyed tx) before) else
+          filter_map (keyed tx) before) here
           ∙ ap (λ k. cons_option k (filter_map (keyed tx) before)) (at_tc o.body))
 
   -- what was sent is what was asked for
-  pub wanted_asked : (log : List HostStep) → filter_map (keyed tx) (sent (machine start) 0 (home start tx) log) ≡ asked start tx log
+  pub wanted_asked : (log : List HostStep) → filter_map (keyed tx) (sent (machine start) 0 (home start tx) log) ≡ asked
+      start tx log
   wanted_asked [] = refl
   wanted_asked (e ∷ log) =
-      put_keys e.step.stamp (sent_count start 0 log) (step_after start 0 log e).effects.sends (sent (machine start) 0 (home start tx) log)
-      (subst (Each (IsPlaced tx)) (sym (shell_sends start e log)) (shell_placed tx (shell_after start log).state e.step.taken.to.block e.step.taken))
+      put_keys e.step.stamp (sent_count start 0 log) (step_after start 0 log e).effects.sends
+      (sent (machine start) 0 (home start tx) log)
+      (subst (Each (IsPlaced tx)) (sym (shell_sends start e log))
+      (shell_placed tx (shell_after start log).state e.step.taken.to.block e.step.taken))
       ∙ ap (asked_in tx (step_after start 0 log e).effects.sends) (wanted_asked log)
 
 -- the operations of answered ones, the newest first, in front of those before
@@ -173,11 +192,13 @@ abbrev pub newest_ops : List (Op × Answer) → List Op → List Op
 newest_ops [] before = before
 newest_ops (op ∷ ops) before = newest_ops ops (op.0 ∷ before)
 
-pub newest_ops_more : (ops : List (Op × Answer)) (op : Op × Answer) (before : List Op) → newest_ops (ops ++ op ∷ []) before ≡ op.0 ∷ newest_ops ops before
+pub newest_ops_more : (ops : List (Op × Answer)) (op : Op × Answer) (before : List Op)
+    → newest_ops (ops ++ op ∷ []) before ≡ op.0 ∷ newest_ops ops before
 newest_ops_more [] op before = refl
 newest_ops_more (one ∷ ops) op before = newest_ops_more ops op (one.0 ∷ before)
 
-pub newest_ops_is : (ops : List (Op × Answer)) (before : List Op) → newest_ops ops before ≡ reverse (map (λ (op : Op × Answer). op.0) ops) ++ before
+pub newest_ops_is : (ops : List (Op × Answer)) (before : List Op) → newest_ops ops before ≡ reverse
+    (map (λ (op : Op × Answer). op.0) ops) ++ before
 newest_ops_is [] before = refl
 newest_ops_is (op ∷ ops) before =
     newest_ops_is ops (op.0 ∷ before)

@@ -134,7 +134,8 @@ own tx body = record {
   rolled_back = λ why. refl;
 }
 
-pub others_none : (tx : TxId) (s : TcState) (body : Body) → OthersSend (λ (o : Outgoing). is_mine tx o.body ≡ false) tx s
+pub others_none : (tx : TxId) (s : TcState) (body : Body) → OthersSend (λ (o : Outgoing). is_mine tx o.body ≡ false) tx
+    s
     body
 others_none tx s body one off its t =
     each_of (is_own one) (λ o. is_mine tx o.body ≡ false) (λ o e. own_none one tx off o.body e)
