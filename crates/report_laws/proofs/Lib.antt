@@ -11,6 +11,7 @@ pub mod Keys
 pub mod Once
 pub mod Operations
 pub mod ReportMarks
+pub mod Requested
 pub mod RunOf
 pub mod Replied
 pub mod Said

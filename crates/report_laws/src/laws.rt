@@ -27,7 +27,7 @@ pub fn aborts_are_in_none()
     ensures { AbortsAreInNone }
 {}
 
-/// Of two closed cuts, one within the other, the history of the smaller one is that of the larger
+/// Of two cuts, one within the other, the history of the smaller one is that of the larger
 /// one with some entries left out: none of its entries is lost, and none changes its place among
 /// them.
 pub fn histories_grow()
