@@ -86,12 +86,12 @@ use Rattle.report_laws.proofs.Confs.{conf, confs_in, confs_none, newest, newest_
 use Rattle.report_laws.proofs.Facts.{IsShut, IsShutWith}
 
 -- the signal asks for the epoch of the transaction, or tells an answer of it
-abbrev is_mine : TxId → Body → Bool
+abbrev pub is_mine : TxId → Body → Bool
 is_mine tx (Epoch (DiVerifyReq other ops)) = same_tx other tx
 is_mine tx (Client (TcKeyConf other answer)) = same_tx other tx
 is_mine tx _ = false
 
-abbrev NoneMine : TxId → List Outgoing → Type 0
+abbrev pub NoneMine : TxId → List Outgoing → Type 0
 NoneMine tx sends = Each (λ (o : Outgoing). is_mine tx o.body ≡ false) sends
 
 mine_none : (tx : TxId) (to : Place) (body : Body) → is_mine tx body ≡ false → told_by tx to body ≡ None
@@ -103,7 +103,7 @@ mine_none tx to (Client (TcKeyConf other answer)) off = by (is_api to.block) (sa
     by false b e = refl
 mine_none tx to _ off = refl
 
-request_none : (tx : TxId) (body : Body) → is_request body ≡ true → is_mine tx body ≡ false
+pub request_none : (tx : TxId) (body : Body) → is_request body ≡ true → is_mine tx body ≡ false
 request_none tx (Epoch (DiVerifyReq other ops)) is = absurd cc
 request_none tx (Client (TcKeyConf other answer)) is = absurd cc
 request_none tx _ is = refl
@@ -136,7 +136,8 @@ own tx body = record {
   rolled_back = λ why. refl;
 }
 
-others_none : (tx : TxId) (s : TcState) (body : Body) → OthersSend (λ (o : Outgoing). is_mine tx o.body ≡ false) tx s
+pub others_none : (tx : TxId) (s : TcState) (body : Body) → OthersSend (λ (o : Outgoing). is_mine tx o.body ≡ false) tx
+    s
     body
 others_none tx s body one off its t =
     each_of (is_own one) (λ o. is_mine tx o.body ≡ false) (λ o e. own_none one tx off o.body e)
@@ -144,7 +145,7 @@ others_none tx s body one off its t =
     (turn_each s.node s.layout one body t (TurnOnly (is_own one))
     (own_kinds (is_own one) one body (own one body) s.node s.layout t) its)
 
-beside_none : (tx : TxId) (s : TcState) → SendsBeside (λ (o : Outgoing). is_mine tx o.body ≡ false) s
+pub beside_none : (tx : TxId) (s : TcState) → SendsBeside (λ (o : Outgoing). is_mine tx o.body ≡ false) s
 beside_none tx s = record { full = λ name. (refl, tt); begins = λ name. (refl, tt); passes = λ one ahead. (refl, tt) }
 
 -- nor does another block
@@ -181,27 +182,27 @@ module _ (tx : TxId) where
   move_none s body after sends (refuses other front t back about passes was is kind) = of_kind_none is_api_kind
       api_kind_none sends kind
 
-  api_none : (s : ApiState) (body : Body) → NoneMine tx (api_table s body).effects.sends
+  pub api_none : (s : ApiState) (body : Body) → NoneMine tx (api_table s body).effects.sends
   api_none s body = move_none s body _ _ (api_moves s body)
 
-  rows_none : (s : LqhState) (body : Body) → NoneMine tx (lqh_table s body).effects.sends
+  pub rows_none : (s : LqhState) (body : Body) → NoneMine tx (lqh_table s body).effects.sends
   rows_none s body = of_kind_none is_lqh_kind rows_kind_none (lqh_table s body).effects.sends (lqh_kinds s body)
 
-  dih_none : (s : DihState) (body : Body) → NoneMine tx (dih_table s body).effects.sends
+  pub dih_none : (s : DihState) (body : Body) → NoneMine tx (dih_table s body).effects.sends
   dih_none s body = of_kind_none is_dih_kind dih_kind_none (dih_table s body).effects.sends (dih_kinds s body)
 
 -- what else a coordinator sends
-abbrev is_quiet : Body → Bool
+abbrev pub is_quiet : Body → Bool
 is_quiet (Epoch (DiVerifyReq other ops)) = false
 is_quiet (Client (TcKeyConf other answer)) = false
 is_quiet _ = true
 
-quiet_none : (tx : TxId) (body : Body) → is_quiet body ≡ true → is_mine tx body ≡ false
+pub quiet_none : (tx : TxId) (body : Body) → is_quiet body ≡ true → is_mine tx body ≡ false
 quiet_none tx (Epoch (DiVerifyReq other ops)) e = absurd cc
 quiet_none tx (Client (TcKeyConf other answer)) e = absurd cc
 quiet_none tx _ e = refl
 
-quiet_chains : (tx : TxId) → HasChains tx is_quiet
+pub quiet_chains : (tx : TxId) → HasChains tx is_quiet
 quiet_chains tx = record {
   commits = λ key epoch chain at. refl;
   completes = λ key chain at. refl;
@@ -209,7 +210,7 @@ quiet_chains tx = record {
   goes_on = λ at. refl;
 }
 
-quiet_front : (tx : TxId) (phase : Phase) → are_of is_quiet (front_sends tx phase) ≡ true
+pub quiet_front : (tx : TxId) (phase : Phase) → are_of is_quiet (front_sends tx phase) ≡ true
 unfolding front_sends
 quiet_front tx (Completing epoch awaited) = refl
 quiet_front tx (Committing epoch awaited) = refl
@@ -217,7 +218,7 @@ quiet_front tx (Aborting why verifying awaited) = refl
 quiet_front tx Open = refl
 quiet_front tx Verifying = refl
 
-abort_quiet : (node : ℕ) (tx : TxId) (why : AbortCause) (verifying : Bool) → are_of is_quiet
+pub abort_quiet : (node : ℕ) (tx : TxId) (why : AbortCause) (verifying : Bool) → are_of is_quiet
     (abort.abort_end node tx why verifying) ≡ true
 abort_quiet node tx why true = refl
 abort_quiet node tx why false = refl

@@ -1,5 +1,6 @@
 //! What is reported of a transaction is what the history has of it.
 ghost use Rattle.report_laws.specs.Answered.{GivenAreOfEntries, ReportedAreGiven};
+ghost use Rattle.report_laws.specs.Asked.{AskedAreOfEntries};
 ghost use Rattle.report_laws.specs.Growing.{HistoriesGrow};
 ghost use Rattle.report_laws.specs.Reported.{AbortsAreInNone, CommitsAreInHistory, EndsAreReportedOnce};
 ghost use Rattle.report_laws.specs.Reports.{ReportsAreTheHistory};
@@ -34,11 +35,17 @@ pub fn aborts_are_in_none()
     ensures { AbortsAreInNone }
 {}
 
-/// Of two closed cuts, one within the other, the history of the smaller one is that of the larger
+/// Of two cuts, one within the other, the history of the smaller one is that of the larger
 /// one with some entries left out: none of its entries is lost, and none changes its place among
 /// them.
 pub fn histories_grow()
     ensures { HistoriesGrow }
+{}
+
+/// A transaction that is decided has just the operations that the client asked its coordinator for,
+/// all of them, in their order.
+pub fn asked_are_of_entries()
+    ensures { AskedAreOfEntries }
 {}
 
 /// In each step of host 0 the client is told no answer of an operation, or just the one that the
