@@ -40,12 +40,15 @@ missing_if : (k : Known) (before : Member) (all : Bool) → Kept k (if all then 
 missing_if k before true = suspect_kept k before
 missing_if k before false = kept_self k
 
+pub missed_kept : (k : Known) (before : Member) → Kept k (with_missing (with_round k) before)
+missed_kept k before =
+    let rounded = with_round k in
+    kept_on k rounded (with_missing rounded before) (round_if k _ _) (missing_if rounded before _)
+
 round_by_kept : (k : Known) (next before : Option Member) → Kept k (round_by k next before).state
 round_by_kept k (Some next) (Some before) =
-    let rounded = with_round k in
-    let missing = with_missing rounded before in
-    told_on k missing (has_more k missing)
-    (kept_on k rounded missing (round_if k _ _) (missing_if rounded before _))
+    let missing = with_missing (with_round k) before in
+    told_on k missing (has_more k missing) (missed_kept k before)
 round_by_kept k (Some next) None = kept_self k
 round_by_kept k None before = kept_self k
 
@@ -68,7 +71,7 @@ report_kept k suspects =
     let l = with_suspects k suspects in
     told_on k l (has_more k l) (suspects_kept k suspects)
 
-closing_kept : (k : Known) (member : Member) → Kept k (with_closing k member)
+pub closing_kept : (k : Known) (member : Member) → Kept k (with_closing k member)
 closing_kept k member =
     let l : Known = record k { closed = noted k.closed member } in
     kept_on k l (with_closed l)
@@ -105,7 +108,7 @@ absent_promised_if k set false =
     let first = with_suspects k (without (members_of k.layout.view) (members_of set)) in
     suspects_promised first _ ∙ suspects_promised k _
 
-absent_kept : (k : Known) (set : View) → Kept k (with_absent k set)
+pub absent_kept : (k : Known) (set : View) → Kept k (with_absent k set)
 unfolding with_absent
 absent_kept k set = absent_if k set (is_special k.layout.view set)
 
@@ -133,15 +136,19 @@ higher_number k set e =
     let parts = and_parts (nat_lt k.promised.number set.number) _ e in
     ltb-true k.promised.number set.number parts.0
 
+pub allowed_kept : (k : Known) (set : View) → may_promise k set ≡ true → Kept k (promising (with_absent k set) set)
+allowed_kept k set e =
+    let absent = with_absent k set in
+    let above : k.promised.number < set.number = higher_number k set e in
+    let same : absent.promised.number ≡ k.promised.number = ap (λ (v : View). v.number) (absent_promised k set) in
+    kept_on k absent (promising absent set) (absent_kept k set) (promising_kept absent set (omega arith))
+
 promise_by_kept : (s : QmgrState) (to : ℕ) (set : View) (may : Bool) → may_promise s.known set ≡ may
     → Kept s.known (promise_by s to set may).state.known
 promise_by_kept s to set true e =
     let k = s.known in
-    let absent = with_absent k set in
-    let l = promising absent set in
-    let above : k.promised.number < set.number = higher_number k set e in
-    let same : absent.promised.number ≡ k.promised.number = ap (λ (v : View). v.number) (absent_promised k set) in
-    told_on k l (has_more k l) (kept_on k absent l (absent_kept k set) (promising_kept absent set (omega arith)))
+    let l = promising (with_absent k set) set in
+    told_on k l (has_more k l) (allowed_kept k set e)
 promise_by_kept s to set false e =
     let k = s.known in
     let absent = with_absent k set in
@@ -219,7 +226,7 @@ pub refused_kept : (k : Known) (number : ℕ) (members : List Member) → Kept k
 unfolding refused_row
 refused_kept k number members = refused_by_kept k k.outstanding number members
 
-unlike_kept : (k : Known) (set other : View) → Kept k (with_unlike k set other)
+pub unlike_kept : (k : Known) (set other : View) → Kept k (with_unlike k set other)
 unfolding with_unlike
 unlike_kept k set other =
     let first = with_suspects k (without set.full other.full) in
