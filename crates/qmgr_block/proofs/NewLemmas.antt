@@ -36,10 +36,11 @@ use Rattle.qmgr_block.specs.Starts.{covers}
 use Rattle.qmgr_block.specs.State.{QmgrState}
 use Rattle.qmgr_block.specs.Suspects.{close_row, has_more, is_kept_suspect, president, presides, report_row, told, told_by, told_if, with_closing, with_suspects}
 use Rattle.qmgr_block.proofs.KeptLemmas.{Kept, kept_on, kept_self, suspects_kept}
-use Rattle.qmgr_block.proofs.RowLemmas.{absent_kept, allowed_kept, closing_kept, missed_kept, unlike_kept}
+use Rattle.qmgr_block.proofs.RowLemmas.{absent_kept, allowed_kept, closed_by, closing_kept, missed_kept, unlike_kept}
 
 -- lists
-new_append : (before k : Known) (xs ys : List Outgoing) → AreNew before k xs → AreNew before k ys → AreNew before k (xs ++ ys)
+new_append : (before k : Known) (xs ys : List Outgoing)
+    → AreNew before k xs → AreNew before k ys → AreNew before k (xs ++ ys)
 new_append before k [] ys one other = other
 new_append before k (x ∷ xs) ys one other = (one.0, new_append before k xs ys one.1 other)
 
@@ -125,18 +126,21 @@ told_if_new before k true kept = told_new before k kept
 told_if_new before k false kept = tt
 
 -- orders to stop
-stops_new : (before k : Known) (cause : StopCause) (members : List Member) → AreNew before k (map (stop_of cause) members)
+stops_new : (before k : Known) (cause : StopCause) (members : List Member)
+    → AreNew before k (map (stop_of cause) members)
 stops_new before k cause [] = tt
 stops_new before k cause (member ∷ members) = (tt, stops_new before k cause members)
 
-stopping_new : (k : Known) (p : Proposal) (cause : StopCause) → AreNew k (stopping k p cause).state (stopping k p cause).effects.sends
+stopping_new : (k : Known) (p : Proposal) (cause : StopCause)
+    → AreNew k (stopping k p cause).state (stopping k p cause).effects.sends
 unfolding stop_sends
 stopping_new k p cause =
     new_append k k (map (stop_of cause) (without (members_of p.view) (k.me ∷ []))) (stop_of cause k.me ∷ [])
     (stops_new k k cause _) (tt, tt)
 
 -- the rows
-round_by_new : (k : Known) (next before : Option Member) → AreNew k (round_by k next before).state (round_by k next before).effects.sends
+round_by_new : (k : Known) (next before : Option Member)
+    → AreNew k (round_by k next before).state (round_by k next before).effects.sends
 round_by_new k (Some next) (Some before) =
     let missing = with_missing (with_round k) before in
     (tt, told_if_new k missing (has_more k missing) (missed_kept k before))
@@ -147,18 +151,17 @@ round_new : (k : Known) → AreNew k (round_row k).state (round_row k).effects.s
 unfolding round_row
 round_new k = round_by_new k (sides k).next (sides k).before
 
-heartbeat_new : (k : Known) (member : Member) → AreNew k (heartbeat_row k member).state (heartbeat_row k member).effects.sends
+heartbeat_new : (k : Known) (member : Member)
+    → AreNew k (heartbeat_row k member).state (heartbeat_row k member).effects.sends
 unfolding heartbeat_row
 heartbeat_new k member = tt
 
-report_new : (k : Known) (suspects : List Member) → AreNew k (report_row k suspects).state (report_row k suspects).effects.sends
+report_new : (k : Known) (suspects : List Member)
+    → AreNew k (report_row k suspects).state (report_row k suspects).effects.sends
 unfolding report_row
 report_new k suspects =
     let l = with_suspects k suspects in
     told_if_new k l (has_more k l) (suspects_kept k suspects)
-
-abbrev closed_by : Known → Member → Bool → Bool → Step Known
-closed_by k member own changed = if own then stay k else told_if (with_closing k member) changed
 
 close_if_new : (k : Known) (member : Member) (own changed : Bool)
     → AreNew k (closed_by k member own changed).state (closed_by k member own changed).effects.sends
@@ -205,7 +208,8 @@ fence_new : (s : QmgrState) (host : ℕ) → AreNew s.known (fence_row s host).s
 unfolding fence_row
 fence_new s host = fence_place_new s (is_ldm host) (position (waits_for (is_ldm host)) s.promises)
 
-confirm_all_new : (k : Known) (p : Proposal) (free : Bool) → AreNew k (confirmed_all k p free).state (confirmed_all k p free).effects.sends
+confirm_all_new : (k : Known) (p : Proposal) (free : Bool)
+    → AreNew k (confirmed_all k p free).state (confirmed_all k p free).effects.sends
 confirm_all_new k p true = tt
 confirm_all_new k p false = (tt, tt)
 
@@ -229,7 +233,8 @@ confirm_new : (k : Known) (number : ℕ) (member : Member)
 unfolding confirm_row
 confirm_new k number member = confirm_by_new k k.outstanding number member
 
-granted_if_new : (k : Known) (p : Proposal) (may : Bool) → AreNew k (granted_if k p may).state (granted_if k p may).effects.sends
+granted_if_new : (k : Known) (p : Proposal) (may : Bool)
+    → AreNew k (granted_if k p may).state (granted_if k p may).effects.sends
 granted_if_new k p true = tt
 granted_if_new k p false = tt
 
@@ -290,7 +295,8 @@ join_new k member =
     next.above next.higher
 
 start_by_new : (k : Known) (member : Member) (full in_view settled seen : Bool)
-    → AreNew k (start_by k member full in_view settled seen).state (start_by k member full in_view settled seen).effects.sends
+    → AreNew k (start_by k member full in_view settled seen).state
+    (start_by k member full in_view settled seen).effects.sends
 start_by_new k member true in_view settled seen = (tt, tt)
 start_by_new k member false true settled seen = tt
 start_by_new k member false false false seen = tt
@@ -366,7 +372,8 @@ host_new k member number (Continue Installation at) = work_new k number
 host_new k member number _ = tt
 
 membership_new : (s : QmgrState) (host : ℕ) (member : Member) (signal : MembershipSignal)
-    → AreNew s.known (membership_table s host member signal).state.known (membership_table s host member signal).effects.sends
+    → AreNew s.known (membership_table s host member signal).state.known
+    (membership_table s host member signal).effects.sends
 membership_new s host member Heartbeat = heartbeat_new s.known member
 membership_new s host member (FailRep suspects) = report_new s.known suspects
 membership_new s host member (PrepFailReq proposal) = promise_new s member.node proposal
@@ -386,7 +393,8 @@ joining_new k (StartGone member) = close_new k member
 joining_new k _ = tt
 
 pub table_new : (s : QmgrState) (host : ℕ) (member : Member) (number : ℕ) (body : Body)
-    → AreNew s.known (qmgr_table s host member number body).state.known (qmgr_table s host member number body).effects.sends
+    → AreNew s.known (qmgr_table s host member number body).state.known
+    (qmgr_table s host member number body).effects.sends
 table_new s host member number (Host signal) = host_new s.known member number signal
 table_new s host member number (Membership signal) = membership_new s host member signal
 table_new s host member number (Joining signal) = joining_new s.known signal

@@ -15,6 +15,7 @@ use Rattle.sig_core.specs.declared.signal.joining.JoiningSignal.TheVariants.{Pro
 use Rattle.sig_core.specs.declared.signal.membership.MembershipSignal.{MembershipSignal}
 use Rattle.sig_core.specs.declared.signal.membership.MembershipSignal.TheVariants.{ArbitConf, ArbitRef, FailRep, FenceConf, Heartbeat, PrepFailConf, PrepFailRef, PrepFailReq, StopSet}
 use Rattle.sig_core.specs.declared.view.View.{View}
+use Rattle.sig_core.specs.Step.{Step, stay}
 use Rattle.qmgr_block.specs.declared.known.Known.{Known}
 use Rattle.qmgr_block.specs.declared.known.Proposal.{Proposal}
 use Rattle.qmgr_block.specs.declared.promise.Promise.{Promise}
@@ -33,7 +34,14 @@ use Rattle.qmgr_block.proofs.KeptLemmas.{Kept, all_noted_holds, closed_kept, kep
 
 -- heartbeats
 round_if : (k : Known) (n : ℕ) (less : Bool) → Kept k (if less then record k { missed = n } else k)
-round_if k n true = record { promised = omega arith; proposed = omega arith; closed = λ m e. e; seen = λ m e. e; above = λ below. below }
+round_if k n true =
+    record {
+      promised = omega arith;
+      proposed = omega arith;
+      closed = λ m e. e;
+      seen = λ m e. e;
+      above = λ below. below;
+    }
 round_if k n false = kept_self k
 
 missing_if : (k : Known) (before : Member) (all : Bool) → Kept k (if all then with_suspect k before else k)
@@ -84,8 +92,11 @@ closing_kept k member =
     })
     (closed_kept l)
 
+abbrev pub closed_by : Known → Member → Bool → Bool → Step Known
+closed_by k member own changed = if own then stay k else told_if (with_closing k member) changed
+
 close_if : (k : Known) (member : Member) (own changed : Bool)
-    → Kept k (if own then record { state = k; effects = record { sends = []; marks = [] } } else told_if (with_closing k member) changed).state
+    → Kept k (closed_by k member own changed).state
 close_if k member true changed = kept_self k
 close_if k member false changed = told_on k (with_closing k member) changed (closing_kept k member)
 
@@ -178,7 +189,14 @@ fence_kept s host = fence_place s (is_ldm host) (position (waits_for (is_ldm hos
 
 -- what becomes of a proposal
 open_kept : (k : Known) (outstanding : Option Proposal) → Kept k (record k { outstanding = outstanding })
-open_kept k outstanding = record { promised = omega arith; proposed = omega arith; closed = λ m e. e; seen = λ m e. e; above = λ below. below }
+open_kept k outstanding =
+    record {
+      promised = omega arith;
+      proposed = omega arith;
+      closed = λ m e. e;
+      seen = λ m e. e;
+      above = λ below. below;
+    }
 
 confirm_all_kept : (k : Known) (p : Proposal) (free : Bool) → Kept k (confirmed_all k p free).state
 confirm_all_kept k p true = open_kept k (Some p)
@@ -205,7 +223,8 @@ granted_if_kept : (k : Known) (p : Proposal) (may : Bool) → Kept k (granted_if
 granted_if_kept k p true = kept_self k
 granted_if_kept k p false = kept_self k
 
-granted_by_kept : (k : Known) (outstanding : Option Proposal) (number : ℕ) → Kept k (granted_by k outstanding number).state
+granted_by_kept : (k : Known) (outstanding : Option Proposal) (number : ℕ)
+    → Kept k (granted_by k outstanding number).state
 granted_by_kept k None number = kept_self k
 granted_by_kept k (Some p) number = granted_if_kept k p _
 
@@ -230,7 +249,8 @@ pub unlike_kept : (k : Known) (set other : View) → Kept k (with_unlike k set o
 unfolding with_unlike
 unlike_kept k set other =
     let first = with_suspects k (without set.full other.full) in
-    kept_on k first (with_suspects first (without set.starting other.starting)) (suspects_kept k _) (suspects_kept first _)
+    kept_on k first (with_suspects first (without set.starting other.starting))
+    (suspects_kept k _) (suspects_kept first _)
 
 unpromised_if_kept : (k : Known) (p : Proposal) (promised : View) (among : Bool)
     → Kept k (unpromised_if k p promised among).state
@@ -302,7 +322,8 @@ unfolding work_row
 work_kept k number = work_by_kept k _
 
 adopted_high : (promised view : View) (less : Bool) → nat_lt promised.number view.number ≡ less
-    → (promised.number ≤ (if less then view else promised).number) × (view.number ≤ (if less then view else promised).number)
+    → (promised.number ≤ (if less then view else promised).number)
+    × (view.number ≤ (if less then view else promised).number)
 adopted_high promised view true e =
     let lower : promised.number < view.number = ltb-true promised.number view.number e in
     (omega arith, omega arith)
