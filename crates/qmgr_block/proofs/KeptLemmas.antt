@@ -52,7 +52,8 @@ kept_on k l m one other =
     }
 
 -- suspects
-suspect_if : (k : Known) (suspects : List Member) (new : Bool) → Kept k (if new then record k { suspects = suspects } else k)
+suspect_if : (k : Known) (suspects : List Member) (new : Bool)
+    → Kept k (if new then record k { suspects = suspects } else k)
 suspect_if k suspects true = record {
   promised = omega arith;
   proposed = omega arith;
@@ -102,7 +103,8 @@ greatest_if a b false e = ltb-false a b e
 
 pub next_is_high : (k : Known) → k.proposed ≤ next_number k
 next_is_high k =
-    let great : k.proposed ≤ greatest_number k = greatest_if k.promised.number k.proposed (nat_lt k.promised.number k.proposed) refl in
+    let great : k.proposed ≤ greatest_number k =
+    greatest_if k.promised.number k.proposed (nat_lt k.promised.number k.proposed) refl in
     omega arith
 
 pub proposed_if_kept : (k : Known) (view : View) (joining : Option Member) (may : Bool) → k.proposed ≤ view.number
@@ -114,7 +116,8 @@ pub propose_kept : (k : Known) → Kept k (propose k).state
 unfolding propose
 propose_kept k = proposed_if_kept k (remaining_view k) None (has_number k) (next_is_high k)
 
-told_by_kept : (k : Known) (own joined : Bool) (president : Option Member) → Kept k (told_by k joined own president).state
+told_by_kept : (k : Known) (own joined : Bool) (president : Option Member)
+    → Kept k (told_by k joined own president).state
 told_by_kept k own false president = kept_self k
 told_by_kept k true true president = propose_kept k
 told_by_kept k false true None = kept_self k

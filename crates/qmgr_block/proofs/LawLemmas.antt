@@ -2,9 +2,10 @@
 use Rattle.std.proofs.Common.{◌≡◌, ◌≤◌, List, [], ◌∷◌, arith}
 use Rattle.frag_map.specs.Layout.{Layout}
 use Rattle.sig_core.specs.declared.member.Member.{Member}
-use Rattle.qmgr_block.specs.Laws.{Event, LastPromiseIsNotBelowTheView, NumbersNeverFall, StartsAreNotForgotten, after, after_all, installs, takes}
+use Rattle.qmgr_block.specs.Laws.{Event, LastPromiseIsNotBelowTheView, NumbersNeverFall, ProposalsAreNew, StartsAreNotForgotten, after, after_all, installs, takes}
 use Rattle.qmgr_block.specs.State.{QmgrState, fresh_qmgr}
 use Rattle.qmgr_block.proofs.KeptLemmas.{Kept, kept_on, kept_self}
+use Rattle.qmgr_block.proofs.NewLemmas.{table_new}
 use Rattle.qmgr_block.proofs.RowLemmas.{installed_kept, table_kept}
 
 event_kept : (s : QmgrState) (event : Event) → Kept s.known (after s event).known
@@ -29,3 +30,6 @@ not_forgotten s events member =
 
 pub not_below : LastPromiseIsNotBelowTheView
 not_below me layout events = (all_kept (fresh_qmgr me layout) events).above (omega arith)
+
+pub are_new : ProposalsAreNew
+are_new s x = table_new s x.from.0 x.member x.view.number x.body

@@ -15,6 +15,7 @@ use Rattle.sig_core.specs.declared.signal.joining.JoiningSignal.TheVariants.{Pro
 use Rattle.sig_core.specs.declared.signal.membership.MembershipSignal.{MembershipSignal}
 use Rattle.sig_core.specs.declared.signal.membership.MembershipSignal.TheVariants.{ArbitConf, ArbitRef, FailRep, FenceConf, Heartbeat, PrepFailConf, PrepFailRef, PrepFailReq, StopSet}
 use Rattle.sig_core.specs.declared.view.View.{View}
+use Rattle.sig_core.specs.Step.{Step, stay}
 use Rattle.qmgr_block.specs.declared.known.Known.{Known}
 use Rattle.qmgr_block.specs.declared.known.Proposal.{Proposal}
 use Rattle.qmgr_block.specs.declared.promise.Promise.{Promise}
@@ -33,19 +34,29 @@ use Rattle.qmgr_block.proofs.KeptLemmas.{Kept, all_noted_holds, closed_kept, kep
 
 -- heartbeats
 round_if : (k : Known) (n : ℕ) (less : Bool) → Kept k (if less then record k { missed = n } else k)
-round_if k n true = record { promised = omega arith; proposed = omega arith; closed = λ m e. e; seen = λ m e. e; above = λ below. below }
+round_if k n true =
+    record {
+      promised = omega arith;
+      proposed = omega arith;
+      closed = λ m e. e;
+      seen = λ m e. e;
+      above = λ below. below;
+    }
 round_if k n false = kept_self k
 
 missing_if : (k : Known) (before : Member) (all : Bool) → Kept k (if all then with_suspect k before else k)
 missing_if k before true = suspect_kept k before
 missing_if k before false = kept_self k
 
+pub missed_kept : (k : Known) (before : Member) → Kept k (with_missing (with_round k) before)
+missed_kept k before =
+    let rounded = with_round k in
+    kept_on k rounded (with_missing rounded before) (round_if k _ _) (missing_if rounded before _)
+
 round_by_kept : (k : Known) (next before : Option Member) → Kept k (round_by k next before).state
 round_by_kept k (Some next) (Some before) =
-    let rounded = with_round k in
-    let missing = with_missing rounded before in
-    told_on k missing (has_more k missing)
-    (kept_on k rounded missing (round_if k _ _) (missing_if rounded before _))
+    let missing = with_missing (with_round k) before in
+    told_on k missing (has_more k missing) (missed_kept k before)
 round_by_kept k (Some next) None = kept_self k
 round_by_kept k None before = kept_self k
 
@@ -68,7 +79,7 @@ report_kept k suspects =
     let l = with_suspects k suspects in
     told_on k l (has_more k l) (suspects_kept k suspects)
 
-closing_kept : (k : Known) (member : Member) → Kept k (with_closing k member)
+pub closing_kept : (k : Known) (member : Member) → Kept k (with_closing k member)
 closing_kept k member =
     let l : Known = record k { closed = noted k.closed member } in
     kept_on k l (with_closed l)
@@ -81,8 +92,11 @@ closing_kept k member =
     })
     (closed_kept l)
 
+abbrev pub closed_by : Known → Member → Bool → Bool → Step Known
+closed_by k member own changed = if own then stay k else told_if (with_closing k member) changed
+
 close_if : (k : Known) (member : Member) (own changed : Bool)
-    → Kept k (if own then record { state = k; effects = record { sends = []; marks = [] } } else told_if (with_closing k member) changed).state
+    → Kept k (closed_by k member own changed).state
 close_if k member true changed = kept_self k
 close_if k member false changed = told_on k (with_closing k member) changed (closing_kept k member)
 
@@ -105,7 +119,7 @@ absent_promised_if k set false =
     let first = with_suspects k (without (members_of k.layout.view) (members_of set)) in
     suspects_promised first _ ∙ suspects_promised k _
 
-absent_kept : (k : Known) (set : View) → Kept k (with_absent k set)
+pub absent_kept : (k : Known) (set : View) → Kept k (with_absent k set)
 unfolding with_absent
 absent_kept k set = absent_if k set (is_special k.layout.view set)
 
@@ -133,15 +147,19 @@ higher_number k set e =
     let parts = and_parts (nat_lt k.promised.number set.number) _ e in
     ltb-true k.promised.number set.number parts.0
 
+pub allowed_kept : (k : Known) (set : View) → may_promise k set ≡ true → Kept k (promising (with_absent k set) set)
+allowed_kept k set e =
+    let absent = with_absent k set in
+    let above : k.promised.number < set.number = higher_number k set e in
+    let same : absent.promised.number ≡ k.promised.number = ap (λ (v : View). v.number) (absent_promised k set) in
+    kept_on k absent (promising absent set) (absent_kept k set) (promising_kept absent set (omega arith))
+
 promise_by_kept : (s : QmgrState) (to : ℕ) (set : View) (may : Bool) → may_promise s.known set ≡ may
     → Kept s.known (promise_by s to set may).state.known
 promise_by_kept s to set true e =
     let k = s.known in
-    let absent = with_absent k set in
-    let l = promising absent set in
-    let above : k.promised.number < set.number = higher_number k set e in
-    let same : absent.promised.number ≡ k.promised.number = ap (λ (v : View). v.number) (absent_promised k set) in
-    told_on k l (has_more k l) (kept_on k absent l (absent_kept k set) (promising_kept absent set (omega arith)))
+    let l = promising (with_absent k set) set in
+    told_on k l (has_more k l) (allowed_kept k set e)
 promise_by_kept s to set false e =
     let k = s.known in
     let absent = with_absent k set in
@@ -171,7 +189,14 @@ fence_kept s host = fence_place s (is_ldm host) (position (waits_for (is_ldm hos
 
 -- what becomes of a proposal
 open_kept : (k : Known) (outstanding : Option Proposal) → Kept k (record k { outstanding = outstanding })
-open_kept k outstanding = record { promised = omega arith; proposed = omega arith; closed = λ m e. e; seen = λ m e. e; above = λ below. below }
+open_kept k outstanding =
+    record {
+      promised = omega arith;
+      proposed = omega arith;
+      closed = λ m e. e;
+      seen = λ m e. e;
+      above = λ below. below;
+    }
 
 confirm_all_kept : (k : Known) (p : Proposal) (free : Bool) → Kept k (confirmed_all k p free).state
 confirm_all_kept k p true = open_kept k (Some p)
@@ -198,7 +223,8 @@ granted_if_kept : (k : Known) (p : Proposal) (may : Bool) → Kept k (granted_if
 granted_if_kept k p true = kept_self k
 granted_if_kept k p false = kept_self k
 
-granted_by_kept : (k : Known) (outstanding : Option Proposal) (number : ℕ) → Kept k (granted_by k outstanding number).state
+granted_by_kept : (k : Known) (outstanding : Option Proposal) (number : ℕ)
+    → Kept k (granted_by k outstanding number).state
 granted_by_kept k None number = kept_self k
 granted_by_kept k (Some p) number = granted_if_kept k p _
 
@@ -219,11 +245,12 @@ pub refused_kept : (k : Known) (number : ℕ) (members : List Member) → Kept k
 unfolding refused_row
 refused_kept k number members = refused_by_kept k k.outstanding number members
 
-unlike_kept : (k : Known) (set other : View) → Kept k (with_unlike k set other)
+pub unlike_kept : (k : Known) (set other : View) → Kept k (with_unlike k set other)
 unfolding with_unlike
 unlike_kept k set other =
     let first = with_suspects k (without set.full other.full) in
-    kept_on k first (with_suspects first (without set.starting other.starting)) (suspects_kept k _) (suspects_kept first _)
+    kept_on k first (with_suspects first (without set.starting other.starting))
+    (suspects_kept k _) (suspects_kept first _)
 
 unpromised_if_kept : (k : Known) (p : Proposal) (promised : View) (among : Bool)
     → Kept k (unpromised_if k p promised among).state
@@ -295,7 +322,8 @@ unfolding work_row
 work_kept k number = work_by_kept k _
 
 adopted_high : (promised view : View) (less : Bool) → nat_lt promised.number view.number ≡ less
-    → (promised.number ≤ (if less then view else promised).number) × (view.number ≤ (if less then view else promised).number)
+    → (promised.number ≤ (if less then view else promised).number)
+    × (view.number ≤ (if less then view else promised).number)
 adopted_high promised view true e =
     let lower : promised.number < view.number = ltb-true promised.number view.number e in
     (omega arith, omega arith)

@@ -1,8 +1,12 @@
 -- What holds of the membership of a node along whatever it takes and installs.
-use Rattle.std.specs.Prelude.{◌≡◌, ◌≤◌, true, List, [], ◌∷◌}
+use Rattle.std.specs.Prelude.{◌≡◌, ◌<◌, ◌≤◌, true, List, [], ◌∷◌}
 use Rattle.frag_map.specs.Layout.{Layout}
 use Rattle.sig_core.specs.declared.member.Member.{Member}
+use Rattle.sig_core.specs.declared.outs.Outgoing.{Outgoing}
+use Rattle.sig_core.specs.declared.signal.Body.{Body}
+use Rattle.sig_core.specs.declared.signal.Body.TheVariants.{Membership}
 use Rattle.sig_core.specs.declared.signal.Signal.{Signal}
+use Rattle.sig_core.specs.declared.signal.membership.MembershipSignal.TheVariants.{PrepFailReq}
 use Rattle.sig_core.specs.declared.view.View.{View}
 use Rattle.qmgr_block.specs.declared.known.Known.{Known}
 use Rattle.qmgr_block.specs.Qmgr.{qmgr_installed, qmgr_row}
@@ -48,3 +52,20 @@ LastPromiseIsNotBelowTheView =
     (me : Member) (layout : Layout) (events : List Event)
     → (after_all (fresh_qmgr me layout) events).known.layout.view.number
     ≤ (after_all (fresh_qmgr me layout) events).known.promised.number
+
+-- What is sent, if it asks for a promise, names a number that was neither proposed nor promised before, nor was a
+-- greater one; and it counts as proposed from then on
+abbrev pub IsNewIn : Known → Known → Body → Type 0
+IsNewIn before k (Membership (PrepFailReq set)) =
+    (before.proposed < set.number) × (before.promised.number < set.number) × (set.number ≤ k.proposed)
+IsNewIn before k _ = Unit {0}
+
+-- so does all that is sent
+abbrev pub AreNew : Known → Known → List Outgoing → Type 0
+AreNew before k [] = Unit {0}
+AreNew before k (send ∷ sends) = IsNewIn before k send.body × AreNew before k sends
+
+-- no number is proposed at two signals
+abbrev pub ProposalsAreNew : Type 0
+ProposalsAreNew =
+    (s : QmgrState) (x : Signal) → AreNew s.known (qmgr_row s x).state.known (qmgr_row s x).effects.sends

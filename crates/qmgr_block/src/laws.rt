@@ -1,10 +1,16 @@
 //! What is true of the membership of a node, whatever signals come and whatever views are
 //! installed.
-ghost use Rattle.qmgr_block.specs.Laws.{LastPromiseIsNotBelowTheView, NumbersNeverFall, StartsAreNotForgotten};
+ghost use Rattle.qmgr_block.specs.Laws.{LastPromiseIsNotBelowTheView, NumbersNeverFall, ProposalsAreNew, StartsAreNotForgotten};
 
 /// The number of the last promise, and the greatest number proposed, never fall.
 pub fn numbers_never_fall()
     ensures { NumbersNeverFall }
+{}
+
+/// Each request for a promise names a number above all that the node has proposed or promised, and
+/// that counts as proposed from then on: so no number is proposed twice.
+pub fn proposals_are_new()
+    ensures { ProposalsAreNew }
 {}
 
 /// A start that has closed is never forgotten, nor one that was in a promise or a view.

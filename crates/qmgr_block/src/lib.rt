@@ -15,11 +15,11 @@ mod sets;
 mod starts;
 mod suspects;
 
-pub use known::{Known, Proposal};
-pub use laws::{last_promise_is_not_below_the_view, numbers_never_fall, starts_are_not_forgotten};
-pub use promise::Promise;
+pub use laws::{
+    last_promise_is_not_below_the_view, numbers_never_fall, proposals_are_new,
+    starts_are_not_forgotten,
+};
 pub use qmgr::Qmgr;
-pub use starts::Starts;
 
 #[cfg(test)]
 mod tests;
