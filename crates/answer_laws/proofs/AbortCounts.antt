@@ -3,9 +3,10 @@ use Rattle.std.proofs.Common.{◌≡◌, ◌≢◌, ℕ, ◌+◌, ◌≤◌, ◌
 use Rattle.std.specs.Prelude.{◌==◌, ◌&&◌, nat_lt}
 use Rattle.std.proofs.lemmas.Bool.{eq-eqb, eqb-true}
 use Rattle.std.proofs.lemmas.Bool.Decides.{nat_tests}
-use Rattle.lqh_block.specs.Abort.{abort_row, refused_by, waits_at}
+use Rattle.lqh_block.specs.Abort.{abort_row}
+use Rattle.lqh_block.proofs.LqhForms.{abort_forms}
 use Rattle.lqh_block.specs.Lqh.{lqh_table}
-use Rattle.lqh_block.specs.State.{LqhState, freed_lock, serve_granted}
+use Rattle.lqh_block.specs.State.{LqhState}
 use Rattle.sig_core.specs.declared.member.TxId.{TxId}
 use Rattle.sig_core.specs.declared.outs.Outgoing.{Outgoing}
 use Rattle.sig_core.specs.declared.place.Place.{Place}
@@ -14,22 +15,20 @@ use Rattle.sig_core.specs.declared.signal.Body.TheVariants.{Host, Chain}
 use Rattle.sig_core.specs.declared.signal.chain.ChainSignal.TheVariants.{Abort, Aborted}
 use Rattle.sig_core.specs.declared.signal.host.HostSignal.TheVariants.{Continue}
 use Rattle.sig_core.specs.declared.signal.host.Work.TheVariants as work
-use Rattle.sig_core.specs.Place.{coordinator_of}
 use Rattle.sig_core.specs.Same.{same_tx}
-use Rattle.sig_core.specs.Step.{to_place}
 use Rattle.world_core.specs.Hosts.{home, host_for, hosts}
 use Rattle.world_core.specs.Start.{Start}
 use Rattle.run_laws.proofs.AlongSteps.{home_place}
 use Rattle.host_laws.proofs.BlocksAlong.{reaches}
 use Rattle.host_laws.proofs.LinkCounts.{to_host}
 use Rattle.host_laws.proofs.LqhOps.{is_lqh, is_node, left_of, right_of, true_and}
-use Rattle.host_laws.proofs.Tally.{and_few, tally_append}
+use Rattle.host_laws.proofs.Tally.{and_few}
 use Rattle.host_laws.specs.Counts.{one_if}
 use Rattle.answer_laws.proofs.TcAborts.{aborted_body, is_abort}
 use Rattle.host_laws.proofs.PartCounts.{is_cont}
 use Rattle.host_laws.proofs.TcMoves.{same_tx-is}
-use Rattle.host_laws.proofs.TcSends.{eqb-self, tx_in}
-use Rattle.host_laws.proofs.TcTurns.{is_turn}
+use Rattle.host_laws.proofs.TcSends.{eqb-self}
+use Rattle.tc_block.proofs.TurnRows.{tx_in, is_turn}
 use Rattle.host_laws.proofs.Wishes.{is_tc, sends_of}
 
 -- what came to the rows of a node
@@ -39,18 +38,20 @@ abort_body tx _ = false
 
 -- a replica answers an abort
 pub lqh_aborts : (n : ℕ) (tx : TxId) (s : LqhState) (body : Body) → one_if (abort_body tx body) ≤ sends_of (is_abort n tx) (lqh_table s body).effects.sends
-unfolding abort_row
 lqh_aborts n tx s (Chain (Abort other key)) = by (same_tx other tx) refl
   where
     by : (b : Bool) → same_tx other tx ≡ b → one_if (same_tx other tx) ≤ sends_of (is_abort n tx) (abort_row s other key).effects.sends
     by false e = omega (arith, ap one_if e)
     by true e =
-        omega (
-          arith,
-          ap one_if e,
-          tally_append (λ (x : Outgoing). is_abort n tx x.to x.body) (refused_by other key (waits_at s other key)) (to_place (coordinator_of other) (Chain (Aborted other key)) ∷ serve_granted s.node (freed_lock s other key)),
-          ap one_if (true_and (other.tc == tx.tc) (same_tx other tx) (subst (λ (t : TxId). (t.tc == tx.tc) ≡ true) (sym (same_tx-is other tx e)) (eqb-self tx.tc)) e),
-        )
+        abort_forms (λ step. one_if (same_tx other tx) ≤ sends_of (is_abort n tx) step.effects.sends) s other key (record {
+          none = λ had st gives none. omega (arith, ap one_if e, ap one_if told);
+          some = λ had st gives at r there here. omega (arith, ap one_if e, ap one_if told);
+        })
+      where
+        told : ((other.tc == tx.tc) && same_tx other tx) ≡ true
+        told =
+            true_and (other.tc == tx.tc) (same_tx other tx)
+            (subst (λ (t : TxId). (t.tc == tx.tc) ≡ true) (sym (same_tx-is other tx e)) (eqb-self tx.tc)) e
 lqh_aborts n tx s _ = omega arith
 
 pub few_rows : (n : ℕ) (tx : TxId) (to : Place) (body : Body) → is_tc to.block ≡ false → one_if (is_abort n tx to body) ≤ one_if (abort_body tx body)

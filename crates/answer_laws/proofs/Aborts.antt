@@ -37,9 +37,9 @@ use Rattle.host_laws.proofs.LinkCounts.{signals}
 use Rattle.host_laws.proofs.LqhOps.{is_good, is_lqh, is_node, left_of}
 use Rattle.host_laws.proofs.PartCounts.{cont_block, is_cont}
 use Rattle.answer_laws.proofs.TcAborts.{AbortMove, abort_move, aborted_body, begins, continues, is_abort, waits}
-use Rattle.host_laws.proofs.TcSends.{tx_in}
-use Rattle.host_laws.proofs.TcSteps.{live_home, of_live}
-use Rattle.host_laws.proofs.TcTurns.{is_turn}
+use Rattle.host_laws.specs.Live.{of_live}
+use Rattle.host_laws.proofs.TcSteps.{live_home}
+use Rattle.tc_block.proofs.TurnRows.{tx_in, is_turn}
 use Rattle.answer_laws.proofs.SentInParts.{HomeStep, IsOwed, begun_owed, continued_owed, home_step, none_owed, s_more, stays_owed, t_more, waits_owed}
 use Rattle.host_laws.proofs.Wishes.{is_tc, sends_of}
 use Rattle.answer_laws.specs.Answered.{AreQuiet, NoAbortIsAwaited}

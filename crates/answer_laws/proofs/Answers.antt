@@ -25,8 +25,7 @@ use Rattle.answer_laws.proofs.Serves.{each_served}
 use Rattle.answer_laws.proofs.Verified.{no_epoch}
 use Rattle.answer_laws.specs.Answered.{AreQuiet, EachIsAnswered, IsOpenAt, IsKeptByCoordinator, WaitsForLock, is_answered_by, is_operating}
 use Rattle.host_laws.specs.OpenedAfter.{opened_after}
-use Rattle.host_laws.specs.Phases.{is_committing}
-use Rattle.tc_block.specs.Phases.{is_aborting, is_completing}
+use Rattle.tc_block.specs.Phases.{is_aborting, is_committing, is_completing}
 
 -- a phase that is none of the others is the open one
 pub only_open : (phase : Phase) → is_verifying phase ≡ false → is_committing phase ≡ false → is_completing phase ≡ false → is_aborting phase ≡ false → phase ≡ phases.Open

@@ -8,6 +8,7 @@ use Rattle.frag_map.specs.Shape.{IsShape}
 use Rattle.lqh_block.specs.Commit as commit
 use Rattle.lqh_block.specs.Lqh.{lqh_table}
 use Rattle.lqh_block.specs.State.{LqhState}
+use Rattle.lqh_block.proofs.LqhForms.{commit_forms}
 use Rattle.node_core.proofs.HostCases.{IsRowsStep, IsTcStep, tc_step}
 use Rattle.node_core.specs.Blocks.{has_tc, lqh_of, tc_of}
 use Rattle.run_theory.proofs.Pasts.{each_in}
@@ -46,16 +47,16 @@ use Rattle.host_laws.proofs.BlocksAlong.{IsHome, first_live, reaches, tc_layout}
 use Rattle.host_laws.proofs.HostTurns.{rows_turn, tc_turn}
 use Rattle.host_laws.proofs.LinkCounts.{signals}
 use Rattle.host_laws.proofs.LqhOps.{is_good, is_lqh, is_node, left_of, right_of, true_and}
-use Rattle.answer_laws.proofs.NodeOwes.{OwesOf, StepOwes, at_if, came_in, cont_in, tc_owes}
+use Rattle.answer_laws.proofs.NodeOwes.{OwesOf, StepOwes, tc_owes}
 use Rattle.host_laws.proofs.PartCounts.{IsPart, cont_block, is_cont}
 use Rattle.host_laws.proofs.TcCommits.{chain_at, is_chain, is_commit}
 use Rattle.host_laws.proofs.TcMoves.{same_tx-is}
-use Rattle.host_laws.proofs.TcOwes.{IsKnown, Owes, begins, goes_on, waits}
+use Rattle.host_laws.proofs.TcOwes.{at_if, begins, came_in, cont_in, goes_on, IsKnown, Owes, waits}
 use Rattle.host_laws.proofs.TcSends.{eqb-self}
 use Rattle.answer_laws.proofs.SentInParts.{HomeStep, IsOwed, begun_owed, continued_owed, home_step, none_owed, s_more, stays_owed, t_more, waits_owed}
 use Rattle.host_laws.proofs.Wishes.{is_tc, sends_of}
 use Rattle.answer_laws.specs.Answered.{AreQuiet, IsLiveAs, NoCommitIsAwaited}
-use Rattle.host_laws.specs.Phases.{is_committing}
+use Rattle.tc_block.specs.Phases.{is_committing}
 
 -- what came along the chain
 abbrev came_along : ℕ → TxId → Body → ℕ
@@ -66,35 +67,45 @@ came_along n tx _ = 0
 -- a replica answers a commit or passes it on
 commit_passed : (n : ℕ) (tx : TxId) (s : LqhState) (other : TxId) (key : List ℕ) (epoch : ℕ) (chain : List Member) (at : ℕ)
     → one_if (same_tx other tx && (is_good n chain && nat_lt at (length chain))) ≤ sends_of (is_commit n tx) (commit.commit_row s other key epoch chain at).effects.sends
-unfolding commit.commit_row
-commit_passed n tx s other key epoch chain at =
-    go (same_tx other tx && (is_good n chain && nat_lt at (length chain))) refl (at == 0) refl
+commit_passed n tx s other key epoch chain at = by (same_tx other tx && (is_good n chain && nat_lt at (length chain))) refl
   where
-    go : (m : Bool) → (same_tx other tx && (is_good n chain && nat_lt at (length chain))) ≡ m → (b : Bool)
-        → (at == 0) ≡ b
-        → one_if m ≤ sends_of (is_commit n tx) (commit.told_if (commit.applied s other key epoch (record_state s.rows other key)) other key epoch chain at (record_state s.rows other key) b).effects.sends
-    go false e b z = omega arith
-    go true e true z =
-        let same = left_of (same_tx other tx) (is_good n chain && nat_lt at (length chain)) e in
-        omega
-        (arith, ap one_if (true_and (other.tc == tx.tc) (same_tx other tx) (subst (λ (t : TxId). (t.tc == tx.tc) ≡ true) (sym (same_tx-is other tx same)) (eqb-self tx.tc)) same))
-    go true e false z =
-        let rest = right_of (same_tx other tx) (is_good n chain && nat_lt at (length chain)) e in
-        let good = left_of (is_good n chain) (nat_lt at (length chain)) rest in
-        let low = under (right_of (is_good n chain) (nat_lt at (length chain)) rest) in
-        omega (
-          arith,
-          ap one_if (true_and (is_node n (node_at chain (at - 1))) (same_tx other tx && (is_good n chain && nat_lt (at - 1) (length chain))) (chain_at n chain (at - 1) good (omega (arith, low)))
-              (true_and (same_tx other tx) (is_good n chain && nat_lt (at - 1) (length chain)) (left_of (same_tx other tx) (is_good n chain && nat_lt at (length chain)) e)
-              (true_and (is_good n chain) (nat_lt (at - 1) (length chain)) good (less low)))),
-        )
-      where
-        under : nat_lt at (length chain) ≡ true → at < length chain
-        under q = grind (arith, nat_tests, q)
+    under : nat_lt at (length chain) ≡ true → at < length chain
+    under q = grind (arith, nat_tests, q)
 
-        less : at < length chain → nat_lt (at - 1) (length chain) ≡ true
-        less q =
-            let r : at - 1 < length chain = omega (arith, q) in grind (arith, nat_tests, r)
+    less : at < length chain → nat_lt (at - 1) (length chain) ≡ true
+    less q =
+        let r : at - 1 < length chain = omega (arith, q) in grind (arith, nat_tests, r)
+
+    by : (m : Bool) → (same_tx other tx && (is_good n chain && nat_lt at (length chain))) ≡ m
+        → one_if m ≤ sends_of (is_commit n tx) (commit.commit_row s other key epoch chain at).effects.sends
+    by false e = omega arith
+    by true e =
+        commit_forms (λ step. 1 ≤ sends_of (is_commit n tx) step.effects.sends) s other key epoch chain at (record {
+          last = λ had st markers applies first. omega (
+            arith,
+            ap one_if (true_and (other.tc == tx.tc) (same_tx other tx)
+                (subst (λ (t : TxId). (t.tc == tx.tc) ≡ true) (sym (same_tx-is other tx same)) (eqb-self tx.tc)) same),
+          );
+          passes = λ had st markers applies behind. omega (
+            arith,
+            ap one_if (true_and (is_node n (node_at chain (at - 1))) (same_tx other tx && (is_good n chain && nat_lt (at - 1) (length chain)))
+                (chain_at n chain (at - 1) good (omega (arith, low)))
+                (true_and (same_tx other tx) (is_good n chain && nat_lt (at - 1) (length chain)) same
+                (true_and (is_good n chain) (nat_lt (at - 1) (length chain)) good (less low)))),
+          );
+        })
+      where
+        same : same_tx other tx ≡ true
+        same = left_of (same_tx other tx) (is_good n chain && nat_lt at (length chain)) e
+
+        rest : (is_good n chain && nat_lt at (length chain)) ≡ true
+        rest = right_of (same_tx other tx) (is_good n chain && nat_lt at (length chain)) e
+
+        good : is_good n chain ≡ true
+        good = left_of (is_good n chain) (nat_lt at (length chain)) rest
+
+        low : at < length chain
+        low = under (right_of (is_good n chain) (nat_lt at (length chain)) rest)
 
 lqh_commits : (n : ℕ) (tx : TxId) (s : LqhState) (body : Body)
     → came_along n tx body ≤ sends_of (is_commit n tx) (lqh_table s body).effects.sends
@@ -109,7 +120,7 @@ few_along n tx to (Chain (Committed other key)) e =
 few_along n tx to _ e = omega arith
 
 few_answers : (n : ℕ) (tx : TxId) (to : Place) (body : Body) → is_lqh to.block ≡ false
-    → one_if (is_commit n tx to body) ≤ came_in n tx body
+    → one_if (is_commit n tx to body) ≤ came_in tx body
 few_answers n tx to (Chain (Commit other key epoch chain at)) e =
     omega
     (arith, ap (λ b. one_if ((b && is_node n to.node) && (same_tx other tx && (is_good n chain && nat_lt at (length chain))))) e)
@@ -137,10 +148,10 @@ commit_low start tx low to _ e = cc
 
 -- what goes on goes on at a place
 cont_is : (n : ℕ) (tx : TxId) (a : ℕ) (to : Place) (body : Body) → is_cont tx a to body ≡ true
-    → cont_in n tx body ≡ Some a
+    → cont_in tx body ≡ Some a
 cont_is n tx a to (Host (Continue (work.Transaction other) at)) e =
     let rest = right_of (is_tc to.block && (to.node == tx.tc)) (same_tx other tx && (at == a)) e in
-    ap (λ b. at_if n tx b at) (left_of (same_tx other tx) (at == a) rest)
+    ap (λ b. at_if b at) (left_of (same_tx other tx) (at == a) rest)
     ∙ ap (λ k. Some k) (eqb-true at a (right_of (same_tx other tx) (at == a) rest))
 cont_is n tx a to _ e = cc
 
@@ -165,7 +176,7 @@ module _ (start : Start) (shape : IsShape start.shape) (tx : TxId) where
 
   owes : (h : ℕ) (log : List HostStep) (body : Body) → has_tc (after start h log) ≡ true
       → AreKnown (tc_of (after start h log))
-      → StepOwes nodes tx (tc_of (after start h log)) (tc_table (tc_of (after start h log)) body).state (tc_table (tc_of (after start h log)) body).effects.sends (came_in nodes tx body) (cont_in nodes tx body)
+      → StepOwes nodes tx (tc_of (after start h log)) (tc_table (tc_of (after start h log)) body).state (tc_table (tc_of (after start h log)) body).effects.sends (came_in tx body) (cont_in tx body)
   owes h log body on known =
       let x = at_tc start tx h log in
       tc_owes nodes tx (tc_of (after start h log)) body known x.once x.own
@@ -308,10 +319,10 @@ module _ (start : Start) (shape : IsShape start.shape) (tx : TxId) where
             ((tc_of (step_after start at (logs at) e).state ≡ tc_of (after start at (logs at))) × (is_tc e.step.taken.to.block ≡ false))
             → AtHome (tc_of (after start at (logs at))) (tc_of (step_after start at (logs at) e).state) u (step_after start at (logs at) e).effects.sends k e.step.taken.to e.step.taken.body
         by (inl step) =
-            owed (cont_in nodes tx e.step.taken.body) (came_in nodes tx e.step.taken.body)
+            owed (cont_in tx e.step.taken.body) (came_in tx e.step.taken.body)
             (few_answers nodes tx e.step.taken.to e.step.taken.body (ap is_lqh step.at))
             (λ a c. cont_is nodes tx a e.step.taken.to e.step.taken.body c)
-            (subst (λ f. OwesOf nodes tx (tc_of (after start at (logs at))) u f.sends k (came_in nodes tx e.step.taken.body) (cont_in nodes tx e.step.taken.body)) (sym step.effects)
+            (subst (λ f. OwesOf nodes tx (tc_of (after start at (logs at))) u f.sends k (came_in tx e.step.taken.body) (cont_in tx e.step.taken.body)) (sym step.effects)
             ((owes at (logs at) e.step.taken.body step.runs (known_after at (logs at))).owes u epoch k (subst (λ (t : TcState). IsIn (tx, u) t.live) step.state live_now) is))
         by (inr other) =
             kept (subst (λ (t : TcState). IsIn (tx, u) t.live) other.0 live_now)

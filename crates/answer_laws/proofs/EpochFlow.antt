@@ -9,8 +9,7 @@ use Rattle.sig_core.specs.declared.member.TxId.{TxId}
 use Rattle.sig_core.specs.declared.outs.Outgoing.{Outgoing}
 use Rattle.sig_core.specs.declared.place.Place.{Place}
 use Rattle.sig_core.specs.declared.signal.Body.{Body}
-use Rattle.sig_core.specs.declared.signal.Body.TheVariants.{Client, Epoch}
-use Rattle.sig_core.specs.declared.signal.client.ClientSignal.TheVariants.{TcBeginReq}
+use Rattle.sig_core.specs.declared.signal.Body.TheVariants.{Epoch}
 use Rattle.sig_core.specs.declared.signal.epoch.EpochSignal.TheVariants.{DiVerifyReq, DiVerifyConf, DiVerifyEnd}
 use Rattle.sig_core.specs.declared.view.View.{View}
 use Rattle.sig_core.specs.Place.{client, coordinator, epochs}
@@ -18,20 +17,19 @@ use Rattle.sig_core.specs.Same.{same_tx}
 use Rattle.sig_core.specs.Step.{Step}
 use Rattle.tc_block.specs.Sends.{verify_end}
 use Rattle.tc_block.specs.State.{TcState}
-use Rattle.tc_block.specs.Tc.{begin_if, begin_row, is_full, tc_table}
+use Rattle.tc_block.specs.Tc.{tc_table}
 use Rattle.world_core.specs.Machine.{after}
 use Rattle.run_laws.proofs.AlongSteps.{is_dih}
 use Rattle.host_laws.proofs.ApiMoves.{ApiMove, begun_as, ends, goes, is_api_kind, opens, refuses, rests}
 use Rattle.answer_laws.proofs.EpochCounts.{counts_by, ended_by, is_epochless, with_asked}
-use Rattle.answer_laws.proofs.EpochLives.{TurnCounts, asking, ending, gone, unchanged, turn_counts, rest_plain}
+use Rattle.answer_laws.proofs.EpochLives.{TurnCounts, asking, ending, gone, unchanged, turn_counts}
 use Rattle.host_laws.proofs.SendKinds.{are_of, is_dih_kind, is_lqh_kind, is_tc_kind, none_of, of_kind}
 use Rattle.host_laws.proofs.Tally.{and_few, none_if, tally_append}
 use Rattle.host_laws.specs.Counts.{one_if}
-use Rattle.host_laws.proofs.TcSends.{tc_kinds, tx_in}
-use Rattle.host_laws.proofs.TcSteps.{TcStep, begins, is_rest_kind, misses, takes, tc_step}
-use Rattle.host_laws.proofs.TcSteps as steps
-use Rattle.host_laws.proofs.TcTurns.{turn_moves, turn_row}
-use Rattle.host_laws.proofs.Wishes.{and_false, is_tc, second_fails, sends_of}
+use Rattle.tc_block.proofs.TurnRows as turns
+use Rattle.tc_block.proofs.TurnRows.{begins, misses, takes, tc_step, TcStep, turn_row, tx_in}
+use Rattle.host_laws.proofs.TcTurns.{turn_moves}
+use Rattle.host_laws.proofs.Wishes.{and_false, is_tc, second_fails, sends_of, tc_none}
 
 -- a transaction asks for an epoch, and is given one
 abbrev pub is_req : TxId → Place → Body → Bool
@@ -50,8 +48,10 @@ is_epoch to body = is_dih to.block && not (is_epochless body)
 abbrev pub at_place : (Place → Bool) → (Place → Body → Bool) → Place → Body → Bool
 at_place at test to body = at to && test to body
 
-pub plain_none : (at : Place → Bool) (sends : List Outgoing) → are_of is_epochless sends ≡ true → sends_of (at_place at is_epoch) sends ≡ 0
-plain_none at sends kind = none_of is_epochless (at_place at is_epoch) (λ to body k. and_false (at to) (is_dih to.block) (ap not k)) sends kind
+pub plain_none : (at : Place → Bool) (sends : List Outgoing) → are_of is_epochless sends ≡ true
+    → sends_of (at_place at is_epoch) sends ≡ 0
+plain_none at sends kind =
+    none_of is_epochless (at_place at is_epoch) (λ to body k. and_false (at to) (is_dih to.block) (ap not k)) sends kind
 
 pub dih_plain : (body : Body) → is_dih_kind body ≡ true → is_epochless body ≡ true
 dih_plain (Epoch (DiVerifyConf tx epoch)) e = refl
@@ -71,37 +71,54 @@ api_plain (Epoch (DiVerifyEnd tx)) e = cc
 api_plain _ e = refl
 
 -- a coordinator sends such signals to its own node alone
-pub tc_epochs : (s : TcState) (at : Place → Bool) → at (epochs s.node) ≡ false → (body : Body) → sends_of (at_place at is_epoch) (tc_table s body).effects.sends ≡ 0
+pub tc_epochs : (s : TcState) (at : Place → Bool) → at (epochs s.node) ≡ false → (body : Body)
+    → sends_of (at_place at is_epoch) (tc_table s body).effects.sends ≡ 0
 tc_epochs s at off body = go (tc_table s body) (tc_step s body)
   where
     go : (step : Step TcState) → TcStep s body step → sends_of (at_place at is_epoch) step.effects.sends ≡ 0
-    go step (steps.rests about is kind) = plain_none at step.effects.sends (of_kind is_rest_kind is_epochless rest_plain step.effects.sends kind)
-    go step (begins name about room is) = ap (λ (x : Step TcState). sends_of (at_place at is_epoch) x.effects.sends) is ∙ none_if (at client)
+    go step (turns.rests off is) = ap (λ (x : Step TcState). sends_of (at_place at is_epoch) x.effects.sends) is
+    go step (turns.refuses name about is) =
+        ap (λ (x : Step TcState). sends_of (at_place at is_epoch) x.effects.sends) is ∙ none_if (at client)
+    go step (begins name about room is) = ap (λ (x : Step TcState). sends_of (at_place at is_epoch) x.effects.sends) is
+        ∙ none_if (at client)
+    go step (turns.passes tx ahead about is) =
+        ap (λ (x : Step TcState). sends_of (at_place at is_epoch) x.effects.sends) is ∙ none_if (at client)
     go step (misses about none is) = ap (λ (x : Step TcState). sends_of (at_place at is_epoch) x.effects.sends) is
     go step (takes about t front back was is) =
-        ap (λ (x : Step TcState). sends_of (at_place at is_epoch) x.effects.sends) is ∙ by (turn_counts s (tx_in body) t body (turn_row s body t) (turn_moves s body t about))
+        ap (λ (x : Step TcState). sends_of (at_place at is_epoch) x.effects.sends) is
+            ∙ by (turn_counts s (tx_in body) t body (turn_row s body t) (turn_moves s body t about))
       where
-        by : TurnCounts s.node (tx_in body) t (turn_row s body t) → sends_of (at_place at is_epoch) (turn_row s body t).step.effects.sends ≡ 0
+        by : TurnCounts s.node (tx_in body) t (turn_row s body t)
+            → sends_of (at_place at is_epoch) (turn_row s body t).step.effects.sends ≡ 0
         by (unchanged over keeps_it kind) = plain_none at _ kind
         by (gone over none kind) = plain_none at _ kind
-        by (asking ops over none some told) = ap (sends_of (at_place at is_epoch)) told ∙ ap (λ b. one_if (b && true) + 0) off
+        by (asking ops over none some told) = ap (sends_of (at_place at is_epoch)) told
+            ∙ ap (λ b. one_if (b && true) + 0) off
         by (ending over some before behind kind other told) =
             omega (
               arith,
               ap (sends_of (at_place at is_epoch)) told,
-              tally_append (λ (x : Outgoing). at_place at is_epoch x.to x.body) before (verify_end s.node (tx_in body) ∷ behind),
+              tally_append (λ (x : Outgoing). at_place at is_epoch x.to x.body) before
+                  (verify_end s.node (tx_in body) ∷ behind),
               plain_none at before kind,
               plain_none at behind other,
               ap (λ b. one_if (b && true)) off,
             )
 
-pub move_epochs : (at : Place → Bool) (s : ApiState) (body : Body) (after : View × List OpenTransaction) (sends : List Outgoing) → ApiMove s body after sends → sends_of (at_place at is_epoch) sends ≡ 0
-move_epochs at s body after sends (rests is kind void) = plain_none at sends (of_kind is_api_kind is_epochless api_plain sends kind)
-move_epochs at s body after sends (opens other node op new request is told) = ap (sends_of (at_place at is_epoch)) told ∙ none_if (at (coordinator node))
-move_epochs at s body after sends (begun_as other one front t u back about passes begun was is kind) = plain_none at sends (of_kind is_api_kind is_epochless api_plain sends kind)
-move_epochs at s body after sends (goes front t u back go void was is kind) = plain_none at sends (of_kind is_api_kind is_epochless api_plain sends kind)
-move_epochs at s body after sends (ends one front t back about passes was is kind) = plain_none at sends (of_kind is_api_kind is_epochless api_plain sends kind)
-move_epochs at s body after sends (refuses other front t back about passes was is kind) = plain_none at sends (of_kind is_api_kind is_epochless api_plain sends kind)
+pub move_epochs : (at : Place → Bool) (s : ApiState) (body : Body) (after : View × List OpenTransaction)
+    (sends : List Outgoing) → ApiMove s body after sends → sends_of (at_place at is_epoch) sends ≡ 0
+move_epochs at s body after sends (rests is kind void) =
+    plain_none at sends (of_kind is_api_kind is_epochless api_plain sends kind)
+move_epochs at s body after sends (opens other node op new request is told) = ap (sends_of (at_place at is_epoch)) told
+    ∙ none_if (at (coordinator node))
+move_epochs at s body after sends (begun_as other one front t u back about passes begun was is kind) =
+    plain_none at sends (of_kind is_api_kind is_epochless api_plain sends kind)
+move_epochs at s body after sends (goes front t u back go void was is kind) =
+    plain_none at sends (of_kind is_api_kind is_epochless api_plain sends kind)
+move_epochs at s body after sends (ends one front t back about passes was is kind) =
+    plain_none at sends (of_kind is_api_kind is_epochless api_plain sends kind)
+move_epochs at s body after sends (refuses other front t back about passes was is kind) =
+    plain_none at sends (of_kind is_api_kind is_epochless api_plain sends kind)
 
 -- what the block makes of its transactions
 pub dih_counts : (s : DihState) (body : Body) → (dih_table s body).state.counted ≡ counts_by body s.counted
@@ -137,21 +154,27 @@ abbrev pub req_body : TxId → Body → Bool
 req_body tx (Epoch (DiVerifyReq other ops)) = same_tx other tx
 req_body tx _ = false
 
-pub dih_few : (at : Place → Bool) (tx : TxId) (s : DihState) (body : Body) → sends_of (at_place at (is_conf tx)) (dih_table s body).effects.sends ≤ one_if (req_body tx body)
+pub dih_few : (at : Place → Bool) (tx : TxId) (s : DihState) (body : Body)
+    → sends_of (at_place at (is_conf tx)) (dih_table s body).effects.sends ≤ one_if (req_body tx body)
 unfolding decide_row end_row
 dih_few at tx s (Epoch (DiVerifyReq other ops)) = by (nat_lt (length s.counted) 64)
   where
-    by : (b : Bool) → sends_of (at_place at (is_conf tx)) (decide_if s other b).effects.sends ≤ one_if (same_tx other tx)
+    by : (b : Bool) → sends_of (at_place at (is_conf tx)) (decide_if s other b).effects.sends ≤ one_if
+        (same_tx other tx)
     by true = omega (arith, and_few (at (coordinator s.node)) (same_tx other tx))
     by false = omega arith
 dih_few at tx s (Epoch (DiVerifyEnd other)) = omega arith
 dih_few at tx s _ = omega arith
 
-pub dih_gives : (at : Place → Bool) (tx : TxId) (s : DihState) (body : Body) → at (coordinator s.node) ≡ true → (req_body tx body ≡ true → length s.counted < 64) → one_if (req_body tx body) ≤ sends_of (at_place at (is_conf tx)) (dih_table s body).effects.sends
+pub dih_gives : (at : Place → Bool) (tx : TxId) (s : DihState) (body : Body) → at (coordinator s.node) ≡ true
+    → (req_body tx body ≡ true → length s.counted < 64)
+    → one_if (req_body tx body) ≤ sends_of (at_place at (is_conf tx)) (dih_table s body).effects.sends
 unfolding decide_row end_row
-dih_gives at tx s (Epoch (DiVerifyReq other ops)) own few = by (same_tx other tx) refl (nat_lt (length s.counted) 64) refl
+dih_gives at tx s (Epoch (DiVerifyReq other ops)) own few =
+    by (same_tx other tx) refl (nat_lt (length s.counted) 64) refl
   where
-    by : (m : Bool) → same_tx other tx ≡ m → (b : Bool) → nat_lt (length s.counted) 64 ≡ b → one_if (same_tx other tx) ≤ sends_of (at_place at (is_conf tx)) (decide_if s other b).effects.sends
+    by : (m : Bool) → same_tx other tx ≡ m → (b : Bool) → nat_lt (length s.counted) 64 ≡ b
+        → one_if (same_tx other tx) ≤ sends_of (at_place at (is_conf tx)) (decide_if s other b).effects.sends
     by m e true q = omega (arith, ap (λ b. one_if (b && same_tx other tx)) own)
     by false e false q = omega (arith, ap one_if e)
     by true e false q = absurd (grind (arith, nat_tests, q, few e))
@@ -159,18 +182,18 @@ dih_gives at tx s (Epoch (DiVerifyEnd other)) own few = omega arith
 dih_gives at tx s _ own few = omega arith
 
 -- the other blocks give none
-pub no_conf : (at : Place → Bool) (tx : TxId) (kind : Body → Bool) → ((to : Place) (body : Body) → kind body ≡ true → is_conf tx to body ≡ false) → (sends : List Outgoing) → are_of kind sends ≡ true
+pub no_conf : (at : Place → Bool) (tx : TxId) (kind : Body → Bool)
+    → ((to : Place) (body : Body) → kind body ≡ true → is_conf tx to body ≡ false) → (sends : List Outgoing)
+    → are_of kind sends ≡ true
     → sends_of (at_place at (is_conf tx)) sends ≡ 0
-no_conf at tx kind fails sends e = none_of kind (at_place at (is_conf tx)) (λ to body k. second_fails (at to) (fails to body k)) sends e
+no_conf at tx kind fails sends e =
+    none_of kind (at_place at (is_conf tx)) (λ to body k. second_fails (at to) (fails to body k)) sends e
 
-pub tc_confless : (at : Place → Bool) (tx : TxId) (s : TcState) (body : Body) → sends_of (at_place at (is_conf tx)) (tc_table s body).effects.sends ≡ 0
-unfolding begin_row
-tc_confless at tx s (Client (TcBeginReq other)) = by (is_full s)
-  where
-    by : (b : Bool) → sends_of (at_place at (is_conf tx)) (begin_if s other b).effects.sends ≡ 0
-    by true = none_if (at client)
-    by false = none_if (at client)
-tc_confless at tx s body = no_conf at tx (is_tc_kind (tx_in body)) (fails (tx_in body)) (tc_table s body).effects.sends (tc_kinds s body refl)
+pub tc_confless : (at : Place → Bool) (tx : TxId) (s : TcState) (body : Body)
+    → sends_of (at_place at (is_conf tx)) (tc_table s body).effects.sends ≡ 0
+tc_confless at tx s body =
+    tc_none (at_place at (is_conf tx)) (λ one to b k. second_fails (at to) (fails one to b k))
+    (λ name. second_fails (at client) refl) (λ name other. second_fails (at client) refl) s body
   where
     fails : (one : TxId) (to : Place) (body : Body) → is_tc_kind one body ≡ true → is_conf tx to body ≡ false
     fails one to (Epoch (DiVerifyConf other epoch)) e = cc

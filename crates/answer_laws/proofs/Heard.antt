@@ -46,9 +46,10 @@ use Rattle.answer_laws.proofs.OpenTurns.{OpenTurn, commit_body, is_asked, is_tol
 use Rattle.answer_laws.proofs.Strangers.{answers_asked, answers_few, aside_answers, commits_few, keys_few, lqh_answers, starts_few, starts_once}
 use Rattle.host_laws.proofs.TcKeys.{answer_of, answers_in, is_answer, is_key, key_of_tx}
 use Rattle.host_laws.proofs.TcLives.{is_start, start_of}
-use Rattle.host_laws.proofs.TcSends.{tx_in}
-use Rattle.host_laws.proofs.TcSteps.{live_early, of_live}
-use Rattle.host_laws.proofs.TcTurns.{IsMissed, is_turn}
+use Rattle.host_laws.specs.Live.{of_live}
+use Rattle.host_laws.proofs.TcSteps.{live_early}
+use Rattle.tc_block.proofs.EachTurn.{IsMissed}
+use Rattle.tc_block.proofs.TurnRows.{tx_in, is_turn}
 use Rattle.answer_laws.proofs.Wants.{IsAsking, all_right, entry_next, held_few}
 use Rattle.host_laws.proofs.Wishes.{is_api, is_tc, second_fails, sends_of, to_node}
 use Rattle.host_laws.specs.OpenedAfter.{opened_in}

@@ -42,7 +42,8 @@ use Rattle.host_laws.proofs.LqhWaits.{came_to, hops, is_hop, queued, waiting}
 use Rattle.host_laws.proofs.SendKinds.{are_of, none_of}
 use Rattle.answer_laws.proofs.TcForth.{HopTurn, answer_came, hop_turn}
 use Rattle.host_laws.proofs.TcOps.{asks_key}
-use Rattle.host_laws.proofs.TcSteps.{live_early, of_live}
+use Rattle.host_laws.specs.Live.{of_live}
+use Rattle.host_laws.proofs.TcSteps.{live_early}
 use Rattle.answer_laws.proofs.Totals.{sent_all, taken_all}
 use Rattle.host_laws.proofs.Wishes.{is_tc}
 

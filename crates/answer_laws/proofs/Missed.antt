@@ -27,8 +27,8 @@ use Rattle.answer_laws.proofs.OpenTurns.{commit_body}
 use Rattle.host_laws.specs.Counts.{one_if, tally}
 use Rattle.host_laws.proofs.TcKeys.{key_of_tx}
 use Rattle.host_laws.proofs.TcMoves.{same_tx-is}
-use Rattle.host_laws.proofs.TcSends.{tx_in}
-use Rattle.host_laws.proofs.TcTurns.{IsMissed, is_turn}
+use Rattle.tc_block.proofs.EachTurn.{IsMissed}
+use Rattle.tc_block.proofs.TurnRows.{tx_in, is_turn}
 use Rattle.host_laws.proofs.Wishes.{is_api, is_tc}
 
 pub some_held : (tx : TxId) (opened : List OpenTransaction) (t : OpenTransaction) → of_opened tx opened ≡ Some t → 1 ≤ tally (has_tx tx) opened

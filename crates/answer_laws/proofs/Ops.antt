@@ -41,11 +41,11 @@ use Rattle.host_laws.proofs.BlocksAlong.{first_live, no_waiting, reaches, tc_lay
 use Rattle.host_laws.proofs.HostTurns.{idle_unheard}
 use Rattle.host_laws.proofs.LinkCounts.{signals}
 use Rattle.host_laws.proofs.LqhOps.{came_of, is_good, is_lqh, is_mine, is_node, is_op, left_of, lqh_ops, ops, right_of, true_and}
-use Rattle.host_laws.proofs.NodeOps.{AreRight, StepAsks, answers_of, is_asking, tc_steps}
+use Rattle.host_laws.proofs.NodeOps.{AreRight, StepAsks, is_asking, tc_steps}
 use Rattle.host_laws.proofs.Tally.{Counted, and_few, counted, tally_in}
 use Rattle.host_laws.specs.Counts.{one_if, tally}
 use Rattle.host_laws.proofs.TcMoves.{same_tx-is}
-use Rattle.host_laws.proofs.TcOps.{IsGoodLayout, asks_key}
+use Rattle.host_laws.proofs.TcOps.{answers_of, asks_key, IsGoodLayout}
 use Rattle.answer_laws.proofs.Totals.{Grown, sent_all, sent_more, taken_all, taken_more}
 use Rattle.host_laws.proofs.Sums.{IsSome, total_one, total_same, total_some}
 use Rattle.host_laws.specs.Counts.{total}
@@ -70,7 +70,7 @@ module _ (start : Start) (is : IsShape start.shape) (tx : TxId) (key : List ℕ)
 
   -- what a step of a coordinator makes of the operation
   turn : (h : ℕ) (log : List HostStep) (body : Body) → has_tc (after start h log) ≡ true → AreRight (tc_of (after start h log)).live
-      → StepAsks nodes tx key (tc_of (after start h log)) (tc_table (tc_of (after start h log)) body).state (tc_table (tc_of (after start h log)) body).effects.sends (answers_of nodes tx key body)
+      → StepAsks nodes tx key (tc_of (after start h log)) (tc_table (tc_of (after start h log)) body).state (tc_table (tc_of (after start h log)) body).effects.sends (answers_of tx key body)
   turn h log body on right =
       let x = at_tc start tx h log in
       tc_steps nodes tx key (tc_of (after start h log)) body right x.once x.own (subst (IsGoodLayout nodes) (sym (tc_layout start h log on)) good)
@@ -102,7 +102,7 @@ module _ (start : Start) (is : IsShape start.shape) (tx : TxId) (key : List ℕ)
   few_came to (Chain (LqhKeyRef other at why)) e = omega (arith, ap (λ b. one_if ((is_tc b && (to.node == tx.tc)) && (same_tx other tx && same_key at key))) e)
   few_came to _ e = omega arith
 
-  few_answers : (to : Place) (body : Body) → to.block ≡ block.Tc → came to body ≤ answers_of nodes tx key body
+  few_answers : (to : Place) (body : Body) → to.block ≡ block.Tc → came to body ≤ answers_of tx key body
   few_answers to (Chain (LqhKeyReq other what chain at)) e =
       omega (arith, ap (λ b. one_if ((is_lqh b && is_node nodes to.node) && is_mine nodes tx key (record { tx = other; work = what; chain = chain; at = at }))) e)
   few_answers to (Chain (LqhKeyConf other at answer)) e = and_few (is_tc to.block && (to.node == tx.tc)) _
@@ -207,7 +207,7 @@ module _ (start : Start) (is : IsShape start.shape) (tx : TxId) (key : List ℕ)
     step_home asks = go (other_kept t refl (block_case s e.step.taken))
       where
         at_tc_step : (step : IsTcStep s e.step.taken t)
-            → ((1 ≤ asking_at s) × (answers_of nodes tx key e.step.taken.body ≡ 0)) ⊎ (answers_of nodes tx key e.step.taken.body + 1 ≤ ops nodes tx key (tc_table (tc_of s) e.step.taken.body).effects.sends) → Home
+            → ((1 ≤ asking_at s) × (answers_of tx key e.step.taken.body ≡ 0)) ⊎ (answers_of tx key e.step.taken.body + 1 ≤ ops nodes tx key (tc_table (tc_of s) e.step.taken.body).effects.sends) → Home
         at_tc_step step (inl had) =
             inl (had.0, rows_same step.rows (omega (arith, had.1, few_answers e.step.taken.to e.step.taken.body step.at)))
         at_tc_step step (inr sent) =

@@ -1,6 +1,7 @@
--- Which hosts tell of a transaction: its coordinator alone answers its operations, and the API alone asks for its commit.
+-- Which hosts tell of a transaction: its coordinator alone answers its operations, and the API alone asks for its
+-- commit.
 use Rattle.std.proofs.Common.{◌≡◌, ◌≢◌, ℕ, ◌≤◌, ◌<◌, List, [], ◌∷◌, Bool, true, false, refl, ap, sym, ◌∙◌, arith}
-use Rattle.std.specs.Prelude.{◌==◌, not, Option}
+use Rattle.std.specs.Prelude.{◌==◌, not}
 use Rattle.std.proofs.lemmas.Bool.{false≢true}
 use Rattle.lqh_block.specs.Lqh.{lqh_table}
 use Rattle.node_core.proofs.HostCases.{of_effects}
@@ -17,10 +18,10 @@ use Rattle.sig_core.specs.declared.place.Place.{Place}
 use Rattle.sig_core.specs.declared.signal.Body.{Body}
 use Rattle.sig_core.specs.declared.signal.Body.TheVariants.{Client}
 use Rattle.sig_core.specs.declared.signal.Signal.{Signal}
-use Rattle.sig_core.specs.declared.signal.client.ClientSignal.TheVariants.{TcBeginReq, TcKeyConf, TcCommitReq}
+use Rattle.sig_core.specs.declared.signal.client.ClientSignal.TheVariants.{TcKeyConf, TcCommitReq}
 use Rattle.sig_core.specs.Same.{same_tx}
 use Rattle.tc_block.specs.State.{TcState}
-use Rattle.tc_block.specs.Tc.{begin_if, begin_row, is_full, tc_table}
+use Rattle.tc_block.specs.Tc.{tc_table}
 use Rattle.world_core.specs.Hosts.{home, hosts, tc_host}
 use Rattle.world_core.specs.Machine.{after, machine, step_after}
 use Rattle.world_core.specs.Start.{Start}
@@ -38,12 +39,13 @@ use Rattle.host_laws.proofs.LqhSends.{lqh_kinds}
 use Rattle.host_laws.proofs.SendKinds.{are_of, is_dih_kind, is_lqh_kind, is_tc_kind, none_of}
 use Rattle.host_laws.proofs.TcKeys.{answer_of, answers_in, is_answer, is_key, key_of_tx}
 use Rattle.host_laws.proofs.TcLives.{is_start, start_of}
-use Rattle.host_laws.proofs.TcSends.{tc_kinds, tx_in}
-use Rattle.host_laws.proofs.Wishes.{and_false, is_api, is_tc, sends_of, to_node}
+use Rattle.host_laws.proofs.Wishes.{and_false, is_api, is_tc, sends_of, to_node, tc_none}
 
 -- what isn't said of the transaction answers none of its operations
 pub aside_answers : (tx : TxId) (sends : List Outgoing) → are_of (is_aside tx) sends ≡ true → answers_in tx sends ≡ 0
-aside_answers tx sends kind = none_of (is_aside tx) (to_node 0 (is_answer tx)) (λ to b k. and_false (to.node == 0) (is_api to.block) (fails b k)) sends kind
+aside_answers tx sends kind =
+    none_of (is_aside tx) (to_node 0 (is_answer tx))
+    (λ to b k. and_false (to.node == 0) (is_api to.block) (fails b k)) sends kind
   where
     fails : (b : Body) → is_aside tx b ≡ true → answer_of tx b ≡ false
     fails (Client (TcKeyConf other answer)) e = by (same_tx other tx) e
@@ -54,37 +56,42 @@ aside_answers tx sends kind = none_of (is_aside tx) (to_node 0 (is_answer tx)) (
     fails _ e = refl
 
 pub lqh_answers : (tx : TxId) (sends : List Outgoing) → are_of is_lqh_kind sends ≡ true → answers_in tx sends ≡ 0
-lqh_answers tx sends kind = none_of is_lqh_kind (to_node 0 (is_answer tx)) (λ to b k. and_false (to.node == 0) (is_api to.block) (fails b k)) sends kind
+lqh_answers tx sends kind =
+    none_of is_lqh_kind (to_node 0 (is_answer tx))
+    (λ to b k. and_false (to.node == 0) (is_api to.block) (fails b k)) sends kind
   where
     fails : (b : Body) → is_lqh_kind b ≡ true → answer_of tx b ≡ false
     fails (Client (TcKeyConf other answer)) e = absurd (false≢true e)
     fails _ e = refl
 
 -- the commit of a transaction is asked for by the API alone
-commitless : (tx : TxId) (kind : Body → Bool) → ((other : TxId) → kind (Client (TcCommitReq other)) ≡ false) → (sends : List Outgoing) → are_of kind sends ≡ true → sends_of (is_commit_req tx) sends ≡ 0
+commitless : (tx : TxId) (kind : Body → Bool) → ((other : TxId) → kind (Client (TcCommitReq other)) ≡ false)
+    → (sends : List Outgoing) → are_of kind sends ≡ true → sends_of (is_commit_req tx) sends ≡ 0
 commitless tx kind none sends all = none_of kind (is_commit_req tx) fails sends all
   where
     fails : (to : Place) (b : Body) → kind b ≡ true → is_commit_req tx to b ≡ false
     fails to (Client (TcCommitReq other)) e = absurd (false≢true (sym (none other) ∙ e))
     fails to _ e = refl
 
-begin_commits : (tx : TxId) (s : TcState) (name : Option ℕ) (b : Bool) → sends_of (is_commit_req tx) (begin_if s name b).effects.sends ≡ 0
-begin_commits tx s name true = refl
-begin_commits tx s name false = refl
+tc_commitless : (tx : TxId) (s : TcState) (body : Body)
+    → sends_of (is_commit_req tx) (tc_table s body).effects.sends ≡ 0
+tc_commitless tx = tc_none (is_commit_req tx) fails (λ name. refl) (λ name other. refl)
+  where
+    fails : (one : TxId) (to : Place) (b : Body) → is_tc_kind one b ≡ true → is_commit_req tx to b ≡ false
+    fails one to (Client (TcCommitReq other)) e = cc
+    fails one to _ e = refl
 
-tc_commitless : (tx : TxId) (s : TcState) (body : Body) → sends_of (is_commit_req tx) (tc_table s body).effects.sends ≡ 0
-unfolding begin_row
-tc_commitless tx s (Client (TcBeginReq name)) = begin_commits tx s name (is_full s)
-tc_commitless tx s body = commitless tx (is_tc_kind (tx_in body)) (λ other. refl) (tc_table s body).effects.sends (tc_kinds s body refl)
-
-host_commitless : (tx : TxId) (s : host.Host) (x : Signal) → has_api s ≡ false → sends_of (is_commit_req tx) (row s x).effects.sends ≡ 0
+host_commitless : (tx : TxId) (s : host.Host) (x : Signal) → has_api s ≡ false
+    → sends_of (is_commit_req tx) (row s x).effects.sends ≡ 0
 host_commitless tx s x other =
     of_effects (λ f. sends_of (is_commit_req tx) f.sends ≡ 0) s x refl
     (record {
       api = λ runs at. absurd (false≢true (sym other ∙ runs));
       tc = λ runs at. tc_commitless tx (tc_of s) x.body;
-      dih = λ runs at. commitless tx is_dih_kind (λ one. refl) (dih_table (dih_of s) x.body).effects.sends (dih_kinds (dih_of s) x.body);
-      rows = λ runs at. commitless tx is_lqh_kind (λ one. refl) (lqh_table (lqh_of s) x.body).effects.sends (lqh_kinds (lqh_of s) x.body);
+      dih = λ runs at. commitless tx is_dih_kind (λ one. refl) (dih_table (dih_of s) x.body).effects.sends
+          (dih_kinds (dih_of s) x.body);
+      rows = λ runs at. commitless tx is_lqh_kind (λ one. refl) (lqh_table (lqh_of s) x.body).effects.sends
+          (lqh_kinds (lqh_of s) x.body);
     })
 
 plain_commit : (tx : TxId) (to : Place) (body : Body) → is_commit_req tx to body ≡ true → is_request body ≡ false
@@ -92,7 +99,8 @@ plain_commit tx to (Client (TcCommitReq other)) e = refl
 plain_commit tx to _ e = cc
 
 module _ (start : Start) (tx : TxId) where
-  never_commits : (h j : ℕ) (log : List HostStep) → h ≢ 0 → signals (is_commit_req tx) (sent (machine start) h j log) ≡ 0
+  never_commits : (h j : ℕ) (log : List HostStep) → h ≢ 0
+      → signals (is_commit_req tx) (sent (machine start) h j log) ≡ 0
   never_commits h j [] other = refl
   never_commits h j (e ∷ log) other =
       omega (
@@ -104,50 +112,69 @@ module _ (start : Start) (tx : TxId) where
       )
 
   -- no other host answers its operations
-  never_answers : (h : ℕ) (log : List HostStep) → h < hosts start → h ≢ home start tx → signals (is_answer tx) (sent (machine start) h 0 log) ≡ 0
+  never_answers : (h : ℕ) (log : List HostStep) → h < hosts start → h ≢ home start tx
+      → signals (is_answer tx) (sent (machine start) h 0 log) ≡ 0
   never_answers h [] low differs = refl
-  never_answers h (e ∷ log) low differs = omega (arith, never_answers h log low differs, shell_signals start (is_answer tx) h e log, by (turn_at start tx h log e))
+  never_answers h (e ∷ log) low differs =
+      omega (arith, never_answers h log low differs, shell_signals start (is_answer tx) h e log,
+      by (turn_at start tx h log e))
     where
-      by : HostTurn tx (after start h log) e.step.taken (step_after start h log e) → answers_in tx (step_after start h log e).effects.sends ≡ 0
-      by (in_rows step) = ap (λ f. answers_in tx f.sends) step.effects ∙ lqh_answers tx (lqh_table (lqh_of (after start h log)) e.step.taken.body).effects.sends (lqh_kinds (lqh_of (after start h log)) e.step.taken.body)
+      by : HostTurn tx (after start h log) e.step.taken (step_after start h log e)
+          → answers_in tx (step_after start h log e).effects.sends ≡ 0
+      by (in_rows step) = ap (λ f. answers_in tx f.sends) step.effects
+          ∙ lqh_answers tx (lqh_table (lqh_of (after start h log)) e.step.taken.body).effects.sends
+          (lqh_kinds (lqh_of (after start h log)) e.step.taken.body)
       by (aside step) = aside_answers tx (step_after start h log e).effects.sends step.kind
-      by (starting step) = absurd (differs ((at_own_node start h log low step.runs).is ∙ ap (tc_host start) (sym (ap (λ (v : TxId). v.tc) step.one))))
+      by (starting step) =
+          absurd (differs ((at_own_node start h log low step.runs).is
+          ∙ ap (tc_host start) (sym (ap (λ (v : TxId). v.tc) step.one))))
       by (turning step) = absurd (differs (at_home start tx h log step.was low step.there).is)
 
   module _ (logs : ℕ → List HostStep) (right : AreLogs (machine start) logs) (in_n : IsWithin (hosts start) logs) where
     -- what the coordinator took of it the API has sent
-    pub keys_few : steps (is_key tx) (logs (home start tx)) ≤ signals (is_key tx) (sent (machine start) 0 (home start tx) (logs 0))
+    pub keys_few : steps (is_key tx) (logs (home start tx)) ≤ signals (is_key tx)
+        (sent (machine start) 0 (home start tx) (logs 0))
     keys_few =
         omega (
           arith,
-          steps_from start (is_key tx) 0 (λ to body e. plain_key tx body (right_of (is_tc to.block) (key_of_tx tx body) e)) (logs (home start tx))
-              (λ k other. omega (arith, host_silent start tx k (home start tx) (logs k) other, few_taken start logs right (is_key tx) k (home start tx))),
+          steps_from start (is_key tx) 0
+              (λ to body e. plain_key tx body (right_of (is_tc to.block) (key_of_tx tx body) e)) (logs (home start tx))
+              (λ k other. omega (arith, host_silent start tx k (home start tx) (logs k) other,
+                  few_taken start logs right (is_key tx) k (home start tx))),
           few_taken start logs right (is_key tx) 0 (home start tx),
         )
 
-    pub commits_few : steps (is_commit_req tx) (logs (home start tx)) ≤ signals (is_commit_req tx) (sent (machine start) 0 (home start tx) (logs 0))
+    pub commits_few : steps (is_commit_req tx) (logs (home start tx)) ≤ signals (is_commit_req tx)
+        (sent (machine start) 0 (home start tx) (logs 0))
     commits_few =
         omega (
           arith,
           steps_from start (is_commit_req tx) 0 (plain_commit tx) (logs (home start tx))
-              (λ k other. omega (arith, never_commits k (home start tx) (logs k) other, few_taken start logs right (is_commit_req tx) k (home start tx))),
+              (λ k other. omega (arith, never_commits k (home start tx) (logs k) other,
+                  few_taken start logs right (is_commit_req tx) k (home start tx))),
           few_taken start logs right (is_commit_req tx) 0 (home start tx),
         )
 
     -- what the API took of it the coordinator has sent
-    pub answers_few : steps (is_answer tx) (logs 0) ≤ signals (is_answer tx) (sent (machine start) (home start tx) 0 (logs (home start tx)))
+    pub answers_few : steps (is_answer tx) (logs 0) ≤ signals (is_answer tx)
+        (sent (machine start) (home start tx) 0 (logs (home start tx)))
     answers_few =
         omega (
           arith,
-          steps_from start (is_answer tx) (home start tx) (λ to body e. plain_answer tx body (right_of (is_api to.block) (answer_of tx body) e)) (logs 0) (none_else start logs right in_n (is_answer tx) (home start tx) never_answers),
+          steps_from start (is_answer tx) (home start tx)
+              (λ to body e. plain_answer tx body (right_of (is_api to.block) (answer_of tx body) e)) (logs 0)
+              (none_else start logs right in_n (is_answer tx) (home start tx) never_answers),
           few_taken start logs right (is_answer tx) (home start tx) 0,
         )
 
-    pub starts_few : steps (is_start tx) (logs 0) ≤ signals (is_start tx) (sent (machine start) (home start tx) 0 (logs (home start tx)))
+    pub starts_few : steps (is_start tx) (logs 0) ≤ signals (is_start tx)
+        (sent (machine start) (home start tx) 0 (logs (home start tx)))
     starts_few =
         omega (
           arith,
-          steps_from start (is_start tx) (home start tx) (λ to body e. plain_start tx body (right_of (is_api to.block) (start_of tx body) e)) (logs 0) (none_else start logs right in_n (is_start tx) (home start tx) (silent_start start tx)),
+          steps_from start (is_start tx) (home start tx)
+              (λ to body e. plain_start tx body (right_of (is_api to.block) (start_of tx body) e)) (logs 0)
+              (none_else start logs right in_n (is_start tx) (home start tx) (silent_start start tx)),
           few_taken start logs right (is_start tx) (home start tx) 0,
         )
 
@@ -155,5 +182,6 @@ module _ (start : Start) (tx : TxId) where
     starts_once = omega (arith, starts_few, (keeps start tx (home start tx) (logs (home start tx))).keeps.once)
 
     -- what was answered was asked for
-    pub answers_asked : signals (is_answer tx) (sent (machine start) (home start tx) 0 (logs (home start tx))) ≤ steps (is_key tx) (logs (home start tx))
+    pub answers_asked : signals (is_answer tx) (sent (machine start) (home start tx) 0 (logs (home start tx))) ≤ steps
+        (is_key tx) (logs (home start tx))
     answers_asked = omega (arith, host_asked start tx (home start tx) (logs (home start tx)))

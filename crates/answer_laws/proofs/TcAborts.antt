@@ -33,7 +33,8 @@ use Rattle.sig_core.proofs.Keys.{same_tx-self}
 use Rattle.host_laws.proofs.LqhOps.{is_good, is_lqh, is_node, left_of, right_of, true_and}
 use Rattle.host_laws.specs.Counts.{one_if}
 use Rattle.host_laws.proofs.PartCounts.{IsPart, all_counted, is_cont, part_is}
-use Rattle.host_laws.proofs.TcTurns.{abort_ends, aborted, aborts, all_completed, answers, asked_to, asks, commits, committed, completed, completes, decides, ends, entered_phase, gives_up, GivesUp, goes_on, is_row_answer, IsAnswered, IsMissed, keeps, late, over_not, refused, TurnMove}
+use Rattle.tc_block.proofs.EachTurn.{IsAnswered, IsMissed}
+use Rattle.host_laws.proofs.TcTurns.{abort_ends, aborted, aborts, all_completed, answers, asked_to, asks, commits, committed, completed, completes, decides, ends, entered_phase, gives_up, GivesUp, goes_on, is_row_answer, keeps, late, over_not, refused, TurnMove}
 use Rattle.host_laws.proofs.Wishes.{is_tc, sends_of}
 use Rattle.tc_block.specs.Phases.{is_aborting}
 

@@ -28,7 +28,8 @@ use Rattle.answer_laws.proofs.LqhForth.{is_back, lqh_back}
 use Rattle.host_laws.proofs.LqhWaits.{is_forth}
 use Rattle.host_laws.proofs.SendKinds.{are_of, none_of, of_kind}
 use Rattle.answer_laws.proofs.TcForth.{BackTurn, back_turn}
-use Rattle.host_laws.proofs.TcSteps.{live_early, of_live}
+use Rattle.host_laws.specs.Live.{of_live}
+use Rattle.host_laws.proofs.TcSteps.{live_early}
 use Rattle.answer_laws.proofs.Totals.{sent_all}
 use Rattle.host_laws.proofs.Wishes.{sends_of}
 

@@ -41,9 +41,10 @@ use Rattle.host_laws.proofs.HostTurns.{HostTurn, aside, in_rows, is_aside, start
 use Rattle.host_laws.proofs.LinkCounts.{sent_signals, signals, taken_signals}
 use Rattle.host_laws.proofs.SendKinds.{are_of, none_of}
 use Rattle.host_laws.proofs.TcMoves.{same_tx-is}
-use Rattle.host_laws.proofs.TcSends.{tx_in}
 use Rattle.host_laws.proofs.TcSteps.{live_early}
-use Rattle.host_laws.proofs.TcTurns.{IsMissed, TurnMove, abort_ends, aborted, aborts, all_completed, answers, asks, commits, committed, completed, completes, decides, ends, entered_phase, gives_up, goes_on, is_turn, keeps, late, over_not}
+use Rattle.tc_block.proofs.EachTurn.{IsMissed}
+use Rattle.tc_block.proofs.TurnRows.{tx_in, is_turn}
+use Rattle.host_laws.proofs.TcTurns.{TurnMove, abort_ends, aborted, aborts, all_completed, answers, asks, commits, committed, completed, completes, decides, ends, entered_phase, gives_up, goes_on, keeps, late, over_not}
 use Rattle.host_laws.proofs.Wishes.{is_tc, second_fails, sends_of}
 use Rattle.answer_laws.specs.Answered.{AreQuiet, NoEpochIsAwaited}
 use Rattle.tc_block.specs.Phases.{is_aborting}

@@ -1,7 +1,6 @@
 -- What the API's transactions wait for when nothing is under way.
 use Rattle.frag_map.specs.Shape.{IsShape}
-use Rattle.tc_block.specs.Phases.{is_completing, is_aborting}
-use Rattle.host_laws.specs.Phases.{is_committing}
+use Rattle.tc_block.specs.Phases.{is_aborting, is_committing, is_completing}
 use Rattle.host_laws.specs.OpenedAfter.{opened_after}
 use Rattle.world_core.specs.Hosts.{home, rows_host}
 use Rattle.node_core.specs.Blocks.{lqh_of, tc_of}

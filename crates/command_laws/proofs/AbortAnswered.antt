@@ -53,7 +53,7 @@ use Rattle.command_laws.proofs.Pushes.{calm_since, is_node_kind, node_since}
 use Rattle.command_laws.proofs.ReadyAtQuiet.{named_at, opens, ready_open}
 use Rattle.command_laws.proofs.Reported.{OutcomeOf, ending_is}
 use Rattle.command_laws.proofs.Since.{none_taken, sent_since, arrives}
-use Rattle.command_laws.proofs.TellsOnce.{live_early}
+use Rattle.host_laws.proofs.TcSteps.{live_early}
 use Rattle.command_laws.proofs.TellsSince.{OnTc}
 use Rattle.command_laws.proofs.Tests.{and_off, none_at}
 use Rattle.command_laws.specs.Aborts.{ReadyAbortsAreAnswered}
@@ -141,8 +141,7 @@ module _ (answered : EachIsAnswered) (start : Start) (was now : ℕ → List Hos
       let live = live_tx start tx h (was h) o.transaction o.live in
       record {
         loose = subst (LooseOption false) (sym live) (ap (is_loose false) o.phase, o.asked);
-        early = live_early tx (tc_of (after start h (was h))).node (tc_of (after start h (was h))).next_seq
-            (tc_of (after start h (was h))).live o.transaction sound.own live;
+        early = live_early tx (tc_of (after start h (was h))) o.transaction live sound.own;
       }
 
   no_more : (h : ℕ) → sent_since start (is_more_to tx) h (cut h).newer (was h) ≡ 0

@@ -28,11 +28,10 @@ use Rattle.host_laws.specs.Counts.{one_if}
 use Rattle.host_laws.proofs.BlocksAlong.{no_live}
 use Rattle.host_laws.proofs.SendKinds.{none_of}
 use Rattle.host_laws.proofs.TcMoves.{same_tx-is}
-use Rattle.host_laws.proofs.TcSends.{tx_in}
 use Rattle.host_laws.proofs.TcSteps.{left_of_turn}
-use Rattle.host_laws.proofs.TcTurns.{is_turn, turn_row}
+use Rattle.tc_block.proofs.TurnRows.{tx_in, is_turn, turn_row}
 use Rattle.host_laws.proofs.Wishes.{is_tc, sends_of}
-use Rattle.run_laws.specs.Live.{of_live}
+use Rattle.host_laws.specs.Live.{of_live}
 use Rattle.command_laws.proofs.AbortTurns.{StaysLoose, is_loose, is_mild, is_more, is_requested, is_roll, loose_turn}
 use Rattle.command_laws.proofs.Homes.{lives_home, sound_at}
 use Rattle.command_laws.proofs.HostSends.{IsOfTc, is_other_kind}

@@ -1,7 +1,7 @@
--- A transaction that is open with no operation unanswered, and that is asked for neither one nor a commit, stays so until it is
+-- A transaction that is open with no operation unanswered, and that is asked for neither one nor a commit, stays so
+-- until it is
 -- aborted at the client's request.
 use Rattle.std.proofs.Common.{◌≡◌, ℕ, Bool, true, false, refl, sym, ap, ◌∙◌}
-use Rattle.std.specs.Prelude.{◌==◌, if◌then◌else◌, not, None, Some}
 use Rattle.sig_core.specs.declared.member.TxId.{TxId}
 use Rattle.sig_core.specs.declared.outcome.AbortCause.{AbortCause}
 use Rattle.sig_core.specs.declared.outcome.AbortCause.TheVariants.{Request}
@@ -17,11 +17,13 @@ use Rattle.tc_block.specs.declared.transaction.Transaction.{Transaction}
 use Rattle.tc_block.specs.Sends.{entering, front_sends}
 use Rattle.tc_block.specs.State.{TcState}
 use Rattle.tc_block.specs.Turn.{Turn}
-use Rattle.tc_block.proofs.EachTurn.{TurnForms}
 use Rattle.host_laws.proofs.SendKinds.{are_of, one_kind}
 use Rattle.host_laws.proofs.PhaseSends.{HasChains, entering_of_kind, rest_of_kind}
-use Rattle.host_laws.proofs.TcSends.{tx_in}
-use Rattle.host_laws.proofs.TcTurns.{turn_at, turn_row}
+use Rattle.std.specs.Prelude.{◌||◌, if◌then◌else◌, not, None, Some}
+use Rattle.std.proofs.lemmas.Bool.{false≢true}
+use Rattle.tc_block.specs.Phases.{is_aborting, is_decided}
+use Rattle.tc_block.proofs.EachTurn.{IsMissed, TurnFormsAt, rows_at}
+use Rattle.tc_block.proofs.TurnRows.{is_turn, turn_by, turn_row, tx_in}
 
 -- the client asked for it
 abbrev pub is_requested : AbortCause → Bool
@@ -57,7 +59,8 @@ pub record StaysLoose (asked : Bool) (turn : Turn) : Type 0 where
   pub sends : are_of is_mild turn.step.effects.sends ≡ true
 
 chains : (tx : TxId) → HasChains tx is_mild
-chains tx = record { commits = λ key epoch chain at. refl; completes = λ key chain at. refl; aborts = λ key. refl; goes_on = λ at. refl }
+chains tx = record { commits = λ key epoch chain at. refl; completes = λ key chain at. refl; aborts =
+    λ key. refl; goes_on = λ at. refl }
 
 fronts : (c : Bool) (tx : TxId) (phase : Phase) → is_loose c phase ≡ true → are_of is_mild (front_sends tx phase) ≡ true
 unfolding front_sends
@@ -83,60 +86,75 @@ module _ (c : Bool) (node : ℕ) (layout : Layout) (tx : TxId) (t : Transaction)
   ends why true e = one_kind (is_requested why) e
   ends why false e = one_kind (is_requested why) e
 
-  loose_forms : (body : Body) → is_more body ≡ false → is_roll body ≡ false
-      → TurnForms node layout tx t body (StaysLoose c)
-  loose_forms body plain unrolled = record {
-    stays = record { phase = λ on. fine; none = none; sends = refl };
-    goes_on = λ at. record { phase = λ on. fine; none = none; sends = rest_of_kind is_mild layout tx (chains tx) node t at (fronts c tx t.phase fine) };
+  -- so it is where nothing changes, unless the abort could begin
+  still_loose : (roll : Bool) → (roll ≡ true → (is_decided t.phase || is_aborting t.phase) ≡ true)
+      → is_loose (if roll then true else c) t.phase ≡ true
+  still_loose false late = fine
+  still_loose true late = by t.phase refl (late refl)
+    where
+      by : (phase : Phase) → t.phase ≡ phase → (is_decided phase || is_aborting phase) ≡ true
+          → is_loose true t.phase ≡ true
+      by Open is e = absurd cc
+      by Verifying is e = absurd cc
+      by (Committing epoch awaited) is e = absurd (not_at (Committing epoch awaited) is refl)
+      by (Completing epoch awaited) is e = absurd (not_at (Completing epoch awaited) is refl)
+      by (Aborting why verifying awaited) is e = ap (is_loose true) is ∙ (ap (is_loose c) (sym is) ∙ fine)
+
+  roll_missed : (body : Body) → IsMissed t body → is_roll body ≡ true
+      → (is_decided t.phase || is_aborting t.phase) ≡ true
+  roll_missed (Client (TcRollbackReq one)) missed e = missed
+  roll_missed _ missed e = absurd cc
+
+  loose_forms : (body : Body) → is_more body ≡ false
+      → TurnFormsAt node layout tx t body (StaysLoose (if is_roll body then true else c))
+  unfolding entering
+  loose_forms body plain = record {
+    stays = λ other missed. record { phase = λ on. still_loose (is_roll body) (roll_missed body missed); none =
+        none; sends = refl };
+    stops = λ at is high. record { phase = λ on. unrolled is refl; none = none; sends = refl };
+    goes_on = λ at is low. record { phase = λ on. unrolled is refl; none = none; sends =
+        rest_of_kind is_mild layout tx (chains tx) node t at (fronts c tx t.phase fine) };
     operates = λ op is can. absurd (not_of is_more body (Client (TcKeyReq tx op)) plain is refl);
-    answers = λ key answer asked is on at. absurd (not_asked asked on);
-    late = λ key asked why verifying awaited on at. absurd (not_asked asked on);
-    waits = λ asked on. absurd (not_asked asked on);
+    answers = λ key answer asked is own at. absurd (not_asked asked own.is);
+    late = λ key asked why verifying awaited is own at. absurd (not_asked asked own.is);
+    waits = λ asked is on. absurd (not_asked asked on);
     decides = λ is ready. absurd (not_of is_more body (Client (TcCommitReq tx)) plain is refl);
     commits = λ epoch is at some. absurd (not_at Verifying at refl);
-    commits_none = λ epoch is at. absurd (not_at Verifying at refl);
-    committed = λ epoch awaited at more. absurd (not_at (Committing epoch awaited) at refl);
-    committed_all = λ epoch awaited at. absurd (not_at (Committing epoch awaited) at refl);
-    completed = λ epoch awaited at more. absurd (not_at (Completing epoch awaited) at refl);
-    completed_all = λ epoch awaited at last. absurd (not_at (Completing epoch awaited) at refl);
-    rolls_back = λ is undecided unaborted. absurd (not_of is_roll body (Client (TcRollbackReq tx)) unrolled is refl);
-    refuses = λ key why asked is on at. absurd (not_asked asked on);
-    aborted = λ why verifying awaited at more.
-        record { phase = λ on. ap (is_loose c) (sym at) ∙ fine; none = none; sends = refl };
-    aborted_all = λ why verifying awaited at last.
-        record { phase = λ on. cc; none = none; sends = ends why verifying (ap (is_loose c) (sym at) ∙ fine) };
-  }
-
-  -- the abort is asked for
-  aborts : StaysLoose true (abort.aborted_for node layout tx t Request)
-  unfolding abort.aborted_for entering
-  aborts = which (abort.aborts_awaited layout t == 0)
-    where
-      which : (b : Bool) → StaysLoose true (abort.abort_if node layout tx t Request b)
-      which true = record { phase = λ on. cc; none = none; sends = ends Request (abort.is_verifying t.phase) refl }
-      which false = record {
+    commits_none = λ epoch is at zero. absurd (not_at Verifying at refl);
+    committed = λ key epoch awaited is at more. absurd (not_at (Committing epoch awaited) at refl);
+    committed_all = λ key epoch awaited is at last. absurd (not_at (Committing epoch awaited) at refl);
+    completed = λ key epoch awaited is at more. absurd (not_at (Completing epoch awaited) at refl);
+    completed_all = λ key epoch awaited is at last. absurd (not_at (Completing epoch awaited) at refl);
+    rolls_back = λ is undecided unaborted. record {
+      enters = λ some. record {
         phase = λ on. refl;
         none = none;
         sends =
             entering_of_kind is_mild layout tx (chains tx) node t
             (Aborting Request (abort.is_verifying t.phase) (abort.aborts_awaited layout t))
             (fronts true tx (Aborting Request (abort.is_verifying t.phase) (abort.aborts_awaited layout t)) refl);
-      }
-
-  pub rolls_back : StaysLoose true (abort.rollback_row node layout tx t)
-  unfolding abort.rollback_row
-  rolls_back = by t.phase refl
+      };
+      ends = λ zero. record { phase = λ on. cc; none = none; sends = ends Request (abort.is_verifying t.phase) refl };
+    };
+    refuses = λ key why asked is own at. absurd (not_asked asked own.is);
+    aborted = λ key why verifying awaited is at more.
+        record { phase = λ on. ap (is_loose c) (sym at) ∙ fine; none = none; sends = refl };
+    aborted_all = λ key why verifying awaited is at last.
+        record { phase = λ on. cc; none = none; sends = ends why verifying (ap (is_loose c) (sym at) ∙ fine) };
+  }
     where
-      by : (phase : Phase) → t.phase ≡ phase → StaysLoose true (abort.rollback_by node layout tx t phase)
-      by Open is = aborts
-      by Verifying is = absurd (not_at Verifying is refl)
-      by (Committing epoch awaited) is = absurd (not_at (Committing epoch awaited) is refl)
-      by (Completing epoch awaited) is = absurd (not_at (Completing epoch awaited) is refl)
-      by (Aborting why verifying awaited) is = record { phase = λ on. ap (is_loose true) is ∙ (ap (is_loose c) (sym is) ∙ fine); none = none; sends = refl }
+      unrolled : {b : Body} → body ≡ b → is_roll b ≡ false → is_loose (if is_roll body then true else c) t.phase ≡ true
+      unrolled is off = still_loose (is_roll body) (λ on. absurd (false≢true (sym (ap is_roll is ∙ off) ∙ on)))
 
 pub loose_turn : (c : Bool) (s : TcState) (tx : TxId) (body : Body) (t : Transaction) → tx_in body ≡ tx
     → is_more body ≡ false
     → is_loose c t.phase ≡ true → t.asked ≡ None → StaysLoose (if is_roll body then true else c) (turn_row s body t)
-loose_turn c s tx (Client (TcRollbackReq one)) t same plain fine none = rolls_back c s.node s.layout one t fine none
 loose_turn c s tx body t same plain fine none =
-    turn_at s tx body t (StaysLoose c) same (loose_forms c s.node s.layout tx t fine none body plain refl)
+    turn_by s t (StaysLoose (if is_roll body then true else c)) body
+    (rows_at s.node s.layout (tx_in body) t body (StaysLoose (if is_roll body then true else c))
+    (loose_forms c s.node s.layout (tx_in body) t fine none body plain))
+    (λ off. record { phase = λ on. still body off; none = none; sends = refl })
+  where
+    still : (b : Body) → is_turn b ≡ false → is_loose (if is_roll b then true else c) t.phase ≡ true
+    still (Client (TcRollbackReq one)) off = absurd cc
+    still _ off = fine

@@ -20,7 +20,7 @@ use Rattle.host_laws.proofs.DihSends.{dih_kinds}
 use Rattle.host_laws.proofs.LqhSends.{lqh_kinds}
 use Rattle.host_laws.proofs.SendKinds.{is_dih_kind, is_lqh_kind, none_of}
 use Rattle.host_laws.proofs.Wishes.{is_tc, sends_of}
-use Rattle.run_laws.specs.Live.{of_live}
+use Rattle.host_laws.specs.Live.{of_live}
 use Rattle.command_laws.proofs.EarlySteps.{GoesPast, IsOpenNow, IsPastNow, Leaves, StaysClean, bad_tc, clean_goes, fair_loss, is_bad, is_loss, is_wish_to, no_loss, past_goes, tc_no_ref, wish_of}
 use Rattle.command_laws.proofs.HostSends.{IsNotOfApi, api_silent, not_of_api, not_of_dih, not_of_lqh, or_first, or_second}
 use Rattle.command_laws.proofs.BlockSteps.{tc_host}

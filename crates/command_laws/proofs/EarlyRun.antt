@@ -36,7 +36,7 @@ use Rattle.host_laws.proofs.ApiBegins.{in_middle}
 use Rattle.host_laws.proofs.LinkCounts.{signals}
 use Rattle.host_laws.proofs.Wishes.{sends_of}
 use Rattle.answer_laws.specs.Answered.{AreQuiet}
-use Rattle.run_laws.specs.Live.{of_live}
+use Rattle.host_laws.specs.Live.{of_live}
 use Rattle.command_laws.proofs.EarlyNodes.{host_clean, host_past}
 use Rattle.command_laws.proofs.EarlySteps.{IsOpenNow, IsPastNow, Leaves, StaysClean, is_bad, is_loss, is_wish_to}
 use Rattle.command_laws.proofs.Homes.{lives_home, sound_at}

@@ -1,5 +1,5 @@
 -- A step of a node, where no commit or abort of the transaction is wished for.
-use Rattle.std.proofs.Common.{◌≡◌, ◌⊎◌, ◌<◌, ◌+◌, ℕ, Bool, true, false, List, [], ◌∷◌, refl, sym, ap, ◌∙◌, subst, inl, inr, arith}
+use Rattle.std.proofs.Common.{◌≡◌, ◌⊎◌, ◌<◌, ◌+◌, Bool, true, false, List, [], ◌∷◌, refl, sym, ap, ◌∙◌, subst, inl, inr, arith}
 use Rattle.std.specs.Prelude.{◌&&◌, if◌then◌else◌, Option, None, Some, not, ◌||◌}
 use Rattle.sig_core.proofs.Keys.{same_tx-self}
 use Rattle.sig_core.specs.declared.member.TxId.{TxId}
@@ -8,27 +8,26 @@ use Rattle.sig_core.specs.declared.place.Place.{Place}
 use Rattle.sig_core.specs.declared.signal.Body.{Body}
 use Rattle.sig_core.specs.declared.signal.Body.TheVariants.{Client, Chain}
 use Rattle.sig_core.specs.declared.signal.chain.ChainSignal.TheVariants.{Abort, LqhKeyRef}
-use Rattle.sig_core.specs.declared.signal.client.ClientSignal.TheVariants.{TcBeginReq, TcCommitConf, TcCommitReq, TcRollbackRep, TcRollbackReq}
+use Rattle.sig_core.specs.declared.signal.client.ClientSignal.TheVariants.{TcCommitConf, TcCommitReq, TcRollbackRep, TcRollbackReq}
 use Rattle.sig_core.specs.Same.{same_tx}
 use Rattle.sig_core.specs.Step.{Step}
 use Rattle.tc_block.specs.declared.phase.Phase.TheVariants.{Open}
 use Rattle.tc_block.specs.declared.transaction.Transaction.{Transaction}
 use Rattle.tc_block.specs.State.{TcState}
-use Rattle.tc_block.specs.Tc.{begin_if, begin_row, is_full, tc_table}
+use Rattle.tc_block.specs.Tc.{tc_table}
 use Rattle.tc_block.specs.Turn.{Turn}
 use Rattle.host_laws.specs.Counts.{one_if}
 use Rattle.host_laws.proofs.ApiMoves.{is_api_kind}
-use Rattle.host_laws.proofs.SendKinds.{are_of, is_dih_kind, is_tc_kind, none_of, of_kind}
-use Rattle.host_laws.proofs.TcSends.{tc_kinds, tx_in}
+use Rattle.host_laws.proofs.SendKinds.{are_of, is_dih_kind, is_tc_kind, none_of}
+use Rattle.host_laws.proofs.TcSends.{tc_only}
 use Rattle.host_laws.proofs.Wishes.{is_tc, sends_of}
-use Rattle.run_laws.specs.Live.{of_live}
+use Rattle.host_laws.specs.Live.{of_live}
 use Rattle.command_laws.proofs.EarlyTurns.{EarlyTurn, IsLeaving, is_no_end, is_past, is_wish, open_turn, past_turn}
 use Rattle.command_laws.proofs.HostSends.{IsOfTc, is_other_kind}
 use Rattle.command_laws.proofs.LqhFair.{is_fair}
 use Rattle.command_laws.proofs.TcPath.{IsSound, TcGoes, aside, begins, is_told, takes, told_of}
-use Rattle.command_laws.proofs.TellsOnce.{live_early}
-use Rattle.host_laws.proofs.TcSteps.{left_of_turn}
-use Rattle.host_laws.proofs.TcTurns.{turn_row}
+use Rattle.host_laws.proofs.TcSteps.{left_of_turn, live_early}
+use Rattle.tc_block.proofs.TurnRows.{tx_in, turn_row}
 use Rattle.command_laws.specs.Served.{is_refusal}
 
 -- an abort of the transaction, or a refusal for another cause
@@ -62,14 +61,8 @@ no_ref_tc : (one : TxId) (body : Body) → is_tc_kind one body ≡ true → is_n
 no_ref_tc one (Chain (LqhKeyRef tx key why)) e = cc
 no_ref_tc one _ e = refl
 
-begin_no_ref : (s : TcState) (name : Option ℕ) (b : Bool) → are_of is_no_ref (begin_if s name b).effects.sends ≡ true
-begin_no_ref s name true = refl
-begin_no_ref s name false = refl
-
 pub tc_no_ref : (s : TcState) (body : Body) → are_of is_no_ref (tc_table s body).effects.sends ≡ true
-unfolding begin_row
-tc_no_ref s (Client (TcBeginReq name)) = begin_no_ref s name (is_full s)
-tc_no_ref s body = of_kind (is_tc_kind (tx_in body)) is_no_ref (no_ref_tc (tx_in body)) (tc_table s body).effects.sends (tc_kinds s body refl)
+tc_no_ref = tc_only is_no_ref no_ref_tc (λ name. refl) (λ name tx. refl)
 
 abbrev pub OpenOption : Option Transaction → Type 0
 OpenOption None = Unit {0}
@@ -108,18 +101,23 @@ module _ (tx : TxId) where
   none_bad [] none = refl
   none_bad (x ∷ xs) none = by (told_of tx x.body) refl (none_bad xs (omega (arith, none)))
     where
-      by : (b : Bool) → told_of tx x.body ≡ b → sends_of (is_bad tx) xs ≡ 0 → one_if (is_bad tx x.to x.body) + sends_of (is_bad tx) xs ≡ 0
+      by : (b : Bool) → told_of tx x.body ≡ b → sends_of (is_bad tx) xs ≡ 0
+          → one_if (is_bad tx x.to x.body) + sends_of (is_bad tx) xs ≡ 0
       by true told rest = absurd (omega (arith, none, ap one_if told))
       by false told rest = omega (arith, rest, ap (λ b. one_if (not b)) (told_good x.body told))
 
-  none_loss : (xs : List Outgoing) → sends_of (is_told tx) xs ≡ 0 → are_of is_no_ref xs ≡ true → sends_of (is_loss tx) xs ≡ 0
+  none_loss : (xs : List Outgoing) → sends_of (is_told tx) xs ≡ 0 → are_of is_no_ref xs ≡ true
+      → sends_of (is_loss tx) xs ≡ 0
   none_loss [] none refs = refl
   none_loss (x ∷ xs) none refs = by (told_of tx x.body) (is_no_ref x.body) refl refl refs (none_loss xs)
     where
-      by : (a b : Bool) → told_of tx x.body ≡ a → is_no_ref x.body ≡ b → (if b then are_of is_no_ref xs else false) ≡ true
-          → (sends_of (is_told tx) xs ≡ 0 → are_of is_no_ref xs ≡ true → sends_of (is_loss tx) xs ≡ 0) → one_if (is_loss tx x.to x.body) + sends_of (is_loss tx) xs ≡ 0
+      by : (a b : Bool) → told_of tx x.body ≡ a → is_no_ref x.body ≡ b
+          → (if b then are_of is_no_ref xs else false) ≡ true
+          → (sends_of (is_told tx) xs ≡ 0 → are_of is_no_ref xs ≡ true → sends_of (is_loss tx) xs ≡ 0)
+              → one_if (is_loss tx x.to x.body) + sends_of (is_loss tx) xs ≡ 0
       by true b told ref rest more = absurd (omega (arith, none, ap one_if told))
-      by false true told ref rest more = omega (arith, more (omega (arith, none)) rest, ap (λ c. one_if (not c)) (told_fair x.body told ref))
+      by false true told ref rest more =
+          omega (arith, more (omega (arith, none)) rest, ap (λ c. one_if (not c)) (told_fair x.body told ref))
       by false false told ref rest more = cc
 
   good_end : (to : Place) (b : Body) → is_no_end b ≡ true → is_bad tx to b ≡ false
@@ -145,8 +143,10 @@ module _ (tx : TxId) where
   no_loss to _ e = refl
 
   wish_kind : (body : Body) → wish_of tx body ≡ false → tx_in body ≡ tx → is_wish body ≡ false
-  wish_kind (Client (TcCommitReq other)) off same = absurd (let both : false ≡ true = sym off ∙ (ap (λ v. same_tx v tx) same ∙ same_tx-self tx) in cc)
-  wish_kind (Client (TcRollbackReq other)) off same = absurd (let both : false ≡ true = sym off ∙ (ap (λ v. same_tx v tx) same ∙ same_tx-self tx) in cc)
+  wish_kind (Client (TcCommitReq other)) off same =
+      absurd (let both : false ≡ true = sym off ∙ (ap (λ v. same_tx v tx) same ∙ same_tx-self tx) in cc)
+  wish_kind (Client (TcRollbackReq other)) off same =
+      absurd (let both : false ≡ true = sym off ∙ (ap (λ v. same_tx v tx) same ∙ same_tx-self tx) in cc)
   wish_kind _ off same = refl
 
   -- nothing bad is sent, and the coordinator is past it
@@ -166,16 +166,19 @@ module _ (tx : TxId) where
     pub home : Home
     pub past : IsPastNow tx s
 
-  module _ (s : TcState) (body : Body) (sound : IsSound tx s) (wish : wish_of tx body ≡ false) (step : Step TcState) (refs : are_of is_no_ref step.effects.sends ≡ true)
+  module _ (s : TcState) (body : Body) (sound : IsSound tx s) (wish : wish_of tx body ≡ false) (step : Step TcState)
+      (refs : are_of is_no_ref step.effects.sends ≡ true)
       (Home : Type 0) (home_of : (t : Transaction) → of_live tx s.live ≡ Some t → Home) where
-    left_past : (turn : Turn) → (turn.over ≡ false → is_past turn.step.state.phase ≡ true) → PastOption (left_of_turn turn)
+    left_past : (turn : Turn) → (turn.over ≡ false → is_past turn.step.state.phase ≡ true)
+        → PastOption (left_of_turn turn)
     left_past turn past = by turn.over refl
       where
         by : (b : Bool) → turn.over ≡ b → PastOption (if b then None else Some turn.step.state)
         by true over = tt
         by false over = past over
 
-    pub clean_goes : is_fair tx body ≡ true → (Home → IsOpenNow tx s) → TcGoes tx s body step → StaysClean Home step.state step.effects.sends ⊎ Leaves Home step.state step.effects.sends
+    pub clean_goes : is_fair tx body ≡ true → (Home → IsOpenNow tx s) → TcGoes tx s body step
+        → StaysClean Home step.state step.effects.sends ⊎ Leaves Home step.state step.effects.sends
     clean_goes fair was (aside same none more absent) =
         inl (record {
           good = none_bad step.effects.sends none;
@@ -191,32 +194,43 @@ module _ (tx : TxId) where
     clean_goes fair was (takes t same live sends left more) = own (cases_home)
       where
         cases_home : EarlyTurn tx t (turn_row s body t)
-        cases_home = open_turn s tx body t (wish_kind body wish same) same fair (subst OpenOption live (was (home_of t live)).open_now)
+        cases_home = open_turn s tx body t (wish_kind body wish same) same fair
+            (subst OpenOption live (was (home_of t live)).open_now)
 
-        own : EarlyTurn tx t (turn_row s body t) → StaysClean Home step.state step.effects.sends ⊎ Leaves Home step.state step.effects.sends
+        own : EarlyTurn tx t (turn_row s body t)
+            → StaysClean Home step.state step.effects.sends ⊎ Leaves Home step.state step.effects.sends
         own (inl q) = inl (record {
-          good = ap (sends_of (is_bad tx)) sends ∙ none_of is_no_end (is_bad tx) good_end (turn_row s body t).step.effects.sends q.ends;
-          fair = ap (sends_of (is_loss tx)) sends ∙ none_of (is_fair tx) (is_loss tx) fair_loss (turn_row s body t).step.effects.sends q.fair;
-          is_open = λ at. record { open_now = subst OpenOption (sym (left ∙ ap (λ b. if b then None else Some (turn_row s body t).step.state) q.goes)) q.now };
+          good = ap (sends_of (is_bad tx)) sends
+              ∙ none_of is_no_end (is_bad tx) good_end (turn_row s body t).step.effects.sends q.ends;
+          fair = ap (sends_of (is_loss tx)) sends
+              ∙ none_of (is_fair tx) (is_loss tx) fair_loss (turn_row s body t).step.effects.sends q.fair;
+          is_open = λ at. record { open_now =
+              subst OpenOption (sym
+              (left ∙ ap (λ b. if b then None else Some (turn_row s body t).step.state) q.goes)) q.now };
         })
         own (inr q) = inr (record {
-          good = ap (sends_of (is_bad tx)) sends ∙ none_of is_no_end (is_bad tx) good_end (turn_row s body t).step.effects.sends q.ends;
+          good = ap (sends_of (is_bad tx)) sends
+              ∙ none_of is_no_end (is_bad tx) good_end (turn_row s body t).step.effects.sends q.ends;
           home = home_of t live;
-          past = record { past = subst PastOption (sym left) (left_past (turn_row s body t) q.past); early = omega (arith, live_early tx s.node s.next_seq s.live t sound.own live, more) };
+          past = record { past = subst PastOption (sym left) (left_past (turn_row s body t) q.past); early =
+              omega (arith, live_early tx s t live sound.own, more) };
         })
 
     pub past_goes : (Home → IsPastNow tx s) → TcGoes tx s body step → GoesPast Home step.state step.effects.sends
     past_goes was (aside same none more absent) = record {
       good = none_bad step.effects.sends none;
-      past = λ at. let p = was at in record { past = subst PastOption (sym same) p.past; early = omega (arith, p.early, more) };
+      past = λ at. let p =
+          was at in record { past = subst PastOption (sym same) p.past; early = omega (arith, p.early, more) };
     }
     past_goes was (begins number now none more) = record {
       good = none_bad step.effects.sends none;
       past = λ at. let p = was at in absurd (omega (arith, p.early, number));
     }
     past_goes was (takes t same live sends left more) = record {
-      good = ap (sends_of (is_bad tx)) sends ∙ none_of is_no_end (is_bad tx) good_end (turn_row s body t).step.effects.sends q.ends;
-      past = λ at. record { past = subst PastOption (sym left) (left_past (turn_row s body t) q.past); early = omega (arith, live_early tx s.node s.next_seq s.live t sound.own live, more) };
+      good = ap (sends_of (is_bad tx)) sends
+          ∙ none_of is_no_end (is_bad tx) good_end (turn_row s body t).step.effects.sends q.ends;
+      past = λ at. record { past = subst PastOption (sym left) (left_past (turn_row s body t) q.past); early =
+          omega (arith, live_early tx s t live sound.own, more) };
     }
       where
         q : IsLeaving (turn_row s body t)

@@ -25,10 +25,10 @@ use Rattle.tc_block.specs.State.{TcState}
 use Rattle.tc_block.specs.Turn.{Turn, asking}
 use Rattle.tc_block.proofs.EachTurn.{AbortForms, TurnForms}
 use Rattle.host_laws.proofs.SendKinds.{are_of, of_append, of_drop, of_map, of_take, one_kind}
-use Rattle.host_laws.proofs.TcSends.{tx_in}
 use Rattle.command_laws.proofs.LqhFair.{is_fair}
 use Rattle.host_laws.proofs.PhaseSends.{HasChains, aborts_of_kind, entering_of_kind, rest_of_kind}
-use Rattle.host_laws.proofs.TcTurns.{turn_at, turn_row}
+use Rattle.tc_block.proofs.TurnRows.{tx_in, turn_row}
+use Rattle.host_laws.proofs.TcTurns.{turn_at}
 use Rattle.sig_core.proofs.Keys.{same_tx-self}
 use Rattle.command_laws.specs.Served.{is_refusal}
 

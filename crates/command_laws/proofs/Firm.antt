@@ -17,9 +17,9 @@ use Rattle.tc_block.specs.State.{TcState}
 use Rattle.tc_block.specs.Turn.{Turn, going}
 use Rattle.tc_block.proofs.EachTurn.{CommittedForms, TurnForms}
 use Rattle.host_laws.proofs.SendKinds.{are_of, of_map}
-use Rattle.host_laws.proofs.TcSends.{tx_in}
 use Rattle.host_laws.proofs.PhaseSends.{HasChains, entering_of_kind, rest_of_kind}
-use Rattle.host_laws.proofs.TcTurns.{turn_at, turn_row}
+use Rattle.tc_block.proofs.TurnRows.{tx_in, turn_row}
+use Rattle.host_laws.proofs.TcTurns.{turn_at}
 
 -- it isn't aborted, and has no operation unanswered while it takes them
 abbrev pub is_firm : Phase → Option Asked → Bool

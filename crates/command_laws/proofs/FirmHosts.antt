@@ -25,9 +25,8 @@ use Rattle.world_core.specs.Steps.{HostStep}
 use Rattle.host_laws.proofs.ApiBegins.{each_at, each_changed, each_less}
 use Rattle.host_laws.proofs.SendKinds.{none_of}
 use Rattle.host_laws.proofs.TcLives.{apart}
-use Rattle.host_laws.proofs.TcSends.{tx_in}
-use Rattle.host_laws.proofs.TcSteps.{TcStep, begins, is_rest_kind, is_said, left_in, misses, rests, takes, tc_step, turn_said}
-use Rattle.host_laws.proofs.TcTurns.{turn_row}
+use Rattle.host_laws.proofs.TcSteps.{is_said, turn_said}
+use Rattle.tc_block.proofs.TurnRows.{begins, left_in, misses, rests, takes, tc_step, TcStep, turn_row, tx_in, passes, refuses}
 use Rattle.host_laws.proofs.Wishes.{is_tc, sends_of}
 use Rattle.command_laws.proofs.Firm.{firm_turn, is_firm, is_no_abort, is_push}
 use Rattle.command_laws.proofs.HostSends.{IsOfTc, is_other_kind}
@@ -51,7 +50,8 @@ back_of tx _ = false
 abbrev pub is_back : TxId → Place → Body → Bool
 is_back tx to body = back_of tx body
 
-pub each_inserted_value : (P : TxId × Transaction → Type 0) (live : List (TxId × Transaction)) (tx : TxId) (t : Transaction)
+pub each_inserted_value : (P : TxId × Transaction → Type 0) (live : List (TxId × Transaction)) (tx : TxId)
+    (t : Transaction)
     → ((key : TxId) → P (key, t)) → Each P live → Each P (insert_entry same_tx live tx t)
 each_inserted_value P [] tx t own all = (own tx, tt)
 each_inserted_value P (e ∷ live) tx t own all = by (same_tx tx e.0) (each_inserted_value P live tx t own all.1)
@@ -68,10 +68,6 @@ module _ (tx : TxId) where
 
   abbrev pub AllFirm : List (TxId × Transaction) → Type 0
   AllFirm live = Each IsFirmFor live
-
-  no_back_rest : (to : Place) (body : Body) → is_rest_kind body ≡ true → is_back tx to body ≡ false
-  no_back_rest to (Client (TcRollbackRep other cause)) e = cc
-  no_back_rest to _ e = refl
 
   pub no_back_firm : (to : Place) (body : Body) → is_no_abort body ≡ true → is_back tx to body ≡ false
   no_back_firm to (Client (TcRollbackRep other cause)) e = cc
@@ -104,39 +100,48 @@ module _ (tx : TxId) where
 
     turn_firm : (step : Step TcState) (t : Transaction) (front back : List (TxId × Transaction))
         → s.live ≡ front ++ (tx_in body, t) ∷ back
-        → step ≡ record { state = with_live s (left_in (tx_in body) front back (turn_row s body t)); effects = (turn_row s body t).step.effects }
+        → step ≡ record { state = with_live s (left_in (tx_in body) front back (turn_row s body t)); effects =
+            (turn_row s body t).step.effects }
         → sends_of (is_back tx) (turn_row s body t).step.effects.sends ≡ 0
         → IsFirmFor (tx_in body, (turn_row s body t).step.state)
         → KeepsFirm step.state.live step.effects.sends
     turn_firm step t front back was is quiet stays = record {
-      firm = subst (λ (x : Step TcState). AllFirm x.state.live) (sym is) (after_turn t front back was stays (turn_row s body t).over);
+      firm = subst (λ (x : Step TcState). AllFirm x.state.live) (sym is)
+          (after_turn t front back was stays (turn_row s body t).over);
+      silent = ap (λ (x : Step TcState). sends_of (is_back tx) x.effects.sends) is ∙ quiet;
+    }
+
+    idle : (step other : Step TcState) → step ≡ other → other.state ≡ s → sends_of (is_back tx) other.effects.sends ≡ 0
+        → KeepsFirm step.state.live step.effects.sends
+    idle step other is same quiet = record {
+      firm = subst (λ (x : Step TcState). AllFirm x.state.live) (sym is)
+          (subst (λ (x : TcState). AllFirm x.live) (sym same) firm);
       silent = ap (λ (x : Step TcState). sends_of (is_back tx) x.effects.sends) is ∙ quiet;
     }
 
     step_firm : (step : Step TcState) → TcStep s body step → KeepsFirm step.state.live step.effects.sends
-    step_firm step (rests about is kind) = record {
-      firm = subst (λ state. AllFirm state.live) (sym is) firm;
-      silent = none_of is_rest_kind (is_back tx) no_back_rest step.effects.sends kind;
-    }
-    step_firm step (misses about none is) = record {
-      firm = subst (λ (x : Step TcState). AllFirm x.state.live) (sym is) firm;
-      silent = ap (λ (x : Step TcState). sends_of (is_back tx) x.effects.sends) is;
-    }
+    step_firm step (rests off is) = idle step _ is refl refl
+    step_firm step (refuses name about is) = idle step _ is refl refl
+    step_firm step (passes one ahead about is) = idle step _ is refl refl
+    step_firm step (misses about none is) = idle step _ is refl refl
     step_firm step (begins name about room is) = record {
-      firm = subst (λ (x : Step TcState). AllFirm x.state.live) (sym is) (each_inserted_value _ s.live _ fresh (λ key same. refl) firm);
+      firm = subst (λ (x : Step TcState). AllFirm x.state.live) (sym is)
+          (each_inserted_value _ s.live _ fresh (λ key same. refl) firm);
       silent = ap (λ (x : Step TcState). sends_of (is_back tx) x.effects.sends) is;
     }
     step_firm step (takes about t front back was is) = by (same_tx (tx_in body) tx) refl
       where
         by : (b : Bool) → same_tx (tx_in body) tx ≡ b → KeepsFirm step.state.live step.effects.sends
         by true same =
-            let stays = firm_turn s (tx_in body) body t refl (not_push body plain same) (each_at IsFirmFor front (tx_in body, t) back s.live was firm same) in
+            let stays = firm_turn s (tx_in body) body t refl (not_push body plain same)
+                (each_at IsFirmFor front (tx_in body, t) back s.live was firm same) in
             turn_firm step t front back was is
             (none_of is_no_abort (is_back tx) no_back_firm (turn_row s body t).step.effects.sends stays.sends)
             (λ own. stays.firm)
         by false differs =
             turn_firm step t front back was is
-            (none_of (is_said (tx_in body)) (is_back tx) (no_back_other (tx_in body) differs) (turn_row s body t).step.effects.sends (turn_said s body t))
+            (none_of (is_said (tx_in body)) (is_back tx) (no_back_other (tx_in body) differs)
+                (turn_row s body t).step.effects.sends (turn_said s body t))
             (λ own. absurd (let both : false ≡ true = sym differs ∙ own in cc))
 
   abbrev pub FirmHost : Host → Type 0

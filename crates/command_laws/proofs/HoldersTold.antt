@@ -41,7 +41,7 @@ use Rattle.answer_laws.proofs.Lives.{holds_at, live_low, once_started}
 use Rattle.host_laws.proofs.Wishes.{sends_of}
 use Rattle.answer_laws.specs.Answered.{EachIsAnswered, IsLiveAs, is_answered_by}
 use Rattle.host_laws.specs.OpenedAfter.{opened_after}
-use Rattle.run_laws.specs.Live.{of_live}
+use Rattle.host_laws.specs.Live.{of_live}
 use Rattle.command_laws.proofs.First.{IsFirst, first_step, request_first, with_first}
 use Rattle.command_laws.proofs.HostKinds.{api_alone, api_no_rows, no_rows}
 use Rattle.command_laws.proofs.BlockSteps.{api_seen}

@@ -19,9 +19,10 @@ use Rattle.host_laws.proofs.LinkCounts.{signals, steps, taken_steps}
 use Rattle.run_laws.proofs.Begun.{keeps}
 use Rattle.host_laws.proofs.TcLives.{is_keyed, is_start}
 use Rattle.answer_laws.specs.Answered.{AreQuiet}
-use Rattle.run_laws.specs.Live.{of_live}
+use Rattle.host_laws.specs.Live.{of_live}
 use Rattle.command_laws.proofs.HostKinds.{no_rows}
-use Rattle.command_laws.proofs.TcPath.{IsSound, none_there}
+use Rattle.command_laws.proofs.TcPath.{IsSound}
+use Rattle.host_laws.proofs.TcSteps.{live_none}
 
 module _ (start : Start) (tx : TxId) (h : ℕ) (log : List HostStep) where
   pub sound_at : IsSound tx (tc_of (after start h log))
@@ -58,7 +59,7 @@ module _ (start : Start) (logs : ℕ → List HostStep) (quiet : AreQuiet start 
 
   -- so what hasn't begun is at none
   pub unborn_there : steps (is_start tx) (logs 0) ≡ 0 → of_live tx (tc_of (after start h (logs h))).live ≡ None
-  unborn_there none = none_there tx (tc_of (after start h (logs h))).live (omega (arith, lives_begun, none))
+  unborn_there none = live_none tx (tc_of (after start h (logs h))).live (omega (arith, lives_begun, none))
 
 -- where a transaction waits behind another there are rows
 pub ahead_rows : (start : Start) (h : ℕ) (log : List HostStep) → h < hosts start → (key : List ℕ) (tx who : TxId)

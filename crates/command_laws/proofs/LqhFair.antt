@@ -29,14 +29,14 @@ lqh_fair own s body fair =
       grants_more = refl;
       expires_more = refl;
       commits_on = λ tx key epoch chain at is behind. refl;
-      committed = λ tx key. refl;
+      committed = λ tx key epoch chain at sent first. refl;
       completes_on = λ tx key chain at is behind. refl;
-      completed = λ tx key. refl;
-      aborted = λ tx key. refl;
+      completed = λ tx key chain at sent first. refl;
+      aborted = λ tx key sent. refl;
       gives_up = λ tx key is. ap (is_fair own) (sym is) ∙ fair;
       times_out = λ tx key. refl;
-      waits = λ tx ahead. refl;
-      dumps = λ rows next. refl;
+      waits = λ tx key ahead sent there. refl;
+      dumps = λ at rows next sent. refl;
     }))
   where
     request : (r : Request) → RequestSends (λ (o : Outgoing). is_fair own o.body ≡ true) r

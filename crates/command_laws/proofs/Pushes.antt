@@ -1,6 +1,5 @@
 -- What the shell's host sends to coordinators, and that nodes send nothing of that.
 use Rattle.std.proofs.Common.{◌≡◌, ℕ, suc, Bool, true, false, List, [], ◌∷◌, ◌++◌, refl, sym, ap, ◌∙◌, subst, arith}
-use Rattle.std.specs.Prelude.{Option}
 use Rattle.run_theory.specs.Lists.{Each}
 use Rattle.sig_core.specs.declared.member.TxId.{TxId}
 use Rattle.sig_core.specs.declared.outs.Outgoing.{Outgoing}
@@ -22,7 +21,7 @@ use Rattle.node_core.specs.Dih.{dih_table}
 use Rattle.node_core.specs.Requests.{is_request}
 use Rattle.node_core.specs.Row.{row}
 use Rattle.tc_block.specs.State.{TcState}
-use Rattle.tc_block.specs.Tc.{begin_if, begin_row, is_full, tc_table}
+use Rattle.tc_block.specs.Tc.{tc_table}
 use Rattle.world_core.proofs.HostNumbers.{api_runs}
 use Rattle.world_core.specs.Machine.{after, step_after}
 use Rattle.world_core.specs.Start.{Start}
@@ -32,7 +31,7 @@ use Rattle.host_laws.proofs.DihSends.{dih_kinds}
 use Rattle.host_laws.proofs.LqhOps.{left_of}
 use Rattle.host_laws.proofs.LqhSends.{lqh_kinds}
 use Rattle.host_laws.proofs.SendKinds.{are_of, is_dih_kind, is_lqh_kind, is_tc_kind, none_of, of_kind}
-use Rattle.host_laws.proofs.TcSends.{tc_kinds, tx_in}
+use Rattle.host_laws.proofs.TcSends.{tc_only}
 use Rattle.host_laws.proofs.Wishes.{is_tc, sends_of}
 use Rattle.host_laws.specs.OpenedAfter.{opened_in}
 use Rattle.command_laws.proofs.ApiChanges.{ApiChange, answers, api_changes, commits, ends, is_news_kind, refuses, rests, starts, waits}
@@ -76,14 +75,8 @@ lqh_is_node (Client (TcRollbackReq one)) e = cc
 lqh_is_node (Client (TcWaitReq one)) e = cc
 lqh_is_node _ e = refl
 
-begin_is_node : (s : TcState) (name : Option ℕ) (b : Bool) → are_of is_node_kind (begin_if s name b).effects.sends ≡ true
-begin_is_node s name true = refl
-begin_is_node s name false = refl
-
 tc_sends_node : (s : TcState) (body : Body) → are_of is_node_kind (tc_table s body).effects.sends ≡ true
-unfolding begin_row
-tc_sends_node s (Client (TcBeginReq name)) = begin_is_node s name (is_full s)
-tc_sends_node s body = of_kind (is_tc_kind (tx_in body)) is_node_kind (tc_is_node (tx_in body)) (tc_table s body).effects.sends (tc_kinds s body refl)
+tc_sends_node = tc_only is_node_kind tc_is_node (λ name. refl) (λ name tx. refl)
 
 host_sends_node : (g : host.Host) (x : Signal) → has_api g ≡ false → are_of is_node_kind (row g x).effects.sends ≡ true
 host_sends_node g x none = of_effects (λ f. are_of is_node_kind f.sends ≡ true) g x refl (record {
@@ -96,7 +89,9 @@ host_sends_node g x none = of_effects (λ f. are_of is_node_kind f.sends ≡ tru
 })
 
 -- so of what no node sends none is sent by a node's host
-pub node_since : (start : Start) (test : Place → Body → Bool) → ((to : Place) (body : Body) → is_node_kind body ≡ true → test to body ≡ false) → (h : ℕ) (newer log : List HostStep)
+pub node_since : (start : Start) (test : Place → Body → Bool)
+    → ((to : Place) (body : Body) → is_node_kind body ≡ true → test to body ≡ false)
+    → (h : ℕ) (newer log : List HostStep)
     → sent_since start test (suc h) newer log ≡ 0
 node_since start test fails h [] log = refl
 node_since start test fails h (e ∷ newer) log =
@@ -118,7 +113,8 @@ no_push_node tx to body e = and_off (is_tc to.block) (plain body e)
     plain (Client (TcRollbackReq one)) k = cc
     plain _ k = refl
 
-pub node_pushes : (start : Start) (tx : TxId) (h : ℕ) (newer log : List HostStep) → sent_since start (is_push_to tx) (suc h) newer log ≡ 0
+pub node_pushes : (start : Start) (tx : TxId) (h : ℕ) (newer log : List HostStep)
+    → sent_since start (is_push_to tx) (suc h) newer log ≡ 0
 node_pushes start tx h newer log = node_since start (is_push_to tx) (no_push_node tx) h newer log
 
 module _ (tx : TxId) where
@@ -137,28 +133,41 @@ module _ (tx : TxId) where
 
   module _ (s : ApiState) (body : Body) (calm : NoneBegins s.opened) where
     pub change_calm : (step : Step ApiState) → ApiChange s body step → KeepsCalm step.state.opened step.effects.sends
-    change_calm step (rests is adds kind) = record { calm = subst NoneBegins (sym is) calm; pushes = none_of is_news_kind (is_push_to tx) no_push_news step.effects.sends kind }
+    change_calm step (rests is adds kind) =
+        record { calm = subst NoneBegins (sym is) calm; pushes =
+        none_of is_news_kind (is_push_to tx) no_push_news step.effects.sends kind }
     change_calm step (waits one ahead at about is replies sends) = record {
-      calm = subst NoneBegins (sym is) (each_changed (λ (t : OpenTransaction). is_beginning t.doing ≡ false) at.front at.t _ at.back s.opened at.is calm (λ before. before));
+      calm = subst NoneBegins (sym is)
+          (each_changed (λ (t : OpenTransaction). is_beginning t.doing
+          ≡ false) at.front at.t _ at.back s.opened at.is calm (λ before. before));
       pushes = ap (sends_of (is_push_to tx)) sends;
     }
     change_calm step (answers one answer called at about passes does named is replies sends) = record {
-      calm = subst NoneBegins (sym is) (each_changed (λ (t : OpenTransaction). is_beginning t.doing ≡ false) at.front at.t _ at.back s.opened at.is calm (λ before. refl));
+      calm = subst NoneBegins (sym is)
+          (each_changed (λ (t : OpenTransaction). is_beginning t.doing
+          ≡ false) at.front at.t _ at.back s.opened at.is calm (λ before. refl));
       pushes = ap (sends_of (is_push_to tx)) sends;
     }
     change_calm step (commits one answer at about passes does named is replies sends) = record {
-      calm = subst NoneBegins (sym is) (each_changed (λ (t : OpenTransaction). is_beginning t.doing ≡ false) at.front at.t _ at.back s.opened at.is calm (λ before. refl));
+      calm = subst NoneBegins (sym is)
+          (each_changed (λ (t : OpenTransaction). is_beginning t.doing
+          ≡ false) at.front at.t _ at.back s.opened at.is calm (λ before. refl));
       pushes = ap (sends_of (is_push_to tx)) sends;
     }
     change_calm step (ends one end at about passes is replies marks sends) = record {
-      calm = subst NoneBegins (sym is) (each_less (λ (t : OpenTransaction). is_beginning t.doing ≡ false) at.front at.t at.back s.opened at.is calm);
+      calm = subst NoneBegins (sym is)
+          (each_less (λ (t : OpenTransaction). is_beginning t.doing ≡ false) at.front at.t at.back s.opened at.is calm);
       pushes = none_of is_news_kind (is_push_to tx) no_push_news step.effects.sends sends;
     }
     change_calm step (starts called one at u about passes is goes) =
-        absurd (let off : false ≡ true = sym (each_at (λ (t : OpenTransaction). is_beginning t.doing ≡ false) at.front at.t at.back s.opened at.is calm)
+        absurd (let off : false ≡ true =
+            sym (each_at (λ (t : OpenTransaction). is_beginning t.doing
+            ≡ false) at.front at.t at.back s.opened at.is calm)
         ∙ left_of (is_beginning at.t.doing) (same_name at.t.name called) (left_of (begins called at.t) _ passes) in cc)
     change_calm step (refuses called at about passes is replies sends) =
-        absurd (let off : false ≡ true = sym (each_at (λ (t : OpenTransaction). is_beginning t.doing ≡ false) at.front at.t at.back s.opened at.is calm)
+        absurd (let off : false ≡ true =
+            sym (each_at (λ (t : OpenTransaction). is_beginning t.doing
+            ≡ false) at.front at.t at.back s.opened at.is calm)
         ∙ left_of (is_beginning at.t.doing) (same_name at.t.name called) passes in cc)
 
   host_calm : (g : host.Host) (x : Signal) → has_api g ≡ true → is_request x.body ≡ false → NoneBegins (opened_in g)
@@ -169,13 +178,16 @@ module _ (tx : TxId) where
       (λ off. record { calm = calm; pushes = refl })
 
   -- along steps of the shell's host that aren't requests
-  pub calm_since : (start : Start) (later log : List HostStep) → Each (λ (e : HostStep). is_request e.step.taken.body ≡ false) later → NoneBegins (opened_in (after start 0 log))
+  pub calm_since : (start : Start) (later log : List HostStep)
+      → Each (λ (e : HostStep). is_request e.step.taken.body ≡ false) later → NoneBegins (opened_in (after start 0 log))
       → NoneBegins (opened_in (after start 0 (later ++ log))) × (sent_since start (is_push_to tx) 0 later log ≡ 0)
   calm_since start [] log plain calm = (calm, refl)
   calm_since start (e ∷ later) log plain calm = next (calm_since start later log plain.1 calm)
     where
       next : NoneBegins (opened_in (after start 0 (later ++ log))) × (sent_since start (is_push_to tx) 0 later log ≡ 0)
-          → NoneBegins (opened_in (after start 0 (e ∷ (later ++ log)))) × (sent_since start (is_push_to tx) 0 (e ∷ later) log ≡ 0)
+          → NoneBegins (opened_in (after start 0 (e ∷ (later ++ log))))
+              × (sent_since start (is_push_to tx) 0 (e ∷ later) log ≡ 0)
       next before =
-          let kept = host_calm (after start 0 (later ++ log)) e.step.taken (api_runs start (later ++ log)) plain.0 before.0 in
+          let kept = host_calm (after start 0 (later ++ log)) e.step.taken
+              (api_runs start (later ++ log)) plain.0 before.0 in
           (kept.calm, omega (arith, kept.pushes, before.1))

@@ -1,6 +1,6 @@
 -- One transaction at its coordinator, from step to step.
-use Rattle.std.proofs.Common.{◌≡◌, ◌<◌, ◌≤◌, Bool, true, false, List, [], ◌∷◌, refl, sym, ap, ◌∙◌}
-use Rattle.std.specs.Prelude.{not, None, Some, if◌then◌else◌}
+use Rattle.std.proofs.Common.{◌≡◌, ◌<◌, ◌≤◌, Bool, true, false, refl, ap}
+use Rattle.std.specs.Prelude.{not, None, Some}
 use Rattle.run_theory.specs.Lists.{Each}
 use Rattle.sig_core.specs.declared.member.TxId.{TxId}
 use Rattle.sig_core.specs.declared.place.Place.{Place}
@@ -17,12 +17,10 @@ use Rattle.tc_block.specs.Tc.{tc_table}
 use Rattle.host_laws.specs.Counts.{tally}
 use Rattle.host_laws.proofs.SendKinds.{none_of}
 use Rattle.host_laws.proofs.TcLives.{IsOwn, is_keyed}
-use Rattle.host_laws.proofs.TcSends.{tx_in}
 use Rattle.host_laws.proofs.TcSteps.{TxStep, born, elsewhere, is_apart, left_of_turn, next_grows, turned, tx_step}
-use Rattle.host_laws.proofs.TcSteps as steps
-use Rattle.host_laws.proofs.TcTurns.{is_turn, turn_row}
+use Rattle.tc_block.proofs.TurnRows.{tx_in, is_turn, turn_row}
 use Rattle.host_laws.proofs.Wishes.{sends_of}
-use Rattle.run_laws.specs.Live.{of_live}
+use Rattle.host_laws.specs.Live.{of_live}
 use Rattle.command_laws.proofs.HostSends.{IsOfTc, is_other_kind}
 
 -- what the coordinator tells the client of the transaction, once it has begun, and replicas of its abort
@@ -57,14 +55,6 @@ off : (b : Bool) → not b ≡ true → b ≡ false
 off true e = cc
 off false e = refl
 
--- a coordinator's transaction, looked up
-live_is : (tx : TxId) (live : List (TxId × Transaction)) → of_live tx live ≡ steps.of_live tx live
-live_is tx [] = refl
-live_is tx (e ∷ live) = ap (λ rest. if same_tx e.0 tx then Some e.1 else rest) (live_is tx live)
-
-pub none_there : (tx : TxId) (live : List (TxId × Transaction)) → tally (is_keyed tx) live ≡ 0 → of_live tx live ≡ None
-none_there tx live none = live_is tx live ∙ steps.live_none tx live none
-
 module _ (tx : TxId) where
   none_apart : (to : Place) (body : Body) → is_apart tx body ≡ true → is_told tx to body ≡ false
   none_apart to (Client (TcKeyConf other answer)) e = off (same_tx other tx) e
@@ -86,17 +76,10 @@ module _ (tx : TxId) where
   pub tc_goes : (s : TcState) (body : Body) → IsSound tx s → TcGoes tx s body (tc_table s body)
   tc_goes s body sound = by (tx_step tx s body sound.few sound.own)
     where
-      was : of_live tx s.live ≡ steps.of_live tx s.live
-      was = live_is tx s.live
-
-      now : of_live tx (tc_table s body).state.live ≡ steps.of_live tx (tc_table s body).state.live
-      now = live_is tx (tc_table s body).state.live
-
       by : TxStep tx s body (tc_table s body) → TcGoes tx s body (tc_table s body)
       by (elsewhere same kind absent) =
-          aside (now ∙ same ∙ sym was)
-          (none_of (is_apart tx) (is_told tx) none_apart (tc_table s body).effects.sends kind) (next_grows s body)
-          (λ turn own. was ∙ absent turn own)
+          aside same (none_of (is_apart tx) (is_told tx) none_apart (tc_table s body).effects.sends kind)
+              (next_grows s body) absent
       by (born name about one none there told later) =
-          begins (ap (λ (v : TxId). v.seq) one) (now ∙ there) (ap (sends_of (is_told tx)) told) later
-      by (turned t about one there move left told) = takes t one (was ∙ there) told (now ∙ left) (next_grows s body)
+          begins (ap (λ (v : TxId). v.seq) one) there (ap (sends_of (is_told tx)) told) later
+      by (turned t about one there move left told) = takes t one there told left (next_grows s body)

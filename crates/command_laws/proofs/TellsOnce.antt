@@ -24,19 +24,19 @@ use Rattle.host_laws.proofs.SendKinds.{none_of}
 use Rattle.host_laws.proofs.TcKeys.{answer_of, is_asked, key_of_tx, tc_fair, is_key}
 use Rattle.host_laws.proofs.TcLives.{IsOwn}
 use Rattle.host_laws.proofs.TcMoves.{same_tx-is}
-use Rattle.host_laws.proofs.TcSends.{tx_in}
 use Rattle.host_laws.proofs.Wishes.{is_api, is_tc, sends_of}
-use Rattle.run_laws.specs.Live.{of_live}
+use Rattle.host_laws.specs.Live.{of_live}
 use Rattle.command_laws.proofs.Firm.{firm_turn, is_firm, is_no_abort}
 use Rattle.command_laws.proofs.FirmHosts.{is_back, no_back_firm, not_push, push_of}
 use Rattle.command_laws.proofs.BlockSteps.{tc_host}
 use Rattle.command_laws.proofs.TcPath.{IsSound, TcGoes, aside, begins, is_told, takes, tc_goes, told_of, told_tc}
-use Rattle.host_laws.proofs.TcSteps.{left_of_turn}
-use Rattle.host_laws.proofs.TcTurns.{turn_row}
+use Rattle.host_laws.proofs.TcSteps.{left_of_turn, live_early}
+use Rattle.tc_block.proofs.TurnRows.{tx_in, turn_row}
 use Rattle.command_laws.proofs.TurnTells.{TurnTells, is_reply, turn_tells}
 
 -- where one test implies another, fewer signals pass it
-pub sends_less : (p q : Place → Body → Bool) → ((to : Place) (body : Body) → p to body ≡ true → q to body ≡ true) → (xs : List Outgoing) → sends_of p xs ≤ sends_of q xs
+pub sends_less : (p q : Place → Body → Bool) → ((to : Place) (body : Body) → p to body ≡ true → q to body ≡ true)
+    → (xs : List Outgoing) → sends_of p xs ≤ sends_of q xs
 sends_less p q implies [] = omega arith
 sends_less p q implies (x ∷ xs) = omega (arith, sends_less p q implies xs, by (p x.to x.body) refl)
   where
@@ -70,27 +70,22 @@ module _ (tx : TxId) where
   back_told to _ is = cc
 
   -- where nothing is told of it, it isn't answered, nor is its abort reported
-  pub none_told : (xs : List Outgoing) → sends_of (is_told tx) xs ≡ 0 → (sends_of (is_reply tx) xs ≡ 0) × (sends_of (is_back tx) xs ≡ 0)
-  none_told xs none = (omega (arith, none, sends_less (is_reply tx) (is_told tx) reply_told xs), omega (arith, none, sends_less (is_back tx) (is_told tx) back_told xs))
+  pub none_told : (xs : List Outgoing) → sends_of (is_told tx) xs ≡ 0
+      → (sends_of (is_reply tx) xs ≡ 0) × (sends_of (is_back tx) xs ≡ 0)
+  none_told xs none = (omega (arith, none, sends_less (is_reply tx) (is_told tx) reply_told xs),
+      omega (arith, none, sends_less (is_back tx) (is_told tx) back_told xs))
 
   push_none : (body : Body) → wish_back_of tx body ≡ false → key_of_tx tx body ≡ false → push_of tx body ≡ false
   push_none (Client (TcKeyReq other op)) wish key = key
   push_none (Client (TcRollbackReq other)) wish key = wish
   push_none _ wish key = refl
 
-  pub live_early : (node next : ℕ) (live : List (TxId × Transaction)) (t : Transaction) → Each (λ (e : TxId × Transaction). IsOwn node next e.0) live → of_live tx live ≡ Some t → tx.seq < next
-  live_early node next [] t own is = cc
-  live_early node next (e ∷ live) t own is = by (same_tx e.0 tx) refl is (live_early node next live t own.1)
-    where
-      by : (b : Bool) → same_tx e.0 tx ≡ b → (if b then Some e.1 else of_live tx live) ≡ Some t → (of_live tx live ≡ Some t → tx.seq < next) → tx.seq < next
-      by true same is rest = omega (arith, own.0.early, ap (λ (v : TxId). v.seq) (same_tx-is e.0 tx same))
-      by false differs is rest = rest is
-
   abbrev pub IsFirmNow : Option Transaction → Type 0
   IsFirmNow None = Unit {0}
   IsFirmNow (Some t) = is_firm t.phase t.asked ≡ true
 
-  -- Of so many answers and reports of an abort: there is neither; or an answer, and it is firm; or a report, and it is gone.
+  -- Of so many answers and reports of an abort: there is neither; or an answer, and it is firm; or a report, and it is
+  -- gone.
   abbrev pub IsOneOfThree : ℕ → ℕ → TcState → Type 0
   IsOneOfThree a r s =
       ((a ≡ 0) × (r ≡ 0)) ⊎ (((1 ≤ a) × (r ≡ 0)) × (IsFirmNow (of_live tx s.live) × (tx.seq < s.next_seq)))
@@ -101,35 +96,47 @@ module _ (tx : TxId) where
     pub fair : tally (is_asked tx) s.live + a ≤ asked + keys
     pub three : IsOneOfThree a r s
 
-  module _ (s : TcState) (body : Body) (sound : IsSound tx s) (wish : wish_back_of tx body ≡ false) (asked keys a r : ℕ) (once : asked + (keys + one_if (key_of_tx tx body)) ≤ 1)
+  module _ (s : TcState) (body : Body) (sound : IsSound tx s) (wish : wish_back_of tx body ≡ false)
+      (asked keys a r : ℕ) (once : asked + (keys + one_if (key_of_tx tx body)) ≤ 1)
       (has : HasTold asked keys a r s) where
     AfterStep : Step TcState → Type 0
-    AfterStep step = IsOneOfThree (sends_of (is_reply tx) step.effects.sends + a) (sends_of (is_back tx) step.effects.sends + r) step.state
+    AfterStep step = IsOneOfThree (sends_of (is_reply tx) step.effects.sends + a)
+        (sends_of (is_back tx) step.effects.sends + r) step.state
 
-    aside_next : (step : Step TcState) → of_live tx step.state.live ≡ of_live tx s.live → sends_of (is_told tx) step.effects.sends ≡ 0 → s.next_seq ≤ step.state.next_seq → IsOneOfThree a r s → AfterStep step
+    aside_next : (step : Step TcState) → of_live tx step.state.live ≡ of_live tx s.live
+        → sends_of (is_told tx) step.effects.sends ≡ 0 → s.next_seq ≤ step.state.next_seq → IsOneOfThree a r s
+        → AfterStep step
     unfolding AfterStep
     aside_next step same none more was = by (none_told step.effects.sends none) was
       where
-        by : (sends_of (is_reply tx) step.effects.sends ≡ 0) × (sends_of (is_back tx) step.effects.sends ≡ 0) → IsOneOfThree a r s → AfterStep step
+        by : (sends_of (is_reply tx) step.effects.sends ≡ 0) × (sends_of (is_back tx) step.effects.sends ≡ 0)
+            → IsOneOfThree a r s → AfterStep step
         by n (inl q) = inl (omega (arith, n.0, q.0), omega (arith, n.1, q.1))
-        by n (inr (inl q)) = inr (inl ((omega (arith, n.0, q.0.0), omega (arith, n.1, q.0.1)), (subst IsFirmNow (sym same) q.1.0, omega (arith, q.1.1, more))))
+        by n (inr (inl q)) =
+            inr (inl ((omega (arith, n.0, q.0.0), omega (arith, n.1, q.0.1)),
+            (subst IsFirmNow (sym same) q.1.0, omega (arith, q.1.1, more))))
         by n (inr (inr q)) = inr (inr (omega (arith, n.0, q.0), (same ∙ q.1.0, omega (arith, q.1.1, more))))
 
-    begins_next : (step : Step TcState) → tx.seq ≡ s.next_seq → sends_of (is_told tx) step.effects.sends ≡ 0 → IsOneOfThree a r s → AfterStep step
+    begins_next : (step : Step TcState) → tx.seq ≡ s.next_seq → sends_of (is_told tx) step.effects.sends ≡ 0
+        → IsOneOfThree a r s → AfterStep step
     unfolding AfterStep
     begins_next step number none was = by (none_told step.effects.sends none) was
       where
-        by : (sends_of (is_reply tx) step.effects.sends ≡ 0) × (sends_of (is_back tx) step.effects.sends ≡ 0) → IsOneOfThree a r s → AfterStep step
+        by : (sends_of (is_reply tx) step.effects.sends ≡ 0) × (sends_of (is_back tx) step.effects.sends ≡ 0)
+            → IsOneOfThree a r s → AfterStep step
         by n (inl q) = inl (omega (arith, n.0, q.0), omega (arith, n.1, q.1))
         by n (inr (inl q)) = absurd (omega (arith, q.1.1, number))
         by n (inr (inr q)) = absurd (omega (arith, q.1.1, number))
 
-    module _ (step : Step TcState) (t : Transaction) (same : tx_in body ≡ tx) (was : of_live tx s.live ≡ Some t) (sends : step.effects.sends ≡ (turn_row s body t).step.effects.sends)
-        (left : of_live tx step.state.live ≡ left_of_turn (turn_row s body t)) (more : s.next_seq ≤ step.state.next_seq) where
+    module _ (step : Step TcState) (t : Transaction) (same : tx_in body ≡ tx) (was : of_live tx s.live ≡ Some t)
+        (sends : step.effects.sends ≡ (turn_row s body t).step.effects.sends)
+        (left : of_live tx step.state.live ≡ left_of_turn (turn_row s body t))
+            (more : s.next_seq ≤ step.state.next_seq) where
       early : tx.seq < step.state.next_seq
-      early = omega (arith, live_early s.node s.next_seq s.live t sound.own was, more)
+      early = omega (arith, live_early tx s t was sound.own, more)
 
-      left_firm : (turn : Turn) → (turn.over ≡ false → is_firm turn.step.state.phase turn.step.state.asked ≡ true) → IsFirmNow (left_of_turn turn)
+      left_firm : (turn : Turn) → (turn.over ≡ false → is_firm turn.step.state.phase turn.step.state.asked ≡ true)
+          → IsFirmNow (left_of_turn turn)
       left_firm turn firm = by turn.over refl
         where
           by : (b : Bool) → turn.over ≡ b → IsFirmNow (if b then None else Some turn.step.state)
@@ -139,7 +146,9 @@ module _ (tx : TxId) where
       -- its first answer, or the report of its abort
       first_next : (a ≡ 0) × (r ≡ 0) → TurnTells tx (turn_row s body t) → AfterStep step
       unfolding AfterStep
-      first_next none (inl n) = inl (omega (arith, none.0, ap (sends_of (is_reply tx)) sends, n.0), omega (arith, none.1, ap (sends_of (is_back tx)) sends, n.1))
+      first_next none (inl n) =
+          inl (omega (arith, none.0, ap (sends_of (is_reply tx)) sends, n.0),
+          omega (arith, none.1, ap (sends_of (is_back tx)) sends, n.1))
       first_next none (inr (inl q)) = by (sends_of (is_reply tx) step.effects.sends) refl
         where
           quiet : sends_of (is_back tx) step.effects.sends + r ≡ 0
@@ -147,7 +156,9 @@ module _ (tx : TxId) where
 
           by : (n : ℕ) → sends_of (is_reply tx) step.effects.sends ≡ n → AfterStep step
           by zero is = inl (omega (arith, none.0, is), quiet)
-          by (suc n) is = inr (inl ((omega (arith, is), quiet), (subst IsFirmNow (sym left) (left_firm (turn_row s body t) (λ over. q.1.firm)), early)))
+          by (suc n) is = inr (inl
+              ((omega (arith, is), quiet),
+              (subst IsFirmNow (sym left) (left_firm (turn_row s body t) (λ over. q.1.firm)), early)))
       first_next none (inr (inr q)) = inr (inr (
         omega (arith, none.0, ap (sends_of (is_reply tx)) sends, q.0),
         (left ∙ ap (λ b. if b then None else Some (turn_row s body t).step.state) q.1, early),
@@ -161,9 +172,13 @@ module _ (tx : TxId) where
           by : (b : Bool) → key_of_tx tx body ≡ b → AfterStep step
           by true key = absurd (omega (arith, some.0, has.fair, once, ap one_if key))
           by false key =
-              let stays = firm_turn s tx body t same (not_push tx body (push_none body wish key) (ap (λ v. same_tx v tx) same ∙ same_tx-self tx)) (subst IsFirmNow was firm) in
-              let quiet = none_of is_no_abort (is_back tx) (no_back_firm tx) (turn_row s body t).step.effects.sends stays.sends in
-              inr (inl ((omega (arith, some.0), omega (arith, some.1, ap (sends_of (is_back tx)) sends, quiet)), (subst IsFirmNow (sym left) (left_firm (turn_row s body t) (λ over. stays.firm)), early)))
+              let stays = firm_turn s tx body t same
+                  (not_push tx body (push_none body wish key) (ap (λ v. same_tx v tx) same ∙ same_tx-self tx))
+                  (subst IsFirmNow was firm) in
+              let quiet = none_of is_no_abort (is_back tx) (no_back_firm tx)
+                  (turn_row s body t).step.effects.sends stays.sends in
+              inr (inl ((omega (arith, some.0), omega (arith, some.1, ap (sends_of (is_back tx)) sends, quiet)),
+                  (subst IsFirmNow (sym left) (left_firm (turn_row s body t) (λ over. stays.firm)), early)))
 
       takes_next : IsOneOfThree a r s → AfterStep step
       takes_next (inl none) = first_next none (turn_tells s tx body t same)
@@ -175,11 +190,15 @@ module _ (tx : TxId) where
     goes_next step (begins number now none more) = begins_next step number none has.three
     goes_next step (takes t same was sends left more) = takes_next step t same was sends left more has.three
 
-    tc_next : HasTold asked (keys + one_if (key_of_tx tx body)) (sends_of (is_reply tx) (tc_table s body).effects.sends + a) (sends_of (is_back tx) (tc_table s body).effects.sends + r) (tc_table s body).state
+    tc_next : HasTold asked (keys + one_if (key_of_tx tx body))
+        (sends_of (is_reply tx) (tc_table s body).effects.sends + a)
+        (sends_of (is_back tx) (tc_table s body).effects.sends + r) (tc_table s body).state
     unfolding AfterStep
-    tc_next = record { fair = omega (arith, has.fair, tc_fair tx s body); three = goes_next (tc_table s body) (tc_goes tx s body sound) }
+    tc_next = record { fair = omega (arith, has.fair, tc_fair tx s body); three =
+        goes_next (tc_table s body) (tc_goes tx s body sound) }
 
-  more_keys : (asked keys k a r a_more r_more : ℕ) (s : TcState) → a_more ≡ 0 → r_more ≡ 0 → HasTold asked keys a r s → HasTold asked (keys + k) (a_more + a) (r_more + r) s
+  more_keys : (asked keys k a r a_more r_more : ℕ) (s : TcState) → a_more ≡ 0 → r_more ≡ 0 → HasTold asked keys a r s
+      → HasTold asked (keys + k) (a_more + a) (r_more + r) s
   more_keys asked keys k a r a_more r_more s p q has =
       let m : a_more + a ≡ a = omega (arith, p) in
       let n : r_more + r ≡ r = omega (arith, q) in
@@ -191,7 +210,8 @@ module _ (tx : TxId) where
   pub host_tells : (g : Host) (x : Signal) → IsSound tx (tc_of g) → is_wish_back_to tx x.to x.body ≡ false
       → (asked keys a r : ℕ) → asked + (keys + one_if (is_key tx x.to x.body)) ≤ 1
       → HasTold asked keys a r (tc_of g)
-      → HasTold asked (keys + one_if (is_key tx x.to x.body)) (sends_of (is_reply tx) (row g x).effects.sends + a) (sends_of (is_back tx) (row g x).effects.sends + r) (tc_of (row g x).state)
+      → HasTold asked (keys + one_if (is_key tx x.to x.body)) (sends_of (is_reply tx) (row g x).effects.sends + a)
+          (sends_of (is_back tx) (row g x).effects.sends + r) (tc_of (row g x).state)
   host_tells g x sound wish asked keys a r once has =
       tc_host (λ (step : Step TcState). HasTold asked (keys + one_if (is_key tx x.to x.body))
       (sends_of (is_reply tx) step.effects.sends + a) (sends_of (is_back tx) step.effects.sends + r) step.state) g x

@@ -21,13 +21,13 @@ use Rattle.tc_block.specs.Turn.{Turn, asking, going}
 use Rattle.tc_block.proofs.EachTurn.{AbortForms, CommittedForms, TurnForms}
 use Rattle.host_laws.proofs.SendKinds.{are_of, is_keyless, none_of, of_map}
 use Rattle.host_laws.proofs.TcKeyless as keyless
-use Rattle.host_laws.proofs.TcSends.{tx_in}
 use Rattle.host_laws.proofs.TcKeys.{answer_of, is_answer}
 use Rattle.host_laws.proofs.Wishes.{and_false, is_api, sends_of, to_node}
 use Rattle.command_laws.proofs.Firm.{fronts, has_chains, is_firm, is_no_abort}
 use Rattle.command_laws.proofs.FirmHosts.{is_back, no_back_firm}
 use Rattle.host_laws.proofs.PhaseSends.{HasChains, aborts_of_kind, entering_of_kind, rest_of_kind}
-use Rattle.host_laws.proofs.TcTurns.{turn_at, turn_row}
+use Rattle.tc_block.proofs.TurnRows.{tx_in, turn_row}
+use Rattle.host_laws.proofs.TcTurns.{turn_at}
 
 -- an operation of the transaction is answered to the client
 abbrev pub is_reply : TxId → Place → Body → Bool

@@ -22,7 +22,7 @@ use Rattle.world_core.specs.Steps.{HostStep}
 use Rattle.host_laws.specs.Counts.{one_if, tally}
 use Rattle.host_laws.proofs.LinkCounts.{steps, to_host}
 use Rattle.host_laws.proofs.Wishes.{sends_of}
-use Rattle.run_laws.specs.Live.{of_live}
+use Rattle.host_laws.specs.Live.{of_live}
 use Rattle.command_laws.proofs.HostKinds.{node_runs_none}
 use Rattle.command_laws.proofs.BlockSteps.{api_seen}
 use Rattle.command_laws.proofs.Since.{sent_since, sent_since_to}

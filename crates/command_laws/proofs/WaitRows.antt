@@ -25,7 +25,7 @@ use Rattle.sig_core.specs.Step.{Effects, Step}
 use Rattle.row_locks.specs.Tables.{ahead_at}
 use Rattle.lqh_block.specs.Lqh.{lqh_table}
 use Rattle.lqh_block.specs.State.{LqhState}
-use Rattle.lqh_block.specs.Wait as lqh
+use Rattle.lqh_block.proofs.LqhForms.{wait_forms}
 use Rattle.node_core.proofs.HostCases.{BlockCase, HostCase, api_takes, block_case, dih_takes, host_case, none_takes, of_api, of_dih, of_none, of_rows, of_tc, rows_take, runs, tc_takes}
 use Rattle.node_core.specs.Blocks.{has_api, has_lqh, lqh_of, tc_of}
 use Rattle.node_core.specs.declared.host.Host.{Host}
@@ -52,7 +52,7 @@ use Rattle.host_laws.proofs.TcMoves.{same_tx-is}
 use Rattle.host_laws.proofs.TcSends.{eqb-self}
 use Rattle.host_laws.proofs.Wishes.{is_api, is_tc, sends_of}
 use Rattle.host_laws.specs.Counts.{one_if}
-use Rattle.run_laws.specs.Live.{of_live}
+use Rattle.host_laws.specs.Live.{of_live}
 use Rattle.command_laws.proofs.HostKinds.{no_rows, runs_rows}
 use Rattle.command_laws.proofs.BlockSteps.{tc_host}
 
@@ -212,15 +212,14 @@ module _ (start : Start) (tx : TxId) where
   dih_waits s (Client (TcWaitConf one ahead)) e = of_kind_step s _ refl refl
   dih_waits s _ e = cc
 
-  find_step : (s : LqhState) (one : TxId) (o : Option TxId) → same_tx one tx ≡ true → IsQuietStep s (lqh.wait_by s one o)
-  find_step s one None e = of_kind_step s _ refl refl
-  find_step s one (Some ahead) e = of_kind_step s (lqh.wait_by s one (Some ahead)) refl (one_kind (same_tx one tx) e)
-
   lqh_waits : (s : LqhState) (body : Body) → is_wait_of tx body ≡ true → IsQuietStep s (lqh_table s body)
-  unfolding lqh.wait_row
   lqh_waits s (Client (TcWaitReq one)) e = of_kind_step s _ refl refl
   lqh_waits s (Client (LqhWaitConf one ahead)) e = of_kind_step s _ refl refl
-  lqh_waits s (Client (LqhWaitReq one key)) e = find_step s one (ahead_at s.locks key one) e
+  lqh_waits s (Client (LqhWaitReq one key)) e =
+      wait_forms (λ step. IsQuietStep s step) s one key (record {
+        none = λ is. of_kind_step s _ refl refl;
+        some = λ ahead is. of_kind_step s _ refl (one_kind (same_tx one tx) e);
+      })
   lqh_waits s (Client (TcWaitConf one ahead)) e = of_kind_step s _ refl refl
   lqh_waits s _ e = cc
 
@@ -291,20 +290,29 @@ module _ (start : Start) (tx : TxId) where
       (λ e. tc_wants (tc_of g) t asked member live unanswered inside x.body e)
 
   -- the rows of a node where it is held up tell its coordinator
-  find_one : (s : LqhState) (o : Option TxId) → is_some o ≡ true → 1 ≤ sends_of (to_host start (home start tx) (is_found tx)) (lqh.wait_by s tx o).effects.sends
-  find_one s None some = cc
-  find_one s (Some ahead) some =
-      omega (arith, ap one_if (true_and (home start tx == home start tx) (same_tx tx tx) (eqb-self (home start tx)) (same_tx-self tx)))
-
   lqh_finds : (s : LqhState) (key : List ℕ) → is_some (ahead_at s.locks key tx) ≡ true → (body : Body)
       → probe_of tx key body ≡ true → 1 ≤ sends_of (to_host start (home start tx) (is_found tx))
       (lqh_table s body).effects.sends
-  unfolding lqh.wait_row
   lqh_finds s key held (Client (LqhWaitReq one at)) e =
-      let own : one ≡ tx = same_tx-is one tx (left_of (same_tx one tx) (same_key at key) e) in
-      let on : at ≡ key = same_key-is at key (right_of (same_tx one tx) (same_key at key) e) in
-      subst (λ v. 1 ≤ sends_of (to_host start (home start tx) (is_found tx)) (lqh.wait_by s v (ahead_at s.locks at v)).effects.sends) (sym own)
-      (find_one s (ahead_at s.locks at tx) (ap (λ k. is_some (ahead_at s.locks k tx)) on ∙ held))
+      wait_forms (λ step. 1 ≤ sends_of (to_host start (home start tx) (is_found tx)) step.effects.sends) s one at (record {
+        none = λ is. absurd (let both : false ≡ true = sym (ap is_some is) ∙ here in cc);
+        some = λ ahead is. omega (
+          arith,
+          ap one_if (true_and (home start one == home start tx) (same_tx one tx)
+              (subst (λ u. (home start u == home start tx) ≡ true) (sym own) (eqb-self (home start tx))) mine),
+        );
+      })
+    where
+      mine : same_tx one tx ≡ true
+      mine = left_of (same_tx one tx) (same_key at key) e
+
+      own : one ≡ tx
+      own = same_tx-is one tx mine
+
+      here : is_some (ahead_at s.locks at one) ≡ true
+      here =
+          ap (λ u. is_some (ahead_at s.locks at u)) own
+          ∙ (ap (λ k. is_some (ahead_at s.locks k tx)) (same_key-is at key (right_of (same_tx one tx) (same_key at key) e)) ∙ held)
   lqh_finds s key held _ e = cc
 
   pub host_finds : (g : Host) (key : List ℕ) → is_some (ahead_at (lqh_of g).locks key tx) ≡ true → (x : Signal) → is_probe tx key x.to x.body ≡ true

@@ -33,7 +33,7 @@ use Rattle.host_laws.proofs.LinkCounts.{sent_signals, signals, few_sends}
 use Rattle.host_laws.proofs.Tally.{tally_past}
 use Rattle.host_laws.proofs.Wishes.{sends_of}
 use Rattle.host_laws.specs.Counts.{one_if, tally}
-use Rattle.run_laws.specs.Live.{of_live}
+use Rattle.host_laws.specs.Live.{of_live}
 use Rattle.answer_laws.specs.Answered.{AreQuiet}
 use Rattle.command_laws.proofs.First.{fits_asked, requests_append, with_first}
 use Rattle.command_laws.proofs.Since.{link_sent}

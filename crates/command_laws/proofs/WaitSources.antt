@@ -17,7 +17,7 @@ use Rattle.sig_core.specs.Same.{same_tx}
 use Rattle.row_locks.specs.Tables.{ahead_at}
 use Rattle.lqh_block.specs.Lqh.{lqh_table}
 use Rattle.lqh_block.specs.State.{LqhState}
-use Rattle.lqh_block.specs.Wait as rows
+use Rattle.lqh_block.proofs.LqhForms.{wait_forms}
 use Rattle.node_core.proofs.HostCases.{of_effects}
 use Rattle.node_core.specs.Blocks.{api_of, dih_of, lqh_of, tc_of}
 use Rattle.node_core.specs.declared.host.Host.{Host}
@@ -206,19 +206,18 @@ module _ (tx who : TxId) where
     pub key : List ℕ
     pub is : ahead_at s.locks key tx ≡ Some who
 
-  waits_found : (s : LqhState) (one : TxId) (key : List ℕ) (o : Option TxId) → ahead_at s.locks key one ≡ o → 1 ≤ sends_of (is_finding_who tx who) (rows.wait_by s one o).effects.sends → FoundAt s
-  waits_found s one key None is some = none_sent some
-  waits_found s one key (Some ahead) is some = by (same_tx one tx) (same_tx ahead who) refl refl (one_passes (same_tx one tx && same_tx ahead who) some)
-    where
-      by : (a b : Bool) → same_tx one tx ≡ a → same_tx ahead who ≡ b → (a && b) ≡ true → FoundAt s
-      by true true p q e = record { key = key; is = ap (ahead_at s.locks key) (sym (same_tx-is one tx p)) ∙ is ∙ ap (λ v. Some v) (same_tx-is ahead who q) }
-      by true false p q e = cc
-      by false b p q e = cc
-
   lqh_found : (s : LqhState) (body : Body) → is_wait_of tx body ≡ true → 1 ≤ sends_of (is_finding_who tx who) (lqh_table s body).effects.sends → FoundAt s
-  unfolding rows.wait_row
   lqh_found s (Client (TcWaitReq one)) own some = none_sent some
-  lqh_found s (Client (LqhWaitReq one key)) own some = waits_found s one key (ahead_at s.locks key one) refl some
+  lqh_found s (Client (LqhWaitReq one key)) own some =
+      wait_forms (λ step. 1 ≤ sends_of (is_finding_who tx who) step.effects.sends → FoundAt s) s one key (record {
+        none = λ is some. none_sent some;
+        some = λ ahead is some. by ahead is (same_tx one tx) (same_tx ahead who) refl refl (one_passes (same_tx one tx && same_tx ahead who) some);
+      }) some
+    where
+      by : (ahead : TxId) → ahead_at s.locks key one ≡ Some ahead → (a b : Bool) → same_tx one tx ≡ a → same_tx ahead who ≡ b → (a && b) ≡ true → FoundAt s
+      by ahead is true true p q e = record { key = key; is = ap (ahead_at s.locks key) (sym (same_tx-is one tx p)) ∙ is ∙ ap (λ v. Some v) (same_tx-is ahead who q) }
+      by ahead is true false p q e = cc
+      by ahead is false b p q e = cc
   lqh_found s (Client (LqhWaitConf one ahead)) own some = none_sent some
   lqh_found s (Client (TcWaitConf one ahead)) own some = none_sent some
   lqh_found s _ own some = cc

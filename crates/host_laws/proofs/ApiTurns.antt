@@ -37,6 +37,7 @@ use Rattle.api_block.specs.State.{ApiState, about, changing, refused, replied, w
 use Rattle.api_block.specs.Wait.{behind_row, name_of, pending_by, pending_if, pending_row, waits_if, waits_row}
 use Rattle.host_laws.proofs.Focus.{IsFocus, none_placed, where_found}
 use Rattle.host_laws.specs.Counts.{tally}
+use Rattle.api_block.specs.declared.operate.TheConstants.{OPERATIONS}
 
 -- nothing that was opened is what the signal tells of
 abbrev pub IsVoid : List OpenTransaction → Body → Type 0
@@ -75,7 +76,7 @@ pub record ApiRequestForms (s : ApiState) (asked : ApiReq) (R : Step ApiState �
   pub refuses : (name : Option ℕ) (why : Refusal) → is_own_refusal why ≡ true → R (refused s name why)
   pub operates : (name : ℕ) (op : Op) (at : ℕ) (f : NamedAt s name at) (tx : TxId) → f.item.doing ≡ Ready
       → f.item.tx ≡ Some tx
-      → nat_lt f.item.operations 64 ≡ true
+      → nat_lt f.item.operations OPERATIONS ≡ true
       → R (key_request (about (changing s at (operating f.item)) (Some (Some name))) tx op)
   pub commits : (name at : ℕ) (f : NamedAt s name at) (tx : TxId) → f.item.doing ≡ Ready → f.item.tx ≡ Some tx
       → R (sending (about (changing s at (committing f.item)) (Some (Some name))) (coordinator_of tx) (Client (TcCommitReq tx)))
@@ -197,7 +198,7 @@ module _ (s : ApiState) (asked : ApiReq) (R : Step ApiState → Type 0) (forms :
 
   operate_if_turns : (name : ℕ) (op : Op) (at : ℕ) (f : NamedAt s name at) (tx : TxId) (b : Bool) → f.item.doing ≡ Ready
       → f.item.tx ≡ Some tx
-      → nat_lt f.item.operations 64 ≡ b → R (operate_if s name op at f.item tx b)
+      → nat_lt f.item.operations OPERATIONS ≡ b → R (operate_if s name op at f.item tx b)
   operate_if_turns name op at f tx true e d low = forms.operates name op at f tx e d low
   operate_if_turns name op at f tx false e d low = forms.refuses (Some name) refusal.TooManyOperations refl
 
@@ -205,7 +206,7 @@ module _ (s : ApiState) (asked : ApiReq) (R : Step ApiState → Type 0) (forms :
       → f.item.doing ≡ doing → f.item.tx ≡ tx
       → R (operate_by s name op at f.item doing tx)
   operate_by_turns name op at f Ready (Some tx) e d =
-      operate_if_turns name op at f tx (nat_lt f.item.operations 64) e d refl
+      operate_if_turns name op at f tx (nat_lt f.item.operations OPERATIONS) e d refl
   operate_by_turns name op at f _ _ e d = forms.refuses (Some name) refusal.Busy refl
 
   operate_turns : (name : ℕ) (op : Op) → R (operate_row s name op)

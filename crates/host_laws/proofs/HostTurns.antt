@@ -34,9 +34,10 @@ use Rattle.host_laws.proofs.DihSends.{dih_kinds}
 use Rattle.host_laws.proofs.LqhOps.{is_lqh}
 use Rattle.host_laws.proofs.SendKinds.{are_of, is_dih_kind, of_kind}
 use Rattle.host_laws.proofs.TcLives.{IsOwn, is_keyed}
-use Rattle.host_laws.proofs.TcSends.{tx_in}
-use Rattle.host_laws.proofs.TcSteps.{TxStep, born, elsewhere, is_apart, left_of_turn, next_grows, of_live, turned, tx_step}
-use Rattle.host_laws.proofs.TcTurns.{TurnMove, is_turn, turn_row}
+use Rattle.host_laws.specs.Live.{of_live}
+use Rattle.host_laws.proofs.TcSteps.{TxStep, born, elsewhere, is_apart, left_of_turn, next_grows, turned, tx_step}
+use Rattle.tc_block.proofs.TurnRows.{tx_in, is_turn, turn_row}
+use Rattle.host_laws.proofs.TcTurns.{TurnMove}
 use Rattle.host_laws.proofs.Wishes.{is_tc}
 use Rattle.host_laws.specs.Counts.{tally}
 

@@ -19,6 +19,7 @@ pub mod LqhOther
 pub mod LqhSends
 pub mod LqhWaits
 pub mod NodeOps
+pub mod OfLive
 pub mod OneWay
 pub mod PartCounts
 pub mod PartKinds
@@ -26,6 +27,7 @@ pub mod PhaseSends
 pub mod PlainMarks
 pub mod QueueWaits
 pub mod Replicas
+pub mod RequestCounts
 pub mod SendKinds
 pub mod ShellHost
 pub mod StartedHosts

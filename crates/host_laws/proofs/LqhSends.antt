@@ -17,14 +17,14 @@ lqh_kinds s body =
       grants_more = refl;
       expires_more = refl;
       commits_on = λ tx key epoch chain at is behind. refl;
-      committed = λ tx key. refl;
+      committed = λ tx key epoch chain at sent first. refl;
       completes_on = λ tx key chain at is behind. refl;
-      completed = λ tx key. refl;
-      aborted = λ tx key. refl;
+      completed = λ tx key chain at sent first. refl;
+      aborted = λ tx key sent. refl;
       gives_up = λ tx key is. refl;
       times_out = λ tx key. refl;
-      waits = λ tx ahead. refl;
-      dumps = λ rows next. refl;
+      waits = λ tx key ahead sent there. refl;
+      dumps = λ at rows next sent. refl;
     }))
   where
     request : (r : Request) → RequestSends (λ (o : Outgoing). is_lqh_kind o.body ≡ true) r

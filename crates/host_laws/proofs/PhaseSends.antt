@@ -19,6 +19,7 @@ use Rattle.frag_map.specs.Layout.{chain_of}
 use Rattle.tc_block.specs.Part.{part_effects, rest_if}
 use Rattle.tc_block.specs.Sends.{abort_of, complete_if, entering, front_sends, go_on_if, key_sends, phase_sends}
 use Rattle.host_laws.proofs.SendKinds.{are_of, of_append, of_drop, of_flat, of_map, of_take, one_kind}
+use Rattle.sig_core.specs.declared.portion.TheConstants.{PORTION}
 
 -- a kind of signal that has what is sent to replicas, and what goes on with a list
 pub record HasChains (tx : TxId) (kind : Body → Bool) : Type 0 where
@@ -34,7 +35,7 @@ pub part_of : (kind : Body → Bool) (tx : TxId) → ((at : ℕ) → kind (Host 
     → are_of kind (part_effects node tx sends at).sends ≡ true
 unfolding part_effects
 part_of kind tx goes_on node sends at all =
-    of_append kind (take 8 (drop at sends)) _ (of_take kind 8 (drop at sends) (of_drop kind at sends all))
+    of_append kind (take PORTION (drop at sends)) _ (of_take kind PORTION (drop at sends) (of_drop kind at sends all))
     (by (nat_lt _ (length sends)))
   where
     by : (b : Bool) → are_of kind (rest_if node tx at b) ≡ true

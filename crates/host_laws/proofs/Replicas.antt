@@ -3,7 +3,7 @@ use Rattle.std.proofs.Common.{◌≡◌, ◌==◌, ◌%◌, ℕ, zero, suc, Bool
 use Rattle.std.proofs.lemmas.Bool.{false≢true}
 use Rattle.std.specs.Cmp.Lexicographic.{nat_list_cmp_total}
 use Rattle.std.specs.FinMap as map
-use Rattle.std.specs.Prelude.{if◌then◌else◌, Option, None, Some, slice_get}
+use Rattle.std.specs.Prelude.{if◌then◌else◌, Option, None, Some}
 use Rattle.run_theory.specs.Lists.{Each}
 use Rattle.sig_core.specs.declared.member.Member.{Member}
 use Rattle.sig_core.specs.declared.member.TxId.{TxId}
@@ -17,29 +17,29 @@ use Rattle.sig_core.specs.declared.signal.Signal.{Signal}
 use Rattle.sig_core.specs.declared.signal.client.ClientSignal.TheVariants.{TcCommitAck, LqhWaitReq, DumpReq}
 use Rattle.sig_core.specs.declared.signal.host.HostSignal.TheVariants.{Round, Continue}
 use Rattle.sig_core.specs.declared.signal.host.Work.TheVariants as work
-use Rattle.sig_core.specs.Rows.{RowsState, is_on, no_rows, put_row, record_state, with_place}
+use Rattle.sig_core.specs.Rows.{RowsState, complete_record, is_on, no_rows, put_row, record_state, with_place}
 use Rattle.sig_core.specs.declared.rows.PendingRecord.{PendingRecord}
 use Rattle.sig_core.specs.declared.view.Shape.{Shape}
 use Rattle.sig_core.specs.Same.{same_key}
 use Rattle.sig_core.specs.Table.{Rows}
 use Rattle.serial_model.specs.Legal.{rows_over}
-use Rattle.row_locks.specs.declared.mode.Lock.{Lock}
-use Rattle.row_locks.specs.declared.mode.Lock.TheVariants.{Granted, Queued}
 use Rattle.row_locks.specs.OrderlyTables.{AreOrderly}
-use Rattle.row_locks.specs.Rounds.{expired}
-use Rattle.row_locks.specs.Tables.{ahead_at, or_unlocked}
+use Rattle.row_locks.specs.Tables.{or_unlocked}
 use Rattle.row_locks.proofs.LocksLemmas.{key_cmp}
 use Rattle.row_locks.proofs.TableLawLemmas.{age_round_orderly, empty_orderly, release_orderly, request_orderly, unwait_orderly}
 use Rattle.lqh_block.proofs.IndexLemmas.{same as same_key-is}
 use Rattle.lqh_block.specs.declared.request.Request.{Request}
 use Rattle.lqh_block.specs.Abort as abort
 use Rattle.lqh_block.specs.Commit as commit
-use Rattle.lqh_block.specs.Complete as complete
 use Rattle.lqh_block.specs.Dump as dump
 use Rattle.lqh_block.specs.Expire as expire
 use Rattle.lqh_block.specs.Lqh.{unasked_yet}
 use Rattle.lqh_block.specs.Operate as operate
+use Rattle.lqh_block.specs.State as rows_state
 use Rattle.lqh_block.specs.State.{LqhState, storage_of, unlocked}
+use Rattle.lqh_block.specs.Storage.{StorageState}
+use Rattle.lqh_block.specs.declared.request.Marker.{Marker}
+use Rattle.lqh_block.proofs.LqhForms.{ExpireForms, acknowledge_forms, dump_forms, lqh_forms, wait_forms}
 use Rattle.lqh_block.specs.Wait as wait
 use Rattle.sig_core.specs.Work.{work_key}
 use Rattle.lqh_block.specs.Work.{work_mode}
@@ -61,25 +61,19 @@ use Rattle.host_laws.specs.ReplicaLaws.{KeysHaveRows, LogsFollowEvents, NodesBeg
 use Rattle.key_laws.proofs.CellsAt.{placed-aborted, placed-committed, placed-completed}
 use Rattle.key_laws.proofs.PerformedAt.{placed-performed}
 use Rattle.key_laws.proofs.KeyAfter.{granted_event, replica_is, request_event}
-use Rattle.key_laws.proofs.KeyEnds.{abort_event, applied_locks, applied_rows, commit_event, complete_event, expire_event, given_locks, given_rows, round_event, unasked_is}
+use Rattle.key_laws.proofs.KeyEnds.{abort_event, commit_event, committed_rows, complete_event, expire_event, given_up_rows, round_event}
 use Rattle.sig_core.proofs.Keys.{same_key-swap, tied-same_key}
 use Rattle.key_laws.proofs.PlacesAt.{apart-set_row, apart-with_place, has-own_place, row-set_row, row-with_place, row_at, row_of-at}
 
 acknowledged_same : (s : LqhState) (tx : TxId) (key : List ℕ) → at_key key (wait.acknowledged s tx) ≡ at_key key s
-unfolding wait.acknowledged
-acknowledged_same s tx key = refl
+acknowledged_same s tx key = acknowledge_forms (λ step. at_key key step.state ≡ at_key key s) s tx (λ markers. refl)
 
-wait_by_state : (s : LqhState) (tx : TxId) (ahead : Option TxId) → (wait.wait_by s tx ahead).state ≡ s
-wait_by_state s tx None = refl
-wait_by_state s tx (Some ahead) = refl
+wait_same : (s : LqhState) (tx : TxId) (own key : List ℕ) → at_key key (wait.wait_row s tx own).state ≡ at_key key s
+wait_same s tx own key =
+    wait_forms (λ step. at_key key step.state ≡ at_key key s) s tx own (record { none = λ is. refl; some = λ ahead is. refl })
 
-wait_state : (s : LqhState) (tx : TxId) (key : List ℕ) → (wait.wait_row s tx key).state ≡ s
-unfolding wait.wait_row
-wait_state s tx key = wait_by_state s tx (ahead_at s.locks key tx)
-
-dump_state : (s : LqhState) (at : ℕ) → (dump.dump_row s at).state ≡ s
-unfolding dump.dump_row
-dump_state s at = refl
+dump_same : (s : LqhState) (at : ℕ) (key : List ℕ) → at_key key (dump.dump_row s at).state ≡ at_key key s
+dump_same s at key = dump_forms (λ step. at_key key step.state ≡ at_key key s) s at (λ rows next. refl)
 
 pub signals_are_events : SignalsAreEvents
 signals_are_events s (Chain (LqhKeyReq tx what chain at)) key well = request_event s (record { tx = tx; work = what; chain = chain; at = at }) key
@@ -88,99 +82,68 @@ signals_are_events s (Chain (Commit tx own epoch chain at)) key well = commit_ev
 signals_are_events s (Chain (Complete tx own chain at)) key well = complete_event s well.placed tx own chain at key
 signals_are_events s (Chain (Abort tx own)) key well = abort_event s well.placed tx own key
 signals_are_events s (Client (TcCommitAck tx)) key well = acknowledged_same s tx key
-signals_are_events s (Client (LqhWaitReq tx own)) key well = ap (at_key key) (wait_state s tx own)
-signals_are_events s (Client (DumpReq at)) key well = ap (at_key key) (dump_state s at)
+signals_are_events s (Client (LqhWaitReq tx own)) key well = wait_same s tx own key
+signals_are_events s (Client (DumpReq at)) key well = dump_same s at key
 signals_are_events s (Host Round) key well = round_event s key
 signals_are_events s (Host (Continue work.Expired at)) key well = expire_event s key
 signals_are_events s _ key well = refl
 
--- each row leaves the replica well
-asked_well : (s : LqhState) (q : Request) (answer : Lock) → IsWell s → IsWell (operate.asked_by (operate.asked_for s q) q answer).state
-asked_well s q Granted well = record {
-  placed = placed-performed (storage_of s) q well.placed;
-  orderly = request_orderly s.locks (work_key q.work) q.tx (work_mode q.work) well.orderly;
+-- each step leaves the replica well
+expire_well : (t : LqhState) → IsWell t → ExpireForms (λ step. IsWell step.state) t
+expire_well t well = record {
+  rests = λ is. well;
+  none = λ tx key is none. record { placed = well.placed; orderly = unwait_orderly t.locks key tx well.orderly };
+  some = λ tx key is at r there here. record { placed = well.placed; orderly = unwait_orderly t.locks key tx well.orderly };
 }
-asked_well s q (Queued ahead) well = record { placed = well.placed; orderly = request_orderly s.locks (work_key q.work) q.tx (work_mode q.work) well.orderly }
-
-request_well : (s : LqhState) (q : Request) → IsWell s → IsWell (operate.request_row s q).state
-unfolding operate.request_row
-request_well s q well = asked_well s q (operate.asking s q).answer well
-
-granted_value_well : (s : LqhState) (at : ℕ) (q : Option Request) → IsWell s → IsWell (operate.granted_value s at q).state
-granted_value_well s at None well = well
-granted_value_well s at (Some q) well = record { placed = placed-performed (storage_of s) q well.placed; orderly = well.orderly }
-
-granted_by_well : (s : LqhState) (at : Option ℕ) → IsWell s → IsWell (operate.granted_by s at).state
-granted_by_well s None well = well
-granted_by_well s (Some at) well = granted_value_well s at (slice_get s.waiting at) well
-
-granted_well : (s : LqhState) → IsWell s → IsWell (operate.granted_row s).state
-unfolding operate.granted_row
-granted_well s well = granted_by_well s (operate.first_granted s.locks s.waiting) well
-
-applied_well : (s : LqhState) (tx : TxId) (key : List ℕ) (epoch : ℕ) → IsWell s → IsWell (commit.applied s tx key epoch (record_state s.rows tx key))
-applied_well s tx key epoch well = record {
-  placed = subst IsPlaced (sym (applied_rows s tx key epoch)) (placed-committed s.rows tx key well.placed);
-  orderly = subst AreOrderly (sym (applied_locks s tx key epoch (record_state s.rows tx key))) well.orderly;
-}
-
-unlocked_well : (s : LqhState) (tx : TxId) (key : List ℕ) → IsWell s → IsWell (unlocked s tx key)
-unlocked_well s tx key well = record { placed = well.placed; orderly = release_orderly s.locks key tx well.orderly }
-
-told_well : (s : LqhState) (tx : TxId) (key : List ℕ) (epoch : ℕ) (chain : List Member) (at : ℕ) (had : Option Bool) (b : Bool) → IsWell s → IsWell (commit.told_if s tx key epoch chain at had b).state
-told_well s tx key epoch chain at had true well = unlocked_well s tx key well
-told_well s tx key epoch chain at had false well = well
-
-commit_well : (s : LqhState) (tx : TxId) (key : List ℕ) (epoch : ℕ) (chain : List Member) (at : ℕ) → IsWell s → IsWell (commit.commit_row s tx key epoch chain at).state
-unfolding commit.commit_row
-commit_well s tx key epoch chain at well = told_well (commit.applied s tx key epoch (record_state s.rows tx key)) tx key epoch chain at (record_state s.rows tx key) (at == 0) (applied_well s tx key epoch well)
-
-complete_well : (s : LqhState) (tx : TxId) (key : List ℕ) (chain : List Member) (at : ℕ) → IsWell s → IsWell (complete.complete_row s tx key chain at).state
-unfolding complete.complete_row
-complete_well s tx key chain at well = record { placed = placed-completed s.rows tx key well.placed; orderly = release_orderly s.locks key tx well.orderly }
-
-unasked_well : (s : LqhState) (tx : TxId) (key : List ℕ) → IsWell s → IsWell (abort.unasked s tx key)
-unasked_well s tx key well = subst IsWell (sym (unasked_is s tx key)) (record { placed = well.placed; orderly = well.orderly })
-
-given_well : (s : LqhState) (tx : TxId) (key : List ℕ) → IsWell s → IsWell (abort.given_up s tx key (record_state s.rows tx key))
-given_well s tx key well = record {
-  placed = subst IsPlaced (sym (given_rows s tx key)) (placed-aborted s.rows tx key well.placed);
-  orderly = subst AreOrderly (sym (given_locks s tx key (record_state s.rows tx key))) well.orderly;
-}
-
-unasked_rows : (s : LqhState) (tx : TxId) (key : List ℕ) → (abort.unasked s tx key).rows ≡ s.rows
-unasked_rows s tx key = ap (λ (t : LqhState). t.rows) (unasked_is s tx key)
-
-abort_well : (s : LqhState) (tx : TxId) (key : List ℕ) → IsWell s → IsWell (abort.abort_row s tx key).state
-unfolding abort.abort_row
-abort_well s tx key well =
-    unlocked_well (abort.given_up (abort.unasked s tx key) tx key (record_state s.rows tx key)) tx key
-    (subst (λ (r : RowsState). IsWell (abort.given_up (abort.unasked s tx key) tx key (record_state r tx key))) (unasked_rows s tx key) (given_well (abort.unasked s tx key) tx key (unasked_well s tx key well)))
-
-expire_by_well : (s : LqhState) (w : Option (TxId × List ℕ)) → IsWell s → IsWell (expire.expire_by s w).state
-expire_by_well s None well = well
-expire_by_well s (Some w) well = unasked_well _ w.0 w.1 (record { placed = well.placed; orderly = unwait_orderly s.locks w.1 w.0 well.orderly })
-
-expire_well : (s : LqhState) → IsWell s → IsWell (expire.expire_row s).state
-unfolding expire.expire_row
-expire_well s well = expire_by_well s (expired s.locks) well
-
-acknowledged_well : (s : LqhState) (tx : TxId) → IsWell s → IsWell (wait.acknowledged s tx)
-unfolding wait.acknowledged
-acknowledged_well s tx well = record { placed = well.placed; orderly = well.orderly }
 
 pub signals_keep_well : SignalsKeepWell
-signals_keep_well s (Chain (LqhKeyReq tx what chain at)) well = request_well s (record { tx = tx; work = what; chain = chain; at = at }) well
-signals_keep_well s (Host (Continue work.Granted at)) well = granted_well s well
-signals_keep_well s (Chain (Commit tx own epoch chain at)) well = commit_well s tx own epoch chain at well
-signals_keep_well s (Chain (Complete tx own chain at)) well = complete_well s tx own chain at well
-signals_keep_well s (Chain (Abort tx own)) well = abort_well s tx own well
-signals_keep_well s (Client (TcCommitAck tx)) well = acknowledged_well s tx well
-signals_keep_well s (Client (LqhWaitReq tx own)) well = subst IsWell (sym (wait_state s tx own)) well
-signals_keep_well s (Client (DumpReq at)) well = subst IsWell (sym (dump_state s at)) well
-signals_keep_well s (Host Round) well = expire_well (expire.aged s) (record { placed = well.placed; orderly = age_round_orderly s.locks well.orderly })
-signals_keep_well s (Host (Continue work.Expired at)) well = expire_well s well
-signals_keep_well s _ well = well
+signals_keep_well s body well =
+    lqh_forms (λ body step. IsWell step.state) s (record {
+      asks = λ q. record {
+        granted = λ is. record { placed = placed-performed (storage_of s) q well.placed; orderly = asked_orderly q };
+        queued = λ ahead is. record { placed = well.placed; orderly = asked_orderly q };
+      };
+      grants = λ at. record {
+        none = λ is. well;
+        some = λ place q is here. record { placed = placed-performed (storage_of s) q well.placed; orderly = well.orderly };
+      };
+      commits = λ tx key epoch chain at. record {
+        last = λ had st markers applies first. record {
+          placed = subst IsPlaced (sym (committed_rows applies)) (placed-committed s.rows tx key well.placed);
+          orderly = release_orderly s.locks key tx well.orderly;
+        };
+        passes = λ had st markers applies first. record {
+          placed = subst IsPlaced (sym (committed_rows applies)) (placed-committed s.rows tx key well.placed);
+          orderly = well.orderly;
+        };
+      };
+      completes = λ tx key chain at. record { last = λ first. completed tx key; passes = λ first. completed tx key };
+      aborts = λ tx key. record {
+        none = λ had st gives none. record {
+          placed = subst IsPlaced (sym (given_up_rows gives)) (placed-aborted s.rows tx key well.placed);
+          orderly = release_orderly s.locks key tx well.orderly;
+        };
+        some = λ had st gives at r there here. record {
+          placed = subst IsPlaced (sym (given_up_rows gives)) (placed-aborted s.rows tx key well.placed);
+          orderly = release_orderly s.locks key tx well.orderly;
+        };
+      };
+      acknowledges = λ tx markers. record { placed = well.placed; orderly = well.orderly };
+      waits = λ tx key. record { none = λ is. well; some = λ ahead is. well };
+      dumps = λ at rows next. well;
+      ages = expire_well (expire.aged s) (record { placed = well.placed; orderly = age_round_orderly s.locks well.orderly });
+      expires = λ at. expire_well s well;
+      rests = λ body is. well;
+    }) body
+  where
+    asked_orderly : (q : Request) → AreOrderly (operate.asked_for s q).locks
+    asked_orderly q = request_orderly s.locks (work_key q.work) q.tx (work_mode q.work) well.orderly
+
+    completed : (tx : TxId) (key : List ℕ) → IsWell (unlocked (rows_state.with_rows s (complete_record s.rows tx key)) tx key)
+    completed tx key = record {
+      placed = placed-completed s.rows tx key well.placed;
+      orderly = release_orderly s.locks key tx well.orderly;
+    }
 
 -- the rows of the start
 put_placed : (s : RowsState) (rows : List (List ℕ × List ℕ)) → AreApart s.places → s.pending ≡ [] → IsPlaced (with_rows s rows)

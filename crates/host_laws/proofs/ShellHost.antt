@@ -41,7 +41,8 @@ use Rattle.host_laws.proofs.BlocksAlong.{IsHome, at_own_node}
 use Rattle.host_laws.proofs.LinkCounts.{sent_truths}
 use Rattle.host_laws.proofs.LqhSends.{lqh_kinds}
 use Rattle.host_laws.proofs.SendKinds.{are_of, each_of, is_dih_kind, is_lqh_kind, is_tc_kind, none_of}
-use Rattle.host_laws.proofs.TcSends.{tc_kinds, tx_in}
+use Rattle.tc_block.proofs.TurnRows.{tx_in}
+use Rattle.host_laws.proofs.TcSends.{tc_kinds}
 use Rattle.host_laws.proofs.Wishes.{and_false, dih_replies, dih_wishes, is_api, is_reply, is_tc, is_wish, lqh_replies, lqh_wishes, reply_of, sends_of, tc_replies, tc_wishes, to_node, wish_of}
 use Rattle.host_laws.specs.OpenedAfter.{opened_in}
 use Rattle.host_laws.proofs.Tally.{none_if}

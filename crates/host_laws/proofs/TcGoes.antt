@@ -33,6 +33,7 @@ use Rattle.host_laws.specs.Kinds as kind
 use Rattle.tc_block.specs.Phases.{is_decided, is_open}
 use Rattle.tc_block.proofs.EachTurn.{AbortForms, CommittedForms, TurnForms}
 use Rattle.run_theory.proofs.EachSent.{each_drop, each_flat, each_mapped, each_take}
+use Rattle.sig_core.specs.declared.portion.TheConstants.{PORTION}
 
 -- what a transaction may say where D is known of it once it is decided: that its rows are committed and that it has ended,
 -- and nothing of the rest
@@ -69,9 +70,9 @@ module _ (tx : TxId) (D : Type 0) where
   part_says : (node : ℕ) (sends : List Outgoing) (at : ℕ) → AllSay tx D sends → AllSay tx D (part_effects node tx sends at).sends
   unfolding part_effects
   part_says node sends at all =
-      each_append (λ (o : Outgoing). SaysOf tx D (kind_of o.body)) (take 8 (drop at sends)) (rest_if node tx at (nat_lt (at + 8) (length sends)))
-      (each_take (λ (o : Outgoing). SaysOf tx D (kind_of o.body)) 8 (drop at sends) (each_drop (λ (o : Outgoing). SaysOf tx D (kind_of o.body)) at sends all))
-      (rest_says node at (nat_lt (at + 8) (length sends)))
+      each_append (λ (o : Outgoing). SaysOf tx D (kind_of o.body)) (take PORTION (drop at sends)) (rest_if node tx at (nat_lt (at + PORTION) (length sends)))
+      (each_take (λ (o : Outgoing). SaysOf tx D (kind_of o.body)) PORTION (drop at sends) (each_drop (λ (o : Outgoing). SaysOf tx D (kind_of o.body)) at sends all))
+      (rest_says node at (nat_lt (at + PORTION) (length sends)))
 
   front_says : (phase : Phase) → Known phase → AllSay tx D (front_sends tx phase)
   unfolding front_sends

@@ -1,48 +1,36 @@
--- A coordinator answers each operation that it takes once: what it has unanswered and what it has answered it was asked for.
-use Rattle.std.proofs.Common.{◌≡◌, ℕ, ◌+◌, ◌≤◌, List, [], ◌∷◌, ◌++◌, length, Bool, true, false, cond, refl, ap, sym, ◌∙◌, subst, arith}
-use Rattle.std.specs.Prelude.{◌==◌, ◌&&◌, nat_lt, not, is_some, Option, None, Some, if◌then◌else◌}
-use Rattle.std.specs.List.{prefix_len}
-use Rattle.std.specs.Map.{keys_of}
-use Rattle.std.proofs.lemmas.Bool.Decides.{nat_tests}
+-- A coordinator answers each operation that it takes once: what it has unanswered and what it has answered it was asked
+-- for.
+use Rattle.std.proofs.Common.{◌≡◌, ℕ, ◌+◌, ◌≤◌, List, [], ◌∷◌, ◌++◌, Bool, true, false, refl, ap, sym, subst, arith}
+use Rattle.std.specs.Prelude.{◌==◌, ◌&&◌, is_some, None, if◌then◌else◌}
 use Rattle.indexmap.specs.IndexMap.{insert_entry}
 use Rattle.sig_core.specs.declared.member.TxId.{TxId}
-use Rattle.sig_core.specs.declared.op.Answer.{Answer}
-use Rattle.sig_core.specs.declared.op.Op.{Op}
 use Rattle.sig_core.specs.declared.outcome.AbortCause.{AbortCause}
 use Rattle.sig_core.specs.declared.outs.Outgoing.{Outgoing}
 use Rattle.sig_core.specs.declared.place.Place.{Place}
 use Rattle.sig_core.specs.declared.signal.Body.{Body}
-use Rattle.sig_core.specs.declared.signal.Body.TheVariants.{Host, Client, Chain, Epoch}
-use Rattle.sig_core.specs.declared.signal.chain.ChainSignal.TheVariants.{LqhKeyConf, LqhKeyRef, Committed, Completed, Aborted}
-use Rattle.sig_core.specs.declared.signal.client.ClientSignal.TheVariants.{TcBeginReq, TcKeyReq, TcKeyConf, TcCommitReq, TcRollbackReq, TcWaitReq, LqhWaitConf}
-use Rattle.sig_core.specs.declared.signal.epoch.EpochSignal.TheVariants.{DiVerifyConf}
-use Rattle.sig_core.specs.declared.signal.host.HostSignal.TheVariants.{Continue}
-use Rattle.sig_core.specs.declared.signal.host.Work.TheVariants as work
-use Rattle.frag_map.specs.Layout.{Layout}
+use Rattle.sig_core.specs.declared.signal.Body.TheVariants.{Client}
+use Rattle.sig_core.specs.declared.signal.client.ClientSignal.TheVariants.{TcKeyReq, TcKeyConf}
+use Rattle.frag_map.specs.Layout.{Layout, chain_of}
+use Rattle.sig_core.specs.Op.{key_of}
 use Rattle.sig_core.specs.Same.{same_tx}
 use Rattle.sig_core.specs.Step.{Step}
-use Rattle.tc_block.specs.declared.phase.Asked.{Asked}
-use Rattle.tc_block.specs.declared.phase.Phase.{Phase}
-use Rattle.tc_block.specs.declared.phase.Phase.TheVariants.{Open, Verifying, Committing, Completing, Aborting}
 use Rattle.tc_block.specs.declared.transaction.Transaction.{Transaction}
-use Rattle.tc_block.specs.Abort as abort
-use Rattle.tc_block.specs.Commit as commit
-use Rattle.tc_block.specs.Complete as complete
-use Rattle.tc_block.specs.Live.{place_in, step_of, turn_of, turn_place, turn_value, turned_if, without}
 use Rattle.tc_block.specs.Operate as operate
-use Rattle.tc_block.specs.Sends.{entering, go_on_row}
-use Rattle.tc_block.specs.State.{TcState}
-use Rattle.tc_block.specs.Tc.{begin_if, begin_row, is_full, next_tx, pass_if, pass_row, tc_table}
-use Rattle.tc_block.specs.Turn.{Turn, asking, going}
+use Rattle.tc_block.specs.Sends.{entering}
+use Rattle.tc_block.specs.State.{TcState, with_live}
+use Rattle.tc_block.specs.Tc.{next_tx, tc_table}
+use Rattle.tc_block.specs.Turn.{Turn, asking}
 use Rattle.sig_core.proofs.Keys.{same_tx-self}
-use Rattle.tc_block.proofs.EachTurn.{AbortForms, CommittedForms, RowsAre, rows_of}
-use Rattle.host_laws.proofs.SendKinds.{SendsOnly, are_of, is_keyless, is_tc_kind, none_of}
+use Rattle.tc_block.proofs.EachTurn.{AbortForms, CommittedForms, TurnForms, TurnFormsAt, rows_at}
+use Rattle.tc_block.proofs.TurnRows.{TcStep, begins, left_in, misses, passes, refuses, rests, takes, tc_step, turn_by, turn_row, tx_in}
+use Rattle.host_laws.proofs.SendKinds.{are_of, is_keyless, is_tc_kind, none_of}
 use Rattle.host_laws.proofs.Tally.{tally_between}
 use Rattle.host_laws.specs.Counts.{one_if, tally}
-use Rattle.host_laws.proofs.TcKeyless as keyless
+use Rattle.host_laws.proofs.TcKeyless.{is_answered, keyless_forms, late_keyless}
 use Rattle.host_laws.proofs.TcLives.{apart}
-use Rattle.host_laws.proofs.TcMoves.{IsEntry, found, same_tx-is, step_is}
-use Rattle.host_laws.proofs.TcSends.{TurnSends, aborted_kinds, answer_kinds, commit_kinds, committed_kinds, completed_kinds, decide_kinds, go_on_kinds, operate_kinds, refuse_kinds, rollback_kinds, wait_kinds}
+use Rattle.host_laws.proofs.TcMoves.{same_tx-is}
+use Rattle.host_laws.proofs.TcSends.{turn_sends}
+use Rattle.host_laws.proofs.TurnKinds.{TurnOnly}
 use Rattle.host_laws.proofs.Wishes.{and_false, is_api, is_tc, sends_of, to_node}
 
 -- an operation of the transaction is asked for at its coordinator
@@ -75,148 +63,111 @@ no_answer_keyless tx (Client (TcKeyConf other answer)) e = cc
 no_answer_keyless tx _ e = refl
 
 pub no_answers : (tx : TxId) (sends : List Outgoing) → are_of is_keyless sends ≡ true → answers_in tx sends ≡ 0
-no_answers tx sends kind = none_of is_keyless (to_node 0 (is_answer tx)) (λ to b k. and_false (to.node == 0) (is_api to.block) (no_answer_keyless tx b k)) sends kind
+no_answers tx sends kind =
+    none_of is_keyless (to_node 0 (is_answer tx))
+    (λ to b k. and_false (to.node == 0) (is_api to.block) (no_answer_keyless tx b k)) sends kind
 
-no_answer_other : (tx one : TxId) → same_tx one tx ≡ false → (body : Body) → is_tc_kind one body ≡ true → answer_of tx body ≡ false
+no_answer_other : (tx one : TxId) → same_tx one tx ≡ false → (body : Body) → is_tc_kind one body ≡ true
+    → answer_of tx body ≡ false
 no_answer_other tx one differs (Client (TcKeyConf other answer)) e = apart tx one other differs e
 no_answer_other tx one differs _ e = refl
 
-no_answers_other : (tx one : TxId) (sends : List Outgoing) → same_tx one tx ≡ false → are_of (is_tc_kind one) sends ≡ true → answers_in tx sends ≡ 0
-no_answers_other tx one sends differs kind = none_of (is_tc_kind one) (to_node 0 (is_answer tx)) (λ to b k. and_false (to.node == 0) (is_api to.block) (no_answer_other tx one differs b k)) sends kind
+no_answers_other : (tx one : TxId) (sends : List Outgoing) → same_tx one tx ≡ false
+    → are_of (is_tc_kind one) sends ≡ true → answers_in tx sends ≡ 0
+no_answers_other tx one sends differs kind =
+    none_of (is_tc_kind one) (to_node 0 (is_answer tx))
+    (λ to b k. and_false (to.node == 0) (is_api to.block) (no_answer_other tx one differs b k)) sends kind
 
 -- what is unanswered after a turn, or was answered with it, was unanswered before, or came with it
-abbrev pub IsFair : TxId → Transaction → Turn → ℕ → Type 0
-IsFair tx t turn came = has_asked turn.step.state + answers_in tx turn.step.effects.sends ≤ has_asked t + came
+record IsFair (tx : TxId) (t : Transaction) (turn : Turn) (came : ℕ) : Type 0 where
+  fair : has_asked turn.step.state + answers_in tx turn.step.effects.sends ≤ has_asked t + came
 
 one_most : (b : Bool) → one_if b ≤ 1
 one_most true = omega arith
 one_most false = omega arith
 
-module _ (tx : TxId) (t : Transaction) where
-  -- what the transaction has unanswered stays so
-  abbrev StaysAsked : Turn → Type 0
-  StaysAsked turn = has_asked turn.step.state ≤ has_asked t
+module _ (node : ℕ) (layout : Layout) (tx : TxId) (t : Transaction) (body : Body) where
+  abbrev Fairly : Turn → Type 0
+  Fairly turn = IsFair tx t turn (one_if (key_of_tx tx body))
 
-  abort_stays : (node : ℕ) (layout : Layout) (u : Transaction) (why : AbortCause) → has_asked u ≤ has_asked t → AbortForms node layout tx u why StaysAsked
+  -- a turn that answers nothing
+  still : (turn : Turn) → are_of is_keyless turn.step.effects.sends ≡ true → has_asked turn.step.state ≤ has_asked t
+      → Fairly turn
+  still turn kind less = record { fair = omega (arith, no_answers tx turn.step.effects.sends kind, less) }
+
+  abort_fair : (u : Transaction) (why : AbortCause) → has_asked u ≤ has_asked t
+      → AbortForms node layout tx u why (TurnOnly is_keyless)
+      → AbortForms node layout tx u why Fairly
   unfolding entering
-  abort_stays node layout u why less = record { enters = λ some. less; ends = λ none. less }
+  abort_fair u why less kinds = record {
+    enters = λ some. still _ (kinds.enters some) less;
+    ends = λ none. still _ (kinds.ends none) less;
+  }
 
-  commit_stays : (node : ℕ) (layout : Layout) (epoch : ℕ) → CommittedForms node layout tx t epoch StaysAsked
+  commit_fair : (epoch : ℕ) → CommittedForms node layout tx t epoch (TurnOnly is_keyless)
+      → CommittedForms node layout tx t epoch Fairly
   unfolding entering
-  commit_stays node layout epoch = record { enters = λ some. omega arith; ends = λ none. omega arith }
+  commit_fair epoch kinds = record {
+    enters = λ some. still _ (kinds.enters some) (omega arith);
+    ends = λ none. still _ (kinds.ends none) (omega arith);
+  }
 
-  stays : (node : ℕ) (layout : Layout) (body : Body) → ((op : Op) → body ≡ Client (TcKeyReq tx op) → ⊥) → RowsAre node layout tx t body StaysAsked
+  fair_forms : TurnFormsAt node layout tx t body Fairly
   unfolding entering
-  stays node layout body other = rows_of node layout tx t body StaysAsked (record {
-    stays = omega arith;
-    goes_on = λ at. omega arith;
-    operates = λ op is can. absurd (other op is);
-    answers = λ key answer asked is on at. omega arith;
-    late = λ key asked why verifying awaited on at. omega arith;
-    waits = λ asked on. omega arith;
-    decides = λ is ready. omega arith;
-    commits = λ epoch is at some. omega arith;
-    commits_none = λ epoch is at. commit_stays node layout epoch;
-    committed = λ epoch awaited at more. omega arith;
-    committed_all = λ epoch awaited at. commit_stays node layout epoch;
-    completed = λ epoch awaited at more. omega arith;
-    completed_all = λ epoch awaited at last. omega arith;
-    rolls_back = λ is undecided unaborted. abort_stays node layout t _ (omega arith);
-    refuses = λ key why asked is on at. abort_stays node layout (asking t None) why (omega arith);
-    aborted = λ why verifying awaited at more. omega arith;
-    aborted_all = λ why verifying awaited at last. omega arith;
-  })
-
-  answer_fair : (layout : Layout) (at : List ℕ) (answer : Answer) → IsFair tx t (going (operate.answer_row layout tx t at answer)) 0
-  unfolding operate.answer_row
-  answer_fair layout at answer = by (operate.asked_on t.asked at) t.phase refl
+  fair_forms = record {
+    stays = λ other missed. still _ refl (omega arith);
+    stops = λ at is high. still _ refl (omega arith);
+    goes_on = λ at is low. still _ ((kinds (ap is_answered is)).goes_on at) (omega arith);
+    operates = λ op is can.
+        record {
+          fair = omega (
+            arith,
+            no_answers tx (operate.operating tx t op (chain_of layout (key_of op))).effects.sends
+                ((kinds (ap is_answered is)).operates op is can),
+            ap (λ b. one_if (key_of_tx tx b)) is,
+            ap one_if (same_tx-self tx),
+          );
+        };
+    answers = λ key answer asked is own at.
+        record { fair = omega (arith, ap (λ o. one_if (is_some o)) own.is, one_most (same_tx tx tx)) };
+    late = λ key asked why verifying awaited is own at. still _ (late_keyless layout tx t key) (omega arith);
+    waits = λ asked is on. still _ ((kinds (ap is_answered is)).waits asked on) (omega arith);
+    decides = λ is ready. still _ ((kinds (ap is_answered is)).decides is ready) (omega arith);
+    commits = λ epoch is at some. still _ ((kinds (ap is_answered is)).commits epoch is at some) (omega arith);
+    commits_none = λ epoch is at none. commit_fair epoch ((kinds (ap is_answered is)).commits_none epoch is at);
+    committed = λ key epoch awaited is at more. still _ refl (omega arith);
+    committed_all = λ key epoch awaited is at last.
+        commit_fair epoch ((kinds (ap is_answered is)).committed_all epoch awaited at);
+    completed = λ key epoch awaited is at more. still _ refl (omega arith);
+    completed_all = λ key epoch awaited is at last.
+        still _ ((kinds (ap is_answered is)).completed_all epoch awaited at last) (omega arith);
+    rolls_back = λ is undecided unaborted.
+        abort_fair t _ (omega arith) ((kinds (ap is_answered is)).rolls_back is undecided unaborted);
+    refuses = λ key why asked is own at.
+        abort_fair (asking t None) why (omega arith) ((kinds (ap is_answered is)).refuses key why asked is own.is at);
+    aborted = λ key why verifying awaited is at more. still _ refl (omega arith);
+    aborted_all = λ key why verifying awaited is at last.
+        still _ ((kinds (ap is_answered is)).aborted_all why verifying awaited at last) (omega arith);
+  }
     where
-      was : (o : Option Asked) (a : Asked) → operate.asked_on o at ≡ Some a → one_if (is_some o) ≡ 1
-      was None a e = absurd (no_some e)
-        where
-          no_some : None ≡ Some a → ⊥
-          no_some q = cc
-      was (Some b) a e = refl
+      kinds : is_answered body ≡ false → TurnForms node layout tx t body (TurnOnly is_keyless)
+      kinds = keyless_forms node layout tx t body
 
-      late : answers_in tx (operate.late_answer layout tx t at).effects.sends ≡ 0
-      late = no_answers tx (operate.late_answer layout tx t at).effects.sends (keyless.late_keyless layout tx t at)
-
-      by : (o : Option Asked) (phase : Phase) → operate.asked_on t.asked at ≡ o → IsFair tx t (going (operate.answer_by layout tx t at answer o phase)) 0
-      by (Some a) Open e = omega (arith, was t.asked a e, one_most (same_tx tx tx))
-      by (Some a) (Aborting why verifying awaited) e = omega (arith, late)
-      by (Some a) Verifying e = omega arith
-      by (Some a) (Committing epoch awaited) e = omega arith
-      by (Some a) (Completing epoch awaited) e = omega arith
-      by None phase e = omega arith
+turn_fair : (s : TcState) (body : Body) (t : Transaction)
+    → IsFair (tx_in body) t (turn_row s body t) (one_if (key_of_tx (tx_in body) body))
+turn_fair s body t =
+    let tx = tx_in body in
+    turn_by s t (Fairly s.node s.layout tx t body) body
+    (rows_at s.node s.layout tx t body (Fairly s.node s.layout tx t body) (fair_forms s.node s.layout tx t body)) 
+    (λ off. record { fair = omega arith })
 
 module _ (tx : TxId) (s : TcState) where
   abbrev Fair : Step TcState → ℕ → Type 0
-  Fair step came = tally (is_asked tx) step.state.live + answers_in tx step.effects.sends ≤ tally (is_asked tx) s.live + came
+  Fair step came = tally (is_asked tx) step.state.live + answers_in tx step.effects.sends ≤ tally
+      (is_asked tx) s.live + came
 
-  turn_fair : (one : TxId) (row : Transaction → Turn) (came : TxId → ℕ) → ((t : Transaction) → TurnSends one (row t)) → ((t : Transaction) → IsFair one t (row t) (came one)) → Fair (turn_of s one row) (came tx)
-  unfolding without
-  turn_fair one row came kinds fair = go (nat_lt place (length (keys_of s.live))) refl
-    where
-      place : ℕ
-      place = prefix_len (λ x. not (same_tx one x)) (keys_of s.live)
-
-      over : (f : IsEntry (same_tx one) s.live place) (b m : Bool) → same_tx one tx ≡ m → Fair (turned_if s place (row f.value) b) (came tx)
-      over f b m is = which b m is
-        where
-          key_is : same_tx f.key tx ≡ same_tx one tx
-          key_is = ap (λ t. same_tx t tx) (sym (same_tx-is one f.key f.passes))
-
-          was : tally (is_asked tx) s.live ≡ tally (is_asked tx) (f.front ++ f.back) + one_if (same_tx f.key tx && is_some f.value.asked)
-          was = tally_between (is_asked tx) f.front (f.key, f.value) f.back s.live f.is
-
-          now : tally (is_asked tx) (f.front ++ (f.key, (row f.value).step.state) ∷ f.back) ≡ tally (is_asked tx) (f.front ++ f.back) + one_if (same_tx f.key tx && is_some (row f.value).step.state.asked)
-          now = tally_between (is_asked tx) f.front (f.key, (row f.value).step.state) f.back (f.front ++ (f.key, (row f.value).step.state) ∷ f.back) refl
-
-          which : (b m : Bool) → same_tx one tx ≡ m → Fair (turned_if s place (row f.value) b) (came tx)
-          which true false q = omega (arith, was, ap (tally (is_asked tx)) f.removed, no_answers_other tx one (row f.value).step.effects.sends q (kinds f.value))
-          which false false q =
-              omega (
-                arith,
-                was,
-                now,
-                ap (tally (is_asked tx)) (f.set (row f.value).step.state),
-                no_answers_other tx one (row f.value).step.effects.sends q (kinds f.value),
-                ap (λ b. one_if (b && is_some (row f.value).step.state.asked)) (key_is ∙ q),
-                ap (λ b. one_if (b && is_some f.value.asked)) (key_is ∙ q),
-              )
-          which true true q =
-              omega (
-                arith,
-                was,
-                ap (tally (is_asked tx)) f.removed,
-                subst (λ x. IsFair x f.value (row f.value) (came x)) (same_tx-is one tx q) (fair f.value),
-                ap (λ b. one_if (b && is_some f.value.asked)) (key_is ∙ q),
-              )
-          which false true q =
-              omega (
-                arith,
-                was,
-                now,
-                ap (tally (is_asked tx)) (f.set (row f.value).step.state),
-                subst (λ x. IsFair x f.value (row f.value) (came x)) (same_tx-is one tx q) (fair f.value),
-                ap (λ b. one_if (b && is_some (row f.value).step.state.asked)) (key_is ∙ q),
-                ap (λ b. one_if (b && is_some f.value.asked)) (key_is ∙ q),
-              )
-
-      go : (b : Bool) → nat_lt place (length (keys_of s.live)) ≡ b → Fair (turn_place s row (cond b (Some place) None)) (came tx)
-      go true e =
-          let f = found (same_tx one) s.live (grind (arith, nat_tests, e)) in
-          subst (λ o. Fair (turn_value s row place o) (came tx)) (sym f.get) (over f (row f.value).over (same_tx one tx) refl)
-      go false e = omega arith
-
-  step_fair : (one : TxId) (row : Transaction → Step Transaction) (came : TxId → ℕ) → ((t : Transaction) → SendsOnly (is_tc_kind one) (row t)) → ((t : Transaction) → IsFair one t (going (row t)) (came one)) → Fair (step_of s one row) (came tx)
-  step_fair one row came kinds fair = subst (λ st. Fair st (came tx)) (sym (step_is s one row)) (turn_fair one (λ t. going (row t)) came kinds fair)
-
-  -- a turn that answers nothing
-  still : (one : TxId) (t : Transaction) (turn : Turn) → are_of is_keyless turn.step.effects.sends ≡ true → has_asked turn.step.state ≤ has_asked t → IsFair one t turn 0
-  still one t turn kind stays = omega (arith, no_answers one turn.step.effects.sends kind, stays)
-
-  fresh_few : (live : List (TxId × Transaction)) (one : TxId) → tally (is_asked tx) (insert_entry same_tx live one operate.fresh) ≤ tally (is_asked tx) live
+  fresh_few : (live : List (TxId × Transaction)) (one : TxId)
+      → tally (is_asked tx) (insert_entry same_tx live one operate.fresh) ≤ tally (is_asked tx) live
   fresh_few [] one = none (same_tx one tx)
     where
       none : (b : Bool) → one_if (b && false) + 0 ≤ 0
@@ -229,40 +180,67 @@ module _ (tx : TxId) (s : TcState) where
       none false c = omega arith
 
       go : (b : Bool) → tally (is_asked tx) (insert_entry same_tx live one operate.fresh) ≤ tally (is_asked tx) live
-          → tally (is_asked tx) (if b then (e.0, operate.fresh) ∷ live else e ∷ insert_entry same_tx live one operate.fresh) ≤ tally (is_asked tx) (e ∷ live)
+          → tally (is_asked tx)
+              (if b then (e.0, operate.fresh) ∷ live else e ∷ insert_entry same_tx live one operate.fresh) ≤ tally
+              (is_asked tx) (e ∷ live)
       go true rest = omega (arith, none (same_tx e.0 tx) (is_some e.1.asked))
       go false rest = omega (arith, rest)
 
-  begin_fair : (name : Option ℕ) (b : Bool) → Fair (begin_if s name b) 0
-  begin_fair name true = omega arith
-  begin_fair name false = omega (arith, fresh_few s.live (next_tx s))
-
-  pass_fair : (one ahead : TxId) (b : Bool) → Fair (pass_if s one ahead b) 0
-  pass_fair one ahead true = omega arith
-  pass_fair one ahead false = omega arith
-
-  operate_fair : (one : TxId) (op : Op) (t : Transaction) → IsFair one t (going (operate.operate_row s.layout one t op)) (one_if (same_tx one one))
-  operate_fair one op t =
-      omega (
-        arith,
-        no_answers one (operate.operate_row s.layout one t op).effects.sends (keyless.operate_keyless s.layout one t op),
-        one_most (is_some (operate.operate_row s.layout one t op).state.asked),
-        ap one_if (same_tx-self one),
-      )
+  -- what is left of the transaction whose turn it was
+  left_few : (one : TxId) (front back : List (TxId × Transaction)) (turn : Turn)
+      → tally (is_asked tx) (left_in one front back turn) ≤ tally (is_asked tx) (front ++ back) + one_if
+          (is_asked tx (one, turn.step.state))
+  left_few one front back turn = by turn.over
+    where
+      by : (b : Bool) → tally (is_asked tx) (if b then front ++ back else front ++ (one, turn.step.state) ∷ back)
+          ≤ tally (is_asked tx) (front ++ back) + one_if (is_asked tx (one, turn.step.state))
+      by true = omega arith
+      by false = omega (arith,
+          tally_between (is_asked tx) front (one, turn.step.state) back (front ++ (one, turn.step.state) ∷ back) refl)
 
   pub tc_fair : (body : Body) → Fair (tc_table s body) (one_if (key_of_tx tx body))
-  unfolding begin_row pass_row
-  tc_fair (Host (Continue (work.Transaction one) at)) = step_fair one _ (λ x. 0) (λ t. go_on_kinds s.node s.layout one t at) (λ t. still one t (going (go_on_row s.node s.layout one t at)) (keyless.go_on_keyless s.node s.layout one t at) ((stays one t s.node s.layout (Host (Continue (work.Transaction one) at)) (λ op is. cc)).goes_on at refl))
-  tc_fair (Client (TcBeginReq name)) = begin_fair name (is_full s)
-  tc_fair (Client (TcKeyReq one op)) = step_fair one _ (λ x. one_if (same_tx one x)) (λ t. operate_kinds s.layout one t op) (λ t. operate_fair one op t)
-  tc_fair (Client (TcCommitReq one)) = step_fair one _ (λ x. 0) (λ t. decide_kinds s.node one t) (λ t. still one t (going (commit.verify_row s.node one t)) (keyless.decide_keyless s.node one t) ((stays one t s.node s.layout (Client (TcCommitReq one)) (λ op is. cc)).decides refl))
-  tc_fair (Client (TcRollbackReq one)) = turn_fair one _ (λ x. 0) (λ t. rollback_kinds s.node s.layout one t) (λ t. still one t (abort.rollback_row s.node s.layout one t) (keyless.rollback_keyless s.node s.layout one t) ((stays one t s.node s.layout (Client (TcRollbackReq one)) (λ op is. cc)).rolls_back refl))
-  tc_fair (Client (TcWaitReq one)) = step_fair one _ (λ x. 0) (λ t. wait_kinds one t) (λ t. still one t (going (operate.wait_row one t)) (keyless.wait_keyless one t) ((stays one t s.node s.layout (Client (TcWaitReq one)) (λ op is. cc)).waits refl))
-  tc_fair (Client (LqhWaitConf one ahead)) = pass_fair one ahead (is_some (place_in s one))
-  tc_fair (Chain (LqhKeyConf one at answer)) = step_fair one _ (λ x. 0) (λ t. answer_kinds s.layout one t at answer) (λ t. answer_fair one t s.layout at answer)
-  tc_fair (Chain (LqhKeyRef one at why)) = turn_fair one _ (λ x. 0) (λ t. refuse_kinds s.node s.layout one t at why) (λ t. still one t (abort.refuse_row s.node s.layout one t at why) (keyless.refuse_keyless s.node s.layout one t at why) ((stays one t s.node s.layout (Chain (LqhKeyRef one at why)) (λ op is. cc)).refuses at why refl))
-  tc_fair (Chain (Committed one at)) = turn_fair one _ (λ x. 0) (λ t. committed_kinds s.node s.layout one t) (λ t. still one t (commit.committed_row s.node s.layout one t) (keyless.committed_keyless s.node s.layout one t) ((stays one t s.node s.layout (Chain (Committed one at)) (λ op is. cc)).committed at refl))
-  tc_fair (Chain (Completed one at)) = turn_fair one _ (λ x. 0) (λ t. completed_kinds s.node one t) (λ t. still one t (complete.completed_row s.node one t) (keyless.completed_keyless s.node one t) ((stays one t s.node s.layout (Chain (Completed one at)) (λ op is. cc)).completed at refl))
-  tc_fair (Chain (Aborted one at)) = turn_fair one _ (λ x. 0) (λ t. aborted_kinds s.node one t) (λ t. still one t (abort.aborted_row s.node one t) (keyless.aborted_keyless s.node one t) ((stays one t s.node s.layout (Chain (Aborted one at)) (λ op is. cc)).aborted at refl))
-  tc_fair (Epoch (DiVerifyConf one epoch)) = turn_fair one _ (λ x. 0) (λ t. commit_kinds s.node s.layout one t epoch) (λ t. still one t (commit.commit_row s.node s.layout one t epoch) (keyless.commit_keyless s.node s.layout one t epoch) ((stays one t s.node s.layout (Epoch (DiVerifyConf one epoch)) (λ op is. cc)).commits epoch refl))
-  tc_fair _ = omega arith
+  tc_fair body = by (tc_table s body) (tc_step s body)
+    where
+      came : ℕ
+      came = one_if (key_of_tx tx body)
+
+      by : (step : Step TcState) → TcStep s body step → Fair step came
+      by step (rests off is) = subst (λ st. Fair st came) (sym is) (omega arith)
+      by step (refuses name about is) = subst (λ st. Fair st came) (sym is) (omega arith)
+      by step (begins name about room is) =
+          subst (λ st. Fair st came) (sym is) (omega (arith, fresh_few s.live (next_tx s)))
+      by step (passes one ahead about is) = subst (λ st. Fair st came) (sym is) (omega arith)
+      by step (misses turns none is) = subst (λ st. Fair st came) (sym is) (omega arith)
+      by step (takes turns t front back was is) = subst (λ st. Fair st came) (sym is) (which (same_tx one tx) refl)
+        where
+          one : TxId
+          one = tx_in body
+
+          turn : Turn
+          turn = turn_row s body t
+
+          had : tally (is_asked tx) s.live
+              ≡ tally (is_asked tx) (front ++ back) + one_if (same_tx one tx && is_some t.asked)
+          had = tally_between (is_asked tx) front (one, t) back s.live was
+
+          which : (m : Bool) → same_tx one tx ≡ m
+              → Fair (record { state = with_live s (left_in one front back turn); effects = turn.step.effects }) came
+          which false differs =
+              omega (
+                arith,
+                had,
+                left_few one front back turn,
+                no_answers_other tx one turn.step.effects.sends differs (turn_sends s body t),
+                ap (λ b. one_if (b && is_some turn.step.state.asked)) differs,
+                ap (λ b. one_if (b && is_some t.asked)) differs,
+              )
+          which true same =
+              omega (
+                arith,
+                had,
+                left_few one front back turn,
+                (subst (λ x. IsFair x t turn (one_if (key_of_tx x body))) (same_tx-is one tx same)
+                    (turn_fair s body t)).fair,
+                ap (λ b. one_if (b && is_some turn.step.state.asked)) same,
+                ap (λ b. one_if (b && is_some t.asked)) same,
+              )

@@ -1,10 +1,7 @@
 -- What a signal makes of one of a coordinator's transactions, and what of the signals sent is said of it.
-use Rattle.std.proofs.Common.{◌≡◌, ℕ, ◌+◌, ◌<◌, ◌≤◌, List, [], ◌∷◌, ◌++◌, length, Bool, true, false, cond, refl, ap, sym, ◌∙◌, subst, arith, inl, inr}
-use Rattle.std.specs.Prelude.{not, nat_lt, if◌then◌else◌, is_some, Option, None, Some}
-use Rattle.std.specs.List.{prefix_len}
-use Rattle.std.specs.Map.{keys_of}
+use Rattle.std.proofs.Common.{◌≡◌, ℕ, ◌+◌, ◌<◌, ◌≤◌, List, [], ◌∷◌, ◌++◌, Bool, true, false, refl, ap, sym, ◌∙◌, subst, arith, inl, inr}
+use Rattle.std.specs.Prelude.{not, if◌then◌else◌, Option, None, Some}
 use Rattle.std.proofs.lemmas.Bool.{false≢true}
-use Rattle.std.proofs.lemmas.Bool.Decides.{nat_tests}
 use Rattle.indexmap.specs.IndexMap.{insert_entry}
 use Rattle.run_theory.proofs.Pasts.{each_map}
 use Rattle.run_theory.specs.Lists.{Each, IsIn}
@@ -12,34 +9,30 @@ use Rattle.sig_core.specs.declared.member.TxId.{TxId}
 use Rattle.sig_core.specs.declared.signal.Body.{Body}
 use Rattle.sig_core.specs.declared.signal.Body.TheVariants.{Host, Client, Chain, Epoch}
 use Rattle.sig_core.specs.declared.signal.chain.ChainSignal.TheVariants.{LqhKeyReq, LqhKeyConf, LqhKeyRef, Commit, Committed, Complete, Completed, Abort, Aborted}
-use Rattle.sig_core.specs.declared.signal.client.ClientSignal.TheVariants.{TcBeginReq, TcBeginConf, TcBeginRef, TcKeyReq, TcKeyConf, TcCommitReq, TcCommitConf, TcRollbackReq, TcRollbackRep, TcWaitReq, TcWaitConf, LqhWaitReq, LqhWaitConf}
+use Rattle.sig_core.specs.declared.signal.client.ClientSignal.TheVariants.{TcBeginReq, TcBeginConf, TcKeyConf, TcCommitConf, TcRollbackRep, LqhWaitReq}
 use Rattle.sig_core.specs.declared.signal.epoch.EpochSignal.TheVariants.{DiVerifyReq, DiVerifyConf, DiVerifyEnd}
 use Rattle.sig_core.specs.declared.signal.host.HostSignal.TheVariants.{Continue}
 use Rattle.sig_core.specs.declared.signal.host.Work.TheVariants as work
 use Rattle.sig_core.specs.Place.{client}
 use Rattle.sig_core.specs.Same.{same_tx}
-use Rattle.sig_core.specs.Step.{Step, sending, stay}
 use Rattle.tc_block.specs.declared.transaction.Transaction.{Transaction}
-use Rattle.tc_block.specs.Live.{place_in, step_of, turn_of, turn_place, turn_value, turned_if, without}
 use Rattle.tc_block.specs.Operate.{fresh}
-use Rattle.tc_block.specs.State.{TcState, with_live}
-use Rattle.tc_block.specs.Tc.{begin_if, begin_row, begun, is_full, next_tx, pass_if, pass_row, tc_table}
-use Rattle.tc_block.specs.Turn.{Turn, going}
+use Rattle.tc_block.specs.State.{TcState}
 use Rattle.sig_core.proofs.Keys.{same_tx-self}
-use Rattle.host_laws.proofs.NodeOps.{absent_key}
 use Rattle.host_laws.proofs.SendKinds.{are_of, of_kind}
-use Rattle.host_laws.proofs.Tally.{tally_append, tally_between, tally_in}
 use Rattle.host_laws.specs.Counts.{one_if, tally}
 use Rattle.host_laws.proofs.TcLives.{IsOwn, apart, insert_new, is_keyed}
-use Rattle.host_laws.proofs.TcMoves.{found, IsEntry, same_tx-is, step_is}
-use Rattle.host_laws.proofs.TcSends.{tx_in}
-use Rattle.host_laws.proofs.TcTurns.{TurnMove, is_turn, turn_at, turn_moves, turn_row}
+use Rattle.host_laws.proofs.TcTurns.{TurnMove, turn_at, turn_moves}
 use Rattle.host_laws.proofs.TurnKinds.{OwnKinds, TurnOnly, own_forms}
-
--- the transaction among those that a coordinator hasn't forgotten
-abbrev pub of_live : TxId → List (TxId × Transaction) → Option Transaction
-of_live tx [] = None
-of_live tx (e ∷ live) = if same_tx e.0 tx then Some e.1 else of_live tx live
+use Rattle.sig_core.specs.Step.{Step}
+use Rattle.tc_block.specs.Tc.{next_tx, tc_table}
+use Rattle.tc_block.specs.Turn.{Turn}
+use Rattle.tc_block.proofs.LiveSplit.{AreOthers}
+use Rattle.tc_block.proofs.TurnRows.{TcStep, begins, is_turn, left_in, misses, passes, refuses, rests, takes, tc_step, turn_row, tx_in}
+use Rattle.host_laws.proofs.OfLive.{each_found, of_here, of_other}
+use Rattle.host_laws.proofs.Tally.{tally_append, tally_between, tally_in, tally_none}
+use Rattle.host_laws.proofs.TcMoves.{same_tx-is}
+use Rattle.host_laws.specs.Live.{of_live}
 
 -- what a coordinator sends of one transaction
 abbrev pub is_said : TxId → Body → Bool
@@ -77,12 +70,6 @@ is_apart tx (Chain (Completed other key)) = false
 is_apart tx (Chain (Aborted other key)) = false
 is_apart tx _ = true
 
--- what a coordinator sends that is said of none of its transactions
-abbrev pub is_rest_kind : Body → Bool
-is_rest_kind (Client (TcBeginRef name)) = true
-is_rest_kind (Client (TcWaitConf tx ahead)) = true
-is_rest_kind _ = false
-
 said_apart : (tx one : TxId) → same_tx one tx ≡ false → (body : Body) → is_said one body ≡ true
     → is_apart tx body ≡ true
 said_apart tx one off (Client (TcKeyConf other answer)) e = ap not (apart tx one other off e)
@@ -98,14 +85,10 @@ said_apart tx one off (Epoch (DiVerifyEnd other)) e = ap not (apart tx one other
 said_apart tx one off (Host (Continue (work.Transaction other) at)) e = ap not (apart tx one other off e)
 said_apart tx one off _ e = cc
 
-rest_apart : (tx : TxId) (body : Body) → is_rest_kind body ≡ true → is_apart tx body ≡ true
-rest_apart tx (Client (TcBeginRef name)) e = refl
-rest_apart tx (Client (TcWaitConf other ahead)) e = refl
-rest_apart tx _ e = cc
-
 said_kinds : (tx : TxId) (body : Body) → OwnKinds tx (is_said tx) body
 said_kinds tx body = record {
-  chains = record { commits = λ key epoch chain at. self; completes = λ key chain at. self; aborts = λ key. self; goes_on = λ at. self };
+  chains = record { commits = λ key epoch chain at. self; completes = λ key chain at. self; aborts =
+      λ key. self; goes_on = λ at. self };
   operates = λ op chain. self;
   answers = λ key answer is. self;
   waits = λ key. refl;
@@ -126,88 +109,6 @@ turn_said s body t =
     turn_at s tx body t (TurnOnly (is_said tx)) refl
     (own_forms (is_said tx) tx body (said_kinds tx body) s.node s.layout t)
 
--- a transaction takes a turn, and is forgotten if it is over
-abbrev pub left_in : TxId → List (TxId × Transaction) → List (TxId × Transaction) → Turn → List (TxId × Transaction)
-left_in tx front back turn = if turn.over then front ++ back else front ++ (tx, turn.step.state) ∷ back
-
--- a step of a coordinator
-pub data TcStep (s : TcState) (body : Body) (step : Step TcState) : Type 0 where
-  rests : is_turn body ≡ false → step.state ≡ s → are_of is_rest_kind step.effects.sends ≡ true → TcStep s body step
-  begins : (name : Option ℕ) → body ≡ Client (TcBeginReq name) → is_full s ≡ false
-      → step ≡ sending (begun s) client (Client (TcBeginConf name (next_tx s))) → TcStep s body step
-  misses : is_turn body ≡ true → tally (is_keyed (tx_in body)) s.live ≡ 0 → step ≡ stay s → TcStep s body step
-  takes : is_turn body ≡ true → (t : Transaction) (front back : List (TxId × Transaction))
-      → s.live ≡ front ++ (tx_in body, t) ∷ back
-      → step ≡ record { state = with_live s (left_in (tx_in body) front back (turn_row s body t)); effects = (turn_row s body t).step.effects }
-      → TcStep s body step
-
-taken_turn : (s : TcState) (body : Body) → is_turn body ≡ true
-    → TcStep s body (turn_of s (tx_in body) (turn_row s body))
-unfolding without
-taken_turn s body is = go (nat_lt place (length (keys_of s.live))) refl
-  where
-    one : TxId
-    one = tx_in body
-
-    place : ℕ
-    place = prefix_len (λ x. not (same_tx one x)) (keys_of s.live)
-
-    over : (f : IsEntry (same_tx one) s.live place) (b : Bool) → (turn_row s body f.value).over ≡ b
-        → TcStep s body (turned_if s place (turn_row s body f.value) b)
-    over f true e =
-        takes is f.value f.front f.back
-        (f.is ∙ ap (λ k. f.front ++ (k, f.value) ∷ f.back) (sym (same_tx-is one f.key f.passes)))
-        (ap (λ live. record { state = with_live s live; effects = (turn_row s body f.value).step.effects })
-        (f.removed ∙ ap (λ b. if b then f.front ++ f.back else f.front ++ (one, (turn_row s body f.value).step.state) ∷ f.back) (sym e)))
-    over f false e =
-        takes is f.value f.front f.back
-        (f.is ∙ ap (λ k. f.front ++ (k, f.value) ∷ f.back) (sym (same_tx-is one f.key f.passes)))
-        (ap (λ live. record { state = with_live s live; effects = (turn_row s body f.value).step.effects })
-        ((f.set (turn_row s body f.value).step.state ∙ ap (λ k. f.front ++ (k, (turn_row s body f.value).step.state) ∷ f.back) (sym (same_tx-is one f.key f.passes)))
-        ∙ ap (λ b. if b then f.front ++ f.back else f.front ++ (one, (turn_row s body f.value).step.state) ∷ f.back) (sym e)))
-
-    go : (b : Bool) → nat_lt place (length (keys_of s.live)) ≡ b
-        → TcStep s body (turn_place s (turn_row s body) (cond b (Some place) None))
-    go true e =
-        let f = found (same_tx one) s.live (grind (arith, nat_tests, e)) in
-        subst (λ o. TcStep s body (turn_value s (turn_row s body) place o)) (sym f.get)
-        (over f (turn_row s body f.value).over refl)
-    go false e = misses is (absent_key one one s.live (same_tx-self one) (grind (arith, nat_tests, e))) refl
-
-taken_step : (s : TcState) (body : Body) (row : Transaction → Step Transaction) → is_turn body ≡ true
-    → ((t : Transaction) → going (row t) ≡ turn_row s body t)
-    → TcStep s body (step_of s (tx_in body) row)
-taken_step s body row is same =
-    subst (TcStep s body) (sym (step_is s (tx_in body) row ∙ ap (turn_of s (tx_in body)) (λ i t. same t i)))
-    (taken_turn s body is)
-
--- each step of a coordinator is one of these
-pub tc_step : (s : TcState) (body : Body) → TcStep s body (tc_table s body)
-unfolding begin_row pass_row
-tc_step s (Client (TcBeginReq name)) = go (is_full s) refl
-  where
-    go : (b : Bool) → is_full s ≡ b → TcStep s (Client (TcBeginReq name)) (begin_if s name b)
-    go true e = rests refl refl refl
-    go false e = begins name refl e refl
-tc_step s (Client (LqhWaitConf tx ahead)) = go (is_some (place_in s tx))
-  where
-    go : (b : Bool) → TcStep s (Client (LqhWaitConf tx ahead)) (pass_if s tx ahead b)
-    go true = rests refl refl refl
-    go false = rests refl refl refl
-tc_step s (Host (Continue (work.Transaction tx) at)) =
-    taken_step s (Host (Continue (work.Transaction tx) at)) _ refl (λ t. refl)
-tc_step s (Client (TcKeyReq tx op)) = taken_step s (Client (TcKeyReq tx op)) _ refl (λ t. refl)
-tc_step s (Client (TcCommitReq tx)) = taken_step s (Client (TcCommitReq tx)) _ refl (λ t. refl)
-tc_step s (Client (TcRollbackReq tx)) = taken_turn s (Client (TcRollbackReq tx)) refl
-tc_step s (Client (TcWaitReq tx)) = taken_step s (Client (TcWaitReq tx)) _ refl (λ t. refl)
-tc_step s (Chain (LqhKeyConf tx key answer)) = taken_step s (Chain (LqhKeyConf tx key answer)) _ refl (λ t. refl)
-tc_step s (Chain (LqhKeyRef tx key why)) = taken_turn s (Chain (LqhKeyRef tx key why)) refl
-tc_step s (Chain (Committed tx key)) = taken_turn s (Chain (Committed tx key)) refl
-tc_step s (Chain (Completed tx key)) = taken_turn s (Chain (Completed tx key)) refl
-tc_step s (Chain (Aborted tx key)) = taken_turn s (Chain (Aborted tx key)) refl
-tc_step s (Epoch (DiVerifyConf tx epoch)) = taken_turn s (Epoch (DiVerifyConf tx epoch)) refl
-tc_step s _ = rests refl refl refl
-
 -- where a transaction stands
 pub live_none : (tx : TxId) (live : List (TxId × Transaction)) → tally (is_keyed tx) live ≡ 0 → of_live tx live ≡ None
 live_none tx [] none = refl
@@ -215,24 +116,6 @@ live_none tx (e ∷ live) none = go (same_tx e.0 tx) refl (live_none tx live)
   where
     go : (b : Bool) → same_tx e.0 tx ≡ b → (tally (is_keyed tx) live ≡ 0 → of_live tx live ≡ None)
         → (if b then Some e.1 else of_live tx live) ≡ None
-    go true is rest = absurd (omega (arith, none, ap one_if is))
-    go false is rest = rest (omega (arith, none, ap one_if is))
-
-live_between : (tx : TxId) (front : List (TxId × Transaction)) (x : TxId × Transaction) (back : List (TxId × Transaction))
-    → same_tx x.0 tx ≡ false
-    → of_live tx (front ++ x ∷ back) ≡ of_live tx (front ++ back)
-live_between tx [] x back off = ap (λ b. if b then Some x.1 else of_live tx back) off
-live_between tx (e ∷ front) x back off =
-    ap (λ o. if same_tx e.0 tx then Some e.1 else o) (live_between tx front x back off)
-
-live_here : (tx : TxId) (front : List (TxId × Transaction)) (t : Transaction) (back : List (TxId × Transaction))
-    → tally (is_keyed tx) front ≡ 0 → of_live tx (front ++ (tx, t) ∷ back) ≡ Some t
-live_here tx [] t back none = ap (λ b. if b then Some t else of_live tx back) (same_tx-self tx)
-live_here tx (e ∷ front) t back none = go (same_tx e.0 tx) refl (live_here tx front t back)
-  where
-    go : (b : Bool) → same_tx e.0 tx ≡ b
-        → (tally (is_keyed tx) front ≡ 0 → of_live tx (front ++ (tx, t) ∷ back) ≡ Some t)
-        → (if b then Some e.1 else of_live tx (front ++ (tx, t) ∷ back)) ≡ Some t
     go true is rest = absurd (omega (arith, none, ap one_if is))
     go false is rest = rest (omega (arith, none, ap one_if is))
 
@@ -256,7 +139,8 @@ live_in tx t (e ∷ live) once (inr i) = go (same_tx e.0 tx) refl (live_in tx t 
 abbrev pub left_of_turn : Turn → Option Transaction
 left_of_turn turn = if turn.over then None else Some turn.step.state
 
--- A step of a coordinator, as far as one transaction goes: it is about another, the transaction begins, or it takes a turn.
+-- A step of a coordinator, as far as one transaction goes: it is about another, the transaction begins, or it takes a
+-- turn.
 pub data TxStep (tx : TxId) (s : TcState) (body : Body) (step : Step TcState) : Type 0 where
   elsewhere : of_live tx step.state.live ≡ of_live tx s.live → are_of (is_apart tx) step.effects.sends ≡ true
       → (is_turn body ≡ true → tx_in body ≡ tx → of_live tx s.live ≡ None) → TxStep tx s body step
@@ -271,21 +155,30 @@ pub data TxStep (tx : TxId) (s : TcState) (body : Body) (step : Step TcState) : 
 
 module _ (tx : TxId) (s : TcState) (body : Body) (once : tally (is_keyed tx) s.live ≤ 1)
     (own : Each (λ (e : TxId × Transaction). IsOwn s.node s.next_seq e.0) s.live) where
+  -- nothing comes of it
+  idle : (step other : Step TcState) → step ≡ other → other.state ≡ s → are_of (is_apart tx) other.effects.sends ≡ true
+      → (is_turn body ≡ true → tx_in body ≡ tx → of_live tx s.live ≡ None)
+      → TxStep tx s body step
+  idle step other is same kind absent =
+      elsewhere (ap (λ (x : Step TcState). of_live tx x.state.live) is ∙ ap (λ (x : TcState). of_live tx x.live) same)
+      (ap (λ (x : Step TcState). are_of (is_apart tx) x.effects.sends) is ∙ kind) absent
+
   tx_of : (step : Step TcState) → TcStep s body step → TxStep tx s body step
-  tx_of step (rests about is kind) =
-      elsewhere (ap (λ (x : TcState). of_live tx x.live) is)
-      (of_kind is_rest_kind (is_apart tx) (rest_apart tx) step.effects.sends kind)
-      (λ turn. absurd (false≢true (sym about ∙ turn)))
-  tx_of step (misses about none is) =
-      elsewhere (ap (λ (x : Step TcState). of_live tx x.state.live) is)
-      (ap (λ (x : Step TcState). are_of (is_apart tx) x.effects.sends) is)
-      (λ turn same. live_none tx s.live (subst (λ x. tally (is_keyed x) s.live ≡ 0) same none))
+  tx_of step (rests off is) = idle step _ is refl refl (λ turn. absurd (false≢true (sym off ∙ turn)))
+  tx_of step (refuses name about is) =
+      idle step _ is refl refl (λ turn. absurd (false≢true (sym (ap is_turn about) ∙ turn)))
+  tx_of step (passes one ahead about is) =
+      idle step _ is refl refl (λ turn. absurd (false≢true (sym (ap is_turn about) ∙ turn)))
+  tx_of step (misses turns others is) =
+      idle step _ is refl refl
+      (λ turn same. live_none tx s.live (tally_none (is_keyed tx) s.live (subst (λ x. AreOthers x s.live) same others)))
   tx_of step (begins name about room is) = go (same_tx (next_tx s) tx) refl
     where
       last : insert_entry same_tx s.live (next_tx s) fresh ≡ s.live ++ (next_tx s, fresh) ∷ []
       last =
           insert_new s.live (next_tx s) fresh
-          (each_map (λ (x : TxId × Transaction). IsOwn s.node s.next_seq x.0) (λ (x : TxId × Transaction). x.0.seq < s.next_seq) s.live (λ x o. o.early) own)
+          (each_map (λ (x : TxId × Transaction). IsOwn s.node s.next_seq x.0)
+              (λ (x : TxId × Transaction). x.0.seq < s.next_seq) s.live (λ x o. o.early) own)
 
       now : of_live tx step.state.live ≡ of_live tx (s.live ++ (next_tx s, fresh) ∷ [])
       now = ap (λ (x : Step TcState). of_live tx x.state.live) is ∙ ap (of_live tx) last
@@ -310,15 +203,18 @@ module _ (tx : TxId) (s : TcState) (body : Body) (once : tally (is_keyed tx) s.l
 
       go : (b : Bool) → same_tx (next_tx s) tx ≡ b → TxStep tx s body step
       go false off =
-          elsewhere (now ∙ live_between tx s.live (next_tx s, fresh) [] off ∙ ap (of_live tx) (nothing s.live))
-          (ap (λ (x : Step TcState). are_of (is_apart tx) x.effects.sends) is ∙ ap (λ b. if not b then true else false) off)
+          elsewhere (now ∙ of_other s.live [] (next_tx s) tx fresh off ∙ ap (of_live tx) (nothing s.live))
+          (ap (λ (x : Step TcState). are_of (is_apart tx) x.effects.sends) is
+              ∙ ap (λ b. if not b then true else false) off)
           (λ turn same. absurd (plain body turn about))
       go true same =
           let here : tx ≡ next_tx s = sym (same_tx-is (next_tx s) tx same) in
           let none : tally (is_keyed tx) s.live ≡ 0 = fewer s.live (ap (λ (x : TxId). x.seq) here) own in
           born name about here (live_none tx s.live none)
-          (now ∙ ap (λ k. of_live tx (s.live ++ (k, fresh) ∷ [])) (sym here) ∙ live_here tx s.live fresh [] none)
-          (ap (λ (x : Step TcState). x.effects.sends) is ∙ ap (λ k. record { to = client; body = Client (TcBeginConf name k) } ∷ []) (sym here))
+          (now ∙ ap (λ k. of_live tx (s.live ++ (k, fresh) ∷ [])) (sym here)
+              ∙ of_here tx tx fresh s.live [] none (same_tx-self tx))
+          (ap (λ (x : Step TcState). x.effects.sends) is
+              ∙ ap (λ k. record { to = client; body = Client (TcBeginConf name k) } ∷ []) (sym here))
           (omega (arith, ap (λ (x : Step TcState). x.state.next_seq) is))
   tx_of step (takes about t front back was is) = go (same_tx (tx_in body) tx) refl
     where
@@ -340,17 +236,22 @@ module _ (tx : TxId) (s : TcState) (body : Body) (once : tally (is_keyed tx) s.l
       go : (b : Bool) → same_tx (tx_in body) tx ≡ b → TxStep tx s body step
       go false off =
           elsewhere
-          (ap (of_live tx) live_are ∙ kept turn.over ∙ sym (ap (of_live tx) was ∙ live_between tx front (tx_in body, t) back off))
-          (ap (are_of (is_apart tx)) sends_are ∙ of_kind (is_said (tx_in body)) (is_apart tx) (said_apart tx (tx_in body) off) turn.step.effects.sends (turn_said s body t))
+          (ap (of_live tx) live_are ∙ kept turn.over
+              ∙ sym (ap (of_live tx) was ∙ of_other front back (tx_in body) tx t off))
+          (ap (are_of (is_apart tx)) sends_are
+              ∙ of_kind (is_said (tx_in body)) (is_apart tx) (said_apart tx (tx_in body) off) turn.step.effects.sends
+              (turn_said s body t))
           (λ turn same. absurd (false≢true (sym off ∙ (ap (λ x. same_tx x tx) same ∙ same_tx-self tx))))
         where
           kept : (b : Bool)
-              → of_live tx (if b then front ++ back else front ++ (tx_in body, turn.step.state) ∷ back) ≡ of_live tx (front ++ back)
+              → of_live tx (if b then front ++ back else front ++ (tx_in body, turn.step.state) ∷ back)
+                  ≡ of_live tx (front ++ back)
           kept true = refl
-          kept false = live_between tx front (tx_in body, turn.step.state) back off
+          kept false = of_other front back (tx_in body) tx turn.step.state off
       go true same =
           turned t about one
-          (ap (of_live tx) was ∙ ap (λ k. of_live tx (front ++ (k, t) ∷ back)) one ∙ live_here tx front t back none)
+          (ap (of_live tx) was ∙ ap (λ k. of_live tx (front ++ (k, t) ∷ back)) one
+              ∙ of_here tx tx t front back none (same_tx-self tx))
           (subst (λ k. TurnMove s k t body turn) one move) (ap (of_live tx) live_are ∙ kept turn.over) sends_are
         where
           one : tx_in body ≡ tx
@@ -360,11 +261,12 @@ module _ (tx : TxId) (s : TcState) (body : Body) (once : tally (is_keyed tx) s.l
           none = omega (arith, once, counted, ap one_if same, tally_append (is_keyed tx) front back)
 
           kept : (b : Bool)
-              → of_live tx (if b then front ++ back else front ++ (tx_in body, turn.step.state) ∷ back) ≡ (if b then None else Some turn.step.state)
+              → of_live tx (if b then front ++ back else front ++ (tx_in body, turn.step.state) ∷ back)
+                  ≡ (if b then None else Some turn.step.state)
           kept true = live_none tx (front ++ back) (omega (arith, once, counted, ap one_if same))
           kept false =
               ap (λ k. of_live tx (front ++ (k, turn.step.state) ∷ back)) one
-              ∙ live_here tx front turn.step.state back none
+              ∙ of_here tx tx turn.step.state front back none (same_tx-self tx)
 
   pub tx_step : TxStep tx s body (tc_table s body)
   tx_step = tx_of (tc_table s body) (tc_step s body)
@@ -374,35 +276,17 @@ pub next_grows : (s : TcState) (body : Body) → s.next_seq ≤ (tc_table s body
 next_grows s body = go (tc_table s body) (tc_step s body)
   where
     go : (step : Step TcState) → TcStep s body step → s.next_seq ≤ step.state.next_seq
-    go step (rests about is kind) = omega (arith, ap (λ (x : TcState). x.next_seq) is)
+    go step (rests off is) = omega (arith, ap (λ (x : Step TcState). x.state.next_seq) is)
+    go step (refuses name about is) = omega (arith, ap (λ (x : Step TcState). x.state.next_seq) is)
+    go step (passes one ahead about is) = omega (arith, ap (λ (x : Step TcState). x.state.next_seq) is)
     go step (begins name about room is) = omega (arith, ap (λ (x : Step TcState). x.state.next_seq) is)
     go step (misses about none is) = omega (arith, ap (λ (x : Step TcState). x.state.next_seq) is)
     go step (takes about t front back was is) = omega (arith, ap (λ (x : Step TcState). x.state.next_seq) is)
 
 pub live_early : (tx : TxId) (s : TcState) (t : Transaction) → of_live tx s.live ≡ Some t
     → Each (λ (e : TxId × Transaction). IsOwn s.node s.next_seq e.0) s.live → tx.seq < s.next_seq
-live_early tx s t there own = go s.live there own
-  where
-    go : (live : List (TxId × Transaction)) → of_live tx live ≡ Some t
-        → Each (λ (e : TxId × Transaction). IsOwn s.node s.next_seq e.0) live → tx.seq < s.next_seq
-    go [] there own = absurd cc
-    go (e ∷ live) there own = by (same_tx e.0 tx) refl there (λ rest. go live rest own.1)
-      where
-        by : (b : Bool) → same_tx e.0 tx ≡ b → (if b then Some e.1 else of_live tx live) ≡ Some t
-            → (of_live tx live ≡ Some t → tx.seq < s.next_seq) → tx.seq < s.next_seq
-        by true is there rest = omega (arith, own.0.early, ap (λ (x : TxId). x.seq) (same_tx-is e.0 tx is))
-        by false is there rest = rest there
+live_early tx s t there own = (each_found (λ e. IsOwn s.node s.next_seq e.0) s.live tx t own there).early
 
 pub live_home : (tx : TxId) (s : TcState) (t : Transaction) → of_live tx s.live ≡ Some t
     → Each (λ (e : TxId × Transaction). IsOwn s.node s.next_seq e.0) s.live → tx.tc ≡ s.node
-live_home tx s t there own = go s.live there own
-  where
-    go : (live : List (TxId × Transaction)) → of_live tx live ≡ Some t
-        → Each (λ (e : TxId × Transaction). IsOwn s.node s.next_seq e.0) live → tx.tc ≡ s.node
-    go [] there own = absurd cc
-    go (e ∷ live) there own = by (same_tx e.0 tx) refl there (λ rest. go live rest own.1)
-      where
-        by : (b : Bool) → same_tx e.0 tx ≡ b → (if b then Some e.1 else of_live tx live) ≡ Some t
-            → (of_live tx live ≡ Some t → tx.tc ≡ s.node) → tx.tc ≡ s.node
-        by true is there rest = sym (ap (λ (x : TxId). x.tc) (same_tx-is e.0 tx is)) ∙ own.0.home
-        by false is there rest = rest there
+live_home tx s t there own = (each_found (λ e. IsOwn s.node s.next_seq e.0) s.live tx t own there).home

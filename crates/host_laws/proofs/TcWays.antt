@@ -35,6 +35,7 @@ use Rattle.host_laws.specs.Ways.{Way, back, closes, forth, is_forth, neither, wa
 use Rattle.sig_core.proofs.Keys.{same_tx-self}
 use Rattle.tc_block.proofs.EachTurn.{AbortForms, CommittedForms, TurnForms}
 use Rattle.run_theory.proofs.EachSent.{each_drop, each_flat, each_mapped, each_take}
+use Rattle.sig_core.specs.declared.portion.TheConstants.{PORTION}
 
 -- what a transaction in this phase sends
 abbrev pub WayOf : TxId → Phase → Way → Type 0
@@ -101,9 +102,9 @@ module _ (tx : TxId) where
   part_ways : (phase : Phase) (node : ℕ) (sends : List Outgoing) (at : ℕ) → AllWays tx phase sends → AllWays tx phase (part_effects node tx sends at).sends
   unfolding part_effects
   part_ways phase node sends at all =
-      each_append (λ (o : Outgoing). WayOf tx phase (way_of o.body)) (take 8 (drop at sends)) (rest_if node tx at (nat_lt (at + 8) (length sends)))
-      (each_take (λ (o : Outgoing). WayOf tx phase (way_of o.body)) 8 (drop at sends) (each_drop (λ (o : Outgoing). WayOf tx phase (way_of o.body)) at sends all))
-      (rest_ways phase node at (nat_lt (at + 8) (length sends)))
+      each_append (λ (o : Outgoing). WayOf tx phase (way_of o.body)) (take PORTION (drop at sends)) (rest_if node tx at (nat_lt (at + PORTION) (length sends)))
+      (each_take (λ (o : Outgoing). WayOf tx phase (way_of o.body)) PORTION (drop at sends) (each_drop (λ (o : Outgoing). WayOf tx phase (way_of o.body)) at sends all))
+      (rest_ways phase node at (nat_lt (at + PORTION) (length sends)))
 
   front_ways : (phase : Phase) → AllWays tx phase (front_sends tx phase)
   unfolding front_sends

@@ -1,7 +1,7 @@
 pub mod Causes
 pub mod Counts
 pub mod Kinds
+pub mod Live
 pub mod OpenedAfter
-pub mod Phases
 pub mod ReplicaLaws
 pub mod Ways

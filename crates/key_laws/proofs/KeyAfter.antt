@@ -1,5 +1,5 @@
 -- What a signal does to one key of a replica is the event of that key.
-use Rattle.std.proofs.Common.{◌≡◌, ℕ, Bool, true, false, cond, not, List, [], ◌∷◌, ◌++◌, filter, refl, sym, ap, ◌∙◌}
+use Rattle.std.proofs.Common.{◌≡◌, ℕ, Bool, true, false, cond, not, List, [], ◌∷◌, ◌++◌, filter, refl, sym, ap, ◌∙◌, subst}
 use Rattle.std.specs.Prelude.{if◌then◌else◌, Option, None, Some, is_some, position, remove}
 use Rattle.sig_core.specs.declared.member.TxId.{TxId}
 use Rattle.sig_core.specs.Same.{same_key}
@@ -10,6 +10,7 @@ use Rattle.row_locks.specs.Queues.{waits}
 use Rattle.row_locks.specs.Rows.{asked}
 use Rattle.row_locks.specs.Tables.{ahead_of, lock_at, some_if}
 use Rattle.lqh_block.proofs.IndexLemmas.{same}
+use Rattle.lqh_block.proofs.LqhForms.{granted_forms, request_forms}
 use Rattle.lqh_block.specs.declared.request.Request.{Request}
 use Rattle.lqh_block.specs.Operate as operate
 use Rattle.lqh_block.specs.State.{LqhState, storage_of, with_waiting}
@@ -84,13 +85,22 @@ module _ (s : LqhState) (q : Request) (key : List ℕ) where
       (lock-inserted s.locks (work_key q.work) key (operate.asking s q).lock ∙ on_other (work_key q.work) key (operate.asking s q).lock (lock_at s.locks key) off)
       (waiting_end key s.waiting q false off)
 
-  pub request_event : at_key key (operate.request_row s q).state ≡ key_after (if_on (work_key q.work) key (asks q (is_refused (storage_of s) q))) (at_key key s)
-  unfolding operate.request_row
-  request_event =
+  -- what the key comes to be
+  abbrev RequestEvent : LqhState → Type 0
+  RequestEvent after = at_key key after ≡ key_after (if_on (work_key q.work) key (asks q (is_refused (storage_of s) q))) (at_key key s)
+
+  request_by : (answer : Lock) → (operate.asking s q).answer ≡ answer → RequestEvent (operate.asked_by (operate.asked_for s q) q answer).state
+  request_by answer is =
       is_if (work_key q.work) key (asks q (is_refused (storage_of s) q)) _ _
-      (λ at. request_own (operate.asking s q).answer at
+      (λ at. request_own answer at
+      ∙ ap (asked_by (at_key key s) (asked (lock_at s.locks key) q.tx (work_mode q.work)).lock q (is_refused (storage_of s) q)) (sym is)
       ∙ ap (λ k. asked_by (at_key key s) (asked (lock_at s.locks key) q.tx (work_mode q.work)).lock q (is_refused (storage_of s) q) (asked (lock_at s.locks k) q.tx (work_mode q.work)).answer) at)
-      (request_other (operate.asking s q).answer)
+      (request_other answer)
+
+  pub request_event : RequestEvent (operate.request_row s q).state
+  request_event =
+      request_forms (λ step. RequestEvent step.state) s q
+      (record { granted = λ is. request_by Granted is; queued = λ ahead is. request_by (Queued ahead) is })
 
 -- a request that is let in is granted
 let_in : (s : LqhState) (key : List ℕ) (x : Request) → asks_for key x ≡ true → operate.is_granted s.locks x ≡ is_let_in (lock_at s.locks key) x
@@ -165,15 +175,14 @@ module _ (s : LqhState) (key : List ℕ) where
       gone = ap (filter (asks_for key)) (ap (drop_by s.waiting) (sym at_is) ∙ first-drop (operate.is_granted s.locks) s.waiting)
 
   pub granted_event : at_key key (operate.granted_row s).state ≡ key_after (serves_if key s (first (operate.is_granted s.locks) s.waiting)) (at_key key s)
-  unfolding operate.granted_row
-  granted_event = by (position (operate.is_granted s.locks) s.waiting) refl (first (operate.is_granted s.locks) s.waiting) refl
+  granted_event =
+      granted_forms (λ step. Comes step.state (first (operate.is_granted s.locks) s.waiting)) s (record {
+        none = λ is. subst (Comes s) (ap (get_by s.waiting) (sym is) ∙ first-get (operate.is_granted s.locks) s.waiting) refl;
+        some = λ at q is here.
+            let q_is : Some q ≡ first (operate.is_granted s.locks) s.waiting =
+            sym here ∙ (ap (get_by s.waiting) (sym is) ∙ first-get (operate.is_granted s.locks) s.waiting) in
+            subst (Comes (operate.granted_on (with_waiting s (remove s.waiting at)) q).state) q_is (served_here at is q (sym q_is));
+      })
     where
-      by : (at : Option ℕ) → position (operate.is_granted s.locks) s.waiting ≡ at → (o : Option Request) → first (operate.is_granted s.locks) s.waiting ≡ o
-          → at_key key (operate.granted_by s at).state ≡ key_after (serves_if key s o) (at_key key s)
-      by None at_is None is = refl
-      by None at_is (Some q) is = absurd (let both : None ≡ Some q = sym (ap (get_by s.waiting) at_is) ∙ (first-get (operate.is_granted s.locks) s.waiting ∙ is) in cc)
-      by (Some at) at_is None is =
-          ap (λ o. at_key key (operate.granted_value s at o).state) (sym (ap (get_by s.waiting) at_is) ∙ (first-get (operate.is_granted s.locks) s.waiting ∙ is))
-      by (Some at) at_is (Some q) is =
-          ap (λ o. at_key key (operate.granted_value s at o).state) (sym (ap (get_by s.waiting) at_is) ∙ (first-get (operate.is_granted s.locks) s.waiting ∙ is))
-          ∙ served_here at at_is q is
+      Comes : LqhState → Option Request → Type 0
+      Comes after o = at_key key after ≡ key_after (serves_if key s o) (at_key key s)

@@ -1,7 +1,7 @@
 -- Commits, completions, aborts and waits that end, key by key.
-use Rattle.std.proofs.Common.{◌≡◌, ◌==◌, ℕ, Bool, true, false, not, ◌&&◌, List, filter, refl, sym, ap, ◌∙◌}
+use Rattle.std.proofs.Common.{◌≡◌, ◌==◌, ℕ, Bool, true, false, not, ◌&&◌, List, filter, refl, sym, ap, ◌∙◌, subst}
 use Rattle.std.proofs.lemmas.Bool.{and_parts}
-use Rattle.std.specs.Prelude.{if◌then◌else◌, Option, None, Some, position}
+use Rattle.std.specs.Prelude.{if◌then◌else◌, Option, None, Some, position, remove}
 use Rattle.sig_core.specs.declared.member.Member.{Member}
 use Rattle.sig_core.specs.declared.member.TxId.{TxId}
 use Rattle.sig_core.specs.declared.rows.PendingRecord.{PendingRecord}
@@ -12,13 +12,16 @@ use Rattle.row_locks.specs.Rounds.{expired}
 use Rattle.row_locks.specs.Rows.{released, unwaited}
 use Rattle.row_locks.specs.Tables.{kept, lock_at, released_at, unwaited_at}
 use Rattle.lqh_block.proofs.IndexLemmas.{same}
+use Rattle.lqh_block.proofs.LqhForms.{Applies, GivesUp, abort_forms, commit_forms, complete_forms, expire_forms}
+use Rattle.lqh_block.specs.declared.request.Marker.{Marker}
 use Rattle.lqh_block.specs.declared.request.Request.{Request}
 use Rattle.lqh_block.specs.Abort as abort
 use Rattle.lqh_block.specs.Commit as commit
 use Rattle.lqh_block.specs.Complete as complete
 use Rattle.lqh_block.specs.Expire as expire
-use Rattle.lqh_block.specs.State.{LqhState, unlocked, with_lock, with_waiting}
+use Rattle.lqh_block.specs.State.{LqhState, unlocked, with_lock, with_markers, with_rows, with_storage, with_waiting}
 use Rattle.lqh_block.specs.Storage as storage
+use Rattle.lqh_block.specs.Storage.{StorageState}
 use Rattle.sig_core.specs.Work.{work_key}
 use Rattle.lqh_block.specs.Work.{is_for}
 use Rattle.sig_core.specs.Firsts.{drop_first}
@@ -40,7 +43,7 @@ released_other s tx own key off =
     lock-kept s.locks own key (released_at s.locks own tx).lock ∙ on_other own key (released_at s.locks own tx).lock (lock_at s.locks key) off
 
 -- the rows after a commit, whatever was there
-pub applied_rows : (s : LqhState) (tx : TxId) (key : List ℕ) (epoch : ℕ) → (commit.applied s tx key epoch (record_state s.rows tx key)).rows ≡ commit_record s.rows tx key
+applied_rows : (s : LqhState) (tx : TxId) (key : List ℕ) (epoch : ℕ) → (commit.applied s tx key epoch (record_state s.rows tx key)).rows ≡ commit_record s.rows tx key
 unfolding record_state commit_record storage.committed_in
 applied_rows s tx key epoch = by (record_at s.rows.pending tx key) refl (record_of s.rows tx key) refl
   where
@@ -56,18 +59,15 @@ applied_rows s tx key epoch = by (record_at s.rows.pending tx key) refl (record_
     by (Some at) at_is None is = refl
     by at at_is (Some r) is = at_state at at_is r is r.committed refl
 
-pub applied_locks : (s : LqhState) (tx : TxId) (key : List ℕ) (epoch : ℕ) (had : Option Bool) → (commit.applied s tx key epoch had).locks ≡ s.locks
-applied_locks s tx key epoch None = refl
-applied_locks s tx key epoch (Some false) = refl
-applied_locks s tx key epoch (Some true) = refl
-
-applied_waiting : (s : LqhState) (tx : TxId) (key : List ℕ) (epoch : ℕ) (had : Option Bool) → (commit.applied s tx key epoch had).waiting ≡ s.waiting
-applied_waiting s tx key epoch None = refl
-applied_waiting s tx key epoch (Some false) = refl
-applied_waiting s tx key epoch (Some true) = refl
+-- what the walk calls so
+pub committed_rows : {s : LqhState} {tx : TxId} {key : List ℕ} {epoch : ℕ} {had : Option Bool} {st : StorageState} {markers : List Marker}
+    → Applies s tx key epoch had st markers → st.rows ≡ commit_record s.rows tx key
+committed_rows {s} {tx} {key} {epoch} applies =
+    ap (λ (t : LqhState). t.rows) applies.is ∙ ap (λ o. (commit.applied s tx key epoch o).rows) (sym applies.had_is)
+    ∙ applied_rows s tx key epoch
 
 -- and after an abort
-pub given_rows : (s : LqhState) (tx : TxId) (key : List ℕ) → (abort.given_up s tx key (record_state s.rows tx key)).rows ≡ abort_record s.rows tx key
+given_rows : (s : LqhState) (tx : TxId) (key : List ℕ) → (abort.given_up s tx key (record_state s.rows tx key)).rows ≡ abort_record s.rows tx key
 unfolding record_state abort_record storage.aborted_in
 given_rows s tx key = by (record_at s.rows.pending tx key) refl (record_of s.rows tx key) refl
   where
@@ -83,23 +83,18 @@ given_rows s tx key = by (record_at s.rows.pending tx key) refl (record_of s.row
     by (Some at) at_is None is = refl
     by at at_is (Some r) is = at_state at at_is r is r.committed refl
 
-pub given_locks : (s : LqhState) (tx : TxId) (key : List ℕ) (had : Option Bool) → (abort.given_up s tx key had).locks ≡ s.locks
-given_locks s tx key None = refl
-given_locks s tx key (Some false) = refl
-given_locks s tx key (Some true) = refl
+pub given_up_rows : {s : LqhState} {tx : TxId} {key : List ℕ} {had : Option Bool} {st : StorageState}
+    → GivesUp s tx key had st → st.rows ≡ abort_record s.rows tx key
+given_up_rows {s} {tx} {key} gives =
+    ap (λ (t : LqhState). t.rows) (gives.is s.waiting) ∙ ap (λ o. (abort.given_up s tx key o).rows) (sym gives.had_is)
+    ∙ given_rows s tx key
 
-given_waiting : (s : LqhState) (tx : TxId) (key : List ℕ) (had : Option Bool) → (abort.given_up s tx key had).waiting ≡ s.waiting
-given_waiting s tx key None = refl
-given_waiting s tx key (Some false) = refl
-given_waiting s tx key (Some true) = refl
+-- without the transaction's request, or where there is none
+none_gone : (tx : TxId) (key : List ℕ) (xs : List Request) → position (is_for tx key) xs ≡ None → xs ≡ drop_first (is_for tx key) xs
+none_gone tx key xs is = ap (drop_by xs) (sym is) ∙ first-drop (is_for tx key) xs
 
--- without the transaction's request
-pub unasked_is : (s : LqhState) (tx : TxId) (key : List ℕ) → abort.unasked s tx key ≡ with_waiting s (drop_first (is_for tx key) s.waiting)
-unasked_is s tx key = by (position (is_for tx key) s.waiting) ∙ ap (with_waiting s) (first-drop (is_for tx key) s.waiting)
-  where
-    by : (at : Option ℕ) → abort.unasked_by s at ≡ with_waiting s (drop_by s.waiting at)
-    by None = refl
-    by (Some at) = refl
+one_gone : (tx : TxId) (key : List ℕ) (xs : List Request) (at : ℕ) → position (is_for tx key) xs ≡ Some at → remove xs at ≡ drop_first (is_for tx key) xs
+one_gone tx key xs at is = ap (drop_by xs) (sym is) ∙ first-drop (is_for tx key) xs
 
 unasked_own : (tx : TxId) (own key : List ℕ) (xs : List Request) → own ≡ key → filter (asks_for key) (drop_first (is_for tx own) xs) ≡ drop_first (is_by tx) (filter (asks_for key) xs)
 unasked_own tx own key xs at =
@@ -123,90 +118,87 @@ unasked_other tx own key xs off =
 
 -- a commit
 module _ (s : LqhState) (placed : IsPlaced s.rows) (tx : TxId) (own : List ℕ) (epoch : ℕ) (chain : List Member) (at : ℕ) (key : List ℕ) where
-  abbrev done : LqhState
-  done = commit.applied s tx own epoch (record_state s.rows tx own)
-
-  done_cell : cell_at key done.rows ≡ (if same_key own key then committing (cell_at key s.rows) tx else cell_at key s.rows)
-  done_cell = ap (cell_at key) (applied_rows s tx own epoch) ∙ cell-committed s.rows placed tx own key
-
-  done_lock : (locks_own : List ℕ) → lock_at done.locks locks_own ≡ lock_at s.locks locks_own
-  done_lock k = ap (λ w. lock_at w k) (applied_locks s tx own epoch (record_state s.rows tx own))
-
-  done_waiting : filter (asks_for key) done.waiting ≡ filter (asks_for key) s.waiting
-  done_waiting = ap (filter (asks_for key)) (applied_waiting s tx own epoch (record_state s.rows tx own))
-
-  told_event : (had : Option Bool) (b : Bool) → at_key key (commit.told_if done tx own epoch chain at had b).state ≡ key_after (if_on own key (commits tx b)) (at_key key s)
-  told_event had true =
-      is_if own key (commits tx true) _ _
-      (λ is. replica_is _ _ (done_cell ∙ on_own own key (committing (cell_at key s.rows) tx) (cell_at key s.rows) is)
-      (released_own done tx own key is ∙ ap (λ lock. (released lock tx).lock) (done_lock key)) done_waiting)
-      (λ off. replica_is _ _ (done_cell ∙ on_other own key (committing (cell_at key s.rows) tx) (cell_at key s.rows) off) (released_other done tx own key off ∙ done_lock key) done_waiting)
-  told_event had false =
-      is_if own key (commits tx false) _ _
-      (λ is. replica_is _ _ (done_cell ∙ on_own own key (committing (cell_at key s.rows) tx) (cell_at key s.rows) is) (done_lock key) done_waiting)
-      (λ off. replica_is _ _ (done_cell ∙ on_other own key (committing (cell_at key s.rows) tx) (cell_at key s.rows) off) (done_lock key) done_waiting)
+  done_cell : {had : Option Bool} {st : StorageState} {markers : List Marker} → Applies s tx own epoch had st markers
+      → cell_at key st.rows ≡ (if same_key own key then committing (cell_at key s.rows) tx else cell_at key s.rows)
+  done_cell applies = ap (cell_at key) (committed_rows applies) ∙ cell-committed s.rows placed tx own key
 
   pub commit_event : at_key key (commit.commit_row s tx own epoch chain at).state ≡ key_after (if_on own key (commits tx (at == 0))) (at_key key s)
-  unfolding commit.commit_row
-  commit_event = told_event (record_state s.rows tx own) (at == 0)
+  commit_event =
+      commit_forms (λ step. Comes step.state (at == 0)) s tx own epoch chain at (record {
+        last = λ had st markers applies first. subst (Comes (unlocked (with_markers (with_storage s st) markers) tx own)) (sym first)
+            (is_if own key (commits tx true) _ _
+            (λ is. replica_is _ _ (done_cell applies ∙ on_own own key (committing (cell_at key s.rows) tx) (cell_at key s.rows) is) (released_own s tx own key is) refl)
+            (λ off. replica_is _ _ (done_cell applies ∙ on_other own key (committing (cell_at key s.rows) tx) (cell_at key s.rows) off) (released_other s tx own key off) refl));
+        passes = λ had st markers applies behind. subst (Comes (with_markers (with_storage s st) markers)) (sym behind)
+            (is_if own key (commits tx false) _ _
+            (λ is. replica_is _ _ (done_cell applies ∙ on_own own key (committing (cell_at key s.rows) tx) (cell_at key s.rows) is) refl refl)
+            (λ off. replica_is _ _ (done_cell applies ∙ on_other own key (committing (cell_at key s.rows) tx) (cell_at key s.rows) off) refl refl));
+      })
+    where
+      Comes : LqhState → Bool → Type 0
+      Comes after last = at_key key after ≡ key_after (if_on own key (commits tx last)) (at_key key s)
 
 -- a completion
 pub complete_event : (s : LqhState) → IsPlaced s.rows → (tx : TxId) (own : List ℕ) (chain : List Member) (at : ℕ) (key : List ℕ)
     → at_key key (complete.complete_row s tx own chain at).state ≡ key_after (if_on own key (completes tx)) (at_key key s)
-unfolding complete.complete_row
 complete_event s placed tx own chain at key =
-    is_if own key (completes tx) _ _
-    (λ is. replica_is _ _ (cell-completed s.rows placed tx own key ∙ on_own own key (completing (cell_at key s.rows) tx) (cell_at key s.rows) is) (released_own s tx own key is) refl)
-    (λ off. replica_is _ _ (cell-completed s.rows placed tx own key ∙ on_other own key (completing (cell_at key s.rows) tx) (cell_at key s.rows) off) (released_other s tx own key off) refl)
+    complete_forms (λ step. at_key key step.state ≡ key_after (if_on own key (completes tx)) (at_key key s)) s tx own chain at
+    (record { last = λ first. comes; passes = λ behind. comes })
+  where
+    comes : at_key key (unlocked (with_rows s (complete_record s.rows tx own)) tx own) ≡ key_after (if_on own key (completes tx)) (at_key key s)
+    comes =
+        is_if own key (completes tx) _ _
+        (λ is. replica_is _ _ (cell-completed s.rows placed tx own key ∙ on_own own key (completing (cell_at key s.rows) tx) (cell_at key s.rows) is) (released_own s tx own key is) refl)
+        (λ off. replica_is _ _ (cell-completed s.rows placed tx own key ∙ on_other own key (completing (cell_at key s.rows) tx) (cell_at key s.rows) off) (released_other s tx own key off) refl)
 
 -- an abort
 module _ (s : LqhState) (placed : IsPlaced s.rows) (tx : TxId) (own key : List ℕ) where
-  abbrev given : LqhState → LqhState
-  given t = abort.given_up t tx own (record_state s.rows tx own)
-
-  abbrev left : LqhState
-  left = with_waiting s (drop_first (is_for tx own) s.waiting)
-
-  given_cell : cell_at key (given left).rows ≡ (if same_key own key then aborting (cell_at key s.rows) tx else cell_at key s.rows)
-  given_cell = ap (cell_at key) (given_rows left tx own) ∙ cell-aborted s.rows placed tx own key
-
-  given_lock : lock_at (given left).locks key ≡ lock_at s.locks key
-  given_lock = ap (λ w. lock_at w key) (given_locks left tx own (record_state s.rows tx own))
-
-  freed_event : at_key key (with_lock (given left) own (released_at s.locks own tx)) ≡ key_after (if_on own key (aborts tx)) (at_key key s)
-  freed_event =
+  -- without its request
+  freed_event : {had : Option Bool} {st : StorageState} → GivesUp s tx own had st → (waiting : List Request) → waiting ≡ drop_first (is_for tx own) s.waiting
+      → at_key key (unlocked (with_storage (with_waiting s waiting) st) tx own) ≡ key_after (if_on own key (aborts tx)) (at_key key s)
+  freed_event {had} {st} gives waiting left =
       is_if own key (aborts tx) _ _
-      (λ is. replica_is _ _ (given_cell ∙ on_own own key (aborting (cell_at key s.rows) tx) (cell_at key s.rows) is)
-      (ap (λ w. lock_at (kept w own (released_at s.locks own tx).lock) key) (given_locks left tx own (record_state s.rows tx own)) ∙ released_own s tx own key is)
-      (ap (filter (asks_for key)) (given_waiting left tx own (record_state s.rows tx own)) ∙ unasked_own tx own key s.waiting is))
-      (λ off. replica_is _ _ (given_cell ∙ on_other own key (aborting (cell_at key s.rows) tx) (cell_at key s.rows) off)
-      (ap (λ w. lock_at (kept w own (released_at s.locks own tx).lock) key) (given_locks left tx own (record_state s.rows tx own)) ∙ released_other s tx own key off)
-      (ap (filter (asks_for key)) (given_waiting left tx own (record_state s.rows tx own)) ∙ unasked_other tx own key s.waiting off))
+      (λ is. replica_is _ _ (given_cell ∙ on_own own key (aborting (cell_at key s.rows) tx) (cell_at key s.rows) is) (released_own s tx own key is)
+      (ap (filter (asks_for key)) left ∙ unasked_own tx own key s.waiting is))
+      (λ off. replica_is _ _ (given_cell ∙ on_other own key (aborting (cell_at key s.rows) tx) (cell_at key s.rows) off) (released_other s tx own key off)
+      (ap (filter (asks_for key)) left ∙ unasked_other tx own key s.waiting off))
+    where
+      given_cell : cell_at key st.rows ≡ (if same_key own key then aborting (cell_at key s.rows) tx else cell_at key s.rows)
+      given_cell = ap (cell_at key) (given_up_rows gives) ∙ cell-aborted s.rows placed tx own key
 
   pub abort_event : at_key key (abort.abort_row s tx own).state ≡ key_after (if_on own key (aborts tx)) (at_key key s)
-  unfolding abort.abort_row
   abort_event =
-      ap (λ (t : LqhState). at_key key (unlocked (given t) tx own)) (unasked_is s tx own)
-      ∙ ap (λ w. at_key key (with_lock (given left) own (released_at w own tx))) (given_locks left tx own (record_state s.rows tx own))
-      ∙ freed_event
+      abort_forms (λ step. at_key key step.state ≡ key_after (if_on own key (aborts tx)) (at_key key s)) s tx own (record {
+        none = λ had st gives none. freed_event gives s.waiting (none_gone tx own s.waiting none);
+        some = λ had st gives at r there here. freed_event gives (remove s.waiting at) (one_gone tx own s.waiting at there);
+      })
 
 -- a wait that ends
-pub expire_event_by : (s : LqhState) (key : List ℕ) (wait : Option (TxId × List ℕ)) → at_key key (expire.expire_by s wait).state ≡ key_after (expires_if key wait) (at_key key s)
-expire_event_by s key None = refl
-expire_event_by s key (Some wait) =
-    ap (at_key key) (unasked_is (with_lock s wait.1 (unwaited_at s.locks wait.1 wait.0)) wait.0 wait.1)
-    ∙ is_if wait.1 key (expires wait.0) _ _
-    (λ is. replica_is _ _ refl
-    (lock-kept s.locks wait.1 key (unwaited_at s.locks wait.1 wait.0).lock
-    ∙ on_own wait.1 key (unwaited_at s.locks wait.1 wait.0).lock (lock_at s.locks key) is ∙ ap (λ k. (unwaited (lock_at s.locks k) wait.0).lock) is)
-    (unasked_own wait.0 wait.1 key s.waiting is))
-    (λ off. replica_is _ _ refl
-    (lock-kept s.locks wait.1 key (unwaited_at s.locks wait.1 wait.0).lock ∙ on_other wait.1 key (unwaited_at s.locks wait.1 wait.0).lock (lock_at s.locks key) off)
-    (unasked_other wait.0 wait.1 key s.waiting off))
-
 pub expire_event : (s : LqhState) (key : List ℕ) → at_key key (expire.expire_row s).state ≡ key_after (expires_if key (expired s.locks)) (at_key key s)
-unfolding expire.expire_row
-expire_event s key = expire_event_by s key (expired s.locks)
+expire_event s key =
+    expire_forms (λ step. Comes step.state (expired s.locks)) s (record {
+      rests = λ is. subst (Comes s) (sym is) refl;
+      none = λ tx own is none. subst (Comes (left tx own s.waiting)) (sym is) (ended tx own s.waiting (none_gone tx own s.waiting none));
+      some = λ tx own is at r there here.
+          subst (Comes (left tx own (remove s.waiting at))) (sym is) (ended tx own (remove s.waiting at) (one_gone tx own s.waiting at there));
+    })
+  where
+    Comes : LqhState → Option (TxId × List ℕ) → Type 0
+    Comes after wait = at_key key after ≡ key_after (expires_if key wait) (at_key key s)
+
+    left : TxId → List ℕ → List Request → LqhState
+    left tx own waiting = with_waiting (with_lock s own (unwaited_at s.locks own tx)) waiting
+
+    ended : (tx : TxId) (own : List ℕ) (waiting : List Request) → waiting ≡ drop_first (is_for tx own) s.waiting → Comes (left tx own waiting) (Some (tx, own))
+    ended tx own waiting gone =
+        is_if own key (expires tx) _ _
+        (λ is. replica_is _ _ refl
+        (lock-kept s.locks own key (unwaited_at s.locks own tx).lock
+        ∙ on_own own key (unwaited_at s.locks own tx).lock (lock_at s.locks key) is ∙ ap (λ k. (unwaited (lock_at s.locks k) tx).lock) is)
+        (ap (filter (asks_for key)) gone ∙ unasked_own tx own key s.waiting is))
+        (λ off. replica_is _ _ refl
+        (lock-kept s.locks own key (unwaited_at s.locks own tx).lock ∙ on_other own key (unwaited_at s.locks own tx).lock (lock_at s.locks key) off)
+        (ap (filter (asks_for key)) gone ∙ unasked_other tx own key s.waiting off))
 
 -- a round
 pub round_event : (s : LqhState) (key : List ℕ) → at_key key (expire.round_row s).state ≡ key_after (ages (expired_by key (expired (expire.aged s).locks))) (at_key key s)

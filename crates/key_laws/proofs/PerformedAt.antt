@@ -14,6 +14,7 @@ use Rattle.sig_core.specs.Rows as rows
 use Rattle.sig_core.specs.Rows.{RowsState, abort_record, commit_by, commit_if, commit_record, complete_record, drop_if, dropping, freed, get_at, is_as, is_full, is_idle, is_of, is_on, record_at, record_of, row_of, seen, set_row, with_place}
 use Rattle.sig_core.specs.Same.{same_key}
 use Rattle.lqh_block.proofs.IndexLemmas.{same}
+use Rattle.lqh_block.proofs.LqhForms.{perform_forms}
 use Rattle.lqh_block.specs.declared.request.Request.{Request}
 use Rattle.lqh_block.specs.Storage as storage
 use Rattle.lqh_block.specs.Storage.{StorageState}
@@ -75,26 +76,12 @@ pub cell-performed : (s : StorageState) (r : Request) (q : List ℕ)
 unfolding storage.perform
 cell-performed s r q = work_cell s r.tx r.chain r.at r.work q
 
-placed_if : (s : StorageState) (tx : TxId) (key : List ℕ) (image : Option (List ℕ)) (chain : List Member) (at : ℕ) (log full : Bool) → IsPlaced s.rows → IsPlaced (storage.store_if s tx key image chain at log full).state.rows
-placed_if s tx key image chain at true full is = is
-placed_if s tx key image chain at false true is = is
-placed_if s tx key image chain at false false is = placed-storing s.rows tx key image is
-
-placed_store : (s : StorageState) (tx : TxId) (key : List ℕ) (image : Option (List ℕ)) (chain : List Member) (at : ℕ) → IsPlaced s.rows → IsPlaced (storage.store_row s tx key image chain at).state.rows
-unfolding storage.store_row
-placed_store s tx key image chain at is = placed_if s tx key image chain at (storage.is_log_full s.journal (storage.need_of tx key image)) (is_full s.rows key) is
-
-placed_operate : (s : StorageState) (tx : TxId) (op : Op) (chain : List Member) (at : ℕ) (answer : Answer) → IsPlaced s.rows → IsPlaced (storage.operate_by s tx op chain at answer).state.rows
-placed_operate s tx op chain at Done is = placed_store s tx (key_of op) (image_of op) chain at is
-placed_operate s tx op chain at (Found value) is = is
-placed_operate s tx op chain at Missing is = is
-placed_operate s tx op chain at E626 is = is
-placed_operate s tx op chain at E630 is = is
-
-placed_work : (s : StorageState) (tx : TxId) (chain : List Member) (at : ℕ) (w : RowWork) → IsPlaced s.rows → IsPlaced (storage.perform_by s tx chain at w).state.rows
-placed_work s tx chain at (Operate op) is = placed_operate s tx op chain at (answer_to op (seen s.rows tx (key_of op))) is
-placed_work s tx chain at (Store key image) is = placed_store s tx key image chain at is
-
 pub placed-performed : (s : StorageState) (r : Request) → IsPlaced s.rows → IsPlaced (storage.perform s r).state.rows
-unfolding storage.perform
-placed-performed s r is = placed_work s r.tx r.chain r.at r.work is
+placed-performed s r is =
+    perform_forms (λ step. IsPlaced step.state.rows) s r (record {
+      log_full = λ used reserved need. is;
+      table_full = λ rows. is;
+      answers = λ a. is;
+      passes = λ image next there. placed-storing s.rows r.tx (work_key r.work) image is;
+      ends = λ image last. placed-storing s.rows r.tx (work_key r.work) image is;
+    })

@@ -6,6 +6,7 @@ pub mod EachWaiting
 pub mod EffectLemmas
 pub mod FreeLemmas
 pub mod IndexLemmas
+pub mod LqhForms
 pub mod PlaceLemmas
 pub mod RecordLemmas
 pub mod RowLemmas

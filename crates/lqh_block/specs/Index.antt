@@ -4,7 +4,7 @@ use Rattle.std.specs.Cmp.Lexicographic.{pointwise}
 use Rattle.std.specs.HashMap.{HashMap, get, hash_map_len}
 use Rattle.sig_core.specs.declared.rows.Slot.{Slot}
 use Rattle.sig_core.specs.Same.{same_key}
-use Rattle.lqh_block.specs.declared.key_entry.KeyEntry.{KeyEntry}
+use Rattle.lqh_block.specs.declared.index.KeyEntry.{KeyEntry}
 
 -- the key of a place, if it is taken
 abbrev pub key_in : Option Slot → Option (List ℕ)

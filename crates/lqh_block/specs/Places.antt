@@ -10,7 +10,7 @@ use Rattle.std.specs.declared.cmp.Reverse.{Reverse}
 use Rattle.std.specs.declared.collections.BinaryHeap.{BinaryHeap}
 use Rattle.sig_core.specs.declared.rows.Slot.{Slot}
 use Rattle.sig_core.specs.Rows.{place_of, with_row}
-use Rattle.lqh_block.specs.declared.key_entry.KeyEntry.{KeyEntry}
+use Rattle.lqh_block.specs.declared.index.KeyEntry.{KeyEntry}
 use Rattle.lqh_block.specs.Free.{HoldsFree}
 use Rattle.lqh_block.specs.Index.{IsIndexed}
 

@@ -6,7 +6,7 @@ mod commit;
 mod count_journal;
 mod dump;
 mod expire;
-mod key_entry;
+mod index;
 mod lqh;
 mod map_rows;
 mod operate;

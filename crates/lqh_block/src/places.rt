@@ -8,7 +8,7 @@ ghost use Rattle.lqh_block.specs.Free.{HoldsFree, free_at};
 ghost use Rattle.lqh_block.specs.Index.{first_free, keys_in};
 ghost use Rattle.lqh_block.specs.Places.{IsPlaced, records_on, rewritten};
 
-use crate::key_entry::KeyEntry;
+use crate::index::KeyEntry;
 use indexmap::IndexMap;
 use sig_core::{Key, NoMemory, Slot, Value};
 use std::alloc::Global;

@@ -24,11 +24,11 @@ use Rattle.tc_block.specs.Part.{part_effects}
 use Rattle.tc_block.specs.Sends.{entering, phase_sends, wait_of}
 use Rattle.tc_block.specs.Turn.{Turn, asking, at_phase}
 use Rattle.run_theory.proofs.EachSent.{each_mapped}
-use Rattle.tc_block.specs.Phases.{is_completing, is_decided}
-use Rattle.tc_block.proofs.EachTurn.{AbortForms, CommittedForms, TurnFormsAt, is_onward, rows_at}
-use Rattle.run_laws.proofs.TcCircle.{ready_is}
+use Rattle.tc_block.specs.Phases.{is_committing, is_completing, is_decided}
+use Rattle.tc_block.proofs.EachTurn.{AbortForms, CommittedForms, is_onward, ready_is, rows_at, TurnFormsAt}
 use Rattle.run_laws.proofs.TcOwn.{AreSilent}
-use Rattle.run_laws.proofs.TxTurns.{is_for, turn_each, turn_for}
+use Rattle.tc_block.proofs.TurnRows.{turn_for}
+use Rattle.run_laws.proofs.TxTurns.{is_for, turn_each}
 use Rattle.run_laws.proofs.TxSignals.{is_next, is_part, is_sign}
 
 -- a turn of a transaction that commits, and awaits so many
@@ -62,10 +62,6 @@ pub data FromCompleting (node : ℕ) (layout : Layout) (tx : TxId) (t : Transact
       → turn.step.effects.sends ≡ (part_effects node tx (phase_sends layout tx (Completing epoch next) t.touched)
       at).sends → FromCompleting node layout tx t turn
   over : turn.over ≡ true → AreSilent tx turn.step.effects.sends → FromCompleting node layout tx t turn
-
-abbrev is_committing : Phase → Bool
-is_committing (Committing epoch awaited) = true
-is_committing phase = false
 
 abbrev awaited_in : Phase → ℕ
 awaited_in (Committing epoch awaited) = awaited
@@ -101,13 +97,13 @@ module _ (node : ℕ) (layout : Layout) (tx : TxId) (t : Transaction) where
     committing_forms : (body : Body) → TurnFormsAt node layout tx t body (FromCommitting node layout tx t awaited body)
     unfolding entering
     committing_forms body = record {
-      stays = λ other. rests refl refl tt (next_none tx body other);
-      stops = λ at on high. stops tx at on (grind (arith, nat_tests, high)) refl refl refl;
-      goes_on = λ at on. goes_on tx at on refl refl refl;
+      stays = λ other missed. rests refl refl tt (next_none tx body other);
+      stops = λ at on high. stops tx at on high refl refl refl;
+      goes_on = λ at on low. goes_on tx at on refl refl refl;
       operates = λ op on can. off Open
           (ready_is t.phase t.asked (and_parts (operate.is_ready t.phase t.asked) _ can).0).0 refl _;
       answers = λ key answer asked on there at. off Open at refl _;
-      late = λ key asked why verifying left there at. off _ at refl _;
+      late = λ key asked why verifying left on there at. off _ at refl _;
       waits = λ asked on there. rests refl refl (waits_silent asked) (ap (is_next tx) on);
       decides = λ on ready. off Open (ready_is t.phase t.asked ready).0 refl _;
       commits = λ e on at some. off Verifying at refl _;
@@ -157,14 +153,14 @@ module _ (node : ℕ) (layout : Layout) (tx : TxId) (t : Transaction) where
 
     completing_forms : (body : Body) → TurnFormsAt node layout tx t body Completes
     completing_forms body = record {
-      stays = λ other. still epoch awaited refl same_phase tt;
+      stays = λ other missed. still epoch awaited refl same_phase tt;
       stops = λ at on high. still epoch awaited refl same_phase tt;
-      goes_on = λ at on. more epoch awaited at refl same_phase
+      goes_on = λ at on low. more epoch awaited at refl same_phase
           (ap (λ ph. (part_effects node tx (phase_sends layout tx ph t.touched) at).sends) is);
       operates = λ op on can. off Open
           (ready_is t.phase t.asked (and_parts (operate.is_ready t.phase t.asked) _ can).0).0 refl _;
       answers = λ key answer asked on there at. off Open at refl _;
-      late = λ key asked why verifying left there at. off _ at refl _;
+      late = λ key asked why verifying left on there at. off _ at refl _;
       waits = λ asked on there. still epoch awaited refl same_phase (waits_silent asked);
       decides = λ on ready. off Open (ready_is t.phase t.asked ready).0 refl _;
       commits = λ e on at some. off Verifying at refl _;

@@ -33,7 +33,8 @@ use Rattle.host_laws.proofs.LinkCounts.{signals}
 use Rattle.host_laws.proofs.LqhOps.{is_lqh, is_node, left_of, right_of}
 use Rattle.host_laws.proofs.TcLives.{IsKept, IsOwn, is_over, is_keyed, kept_move, starts_in}
 use Rattle.host_laws.proofs.TcMoves.{ends_in, host_moves}
-use Rattle.host_laws.proofs.TcSteps.{live_home, live_in, of_live}
+use Rattle.host_laws.specs.Live.{of_live}
+use Rattle.host_laws.proofs.TcSteps.{live_home, live_in}
 use Rattle.host_laws.proofs.Wishes.{is_tc}
 use Rattle.host_laws.proofs.Tally.{tally_past}
 use Rattle.host_laws.specs.Counts.{tally}

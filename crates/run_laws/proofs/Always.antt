@@ -32,7 +32,7 @@ use Rattle.host_laws.proofs.HostTurns.{HostTurn, aside, in_rows, starting, turni
 use Rattle.host_laws.specs.Counts.{one_if}
 use Rattle.host_laws.proofs.TcKeys.{key_of_tx}
 use Rattle.host_laws.proofs.TcOwes.{last_length, set_length}
-use Rattle.host_laws.proofs.TcSteps.{of_live}
+use Rattle.host_laws.specs.Live.{of_live}
 use Rattle.host_laws.proofs.TcTurns.{GivesUp, TurnMove, abort_ends, aborted, aborts, all_completed, answers, asked_to, asks, commits, committed, completed, completes, decides, ends, gives_up, goes_on, keeps, late, refused}
 
 -- what holds of a transaction that begins, and is kept by each turn

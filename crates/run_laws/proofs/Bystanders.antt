@@ -17,7 +17,8 @@ use Rattle.sig_core.specs.Work.{work_key}
 use Rattle.node_core.specs.declared.host.Host.{Host}
 use Rattle.node_core.specs.Blocks.{tc_of}
 use Rattle.tc_block.specs.State.{TcState}
-use Rattle.run_laws.specs.Live.{of_host, of_live}
+use Rattle.host_laws.specs.Live.{of_live}
+use Rattle.run_laws.specs.Live.{of_host}
 use Rattle.run_laws.proofs.HomeSteps.{IsUnborn}
 use Rattle.run_laws.proofs.KeyTokens.{Token, answers, is_home, is_rows, is_tc, performs, refuses, some_if, token_of}
 use Rattle.run_laws.proofs.TcStill.{AreStill}

@@ -41,7 +41,8 @@ use Rattle.sig_core.proofs.Keys.{same_key-self}
 use Rattle.run_laws.specs.Circle.{at_host}
 use Rattle.run_laws.specs.Completions.{IsCommittedAtAll}
 use Rattle.run_laws.specs.GivenUp.{is_carried_out, is_given_up}
-use Rattle.run_laws.specs.Live.{live_at, of_host, of_live}
+use Rattle.host_laws.specs.Live.{of_live}
+use Rattle.run_laws.specs.Live.{live_at, of_host}
 use Rattle.run_laws.specs.Routes.{IsCommitRouted, IsForBlock, IsNodeFor, IsOnWay, IsRouted, replicas}
 use Rattle.run_laws.specs.Tokens.{tokens}
 use Rattle.run_laws.specs.Transit.{Comes, Takes, joined, logs_of}
@@ -58,7 +59,7 @@ use Rattle.run_laws.proofs.RoutesChain.{primary_first, primary_length, replicas_
 use Rattle.run_laws.proofs.StepFades.{EndsAtPrimary, NoAbort, StepFades, step_fades}
 use Rattle.run_laws.proofs.TxSignals.{cover, part_tells, request_part, weight}
 use Rattle.run_laws.proofs.TcOwn.{AreSilent}
-use Rattle.run_laws.proofs.TxTurns.{turn_for}
+use Rattle.tc_block.proofs.TurnRows.{turn_for}
 use Rattle.run_laws.proofs.Weighing.{each_between, each_joins, each_taken, in_sends, in_transit, joins_weigh, takes_weigh}
 
 module _ (start : Start) (es : List HostStep) (e : HostStep) (come : Comes start es e) where

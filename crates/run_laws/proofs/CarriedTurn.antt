@@ -39,7 +39,9 @@ use Rattle.run_laws.proofs.PartSends.{commits_tell, completions_tell, length_mid
 use Rattle.run_laws.proofs.StepFades.{StepFades}
 use Rattle.run_laws.proofs.TxSignals.{cover, cover_weight, covers, is_next, is_part, is_sign, part_cover, part_tells, part_weight, request_part, sign_part, weight}
 use Rattle.run_laws.proofs.TcOwn.{AreSilent}
-use Rattle.run_laws.proofs.TxTurns.{is_for, left_by, turn_for}
+use Rattle.tc_block.proofs.TurnRows.{turn_for}
+use Rattle.host_laws.proofs.TcSteps.{left_of_turn}
+use Rattle.run_laws.proofs.TxTurns.{is_for}
 use Rattle.run_laws.proofs.Weighing.{in_sends, in_transit, weigh_less, weigh_none}
 
 -- what holds at each place of a list holds of each of it
@@ -124,13 +126,13 @@ module _ (start : Start) (logs now : ℕ → List HostStep) (e : HostStep) (befo
 
   -- what a turn leaves
   pub record TurnLeaves (turn : Turn) : Type 0 where
-    pub live : IsLiveAhead start now after tx (left_by turn)
+    pub live : IsLiveAhead start now after tx (left_of_turn turn)
     pub told : Each (λ (o : Outgoing). TellsOf start now tx o.body) sends
 
-  over_leaves : (turn : Turn) → turn.over ≡ true → IsLiveAhead start now after tx (left_by turn)
+  over_leaves : (turn : Turn) → turn.over ≡ true → IsLiveAhead start now after tx (left_of_turn turn)
   over_leaves turn over = subst (λ b. IsLiveAhead start now after tx (if b then None else Some turn.step.state)) (sym over) tt
 
-  state_leaves : (turn : Turn) (t : Transaction) → turn.over ≡ false → turn.step.state ≡ t → IsAhead start now after tx t.touched t.phase → IsLiveAhead start now after tx (left_by turn)
+  state_leaves : (turn : Turn) (t : Transaction) → turn.over ≡ false → turn.step.state ≡ t → IsAhead start now after tx t.touched t.phase → IsLiveAhead start now after tx (left_of_turn turn)
   state_leaves turn t over is g =
       subst (λ b. IsLiveAhead start now after tx (if b then None else Some turn.step.state)) (sym over)
       (subst (λ (v : Transaction). IsAhead start now after tx v.touched v.phase) (sym is) g)

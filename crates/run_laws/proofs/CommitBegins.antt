@@ -25,7 +25,8 @@ use Rattle.run_theory.proofs.EachSent.{each_flat, each_mapped}
 use Rattle.host_laws.proofs.TcWays.{not_both}
 use Rattle.sig_core.proofs.Keys.{same_tx-self}
 use Rattle.run_laws.proofs.TcOwn.{AreSilent}
-use Rattle.run_laws.proofs.TxTurns.{is_for, turn_each, turn_for}
+use Rattle.tc_block.proofs.TurnRows.{turn_for}
+use Rattle.run_laws.proofs.TxTurns.{is_for, turn_each}
 use Rattle.run_laws.proofs.TxSignals.{is_part, is_sign}
 
 -- a row of the transaction is to be aborted
@@ -108,12 +109,12 @@ module _ (node : ℕ) (layout : Layout) (tx : TxId) where
     begins_forms : (body : Body) → is_part tx body ≡ false → TurnFormsAt node layout tx t body BeginsAt
     unfolding entering
     begins_forms body off = record {
-      stays = λ other. silent tt;
+      stays = λ other missed. silent tt;
       stops = λ at is high. silent tt;
-      goes_on = λ at is. is_one (ap (is_part tx) is ∙ same_tx-self tx);
+      goes_on = λ at is low. is_one (ap (is_part tx) is ∙ same_tx-self tx);
       operates = λ op is can. silent (refl, tt);
       answers = λ key answer asked is on at. silent (refl, tt);
-      late = λ key asked why verifying awaited on at. silent (each_mapped (λ (o : Outgoing). is_sign tx o.body ≡ false)
+      late = λ key asked why verifying awaited is on at. silent (each_mapped (λ (o : Outgoing). is_sign tx o.body ≡ false)
           (abort_of tx key) (chain_of layout key) (λ r. refl));
       waits = λ asked is on. silent (each_mapped (λ (o : Outgoing). is_sign tx o.body ≡ false)
           (wait_of tx (key_of asked.op)) asked.chain (λ r. refl));

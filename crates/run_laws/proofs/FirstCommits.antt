@@ -11,7 +11,6 @@ use Rattle.sig_core.specs.declared.place.BlockId.TheVariants as block
 use Rattle.sig_core.specs.declared.place.Place.{Place}
 use Rattle.sig_core.specs.declared.signal.Body.{Body}
 use Rattle.sig_core.specs.Chain.{last_place}
-use Rattle.sig_core.specs.Same.{same_tx}
 use Rattle.sig_core.specs.Step.{Effects}
 use Rattle.tc_block.specs.declared.phase.Phase.TheVariants.{Committing, Verifying}
 use Rattle.tc_block.specs.declared.touched.Touched.{Touched}
@@ -36,12 +35,11 @@ use Rattle.sig_core.proofs.Keys.{same_tx-self}
 use Rattle.host_laws.specs.Counts.{one_if}
 use Rattle.run_laws.proofs.Always.{few_touched}
 use Rattle.host_laws.proofs.TcLives.{IsOwn}
-use Rattle.host_laws.proofs.TcSteps as answered
 use Rattle.run_laws.specs.Circle.{IsSettled, at_host}
 use Rattle.run_laws.specs.Completions.{IsCommittedAtAll}
 use Rattle.run_laws.specs.GivenUp.{is_carried_out, is_given_up}
 use Rattle.run_laws.specs.Keyed.{IsTouchedRightly, IsWrittenRightly}
-use Rattle.run_laws.specs.Live.{live_at, of_host, of_live}
+use Rattle.run_laws.specs.Live.{live_at, of_host}
 use Rattle.run_laws.specs.Routes.{IsTouchedRouted, IsTransactionRouted, primary_host}
 use Rattle.run_laws.specs.Transit.{AreInTransit, Comes, Takes, joined, logs_of}
 use Rattle.run_laws.proofs.CarriedOut.{IsAlong, IsCarried, IsGoing, IsLiveAhead, IsSpread, TellsOf, along_stays}
@@ -63,7 +61,9 @@ use Rattle.run_laws.proofs.StepFades.{StepFades, marks_at}
 use Rattle.run_laws.proofs.TcSaid.{tc_silent, tc_speaks}
 use Rattle.run_laws.proofs.TxSignals.{cover, is_part, is_sign, part_tells, part_weight, request_part, sign_part, weight}
 use Rattle.run_laws.proofs.TcOwn.{AreSilent}
-use Rattle.run_laws.proofs.TxTurns.{is_for, left_by, turn_for}
+use Rattle.tc_block.proofs.TurnRows.{turn_for}
+use Rattle.host_laws.proofs.TcSteps.{left_of_turn}
+use Rattle.run_laws.proofs.TxTurns.{is_for}
 use Rattle.run_laws.proofs.VerifiedSettled.{verified_settled}
 use Rattle.run_laws.proofs.Weighing.{each_joins, in_sends, in_transit, joins_weigh, none_weighs, takes_weigh, weigh_none}
 
@@ -77,11 +77,6 @@ off_part tx b none = by (is_part tx b) refl
     by : (x : Bool) → is_part tx b ≡ x → is_part tx b ≡ false
     by true e = absurd (omega (arith, none, ap one_if e))
     by false e = e
-
--- it is found alike
-found_alike : (tx : TxId) (live : List (TxId × Transaction)) → answered.of_live tx live ≡ of_live tx live
-found_alike tx [] = refl
-found_alike tx (x ∷ live) = ap (λ o. if same_tx x.0 tx then Some x.1 else o) (found_alike tx live)
 
 module _ (start : Start) (es : List HostStep) (e : HostStep) (come : Comes start es e) (before between : List Addressed) (transit : AreInTransit start es before) (takes : Takes e before between)
     (tx : TxId) (uncarried : is_carried_out start (logs_of start es) tx ≡ false) (ungiven : is_given_up start (logs_of start es) tx ≡ false) (none : in_transit (part tx) before ≡ 0) where
@@ -149,7 +144,7 @@ module _ (start : Start) (es : List HostStep) (e : HostStep) (come : Comes start
   module _ (t : Transaction) (step : IsTcStep g e.step.taken (row g e.step.taken)) (was : of_host tx g ≡ Some t)
       (own : is_for tx e.step.taken.body ≡ true)
       (sent : sends ≡ (turn_for (tc_of g).node (tc_of g).layout tx e.step.taken.body t).step.effects.sends)
-      (left : of_host tx (row g e.step.taken).state ≡ left_by (turn_for (tc_of g).node (tc_of g).layout tx e.step.taken.body t)) where
+      (left : of_host tx (row g e.step.taken).state ≡ left_of_turn (turn_for (tc_of g).node (tc_of g).layout tx e.step.taken.body t)) where
     abbrev s : TcState
     s = tc_of g
 
@@ -169,7 +164,7 @@ module _ (start : Start) (es : List HostStep) (e : HostStep) (come : Comes start
     node_is : s.node ≡ tx.tc
     node_is = sym own_is.home
 
-    live_now : live_at start (logs_of start (e ∷ es)) tx ≡ left_by turn_is
+    live_now : live_at start (logs_of start (e ∷ es)) tx ≡ left_of_turn turn_is
     live_now = ap (of_host tx) (here_now start es e come tx same) ∙ left
 
     live_was : live_at start (logs_of start es) tx ≡ Some t
@@ -210,7 +205,7 @@ module _ (start : Start) (es : List HostStep) (e : HostStep) (come : Comes start
         all (u ∷ us) r k = (settled_along start (logs_of start es) tx t.ops u (settled.settled u.key) r.0 k.0, all us r.1 k.1)
 
     few : length t.touched ≤ 64
-    few = few_touched start tx h (logs_of start es h) t (found_alike tx s.live ∙ was)
+    few = few_touched start tx h (logs_of start es h) t was
 
     abbrev PartOf : ℕ → List Outgoing
     PartOf epoch = (part_effects s.node tx (phase_sends s.layout tx (Committing epoch (length t.touched)) t.touched) 0).sends
@@ -225,7 +220,7 @@ module _ (start : Start) (es : List HostStep) (e : HostStep) (come : Comes start
       live = subst (IsLiveAhead start (logs_of start (e ∷ es)) later tx) (sym (live_now ∙ left_is)) going;
     }
       where
-        left_is : left_by turn_is ≡ Some (at_phase t (Committing epoch (length t.touched)))
+        left_is : left_of_turn turn_is ≡ Some (at_phase t (Committing epoch (length t.touched)))
         left_is = ap (λ b. if b then None else Some turn_is.step.state) over ∙ ap (λ v. Some v) st
 
         going : IsGoing start (logs_of start (e ∷ es)) later tx t.touched (length t.touched)

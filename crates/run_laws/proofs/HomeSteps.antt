@@ -17,10 +17,12 @@ use Rattle.host_laws.specs.Counts.{tally}
 use Rattle.host_laws.proofs.BlocksAlong.{at_own_node, no_live}
 use Rattle.run_laws.proofs.Begun.{keeps}
 use Rattle.host_laws.proofs.TcLives.{IsOwn, is_keyed}
-use Rattle.run_laws.specs.Live.{of_host, of_live}
+use Rattle.run_laws.specs.Live.{of_host}
 use Rattle.run_laws.specs.Transit.{Comes, logs_of}
 use Rattle.run_laws.proofs.Addressed.{comes_below}
-use Rattle.run_laws.proofs.LiveAfter.{live_none, strange_none, unborn_none}
+use Rattle.host_laws.proofs.TcSteps.{live_none}
+use Rattle.host_laws.specs.Live.{of_live}
+use Rattle.run_laws.proofs.LiveAfter.{strange_none, unborn_none}
 
 -- a coordinator's transactions have its numbers, and this one stands there once at most
 pub record IsHome (tx : TxId) (s : TcState) : Type 0 where

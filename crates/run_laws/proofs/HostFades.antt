@@ -2,7 +2,7 @@
 use Rattle.std.proofs.Common.{◌≡◌, ◌⊎◌, ℕ, Bool, true, false, List, refl, sym, ap, ◌∙◌, subst, inl, inr}
 use Rattle.std.specs.Prelude.{◌==◌, if◌then◌else◌, Option, None, Some}
 use Rattle.std.specs.List.{list_any}
-use Rattle.std.proofs.lemmas.Bool.{or_left}
+use Rattle.std.proofs.lemmas.Bool.{false≢true, or_left}
 use Rattle.lqh_block.proofs.IndexLemmas as keys
 use Rattle.run_theory.specs.Lists.{Each}
 use Rattle.sig_core.specs.declared.mark.Mark.{Mark}
@@ -16,7 +16,7 @@ use Rattle.sig_core.specs.declared.signal.Signal.{Signal}
 use Rattle.sig_core.specs.declared.signal.chain.ChainSignal.TheVariants.{LqhKeyReq, LqhKeyConf, LqhKeyRef, Commit, Complete, Abort}
 use Rattle.sig_core.specs.declared.signal.host.HostSignal.TheVariants.{Round, Continue}
 use Rattle.sig_core.specs.declared.signal.host.Work.TheVariants as work
-use Rattle.sig_core.specs.Rows.{record_of, record_state, state_by}
+use Rattle.sig_core.specs.Rows.{record_state, state_by}
 use Rattle.sig_core.specs.Same.{same_key, same_tx}
 use Rattle.sig_core.specs.Step.{Effects}
 use Rattle.sig_core.proofs.TxLemmas.{same_tx-is}
@@ -26,6 +26,7 @@ use Rattle.lqh_block.specs.declared.request.Request.{Request}
 use Rattle.lqh_block.specs.Lqh.{lqh_table}
 use Rattle.lqh_block.specs.Operate.{is_granted}
 use Rattle.lqh_block.specs.State.{LqhState}
+use Rattle.lqh_block.proofs.LqhForms.{commit_forms}
 use Rattle.sig_core.specs.Work.{work_key}
 use Rattle.node_core.specs.declared.host.Host as host
 use Rattle.node_core.specs.declared.host.Host.TheVariants.{Ldm}
@@ -117,20 +118,25 @@ module _ (tx : TxId) where
       by (Some wait) q = no_if wait.1 key _ v last (λ r. cc) q
   no_commits key s _ v last e = λ q. cc
 
+  state_of : (s : LqhState) (one : TxId) (own : List ℕ) → same_tx one tx ≡ true → (h : HasPrepared tx (cell_at own s.rows).pending)
+      → record_state s.rows one own ≡ Some h.record_is.committed
+  unfolding record_state
+  state_of s one own same h =
+      ap state_by (record_of-first s.rows one own ∙ first-found one own s.rows.pending
+      ∙ ap (λ t. found t (cell_at own s.rows).pending) (same_tx-is one tx same) ∙ h.there)
+
   -- the primary marks what it commits
   marked : (s : LqhState) (one : TxId) (own : List ℕ) (epoch : ℕ) (chain : List Member) (at : ℕ) → same_tx one tx ≡ true → (at == 0) ≡ true → HasPrepared tx (cell_at own s.rows).pending
       → list_any (is_applied tx) (commit.commit_row s one own epoch chain at).effects.marks ≡ true
-  unfolding commit.commit_row record_state
-  marked s one own epoch chain at same zero h = by (at == 0) zero (record_of s.rows one own) there
+  marked s one own epoch chain at same zero h =
+      commit_forms (λ step. list_any (is_applied tx) step.effects.marks ≡ true) s one own epoch chain at (record {
+        last = λ had st markers applies first. had_marked had (sym applies.had_is ∙ state_of s one own same h);
+        passes = λ had st markers applies behind. absurd (false≢true (sym behind ∙ zero));
+      })
     where
-      there : record_of s.rows one own ≡ Some h.record_is
-      there = record_of-first s.rows one own ∙ first-found one own s.rows.pending ∙ ap (λ t. found t (cell_at own s.rows).pending) (same_tx-is one tx same) ∙ h.there
-
-      by : (b : Bool) → b ≡ true → (o : Option PendingRecord) → o ≡ Some h.record_is
-          → list_any (is_applied tx) (commit.told_if (commit.applied s one own epoch (state_by (record_of s.rows one own))) one own epoch chain at (state_by o) b).effects.marks ≡ true
-      by true e (Some r) is = or_left (same_tx one tx) false same
-      by true e None is = cc
-      by false e o is = cc
+      had_marked : (had : Option Bool) → had ≡ Some h.record_is.committed → list_any (is_applied tx) (commit.applied_marks one own had) ≡ true
+      had_marked None is = cc
+      had_marked (Some committed) is = or_left (same_tx one tx) false same
 
   AreMarked : List Mark → Type 0
   AreMarked marks = list_any (is_applied tx) marks ≡ true

@@ -17,7 +17,8 @@ use Rattle.node_core.specs.Dih.{dih_table}
 use Rattle.node_core.specs.Row.{row}
 use Rattle.host_laws.specs.Ways.{back_by, put_ways, tc_sends}
 use Rattle.host_laws.specs.Counts.{one_if, tally}
-use Rattle.run_laws.specs.Live.{of_host, of_live}
+use Rattle.host_laws.specs.Live.{of_live}
+use Rattle.run_laws.specs.Live.{of_host}
 use Rattle.run_laws.specs.Tokens.{budget_by, is_token, waiting_in}
 use Rattle.run_laws.proofs.LqhTokens.{is_own, lqh_tokens, tokens_out}
 use Rattle.run_laws.proofs.TcSaid.{idle_silent, tc_silent, tc_speaks}

@@ -1,17 +1,17 @@
 -- What a step of a replica sends of one transaction's operation on one key is what the event of the key sends.
-use Rattle.std.proofs.Common.{◌≡◌, ◌&&◌, ◌||◌, ◌+◌, ◌==◌, ℕ, Bool, true, false, List, [], ◌∷◌, ◌++◌, refl, sym, ap, ◌∙◌}
-use Rattle.std.specs.Prelude.{if◌then◌else◌, nat_lt, is_some, position, remove, slice_get, Option, None, Some}
+use Rattle.std.proofs.Common.{◌≡◌, ◌&&◌, ◌||◌, ◌+◌, ◌==◌, ℕ, Bool, true, false, List, [], ◌∷◌, ◌++◌, refl, sym, ap, ◌∙◌, subst}
+use Rattle.std.specs.Prelude.{if◌then◌else◌, nat_lt, is_some, remove, slice_get, Option, None, Some}
 use Rattle.sig_core.specs.declared.member.Member.{Member}
 use Rattle.sig_core.specs.declared.member.TxId.{TxId}
 use Rattle.sig_core.specs.declared.op.Answer.{Answer}
 use Rattle.sig_core.specs.declared.op.Answer.TheVariants as answer
 use Rattle.sig_core.specs.declared.op.Op.{Op}
 use Rattle.sig_core.specs.declared.outcome.AbortCause.{AbortCause}
-use Rattle.sig_core.specs.declared.outcome.AbortCause.TheVariants.{Timeout}
+use Rattle.sig_core.specs.declared.outcome.AbortCause.TheVariants as cause
 use Rattle.sig_core.specs.declared.outs.Outgoing.{Outgoing}
 use Rattle.sig_core.specs.declared.signal.Body.{Body}
 use Rattle.sig_core.specs.declared.signal.Body.TheVariants.{Host, Client, Chain}
-use Rattle.sig_core.specs.declared.signal.chain.ChainSignal.TheVariants.{LqhKeyReq, Commit, Complete, Abort}
+use Rattle.sig_core.specs.declared.signal.chain.ChainSignal.TheVariants.{LqhKeyReq, Commit, Complete, Abort, Aborted}
 use Rattle.sig_core.specs.declared.signal.chain.RowWork.{RowWork}
 use Rattle.sig_core.specs.declared.signal.chain.RowWork.TheVariants.{Operate, Store}
 use Rattle.sig_core.specs.declared.signal.client.ClientSignal.TheVariants.{LqhWaitReq, DumpReq}
@@ -19,13 +19,14 @@ use Rattle.sig_core.specs.declared.signal.host.HostSignal.TheVariants.{Round, Co
 use Rattle.sig_core.specs.declared.signal.host.Work.TheVariants as work
 use Rattle.sig_core.specs.Op.{answer_to, image_of, key_of}
 use Rattle.sig_core.specs.Place.{coordinator_of}
-use Rattle.sig_core.specs.Rows.{is_full, record_state, seen}
+use Rattle.sig_core.specs.Rows.{is_full, seen}
 use Rattle.sig_core.specs.Same.{same_key, same_tx}
+use Rattle.sig_core.specs.Step.{to_place}
 use Rattle.row_locks.specs.declared.mode.Lock.{Lock}
 use Rattle.row_locks.specs.declared.mode.Lock.TheVariants.{Granted, Queued}
 use Rattle.row_locks.specs.Rounds.{expired}
 use Rattle.row_locks.specs.Rows.{asked}
-use Rattle.row_locks.specs.Tables.{ahead_at, lock_at, unwaited_at}
+use Rattle.row_locks.specs.Tables.{lock_at, unwaited_at}
 use Rattle.lqh_block.proofs.IndexLemmas.{same}
 use Rattle.lqh_block.specs.Abort as abort
 use Rattle.lqh_block.specs.Commit as commit
@@ -39,6 +40,7 @@ use Rattle.lqh_block.specs.State.{LqhState, freed_lock, go_on_if, serve_granted,
 use Rattle.lqh_block.specs.Storage as storage
 use Rattle.lqh_block.specs.Storage.{StorageState}
 use Rattle.lqh_block.specs.Wait as wait
+use Rattle.lqh_block.proofs.LqhForms.{abort_forms, commit_forms, complete_forms, dump_forms, expire_forms, expiring, granted_forms, request_forms, wait_forms}
 use Rattle.sig_core.specs.Work.{work_key}
 use Rattle.lqh_block.specs.Work.{work_mode}
 use Rattle.sig_core.specs.Firsts.{first}
@@ -144,13 +146,21 @@ module _ (tx : TxId) (key : List ℕ) where
         performed_one (storage_of s) q ∙ neither (same_tx q.tx tx) (same_key (work_key q.work) key) (performed_token (cell_at key s.rows) q (is_refused (storage_of s) q)) off
     other_tokens (Queued ahead) off = refl
 
-    request_tokens : tokens_of tx key (operate.request_row s q).effects.sends ≡ event_tokens tx (if_on (work_key q.work) key (asks q (is_refused (storage_of s) q))) (at_key key s)
-    unfolding operate.request_row
+    request_tokens : tokens_of tx key (operate.request_row s q).effects.sends
+        ≡ event_tokens tx (if_on (work_key q.work) key (asks q (is_refused (storage_of s) q))) (at_key key s)
     request_tokens =
-        tokens_if (work_key q.work) (asks q (is_refused (storage_of s) q)) (at_key key s) (tokens_of tx key (operate.asked_by (operate.asked_for s q) q (operate.asking s q).answer).effects.sends)
-        (λ at. own_tokens (operate.asking s q).answer at
-        ∙ ap (λ k. asked_tokens tx (at_key key s) q (is_refused (storage_of s) q) (asked (lock_at s.locks k) q.tx (work_mode q.work)).answer) at)
-        (other_tokens (operate.asking s q).answer)
+        request_forms (λ step. tokens_of tx key step.effects.sends
+        ≡ event_tokens tx (if_on (work_key q.work) key (asks q (is_refused (storage_of s) q))) (at_key key s)) s q
+        (record { granted = λ is. by Granted is; queued = λ ahead is. by (Queued ahead) is })
+      where
+        by : (a : Lock) → (operate.asking s q).answer ≡ a → tokens_of tx key (operate.asked_by (operate.asked_for s q) q a).effects.sends
+            ≡ event_tokens tx (if_on (work_key q.work) key (asks q (is_refused (storage_of s) q))) (at_key key s)
+        by a is =
+            tokens_if (work_key q.work) (asks q (is_refused (storage_of s) q)) (at_key key s)
+            (tokens_of tx key (operate.asked_by (operate.asked_for s q) q a).effects.sends)
+            (λ at. own_tokens a at ∙ ap (asked_tokens tx (at_key key s) q (is_refused (storage_of s) q)) (sym is)
+            ∙ ap (λ k. asked_tokens tx (at_key key s) q (is_refused (storage_of s) q) (asked (lock_at s.locks k) q.tx (work_mode q.work)).answer) at)
+            (other_tokens a)
 
   served_one : (s : LqhState) (at : ℕ) (q : Request) → first (operate.is_granted s.locks) s.waiting ≡ Some q
       → tokens_of tx key (operate.granted_on (with_waiting s (remove s.waiting at)) q).effects.sends
@@ -170,19 +180,19 @@ module _ (tx : TxId) (key : List ℕ) where
       none_behind [] = refl
       none_behind (x ∷ xs) = ap (λ w. x ∷ w) (none_behind xs)
 
-  granted_tokens : (s : LqhState) → tokens_of tx key (operate.granted_row s).effects.sends ≡ event_tokens tx (serves_if key s (first (operate.is_granted s.locks) s.waiting)) (at_key key s)
-  unfolding operate.granted_row
-  granted_tokens s = by (position (operate.is_granted s.locks) s.waiting) refl (first (operate.is_granted s.locks) s.waiting) refl
+  granted_tokens : (s : LqhState) → tokens_of tx key (operate.granted_row s).effects.sends
+      ≡ event_tokens tx (serves_if key s (first (operate.is_granted s.locks) s.waiting)) (at_key key s)
+  granted_tokens s =
+      granted_forms (λ step. Sent step.effects.sends (first (operate.is_granted s.locks) s.waiting)) s (record {
+        none = λ is. subst (Sent []) (ap (get_by s.waiting) (sym is) ∙ first-get (operate.is_granted s.locks) s.waiting) refl;
+        some = λ at q is here.
+            let q_is : Some q ≡ first (operate.is_granted s.locks) s.waiting =
+            sym here ∙ (ap (get_by s.waiting) (sym is) ∙ first-get (operate.is_granted s.locks) s.waiting) in
+            subst (Sent (operate.granted_on (with_waiting s (remove s.waiting at)) q).effects.sends) q_is (served_one s at q (sym q_is));
+      })
     where
-      by : (at : Option ℕ) → position (operate.is_granted s.locks) s.waiting ≡ at → (o : Option Request) → first (operate.is_granted s.locks) s.waiting ≡ o
-          → tokens_of tx key (operate.granted_by s at).effects.sends ≡ event_tokens tx (serves_if key s o) (at_key key s)
-      by None at_is None is = refl
-      by None at_is (Some q) is = absurd (let both : None ≡ Some q = sym (ap (get_by s.waiting) at_is) ∙ (first-get (operate.is_granted s.locks) s.waiting ∙ is) in cc)
-      by (Some at) at_is None is =
-          ap (λ o. tokens_of tx key (operate.granted_value s at o).effects.sends) (sym (ap (get_by s.waiting) at_is) ∙ (first-get (operate.is_granted s.locks) s.waiting ∙ is))
-      by (Some at) at_is (Some q) is =
-          ap (λ o. tokens_of tx key (operate.granted_value s at o).effects.sends) (sym (ap (get_by s.waiting) at_is) ∙ (first-get (operate.is_granted s.locks) s.waiting ∙ is))
-          ∙ served_one s at q is
+      Sent : List Outgoing → Option Request → Type 0
+      Sent sends o = tokens_of tx key sends ≡ event_tokens tx (serves_if key s o) (at_key key s)
 
   -- what is committed, completed and aborted
   none_if : (own : List ℕ) (event : Event) (r : Replica) → event_tokens tx event r ≡ [] → event_tokens tx (if_on own key event) r ≡ []
@@ -192,55 +202,64 @@ module _ (tx : TxId) (key : List ℕ) where
       by true = none
       by false = refl
 
-  told_none : (s : LqhState) (v : TxId) (own : List ℕ) (epoch : ℕ) (chain : List Member) (at : ℕ) (had : Option Bool) (b : Bool) → tokens_of tx key (commit.told_if s v own epoch chain at had b).effects.sends ≡ []
-  told_none s v own epoch chain at had true = granted_none s.node (nat_lt 0 (freed_lock s v own).granted)
-  told_none s v own epoch chain at had false = refl
-
-  commit_none : (s : LqhState) (v : TxId) (own : List ℕ) (epoch : ℕ) (chain : List Member) (at : ℕ) → tokens_of tx key (commit.commit_row s v own epoch chain at).effects.sends ≡ []
-  unfolding commit.commit_row
-  commit_none s v own epoch chain at = told_none (commit.applied s v own epoch (record_state s.rows v own)) v own epoch chain at (record_state s.rows v own) (at == 0)
-
-  completed_none : (v : TxId) (own : List ℕ) (chain : List Member) (at : ℕ) (rest : List Outgoing) (b : Bool) → tokens_of tx key rest ≡ [] → tokens_of tx key (complete.completed_by v own chain at b ∷ rest) ≡ []
-  completed_none v own chain at rest true none = none
-  completed_none v own chain at rest false none = none
-
-  complete_none : (s : LqhState) (v : TxId) (own : List ℕ) (chain : List Member) (at : ℕ) → tokens_of tx key (complete.complete_row s v own chain at).effects.sends ≡ []
-  unfolding complete.complete_row
-  complete_none s v own chain at = completed_none v own chain at (serve_granted s.node (freed_lock s v own)) (at == 0) (granted_none s.node (nat_lt 0 (freed_lock s v own).granted))
-
-  refused_none : (v : TxId) (own : List ℕ) (at : Option ℕ) → same_tx v tx ≡ false → tokens_of tx key (abort.refused_by v own at) ≡ []
-  refused_none v own None off = refl
-  refused_none v own (Some at) off = put_home v (same_tx v tx && same_key own key) refuses [] ∙ ap (λ b. if b && same_key own key then refuses ∷ [] else []) off
-
-  abort_none : (s : LqhState) (v : TxId) (own : List ℕ) → same_tx v tx ≡ false → tokens_of tx key (abort.abort_row s v own).effects.sends ≡ []
-  unfolding abort.abort_row
-  abort_none s v own off =
-      tokens-append tx key (abort.refused_by v own (abort.waits_at s v own)) _
-      ∙ ap (λ w. w ++ tokens_of tx key (serve_granted s.node (freed_lock s v own))) (refused_none v own (abort.waits_at s v own) off)
-      ∙ granted_none s.node (nat_lt 0 (freed_lock s v own).granted)
-
-  -- waits that end
+  -- one is refused
   refused_one : (v : TxId) (own : List ℕ) (rest : List Outgoing) (why : AbortCause) → tokens_of tx key rest ≡ []
       → tokens_of tx key (storage.refusal v own why ∷ rest) ≡ (if same_tx v tx && same_key own key then refuses ∷ [] else [])
   refused_one v own rest why none =
       ap (put (if is_home v (coordinator_of v) && (same_tx v tx && same_key own key) then Some refuses else None)) none
       ∙ put_home v (same_tx v tx && same_key own key) refuses []
 
-  expire_by_tokens : (s : LqhState) (w : Option (TxId × List ℕ)) (r : Replica) → tokens_of tx key (expire.expire_by s w).effects.sends ≡ event_tokens tx (expires_if key w) r
-  expire_by_tokens s None r = refl
-  expire_by_tokens s (Some w) r =
-      let served = unwaited_at s.locks w.1 w.0 in
-      refused_one w.0 w.1 (serve_granted s.node served ++ expire.more_expired (with_lock s w.1 served)) Timeout
-      (tokens-append tx key (serve_granted s.node served) (expire.more_expired (with_lock s w.1 served))
-      ∙ ap (λ x. x ++ tokens_of tx key (expire.more_expired (with_lock s w.1 served))) (granted_none s.node (nat_lt 0 served.granted))
-      ∙ expired_none s.node (is_some (expired (with_lock s w.1 served).locks)))
-      ∙ tokens_if w.1 (expires w.0) r (if same_tx w.0 tx && same_key w.1 key then refuses ∷ [] else [])
-      (λ at. one_of_two (same_tx w.0 tx) (same_key w.1 key) refuses (ap (λ k. same_key k key) at ∙ same_key-self key))
-      (λ off. neither (same_tx w.0 tx) (same_key w.1 key) refuses off)
+  served_none : (s : LqhState) (v : TxId) (own : List ℕ) → tokens_of tx key (serve_granted s.node (freed_lock s v own)) ≡ []
+  served_none s v own = granted_none s.node (nat_lt 0 (freed_lock s v own).granted)
 
+  commit_none : (s : LqhState) (v : TxId) (own : List ℕ) (epoch : ℕ) (chain : List Member) (at : ℕ)
+      → tokens_of tx key (commit.commit_row s v own epoch chain at).effects.sends ≡ []
+  commit_none s v own epoch chain at =
+      commit_forms (λ step. tokens_of tx key step.effects.sends ≡ []) s v own epoch chain at (record {
+        last = λ had st markers applies first. served_none s v own;
+        passes = λ had st markers applies behind. refl;
+      })
+
+  complete_none : (s : LqhState) (v : TxId) (own : List ℕ) (chain : List Member) (at : ℕ)
+      → tokens_of tx key (complete.complete_row s v own chain at).effects.sends ≡ []
+  complete_none s v own chain at =
+      complete_forms (λ step. tokens_of tx key step.effects.sends ≡ []) s v own chain at
+      (record { last = λ first. served_none s v own; passes = λ behind. served_none s v own })
+
+  abort_none : (s : LqhState) (v : TxId) (own : List ℕ) → same_tx v tx ≡ false → tokens_of tx key (abort.abort_row s v own).effects.sends ≡ []
+  abort_none s v own off =
+      abort_forms (λ step. tokens_of tx key step.effects.sends ≡ []) s v own (record {
+        none = λ had st gives none. served_none s v own;
+        some = λ had st gives at r there here.
+            refused_one v own (to_place (coordinator_of v) (Chain (Aborted v own)) ∷ serve_granted s.node (freed_lock s v own)) cause.Request (served_none s v own)
+            ∙ ap (λ b. if b && same_key own key then refuses ∷ [] else []) off;
+      })
+
+  -- waits that end
   expire_tokens : (s : LqhState) (r : Replica) → tokens_of tx key (expire.expire_row s).effects.sends ≡ event_tokens tx (expires_if key (expired s.locks)) r
-  unfolding expire.expire_row
-  expire_tokens s r = expire_by_tokens s (expired s.locks) r
+  expire_tokens s r =
+      expire_forms (λ step. Sent step.effects.sends (expired s.locks)) s (record {
+        rests = λ is. subst (Sent []) (sym is) refl;
+        none = λ v own is none. subst (Sent (sent v own)) (sym is) (one v own);
+        some = λ v own is at q there here. subst (Sent (sent v own)) (sym is) (one v own);
+      })
+    where
+      Sent : List Outgoing → Option (TxId × List ℕ) → Type 0
+      Sent sends w = tokens_of tx key sends ≡ event_tokens tx (expires_if key w) r
+
+      sent : TxId → List ℕ → List Outgoing
+      sent v own = (expiring s v own (unwaited_at s.locks own v) s.waiting).effects.sends
+
+      one : (v : TxId) (own : List ℕ) → Sent (sent v own) (Some (v, own))
+      one v own =
+          let served = unwaited_at s.locks own v in
+          refused_one v own (serve_granted s.node served ++ expire.more_expired (with_lock s own served)) cause.Timeout
+          (tokens-append tx key (serve_granted s.node served) (expire.more_expired (with_lock s own served))
+          ∙ ap (λ x. x ++ tokens_of tx key (expire.more_expired (with_lock s own served))) (granted_none s.node (nat_lt 0 served.granted))
+          ∙ expired_none s.node (is_some (expired (with_lock s own served).locks)))
+          ∙ tokens_if own (expires v) r (if same_tx v tx && same_key own key then refuses ∷ [] else [])
+          (λ at. one_of_two (same_tx v tx) (same_key own key) refuses (ap (λ k. same_key k key) at ∙ same_key-self key))
+          (λ off. neither (same_tx v tx) (same_key own key) refuses off)
 
   ages_tokens : (w : Option (TxId × List ℕ)) (r : Replica) → event_tokens tx (expires_if key w) r ≡ event_tokens tx (ages (expired_by key w)) r
   ages_tokens None r = refl
@@ -250,17 +269,12 @@ module _ (tx : TxId) (key : List ℕ) where
       by true = refl
       by false = refl
 
-  wait_none : (s : LqhState) (v : TxId) (ahead : Option TxId) → tokens_of tx key (wait.wait_by s v ahead).effects.sends ≡ []
-  wait_none s v None = refl
-  wait_none s v (Some ahead) = refl
-
-  wait_row_none : (s : LqhState) (v : TxId) (own : List ℕ) → tokens_of tx key (wait.wait_row s v own).effects.sends ≡ []
-  unfolding wait.wait_row
-  wait_row_none s v own = wait_none s v (ahead_at s.locks own v)
+  wait_none : (s : LqhState) (v : TxId) (own : List ℕ) → tokens_of tx key (wait.wait_row s v own).effects.sends ≡ []
+  wait_none s v own =
+      wait_forms (λ step. tokens_of tx key step.effects.sends ≡ []) s v own (record { none = λ is. refl; some = λ ahead is. refl })
 
   dump_none : (s : LqhState) (at : ℕ) → tokens_of tx key (dump.dump_row s at).effects.sends ≡ []
-  unfolding dump.dump_row
-  dump_none s at = refl
+  dump_none s at = dump_forms (λ step. tokens_of tx key step.effects.sends ≡ []) s at (λ rows next. refl)
 
   pub lqh_tokens : (s : LqhState) (body : Body) → is_abort tx body ≡ false → tokens_of tx key (lqh_table s body).effects.sends ≡ event_tokens tx (event_at key s body) (at_key key s)
   lqh_tokens s (Chain (LqhKeyReq v what chain at)) off = request_tokens s (record { tx = v; work = what; chain = chain; at = at })
@@ -268,7 +282,7 @@ module _ (tx : TxId) (key : List ℕ) where
   lqh_tokens s (Chain (Commit v own epoch chain at)) off = commit_none s v own epoch chain at ∙ sym (none_if own (commits v (at == 0)) (at_key key s) refl)
   lqh_tokens s (Chain (Complete v own chain at)) off = complete_none s v own chain at ∙ sym (none_if own (completes v) (at_key key s) refl)
   lqh_tokens s (Chain (Abort v own)) off = abort_none s v own off ∙ sym (none_if own (aborts v) (at_key key s) refl)
-  lqh_tokens s (Client (LqhWaitReq v own)) off = wait_row_none s v own
+  lqh_tokens s (Client (LqhWaitReq v own)) off = wait_none s v own
   lqh_tokens s (Client (DumpReq at)) off = dump_none s at
   lqh_tokens s (Host Round) off = expire_tokens (expire.aged s) (at_key key s) ∙ ages_tokens (expired (expire.aged s).locks) (at_key key s)
   lqh_tokens s (Host (Continue work.Expired at)) off = expire_tokens s (at_key key s)

@@ -42,7 +42,6 @@ pub mod LqhParts
 pub mod LqhTokens
 pub mod LqhWaits
 pub mod NoneWait
-pub mod OfLive
 pub mod OneAtATime
 pub mod OnlyToken
 pub mod OthersStay

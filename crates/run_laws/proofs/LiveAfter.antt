@@ -6,26 +6,16 @@ use Rattle.run_theory.proofs.Pasts.{each_map}
 use Rattle.sig_core.specs.declared.member.TxId.{TxId}
 use Rattle.sig_core.specs.Same.{same_tx}
 use Rattle.tc_block.specs.declared.transaction.Transaction.{Transaction}
-use Rattle.host_laws.specs.Counts.{one_if, tally}
+use Rattle.host_laws.specs.Counts.{tally}
 use Rattle.host_laws.proofs.Tally.{tally_none}
 use Rattle.host_laws.proofs.TcLives.{IsOwn, is_keyed}
 use Rattle.host_laws.proofs.TcMoves.{same_tx-is}
-use Rattle.run_laws.specs.Live.{of_live}
+use Rattle.host_laws.specs.Live.{of_live}
 
 abbrev Live : Type 0
 Live = List (TxId × Transaction)
 
 module _ (tx : TxId) where
-  -- where it isn't
-  pub live_none : (live : Live) → tally (is_keyed tx) live ≡ 0 → of_live tx live ≡ None
-  live_none [] none = refl
-  live_none (e ∷ live) none = by (same_tx e.0 tx) refl (live_none live)
-    where
-      by : (b : Bool) → same_tx e.0 tx ≡ b → (tally (is_keyed tx) live ≡ 0 → of_live tx live ≡ None)
-          → (if b then Some e.1 else of_live tx live) ≡ None
-      by true same more = absurd (omega (arith, none, ap one_if same))
-      by false off more = more (omega (arith, none))
-
   -- another one behind it
   pub live_end : (v : TxId) (t : Transaction) (live : Live) → same_tx v tx ≡ false
       → of_live tx (live ++ (v, t) ∷ []) ≡ of_live tx live

@@ -8,19 +8,10 @@ use Rattle.sig_core.proofs.TxLemmas.{same_tx-is}
 use Rattle.tc_block.specs.declared.transaction.Transaction.{Transaction}
 use Rattle.host_laws.specs.Counts.{tally}
 use Rattle.host_laws.proofs.TcLives.{is_keyed}
-use Rattle.run_laws.specs.Live.{of_live}
-use Rattle.run_laws.proofs.OfLive.{AreOthers, each_found, of_between}
+use Rattle.host_laws.proofs.OfLive.{each_found, of_between}
+use Rattle.tc_block.proofs.LiveSplit.{AreOthers}
+use Rattle.host_laws.specs.Live.{of_live}
 use Rattle.run_laws.proofs.Weighing.{none_passes}
-
--- those of which none is counted are others
-pub uncounted_others : (tx : TxId) (live : List (TxId × Transaction)) → tally (is_keyed tx) live ≡ 0 → AreOthers tx live
-uncounted_others tx live none = none_passes (is_keyed tx) live none
-
-pub of_here : (tx one : TxId) (t : Transaction) (front back : List (TxId × Transaction)) → tally (is_keyed tx) front ≡ 0
-    → same_tx one tx ≡ true → of_live tx (front ++ (one, t) ∷ back) ≡ Some t
-of_here tx one t front back none same =
-    subst (λ k. of_live tx (front ++ (k, t) ∷ back) ≡ Some t) (sym (same_tx-is one tx same))
-    (of_between front back tx t (uncounted_others tx front none))
 
 -- what holds of each holds of it
 pub of_each : (P : TxId → Transaction → Type 0) (tx : TxId) (live : List (TxId × Transaction)) (t : Transaction)

@@ -56,14 +56,14 @@ module _ (start : Start) (node : ℕ) where
         grants_more = record { routed = tt; block = tt };
         expires_more = record { routed = tt; block = tt };
         commits_on = λ tx key epoch chain at same behind. commit_sent tx key epoch chain at (subst (IsRouted start node) same is);
-        committed = λ tx key. record { routed = tt; block = refl };
+        committed = λ tx key epoch chain at sent first. record { routed = tt; block = refl };
         completes_on = λ tx key chain at same behind. complete_sent tx key chain at (subst (IsRouted start node) same is);
-        completed = λ tx key. record { routed = tt; block = refl };
-        aborted = λ tx key. record { routed = tt; block = refl };
+        completed = λ tx key chain at sent first. record { routed = tt; block = refl };
+        aborted = λ tx key sent. record { routed = tt; block = refl };
         gives_up = λ tx key given. record { routed = tt; block = refl };
         times_out = λ tx key. record { routed = tt; block = refl };
-        waits = λ tx ahead. record { routed = tt; block = tt };
-        dumps = λ rows next. record { routed = tt; block = tt };
+        waits = λ tx key ahead sent there. record { routed = tt; block = tt };
+        dumps = λ at rows next sent. record { routed = tt; block = tt };
       })
     where
       commit_sent : (tx : TxId) (key : List ℕ) (epoch : ℕ) (chain : List Member) (at : ℕ) → IsCommitRouted start node key chain at

@@ -26,15 +26,16 @@ use Rattle.tc_block.specs.Turn.{Turn, at_phase}
 use Rattle.host_laws.specs.Kinds.{kind_of}
 use Rattle.sig_core.proofs.Keys.{same_tx-self}
 use Rattle.tc_block.specs.State.{TcState}
-use Rattle.tc_block.proofs.EachTurn.{CommittedForms, TurnForms, rows_of}
+use Rattle.tc_block.proofs.EachTurn.{CommittedForms, ready_is, rows_of, TurnForms}
 use Rattle.tc_block.proofs.LiveKeeps.{SendsBeside}
 use Rattle.host_laws.specs.Counts.{one_if}
 use Rattle.host_laws.proofs.TcGoes.{AllSay, SaysOf, turn_goes}
 use Rattle.run_laws.specs.Keyed.{HasTouchedAsked}
 use Rattle.run_laws.proofs.TcAborts.{enters_told}
-use Rattle.run_laws.proofs.TcCircle.{ready_is}
 use Rattle.run_laws.proofs.TcTurns.{end_gives_up, gives_up}
-use Rattle.run_laws.proofs.TxTurns.{OthersSend, is_for, left_by, turn_each, turn_for}
+use Rattle.tc_block.proofs.TurnRows.{turn_for}
+use Rattle.host_laws.proofs.TcSteps.{left_of_turn}
+use Rattle.run_laws.proofs.TxTurns.{OthersSend, is_for, turn_each}
 use Rattle.run_laws.proofs.Weighing.{in_sends}
 
 -- the signal asks for an epoch for the transaction, or gives it one
@@ -62,12 +63,12 @@ pub record IsAsking (tx : TxId) (t : Transaction) (turn : Turn) : Type 0 where
   pub node : ℕ
   pub was : t.phase ≡ Open
   pub free : t.asked ≡ None
-  pub left : left_by turn ≡ Some (at_phase t Verifying)
+  pub left : left_of_turn turn ≡ Some (at_phase t Verifying)
   pub is : turn.step.effects.sends ≡ to_place (epochs node) (Epoch (DiVerifyReq tx t.ops)) ∷ []
 
 -- what becomes of one that waits for its epoch: it waits on, was given the epoch, or is given up
 abbrev pub IsLate : TxId → Body → Transaction → Turn → Type 0
-IsLate tx body t turn = (left_by turn ≡ Some t)
+IsLate tx body t turn = (left_of_turn turn ≡ Some t)
     ⊎ ((is_conf tx body ≡ true) ⊎ (gives_up tx turn.step.effects.sends ≡ true))
 
 pub record AskTurn (tx : TxId) (body : Body) (t : Transaction) (turn : Turn) : Type 0 where

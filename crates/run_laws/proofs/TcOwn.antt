@@ -17,7 +17,8 @@ use Rattle.host_laws.proofs.SendKinds.{each_of}
 use Rattle.host_laws.proofs.TcLives.{apart}
 use Rattle.host_laws.proofs.TurnKinds.{OwnKinds, TurnOnly, own_kinds}
 use Rattle.run_laws.proofs.TxSignals.{is_sign}
-use Rattle.run_laws.proofs.TxTurns.{OthersSend, turn_each, turn_for}
+use Rattle.tc_block.proofs.TurnRows.{turn_for}
+use Rattle.run_laws.proofs.TxTurns.{OthersSend, turn_each}
 
 abbrev pub AreSilent : TxId → List Outgoing → Type 0
 AreSilent tx sends = Each (λ (o : Outgoing). is_sign tx o.body ≡ false) sends

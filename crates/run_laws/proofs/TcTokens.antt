@@ -26,14 +26,16 @@ use Rattle.host_laws.proofs.TcLives.{IsOwn, is_keyed}
 use Rattle.sig_core.proofs.Keys.{same_tx-self}
 use Rattle.host_laws.proofs.TcOps.{is_right}
 use Rattle.run_laws.specs.Keyed.{HasTouchedAsked}
-use Rattle.run_laws.specs.Live.{of_live}
 use Rattle.run_laws.specs.Tokens.{budget_by, budget_of, is_token}
 use Rattle.run_laws.proofs.LqhTokens.{tokens_out}
-use Rattle.run_laws.proofs.LiveAfter.{live_none, unborn_none}
-use Rattle.run_laws.proofs.OfLive.{each_found}
+use Rattle.run_laws.proofs.LiveAfter.{unborn_none}
+use Rattle.host_laws.proofs.OfLive.{each_found}
+use Rattle.host_laws.proofs.TcSteps.{live_none, left_of_turn}
+use Rattle.host_laws.specs.Live.{of_live}
 use Rattle.run_laws.proofs.TcStill.{beside_still, others_still, still_out}
 use Rattle.run_laws.proofs.TcTurns.{TurnTokens, budget_after, gives_up, tokens_forms}
-use Rattle.run_laws.proofs.TxTurns.{TcTurn, left_by, tc_turn, turn_each, turn_for}
+use Rattle.tc_block.proofs.TurnRows.{turn_for}
+use Rattle.run_laws.proofs.TxTurns.{TcTurn, tc_turn, turn_each}
 use Rattle.run_laws.proofs.TxTurns as turn
 
 -- one of the coordinator's transactions: its number is of this node, and below the next one, and it is given up if it
@@ -122,7 +124,7 @@ module _ (v : TxId) (s : TcState) (bs : List TxId) (n : IsSound s bs) (body : Bo
   -- behind a turn
   turn_tokens : (step : Step TcState) (t : Transaction) (turn : Turn) → of_live v s.live ≡ Some t
       → TurnTokens v t came turn
-      → step.effects.sends ≡ turn.step.effects.sends → of_live v step.state.live ≡ left_by turn
+      → step.effects.sends ≡ turn.step.effects.sends → of_live v step.state.live ≡ left_of_turn turn
       → StepTokens v s bs came step
   turn_tokens step t turn was is sent left = record {
     home = λ m low. omega (
@@ -144,7 +146,7 @@ module _ (v : TxId) (s : TcState) (bs : List TxId) (n : IsSound s bs) (body : Bo
       ends false e = omega arith
       ends true e = omega (arith, ap (λ d. budget_by d None) (now_given_up v turn.step.effects.sends bs e))
 
-      after : (b : Bool) → turn.over ≡ b → budget_after v turn ≤ budget_by given (left_by turn)
+      after : (b : Bool) → turn.over ≡ b → budget_after v turn ≤ budget_by given (left_of_turn turn)
       after true over =
           omega (
             arith,

@@ -25,14 +25,13 @@ use Rattle.tc_block.specs.Operate as operate
 use Rattle.tc_block.specs.Sends.{entering}
 use Rattle.tc_block.specs.Turn.{Turn, asking}
 use Rattle.tc_block.specs.Phases.{is_aborting}
-use Rattle.tc_block.proofs.EachTurn.{AbortForms, CommittedForms, TurnForms}
+use Rattle.tc_block.proofs.EachTurn.{AbortForms, CommittedForms, may_ask, ready_is, TurnForms}
 use Rattle.host_laws.specs.Ways.{back_by, put_ways}
 use Rattle.sig_core.proofs.Keys.{same_tx-self}
 use Rattle.host_laws.specs.Counts.{one_if}
-use Rattle.host_laws.proofs.TcOps.{is_right, may_ask}
+use Rattle.host_laws.proofs.TcOps.{is_right}
 use Rattle.run_laws.specs.Tokens.{budget_of}
 use Rattle.run_laws.proofs.LqhTokens.{tokens_out}
-use Rattle.run_laws.proofs.TcCircle.{ready_is}
 use Rattle.run_laws.proofs.TcStill.{IsStill, still_out, turns_still}
 
 -- these signals give the transaction up

@@ -29,12 +29,15 @@ use Rattle.host_laws.proofs.LqhOps.{is_lqh}
 use Rattle.host_laws.proofs.TcMoves.{TcMove, forgets, host_moves, starts, stays}
 use Rattle.host_laws.proofs.TcMoves as moves
 use Rattle.host_laws.proofs.Wishes.{is_tc}
-use Rattle.run_laws.specs.Live.{of_host, of_live}
+use Rattle.host_laws.specs.Live.{of_live}
+use Rattle.run_laws.specs.Live.{of_host}
 use Rattle.run_laws.proofs.HomeSteps.{IsHome}
 use Rattle.run_laws.proofs.HostParts.{api_silent, dih_silent}
 use Rattle.run_laws.proofs.TxSignals.{cover, is_next, is_sign}
 use Rattle.run_laws.proofs.TcOwn.{AreSilent, beside_silent, others_silent}
-use Rattle.run_laws.proofs.TxTurns.{TcTurn, is_for, left_by, tc_turn, turn_for}
+use Rattle.tc_block.proofs.TurnRows.{turn_for}
+use Rattle.host_laws.proofs.TcSteps.{left_of_turn}
+use Rattle.run_laws.proofs.TxTurns.{TcTurn, is_for, tc_turn}
 use Rattle.run_laws.proofs.TxTurns as turn
 
 -- a signal for rows comes to a host that runs none, and one by which the transaction goes on finds none
@@ -51,7 +54,7 @@ pub data TxStep (tx : TxId) (s : Host) (x : Signal) (t : Step Host) : Type 0 whe
   begins : IsTcStep s x t → next_tx (tc_of s) ≡ tx → AreSilent tx t.effects.sends → TxStep tx s x t
   turns : (u : Transaction) → IsTcStep s x t → of_host tx s ≡ Some u → is_for tx x.body ≡ true
       → t.effects.sends ≡ (turn_for (tc_of s).node (tc_of s).layout tx x.body u).step.effects.sends
-      → of_host tx t.state ≡ left_by (turn_for (tc_of s).node (tc_of s).layout tx x.body u) → TxStep tx s x t
+      → of_host tx t.state ≡ left_of_turn (turn_for (tc_of s).node (tc_of s).layout tx x.body u) → TxStep tx s x t
 
 -- a host that doesn't run a block has nothing of it
 pub runs_rows : (s : Host) (b : BlockId) → is_lqh b ≡ true → runs s b ≡ has_lqh s

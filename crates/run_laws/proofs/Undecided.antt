@@ -21,13 +21,14 @@ use Rattle.run_laws.proofs.Causal.{sent_kinds}
 use Rattle.host_laws.proofs.OneWay.{forth_decided, not_apart}
 use Rattle.host_laws.proofs.TcNumbers.{IsLive, verified_by}
 use Rattle.host_laws.proofs.TcWays.{not_both}
-use Rattle.host_laws.proofs.TcOps.{may_ask}
-use Rattle.run_laws.specs.Live.{live_at, of_host, of_live}
+use Rattle.tc_block.proofs.EachTurn.{may_ask}
+use Rattle.run_laws.specs.Live.{live_at, of_host}
 use Rattle.run_laws.specs.Tokens.{budget_by}
 use Rattle.run_laws.specs.Transit.{logs_of}
 use Rattle.run_laws.specs.Undecided.{CarriedOutHaveNone, DecidedHaveNone}
 use Rattle.run_laws.proofs.GivenUp.{none_is_both}
-use Rattle.run_laws.proofs.OfLive.{each_found}
+use Rattle.host_laws.proofs.OfLive.{each_found}
+use Rattle.host_laws.specs.Live.{of_live}
 use Rattle.run_laws.proofs.OneAtATime.{one_at_a_time}
 use Rattle.run_laws.proofs.TcSound.{log_sound}
 use Rattle.run_laws.proofs.TcTokens.{IsOwned}

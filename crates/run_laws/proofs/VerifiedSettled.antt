@@ -22,7 +22,7 @@ use Rattle.host_laws.proofs.OneWay.{forth_decided}
 use Rattle.host_laws.proofs.BlocksAlong.{first_live}
 use Rattle.run_laws.specs.Circle.{Agree, IsSettledFor, VerifiedAreSettled, at_host, at_primary}
 use Rattle.run_laws.specs.GivenUp.{is_carried_out, is_given_up}
-use Rattle.run_laws.specs.Live.{live_at, of_host, of_live}
+use Rattle.run_laws.specs.Live.{live_at, of_host}
 use Rattle.run_laws.specs.Routes.{primary_host}
 use Rattle.run_laws.specs.Tokens.{is_token}
 use Rattle.run_laws.specs.Transit.{AreInTransit, Comes, IsRun, Takes, joined, logs_of}
@@ -33,7 +33,8 @@ use Rattle.run_laws.proofs.CircleView.{Settles}
 use Rattle.run_laws.proofs.FreshHosts.{none_pending}
 use Rattle.run_laws.proofs.KeyMoves.{replica_along}
 use Rattle.run_laws.proofs.KeyTokens.{token_of}
-use Rattle.run_laws.proofs.OfLive.{each_found}
+use Rattle.host_laws.proofs.OfLive.{each_found}
+use Rattle.host_laws.specs.Live.{of_live}
 use Rattle.run_laws.proofs.OnlyToken.{none_asked}
 use Rattle.run_laws.proofs.TcCircle.{is_early}
 use Rattle.run_laws.proofs.Transit.{along_transit}

@@ -7,11 +7,10 @@ use Rattle.sig_core.specs.declared.signal.Body.{Body}
 use Rattle.sig_core.specs.declared.signal.Body.TheVariants.{Client, Chain}
 use Rattle.sig_core.specs.declared.signal.chain.ChainSignal.TheVariants.{Commit, Complete, Abort}
 use Rattle.sig_core.specs.declared.signal.client.ClientSignal.TheVariants.{TcBeginReq, TcCommitConf, TcRollbackRep}
-use Rattle.lqh_block.specs.declared.request.Request.{Request}
 use Rattle.lqh_block.specs.Lqh.{lqh_table}
 use Rattle.lqh_block.specs.State.{LqhState}
 use Rattle.run_theory.specs.Lists.{Each}
-use Rattle.lqh_block.proofs.EachLqh.{RequestSends, lqh_sends_each}
+use Rattle.host_laws.proofs.LqhOther.{is_own_kind, lqh_passes}
 use Rattle.host_laws.specs.Ways.{Way, back, closes, forth, neither, way_of}
 use Rattle.host_laws.proofs.ApiMoves.{ApiMove, api_moves, begun_as, ends, goes, is_api_kind, opens, refuses, rests}
 use Rattle.host_laws.proofs.DihSends.{dih_kinds}
@@ -36,24 +35,16 @@ ArePassed taken sends = Each (λ (o : Outgoing). IsPassed taken (way_of o.body))
 
 pub lqh_passed : (s : LqhState) (body : Body) → ArePassed (way_of body) (lqh_table s body).effects.sends
 lqh_passed s body =
-    lqh_sends_each (λ (o : Outgoing). IsPassed (way_of body) (way_of o.body)) s body (record {
-      asked = λ r is. request r;
-      waited = λ at r is. request r;
-      grants_more = tt;
-      expires_more = tt;
-      commits_on = λ tx key epoch chain at is behind. ap way_of is;
-      committed = λ tx key. tt;
-      completes_on = λ tx key chain at is behind. ap way_of is;
-      completed = λ tx key. tt;
-      aborted = λ tx key. tt;
-      gives_up = λ tx key is. tt;
-      times_out = λ tx key. tt;
-      waits = λ tx ahead. tt;
-      dumps = λ rows next. tt;
-    })
+    lqh_passes (λ b. IsPassed (way_of body) (way_of b)) s body owns (λ tx key epoch chain at is. ap way_of is)
+    (λ tx key chain at is. ap way_of is)
   where
-    request : (r : Request) → RequestSends (λ (o : Outgoing). IsPassed (way_of body) (way_of o.body)) r
-    request r = record { log_full = λ used reserved need. tt; table_full = λ rows. tt; answers = λ a. tt; passes = λ image next is. tt }
+    owns : (b : Body) → is_own_kind b ≡ true → IsPassed (way_of body) (way_of b)
+    owns (Chain (Commit tx key epoch chain at)) is = absurd cc
+    owns (Chain (Complete tx key chain at)) is = absurd cc
+    owns (Chain (Abort tx key)) is = absurd cc
+    owns (Client (TcCommitConf tx epoch)) is = absurd cc
+    owns (Client (TcRollbackRep tx cause)) is = absurd cc
+    owns _ is = tt
 
 -- what the API sends
 pub api_each : (P : Outgoing → Type 0) → ((o : Outgoing) → is_api_kind o.body ≡ true → P o) → ((name : Option ℕ) (node : ℕ) → P (to_place (coordinator node) (Client (TcBeginReq name))))

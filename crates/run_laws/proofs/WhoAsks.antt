@@ -35,17 +35,18 @@ use Rattle.host_laws.proofs.BlocksAlong.{first_live}
 use Rattle.host_laws.specs.Counts.{one_if}
 use Rattle.run_laws.specs.Circle.{IsOfWaiting, WaitsWith, WhoAsksWaits}
 use Rattle.run_laws.specs.GivenUp.{is_given_up}
-use Rattle.run_laws.specs.Live.{live_at, of_host, of_live}
+use Rattle.run_laws.specs.Live.{live_at, of_host}
 use Rattle.run_laws.specs.Transit.{AreInTransit, Comes, IsRun, Takes, joined, logs_of}
 use Rattle.run_laws.proofs.HostAsks as asks
 use Rattle.run_laws.proofs.HostAsks.{HostAsks, Leaves, OpsOf, host_asks, none_ops, zero_ops}
 use Rattle.run_laws.proofs.HomeSteps.{IsHome, IsUnborn, all_home, away, here_now, here_was, own_home}
-use Rattle.run_laws.proofs.LiveAfter.{live_none, strange_none, unborn_none}
+use Rattle.host_laws.proofs.TcSteps.{live_none, left_of_turn}
+use Rattle.host_laws.specs.Live.{of_live}
+use Rattle.run_laws.proofs.LiveAfter.{strange_none, unborn_none}
 use Rattle.run_laws.proofs.TcAsks.{AreMute, AskTurn, IsAsking, ask, is_ask, is_conf, mute_none}
 use Rattle.run_laws.proofs.TcCircle.{Going, GoesOn, is_early, notes, operates, rests, verifies}
 use Rattle.run_laws.proofs.TcTokens.{now_given_up}
 use Rattle.run_laws.proofs.TcTurns.{gives_up}
-use Rattle.run_laws.proofs.TxTurns.{left_by}
 use Rattle.run_laws.proofs.Transit.{along_transit}
 use Rattle.run_laws.proofs.Ways.{given_more}
 use Rattle.run_laws.proofs.Weighing.{each_between, each_joins, in_sends, in_transit, joins_weigh, none_weighs, takes_weigh, weigh}
@@ -188,7 +189,7 @@ module _ (start : Start) (tx : TxId) where
         nothing = omega (arith, taken_weighs, now_weighs, none, held.unborn (subst (IsUnborn tx) (sym (here_was start es e come tx its_home)) low))
 
     -- a turn of it
-    module _ (runs : has_tc s ≡ true) (t : Transaction) (turn : Turn) (was : of_host tx s ≡ Some t) (live : of_host tx later ≡ left_by turn) (sent : sends ≡ turn.step.effects.sends)
+    module _ (runs : has_tc s ≡ true) (t : Transaction) (turn : Turn) (was : of_host tx s ≡ Some t) (live : of_host tx later ≡ left_of_turn turn) (sent : sends ≡ turn.step.effects.sends)
         (said : tc_sends s e.step.taken ≡ turn.step.effects.sends) (unborn_was : IsUnborn tx later → IsUnborn tx s)
         (ask_turn : AskTurn tx e.step.taken.body t turn) (goes : GoesOn tx e.step.taken.body t turn) where
       home_is : IsHome tx (tc_of s)
@@ -226,25 +227,25 @@ module _ (start : Start) (tx : TxId) where
         mute_weighs mute = ap (in_sends (ask tx)) sent ∙ mute_none tx turn.step.effects.sends mute
 
         -- one that waited goes on to wait, or nothing is left
-        waited : t.phase ≡ Verifying → AreMute turn.step.effects.sends → (left_by turn ≡ Some t) ⊎ (asking then_is ≡ 0)
+        waited : t.phase ≡ Verifying → AreMute turn.step.effects.sends → (left_of_turn turn ≡ Some t) ⊎ (asking then_is ≡ 0)
         waited v mute = by (ask_turn.late v (allowed.waits v).free)
           where
-            by : (left_by turn ≡ Some t)
+            by : (left_of_turn turn ≡ Some t)
                 ⊎ ((is_conf tx e.step.taken.body ≡ true) ⊎ (gives_up tx turn.step.effects.sends ≡ true))
-                → (left_by turn ≡ Some t) ⊎ (asking then_is ≡ 0)
+                → (left_of_turn turn ≡ Some t) ⊎ (asking then_is ≡ 0)
             by (inl stays) = inl stays
             by (inr (inl conf)) = inr (omega (arith, taken_weighs, now_weighs, mute_weighs mute, (allowed.waits v).few, ap one_if (conf_asks tx e.step.taken.body conf)))
             by (inr (inr goes_back)) = absurd (no_back goes_back)
 
         -- where it doesn't wait any more nothing is left
-        none_left : AreMute turn.step.effects.sends → ((u : Transaction) → left_by turn ≡ Some u → is_verifying u.phase ≡ false) → asking then_is ≡ 0
+        none_left : AreMute turn.step.effects.sends → ((u : Transaction) → left_of_turn turn ≡ Some u → is_verifying u.phase ≡ false) → asking then_is ≡ 0
         none_left mute ended = by (is_verifying t.phase) refl
           where
             by : (b : Bool) → is_verifying t.phase ≡ b → asking then_is ≡ 0
             by false rest = omega (arith, taken_weighs, now_weighs, mute_weighs mute, allowed.none rest)
             by true v = which (waited (verifying_is t.phase v) mute)
               where
-                which : (left_by turn ≡ Some t) ⊎ (asking then_is ≡ 0) → asking then_is ≡ 0
+                which : (left_of_turn turn ≡ Some t) ⊎ (asking then_is ≡ 0) → asking then_is ≡ 0
                 which (inl stays) = absurd (let both : true ≡ false = sym v ∙ ended t stays in cc)
                 which (inr none) = none
 
@@ -264,7 +265,7 @@ module _ (start : Start) (tx : TxId) where
             weighs : in_sends (ask tx) sends ≤ 1
             weighs = omega (arith, ap (in_sends (ask tx)) (sent ∙ a.is), ap one_if (same_tx-self tx))
 
-        mute_waits : AreMute turn.step.effects.sends → (u : Transaction) → left_by turn ≡ Some u → u.phase ≡ Verifying → IsWaiting u then_is
+        mute_waits : AreMute turn.step.effects.sends → (u : Transaction) → left_of_turn turn ≡ Some u → u.phase ≡ Verifying → IsWaiting u then_is
         mute_waits mute u left v = by (goes.goes u left (ap is_early v))
           where
             open_waits : u.phase ≡ Open → ⊥
@@ -288,7 +289,7 @@ module _ (start : Start) (tx : TxId) where
                   ops = ops_now u.ops (none_ops tx u.ops sends (mute_weighs mute)) (none_between u.ops (omega (arith, taken_weighs, nothing)));
                 }
 
-        mute_now : AreMute turn.step.effects.sends → (o : Option Transaction) → left_by turn ≡ o → Allowed o then_is
+        mute_now : AreMute turn.step.effects.sends → (o : Option Transaction) → left_of_turn turn ≡ o → Allowed o then_is
         mute_now mute None left = none_left mute (λ u is_u. absurd (let both : None ≡ Some u = sym left ∙ is_u in cc))
         mute_now mute (Some w) left = record {
           waits = λ v. mute_waits mute w left v;
@@ -298,11 +299,11 @@ module _ (start : Start) (tx : TxId) where
             the_same : (u : Transaction) → Some w ≡ Some u → w ≡ u
             the_same u same = cc
 
-        allowed_now : Allowed (left_by turn) then_is
+        allowed_now : Allowed (left_of_turn turn) then_is
         allowed_now = by ask_turn.sends
           where
-            by : AreMute turn.step.effects.sends ⊎ IsAsking tx t turn → Allowed (left_by turn) then_is
-            by (inl mute) = mute_now mute (left_by turn) refl
+            by : AreMute turn.step.effects.sends ⊎ IsAsking tx t turn → Allowed (left_of_turn turn) then_is
+            by (inl mute) = mute_now mute (left_of_turn turn) refl
             by (inr a) = subst (λ o. Allowed o then_is) (sym a.left) (asked_now a)
 
       turned_holds : Holds now then_is

@@ -15,7 +15,7 @@ pub use command::Command;
 pub use fault::LineFault;
 pub use line::{first_word, parse_line};
 pub use number::{numbers_are_decimal, read_digits};
-pub use reply::print_reply;
+pub use reply::{name_of, print_reply};
 pub use spelling::commands_are_their_words;
 
 #[cfg(test)]

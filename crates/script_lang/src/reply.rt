@@ -44,8 +44,9 @@ pub fn print_reply(alloc: Global, reply: &ApiReply, text: &mut Vec<u8>) -> Resul
     Ok(())
 }
 
-// The name of the transaction that a reply is about.
-fn name_of(reply: &ApiReply) -> Option<u16>
+/// The name of the transaction that a reply is about, if it has one: the line of a reply with a name
+/// begins with it.
+pub fn name_of(reply: &ApiReply) -> Option<u16>
     ensures { result ≡ name_of reply.now }
 {
     match reply {

@@ -1,5 +1,5 @@
 -- What a step of the rows of a node marks as applied: a record that is committed at the first place of its chain.
-use Rattle.std.proofs.Common.{◌≡◌, ◌==◌, ℕ, Bool, true, false, List, refl, sym, ap, ◌∙◌, subst}
+use Rattle.std.proofs.Common.{◌≡◌, ◌==◌, ℕ, Bool, true, false, List, [], refl, sym, ap, ◌∙◌, subst}
 use Rattle.std.specs.List.{list_any}
 use Rattle.std.specs.Prelude.{if◌then◌else◌, is_some, Option, None, Some}
 use Rattle.sig_core.specs.declared.mark.Mark.{Mark}
@@ -29,6 +29,7 @@ use Rattle.key_laws.specs.Replica.{Event, aborts, asks, cell_at, commits, comple
 use Rattle.sig_core.proofs.Keys.{same_key-self, same_tx-self}
 use Rattle.serial_laws.proofs.RowMarks.{alone_so, of_marked, state_found}
 use Rattle.lqh_block.proofs.EachLqh.{lqh_marks_each}
+use Rattle.lqh_block.proofs.LqhForms.{commit_forms}
 
 -- what is committed at the first place of its chain is marked as applied, if there is a record
 abbrev pub AppliesIf : Event → List PendingRecord → List Mark → Type 0
@@ -53,18 +54,24 @@ module _ (key : List ℕ) where
   had_applies tx own None is = absurd cc
   had_applies tx own (Some r) is = alone_so (same_tx tx tx) (same_tx-self tx)
 
-  told_applies : (s t : LqhState) (tx : TxId) (own : List ℕ) (epoch : ℕ) (chain : List Member) (at : ℕ) (b : Bool) → same_key own key ≡ true
-      → AppliesIf (commits tx b) (cell_at key s.rows).pending (commit.told_if t tx own epoch chain at (record_state s.rows tx own) b).effects.marks
-  told_applies s t tx own epoch chain at true e = λ is.
-      ap (λ o. list_any (is_applied tx) (commit.applied_marks tx own o)) (state_found s.rows tx own)
-      ∙ had_applies tx own (found tx (cell_at own s.rows).pending) (ap (λ k. is_some (found tx (cell_at k s.rows).pending)) (same own key e) ∙ is)
-  told_applies s t tx own epoch chain at false e = tt
-
   commit_applies : (s : LqhState) (tx : TxId) (own : List ℕ) (epoch : ℕ) (chain : List Member) (at : ℕ)
       → AppliesIf (if_on own key (commits tx (at == 0))) (cell_at key s.rows).pending (commit.commit_row s tx own epoch chain at).effects.marks
-  unfolding commit.commit_row
   commit_applies s tx own epoch chain at =
-      on_applies own (commits tx (at == 0)) (cell_at key s.rows).pending _ (told_applies s (commit.applied s tx own epoch (record_state s.rows tx own)) tx own epoch chain at (at == 0))
+      commit_forms (λ step. Said (at == 0) step.effects.marks) s tx own epoch chain at (record {
+        last = λ had st markers applies first. subst (λ b. Said b (commit.applied_marks tx own had)) (sym first)
+            (on_applies own (commits tx true) (cell_at key s.rows).pending _ (λ e. told had applies.had_is e));
+        passes = λ had st markers applies first. subst (λ b. Said b []) (sym first)
+            (on_applies own (commits tx false) (cell_at key s.rows).pending _ (λ e. tt));
+      })
+    where
+      Said : Bool → List Mark → Type 0
+      Said b marks = AppliesIf (if_on own key (commits tx b)) (cell_at key s.rows).pending marks
+
+      told : (had : Option Bool) → record_state s.rows tx own ≡ had → same_key own key ≡ true
+          → AppliesIf (commits tx true) (cell_at key s.rows).pending (commit.applied_marks tx own had)
+      told had had_is e = λ is.
+          ap (λ o. list_any (is_applied tx) (commit.applied_marks tx own o)) (sym had_is ∙ state_found s.rows tx own)
+          ∙ had_applies tx own (found tx (cell_at own s.rows).pending) (ap (λ k. is_some (found tx (cell_at k s.rows).pending)) (same own key e) ∙ is)
 
   serves_applies : (s : LqhState) (o : Option Request) (pending : List PendingRecord) (marks : List Mark) → AppliesIf (serves_if key s o) pending marks
   serves_applies s None pending marks = tt

@@ -3,7 +3,7 @@ pub mod LivedLemmas
 pub mod OpenLemmas
 pub mod PrintedLemmas
 pub mod ScriptLemmas
-pub mod ServeLemmas
+pub mod ServedLemmas
 pub mod SessionLemmas
 pub mod TakenLemmas
 pub mod ToldLemmas

@@ -18,7 +18,7 @@ use Rattle.sig_core.specs.declared.signal.host.Work.TheVariants.{Request}
 use Rattle.shell_top.specs.Arranged.{arranged, name_asked}
 use Rattle.shell_top.specs.Asked.{IsAskedNext, is_served, name_in, requests_of, rounds_behind}
 use Rattle.shell_top.specs.Text.{reply_lines}
-use Rattle.shell_top.specs.Told.{Telling, begins, begins_by, replies_in, telling, telling_by, text_of}
+use Rattle.shell_top.specs.Told.{Telling, heads, heads_by, replies_in, telling, telling_by, text_of}
 use Rattle.world_core.specs.Requests.{request_in, requests}
 use Rattle.world_core.specs.Start.{Start}
 
@@ -30,48 +30,48 @@ requests_newer (e ∷ newer) log =
     ∙ append_assoc (requests log) (requests newer) (option_to_list (request_in e.step.taken.body))
 
 -- none of these requests begins a command
-abbrev pub none_begins : List ApiReq → Bool
-none_begins [] = true
-none_begins (asked ∷ more) = if is_some (begins_by asked) then false else none_begins more
+abbrev pub none_heads : List ApiReq → Bool
+none_heads [] = true
+none_heads (asked ∷ more) = if is_some (heads_by asked) then false else none_heads more
 
-none_front : (xs ys : List ApiReq) → none_begins (xs ++ ys) ≡ true → none_begins xs ≡ true
+none_front : (xs ys : List ApiReq) → none_heads (xs ++ ys) ≡ true → none_heads xs ≡ true
 none_front [] ys e = refl
-none_front (x ∷ xs) ys e = go (is_some (begins_by x)) e (none_front xs ys)
+none_front (x ∷ xs) ys e = go (is_some (heads_by x)) e (none_front xs ys)
   where
-    go : (b : Bool) → (if b then false else none_begins (xs ++ ys)) ≡ true → (none_begins (xs ++ ys) ≡ true → none_begins xs ≡ true) → (if b then false else none_begins xs) ≡ true
+    go : (b : Bool) → (if b then false else none_heads (xs ++ ys)) ≡ true → (none_heads (xs ++ ys) ≡ true → none_heads xs ≡ true) → (if b then false else none_heads xs) ≡ true
     go true e later = cc
     go false e later = later e
 
-pub none_take : (n : ℕ) (xs : List ApiReq) → none_begins xs ≡ true → none_begins (take n xs) ≡ true
-none_take n xs e = none_front (take n xs) (drop n xs) (subst (λ all. none_begins all ≡ true) (sym (take-append-drop n xs)) e)
+pub none_take : (n : ℕ) (xs : List ApiReq) → none_heads xs ≡ true → none_heads (take n xs) ≡ true
+none_take n xs e = none_front (take n xs) (drop n xs) (subst (λ all. none_heads all ≡ true) (sym (take-append-drop n xs)) e)
 
-none_back : (xs ys : List ApiReq) → none_begins (xs ++ ys) ≡ true → none_begins ys ≡ true
+none_back : (xs ys : List ApiReq) → none_heads (xs ++ ys) ≡ true → none_heads ys ≡ true
 none_back [] ys e = e
-none_back (x ∷ xs) ys e = none_back xs ys (rest (is_some (begins_by x)) e)
+none_back (x ∷ xs) ys e = none_back xs ys (rest (is_some (heads_by x)) e)
   where
-    rest : (b : Bool) → (if b then false else none_begins (xs ++ ys)) ≡ true → none_begins (xs ++ ys) ≡ true
+    rest : (b : Bool) → (if b then false else none_heads (xs ++ ys)) ≡ true → none_heads (xs ++ ys) ≡ true
     rest true e = cc
     rest false e = e
 
-pub none_both : (xs ys : List ApiReq) → none_begins xs ≡ true → none_begins ys ≡ true → none_begins (xs ++ ys) ≡ true
+pub none_both : (xs ys : List ApiReq) → none_heads xs ≡ true → none_heads ys ≡ true → none_heads (xs ++ ys) ≡ true
 none_both [] ys p q = q
-none_both (x ∷ xs) ys p q = go (is_some (begins_by x)) p (λ r. none_both xs ys r q)
+none_both (x ∷ xs) ys p q = go (is_some (heads_by x)) p (λ r. none_both xs ys r q)
   where
-    go : (b : Bool) → (if b then false else none_begins xs) ≡ true → (none_begins xs ≡ true → none_begins (xs ++ ys) ≡ true) → (if b then false else none_begins (xs ++ ys)) ≡ true
+    go : (b : Bool) → (if b then false else none_heads xs) ≡ true → (none_heads xs ≡ true → none_heads (xs ++ ys) ≡ true) → (if b then false else none_heads (xs ++ ys)) ≡ true
     go true p later = cc
     go false p later = later p
 
 -- a step that begins no command goes on with the last one
-same_telling : (t : Telling) (replies : List ApiReply) (asked : Option ApiReq) → none_begins (option_to_list asked) ≡ true → telling_by t replies (begins asked) ≡ t
+same_telling : (t : Telling) (replies : List ApiReply) (asked : Option ApiReq) → none_heads (option_to_list asked) ≡ true → telling_by t replies (heads asked) ≡ t
 same_telling t replies None e = refl
-same_telling t replies (Some asked) e = go (begins_by asked) e
+same_telling t replies (Some asked) e = go (heads_by asked) e
   where
     go : (begun : Option ApiReq) → (if is_some begun then false else true) ≡ true → telling_by t replies begun ≡ t
     go None e = refl
     go (Some first) e = cc
 
 module _ (start : Start) where
-  telling_newer : (newer log : List HostStep) → none_begins (requests newer) ≡ true → telling start (newer ++ log) ≡ telling start log
+  telling_newer : (newer log : List HostStep) → none_heads (requests newer) ≡ true → telling start (newer ++ log) ≡ telling start log
   telling_newer [] log e = refl
   telling_newer (step ∷ newer) log e =
       same_telling (telling start (newer ++ log)) (replies_in start (newer ++ log)) (request_in step.step.taken.body)
@@ -80,10 +80,10 @@ module _ (start : Start) where
 
   -- the text of one more command: its first request is the step behind `before`, and no later one begins a command
   pub one_more : (first : ApiReq) (asking : HostStep) (newer before log : List HostStep) → log ≡ newer ++ asking ∷ before → request_in asking.step.taken.body ≡ Some first
-      → begins_by first ≡ Some first → none_begins (requests newer) ≡ true
+      → heads_by first ≡ Some first → none_heads (requests newer) ≡ true
       → text_of start log ≡ text_of start before ++ reply_lines (arranged (name_asked first) (drop (length (replies_in start before)) (replies_in start log)))
   one_more first asking newer before log is asks begins_it none =
-      let begun : begins (request_in asking.step.taken.body) ≡ Some first = ap begins asks ∙ begins_it in
+      let begun : heads (request_in asking.step.taken.body) ≡ Some first = ap heads asks ∙ begins_it in
       let at : telling start log ≡ telling_by (telling start before) (replies_in start before) (Some first) =
       ap (telling start) is ∙ telling_newer newer (asking ∷ before) none ∙ ap (telling_by (telling start before) (replies_in start before)) begun in
       ap (λ (t : Telling). t.done ++ reply_lines (arranged t.asked (drop t.before (replies_in start log)))) at
@@ -133,18 +133,18 @@ pub record HasFirst (c : Command) : Type 0 where
   pub first : ApiReq
   pub rest : List ApiReq
   pub are : requests_of c ≡ first ∷ rest
-  pub begins_it : begins_by first ≡ Some first
+  pub begins_it : heads_by first ≡ Some first
   pub name : name_asked first ≡ name_in c
-  pub none : none_begins rest ≡ true
+  pub none : none_heads rest ≡ true
 
-no_first : (rounds n : ℕ) → begins_by (request.Tick (n + 2) rounds) ≡ None
+no_first : (rounds n : ℕ) → heads_by (request.Tick (n + 2) rounds) ≡ None
 no_first rounds n = go (n + 2 == 1) (grind (arith, nat_tests))
   where
     go : (b : Bool) → b ≡ false → (if b then Some (request.Tick (n + 2) rounds) else None) ≡ None
     go true e = cc
     go false e = refl
 
-rounds_go_on : (rounds n : ℕ) → none_begins (rounds_behind rounds n) ≡ true
+rounds_go_on : (rounds n : ℕ) → none_heads (rounds_behind rounds n) ≡ true
 rounds_go_on rounds zero = refl
 rounds_go_on rounds (suc n) =
     none_both (rounds_behind rounds n) (request.Tick (n + 2) rounds ∷ []) (rounds_go_on rounds n)

@@ -11,16 +11,16 @@ use Rattle.world_core.specs.Machine.{after}
 use Rattle.world_core.specs.Requests.{request_in}
 use Rattle.world_core.specs.Start.{Start}
 
--- the request that begins a command; further rounds and questions go on with the one before
-abbrev pub begins_by : ApiReq → Option ApiReq
-begins_by request.Waits = None
-begins_by request.Pending = None
-begins_by (request.Tick round rounds) = if round == 1 then Some (request.Tick round rounds) else None
-begins_by asked = Some asked
+-- the request that heads a command; further rounds and questions go on with the one before
+abbrev pub heads_by : ApiReq → Option ApiReq
+heads_by request.Waits = None
+heads_by request.Pending = None
+heads_by (request.Tick round rounds) = if round == 1 then Some (request.Tick round rounds) else None
+heads_by asked = Some asked
 
-abbrev pub begins : Option ApiReq → Option ApiReq
-begins None = None
-begins (Some asked) = begins_by asked
+abbrev pub heads : Option ApiReq → Option ApiReq
+heads None = None
+heads (Some asked) = heads_by asked
 
 -- the replies in a log of host 0
 abbrev pub replies_in : Start → List HostStep → List ApiReply
@@ -44,7 +44,7 @@ telling_by t replies (Some asked) = record { done = told t replies; asked = name
 
 abbrev pub telling : Start → List HostStep → Telling
 telling start [] = record { done = []; asked = None; before = 0 }
-telling start (e ∷ log) = telling_by (telling start log) (replies_in start log) (begins (request_in e.step.taken.body))
+telling start (e ∷ log) = telling_by (telling start log) (replies_in start log) (heads (request_in e.step.taken.body))
 
 -- the text of a log: command after command, the lines of the replies to it
 abbrev pub text_of : Start → List HostStep → List ℕ

@@ -1,8 +1,8 @@
 //! The order in which the replies to a command are printed.
 ghost use Rattle.std.specs.Prelude.{◌≡◌, [], IfOk, OnOk, filter, position};
-ghost use Rattle.script_lang.specs.ReplyText.{name_of};
 ghost use Rattle.shell_top.specs.Arranged.{arranged, by_name, insert, is_before, is_others, is_own, number_of};
 
+use script_lang::name_of;
 use sig_core::{ApiReply, NoMemory};
 use std::alloc::Global;
 
@@ -109,19 +109,5 @@ fn is_own(asked: Option<u16>, reply: &ApiReply) -> bool
         (_, None) => true,
         (Some(asked), Some(name)) => asked == name,
         (None, Some(_)) => false,
-    }
-}
-
-// The name of the transaction that a reply is about, if it has one.
-fn name_of(reply: &ApiReply) -> Option<u16>
-    ensures { result ≡ name_of reply.now }
-{
-    match reply {
-        ApiReply::Begun { name, node: _ } => Some(*name),
-        ApiReply::Answered { name, answer: _ }
-        | ApiReply::Ended { name, outcome: _ }
-        | ApiReply::Pending { name, on: _ }
-        | ApiReply::Refused { name, refusal: _ } => *name,
-        _ => None,
     }
 }

@@ -2,11 +2,12 @@
 #![tactic(auto)]
 
 mod arranged;
+mod asked;
 mod ended;
 mod reader;
 mod run;
 mod script;
-mod serve;
+mod served;
 mod session;
 mod taken;
 mod text;

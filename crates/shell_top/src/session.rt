@@ -14,7 +14,7 @@ ghost use Rattle.world_core.specs.WorldOf.{whole_of};
 use crate::ended::Ending;
 use crate::reader::{Filled, LINE_BYTES, Reader};
 use crate::script::{Parsed, parse};
-use crate::serve::serve_command;
+use crate::served::serve_command;
 use host_io::{Sink, Source};
 use sig_core::{Life, NoMemory, Shape};
 use std::alloc::Global;

@@ -3,3 +3,4 @@ pub mod EachTurn
 pub mod LiveKeeps
 pub mod LiveLemmas
 pub mod LiveSplit
+pub mod TurnRows

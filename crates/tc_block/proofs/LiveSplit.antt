@@ -32,12 +32,16 @@ behind : (rest : Option ℕ) (at : ℕ) → place_by false rest ≡ Some at → 
 behind None at is = absurd cc
 behind (Some m) at is = record { place = m; next = cc; found = refl }
 
-pub split_at : (tx : TxId) (live : Live) (at : ℕ) (t : Transaction) → position (same_tx tx) (keys_of live) ≡ Some at → slice_get (values_of live) at ≡ Some t → Split tx t live at
+pub split_at : (tx : TxId) (live : Live) (at : ℕ) (t : Transaction) → position (same_tx tx) (keys_of live) ≡ Some at
+    → slice_get (values_of live) at ≡ Some t → Split tx t live at
 split_at tx [] at t is there = absurd cc
-split_at tx (e ∷ es) at t is there = by (same_tx tx e.0) refl (sym (position-cons (same_tx tx) e.0 (keys_of es)) ∙ is) (λ m found. split_at tx es m t found)
+split_at tx (e ∷ es) at t is there =
+    by (same_tx tx e.0) refl (sym (position-cons (same_tx tx) e.0 (keys_of es)) ∙ is)
+    (λ m found. split_at tx es m t found)
   where
     here : 0 ≡ at → tx ≡ e.0 → Split tx t (e ∷ es) at
-    here zero_is own = subst (Split tx t (e ∷ es)) zero_is (at_zero (ap (slice_get (values_of (e ∷ es))) zero_is ∙ there))
+    here zero_is own = subst (Split tx t (e ∷ es)) zero_is
+        (at_zero (ap (slice_get (values_of (e ∷ es))) zero_is ∙ there))
       where
         at_zero : Some e.1 ≡ Some t → Split tx t (e ∷ es) 0
         at_zero both =
@@ -61,55 +65,106 @@ split_at tx (e ∷ es) at t is there = by (same_tx tx e.0) refl (sym (position-c
         })
 
     by : (b : Bool) → same_tx tx e.0 ≡ b → place_by b (position (same_tx tx) (keys_of es)) ≡ Some at
-        → ((m : ℕ) → position (same_tx tx) (keys_of es) ≡ Some m → slice_get (values_of es) m ≡ Some t → Split tx t es m) → Split tx t (e ∷ es) at
+        → ((m : ℕ) → position (same_tx tx) (keys_of es) ≡ Some m → slice_get (values_of es) m ≡ Some t
+            → Split tx t es m) → Split tx t (e ∷ es) at
     by true own is more = let zero_is : 0 ≡ at = cc in here zero_is (same_tx-is tx e.0 own)
     by false off is more =
         let last = behind (position (same_tx tx) (keys_of es)) at is in
-        further last.place last.next (more last.place last.found (ap (slice_get (values_of (e ∷ es))) last.next ∙ there))
+        further last.place last.next
+            (more last.place last.found (ap (slice_get (values_of (e ∷ es))) last.next ∙ there))
+
+-- where there is a place there is a transaction
+pub no_value : (tx : TxId) (live : Live) (at : ℕ) → position (same_tx tx) (keys_of live) ≡ Some at
+    → slice_get (values_of live) at ≡ None → ⊥
+no_value tx [] at is none = cc
+no_value tx (e ∷ es) at is none =
+    by (same_tx tx e.0) (sym (position-cons (same_tx tx) e.0 (keys_of es)) ∙ is) (no_value tx es)
+  where
+    by : (b : Bool) → place_by b (position (same_tx tx) (keys_of es)) ≡ Some at
+        → ((m : ℕ) → position (same_tx tx) (keys_of es) ≡ Some m → slice_get (values_of es) m ≡ None → ⊥) → ⊥
+    by true is more =
+        let zero_is : 0 ≡ at = cc in
+        let gone : Some e.1 ≡ None = ap (slice_get (values_of (e ∷ es))) zero_is ∙ none in cc
+    by false is more =
+        let last = behind (position (same_tx tx) (keys_of es)) at is in
+        more last.place last.found (ap (slice_get (values_of (e ∷ es))) last.next ∙ none)
+
+-- these transactions are all others
+abbrev pub AreOthers : TxId → Live → Type 0
+AreOthers tx live = Each (λ (x : TxId × Transaction). same_tx x.0 tx ≡ false) live
+
+-- so they are where the transaction has no place
+pub no_place : (tx : TxId) (live : Live) → position (same_tx tx) (keys_of live) ≡ None → AreOthers tx live
+no_place tx [] is = tt
+no_place tx (e ∷ es) is =
+    by (same_tx tx e.0) refl (sym (position-cons (same_tx tx) e.0 (keys_of es)) ∙ is) (no_place tx es)
+  where
+    by : (b : Bool) → same_tx tx e.0 ≡ b → place_by b (position (same_tx tx) (keys_of es)) ≡ None
+        → (position (same_tx tx) (keys_of es) ≡ None → AreOthers tx es) → AreOthers tx (e ∷ es)
+    by true own is more = absurd (let first : ◌≡◌ {A = Option ℕ} (Some 0) None = is in cc)
+    by false own is more = (same_tx-swap e.0 tx ∙ own, more (none (position (same_tx tx) (keys_of es)) is))
+      where
+        none : (o : Option ℕ) → place_by false o ≡ None → o ≡ None
+        none None q = refl
+        none (Some m) q = absurd cc
 
 -- no transaction stands twice
 abbrev pub KeysOnce : Live → Type 0
 KeysOnce [] = Unit {0}
 KeysOnce (e ∷ es) = Each (λ (x : TxId × Transaction). same_tx x.0 e.0 ≡ false) es × KeysOnce es
 
-pub once_set : (front back : Live) (tx : TxId) (t w : Transaction) → KeysOnce (front ++ (tx, t) ∷ back) → KeysOnce (front ++ (tx, w) ∷ back)
+pub once_set : (front back : Live) (tx : TxId) (t w : Transaction) → KeysOnce (front ++ (tx, t) ∷ back)
+    → KeysOnce (front ++ (tx, w) ∷ back)
 once_set [] back tx t w once = once
 once_set (e ∷ front) back tx t w once =
     let P : TxId × Transaction → Type 0 = λ x. same_tx x.0 e.0 ≡ false in
     let all = each_after P front ((tx, t) ∷ back) once.0 in
-    (each_append P front ((tx, w) ∷ back) (each_before P front ((tx, t) ∷ back) once.0) (all.0, all.1), once_set front back tx t w once.1)
+    (each_append P front ((tx, w) ∷ back) (each_before P front ((tx, t) ∷ back) once.0) (all.0, all.1),
+        once_set front back tx t w once.1)
 
-pub once_gone : (front back : Live) (tx : TxId) (t : Transaction) → KeysOnce (front ++ (tx, t) ∷ back) → KeysOnce (front ++ back)
+pub once_gone : (front back : Live) (tx : TxId) (t : Transaction) → KeysOnce (front ++ (tx, t) ∷ back)
+    → KeysOnce (front ++ back)
 once_gone [] back tx t once = once.1
 once_gone (e ∷ front) back tx t once =
     let P : TxId × Transaction → Type 0 = λ x. same_tx x.0 e.0 ≡ false in
-    (each_append P front back (each_before P front ((tx, t) ∷ back) once.0) (each_after P front ((tx, t) ∷ back) once.0).1, once_gone front back tx t once.1)
+    (each_append P front back (each_before P front ((tx, t) ∷ back) once.0)
+        (each_after P front ((tx, t) ∷ back) once.0).1, once_gone front back tx t once.1)
 
 -- the others are others
-pub once_front : (front back : Live) (tx : TxId) (t : Transaction) → KeysOnce (front ++ (tx, t) ∷ back) → Each (λ (x : TxId × Transaction). same_tx x.0 tx ≡ false) front
+pub once_front : (front back : Live) (tx : TxId) (t : Transaction) → KeysOnce (front ++ (tx, t) ∷ back)
+    → Each (λ (x : TxId × Transaction). same_tx x.0 tx ≡ false) front
 once_front [] back tx t once = tt
 once_front (e ∷ front) back tx t once =
-    (same_tx-swap e.0 tx ∙ (each_after (λ (x : TxId × Transaction). same_tx x.0 e.0 ≡ false) front ((tx, t) ∷ back) once.0).0, once_front front back tx t once.1)
+    (same_tx-swap e.0 tx
+        ∙ (each_after (λ (x : TxId × Transaction). same_tx x.0 e.0 ≡ false) front ((tx, t) ∷ back) once.0).0,
+        once_front front back tx t once.1)
 
-pub once_back : (front back : Live) (tx : TxId) (t : Transaction) → KeysOnce (front ++ (tx, t) ∷ back) → Each (λ (x : TxId × Transaction). same_tx x.0 tx ≡ false) back
+pub once_back : (front back : Live) (tx : TxId) (t : Transaction) → KeysOnce (front ++ (tx, t) ∷ back)
+    → Each (λ (x : TxId × Transaction). same_tx x.0 tx ≡ false) back
 once_back [] back tx t once = once.0
 once_back (e ∷ front) back tx t once = once_back front back tx t once.1
 
 -- a new transaction stands last
-pub each_inserted : (P : TxId × Transaction → Type 0) (live : Live) (tx : TxId) (t : Transaction) → Each (λ (x : TxId × Transaction). same_tx x.0 tx ≡ false) live → P (tx, t) → Each P live
+pub each_inserted : (P : TxId × Transaction → Type 0) (live : Live) (tx : TxId) (t : Transaction)
+    → Each (λ (x : TxId × Transaction). same_tx x.0 tx ≡ false) live → P (tx, t) → Each P live
     → Each P (insert_entry same_tx live tx t)
 each_inserted P [] tx t apart own all = (own, tt)
 each_inserted P (e ∷ es) tx t apart own all = by (same_tx tx e.0) refl (each_inserted P es tx t apart.1 own all.1)
   where
-    by : (b : Bool) → same_tx tx e.0 ≡ b → Each P (insert_entry same_tx es tx t) → Each P (if b then (e.0, t) ∷ es else e ∷ insert_entry same_tx es tx t)
+    by : (b : Bool) → same_tx tx e.0 ≡ b → Each P (insert_entry same_tx es tx t)
+        → Each P (if b then (e.0, t) ∷ es else e ∷ insert_entry same_tx es tx t)
     by true e_is more = absurd (let both : true ≡ false = sym e_is ∙ (same_tx-swap tx e.0 ∙ apart.0) in cc)
     by false e_is more = (all.0, more)
 
-pub once_inserted : (live : Live) (tx : TxId) (t : Transaction) → Each (λ (x : TxId × Transaction). same_tx x.0 tx ≡ false) live → KeysOnce live → KeysOnce (insert_entry same_tx live tx t)
+pub once_inserted : (live : Live) (tx : TxId) (t : Transaction)
+    → Each (λ (x : TxId × Transaction). same_tx x.0 tx ≡ false) live → KeysOnce live
+    → KeysOnce (insert_entry same_tx live tx t)
 once_inserted [] tx t apart once = (tt, tt)
 once_inserted (e ∷ es) tx t apart once = by (same_tx tx e.0) refl (once_inserted es tx t apart.1 once.1)
   where
-    by : (b : Bool) → same_tx tx e.0 ≡ b → KeysOnce (insert_entry same_tx es tx t) → KeysOnce (if b then (e.0, t) ∷ es else e ∷ insert_entry same_tx es tx t)
+    by : (b : Bool) → same_tx tx e.0 ≡ b → KeysOnce (insert_entry same_tx es tx t)
+        → KeysOnce (if b then (e.0, t) ∷ es else e ∷ insert_entry same_tx es tx t)
     by true e_is more = absurd (let both : true ≡ false = sym e_is ∙ (same_tx-swap tx e.0 ∙ apart.0) in cc)
     by false e_is more =
-        (each_inserted (λ (x : TxId × Transaction). same_tx x.0 e.0 ≡ false) es tx t apart.1 (same_tx-swap tx e.0 ∙ apart.0) once.0, more)
+        (each_inserted (λ (x : TxId × Transaction). same_tx x.0 e.0 ≡ false) es tx t apart.1
+            (same_tx-swap tx e.0 ∙ apart.0) once.0, more)

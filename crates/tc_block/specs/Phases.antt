@@ -14,6 +14,11 @@ is_decided (Committing epoch awaited) = true
 is_decided (Completing epoch awaited) = true
 is_decided phase = false
 
+-- its keys are being committed
+abbrev pub is_committing : Phase → Bool
+is_committing (Committing epoch awaited) = true
+is_committing phase = false
+
 -- all its rows are committed
 abbrev pub is_completing : Phase → Bool
 is_completing (Completing epoch awaited) = true

@@ -1,6 +1,5 @@
 -- What a transaction does at a signal.
-use Rattle.std.specs.Prelude.{Bool, true, false, List, [], Option}
-use Rattle.sig_core.specs.declared.outs.Outgoing.{Outgoing}
+use Rattle.std.specs.Prelude.{Bool, true, false, Option}
 use Rattle.sig_core.specs.Step.{Effects, Step}
 use Rattle.tc_block.specs.declared.phase.Asked.{Asked}
 use Rattle.tc_block.specs.declared.phase.Phase.{Phase}

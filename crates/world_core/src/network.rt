@@ -56,6 +56,8 @@ impl Network {
     ///
     /// # Errors
     /// `NoMemory`, and then the network is of no use.
+    // Where it is inlined the compiler takes the signal apart, and moves it piece by piece.
+    #[inline(never)]
     pub fn put(
         &mut self,
         alloc: Global,

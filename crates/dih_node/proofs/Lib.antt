@@ -1,0 +1,2 @@
+mod EpochLemmas
+mod NoneLemmas

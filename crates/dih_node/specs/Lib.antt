@@ -1,0 +1,5 @@
+pub mod Dih
+pub mod Laws
+pub mod Orders
+pub mod State
+pub mod Verify

@@ -1,0 +1,14 @@
+//! The epochs of a node, under views: each decided transaction is given one.
+#![tactic(auto)]
+
+mod dih;
+mod fences;
+mod laws;
+mod orders;
+mod verify;
+
+pub use dih::{Counted, Dih, Report, TRANSACTIONS};
+pub use laws::{epochs_never_fall, none_is_given_while_prepared};
+
+#[cfg(test)]
+mod tests;

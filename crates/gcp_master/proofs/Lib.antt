@@ -1,0 +1,3 @@
+mod ConfirmLemmas
+mod TwiceLemmas
+mod VoiceLemmas

@@ -1,0 +1,12 @@
+pub mod Begin
+pub mod Closing
+pub mod Known
+pub mod Laws
+pub mod Master
+pub mod Numbers
+pub mod Orders
+pub mod Requests
+pub mod Resume
+pub mod Sends
+pub mod State
+pub mod Voices

@@ -1,0 +1,12 @@
+//! What is true of confirmations, in any state of a master.
+ghost use Rattle.gcp_master.specs.Laws.{OutsidersConfirmNothing, TwiceConfirmedCountsOnce};
+
+/// A confirmation of who isn't in the view changes nothing, sends nothing and marks nothing.
+pub fn outsiders_confirm_nothing()
+    ensures { OutsidersConfirmNothing }
+{}
+
+/// A confirmation that comes once more at once changes nothing, sends nothing and marks nothing.
+pub fn twice_confirmed_counts_once()
+    ensures { TwiceConfirmedCountsOnce }
+{}

@@ -1,0 +1,26 @@
+//! The master of a cluster's epochs: it closes them, and makes them durable.
+#![tactic(auto)]
+
+mod begin;
+mod closing;
+mod known;
+mod laws;
+mod master;
+mod numbers;
+mod orders;
+mod phase;
+mod requests;
+mod resume;
+mod sends;
+mod voices;
+
+pub use known::{Known, Told};
+pub use laws::{outsiders_confirm_nothing, twice_confirmed_counts_once};
+pub use master::GcpMaster;
+pub use numbers::{MICROS, next_global, next_micro};
+pub use orders::{Ended, Order};
+pub use phase::{Asked, Phase, Run};
+pub use voices::{VOICES, Voice, Voices};
+
+#[cfg(test)]
+mod tests;

@@ -1,0 +1,4 @@
+mod conversation;
+mod heard;
+mod resuming;
+mod text;

@@ -1,0 +1,473 @@
+-- A world that has served some commands serves one more.
+use Rattle.std.proofs.Common.{◌≡◌, ◌⊎◌, inl, inr, ℕ, zero, suc, ◌+◌, ◌-◌, ◌≤◌, ◌<◌, arith, List, [], ◌∷◌, ◌++◌, length, take, drop, Bool, true, false, refl, ap, sym, subst, ◌∙◌, append_assoc}
+use Rattle.std.specs.Global.{Vec}
+use Rattle.std.specs.Prelude.{Option, None, Some, IfOk, OnErr, OnOk, Result, Ok, Err, is_some, option_to_list}
+use Rattle.std.specs.Io.KnownBytes.{Appends}
+use Rattle.std.proofs.lemmas.List.{append-nil, append_cancel_left, drop_at, reverse-append}
+use Rattle.std.proofs.Math.Seq.{take-append-add}
+use Rattle.node_core.specs.Replies as host
+use Rattle.run_theory.proofs.Pasts.{past_self, past_trans}
+use Rattle.run_theory.specs.Lists.{IsPast}
+use Rattle.script_lang.specs.declared.command.Command.{Command}
+use Rattle.sig_core.specs.declared.log.HostLog.{HostLog}
+use Rattle.world_core.specs.Steps.{HostStep}
+use Rattle.sig_core.specs.declared.no_memory.NoMemory.{NoMemory}
+use Rattle.sig_core.specs.declared.reply.ApiReply.{ApiReply}
+use Rattle.sig_core.specs.declared.request.ApiReq.{ApiReq}
+use Rattle.sig_core.specs.declared.request.ApiReq.TheVariants.{Tick}
+use Rattle.shell_top.specs.Arranged.{arranged}
+use Rattle.shell_top.specs.Asked.{AreAsked, AsksInPart, AsksOn, IsAskedNext, is_served, name_in, questions, requests_of}
+use Rattle.shell_top.specs.Asked.{rounds_behind}
+use Rattle.shell_top.specs.declared.ended.Ending.TheVariants as ending
+use Rattle.shell_top.specs.Printed.{AppendsPart}
+use Rattle.shell_top.specs.Served.{AreLeft, AreLeftOff, AsksFirst, HasGoneOn, HasServed, IsServed, PrintsCommand, ServesCommand}
+use Rattle.shell_top.specs.Text.{reply_lines}
+use Rattle.shell_top.specs.Told.{replies_in, text_of}
+use Rattle.shell_top.proofs.ToldLemmas.{HasFirst, asked_in, asks_for, has_first, none_heads, none_both, none_take, one_more, requests_newer}
+use Rattle.world_core.specs.Driven.{HasAsked, HaveGrown, IsDriven, IsSound, IsWorld}
+use Rattle.world_core.specs.Labels.{AreLabelled}
+use Rattle.world_core.specs.Machine.{after}
+use Rattle.world_core.specs.Requests.{request_in, requests}
+use Rattle.world_core.specs.Right.{IsRight}
+use Rattle.world_core.specs.Start.{Start}
+use Rattle.world_core.specs.World.{IsIdle, Whole, is_left_open, logs_at, replies_of, with_replies}
+use Rattle.world_core.proofs.Replies.{open_is, replies_are, replies_gone, told_right}
+use Rattle.world_core.proofs.StepDriven.{right_logs, within}
+use Rattle.world_core.proofs.WorldLemmas.{sound_labels}
+
+-- the next step still is when the log has grown
+next_longer : (before log all : List HostStep) → IsAskedNext before log → IsPast log all → IsAskedNext before all
+next_longer before log all next past =
+    record {
+      newer = past.newer ++ next.newer;
+      asking = next.asking;
+      is = past.is ∙ ap (λ l. past.newer ++ l) next.is ∙ sym (append_assoc past.newer next.newer (next.asking ∷ before));
+      asks = next.asks;
+    }
+
+first_longer : (asked more : List ApiReq) (a b c : List HostStep) → AsksFirst asked a b → AsksFirst more b c → IsPast b c → AsksFirst (asked ++ more) a c
+first_longer [] more a b c one two past = subst (λ l. AsksFirst more l c) one two
+first_longer (r ∷ asked) more a b c one two past = next_longer a b c one past
+
+-- a first part of a list is one of a longer list
+pub record IsPartOf (n : ℕ) (xs all : List ApiReq) : Type 0 where
+  pub count : ℕ
+  pub is : take count all ≡ take n xs
+
+part_longer : (n : ℕ) (xs ys : List ApiReq) → IsPartOf n xs (xs ++ ys)
+part_longer zero xs ys = record { count = 0; is = refl }
+part_longer (suc n) [] ys = record { count = 0; is = refl }
+part_longer (suc n) (x ∷ xs) ys =
+    let rest = part_longer n xs ys in
+    record { count = suc rest.count; is = ap (λ zs. x ∷ zs) rest.is }
+
+module _ (start : Start) where
+  pub served_sound : (asked : List ApiReq) (w t : Whole) → HasServed start asked w t → IsSound start w → IsSound start t
+  served_sound asked w t served sound = record { given = sound.given; right = served.right sound.given sound.right }
+
+  -- nothing is asked for
+  pub none_served : (w : Whole) → HasServed start [] w w
+  none_served w =
+      record {
+        right = λ given was. was;
+        more = λ h. past_self (logs_at w.logs h);
+        requests = sym (append-nil (requests (logs_at w.logs 0)));
+        next = refl;
+        at_quiet = λ quiet was. was;
+        quiet = λ quiet. quiet;
+      }
+
+  -- one thing is
+  pub one_served : (request : ApiReq) (w u t : Whole) → HasAsked start request w u → IsDriven start u t → IsIdle t → HasServed start (request ∷ []) w t
+  one_served request w u t asked drove quiet =
+      record {
+        right = λ given was. drove.right given (asked.right given was);
+        more = λ h. past_trans (asked.more h) (drove.grown.more h);
+        requests = drove.grown.requests ∙ asked.requests;
+        next = next_longer (logs_at w.logs 0) (logs_at u.logs 0) (logs_at t.logs 0)
+            (record { newer = []; asking = asked.asking; is = asked.next; asks = asked.asks }) (drove.grown.more 0);
+        at_quiet = λ still was. drove.grown.asked (asked.asked still was);
+        quiet = λ still. quiet;
+      }
+
+  -- one list of things, and then another
+  pub both_served : (asked more : List ApiReq) (w u t : Whole) → HasServed start asked w u → HasServed start more u t → HasServed start (asked ++ more) w t
+  both_served asked more w u t one two =
+      record {
+        right = λ given was. two.right given (one.right given was);
+        more = λ h. past_trans (one.more h) (two.more h);
+        requests = two.requests ∙ ap (λ rs. rs ++ more) one.requests ∙ append_assoc (requests (logs_at w.logs 0)) asked more;
+        next = first_longer asked more (logs_at w.logs 0) (logs_at u.logs 0) (logs_at t.logs 0) one.next two.next (two.more 0);
+        at_quiet = λ still was. two.at_quiet (one.quiet still) (one.at_quiet still was);
+        quiet = λ still. two.quiet (one.quiet still);
+      }
+
+  -- memory was wanting before anything was asked for
+  pub left_unasked : (asked : List ApiReq) (w : Whole) (logs : List HostLog) → IsSound start w → logs ≡ w.logs
+      → AreLeftOff start asked w logs
+  left_unasked asked w logs sound same =
+      subst (AreLeftOff start asked w) (sym same)
+      (record {
+        labelled = sound_labels start w sound;
+        right = right_logs start sound.given w sound.right;
+        within = within start sound.given w sound.right;
+        more = λ h. past_self (logs_at w.logs h);
+        part = 0;
+        requests = sym (append-nil (requests (logs_at w.logs 0)));
+        at_quiet = λ quiet was. was;
+        begun = inl refl;
+      })
+
+  -- or when one thing was
+  pub left_undriven : (request : ApiReq) (w u : Whole) (logs : List HostLog) → HasAsked start request w u
+      → HaveGrown start (logs_at u.logs) (logs_at logs) → AreLabelled start logs
+      → AreLeftOff start (request ∷ []) w logs
+  left_undriven request w u logs asked grown labelled =
+      record {
+        labelled = labelled;
+        right = grown.right;
+        within = grown.within;
+        more = λ h. past_trans (asked.more h) (grown.more h);
+        part = 1;
+        requests = grown.requests ∙ asked.requests;
+        at_quiet = λ still was. grown.asked (asked.asked still was);
+        begun = inr (next_longer (logs_at w.logs 0) (logs_at u.logs 0) (logs_at logs 0)
+            (record { newer = []; asking = asked.asking; is = asked.next; asks = asked.asks }) (grown.more 0));
+      }
+
+  -- or behind what was served
+  begun_later : (asked more : List ApiReq) (w u : Whole) (logs : List HostLog) → HasServed start asked w u
+      → AreLeftOff start more u logs
+      → (logs_at logs 0 ≡ logs_at w.logs 0) ⊎ IsAskedNext (logs_at w.logs 0) (logs_at logs 0)
+  begun_later asked more w u logs served left = go asked served.next left.begun
+    where
+      go : (rs : List ApiReq) → AsksFirst rs (logs_at w.logs 0) (logs_at u.logs 0)
+          → (logs_at logs 0 ≡ logs_at u.logs 0) ⊎ IsAskedNext (logs_at u.logs 0) (logs_at logs 0)
+          → (logs_at logs 0 ≡ logs_at w.logs 0) ⊎ IsAskedNext (logs_at w.logs 0) (logs_at logs 0)
+      go (r ∷ rs) next begun =
+          inr (next_longer (logs_at w.logs 0) (logs_at u.logs 0) (logs_at logs 0) next (left.more 0))
+      go [] same (inl none) = inl (none ∙ same)
+      go [] same (inr next) = inr (subst (λ l. IsAskedNext l (logs_at logs 0)) same next)
+
+  pub left_later : (asked more : List ApiReq) (w u : Whole) (logs : List HostLog) → HasServed start asked w u
+      → AreLeftOff start more u logs → AreLeftOff start (asked ++ more) w logs
+  left_later asked more w u logs served left =
+      record {
+        labelled = left.labelled;
+        right = left.right;
+        within = left.within;
+        more = λ h. past_trans (served.more h) (left.more h);
+        part = length asked + left.part;
+        requests = left.requests ∙ ap (λ rs. rs ++ take left.part more) served.requests ∙ append_assoc (requests (logs_at w.logs 0)) asked (take left.part more)
+            ∙ ap (λ rs. requests (logs_at w.logs 0) ++ rs) (sym (take-append-add asked more left.part));
+        at_quiet = λ still was. left.at_quiet (served.quiet still) (served.at_quiet still was);
+        begun = begun_later asked more w u logs served left;
+      }
+
+  -- what was left off of some things was left off of more
+  pub left_of_more : (asked more : List ApiReq) (w : Whole) (logs : List HostLog) → AreLeftOff start asked w logs
+      → AreLeftOff start (asked ++ more) w logs
+  left_of_more asked more w logs left =
+      let part = part_longer left.part asked more in
+      record {
+        labelled = left.labelled;
+        right = left.right;
+        within = left.within;
+        more = left.more;
+        part = part.count;
+        requests = left.requests ∙ ap (λ rs. requests (logs_at w.logs 0) ++ rs) (sym part.is);
+        at_quiet = left.at_quiet;
+        begun = left.begun;
+      }
+
+  -- all was served, and then memory was wanting
+  pub left_served : (asked : List ApiReq) (w t : Whole) (logs : List HostLog) → HasServed start asked w t
+      → IsSound start w → logs ≡ t.logs → AreLeftOff start asked w logs
+  left_served asked w t logs served sound same =
+      subst (λ rs. AreLeftOff start rs w logs) (append-nil asked)
+      (left_later asked [] w t logs served (left_unasked [] t logs (served_sound asked w t served sound) same))
+
+  -- no request, though the next step is one
+  none_asked : (before log : List HostStep) → IsAskedNext before log → requests log ≡ requests before ++ [] → ⊥
+  none_asked before log next are = go (request_in next.asking.step.taken.body) refl (asked_in next.asking.step.taken.body next.asks)
+    where
+      go : (o : Option ApiReq) → request_in next.asking.step.taken.body ≡ o → is_some o ≡ true → ⊥
+      go None e some = cc
+      go (Some asked) e some =
+          let both : requests before ++ (asked ∷ requests next.newer) ≡ requests before ++ [] =
+          sym (append_assoc (requests before) (asked ∷ []) (requests next.newer))
+          ∙ ap (λ o. (requests before ++ option_to_list o) ++ requests next.newer) (sym e)
+          ∙ sym (requests_newer next.newer (next.asking ∷ before)) ∙ sym (ap requests next.is) ∙ are in
+          nothing asked (requests next.newer) (append_cancel_left (requests before) (asked ∷ requests next.newer) [] both)
+        where
+          nothing : (a : ApiReq) (xs : List ApiReq) → a ∷ xs ≡ [] → ⊥
+          nothing a xs same = cc
+
+  -- the text of a log behind which some requests of a command were asked for
+  text_behind : (first : ApiReq) (rest : List ApiReq) (before log : List HostStep) → IsAskedNext before log → requests log ≡ requests before ++ first ∷ rest
+      → (c : Command) (has : HasFirst c) → first ≡ has.first → none_heads rest ≡ true
+      → text_of start log ≡ text_of start before ++ reply_lines (arranged (name_in c) (drop (length (replies_in start before)) (replies_in start log)))
+  text_behind first rest before log next are c has same none =
+      let for = asks_for first rest before log next are in
+      one_more start has.first for.asking for.newer before log for.is (for.asks ∙ ap Some same) has.begins_it (subst (λ rs. none_heads rs ≡ true) (sym for.others) none)
+      ∙ ap (λ name. text_of start before ++ reply_lines (arranged name (drop (length (replies_in start before)) (replies_in start log)))) has.name
+
+  -- memory was wanting in a command: its text goes on
+  pub left_text : (c : Command) (w : Whole) (logs : List HostLog) → is_served c ≡ true
+      → AreLeftOff start (requests_of c ++ questions) w logs
+      → AsksInPart start (Some c) (logs_at w.logs 0) (logs_at logs 0) → AreLeft start c w logs
+  left_text c w logs served left begun = go left.begun
+    where
+      has : HasFirst c
+      has = has_first c served
+
+      are : requests_of c ++ questions ≡ has.first ∷ (has.rest ++ questions)
+      are = ap (λ rs. rs ++ questions) has.are
+
+      asked : (part : ℕ) → requests (logs_at logs 0) ≡ requests (logs_at w.logs 0) ++ take part (has.first ∷ (has.rest ++ questions)) → IsAskedNext (logs_at w.logs 0) (logs_at logs 0) → AreLeft start c w logs
+      asked zero is next = absurd (none_asked (logs_at w.logs 0) (logs_at logs 0) next is)
+      asked (suc part) is next =
+          record {
+            left = left;
+            begun = begun;
+            more = reply_lines (arranged (name_in c) (drop (length (replies_in start (logs_at w.logs 0))) (replies_in start (logs_at logs 0))));
+            text = text_behind has.first (take part (has.rest ++ questions)) (logs_at w.logs 0) (logs_at logs 0) next is c has refl
+                (none_take part (has.rest ++ questions) (none_both has.rest questions has.none refl));
+          }
+
+      go : (logs_at logs 0 ≡ logs_at w.logs 0) ⊎ IsAskedNext (logs_at w.logs 0) (logs_at logs 0) → AreLeft start c w logs
+      go (inl same) =
+          let text = ap (text_of start) same ∙ sym (append-nil (text_of start (logs_at w.logs 0))) in
+          record { left = left; begun = begun; more = []; text = text }
+      go (inr next) = asked left.part (left.requests ∙ ap (λ rs. requests (logs_at w.logs 0) ++ take left.part rs) are) next
+
+  -- all that was asked for behind a world: the command's first request, and others that begin none
+  record Behind (c : Command) (has : HasFirst c) (w v : Whole) : Type 0 where
+    rest : List ApiReq
+    none : none_heads rest ≡ true
+    served : HasServed start (has.first ∷ rest) w v
+
+  -- all that was asked for
+  all_served : (c : Command) (has : HasFirst c) (w u v : Whole) → HasServed start (requests_of c) w u → (open_now : Bool) → HasGoneOn start u v open_now
+      → Behind c has w v
+  all_served c has w u v own false same =
+      record {
+        rest = has.rest;
+        none = has.none;
+        served = subst (HasServed start (has.first ∷ has.rest) w) (sym same) (subst (λ rs. HasServed start rs w u) has.are own);
+      }
+  all_served c has w u v own true asked =
+      record {
+        rest = has.rest ++ questions;
+        none = none_both has.rest questions has.none refl;
+        served = subst (λ rs. HasServed start (rs ++ questions) w v) has.are (both_served (requests_of c) questions w u v own asked);
+      }
+
+  on_log : (u v : Whole) (given : List ApiReply) → IsRight start given u → (b : Bool) → is_left_open u ≡ b → HasGoneOn start u v b
+      → AsksOn (logs_at u.logs 0) (logs_at v.logs 0) (host.is_left_open (after start 0 (logs_at u.logs 0)))
+  on_log u v given right b e on = subst (AsksOn (logs_at u.logs 0) (logs_at v.logs 0)) (sym e ∙ open_is start u (record { given = given; right = right })) (go b on)
+    where
+      go : (b : Bool) → HasGoneOn start u v b → AsksOn (logs_at u.logs 0) (logs_at v.logs 0) b
+      go false same = ap (λ (x : Whole). logs_at x.logs 0) same
+      go true asked = (asked.next, asked.requests)
+
+  own_next : (c : Command) (has : HasFirst c) (w u : Whole) → HasServed start (requests_of c) w u → IsAskedNext (logs_at w.logs 0) (logs_at u.logs 0)
+  own_next c has w u own = subst (λ rs. AsksFirst rs (logs_at w.logs 0) (logs_at u.logs 0)) has.are own.next
+
+  pub serves : (c : Command) (w u v t : Whole) (text : List ℕ) → is_served c ≡ true → IsSound start w → HasServed start (requests_of c) w u → HasGoneOn start u v (is_left_open u)
+      → t ≡ with_replies v [] → text ≡ reply_lines (arranged (name_in c) (replies_of v)) → ServesCommand start c w t text
+  serves c w u v t text is sound own on taken lines =
+      record {
+        served = λ commands was. subst (IsServed start (commands ++ c ∷ [])) (sym taken) (after_it commands was);
+        told = λ commands was.
+            ap (λ (x : Whole). text_of start (logs_at x.logs 0)) taken ∙ told commands was;
+        sound = subst (IsSound start) (sym taken)
+            (record { given = sound.given ++ replies_of v; right = told_right start sound.given v (behind.served.right sound.given sound.right) });
+      }
+    where
+      has : HasFirst c
+      has = has_first c is
+
+      behind : Behind c has w v
+      behind = all_served c has w u v own (is_left_open u) on
+
+      after_it : (commands : List Command) → IsServed start commands w → IsServed start (commands ++ c ∷ []) (with_replies v [])
+      after_it commands was =
+          record {
+            given = was.given ++ replies_of v;
+            right = told_right start was.given v (behind.served.right was.given was.right);
+            quiet = behind.served.quiet was.quiet;
+            asked = subst (λ cs. AreAsked start cs (logs_at v.logs 0)) (sym (reverse-append commands (c ∷ [])))
+                (record {
+                  before = logs_at w.logs 0;
+                  earlier = was.asked;
+                  asks = record {
+                    served = logs_at u.logs 0;
+                    next = own_next c has w u own;
+                    own = own.requests;
+                    on = on_log u v was.given (own.right was.given was.right) (is_left_open u) refl on;
+                  };
+                });
+            at_quiet = behind.served.at_quiet was.quiet was.at_quiet;
+            none_left = replies_gone start v (record { given = was.given; right = behind.served.right was.given was.right });
+          }
+
+      told : (commands : List Command) → IsServed start commands w → text_of start (logs_at v.logs 0) ≡ text_of start (logs_at w.logs 0) ++ text
+      told commands was =
+          let right = behind.served.right was.given was.right in
+          let old : replies_in start (logs_at w.logs 0) ≡ was.given =
+          replies_are start was.given w was.right ∙ ap (λ rs. was.given ++ rs) was.none_left ∙ append-nil was.given in
+          let new : replies_in start (logs_at v.logs 0) ≡ was.given ++ replies_of v = replies_are start was.given v right in
+          let rest : drop (length (replies_in start (logs_at w.logs 0))) (replies_in start (logs_at v.logs 0)) ≡ replies_of v =
+          ap (λ rs. drop (length rs) (replies_in start (logs_at v.logs 0))) old ∙ ap (drop (length was.given)) new ∙ drop_at was.given (replies_of v) (length was.given) refl in
+          text_behind has.first behind.rest (logs_at w.logs 0) (logs_at v.logs 0) behind.served.next behind.served.requests c has refl behind.none
+          ∙ ap (λ rs. text_of start (logs_at w.logs 0) ++ reply_lines (arranged (name_in c) rs)) rest
+          ∙ ap (λ l. text_of start (logs_at w.logs 0) ++ l) (sym lines)
+
+-- what the calls of a world come to
+module _ (start : Start) (request : ApiReq) where
+  pub asked_sound : (w u : Whole) → IsSound start w → HasAsked start request w u → IsSound start u
+  asked_sound w u sound asked = record { given = sound.given; right = asked.right sound.given sound.right }
+
+  pub asked_world : (w u : Whole) → IsSound start w → HasAsked start request w u → IsWorld u
+  asked_world w u sound asked = record { start = start; sound = asked_sound w u sound asked }
+
+  pub asked_ok : (result : Result (Unit {0}) NoMemory) (w u t : Whole) → IsSound start w → HasAsked start request w u → (IsSound start u → OnOk result (IsDriven start u t)) → OnOk result (IsIdle t)
+      → OnOk result (HasServed start (request ∷ []) w t)
+  asked_ok (Ok done) w u t sound asked drove quiet = one_served start request w u t asked (drove (asked_sound w u sound asked)) quiet
+  asked_ok (Err fault) w u t sound asked drove quiet = tt
+
+  pub asked_err : (result : Result (Unit {0}) NoMemory) (w u : Whole) (logs : List HostLog) → IsSound start w → HasAsked start request w u
+      → (IsSound start u → OnErr result (HaveGrown start (logs_at u.logs) (logs_at logs)))
+      → (IsSound start u → OnErr result (AreLabelled start logs))
+      → OnErr result (AreLeftOff start (request ∷ []) w logs)
+  asked_err (Ok done) w u logs sound asked grown labelled = tt
+  asked_err (Err fault) w u logs sound asked grown labelled =
+      left_undriven start request w u logs asked (grown (asked_sound w u sound asked))
+      (labelled (asked_sound w u sound asked))
+
+-- one list of requests was asked for, and then another
+module _ (start : Start) (asked more : List ApiReq) where
+  pub both_ok : (result : Result (Unit {0}) NoMemory) (w u t : Whole) → HasServed start asked w u → OnOk result (HasServed start more u t) → OnOk result (HasServed start (asked ++ more) w t)
+  both_ok (Ok done) w u t one two = both_served start asked more w u t one two
+  both_ok (Err fault) w u t one two = tt
+
+  pub first_err : (w u : Whole) → AreLeftOff start asked w u.logs → AreLeftOff start (asked ++ more) w u.logs
+  first_err w u left = left_of_more start asked more w u.logs left
+
+  pub second_err : (result : Result (Unit {0}) NoMemory) (w u t : Whole) → HasServed start asked w u
+      → OnErr result (AreLeftOff start more u t.logs) → OnErr result (AreLeftOff start (asked ++ more) w t.logs)
+  second_err (Ok done) w u t one left = tt
+  second_err (Err fault) w u t one left = left_later start asked more w u t.logs one left
+
+-- a list of requests, and those behind it
+record IsFrontOf (front all : List ApiReq) : Type 0 where
+  rest : List ApiReq
+  is : all ≡ front ++ rest
+
+rounds_more : (rounds n m : ℕ) → IsFrontOf (rounds_behind rounds n) (rounds_behind rounds (m + n))
+rounds_more rounds n zero = let same : 0 + n ≡ n = omega arith in record { rest = []; is = ap (rounds_behind rounds) same ∙ sym (append-nil (rounds_behind rounds n)) }
+rounds_more rounds n (suc m) =
+    let before = rounds_more rounds n m in
+    let same : suc m + n ≡ suc (m + n) = omega arith in
+    record {
+      rest = before.rest ++ Tick (m + n + 2) rounds ∷ [];
+      is = ap (rounds_behind rounds) same ∙ ap (λ rs. rs ++ Tick (m + n + 2) rounds ∷ []) before.is
+          ∙ append_assoc (rounds_behind rounds n) before.rest (Tick (m + n + 2) rounds ∷ []);
+    }
+
+rounds_front : (rounds n all : ℕ) → n ≤ all → IsFrontOf (rounds_behind rounds n) (rounds_behind rounds all)
+rounds_front rounds n all low =
+    let same : (all - n) + n ≡ all = omega (arith, low) in
+    subst (λ k. IsFrontOf (rounds_behind rounds n) (rounds_behind rounds k)) same (rounds_more rounds n (all - n))
+
+-- rounds, one after the other
+module _ (start : Start) (rounds n : ℕ) where
+  pub round_served : (w u t : Whole) → HasServed start (rounds_behind rounds n) w u → HasServed start (Tick (n + 2) rounds ∷ []) u t → HasServed start (rounds_behind rounds (n + 1)) w t
+  round_served w u t before next =
+      let same : suc n ≡ n + 1 = omega arith in
+      subst (λ k. HasServed start (rounds_behind rounds k) w t) same (both_served start (rounds_behind rounds n) (Tick (n + 2) rounds ∷ []) w u t before next)
+
+  pub round_left : (all : ℕ) (w u : Whole) (logs : List HostLog) → n < all
+      → HasServed start (rounds_behind rounds n) w u → AreLeftOff start (Tick (n + 2) rounds ∷ []) u logs
+      → AreLeftOff start (rounds_behind rounds all) w logs
+  round_left all w u logs low before left =
+      let front = rounds_front rounds (suc n) all (omega (arith, low)) in
+      subst (λ rs. AreLeftOff start rs w logs) (sym front.is)
+      (left_of_more start (rounds_behind rounds (suc n)) front.rest w logs
+      (left_later start (rounds_behind rounds n) (Tick (n + 2) rounds ∷ []) w u logs before left))
+
+-- the same, by what the calls answered
+pub on_err : {A E P : Type 0} (result : Result A E) → P → OnErr result P
+on_err (Ok x) p = tt
+on_err (Err e) p = p
+
+-- a command: its own requests, the questions about it, and the replies
+module _ (start : Start) (c : Command) (w : Whole) where
+  pub own_sound : (u : Whole) → IsSound start w → HasServed start (requests_of c) w u → IsSound start u
+  own_sound u sound own = served_sound start (requests_of c) w u own sound
+
+  pub gone_sound : (u v : Whole) → IsSound start w → HasServed start (requests_of c) w u → HasGoneOn start u v (is_left_open u) → IsSound start v
+  gone_sound u v sound own on = go (is_left_open u) on
+    where
+      go : (b : Bool) → HasGoneOn start u v b → IsSound start v
+      go false same = subst (IsSound start) (sym same) (own_sound u sound own)
+      go true asked = served_sound start questions u v asked (own_sound u sound own)
+
+  pub left_own : (logs : List HostLog) → is_served c ≡ true → AreLeftOff start (requests_of c) w logs
+      → AreLeft start c w logs
+  left_own logs is left =
+      left_text start c w logs is (left_of_more start (requests_of c) questions w logs left)
+      (inl (record { part = left.part; begun = left.requests }))
+
+  pub left_about : (u : Whole) (logs : List HostLog) → is_served c ≡ true → IsSound start w
+      → HasServed start (requests_of c) w u → is_left_open u ≡ true → AreLeftOff start questions u logs
+      → AreLeft start c w logs
+  left_about u logs is sound own opened left =
+      left_text start c w logs is (left_later start (requests_of c) questions w u logs own left)
+      (inr (record {
+        served = logs_at u.logs 0;
+        past = left.more 0;
+        own = own.requests;
+        left_open = sym (open_is start u (own_sound u sound own)) ∙ opened;
+        on = record { part = left.part; begun = left.requests };
+      }))
+
+  left_gone : (u v : Whole) (logs : List HostLog) → is_served c ≡ true → IsSound start w → HasServed start (requests_of c) w u → HasGoneOn start u v (is_left_open u) → logs ≡ v.logs → AreLeft start c w logs
+  left_gone u v logs is sound own on same = go (is_left_open u) refl on
+    where
+      go : (b : Bool) → is_left_open u ≡ b → HasGoneOn start u v b → AreLeft start c w logs
+      go false e gone =
+          left_own logs is
+          (left_served start (requests_of c) w u logs own sound (same ∙ ap (λ (x : Whole). x.logs) gone))
+      go true e asked =
+          left_about u logs is sound own e (left_served start questions u v logs asked (own_sound u sound own) same)
+
+  pub left_answers : (u v : Whole) (logs : List HostLog) (result : Result (Vec ℕ) NoMemory) → is_served c ≡ true → IsSound start w → HasServed start (requests_of c) w u
+      → HasGoneOn start u v (is_left_open u) → OnErr result (logs ≡ v.logs) → OnErr result (AreLeft start c w logs)
+  left_answers u v logs (Ok text) is sound own on same = tt
+  left_answers u v logs (Err fault) is sound own on same = left_gone u v logs is sound own on same
+
+  pub serves_ok : (u v t : Whole) (result : Result (Vec ℕ) NoMemory) → is_served c ≡ true → IsSound start w → HasServed start (requests_of c) w u → HasGoneOn start u v (is_left_open u)
+      → OnOk result (t ≡ with_replies v []) → IfOk result (λ text. text.items ≡ reply_lines (arranged (name_in c) (replies_of v)))
+      → IfOk result (λ text. ServesCommand start c w t text.items)
+  serves_ok u v t (Ok text) is sound own on taken lines = serves start c w u v t text.items is sound own on taken lines
+  serves_ok u v t (Err fault) is sound own on taken lines = tt
+
+-- the text is printed
+pub prints_all : (start : Start) (c : Command) (w t : Whole) (text : List ℕ) (written written_now : Option (List ℕ)) → ServesCommand start c w t text → Appends written written_now text
+    → PrintsCommand start c w t None written written_now
+prints_all start c w t text written written_now serving all =
+    record { printed = λ commands was. record { text = text; told = serving.told commands was; all = all; served = serving.served commands was } }
+
+-- or a first part of it
+pub prints_part : (start : Start) (c : Command) (w t : Whole) (text : List ℕ) (written written_now : Option (List ℕ)) → ServesCommand start c w t text → AppendsPart written written_now text
+    → PrintsCommand start c w t (Some ending.WriteFault) written written_now
+prints_part start c w t text written written_now serving part =
+    record { printed = λ commands was. record { text = text; told = serving.told commands was; part = part; served = serving.served commands was } }
+
+-- or nothing, for want of memory
+pub prints_nothing : (start : Start) (c : Command) (w t : Whole) (written : Option (List ℕ)) → AreLeft start c w t.logs → PrintsCommand start c w t (Some ending.NoMemory) written written
+prints_nothing start c w t written left = record { printed = λ commands was. (refl, left) }
+
+pub ruleset prints = (prints_all, prints_part, prints_nothing)

@@ -1,0 +1,15 @@
+use Rattle.shell_top.specs.Asked.{rounds_behind}
+use Rattle.shell_top.specs.Served.{HasServed}
+use Rattle.world_core.specs.Driven.{IsSound}
+use Rattle.world_core.specs.WorldOf.{whole_of}
+use Rattle.shell_top.proofs.asked.further_rounds.Given as goal
+
+-- the rounds so far were served
+abbrev pub invariant-loop-behind : goal.invariant-loop-behind
+invariant-loop-behind g l = record {
+  served : HasServed g.start (rounds_behind l.rounds l.behind) (whole_of l.initial.world) (whole_of l.world);
+  sound : IsSound g.start (whole_of l.world);
+}
+
+abbrev pub ghost-ask : goal.ghost-ask
+ghost-ask g a = g.start

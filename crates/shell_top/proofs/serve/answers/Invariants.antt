@@ -1,4 +1,0 @@
-use Rattle.shell_top.proofs.serve.answers.Given as goal
-
-abbrev pub ghost-take_replies : goal.ghost-take_replies
-ghost-take_replies g a = g.start

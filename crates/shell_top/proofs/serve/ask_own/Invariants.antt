@@ -1,7 +1,0 @@
-use Rattle.shell_top.proofs.serve.ask_own.Given as goal
-
-abbrev pub ghost-ask : goal.ghost-ask
-ghost-ask g a = g.start
-
-abbrev pub ghost-tick : goal.ghost-tick
-ghost-tick g a = g.start

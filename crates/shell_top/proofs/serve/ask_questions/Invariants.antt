@@ -1,4 +1,0 @@
-use Rattle.shell_top.proofs.serve.ask_questions.Given as goal
-
-abbrev pub ghost-ask : goal.ghost-ask
-ghost-ask g a = g.start

@@ -1,4 +1,0 @@
-use Rattle.shell_top.proofs.serve.serve_command.Given as goal
-
-abbrev pub ghost-serve : goal.ghost-serve
-ghost-serve g a = g.start

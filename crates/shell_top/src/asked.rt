@@ -1,0 +1,134 @@
+//! What the shell asks the world for: what a command asks for, and about what it left unanswered.
+ghost use Rattle.std.specs.Prelude.{◌≡◌, ◌-◌, ◌∷◌, [], true, OnOk, OnErr};
+ghost use Rattle.script_lang.specs.declared.command.Command.{Command};
+ghost use Rattle.shell_top.specs.Asked.{is_served, questions, requests_of, rounds_behind};
+ghost use Rattle.shell_top.specs.Served.{AreLeftOff, HasGoneOn, HasServed};
+ghost use Rattle.world_core.specs.Driven.{IsSound};
+ghost use Rattle.world_core.specs.Start.{Start};
+ghost use Rattle.world_core.specs.World.{is_left_open};
+ghost use Rattle.world_core.specs.WorldOf.{whole_of};
+
+use script_lang::Command;
+use sig_core::{ApiReq, Held, NoMemory};
+use std::alloc::Global;
+use std::sync::Wait;
+use world_core::World;
+
+/// Asks the world for something, and drives it to quiet.
+///
+/// # Errors
+/// `NoMemory`, and then the world is of use for its logs alone.
+fn ask<R: Wait>(rt: &R, alloc: Global, world: &mut World, request: ApiReq) -> Result<(), NoMemory>
+    ghost start: { Start }
+    requires { IsSound start (whole_of world.old) }
+    ensures ok { OnOk result (HasServed start (request ∷ []) (whole_of world.old) (whole_of world.new)) }
+    ensures err { OnErr result (AreLeftOff start (request ∷ []) (whole_of world.old) (whole_of world.new).logs) }
+{
+    world.ask(alloc, request)?;
+    world.drive(rt, alloc)
+}
+
+/// Lets rounds pass, with quiet after each.
+fn tick<R: Wait>(rt: &R, alloc: Global, world: &mut World, rounds: u8) -> Result<(), NoMemory>
+    ghost start: { Start }
+    requires { IsSound start (whole_of world.old) }
+    ensures ok { OnOk result (HasServed start (requests_of (Command.Tick rounds)) (whole_of world.old) (whole_of world.new)) }
+    ensures err { OnErr result (AreLeftOff start (requests_of (Command.Tick rounds)) (whole_of world.old) (whole_of world.new).logs) }
+{
+    let first = ApiReq::Tick {
+        round: 1,
+        of: rounds,
+    };
+    ask(rt, alloc, world, first)?;
+    further_rounds(rt, alloc, world, rounds)
+}
+
+/// Lets all rounds but the first pass.
+fn further_rounds<R: Wait>(
+    rt: &R,
+    alloc: Global,
+    world: &mut World,
+    rounds: u8,
+) -> Result<(), NoMemory>
+    ghost start: { Start }
+    requires { IsSound start (whole_of world.old) }
+    ensures ok { OnOk result (HasServed start (rounds_behind rounds (rounds - 1)) (whole_of world.old) (whole_of world.new)) }
+    ensures err { OnErr result (AreLeftOff start (rounds_behind rounds (rounds - 1)) (whole_of world.old) (whole_of world.new).logs) }
+{
+    for behind in 0..rounds.saturating_sub(1) {
+        let next = ApiReq::Tick {
+            round: behind + 2,
+            of: rounds,
+        };
+        ask(rt, alloc, world, next)?;
+    }
+    Ok(())
+}
+
+/// Asks the world for what a command asks for.
+///
+/// # Errors
+/// `NoMemory`, and then the world is of use for its logs alone.
+pub fn ask_own<R: Wait>(
+    rt: &R,
+    alloc: Global,
+    world: &mut World,
+    command: &Command,
+) -> Result<(), NoMemory>
+    ghost start: { Start }
+    requires opened { IsSound start (whole_of world.old) }
+    requires served { is_served command.now ≡ true }
+    ensures ok { OnOk result (HasServed start (requests_of command.now) (whole_of world.old) (whole_of world.new)) }
+    ensures err { OnErr result (AreLeftOff start (requests_of command.now) (whole_of world.old) (whole_of world.new).logs) }
+{
+    match command {
+        Command::Begin { name, node } => {
+            let request = ApiReq::Begin {
+                name: *name,
+                node: *node,
+            };
+            ask(rt, alloc, world, request)
+        }
+        Command::Operate { name, op } => {
+            let request = ApiReq::Operate {
+                name: *name,
+                op: Held::new(alloc, *op)?,
+            };
+            ask(rt, alloc, world, request)
+        }
+        Command::Commit { name } => ask(rt, alloc, world, ApiReq::Commit { name: *name }),
+        Command::Abort { name } => ask(rt, alloc, world, ApiReq::Abort { name: *name }),
+        Command::Tick { rounds } => tick(rt, alloc, world, *rounds),
+        Command::Rows { node } => ask(rt, alloc, world, ApiReq::Rows { node: *node }),
+        Command::Digest { node } => ask(rt, alloc, world, ApiReq::Digest { node: *node }),
+        _ => Ok(()),
+    }
+}
+
+/// Asks the world what the last command waits for, and for the replies about that.
+fn ask_questions<R: Wait>(rt: &R, alloc: Global, world: &mut World) -> Result<(), NoMemory>
+    ghost start: { Start }
+    requires { IsSound start (whole_of world.old) }
+    ensures ok { OnOk result (HasServed start questions (whole_of world.old) (whole_of world.new)) }
+    ensures err { OnErr result (AreLeftOff start questions (whole_of world.old) (whole_of world.new).logs) }
+{
+    ask(rt, alloc, world, ApiReq::Waits)?;
+    ask(rt, alloc, world, ApiReq::Pending)
+}
+
+/// Asks the world about the last command, if that left something of its own unanswered.
+///
+/// # Errors
+/// `NoMemory`, and then the world is of use for its logs alone.
+pub fn ask_about<R: Wait>(rt: &R, alloc: Global, world: &mut World) -> Result<(), NoMemory>
+    ghost start: { Start }
+    requires { IsSound start (whole_of world.old) }
+    ensures ok { OnOk result (HasGoneOn start (whole_of world.old) (whole_of world.new) (is_left_open (whole_of world.old))) }
+    ensures opened { OnErr result (is_left_open (whole_of world.old) ≡ true) }
+    ensures err { OnErr result (AreLeftOff start questions (whole_of world.old) (whole_of world.new).logs) }
+{
+    if world.is_left_open() {
+        return ask_questions(rt, alloc, world);
+    }
+    Ok(())
+}

@@ -1,0 +1,113 @@
+//! Serving a command: the world is asked and driven to quiet, and its replies are printed.
+ghost use Rattle.std.specs.Prelude.{◌≡◌, ◌≤◌, [], true, Some, IfOk, IfNone, OnOk, OnErr};
+ghost use Rattle.host_io.specs.Fault.{Rose};
+ghost use Rattle.shell_top.specs.Arranged.{arranged};
+ghost use Rattle.shell_top.specs.Asked.{is_served, name_in};
+ghost use Rattle.shell_top.specs.declared.ended.Ending.TheVariants as ending;
+ghost use Rattle.shell_top.specs.Served.{AreLeft, PrintsCommand, ServesCommand};
+ghost use Rattle.shell_top.specs.Text.{reply_lines};
+ghost use Rattle.world_core.specs.Driven.{IsSound};
+ghost use Rattle.world_core.specs.Start.{Start};
+ghost use Rattle.world_core.specs.World.{replies_of, with_replies};
+ghost use Rattle.world_core.specs.WorldOf.{whole_of};
+
+use crate::arranged::arranged;
+use crate::asked::{ask_about, ask_own};
+use crate::ended::Ending;
+use crate::taken::take_replies;
+use crate::writer::write_all;
+use host_io::Sink;
+use script_lang::{Command, print_reply};
+use sig_core::{ApiReply, NoMemory};
+use std::alloc::Global;
+use std::sync::Wait;
+use world_core::World;
+
+/// The lines of replies.
+fn lines(alloc: Global, replies: &[ApiReply]) -> Result<Vec<u8>, NoMemory>
+    ensures { IfOk result (λ text. text.items ≡ reply_lines replies.now) }
+{
+    let mut text = Vec::new(alloc);
+    for reply in replies {
+        print_reply(alloc, reply, &mut text)?;
+    }
+    Ok(text)
+}
+
+/// The name of the transaction that a command is about, if it has one.
+fn name_of(command: &Command) -> Option<u16>
+    ensures { result ≡ name_in command.now }
+{
+    match command {
+        Command::Begin { name, node: _ } | Command::Commit { name } | Command::Abort { name } =>
+            Some(*name),
+        Command::Operate { name, op: _ } => *name,
+        _ => None,
+    }
+}
+
+/// The lines of all replies of the world to a command.
+///
+/// # Errors
+/// `NoMemory`, and then some replies may be lost.
+fn answers(alloc: Global, world: &mut World, command: &Command) -> Result<Vec<u8>, NoMemory>
+    ghost start: { Start }
+    requires { IsSound start (whole_of world.old) }
+    ensures told { OnOk result (whole_of world.new ≡ with_replies (whole_of world.old) []) }
+    ensures text { IfOk result (λ text. text.items ≡ reply_lines (arranged (name_in command.now) (replies_of (whole_of world.old)))) }
+    ensures err { OnErr result ((whole_of world.new).logs ≡ (whole_of world.old).logs) }
+{
+    let replies = take_replies(alloc, world)?;
+    let replies = arranged(alloc, name_of(command), &replies)?;
+    lines(alloc, &replies)
+}
+
+/// Has the world serve a command, and gives the text of the replies to it.
+///
+/// # Errors
+/// `NoMemory`, and then the world is of use for its logs alone.
+fn serve<R: Wait>(
+    rt: &R,
+    alloc: Global,
+    world: &mut World,
+    command: &Command,
+) -> Result<Vec<u8>, NoMemory>
+    ghost start: { Start }
+    requires opened { IsSound start (whole_of world.old) }
+    requires served { is_served command.now ≡ true }
+    ensures ok { IfOk result (λ text. ServesCommand start command.now (whole_of world.old) (whole_of world.new) text.items) }
+    ensures err { OnErr result (AreLeft start command.now (whole_of world.old) (whole_of world.new).logs) }
+{
+    ask_own(rt, alloc, world, command)?;
+    ask_about(rt, alloc, world)?;
+    answers(alloc, world, command)
+}
+
+/// Has the world serve a command, and prints the replies to it. Says why the session ends, if it
+/// does.
+#[tactic(auto, using(crate::proofs::ServedLemmas::prints))]
+pub fn serve_command<R: Wait, K: Sink>(
+    rt: &R,
+    alloc: Global,
+    world: &mut World,
+    sink: &mut K,
+    command: &Command,
+) -> Option<Ending>
+    ghost start: { Start }
+    requires opened { IsSound start (whole_of world.old) }
+    requires served { is_served command.now ≡ true }
+    ensures printed { PrintsCommand start command.now (whole_of world.old) (whole_of world.new) result (K.written sink.old) (K.written sink.new) }
+    ensures opened { IfNone result (IsSound start (whole_of world.new)) }
+    ensures unread { result ≡ Some ending.ReadFault → ⊥ }
+    ensures cause { result ≡ Some ending.WriteFault → Rose (K.faults sink.old) (K.faults sink.new) }
+    ensures steady { K.faults sink.old ≤ K.faults sink.new }
+{
+    let text = match serve(rt, alloc, world, command) {
+        Ok(text) => text,
+        Err(NoMemory) => return Some(Ending::NoMemory),
+    };
+    match write_all(sink, &text) {
+        Ok(()) => None,
+        Err(_) => Some(Ending::WriteFault),
+    }
+}

@@ -1,0 +1,10 @@
+pub mod Abort
+pub mod Commit
+pub mod Gather
+pub mod Gathered
+pub mod Keys
+pub mod Laws
+pub mod Rule
+pub mod Sends
+pub mod State
+pub mod Takeover

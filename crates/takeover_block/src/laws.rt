@@ -1,0 +1,25 @@
+//! What is true of all that a takeover sends, whatever signals come, in whatever order.
+ghost use Rattle.takeover_block.specs.Laws.{AbortsWhatNobodyCommitted, CommitsWhatWasTold, GatheredStandInOrder, RulesWhenAllHaveEnded};
+
+/// A transaction is committed, and told to the client as committed, only in an epoch that a member
+/// told of it since the last order, before all members had ended.
+pub fn commits_what_was_told()
+    ensures { CommitsWhatWasTold }
+{}
+
+/// A transaction is aborted, and told to the client as aborted, only if no member told so that it is
+/// committed.
+pub fn aborts_what_nobody_committed()
+    ensures { AbortsWhatNobodyCommitted }
+{}
+
+/// Nothing is sent along a chain or to the client before all members have ended.
+pub fn rules_when_all_have_ended()
+    ensures { RulesWhenAllHaveEnded }
+{}
+
+/// What is gathered stands in order of `TxId`, each transaction once. So they are ruled on in that
+/// order, whichever was told of first.
+pub fn gathered_stand_in_order()
+    ensures { GatheredStandInOrder }
+{}

@@ -1,0 +1,22 @@
+//! The takeover: it ends the transactions of coordinators that failed.
+#![tactic(auto)]
+
+mod abort;
+mod commit;
+mod gather;
+mod gathered;
+mod keys;
+mod laws;
+mod rule;
+mod sends;
+mod stage;
+mod takeover;
+
+pub use laws::{
+    aborts_what_nobody_committed, commits_what_was_told, gathered_stand_in_order,
+    rules_when_all_have_ended,
+};
+pub use takeover::Takeover;
+
+#[cfg(test)]
+mod tests;
