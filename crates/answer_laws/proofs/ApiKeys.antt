@@ -96,7 +96,7 @@ module _ (tx : TxId) (s : ApiState) where
   asked : (r : ApiReq) (n : ℕ) → ApiRequestForms s r (FairStep tx s (Host (Continue (work.Request r) n)))
   asked r n = record {
     opens = λ name node op new. omega (arith, tally_append (operates tx) s.opened (asked_for name node op ∷ []));
-    refuses = λ name why up. omega arith;
+    refuses = λ name why own. omega arith;
     operates = λ name op at f one ready own low.
         changed (is_named (Some name)) at f _ _ _ _ (f.set _)
         (omega (arith, not_operating f.item (ap is_operating ready), ap (λ o. one_if (is_tx tx o && true)) own,

@@ -33,7 +33,7 @@ use Rattle.node_core.specs.declared.host.Host as host
 use Rattle.node_core.specs.declared.host.Host.TheVariants as kinds
 use Rattle.node_core.specs.Requests.{is_request}
 use Rattle.node_core.specs.Row.{row}
-use Rattle.tc_block.proofs.EachTurn.{AbortForms, CommittedForms, TurnFormsAt, rows_at}
+use Rattle.tc_block.proofs.EachTurn.{AbortForms, CommittedForms, TurnFormsAt, rows_at, ready_is}
 use Rattle.tc_block.specs.Abort as abort
 use Rattle.tc_block.specs.Complete as complete
 use Rattle.tc_block.specs.declared.phase.Asked.{Asked}
@@ -64,7 +64,8 @@ use Rattle.host_laws.specs.Counts.{one_if}
 use Rattle.answer_laws.proofs.Asks.{host_silent, plain_key}
 use Rattle.answer_laws.proofs.Heard.{IsHeard, all_heard}
 use Rattle.answer_laws.proofs.Strangers.{keys_few, starts_few}
-use Rattle.run_laws.specs.Live.{live_at, of_host, of_live}
+use Rattle.host_laws.specs.Live.{of_live}
+use Rattle.run_laws.specs.Live.{live_at, of_host}
 use Rattle.run_laws.specs.Transit.{AreInTransit, Comes, IsRun, Takes, joined, logs_of}
 use Rattle.run_laws.proofs.Addressed.{comes_below}
 use Rattle.run_laws.proofs.AlongSteps.{few_taken, tx_at}
@@ -72,9 +73,10 @@ use Rattle.run_laws.proofs.Begun.{keeps}
 use Rattle.run_laws.proofs.HomeSteps.{all_home, away, here_now, here_was, own_home}
 use Rattle.run_laws.proofs.HomeSteps as homes
 use Rattle.run_laws.proofs.LiveOf.{of_each}
-use Rattle.run_laws.proofs.TcCircle.{ready_is}
 use Rattle.run_laws.proofs.Transit.{along_transit}
-use Rattle.run_laws.proofs.TxTurns.{TcTurn, is_for, left_by, tc_turn, turn_each, turn_for}
+use Rattle.tc_block.proofs.TurnRows.{turn_for}
+use Rattle.host_laws.proofs.TcSteps.{left_of_turn}
+use Rattle.run_laws.proofs.TxTurns.{TcTurn, is_for, tc_turn, turn_each}
 use Rattle.run_laws.proofs.TxTurns as turn
 use Rattle.run_laws.proofs.Weighing.{each_between, each_joins, each_taken}
 use Rattle.report_laws.proofs.Keys.{came, key_counts, keyed, keyed_by, newest_ops, newest_ops_more}
@@ -313,10 +315,10 @@ module _ (start : Start) (tx : TxId) where
         (was : live_at start old tx ≡ Some t) (there : IsHome start tx h) where
       record Turned (turn : Turn) : Type 0 where
         sent : Each (λ (o : Outgoing). OpsTell now o.body) turn.step.effects.sends
-        live : (u : Transaction) → left_by turn ≡ Some u → is_open u.phase ≡ true → ops_now u ≡ came start tx now
+        live : (u : Transaction) → left_of_turn turn ≡ Some u → is_open u.phase ≡ true → ops_now u ≡ came start tx now
 
       abbrev R : Turn → Type 0
-      R turn = live_at start now tx ≡ left_by turn → sends ≡ turn.step.effects.sends → Turned turn
+      R turn = live_at start now tx ≡ left_of_turn turn → sends ≡ turn.step.effects.sends → Turned turn
 
       quiet_tells : (os : List Outgoing) → are_of is_quiet os ≡ true → Each (λ (o : Outgoing). OpsTell now o.body) os
       quiet_tells os all = mute os (each_of is_quiet (λ o. is_mine tx o.body ≡ false) (λ o k. quiet_none tx o.body k) os
@@ -441,9 +443,9 @@ module _ (start : Start) (tx : TxId) where
       forms : (node : ℕ) (layout : Layout) → TurnFormsAt node layout tx t e.step.taken.body R
       unfolding entering
       forms node layout = record {
-        stays = λ other left told. goes _ refl (rests left told);
+        stays = λ other missed left told. goes _ refl (rests left told);
         stops = λ at is high left told. goes _ refl (rests left told);
-        goes_on = λ at is left told. goes (go_on_if node layout tx t at true)
+        goes_on = λ at is low left told. goes (go_on_if node layout tx t at true)
             (rest_of_kind is_quiet layout tx (quiet_chains tx) node t at (quiet_front tx t.phase))
             (as_was (ap (key_of_tx tx) is));
         operates = λ op is may left told.
@@ -456,7 +458,7 @@ module _ (start : Start) (tx : TxId) where
               ∙ (ap (λ o. unanswered o (newest_ops t.ops [])) (sym on) ∙ as_was (ap (key_of_tx tx) is)
               (ap is_open at)));
         };
-        late = λ key asked why verifying awaited on at left told.
+        late = λ key asked why verifying awaited by on at left told.
             goes (late_answer layout tx t key) (aborts_of_kind is_quiet layout tx (quiet_chains tx) key
             (chain_of layout key)) (λ open_is. shut (sym (ap is_open at) ∙ open_is));
         waits = λ asked is on left told. goes _ (of_map is_quiet (wait_of tx (key_of asked.op)) asked.chain (λ r. refl))
@@ -592,7 +594,7 @@ module _ (start : Start) (tx : TxId) where
             live_was : live_at start old tx ≡ Some t
             live_was = ap (of_host tx) (here_was start es e come tx same) ∙ was
 
-            left_now : live_at start now tx ≡ left_by (turn_for (tc_of g).node (tc_of g).layout tx e.step.taken.body t)
+            left_now : live_at start now tx ≡ left_of_turn (turn_for (tc_of g).node (tc_of g).layout tx e.step.taken.body t)
             left_now = ap (of_host tx) (here_now start es e come tx same) ∙ (live_is ∙ left)
 
             sent_is : sends ≡ (turn_for (tc_of g).node (tc_of g).layout tx e.step.taken.body t).step.effects.sends
