@@ -1,3 +1,6 @@
 mod FoldLemmas
+mod KeptLemmas
+mod LawLemmas
+mod RowLemmas
 mod SendLemmas
 mod SetLemmas

@@ -5,6 +5,7 @@ mod decide;
 mod install;
 mod join;
 mod known;
+mod laws;
 mod promise;
 mod propose;
 mod qmgr;
@@ -15,6 +16,7 @@ mod starts;
 mod suspects;
 
 pub use known::{Known, Proposal};
+pub use laws::{last_promise_is_not_below_the_view, numbers_never_fall, starts_are_not_forgotten};
 pub use promise::Promise;
 pub use qmgr::Qmgr;
 pub use starts::Starts;

@@ -8,6 +8,7 @@ pub mod Growing
 pub mod InHistory
 pub mod Once
 pub mod ReportMarks
+pub mod Reports
 pub mod RunOf
 pub mod Replied
 pub mod Said

@@ -37,7 +37,7 @@ use Rattle.node_core.specs.Dih.{DihState, dih_table}
 use Rattle.node_core.specs.declared.host.Host.{Host}
 use Rattle.node_core.specs.Requests.{is_request}
 use Rattle.node_core.specs.Row.{row}
-use Rattle.tc_block.proofs.EachTurn.{AbortForms, CommittedForms, TurnFormsAt, rows_at}
+use Rattle.tc_block.proofs.EachTurn.{AbortForms, CommittedForms, TurnFormsAt, rows_at, ready_is}
 use Rattle.tc_block.proofs.LiveKeeps.{SendsBeside}
 use Rattle.tc_block.specs.Abort as abort
 use Rattle.tc_block.specs.Complete as complete
@@ -69,15 +69,17 @@ use Rattle.host_laws.proofs.TurnKinds.{OwnKinds, TurnOnly, own_kinds}
 use Rattle.host_laws.proofs.Wishes.{is_api, is_tc}
 use Rattle.host_laws.specs.Counts.{one_if}
 use Rattle.answer_laws.proofs.ApiEntries.{is_commit_req}
-use Rattle.run_laws.specs.Live.{live_at, of_host, of_live}
+use Rattle.host_laws.specs.Live.{of_live}
+use Rattle.run_laws.specs.Live.{live_at, of_host}
 use Rattle.run_laws.specs.Transit.{AreInTransit, Comes, IsRun, Takes, joined, logs_of}
 use Rattle.run_laws.proofs.Addressed.{comes_below}
 use Rattle.run_laws.proofs.HomeSteps.{IsHome, all_home, away, here_now, here_was, own_home}
 use Rattle.run_laws.proofs.LiveOf.{of_each}
-use Rattle.run_laws.proofs.TcCircle.{ready_is}
 use Rattle.run_laws.proofs.Transit.{along_transit}
 use Rattle.run_laws.proofs.TxSteps.{next_number, number_rises}
-use Rattle.run_laws.proofs.TxTurns.{OthersSend, TcTurn, is_for, left_by, tc_turn, turn_each, turn_for}
+use Rattle.tc_block.proofs.TurnRows.{turn_for}
+use Rattle.host_laws.proofs.TcSteps.{left_of_turn}
+use Rattle.run_laws.proofs.TxTurns.{OthersSend, TcTurn, is_for, tc_turn, turn_each}
 use Rattle.run_laws.proofs.TxTurns as turn
 use Rattle.run_laws.proofs.Weighing.{each_between, each_joins, each_taken}
 use Rattle.report_laws.proofs.Confs.{conf, confs_in, confs_none, newest, newest_more, said, sent_confs, told_by}
@@ -388,13 +390,13 @@ module _ (start : Start) (tx : TxId) where
         (there : blocks.IsHome start tx h) where
       record Turned (turn : Turn) : Type 0 where
         sent : Each (λ (o : Outgoing). SaidTells now o.body) turn.step.effects.sends
-        said_is : (u : Transaction) → left_by turn ≡ Some u → newest u.ops [] ≡ confs_in tx turn.step.effects.sends
+        said_is : (u : Transaction) → left_of_turn turn ≡ Some u → newest u.ops [] ≡ confs_in tx turn.step.effects.sends
             (newest t.ops [])
         still : is_open t.phase ≡ false → (list : List Answer) → confs_in tx turn.step.effects.sends list ≡ list
-        shut : is_open t.phase ≡ false → (u : Transaction) → left_by turn ≡ Some u → IsShutWith t.ops u
+        shut : is_open t.phase ≡ false → (u : Transaction) → left_of_turn turn ≡ Some u → IsShutWith t.ops u
 
       abbrev R : Turn → Type 0
-      R turn = live_at start now tx ≡ left_by turn → said start tx now ≡ confs_in tx turn.step.effects.sends
+      R turn = live_at start now tx ≡ left_of_turn turn → said start tx now ≡ confs_in tx turn.step.effects.sends
           (newest t.ops []) → Turned turn
 
       quiet_sends : (os : List Outgoing) → are_of is_quiet os ≡ true → NoneMine tx os
@@ -631,7 +633,7 @@ module _ (start : Start) (tx : TxId) where
             live_was : live_at start old tx ≡ Some t
             live_was = ap (of_host tx) (here_was start es e come tx same) ∙ was
 
-            left_now : live_at start now tx ≡ left_by (turn_for (tc_of g).node (tc_of g).layout tx e.step.taken.body t)
+            left_now : live_at start now tx ≡ left_of_turn (turn_for (tc_of g).node (tc_of g).layout tx e.step.taken.body t)
             left_now = ap (of_host tx) (here_now start es e come tx same) ∙ (live_is ∙ left)
 
             early : tx.seq < next_number (after start at_home (now at_home))

@@ -1,4 +1,5 @@
 pub mod Answered
 pub mod Growing
 pub mod Reported
+pub mod Reports
 pub mod Told

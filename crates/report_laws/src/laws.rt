@@ -2,7 +2,15 @@
 ghost use Rattle.report_laws.specs.Answered.{GivenAreOfEntries, ReportedAreGiven};
 ghost use Rattle.report_laws.specs.Growing.{HistoriesGrow};
 ghost use Rattle.report_laws.specs.Reported.{AbortsAreInNone, CommitsAreInHistory, EndsAreReportedOnce};
-ghost use Rattle.report_laws.specs.Told.{OutcomesAreMarked};
+ghost use Rattle.report_laws.specs.Reports.{ReportsAreTheHistory};
+ghost use Rattle.report_laws.specs.Told.{AnswersAreHeard, OutcomesAreMarked};
+
+/// Of all right logs: the client is told just the ends that are marked as reported, each once; every
+/// closed cut's history has what was reported committed in it, with its epoch and the answers that
+/// were given, and nothing of what was reported aborted; and histories grow by entries alone.
+pub fn reports_are_the_history()
+    ensures { ReportsAreTheHistory }
+{}
 
 /// In each step of host 0 the client is told the ends of transactions that are marked as reported
 /// in it, with the same outcomes.
@@ -31,6 +39,12 @@ pub fn aborts_are_in_none()
 /// them.
 pub fn histories_grow()
     ensures { HistoriesGrow }
+{}
+
+/// In each step of host 0 the client is told no answer of an operation, or just the one that the
+/// step's signal tells.
+pub fn answers_are_heard()
+    ensures { AnswersAreHeard }
 {}
 
 /// The answers that the client was given for a transaction, by whichever moment, are the first of
