@@ -57,7 +57,6 @@ use Rattle.host_laws.proofs.PhaseSends.{aborts_of_kind, entering_of_kind, rest_o
 use Rattle.host_laws.proofs.SendKinds.{are_of, each_of, of_map}
 use Rattle.host_laws.proofs.TcKeys.{is_answer, is_key, key_of_tx}
 use Rattle.host_laws.proofs.TcLives.{IsOwn, is_start}
-use Rattle.host_laws.proofs.TcSteps as counted
 use Rattle.host_laws.proofs.TcWays.{not_both}
 use Rattle.host_laws.proofs.Wishes.{is_tc, sends_of, to_node}
 use Rattle.host_laws.specs.Counts.{one_if}
@@ -81,11 +80,6 @@ use Rattle.run_laws.proofs.TxTurns as turn
 use Rattle.run_laws.proofs.Weighing.{each_between, each_joins, each_taken}
 use Rattle.report_laws.proofs.Keys.{came, key_counts, keyed, keyed_by, newest_ops, newest_ops_more}
 use Rattle.report_laws.proofs.Said.{NoneMine, abort_quiet, api_none, beside_none, dih_none, is_mine, is_quiet, others_none, quiet_chains, quiet_front, quiet_none, request_none, rows_none}
-
--- the transaction that is found is the same
-found_alike : (tx : TxId) (live : List (TxId × Transaction)) → counted.of_live tx live ≡ of_live tx live
-found_alike tx [] = refl
-found_alike tx (x ∷ live) = ap (λ o. if same_tx x.0 tx then Some x.1 else o) (found_alike tx live)
 
 -- an unanswered operation, in front of those before
 abbrev unanswered : Option Asked → List Op → List Op
@@ -363,7 +357,7 @@ module _ (start : Start) (tx : TxId) where
 
       at_tx : (logs : ℕ → List HostStep) → live_at start logs tx ≡ Some t → tx_at tx
           (after start at_home (logs at_home)) ≡ Some t
-      at_tx logs is = found_alike tx (tc_of (after start at_home (logs at_home))).live ∙ is
+      at_tx logs is = is
 
       -- an open transaction passes no operation over
       never_missed : {A : Type 0} → live_at start now tx ≡ Some t → sends ≡ [] → t.phase ≡ Open
