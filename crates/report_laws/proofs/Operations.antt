@@ -449,7 +449,7 @@ module _ (start : Start) (tx : TxId) where
           sent = (tt, tt);
           live = λ u is_u open_is. ap ops_now (sym (the_same _ u is_u))
               ∙ (newest_ops_more t.ops (asked.op, answer) []
-              ∙ (ap (λ o. unanswered o (newest_ops t.ops [])) (sym on) ∙ as_was (ap (key_of_tx tx) is)
+              ∙ (ap (λ o. unanswered o (newest_ops t.ops [])) (sym on.is) ∙ as_was (ap (key_of_tx tx) is)
               (ap is_open at)));
         };
         late = λ key asked why verifying awaited by on at left told.
