@@ -219,3 +219,57 @@ module _ (Q : Op → Type 0) where
       dumped = λ d rows next is. still Q s all _ refl tt;
       rests = λ void stray. still Q s all _ refl tt;
     }
+
+-- it was requested alone in this log
+record HasAlone (log : List HostStep) (op : Op) : Type 0 where
+  step : HostStep
+  inside : IsIn step log
+  is : request_in step.step.taken.body ≡ Some (request.Operate None op)
+
+later_alone : (e : HostStep) (log : List HostStep) (op : Op) → HasAlone log op → HasAlone (e ∷ log) op
+later_alone e log op has = record { step = has.step; inside = inr has.inside; is = has.is }
+
+module _ (start : Start) (e : HostStep) (log : List HostStep) where
+  -- what a step leaves and asks
+  record Leaves (step : Step ApiState) : Type 0 where
+    opened : Each (IsFrom (HasAlone (e ∷ log))) step.state.opened
+    sends : Each (AsksAsRequested e log) step.effects.sends
+
+  more : (opened : List OpenTransaction) → Each (IsFrom (HasAlone log)) opened → Each (IsFrom (HasAlone (e ∷ log))) opened
+  more opened all = each_map (IsFrom (HasAlone log)) (IsFrom (HasAlone (e ∷ log))) opened (λ t from op is. later_alone e log op (from op is)) all
+
+  of_request : (s : ApiState) → Each (IsFrom (HasAlone log)) s.opened → (r : ApiReq) → request_in e.step.taken.body ≡ Some r → Leaves (request_row s r)
+  of_request s all r is =
+      let fine = request_fine (HasAlone (e ∷ log)) (IsRequested e log) s (more s.opened all) r
+      (λ op same. record { step = e; inside = inl refl; is = is ∙ ap (λ q. Some q) same })
+      (λ name op same. by_name name (is ∙ ap (λ q. Some q) same)) in
+      record { opened = fine.opened; sends = fine.sends }
+
+  of_signal : (step : Step ApiState) → Fine (HasAlone log) (HasAlone log) step → Leaves step
+  of_signal step fine = record {
+    opened = more step.state.opened fine.opened;
+    sends = each_map (AsksOf (HasAlone log) (HasAlone log)) (AsksAsRequested e log) step.effects.sends
+        (λ o asks tx op is. let has = asks tx op is in alone has.step has.inside has.is) fine.sends;
+  }
+
+  api_leaves : (s : ApiState) → Each (IsFrom (HasAlone log)) s.opened → (body : Body) → e.step.taken.body ≡ body → Leaves (api_table s body)
+  api_leaves s all (Host (Continue (work.Request r) at)) is = of_request s all r (ap request_in is)
+  api_leaves s all body is = of_signal _ (signal_turns s body (Fine (HasAlone log) (HasAlone log)) (signal_forms (HasAlone log) s all body) refl)
+
+  shell_leaves : (s : ApiState) → Each (IsFrom (HasAlone log)) s.opened → (at : BlockId) → Leaves (shell_row s at e.step.taken)
+  unfolding shell_row
+  shell_leaves s all block.Api = api_leaves s all e.step.taken.body refl
+  shell_leaves s all _ = record { opened = more s.opened all; sends = tt }
+
+module _ (start : Start) where
+  from_requests : (log : List HostStep) → Each (IsFrom (HasAlone log)) (opened_in (after start 0 log))
+  from_requests [] = subst (Each (IsFrom (HasAlone []))) (sym (opened_first start)) tt
+  from_requests (e ∷ log) =
+      subst (Each (IsFrom (HasAlone (e ∷ log)))) (sym (opened_next start e log))
+      (shell_leaves start e log (shell_after start log).state (subst (Each (IsFrom (HasAlone log))) (ap opened_in (shell_after start log).is) (from_requests log)) e.step.taken.to.block).opened
+
+pub asked_are_requested : AskedAreRequested
+asked_are_requested start logs right newer e before is =
+    subst (Each (AsksAsRequested e before)) (sym (shell_sends start e before))
+    (shell_leaves start e before (shell_after start before).state
+    (subst (Each (IsFrom (HasAlone before))) (ap opened_in (shell_after start before).is) (from_requests start before)) e.step.taken.to.block).sends
