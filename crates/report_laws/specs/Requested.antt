@@ -1,5 +1,5 @@
 -- What the client asks coordinators for is what the shell requested.
-use Rattle.std.specs.Prelude.{◌≡◌, ℕ, List, [], ◌∷◌, ◌++◌, None, Some}
+use Rattle.std.specs.Prelude.{◌≡◌, ℕ, List, ◌∷◌, ◌++◌, None, Some}
 use Rattle.run_theory.specs.Lists.{Each, IsIn}
 use Rattle.run_theory.specs.Runs.{AreLogs}
 use Rattle.sig_core.specs.declared.member.TxId.{TxId}

@@ -4,6 +4,7 @@ ghost use Rattle.report_laws.specs.Asked.{AskedAreOfEntries};
 ghost use Rattle.report_laws.specs.Growing.{HistoriesGrow};
 ghost use Rattle.report_laws.specs.Reported.{AbortsAreInNone, CommitsAreInHistory, EndsAreReportedOnce};
 ghost use Rattle.report_laws.specs.Reports.{ReportsAreTheHistory};
+ghost use Rattle.report_laws.specs.Requested.{AskedAreRequested};
 ghost use Rattle.report_laws.specs.Told.{AnswersAreHeard, OutcomesAreMarked};
 
 /// Of all right logs: the client is told just the ends that are marked as reported, each once; every
@@ -46,6 +47,12 @@ pub fn histories_grow()
 /// all of them, in their order.
 pub fn asked_are_of_entries()
     ensures { AskedAreOfEntries }
+{}
+
+/// What the client asks a coordinator for is the operation of the request of that step, or of an
+/// earlier request for an operation alone.
+pub fn asked_are_requested()
+    ensures { AskedAreRequested }
 {}
 
 /// In each step of host 0 the client is told no answer of an operation, or just the one that the
