@@ -47,7 +47,7 @@ lqh_aborts n tx s (Chain (Abort other key)) = by (same_tx other tx) refl
     by false e = omega (arith, ap one_if e)
     by true e =
         abort_forms (λ step. one_if (same_tx other tx) ≤ sends_of (is_abort n tx) step.effects.sends) s other key
-            (record {
+        (record {
           none = λ had st gives none. omega (arith, ap one_if e, ap one_if told);
           some = λ had st gives at r there here. omega (arith, ap one_if e, ap one_if told);
         })
@@ -95,13 +95,17 @@ pub abort_low : (start : Start) (tx : TxId) → tx.tc ≤ start.shape.nodes → 
     → is_abort (start.shape.nodes + 1) tx to body ≡ true → host_for start to < hosts start
 abort_low start tx low to (Chain (Abort other key)) e =
     let node = right_of (is_lqh to.block) (is_node (start.shape.nodes + 1) to.node)
-        (left_of (is_lqh to.block && is_node (start.shape.nodes + 1) to.node) _ e) in
+    (left_of (is_lqh to.block && is_node (start.shape.nodes + 1) to.node) _ e) in
     let under : to.node < start.shape.nodes + 1 =
-        grind (arith, nat_tests, right_of (nat_lt 0 to.node) (nat_lt to.node (start.shape.nodes + 1)) node) in
+    grind (arith, nat_tests, right_of (nat_lt 0 to.node) (nat_lt to.node (start.shape.nodes + 1)) node) in
     reaches start to (omega (arith, under))
 abort_low start tx low to (Chain (Aborted other key)) e =
-    reaches start to (omega (arith, low, eqb-true to.node tx.tc
-        (right_of (is_tc to.block) (to.node == tx.tc) (left_of (is_tc to.block && (to.node == tx.tc)) _ e))))
+    reaches start to (omega (
+      arith,
+      low,
+      eqb-true to.node tx.tc
+          (right_of (is_tc to.block) (to.node == tx.tc) (left_of (is_tc to.block && (to.node == tx.tc)) _ e)),
+    ))
 abort_low start tx low to _ e = cc
 
 -- an answer, or the signal to go on, is a turn of the transaction
@@ -111,9 +115,11 @@ answer_turn tx _ e = cc
 
 pub cont_turn : (tx : TxId) (a : ℕ) (to : Place) (body : Body) → is_cont tx a to body ≡ true
     → (is_turn body ≡ true) × (tx_in body ≡ tx)
-cont_turn tx a to (Host (Continue (work.Transaction other) at)) e =
-    (refl, same_tx-is other tx (left_of (same_tx other tx) (at == a)
-    (right_of (is_tc to.block && (to.node == tx.tc)) (same_tx other tx && (at == a)) e)))
+cont_turn tx a to (Host (Continue (work.Transaction other) at)) e = (
+  refl,
+  same_tx-is other tx (left_of (same_tx other tx) (at == a)
+      (right_of (is_tc to.block && (to.node == tx.tc)) (same_tx other tx && (at == a)) e)),
+)
 cont_turn tx a to _ e = cc
 
 pub cont_place : (tx : TxId) (a at : ℕ) (to : Place) → a ≢ at
@@ -135,11 +141,15 @@ conts_few start tx a (o ∷ xs) = omega (arith, conts_few start tx a xs, one o.t
     at_self : (to : Place) (body : Body) → is_cont tx a to body ≡ true → (host_for start to == home start tx) ≡ true
     at_self to (Host (Continue (work.Transaction other) at)) e =
         eq-eqb _ _ (home_place start tx to (left_of (is_tc to.block && (to.node == tx.tc))
-            (same_tx other tx && (at == a)) e))
+        (same_tx other tx && (at == a)) e))
     at_self to _ e = cc
 
     one : (to : Place) (body : Body) (b : Bool) → is_cont tx a to body ≡ b
         → one_if (is_cont tx a to body) ≤ one_if ((host_for start to == home start tx) && is_cont tx a to body)
     one to body false e = omega (arith, ap one_if e)
-    one to body true e = omega (arith, ap one_if
-        (true_and (host_for start to == home start tx) (is_cont tx a to body) (at_self to body e) e), ap one_if e)
+    one to body true e = omega (
+      arith,
+      ap one_if
+          (true_and (host_for start to == home start tx) (is_cont tx a to body) (at_self to body e) e),
+      ap one_if e,
+    )

@@ -63,10 +63,15 @@ module _ (tx : TxId) (s : ApiState) where
   changed : (p : OpenTransaction → Bool) (at : ℕ) (f : IsFocus p s.opened at) (u : OpenTransaction)
       (after : List OpenTransaction) (sent came : ℕ) → after ≡ f.front ++ u ∷ f.back
       → one_if (operates tx f.item) + sent ≤ one_if (operates tx u) + came
-          → tally (operates tx) s.opened + sent ≤ tally (operates tx) after + came
+      → tally (operates tx) s.opened + sent ≤ tally (operates tx) after + came
   changed p at f u after sent came is fair =
-      omega (arith, fair, ap (tally (operates tx)) is, tally_between (operates tx) f.front f.item f.back s.opened f.is,
-          tally_between (operates tx) f.front u f.back (f.front ++ u ∷ f.back) refl)
+      omega (
+        arith,
+        fair,
+        ap (tally (operates tx)) is,
+        tally_between (operates tx) f.front f.item f.back s.opened f.is,
+        tally_between (operates tx) f.front u f.back (f.front ++ u ∷ f.back) refl,
+      )
 
   not_operating : (t : OpenTransaction) → is_operating t.doing ≡ false → one_if (operates tx t) ≡ 0
   not_operating t e = ap (λ b. one_if (is_tx tx t.tx && b)) e ∙ none (is_tx tx t.tx)
@@ -90,8 +95,12 @@ module _ (tx : TxId) (s : ApiState) where
       go None p = omega (arith, ap (λ o. one_if (is_tx tx o && is_operating t.doing)) p)
       go (Some two) p =
           let same : two ≡ one = same_tx-is two one (sym (ap (is_tx one) p) ∙ e) in
-          omega (arith, ap (λ o. one_if (is_tx tx o && is_operating t.doing)) p,
-              few (same_tx two tx) (is_operating t.doing), ap (λ x. one_if (same_tx x tx)) same)
+          omega (
+            arith,
+            ap (λ o. one_if (is_tx tx o && is_operating t.doing)) p,
+            few (same_tx two tx) (is_operating t.doing),
+            ap (λ x. one_if (same_tx x tx)) same,
+          )
 
   asked : (r : ApiReq) (n : ℕ) → ApiRequestForms s r (FairStep tx s (Host (Continue (work.Request r) n)))
   asked r n = record {
@@ -99,11 +108,15 @@ module _ (tx : TxId) (s : ApiState) where
     refuses = λ name why own. omega arith;
     operates = λ name op at f one ready own low.
         changed (is_named (Some name)) at f _ _ _ _ (f.set _)
-        (omega (arith, not_operating f.item (ap is_operating ready), ap (λ o. one_if (is_tx tx o && true)) own,
-            more (same_tx one tx)));
+        (omega (
+          arith,
+          not_operating f.item (ap is_operating ready),
+          ap (λ o. one_if (is_tx tx o && true)) own,
+          more (same_tx one tx),
+        ));
     commits = λ name at f one ready own.
         changed (is_named (Some name)) at f _ _ _ _ (f.set _)
-            (omega (arith, not_operating f.item (ap is_operating ready)));
+        (omega (arith, not_operating f.item (ap is_operating ready)));
     aborts = λ name at f one is own. omega arith;
     ticks = λ of last. omega (arith, ticked of last, telling_keys tx news.Round (everyone s.view));
     dumps = λ node digest. omega arith;
@@ -122,16 +135,19 @@ module _ (tx : TxId) (s : ApiState) where
   told body = record {
     begins_named = λ name one at f called is own.
         changed (begins_at name one.tc) at f _ _ _ _ (f.set _)
-            (omega (arith, not_operating f.item (begun_first name one at f)));
+        (omega (arith, not_operating f.item (begun_first name one at f)));
     begins_alone = λ name one at f op is own doing.
         changed (begins_at name one.tc) at f _ _ _ _ (f.set _)
         (omega (arith, not_operating f.item (begun_first name one at f), more (same_tx one tx)));
     begins_idle = λ name one at f is.
         changed (begins_at name one.tc) at f _ _ _ _ (f.set _)
-            (omega (arith, not_operating f.item (begun_first name one at f)));
+        (omega (arith, not_operating f.item (begun_first name one at f)));
     refuses = λ name at f is.
-        omega (arith, gone (begins name) at f,
-            not_operating f.item (first f.item.doing (and_parts (is_beginning f.item.doing) _ f.passes).0));
+        omega (
+          arith,
+          gone (begins name) at f,
+          not_operating f.item (first f.item.doing (and_parts (is_beginning f.item.doing) _ f.passes).0),
+        );
     answers = λ one answer at f name is doing own.
         changed (has_tx one) at f _ _ _ _ (f.set _)
         (omega (arith, found_tx one f.item f.passes, ap (λ b. one_if (answer_of tx b)) is));
@@ -160,7 +176,7 @@ module _ (tx : TxId) (s : ApiState) where
           → is_operating f.item.doing ≡ false
       begun_first name one at f =
           first f.item.doing (and_parts (is_beginning f.item.doing) _
-              (and_parts (is_beginning f.item.doing && same_name f.item.name name) _ f.passes).0).0
+          (and_parts (is_beginning f.item.doing && same_name f.item.name name) _ f.passes).0).0
 
       gone : (p : OpenTransaction → Bool) (at : ℕ) (f : IsFocus p s.opened at)
           → tally (operates tx) s.opened ≡ tally (operates tx) (remove s.opened at) + one_if (operates tx f.item)

@@ -90,7 +90,7 @@ plain_answer tx _ e = cc
 tc_no_key : (tx : TxId) (s : TcState) (body : Body) → sends_of (is_key tx) (tc_table s body).effects.sends ≡ 0
 tc_no_key tx =
     tc_none (is_key tx) (λ one to b k. second_fails (is_tc to.block) (no_key_tc tx one b k)) (λ name. refl)
-        (λ name other. refl)
+    (λ name other. refl)
 
 host_no_key : (tx : TxId) (s : host.Host) (x : Signal) → has_api s ≡ false
     → sends_of (is_key tx) (row s x).effects.sends ≡ 0
@@ -124,17 +124,17 @@ move_answers tx s body after sends (refuses other front t back about passes was 
 -- what a host has unanswered, or answers, it had unanswered, or it came
 host_fair : (tx : TxId) (s : host.Host) (x : Signal)
     → tally (is_asked tx) (tc_of (row s x).state).live + answers_in tx (row s x).effects.sends ≤ tally (is_asked tx)
-        (tc_of s).live + one_if (is_key tx x.to x.body)
+    (tc_of s).live + one_if (is_key tx x.to x.body)
 host_fair tx s x = go (row s x) (block_case s x)
   where
     still : (t : Step host.Host) → tc_of t.state ≡ tc_of s → answers_in tx t.effects.sends ≡ 0
         → tally (is_asked tx) (tc_of t.state).live + answers_in tx t.effects.sends ≤ tally (is_asked tx)
-            (tc_of s).live + one_if (is_key tx x.to x.body)
+        (tc_of s).live + one_if (is_key tx x.to x.body)
     still t same none = omega (arith, none, ap (λ (u : TcState). tally (is_asked tx) u.live) same)
 
     go : (t : Step host.Host) → BlockCase s x t
         → tally (is_asked tx) (tc_of t.state).live + answers_in tx t.effects.sends ≤ tally (is_asked tx)
-            (tc_of s).live + one_if (is_key tx x.to x.body)
+        (tc_of s).live + one_if (is_key tx x.to x.body)
     go t (tc_takes step) =
         omega (
           arith,
@@ -150,22 +150,22 @@ host_fair tx s x = go (row s x) (block_case s x)
         still t step.tc
         (ap (λ f. answers_in tx f.sends) step.effects
         ∙ none_of is_dih_kind (to_node 0 (is_answer tx))
-            (λ to b k. and_false (to.node == 0) (is_api to.block) (no_answer_dih tx b k))
-            (dih_table (dih_of s) x.body).effects.sends (dih_kinds (dih_of s) x.body))
+        (λ to b k. and_false (to.node == 0) (is_api to.block) (no_answer_dih tx b k))
+        (dih_table (dih_of s) x.body).effects.sends (dih_kinds (dih_of s) x.body))
     go t (rows_take step) =
         still t step.tc
         (ap (λ f. answers_in tx f.sends) step.effects
         ∙ none_of is_lqh_kind (to_node 0 (is_answer tx))
-            (λ to b k. and_false (to.node == 0) (is_api to.block) (no_answer_lqh tx b k))
-            (lqh_table (lqh_of s) x.body).effects.sends (lqh_kinds (lqh_of s) x.body))
+        (λ to b k. and_false (to.node == 0) (is_api to.block) (no_answer_lqh tx b k))
+        (lqh_table (lqh_of s) x.body).effects.sends (lqh_kinds (lqh_of s) x.body))
     go t (none_takes step) =
         still t (ap (λ (u : Step host.Host). tc_of u.state) step.is)
         (ap (λ (u : Step host.Host). answers_in tx u.effects.sends) step.is)
 
 shell_fair : (tx : TxId) (s : ApiState) (at : BlockId) (x : Signal)
     → tally (operates tx) s.opened + keys_in tx (shell_row s at x).effects.sends ≤ tally (operates tx)
-        (shell_row s at x).state.opened +
-        (one_if (is_api at && answer_of tx x.body) + one_if (is_api at && end_of tx x.body))
+    (shell_row s at x).state.opened +
+    (one_if (is_api at && answer_of tx x.body) + one_if (is_api at && end_of tx x.body))
 unfolding shell_row
 shell_fair tx s block.Api x = api_keys tx s x.body
 shell_fair tx s _ x = omega arith
@@ -180,8 +180,12 @@ module _ (start : Start) (tx : TxId) where
       → asked_at (after start h log) + signals (is_answer tx) (sent (machine start) h 0 log) ≤ steps (is_key tx) log
   host_asked h [] = omega (arith, ap (tally (is_asked tx)) (first_live start h))
   host_asked h (e ∷ log) =
-      omega (arith, host_asked h log, host_fair tx (after start h log) e.step.taken,
-      shell_signals start (is_answer tx) h e log)
+      omega (
+        arith,
+        host_asked h log,
+        host_fair tx (after start h log) e.step.taken,
+        shell_signals start (is_answer tx) h e log,
+      )
 
   pub host_silent : (h j : ℕ) (log : List HostStep) → h ≢ 0 → signals (is_key tx) (sent (machine start) h j log) ≡ 0
   host_silent h j [] other = refl
@@ -197,7 +201,7 @@ module _ (start : Start) (tx : TxId) where
   -- what the API has sent is answered or over, or operates
   shell_operates : (n : ℕ) (log : List HostStep)
       → total n (λ j. signals (is_key tx) (sent (machine start) 0 j log)) ≤ tally (operates tx)
-          (opened_in (after start 0 log)) + (steps (is_answer tx) log + steps (is_end tx) log)
+      (opened_in (after start 0 log)) + (steps (is_answer tx) log + steps (is_end tx) log)
   shell_operates n [] = zeros n
     where
       zeros : (m : ℕ) → total m (λ j. 0) ≤ tally (operates tx) (opened_in (after start 0 [])) + (0 + 0)
@@ -219,19 +223,19 @@ module _ (start : Start) (tx : TxId) where
 
       total_now : total n (λ j. signals (is_key tx) (sent (machine start) 0 j (e ∷ log)))
           ≡ total n (λ j. sends_of (to_host start j (is_key tx))
-              (shell_row s e.step.taken.to.block e.step.taken).effects.sends) + total n
-              (λ j. signals (is_key tx) (sent (machine start) 0 j log))
+          (shell_row s e.step.taken.to.block e.step.taken).effects.sends) + total n
+          (λ j. signals (is_key tx) (sent (machine start) 0 j log))
       total_now =
           total_same n (λ j. signals (is_key tx) (sent (machine start) 0 j (e ∷ log)))
           (λ j. sends_of (to_host start j (is_key tx))
-              (shell_row s e.step.taken.to.block e.step.taken).effects.sends + signals (is_key tx)
-              (sent (machine start) 0 j log))
+          (shell_row s e.step.taken.to.block e.step.taken).effects.sends + signals (is_key tx)
+          (sent (machine start) 0 j log))
           (λ j low. sent_signals start (is_key tx) 0 j e log
-              ∙ ap (λ xs. sends_of (to_host start j (is_key tx)) xs + signals (is_key tx)
-              (sent (machine start) 0 j log)) (shell_sends start e log))
+          ∙ ap (λ xs. sends_of (to_host start j (is_key tx)) xs + signals (is_key tx)
+          (sent (machine start) 0 j log)) (shell_sends start e log))
           ∙ total_add n (λ j. sends_of (to_host start j (is_key tx))
-              (shell_row s e.step.taken.to.block e.step.taken).effects.sends)
-              (λ j. signals (is_key tx) (sent (machine start) 0 j log))
+          (shell_row s e.step.taken.to.block e.step.taken).effects.sends)
+          (λ j. signals (is_key tx) (sent (machine start) 0 j log))
 
   -- steps that took an answer took it from some host
   steps_total : (n : ℕ) (log : List HostStep)
@@ -240,46 +244,54 @@ module _ (start : Start) (tx : TxId) where
   steps_total n [] none = omega arith
   steps_total n (e ∷ log) none =
       go (is_answer tx e.step.taken.to e.step.taken.body) refl
-          (steps_total n log (λ k high. omega (arith, none k high, taken_signals start (is_answer tx) k e log)))
+      (steps_total n log (λ k high. omega (arith, none k high, taken_signals start (is_answer tx) k e log)))
     where
       from : is_answer tx e.step.taken.to e.step.taken.body ≡ true
           → (is_from (machine start) e.step.taken.from.0 e && is_answer tx e.step.taken.to e.step.taken.body) ≡ true
       from is =
           all_three (is_request e.step.taken.body) (e.step.taken.from.0 == e.step.taken.from.0)
-              (is_answer tx e.step.taken.to e.step.taken.body)
+          (is_answer tx e.step.taken.to e.step.taken.body)
           (plain_answer tx e.step.taken.body
-              (right_of (is_api e.step.taken.to.block) (answer_of tx e.step.taken.body) is))
-              (grind (arith, nat_tests)) is
+          (right_of (is_api e.step.taken.to.block) (answer_of tx e.step.taken.body) is))
+          (grind (arith, nat_tests)) is
 
       more : total n (λ i. signals (is_answer tx) (taken (machine start) i log)) + total n
           (λ i. one_if (is_from (machine start) i e && is_answer tx e.step.taken.to e.step.taken.body))
           ≡ total n (λ i. signals (is_answer tx) (taken (machine start) i (e ∷ log)))
       more =
           sym (total_same n (λ i. signals (is_answer tx) (taken (machine start) i (e ∷ log)))
-              (λ i. signals (is_answer tx) (taken (machine start) i log) + one_if
-              (is_from (machine start) i e && is_answer tx e.step.taken.to e.step.taken.body))
+          (λ i. signals (is_answer tx) (taken (machine start) i log) + one_if
+          (is_from (machine start) i e && is_answer tx e.step.taken.to e.step.taken.body))
           (λ i low. omega (arith, taken_signals start (is_answer tx) i e log))
           ∙ total_add n (λ i. signals (is_answer tx) (taken (machine start) i log))
-              (λ i. one_if (is_from (machine start) i e && is_answer tx e.step.taken.to e.step.taken.body)))
+          (λ i. one_if (is_from (machine start) i e && is_answer tx e.step.taken.to e.step.taken.body)))
 
       go : (b : Bool) → is_answer tx e.step.taken.to e.step.taken.body ≡ b
           → steps (is_answer tx) log ≤ total n (λ i. signals (is_answer tx) (taken (machine start) i log))
           → one_if b + steps (is_answer tx) log ≤ total n
-              (λ i. signals (is_answer tx) (taken (machine start) i (e ∷ log)))
+          (λ i. signals (is_answer tx) (taken (machine start) i (e ∷ log)))
       go false is less = omega (arith, less, more)
       go true is less = at (cases_lt e.step.taken.from.0 n)
         where
           at : (e.step.taken.from.0 < n) ⊎ (n ≤ e.step.taken.from.0)
               → one_if true + steps (is_answer tx) log ≤ total n
               (λ i. signals (is_answer tx) (taken (machine start) i (e ∷ log)))
-          at (inl low) = omega
-              (arith, less, more, total_at n
-              (λ i. one_if (is_from
-              (machine start) i e && is_answer tx e.step.taken.to e.step.taken.body)) e.step.taken.from.0 low,
-              ap one_if (from is))
+          at (inl low) = omega (
+            arith,
+            less,
+            more,
+            total_at n
+                (λ i. one_if (is_from
+                (machine start) i e && is_answer tx e.step.taken.to e.step.taken.body)) e.step.taken.from.0 low,
+            ap one_if (from is),
+          )
           at (inr high) = absurd
-              (omega (arith, none e.step.taken.from.0 high,
-              taken_signals start (is_answer tx) e.step.taken.from.0 e log, ap one_if (from is)))
+              (omega (
+                arith,
+                none e.step.taken.from.0 high,
+                taken_signals start (is_answer tx) e.step.taken.from.0 e log,
+                ap one_if (from is),
+              ))
 
   -- at quiet
   module _ (logs : ℕ → List HostStep) (quiet : AreQuiet start logs) where
@@ -293,8 +305,11 @@ module _ (start : Start) (tx : TxId) where
           few_taken start logs quiet.right (is_key tx) 0 i,
           steps_from start (is_key tx) 0
               (λ to body e. plain_key tx body (right_of (is_tc to.block) (key_of_tx tx body) e)) (logs i)
-              (λ k other. omega (arith, host_silent k i (logs k) other,
-                  few_taken start logs quiet.right (is_key tx) k i)),
+              (λ k other. omega (
+                arith,
+                host_silent k i (logs k) other,
+                few_taken start logs quiet.right (is_key tx) k i,
+              )),
         )
 
     all_asked : total (hosts start) (λ i. asked_at (after start i (logs i))) + total (hosts start)
@@ -322,9 +337,11 @@ module _ (start : Start) (tx : TxId) where
         )
       where
         beyond : (k : ℕ) → hosts start ≤ k → signals (is_answer tx) (taken (machine start) k (logs 0)) ≡ 0
-        beyond k high = omega
-            (arith, few_taken start logs quiet.right (is_answer tx) k 0,
-            ap (λ log. signals (is_answer tx) (sent (machine start) k 0 log)) (quiet.within k high))
+        beyond k high = omega (
+          arith,
+          few_taken start logs quiet.right (is_answer tx) k 0,
+          ap (λ log. signals (is_answer tx) (sent (machine start) k 0 log)) (quiet.within k high),
+        )
 
     asks_where : (t : OpenTransaction) → IsIn t (opened_after start logs) → t.tx ≡ Some tx
         → 1 ≤ asked_at (after start (home start tx) (logs (home start tx))) → is_operating t.doing ≡ true
@@ -348,10 +365,13 @@ module _ (start : Start) (tx : TxId) where
                 let has : has_tx tx c.item ≡ true = first (is_tx tx c.item.tx) (is_operating c.item.doing) c.passes in
                 let same : t ≡ c.item =
                 only_one (has_tx tx) (opened_in (after start 0 (logs 0))) t c.item
-                    (omega (arith, (holds_at start tx logs quiet).few,
-                    once_started start tx logs quiet)) inside c.inside passes has in
+                (omega (
+                  arith,
+                  (holds_at start tx logs quiet).few,
+                  once_started start tx logs quiet,
+                )) inside c.inside passes has in
                 ap (λ (u : OpenTransaction). is_operating u.doing) same
-                    ∙ right_of (is_tx tx c.item.tx) (is_operating c.item.doing) c.passes
+                ∙ right_of (is_tx tx c.item.tx) (is_operating c.item.doing) c.passes
               where
                 first : (a b : Bool) → (a && b) ≡ true → a ≡ true
                 first true b e = refl
@@ -369,12 +389,15 @@ module _ (start : Start) (tx : TxId) where
               total_at (hosts start) (λ i. asked_at (after start i (logs i))) (home start tx) low,
             ))
         at_low (inr high) = absurd
-            (omega (arith, asks,
-            ap (λ log. asked_at (after start (home start tx) log)) (quiet.within (home start tx) high),
-            ap (tally (is_asked tx)) (first_live start (home start tx))))
+            (omega (
+              arith,
+              asks,
+              ap (λ log. asked_at (after start (home start tx) log)) (quiet.within (home start tx) high),
+              ap (tally (is_asked tx)) (first_live start (home start tx)),
+            ))
 
 pub each_asks_where_operating : EachAsksWhereOperating
 each_asks_where_operating start logs t quiet inside tx u asked is live asks =
     asks_where start tx logs quiet t inside is
     (tally_in (is_asked tx) (tx, u) (tc_of (after start (home start tx) (logs (home start tx)))).live live
-        (ap (λ b. b && is_some u.asked) (same_tx-self tx) ∙ ap is_some asks))
+    (ap (λ b. b && is_some u.asked) (same_tx-self tx) ∙ ap is_some asks))

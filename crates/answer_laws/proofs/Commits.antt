@@ -127,9 +127,11 @@ few_along n tx to _ e = omega arith
 few_answers : (n : ℕ) (tx : TxId) (to : Place) (body : Body) → is_lqh to.block ≡ false
     → one_if (is_commit n tx to body) ≤ came_in tx body
 few_answers n tx to (Chain (Commit other key epoch chain at)) e =
-    omega
-    (arith, ap (λ b. one_if ((b && is_node n to.node)
-    && (same_tx other tx && (is_good n chain && nat_lt at (length chain))))) e)
+    omega (
+      arith,
+      ap (λ b. one_if ((b && is_node n to.node)
+          && (same_tx other tx && (is_good n chain && nat_lt at (length chain))))) e,
+    )
 few_answers n tx to (Chain (Committed other key)) e = and_few (is_tc to.block && (to.node == tx.tc)) _
 few_answers n tx to _ e = omega arith
 
@@ -145,14 +147,18 @@ commit_low : (start : Start) (tx : TxId) → tx.tc ≤ start.shape.nodes → (to
     → is_commit (start.shape.nodes + 1) tx to body ≡ true → host_for start to < hosts start
 commit_low start tx low to (Chain (Commit other key epoch chain at)) e =
     let node = right_of (is_lqh to.block) (is_node (start.shape.nodes + 1) to.node)
-        (left_of (is_lqh to.block && is_node (start.shape.nodes + 1) to.node) _ e) in
+    (left_of (is_lqh to.block && is_node (start.shape.nodes + 1) to.node) _ e) in
     let under : to.node < start.shape.nodes + 1 =
-        grind (arith, nat_tests, right_of (nat_lt 0 to.node) (nat_lt to.node (start.shape.nodes + 1)) node) in
+    grind (arith, nat_tests, right_of (nat_lt 0 to.node) (nat_lt to.node (start.shape.nodes + 1)) node) in
     reaches start to (omega (arith, under))
 commit_low start tx low to (Chain (Committed other key)) e =
     reaches start to
-    (omega (arith, low, eqb-true to.node tx.tc
-    (right_of (is_tc to.block) (to.node == tx.tc) (left_of (is_tc to.block && (to.node == tx.tc)) _ e))))
+    (omega (
+      arith,
+      low,
+      eqb-true to.node tx.tc
+          (right_of (is_tc to.block) (to.node == tx.tc) (left_of (is_tc to.block && (to.node == tx.tc)) _ e)),
+    ))
 commit_low start tx low to _ e = cc
 
 -- what goes on goes on at a place
@@ -271,9 +277,12 @@ module _ (start : Start) (shape : IsShape start.shape) (tx : TxId) where
         where
           few_touched : length u.touched ≤ 512
           few_touched =
-              omega
-              (arith, (each_in (λ (e : TxId × Transaction). IsKnown nodes e.1)
-              (tx, of.before) x.live known of.inside).few, ap length same)
+              omega (
+                arith,
+                (each_in (λ (e : TxId × Transaction). IsKnown nodes e.1)
+                    (tx, of.before) x.live known of.inside).few,
+                ap length same,
+              )
 
           differs_some : (b : ℕ) → b ≢ a → at ≡ Some b → ⊥
           differs_some b differs q = differs (the_a (sym q ∙ some))
@@ -360,9 +369,14 @@ module _ (start : Start) (shape : IsShape start.shape) (tx : TxId) where
         by (inl same) = own_step logs now e (subst (λ j. Goes start logs now j e) same g) all
         by (inr differs) = λ u epoch k live is.
             stays_owed start tx (is_commit nodes tx) logs now (length u.touched) 0 k
-            (omega (arith, s_more start tx (is_commit nodes tx)
-            (commit_low start tx few_nodes) logs now h e g, t_more start tx (is_commit nodes tx)
-            (commit_low start tx few_nodes) logs now h e g, passed logs now h e g (away _ refl)))
+            (omega (
+              arith,
+              s_more start tx (is_commit nodes tx)
+                  (commit_low start tx few_nodes) logs now h e g,
+              t_more start tx (is_commit nodes tx)
+                  (commit_low start tx few_nodes) logs now h e g,
+              passed logs now h e g (away _ refl),
+            ))
             (λ b low. omega (
               arith,
               ap (λ log. signals (is_cont tx b) (taken (machine start) at log)) log_is,

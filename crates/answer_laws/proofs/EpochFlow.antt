@@ -86,7 +86,7 @@ tc_epochs s at off body = go (tc_table s body) (tc_step s body)
     go step (misses about none is) = ap (λ (x : Step TcState). sends_of (at_place at is_epoch) x.effects.sends) is
     go step (takes about t front back was is) =
         ap (λ (x : Step TcState). sends_of (at_place at is_epoch) x.effects.sends) is
-            ∙ by (turn_counts s (tx_in body) t body (turn_row s body t) (turn_moves s body t about))
+        ∙ by (turn_counts s (tx_in body) t body (turn_row s body t) (turn_moves s body t about))
       where
         by : TurnCounts s.node (tx_in body) t (turn_row s body t)
             → sends_of (at_place at is_epoch) (turn_row s body t).step.effects.sends ≡ 0

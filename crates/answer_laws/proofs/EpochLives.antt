@@ -108,10 +108,10 @@ module _ (s : TcState) (tx : TxId) (t : Transaction) (body : Body) (turn : Turn)
 
   end_counts : (u : Transaction) (why : AbortCause) (v : Bool) → is_counted t.phase ≡ v
       → TurnCounts s.node tx t
-          (record {
-            step = record { state = u; effects = record { sends = abort.abort_end s.node tx why v; marks = [] } };
-            over = true;
-          })
+      (record {
+        step = record { state = u; effects = record { sends = abort.abort_end s.node tx why v; marks = [] } };
+        over = true;
+      })
   end_counts u why true e = ending refl e [] (abort.rolled_back tx why ∷ []) refl refl refl
   end_counts u why false e = gone refl e refl
 
@@ -133,7 +133,7 @@ module _ (s : TcState) (tx : TxId) (t : Transaction) (body : Body) (turn : Turn)
   turn_counts (aborts w why gives some is) =
       let g = given_phase t body w gives in
       back_to _ is (entered w (Aborting why (abort.is_verifying w.phase) (abort.aborts_awaited s.layout w))
-          (ap abort.is_verifying g.0 ∙ sym g.1))
+      (ap abort.is_verifying g.0 ∙ sym g.1))
   turn_counts (gives_up w why gives is none) =
       let g = given_phase t body w gives in
       back_to _ is (end_counts w why (abort.is_verifying w.phase) (g.1 ∙ sym (ap abort.is_verifying g.0)))
@@ -186,14 +186,18 @@ module _ (s : TcState) (at : Place → Bool) (own : at (epochs s.node) ≡ true)
     (k : AreCounted s c) (owned : Each (λ (e : TxId × Transaction). IsOwn s.node s.next_seq e.0) s.live) where
   plain_step : (step : Step TcState) → are_of is_epochless step.effects.sends ≡ true
       → tally is_counted_one step.state.live ≡ tally is_counted_one s.live
-          → ((v : TxId) → tally (is_counted_as v) step.state.live ≡ tally (is_counted_as v) s.live)
-          → length step.state.live ≤ 64
+      → ((v : TxId) → tally (is_counted_as v) step.state.live ≡ tally (is_counted_as v) s.live)
+      → length step.state.live ≤ 64
       → StepCounts at step.state step.effects.sends c
   plain_step step kind all each room =
       let p = plain_counts at step.effects.sends c kind in
       record {
-        counted = record { all = ap length p.0 ∙ (k.all ∙ sym all); own = λ v. ap (tally (same_tx v)) p.0
-            ∙ (k.own v ∙ sym (each v)); room = room };
+        counted = record {
+          all = ap length p.0 ∙ (k.all ∙ sym all);
+          own = λ v. ap (tally (same_tx v)) p.0
+              ∙ (k.own v ∙ sym (each v));
+          room = room;
+        };
         few = p.1;
       }
 
@@ -204,9 +208,9 @@ module _ (s : TcState) (at : Place → Bool) (own : at (epochs s.node) ≡ true)
       → StepCounts at step.state step.effects.sends c
   idle step other is same kind =
       let live_is : step.state.live ≡ s.live = ap (λ (x : Step TcState). x.state.live) is
-          ∙ ap (λ (x : TcState). x.live) same in
+      ∙ ap (λ (x : TcState). x.live) same in
       plain_step step (ap (λ (x : Step TcState). are_of is_epochless x.effects.sends) is ∙ kind)
-          (ap (tally is_counted_one) live_is)
+      (ap (tally is_counted_one) live_is)
       (λ v. ap (tally (is_counted_as v)) live_is) (omega (arith, k.room, ap length live_is))
 
   step_of_counts : (step : Step TcState) → TcStep s body step → StepCounts at step.state step.effects.sends c
@@ -218,8 +222,11 @@ module _ (s : TcState) (at : Place → Bool) (own : at (epochs s.node) ≡ true)
       plain_step step (ap (λ (x : Step TcState). are_of is_epochless x.effects.sends) is)
       (now tally_all ∙ omega (arith, tally_append is_counted_one s.live ((next_tx s, fresh) ∷ [])))
       (λ v. ap (tally (is_counted_as v)) live_is
-          ∙ omega (arith, tally_append (is_counted_as v) s.live ((next_tx s, fresh) ∷ []),
-          none (same_tx v (next_tx s))))
+      ∙ omega (
+        arith,
+        tally_append (is_counted_as v) s.live ((next_tx s, fresh) ∷ []),
+        none (same_tx v (next_tx s)),
+      ))
       (omega (arith, ap length live_is, length_last s.live, fewer))
     where
       tally_all : List (TxId × Transaction) → ℕ
@@ -229,8 +236,8 @@ module _ (s : TcState) (at : Place → Bool) (own : at (epochs s.node) ≡ true)
       live_is =
           ap (λ (x : Step TcState). x.state.live) is
           ∙ insert_new s.live (next_tx s) fresh
-              (each_map (λ (x : TxId × Transaction). IsOwn s.node s.next_seq x.0)
-              (λ (x : TxId × Transaction). x.0.seq < s.next_seq) s.live (λ x o. o.early) owned)
+          (each_map (λ (x : TxId × Transaction). IsOwn s.node s.next_seq x.0)
+          (λ (x : TxId × Transaction). x.0.seq < s.next_seq) s.live (λ x o. o.early) owned)
 
       now : (f : List (TxId × Transaction) → ℕ) → f step.state.live ≡ f (s.live ++ (next_tx s, fresh) ∷ [])
       now f = ap f live_is
@@ -301,23 +308,42 @@ module _ (s : TcState) (at : Place → Bool) (own : at (epochs s.node) ≡ true)
           let live = live_over false over in
           plain_step step (ap (are_of is_epochless) sends_are ∙ kind)
           (omega (arith, ap (tally is_counted_one) live, now_all, was_all, ap one_if keeps_it))
-          (λ v. omega (arith, ap (tally (is_counted_as v)) live, now_one v, was_one v,
-              ap (λ b. one_if (same_tx v one && b)) keeps_it))
+          (λ v. omega (
+            arith,
+            ap (tally (is_counted_as v)) live,
+            now_one v,
+            was_one v,
+            ap (λ b. one_if (same_tx v one && b)) keeps_it,
+          ))
           (omega (arith, k.room, ap length live, now_length, was_length))
       by (gone over none kind) =
           let live = live_over true over in
           plain_step step (ap (are_of is_epochless) sends_are ∙ kind)
           (omega (arith, ap (tally is_counted_one) live, was_all, ap one_if none))
-          (λ v. omega (arith, ap (tally (is_counted_as v)) live, was_one v, ap (λ b. one_if (same_tx v one && b)) none,
-              ap one_if (both (same_tx v one))))
+          (λ v. omega (
+            arith,
+            ap (tally (is_counted_as v)) live,
+            was_one v,
+            ap (λ b. one_if (same_tx v one && b)) none,
+            ap one_if (both (same_tx v one)),
+          ))
           (omega (arith, k.room, ap length live, was_length))
       by (asking ops over none some told) =
           let live = live_over false over in
           let sends = sends_are ∙ told in
           subst (λ xs. StepCounts at step.state xs c) (sym sends) (record {
             counted = record {
-              all = omega (arith, ap length grown, length_end c, k.all, ap (tally is_counted_one) live, now_all,
-                  was_all, ap one_if none, ap one_if some);
+              all = omega (
+                arith,
+                ap length grown,
+                length_end c,
+                k.all,
+                ap (tally is_counted_one) live,
+                now_all,
+                was_all,
+                ap one_if none,
+                ap one_if some,
+              );
               own = λ v. omega (
                 arith,
                 ap (tally (same_tx v)) grown,
@@ -337,8 +363,15 @@ module _ (s : TcState) (at : Place → Bool) (own : at (epochs s.node) ≡ true)
           })
         where
           fewer : length c < 64
-          fewer = omega (arith, k.all, k.room, was_all, was_length, tally_under is_counted_one (front ++ back),
-              ap one_if none)
+          fewer = omega (
+            arith,
+            k.all,
+            k.room,
+            was_all,
+            was_length,
+            tally_under is_counted_one (front ++ back),
+            ap one_if none,
+          )
 
           grown : sends_count at (to_place (epochs s.node) (Epoch (DiVerifyReq one ops)) ∷ []) c ≡ c ++ one ∷ []
           grown = ap (λ b. counts_if b (Epoch (DiVerifyReq one ops)) c) own_place ∙ asked_count c one fewer
@@ -351,8 +384,15 @@ module _ (s : TcState) (at : Place → Bool) (own : at (epochs s.node) ≡ true)
           let sends = sends_are ∙ told in
           subst (λ xs. StepCounts at step.state xs c) (sym sends) (record {
             counted = record {
-              all = omega (arith, ap length fewer_is, less.fewer, k.all, ap (tally is_counted_one) live, was_all,
-                  ap one_if some);
+              all = omega (
+                arith,
+                ap length fewer_is,
+                less.fewer,
+                k.all,
+                ap (tally is_counted_one) live,
+                was_all,
+                ap one_if some,
+              );
               own = λ v. omega (
                 arith,
                 ap (tally (same_tx v)) fewer_is,
@@ -373,8 +413,14 @@ module _ (s : TcState) (at : Place → Bool) (own : at (epochs s.node) ≡ true)
           first = plain_counts at before c kind
 
           there : 1 ≤ tally (same_tx one) c
-          there = omega (arith, k.own one, was_one one, ap (λ b. one_if (same_tx one one && b)) some,
-              ap one_if (alone (same_tx one one)), ap one_if (same_tx-self one))
+          there = omega (
+            arith,
+            k.own one,
+            was_one one,
+            ap (λ b. one_if (same_tx one one && b)) some,
+            ap one_if (alone (same_tx one one)),
+            ap one_if (same_tx-self one),
+          )
 
           less : IsWithout one c (ended_by c (position (same_tx one) c))
           less = ended_count c one there

@@ -85,7 +85,7 @@ module _ (n : ℕ) (tx : TxId) where
   module _ (s : TcState) (body : Body) (known : Each (λ (e : TxId × Transaction). IsKnown n e.1) s.live)
       (once : tally (is_keyed tx) s.live ≤ 1)
       (own : Each (λ (e : TxId × Transaction). IsOwn s.node s.next_seq e.0) s.live)
-          (good : (key : List ℕ) → is_chain n (chain_of s.layout key) ≡ true) where
+      (good : (key : List ℕ) → is_chain n (chain_of s.layout key) ≡ true) where
     abbrev Steps : Step TcState → Type 0
     Steps step = StepOwes s step.state step.effects.sends (came_in tx body) (cont_in tx body)
 
@@ -102,7 +102,7 @@ module _ (n : ℕ) (tx : TxId) where
     idle : (step other : Step TcState) → step ≡ other → other.state ≡ s → IsStill → Steps step
     idle step other is same none =
         let live_is : step.state.live ≡ s.live = ap (λ (x : Step TcState). x.state.live) is
-            ∙ ap (λ (x : TcState). x.live) same in
+        ∙ ap (λ (x : TcState). x.live) same in
         record {
           known = subst (Each (λ (e : TxId × Transaction). IsKnown n e.1)) (sym live_is) known;
           owes = λ u epoch k i on. others step.effects.sends u epoch k none (subst (IsIn (tx, u)) live_is i) on;
@@ -114,7 +114,7 @@ module _ (n : ℕ) (tx : TxId) where
     by step (passes one ahead about is) = idle step _ is refl (no_turn body (ap is_turn about))
     by step (misses turns none is) =
         subst Steps (sym is)
-            (record { known = known; owes = λ u epoch k i on. which (same_tx (tx_in body) tx) refl u epoch k i on })
+        (record { known = known; owes = λ u epoch k i on. which (same_tx (tx_in body) tx) refl u epoch k i on })
       where
         which : (m : Bool) → same_tx (tx_in body) tx ≡ m → (u : Transaction) (epoch k : ℕ) → IsIn (tx, u) s.live
             → u.phase ≡ Committing epoch k
@@ -122,7 +122,7 @@ module _ (n : ℕ) (tx : TxId) where
         which false differs u epoch k i on = others [] u epoch k (other_turn body differs) i on
         which true same u epoch k i on =
             let away = tally_none (is_keyed tx) s.live
-                (subst (λ x. AreOthers x s.live) (same_tx-is (tx_in body) tx same) none) in
+            (subst (λ x. AreOthers x s.live) (same_tx-is (tx_in body) tx same) none) in
             absurd (omega (arith, tally_in (is_keyed tx) (tx, u) s.live i (same_tx-self tx), away))
     by step (begins name about room is) =
         subst Steps (sym is)
@@ -143,8 +143,13 @@ module _ (n : ℕ) (tx : TxId) where
         open_phase epoch k is = cc
 
         fresh_known : IsKnown n fresh
-        fresh_known = record { chains = tt; few = omega arith; asked = λ a e. absurd (no_some a e); some =
-            λ epoch k is. absurd (open_phase epoch k is) }
+        fresh_known = record {
+          chains = tt;
+          few = omega arith;
+          asked = λ a e. absurd (no_some a e);
+          some =
+              λ epoch k is. absurd (open_phase epoch k is);
+        }
           where
             no_some : (a : Asked) → None ≡ Some a → ⊥
             no_some a e = cc
@@ -174,7 +179,7 @@ module _ (n : ℕ) (tx : TxId) where
         owing =
             turn_by s t (Owing n one t known_was body) body
             (rows_at s.node s.layout one t body (Owing n one t known_was body)
-                (owes_forms n one t known_was body s.node s.layout home good))
+            (owes_forms n one t known_was body s.node s.layout home good))
             (λ off. absurd (false≢true (sym off ∙ turns)))
 
         -- no two are of one number
@@ -191,7 +196,7 @@ module _ (n : ℕ) (tx : TxId) where
             ))
         rest u epoch k false differs i on =
             others _ u epoch k (other_turn body differs)
-                (subst (IsIn (tx, u)) (sym was) (in_more (tx, u) (one, t) front back i)) on
+            (subst (IsIn (tx, u)) (sym was) (in_more (tx, u) (one, t) front back i)) on
 
         over : (b : Bool) → turn.over ≡ b → Steps (left_if s one front back turn b)
         over true e = record {
@@ -212,7 +217,7 @@ module _ (n : ℕ) (tx : TxId) where
                 let is_one : tx ≡ one = ap (λ (z : TxId × Transaction). z.0) same in
                 let value_is : u ≡ turn.step.state = ap (λ (z : TxId × Transaction). z.1) same in
                 let mine : TurnOwes n tx t turn (came_in tx body) (cont_in tx body) =
-                    subst (λ x. TurnOwes n x t turn (came_in x body) (cont_in x body)) (sym is_one) owing in
+                subst (λ x. TurnOwes n x t turn (came_in x body) (cont_in x body)) (sym is_one) owing in
                 record {
                   before = t;
                   inside = subst (IsIn (tx, t)) (sym was)

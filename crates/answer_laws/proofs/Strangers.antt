@@ -116,8 +116,12 @@ module _ (start : Start) (tx : TxId) where
       → signals (is_answer tx) (sent (machine start) h 0 log) ≡ 0
   never_answers h [] low differs = refl
   never_answers h (e ∷ log) low differs =
-      omega (arith, never_answers h log low differs, shell_signals start (is_answer tx) h e log,
-      by (turn_at start tx h log e))
+      omega (
+        arith,
+        never_answers h log low differs,
+        shell_signals start (is_answer tx) h e log,
+        by (turn_at start tx h log e),
+      )
     where
       by : HostTurn tx (after start h log) e.step.taken (step_after start h log e)
           → answers_in tx (step_after start h log e).effects.sends ≡ 0
@@ -139,8 +143,11 @@ module _ (start : Start) (tx : TxId) where
           arith,
           steps_from start (is_key tx) 0
               (λ to body e. plain_key tx body (right_of (is_tc to.block) (key_of_tx tx body) e)) (logs (home start tx))
-              (λ k other. omega (arith, host_silent start tx k (home start tx) (logs k) other,
-                  few_taken start logs right (is_key tx) k (home start tx))),
+              (λ k other. omega (
+                arith,
+                host_silent start tx k (home start tx) (logs k) other,
+                few_taken start logs right (is_key tx) k (home start tx),
+              )),
           few_taken start logs right (is_key tx) 0 (home start tx),
         )
 
@@ -150,8 +157,11 @@ module _ (start : Start) (tx : TxId) where
         omega (
           arith,
           steps_from start (is_commit_req tx) 0 (plain_commit tx) (logs (home start tx))
-              (λ k other. omega (arith, never_commits k (home start tx) (logs k) other,
-                  few_taken start logs right (is_commit_req tx) k (home start tx))),
+              (λ k other. omega (
+                arith,
+                never_commits k (home start tx) (logs k) other,
+                few_taken start logs right (is_commit_req tx) k (home start tx),
+              )),
           few_taken start logs right (is_commit_req tx) 0 (home start tx),
         )
 

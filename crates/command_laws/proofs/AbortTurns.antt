@@ -59,8 +59,13 @@ pub record StaysLoose (asked : Bool) (turn : Turn) : Type 0 where
   pub sends : are_of is_mild turn.step.effects.sends ≡ true
 
 chains : (tx : TxId) → HasChains tx is_mild
-chains tx = record { commits = λ key epoch chain at. refl; completes = λ key chain at. refl; aborts =
-    λ key. refl; goes_on = λ at. refl }
+chains tx = record {
+  commits = λ key epoch chain at. refl;
+  completes = λ key chain at. refl;
+  aborts =
+      λ key. refl;
+  goes_on = λ at. refl;
+}
 
 fronts : (c : Bool) (tx : TxId) (phase : Phase) → is_loose c phase ≡ true → are_of is_mild (front_sends tx phase) ≡ true
 unfolding front_sends
@@ -109,11 +114,19 @@ module _ (c : Bool) (node : ℕ) (layout : Layout) (tx : TxId) (t : Transaction)
       → TurnFormsAt node layout tx t body (StaysLoose (if is_roll body then true else c))
   unfolding entering
   loose_forms body plain = record {
-    stays = λ other missed. record { phase = λ on. still_loose (is_roll body) (roll_missed body missed); none =
-        none; sends = refl };
+    stays = λ other missed. record {
+      phase = λ on. still_loose (is_roll body) (roll_missed body missed);
+      none =
+          none;
+      sends = refl;
+    };
     stops = λ at is high. record { phase = λ on. unrolled is refl; none = none; sends = refl };
-    goes_on = λ at is low. record { phase = λ on. unrolled is refl; none = none; sends =
-        rest_of_kind is_mild layout tx (chains tx) node t at (fronts c tx t.phase fine) };
+    goes_on = λ at is low. record {
+      phase = λ on. unrolled is refl;
+      none = none;
+      sends =
+          rest_of_kind is_mild layout tx (chains tx) node t at (fronts c tx t.phase fine);
+    };
     operates = λ op is can. absurd (not_of is_more body (Client (TcKeyReq tx op)) plain is refl);
     answers = λ key answer asked is own at. absurd (not_asked asked own.is);
     late = λ key asked why verifying awaited is own at. absurd (not_asked asked own.is);

@@ -114,7 +114,7 @@ module _ (tx : TxId) where
       by : (a b : Bool) → told_of tx x.body ≡ a → is_no_ref x.body ≡ b
           → (if b then are_of is_no_ref xs else false) ≡ true
           → (sends_of (is_told tx) xs ≡ 0 → are_of is_no_ref xs ≡ true → sends_of (is_loss tx) xs ≡ 0)
-              → one_if (is_loss tx x.to x.body) + sends_of (is_loss tx) xs ≡ 0
+          → one_if (is_loss tx x.to x.body) + sends_of (is_loss tx) xs ≡ 0
       by true b told ref rest more = absurd (omega (arith, none, ap one_if told))
       by false true told ref rest more =
           omega (arith, more (omega (arith, none)) rest, ap (λ c. one_if (not c)) (told_fair x.body told ref))
@@ -204,16 +204,21 @@ module _ (tx : TxId) where
               ∙ none_of is_no_end (is_bad tx) good_end (turn_row s body t).step.effects.sends q.ends;
           fair = ap (sends_of (is_loss tx)) sends
               ∙ none_of (is_fair tx) (is_loss tx) fair_loss (turn_row s body t).step.effects.sends q.fair;
-          is_open = λ at. record { open_now =
-              subst OpenOption (sym
-              (left ∙ ap (λ b. if b then None else Some (turn_row s body t).step.state) q.goes)) q.now };
+          is_open = λ at. record {
+            open_now =
+                subst OpenOption (sym
+                (left ∙ ap (λ b. if b then None else Some (turn_row s body t).step.state) q.goes)) q.now;
+          };
         })
         own (inr q) = inr (record {
           good = ap (sends_of (is_bad tx)) sends
               ∙ none_of is_no_end (is_bad tx) good_end (turn_row s body t).step.effects.sends q.ends;
           home = home_of t live;
-          past = record { past = subst PastOption (sym left) (left_past (turn_row s body t) q.past); early =
-              omega (arith, live_early tx s t live sound.own, more) };
+          past = record {
+            past = subst PastOption (sym left) (left_past (turn_row s body t) q.past);
+            early =
+                omega (arith, live_early tx s t live sound.own, more);
+          };
         })
 
     pub past_goes : (Home → IsPastNow tx s) → TcGoes tx s body step → GoesPast Home step.state step.effects.sends
@@ -229,8 +234,11 @@ module _ (tx : TxId) where
     past_goes was (takes t same live sends left more) = record {
       good = ap (sends_of (is_bad tx)) sends
           ∙ none_of is_no_end (is_bad tx) good_end (turn_row s body t).step.effects.sends q.ends;
-      past = λ at. record { past = subst PastOption (sym left) (left_past (turn_row s body t) q.past); early =
-          omega (arith, live_early tx s t live sound.own, more) };
+      past = λ at. record {
+        past = subst PastOption (sym left) (left_past (turn_row s body t) q.past);
+        early =
+            omega (arith, live_early tx s t live sound.own, more);
+      };
     }
       where
         q : IsLeaving (turn_row s body t)

@@ -133,14 +133,14 @@ module _ (tx : TxId) where
         by : (b : Bool) → same_tx (tx_in body) tx ≡ b → KeepsFirm step.state.live step.effects.sends
         by true same =
             let stays = firm_turn s (tx_in body) body t refl (not_push body plain same)
-                (each_at IsFirmFor front (tx_in body, t) back s.live was firm same) in
+            (each_at IsFirmFor front (tx_in body, t) back s.live was firm same) in
             turn_firm step t front back was is
             (none_of is_no_abort (is_back tx) no_back_firm (turn_row s body t).step.effects.sends stays.sends)
             (λ own. stays.firm)
         by false differs =
             turn_firm step t front back was is
             (none_of (is_said (tx_in body)) (is_back tx) (no_back_other (tx_in body) differs)
-                (turn_row s body t).step.effects.sends (turn_said s body t))
+            (turn_row s body t).step.effects.sends (turn_said s body t))
             (λ own. absurd (let both : false ≡ true = sym differs ∙ own in cc))
 
   abbrev pub FirmHost : Host → Type 0

@@ -54,9 +54,14 @@ module _ (k v : List ℕ) where
     where
       by : (o : Ordering) → key_cmp k r.0 ≡ o → AreRising (put rows)
           → AreRising (match_ordering o ((k, v) ∷ r ∷ rows) ((r.0, v) ∷ rows) (r ∷ put rows))
-      by Less is rest = ((is,
+      by Less is rest = (
+        (
+          is,
           each_map (λ (q : KeyedRow). key_cmp r.0 q.0 ≡ Less) (λ (q : KeyedRow). key_cmp k q.0 ≡ Less) rows
-          (λ q behind. nat_list_cmp_total.trans k r.0 q.0 is behind) rising.0), rising)
+              (λ q behind. nat_list_cmp_total.trans k r.0 q.0 is behind) rising.0,
+        ),
+        rising,
+      )
       by Equal is rest = rising
       by Greater is rest = (each_put (λ key. key_cmp r.0 key ≡ Less) rows rising.0 (turned k r.0 is), rest)
 

@@ -31,8 +31,12 @@ last_one p (x ∷ xs) t (y ∷ front) item back none passes is =
     let same : y ≡ x = cc in
     let rest : xs ++ t ∷ [] ≡ front ++ item ∷ back = cc in
     let l = last_one p xs t front item back none.1 passes rest in
-    record { item_is = l.item_is; front_is = ap (λ z. z ∷ front) same ∙ ap (λ zs. x ∷ zs) l.front_is; back_is =
-    l.back_is }
+    record {
+      item_is = l.item_is;
+      front_is = ap (λ z. z ∷ front) same ∙ ap (λ zs. x ∷ zs) l.front_is;
+      back_is =
+          l.back_is;
+    }
 
 -- the last at its place: what it becomes stands behind the same ones, and so it goes
 pub record IsAtEnd (xs : List OpenTransaction) (t : OpenTransaction) (at : ℕ) (item : OpenTransaction) : Type 0 where

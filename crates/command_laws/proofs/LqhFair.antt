@@ -41,5 +41,10 @@ lqh_fair own s body fair =
     }))
   where
     request : (r : Request) → RequestSends (λ (o : Outgoing). is_fair own o.body ≡ true) r
-    request r = record { log_full = λ used reserved need. refl; table_full = λ rows. refl; answers = λ a. refl; passes =
-        λ image next is. refl }
+    request r = record {
+      log_full = λ used reserved need. refl;
+      table_full = λ rows. refl;
+      answers = λ a. refl;
+      passes =
+          λ image next is. refl;
+    }

@@ -86,8 +86,15 @@ last_asked (e ∷ log) = by (is_request e.step.taken.body) refl (last_asked log)
     by true is rest = inr (record { newer = []; step = e; older = log; is = refl; asks = is; plain = tt })
     by false is (inl plain) = inl (is, plain)
     by false is (inr l) =
-        inr (record { newer = e ∷ l.newer; step = l.step; older = l.older; is = ap (λ w. e ∷ w) l.is; asks =
-        l.asks; plain = (is, l.plain) })
+        inr (record {
+          newer = e ∷ l.newer;
+          step = l.step;
+          older = l.older;
+          is = ap (λ w. e ∷ w) l.is;
+          asks =
+              l.asks;
+          plain = (is, l.plain);
+        })
 
 request_there : (body : Body) → is_request body ≡ true → (r : ApiReq) × (request_in body ≡ Some r)
 request_there (Host (Continue (Request r) at)) is = (r, refl)

@@ -146,8 +146,10 @@ module _ (start : Start) (P : Addressed → (ℕ → List HostStep) → Type 0) 
     leads_on : AllTaken → Leads before after e → IsPhase after
     leads_on all (inl (none, done)) = inr (ends_quiet all none, done)
     leads_on all (inr goes) =
-        inl (y goes.out goes.is,
-        (goes_under_way goes.out goes.is all goes.there, goes.holds (y goes.out goes.is) refl refl refl))
+        inl (
+          y goes.out goes.is,
+          (goes_under_way goes.out goes.is all goes.there, goes.holds (y goes.out goes.is) refl refl refl),
+        )
 
     -- a request takes nothing from a link
     asked_all : is_request e.step.taken.body ≡ true → IsQuiet m (hosts start) before → AllTaken
@@ -302,7 +304,7 @@ module _ (start : Start) (P : Addressed → (ℕ → List HostStep) → Type 0) 
           by false is = refl
           by true is =
               let asked = fits_asked start e.host (last_stamp (before e.host)) e.step.taken
-                  (is_request e.step.taken.body) is happens.step.fits.asked in
+              (is_request e.step.taken.body) is happens.step.fits.asked in
               absurd (omega (
                 arith,
                 asks_once,
@@ -335,8 +337,8 @@ module _ (start : Start) (P : Addressed → (ℕ → List HostStep) → Type 0) 
           by (inl under) = under
           by (inr high) =
               let none : before from_here ≡ [] =
-                  empty (cut_before from_here).newer (before from_here)
-                  (sym (served.since.within from_here high) ∙ (cut_before from_here).is) in
+              empty (cut_before from_here).newer (before from_here)
+              (sym (served.since.within from_here high) ∙ (cut_before from_here).is) in
               absurd (nothing past_here.newer _ _ (sym (ap (sent m from_here e.host) none) ∙ past_here.is))
 
       phase_here : IsPhase before → IsPhase after

@@ -169,7 +169,7 @@ listed_row (Some slot ∷ places) key value apart inside = by slot.row refl insi
     by None is there rest = later (same_key slot.key key) refl there (rest there)
     by (Some w) is (inl this) rest =
         let at : same_key slot.key key ≡ true = ap (same_key slot.key) (ap (λ (x : KeyedRow). x.0) this)
-            ∙ same_key-self slot.key in
+        ∙ same_key-self slot.key in
         ap (λ b. if b then slot.row else row_at places key) at ∙ is
         ∙ ap (λ v. Some v) (sym (ap (λ (x : KeyedRow). x.1) this))
     by (Some w) is (inr there) rest = later (same_key slot.key key) refl there (rest there)

@@ -134,8 +134,11 @@ module _ (tx : TxId) where
   module _ (s : ApiState) (body : Body) (calm : NoneBegins s.opened) where
     pub change_calm : (step : Step ApiState) → ApiChange s body step → KeepsCalm step.state.opened step.effects.sends
     change_calm step (rests is adds kind) =
-        record { calm = subst NoneBegins (sym is) calm; pushes =
-        none_of is_news_kind (is_push_to tx) no_push_news step.effects.sends kind }
+        record {
+          calm = subst NoneBegins (sym is) calm;
+          pushes =
+              none_of is_news_kind (is_push_to tx) no_push_news step.effects.sends kind;
+        }
     change_calm step (waits one ahead at about is replies sends) = record {
       calm = subst NoneBegins (sym is)
           (each_changed (λ (t : OpenTransaction). is_beginning t.doing
@@ -161,13 +164,13 @@ module _ (tx : TxId) where
     }
     change_calm step (starts called one at u about passes is goes) =
         absurd (let off : false ≡ true =
-            sym (each_at (λ (t : OpenTransaction). is_beginning t.doing
-            ≡ false) at.front at.t at.back s.opened at.is calm)
+        sym (each_at (λ (t : OpenTransaction). is_beginning t.doing
+        ≡ false) at.front at.t at.back s.opened at.is calm)
         ∙ left_of (is_beginning at.t.doing) (same_name at.t.name called) (left_of (begins called at.t) _ passes) in cc)
     change_calm step (refuses called at about passes is replies sends) =
         absurd (let off : false ≡ true =
-            sym (each_at (λ (t : OpenTransaction). is_beginning t.doing
-            ≡ false) at.front at.t at.back s.opened at.is calm)
+        sym (each_at (λ (t : OpenTransaction). is_beginning t.doing
+        ≡ false) at.front at.t at.back s.opened at.is calm)
         ∙ left_of (is_beginning at.t.doing) (same_name at.t.name called) passes in cc)
 
   host_calm : (g : host.Host) (x : Signal) → has_api g ≡ true → is_request x.body ≡ false → NoneBegins (opened_in g)
@@ -186,8 +189,8 @@ module _ (tx : TxId) where
     where
       next : NoneBegins (opened_in (after start 0 (later ++ log))) × (sent_since start (is_push_to tx) 0 later log ≡ 0)
           → NoneBegins (opened_in (after start 0 (e ∷ (later ++ log))))
-              × (sent_since start (is_push_to tx) 0 (e ∷ later) log ≡ 0)
+          × (sent_since start (is_push_to tx) 0 (e ∷ later) log ≡ 0)
       next before =
           let kept = host_calm (after start 0 (later ++ log)) e.step.taken
-              (api_runs start (later ++ log)) plain.0 before.0 in
+          (api_runs start (later ++ log)) plain.0 before.0 in
           (kept.calm, omega (arith, kept.pushes, before.1))

@@ -66,7 +66,7 @@ pub none_asked : (start : Start) (test : Place → Body → Bool)
 none_asked start test fails h [] log = refl
 none_asked start test fails h (e ∷ newer) log =
     let here = host_asks_none (after start (suc h) (newer ++ log)) e.step.taken
-        (node_runs_none start h (newer ++ log)) in
+    (node_runs_none start h (newer ++ log)) in
     omega (
       arith,
       none_asked start test fails h newer log,

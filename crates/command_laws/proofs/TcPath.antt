@@ -79,7 +79,7 @@ module _ (tx : TxId) where
       by : TxStep tx s body (tc_table s body) → TcGoes tx s body (tc_table s body)
       by (elsewhere same kind absent) =
           aside same (none_of (is_apart tx) (is_told tx) none_apart (tc_table s body).effects.sends kind)
-              (next_grows s body) absent
+          (next_grows s body) absent
       by (born name about one none there told later) =
           begins (ap (λ (v : TxId). v.seq) one) there (ap (sends_of (is_told tx)) told) later
       by (turned t about one there move left told) = takes t one there told left (next_grows s body)

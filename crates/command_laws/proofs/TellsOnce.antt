@@ -69,8 +69,10 @@ module _ (tx : TxId) where
   -- where nothing is told of it, it isn't answered, nor is its abort reported
   pub none_told : (xs : List Outgoing) → sends_of (is_told tx) xs ≡ 0
       → (sends_of (is_reply tx) xs ≡ 0) × (sends_of (is_back tx) xs ≡ 0)
-  none_told xs none = (omega (arith, none, sends_less (is_reply tx) (is_told tx) reply_told xs),
-      omega (arith, none, sends_less (is_back tx) (is_told tx) back_told xs))
+  none_told xs none = (
+    omega (arith, none, sends_less (is_reply tx) (is_told tx) reply_told xs),
+    omega (arith, none, sends_less (is_back tx) (is_told tx) back_told xs),
+  )
 
   push_none : (body : Body) → wish_back_of tx body ≡ false → key_of_tx tx body ≡ false → push_of tx body ≡ false
   push_none (Client (TcKeyReq other op)) wish key = key
@@ -110,8 +112,10 @@ module _ (tx : TxId) where
             → IsOneOfThree a r s → AfterStep step
         by n (inl q) = inl (omega (arith, n.0, q.0), omega (arith, n.1, q.1))
         by n (inr (inl q)) =
-            inr (inl ((omega (arith, n.0, q.0.0), omega (arith, n.1, q.0.1)),
-            (subst IsFirmNow (sym same) q.1.0, omega (arith, q.1.1, more))))
+            inr (inl (
+              (omega (arith, n.0, q.0.0), omega (arith, n.1, q.0.1)),
+              (subst IsFirmNow (sym same) q.1.0, omega (arith, q.1.1, more)),
+            ))
         by n (inr (inr q)) = inr (inr (omega (arith, n.0, q.0), (same ∙ q.1.0, omega (arith, q.1.1, more))))
 
     begins_next : (step : Step TcState) → tx.seq ≡ s.next_seq → sends_of (is_told tx) step.effects.sends ≡ 0
@@ -128,7 +132,7 @@ module _ (tx : TxId) where
     module _ (step : Step TcState) (t : Transaction) (same : tx_in body ≡ tx) (was : of_live tx s.live ≡ Some t)
         (sends : step.effects.sends ≡ (turn_row s body t).step.effects.sends)
         (left : of_live tx step.state.live ≡ left_of_turn (turn_row s body t))
-            (more : s.next_seq ≤ step.state.next_seq) where
+        (more : s.next_seq ≤ step.state.next_seq) where
       early : tx.seq < step.state.next_seq
       early = omega (arith, live_early tx s t was sound.own, more)
 
@@ -144,8 +148,10 @@ module _ (tx : TxId) where
       first_next : (a ≡ 0) × (r ≡ 0) → TurnTells tx (turn_row s body t) → AfterStep step
       unfolding AfterStep
       first_next none (inl n) =
-          inl (omega (arith, none.0, ap (sends_of (is_reply tx)) sends, n.0),
-          omega (arith, none.1, ap (sends_of (is_back tx)) sends, n.1))
+          inl (
+            omega (arith, none.0, ap (sends_of (is_reply tx)) sends, n.0),
+            omega (arith, none.1, ap (sends_of (is_back tx)) sends, n.1),
+          )
       first_next none (inr (inl q)) = by (sends_of (is_reply tx) step.effects.sends) refl
         where
           quiet : sends_of (is_back tx) step.effects.sends + r ≡ 0
@@ -153,9 +159,10 @@ module _ (tx : TxId) where
 
           by : (n : ℕ) → sends_of (is_reply tx) step.effects.sends ≡ n → AfterStep step
           by zero is = inl (omega (arith, none.0, is), quiet)
-          by (suc n) is = inr (inl
-              ((omega (arith, is), quiet),
-              (subst IsFirmNow (sym left) (left_firm (turn_row s body t) (λ over. q.1.firm)), early)))
+          by (suc n) is = inr (inl (
+            (omega (arith, is), quiet),
+            (subst IsFirmNow (sym left) (left_firm (turn_row s body t) (λ over. q.1.firm)), early),
+          ))
       first_next none (inr (inr q)) = inr (inr (
         omega (arith, none.0, ap (sends_of (is_reply tx)) sends, q.0),
         (left ∙ ap (λ b. if b then None else Some (turn_row s body t).step.state) q.1, early),
@@ -170,12 +177,14 @@ module _ (tx : TxId) where
           by true key = absurd (omega (arith, some.0, has.fair, once, ap one_if key))
           by false key =
               let stays = firm_turn s tx body t same
-                  (not_push tx body (push_none body wish key) (ap (λ v. same_tx v tx) same ∙ same_tx-self tx))
-                  (subst IsFirmNow was firm) in
+              (not_push tx body (push_none body wish key) (ap (λ v. same_tx v tx) same ∙ same_tx-self tx))
+              (subst IsFirmNow was firm) in
               let quiet = none_of is_no_abort (is_back tx) (no_back_firm tx)
-                  (turn_row s body t).step.effects.sends stays.sends in
-              inr (inl ((omega (arith, some.0), omega (arith, some.1, ap (sends_of (is_back tx)) sends, quiet)),
-                  (subst IsFirmNow (sym left) (left_firm (turn_row s body t) (λ over. stays.firm)), early)))
+              (turn_row s body t).step.effects.sends stays.sends in
+              inr (inl (
+                (omega (arith, some.0), omega (arith, some.1, ap (sends_of (is_back tx)) sends, quiet)),
+                (subst IsFirmNow (sym left) (left_firm (turn_row s body t) (λ over. stays.firm)), early),
+              ))
 
       takes_next : IsOneOfThree a r s → AfterStep step
       takes_next (inl none) = first_next none (turn_tells s tx body t same)
@@ -191,8 +200,11 @@ module _ (tx : TxId) where
         (sends_of (is_reply tx) (tc_table s body).effects.sends + a)
         (sends_of (is_back tx) (tc_table s body).effects.sends + r) (tc_table s body).state
     unfolding AfterStep
-    tc_next = record { fair = omega (arith, has.fair, tc_fair tx s body); three =
-        goes_next (tc_table s body) (tc_goes tx s body sound) }
+    tc_next = record {
+      fair = omega (arith, has.fair, tc_fair tx s body);
+      three =
+          goes_next (tc_table s body) (tc_goes tx s body sound);
+    }
 
   more_keys : (asked keys k a r a_more r_more : ℕ) (s : TcState) → a_more ≡ 0 → r_more ≡ 0 → HasTold asked keys a r s
       → HasTold asked (keys + k) (a_more + a) (r_more + r) s
@@ -208,7 +220,7 @@ module _ (tx : TxId) where
       → (asked keys a r : ℕ) → asked + (keys + one_if (is_key tx x.to x.body)) ≤ 1
       → HasTold asked keys a r (tc_of g)
       → HasTold asked (keys + one_if (is_key tx x.to x.body)) (sends_of (is_reply tx) (row g x).effects.sends + a)
-          (sends_of (is_back tx) (row g x).effects.sends + r) (tc_of (row g x).state)
+      (sends_of (is_back tx) (row g x).effects.sends + r) (tc_of (row g x).state)
   host_tells g x sound wish asked keys a r once has =
       tc_host (λ (step : Step TcState). HasTold asked (keys + one_if (is_key tx x.to x.body))
       (sends_of (is_reply tx) step.effects.sends + a) (sends_of (is_back tx) step.effects.sends + r) step.state) g x

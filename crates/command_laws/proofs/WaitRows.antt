@@ -169,8 +169,11 @@ module _ (start : Start) (tx : TxId) where
 
   of_kind_step : {S : Type 0} (s : S) (step : Step S) → step.state ≡ s
       → are_of (is_wait_of tx) step.effects.sends ≡ true → IsQuietStep s step
-  of_kind_step s step same kind = record { same = same; plain =
-      none_of (is_wait_of tx) (is_other tx) no_other step.effects.sends kind }
+  of_kind_step s step same kind = record {
+    same = same;
+    plain =
+        none_of (is_wait_of tx) (is_other tx) no_other step.effects.sends kind;
+  }
 
   waits_kind : (one : TxId) (key : List ℕ) (members : List Member) → same_tx one tx ≡ true
       → are_of (is_wait_of tx) (waits_of one key members) ≡ true
@@ -202,7 +205,7 @@ module _ (start : Start) (tx : TxId) where
       at_value at at_is (Some t) is =
           let split = split_at one s.live at t at_is is in
           let live_same : set_value_at s.live at (wait_row one t).state ≡ s.live =
-              ap (set_value_at s.live at) (row_state_same one t) ∙ split.set t ∙ sym split.is in
+          ap (set_value_at s.live at) (row_state_same one t) ∙ split.set t ∙ sym split.is in
           of_kind_step s (stepped s at (wait_row one t)) (ap (with_live s) live_same) (row_kind one t e)
 
       at_place : (o : Option ℕ) → place_in s one ≡ o → IsQuietStep s (step_place s (wait_row one) o)
@@ -266,7 +269,7 @@ module _ (start : Start) (tx : TxId) where
   unfolding wait_row
   wants_here s t asked member live unanswered inside =
       subst (λ (step : Step TcState). 1 ≤ sends_of
-          (to_host start (rows_host start member.node) (is_probe tx (key_of asked.op))) step.effects.sends) (sym there)
+      (to_host start (rows_host start member.node) (is_probe tx (key_of asked.op))) step.effects.sends) (sym there)
       (tally_in (λ (x : Outgoing). to_host start (rows_host start member.node)
       (is_probe tx (key_of asked.op)) x.to x.body) (wait_of tx (key_of asked.op) member)
       (waits_of tx (key_of asked.op) asked.chain)
@@ -288,8 +291,8 @@ module _ (start : Start) (tx : TxId) where
       (tc_table s body).effects.sends
   tc_wants s t asked member live unanswered inside (Client (TcWaitReq one)) e =
       subst (λ v. 1 ≤ sends_of (to_host start (rows_host start member.node) (is_probe tx (key_of asked.op)))
-          (step_of s v (λ w. wait_row v w)).effects.sends) (sym (same_tx-is one tx e))
-          (wants_here s t asked member live unanswered inside)
+      (step_of s v (λ w. wait_row v w)).effects.sends) (sym (same_tx-is one tx e))
+      (wants_here s t asked member live unanswered inside)
   tc_wants s t asked member live unanswered inside _ e = cc
 
   -- where a coordinator has the transaction, what it sends at such a signal is sent
@@ -324,7 +327,7 @@ module _ (start : Start) (tx : TxId) where
       (lqh_table s body).effects.sends
   lqh_finds s key held (Client (LqhWaitReq one at)) e =
       wait_forms (λ step. 1 ≤ sends_of (to_host start (home start tx) (is_found tx)) step.effects.sends) s one at
-          (record {
+      (record {
         none = λ is. absurd (let both : false ≡ true = sym (ap is_some is) ∙ here in cc);
         some = λ ahead is. omega (
           arith,
@@ -391,7 +394,7 @@ module _ (start : Start) (tx : TxId) where
   unfolding pass_row
   tc_passes s t live (Client (LqhWaitConf one ahead)) e =
       subst (λ v. 1 ≤ sends_of (to_host start 0 (is_passed tx))
-          (pass_if s v ahead (is_some (place_in s v))).effects.sends) (sym (same_tx-is one tx e))
+      (pass_if s v ahead (is_some (place_in s v))).effects.sends) (sym (same_tx-is one tx e))
       (pass_one s ahead (is_some (place_in s tx)) (ap is_some (placed_at tx s.live t live).place))
   tc_passes s t live _ e = cc
 

@@ -81,9 +81,13 @@ pub came_from : (start : Start) (was now : ℕ → List HostStep) (before : AreQ
     → e.step.taken.from.0 ≡ i → 1 ≤ sent_since start test i (cut i).newer (was i)
 came_from start was now before since cut test j e inside plain passes i at =
     let here = all_three (is_request e.step.taken.body) (e.step.taken.from.0 == i)
-        (test e.step.taken.to e.step.taken.body) plain (grind (arith, nat_tests, at)) passes in
-    omega (arith, tally_in (λ (x : HostStep). is_from (machine start) i x && test x.step.taken.to x.step.taken.body) e
-        (cut j).newer inside here, few_taken start was now before since cut test i j)
+    (test e.step.taken.to e.step.taken.body) plain (grind (arith, nat_tests, at)) passes in
+    omega (
+      arith,
+      tally_in (λ (x : HostStep). is_from (machine start) i x && test x.step.taken.to x.step.taken.body) e
+          (cut j).newer inside here,
+      few_taken start was now before since cut test i j,
+    )
 
 -- a node answers that the transaction waits behind this one
 abbrev pub finds_who : TxId → TxId → Body → Bool
@@ -184,8 +188,12 @@ module _ (tx who : TxId) where
       → 1 ≤ sends_of (is_telling_who tx who) (tc_table s body).effects.sends → finds_who tx who body ≡ true
   unfolding pass_row
   tc_told s (Client (TcWaitReq one)) own some =
-      absurd (omega (arith, some, none_of is_seek (is_telling_who tx who) no_tell_seek
-      (step_of s one (λ t. wait_row one t)).effects.sends (seeks_only s one)))
+      absurd (omega (
+        arith,
+        some,
+        none_of is_seek (is_telling_who tx who) no_tell_seek
+            (step_of s one (λ t. wait_row one t)).effects.sends (seeks_only s one),
+      ))
   tc_told s (Client (LqhWaitReq one key)) own some = none_sent some
   tc_told s (Client (LqhWaitConf one ahead)) own some = passes_told s one ahead (is_some (place_in s one)) some
   tc_told s (Client (TcWaitConf one ahead)) own some = none_sent some
@@ -238,8 +246,11 @@ module _ (tx who : TxId) where
     where
       by : (ahead : TxId) → ahead_at s.locks key one ≡ Some ahead → (a b : Bool) → same_tx one tx ≡ a
           → same_tx ahead who ≡ b → (a && b) ≡ true → FoundAt s
-      by ahead is true true p q e = record { key = key; is = ap (ahead_at s.locks key) (sym (same_tx-is one tx p)) ∙ is
-          ∙ ap (λ v. Some v) (same_tx-is ahead who q) }
+      by ahead is true true p q e = record {
+        key = key;
+        is = ap (ahead_at s.locks key) (sym (same_tx-is one tx p)) ∙ is
+            ∙ ap (λ v. Some v) (same_tx-is ahead who q);
+      }
       by ahead is true false p q e = cc
       by ahead is false b p q e = cc
   lqh_found s (Client (LqhWaitConf one ahead)) own some = none_sent some
@@ -254,7 +265,7 @@ module _ (tx who : TxId) where
   no_begin (Client (LqhWaitReq one key)) own s = refl
   no_begin (Client (LqhWaitConf one ahead)) own s =
       none_of (is_tc_kind one) (is_finding_who tx who) (no_find_tc one)
-          (tc_table s (Client (LqhWaitConf one ahead))).effects.sends (tc_kinds s (Client (LqhWaitConf one ahead)) refl)
+      (tc_table s (Client (LqhWaitConf one ahead))).effects.sends (tc_kinds s (Client (LqhWaitConf one ahead)) refl)
   no_begin (Client (TcWaitConf one ahead)) own s = refl
   no_begin _ own s = cc
 
@@ -266,7 +277,11 @@ module _ (tx who : TxId) where
         api = λ runs at some. absurd
             (omega (arith, some, api_silent (is_finding_who tx who) no_find_api (api_of g) x.body));
         tc = λ runs at some. absurd (omega (arith, some, no_begin x.body own (tc_of g)));
-        dih = λ runs at some. absurd (omega (arith, some, none_of is_dih_kind (is_finding_who tx who) no_find_dih
-            (dih_table (dih_of g) x.body).effects.sends (dih_kinds (dih_of g) x.body)));
+        dih = λ runs at some. absurd (omega (
+          arith,
+          some,
+          none_of is_dih_kind (is_finding_who tx who) no_find_dih
+              (dih_table (dih_of g) x.body).effects.sends (dih_kinds (dih_of g) x.body),
+        ));
         rows = λ runs at some. lqh_found (lqh_of g) x.body own some;
       })

@@ -41,8 +41,17 @@ found {A} p (x ∷ xs) low = go (p x) refl low (found p xs)
     go : (b : Bool) → p x ≡ b → cond (not b) (1 + prefix_len (λ y. not (p y)) xs) 0 < suc (length xs)
         → (prefix_len (λ y. not (p y)) xs < length xs → IsFocus p xs (prefix_len (λ y. not (p y)) xs))
         → IsFocus p (x ∷ xs) (cond (not b) (1 + prefix_len (λ y. not (p y)) xs) 0)
-    go true e low rest = record { item = x; front = []; back = xs; is = refl; passes = e; get = refl; set = λ other.
-        refl; removed = refl }
+    go true e low rest = record {
+      item = x;
+      front = [];
+      back = xs;
+      is = refl;
+      passes = e;
+      get = refl;
+      set = λ other.
+          refl;
+      removed = refl;
+    }
     go false e low rest =
         subst (λ k. IsFocus p (x ∷ xs) k) (sym (one-add (prefix_len (λ y. not (p y)) xs)))
         (behind p x xs (prefix_len (λ y. not (p y)) xs) (rest (omega (arith, low))))
@@ -71,7 +80,7 @@ where_found {A} p xs none some P missing present = go (nat_lt (prefix_len (λ x.
     go true e =
         let f = found p xs (grind (arith, nat_tests, e)) in
         subst (λ o. P (if_there none (some (prefix_len (λ x. not (p x)) xs)) o)) (sym f.get)
-            (present (prefix_len (λ x. not (p x)) xs) f)
+        (present (prefix_len (λ x. not (p x)) xs) f)
     go false e = missing (absent p xs (grind (arith, nat_tests, e)))
 
 -- where no place is found none passes

@@ -83,7 +83,7 @@ module _ (tx : TxId) (key : List ℕ) where
           which false g_is true m_is apart down = absurd (apart m_is e)
           which false g_is false m_is apart down =
               inl (subst (λ k. waits tx (lock_at s.locks k).queue ≡ false) (same_key-is at_key key e)
-                  (sym (l.other m_is g_is) ∙ (sym (now_is true e) ∙ down)))
+              (sym (l.other m_is g_is) ∙ (sym (now_is true e) ∙ down)))
 
   -- what waits and the lock stay as they are
   quiet : (s : LqhState) (body : Body) (step : Step LqhState) → is_more_body body ≡ false
@@ -91,8 +91,10 @@ module _ (tx : TxId) (key : List ℕ) where
       → step.state.locks ≡ s.locks → Stays tx key s body step
   quiet s body step still waiting_is locks_are = record {
     there = λ q on. omega (arith, ap (tally (own tx key)) waiting_is, q (sym now_is ∙ on));
-    served = λ one forth some off. inl (omega (arith, some, ap (tally (own tx key)) waiting_is),
-        (sym now_is ∙ off, still));
+    served = λ one forth some off. inl (
+      omega (arith, some, ap (tally (own tx key)) waiting_is),
+      (sym now_is ∙ off, still),
+    );
   }
     where
       now_is : queued tx key step.state ≡ queued tx key s
@@ -150,8 +152,13 @@ module _ (tx : TxId) (key : List ℕ) where
       → IsServed tx key s body step.effects.sends
   who_waits s body sv step still told some (inl down) = inl (some, (down, still))
   who_waits s body sv step still told some (inr up) =
-      inr (omega (arith, told, ap (λ b. goes_on tx key s.node (go_on_if s.node work.Granted b)) up, more_one tx key
-          s.node))
+      inr (omega (
+        arith,
+        told,
+        ap (λ b. goes_on tx key s.node (go_on_if s.node work.Granted b)) up,
+        more_one tx key
+            s.node,
+      ))
 
   -- a transaction leaves a lock with its request, by an abort or since it waited too long
   outed : (s : LqhState) (body : Body) (other : TxId) (at_key : List ℕ) (sv : Served) (step : Step LqhState)
@@ -215,7 +222,7 @@ module _ (tx : TxId) (key : List ℕ) where
   commit_stays s other at_key epoch chain at = record {
     last = λ had st markers applies first.
         released s (Chain (Commit other at_key epoch chain at)) other at_key _ refl
-            (λ forth one. false≢true (sym forth ∙ one)) refl refl
+        (λ forth one. false≢true (sym forth ∙ one)) refl refl
         (omega arith);
     passes = λ had st markers applies first. quiet s (Chain (Commit other at_key epoch chain at)) _ refl refl refl;
   }
@@ -225,11 +232,11 @@ module _ (tx : TxId) (key : List ℕ) where
   complete_stays s other at_key chain at = record {
     last = λ first.
         released s (Chain (Complete other at_key chain at)) other at_key _ refl
-            (λ forth one. false≢true (sym forth ∙ one)) refl refl
+        (λ forth one. false≢true (sym forth ∙ one)) refl refl
         (omega arith);
     passes = λ first.
         released s (Chain (Complete other at_key chain at)) other at_key _ refl
-            (λ forth one. false≢true (sym forth ∙ one)) refl refl
+        (λ forth one. false≢true (sym forth ∙ one)) refl refl
         (omega arith);
   }
 
@@ -238,11 +245,11 @@ module _ (tx : TxId) (key : List ℕ) where
   abort_stays s other at_key = record {
     none = λ had st gives none.
         outed s (Chain (Abort other at_key)) other at_key (freed_lock s other at_key) _ refl
-            (released_waits tx other (lock_at s.locks at_key))
+        (released_waits tx other (lock_at s.locks at_key))
         (none_leaves s other at_key none) refl (omega arith);
     some = λ had st gives at r there here.
         outed s (Chain (Abort other at_key)) other at_key (freed_lock s other at_key) _ refl
-            (released_waits tx other (lock_at s.locks at_key))
+        (released_waits tx other (lock_at s.locks at_key))
         (one_leaves s other at_key at r there here) refl (omega arith);
   }
 
@@ -252,11 +259,11 @@ module _ (tx : TxId) (key : List ℕ) where
     rests = λ is. quiet s body _ still refl refl;
     none = λ other at_key is none.
         outed s body other at_key (unwaited_at s.locks at_key other) _ still
-            (unwaited_waits tx other (lock_at s.locks at_key))
+        (unwaited_waits tx other (lock_at s.locks at_key))
         (none_leaves s other at_key none) refl (told other at_key s.waiting);
     some = λ other at_key is at r there here.
         outed s body other at_key (unwaited_at s.locks at_key other) _ still
-            (unwaited_waits tx other (lock_at s.locks at_key))
+        (unwaited_waits tx other (lock_at s.locks at_key))
         (one_leaves s other at_key at r there here) refl (told other at_key (remove s.waiting at));
   }
     where
@@ -302,8 +309,11 @@ module _ (tx : TxId) (key : List ℕ) where
         completes = λ other at_key chain at. complete_stays s other at_key chain at;
         aborts = λ other at_key. abort_stays s other at_key;
         acknowledges = λ other markers. quiet s _ _ refl refl refl;
-        waits = λ other at_key. record { none = λ is. quiet s _ _ refl refl refl; some = λ ahead is.
-            quiet s _ _ refl refl refl };
+        waits = λ other at_key. record {
+          none = λ is. quiet s _ _ refl refl refl;
+          some = λ ahead is.
+              quiet s _ _ refl refl refl;
+        };
         dumps = λ at rows next. quiet s _ _ refl refl refl;
         ages =
             let old = expire_stays (expire.aged s) (Host Round) refl in
@@ -330,5 +340,9 @@ module _ (tx : TxId) (key : List ℕ) where
       → RowWaits s body (lqh_table s body).state (lqh_table s body).effects.sends
   lqh_waits s body =
       let step = stays s body in
-      record { few = λ q. few_hops tx key s body q; there = λ q on. step.there q on; served = λ one forth some off.
-          step.served one forth some off }
+      record {
+        few = λ q. few_hops tx key s body q;
+        there = λ q on. step.there q on;
+        served = λ one forth some off.
+            step.served one forth some off;
+      }

@@ -20,7 +20,11 @@ lqh_node s =
       waits = λ tx key. record { none = λ is. refl; some = λ ahead is. refl };
       dumps = λ at rows next. refl;
       ages = record { rests = λ is. refl; none = λ tx key is none. refl; some = λ tx key is at r there here. refl };
-      expires = λ at. record { rests = λ is. refl; none = λ tx key is none. refl; some = λ tx key is place r there here.
-          refl };
+      expires = λ at. record {
+        rests = λ is. refl;
+        none = λ tx key is none. refl;
+        some = λ tx key is place r there here.
+            refl;
+      };
       rests = λ body is. refl;
     })

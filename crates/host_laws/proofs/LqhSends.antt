@@ -28,5 +28,10 @@ lqh_kinds s body =
     }))
   where
     request : (r : Request) → RequestSends (λ (o : Outgoing). is_lqh_kind o.body ≡ true) r
-    request r = record { log_full = λ used reserved need. refl; table_full = λ rows. refl; answers = λ a. refl; passes =
-        λ image next is. refl }
+    request r = record {
+      log_full = λ used reserved need. refl;
+      table_full = λ rows. refl;
+      answers = λ a. refl;
+      passes =
+          λ image next is. refl;
+    }

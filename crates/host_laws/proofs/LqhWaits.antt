@@ -144,10 +144,10 @@ module _ (tx : TxId) (key : List ℕ) where
           let at : at_key ≡ key = same_key-is at_key key (right_of (same_tx other tx) (same_key at_key key) e) in
           let here : queued s ≡ true =
           subst (λ k. waits tx (lock_at s.locks k).queue ≡ true) at
-              (subst (λ u. waits u (lock_at s.locks at_key).queue ≡ true) one on) in
+          (subst (λ u. waits u (lock_at s.locks at_key).queue ≡ true) one on) in
           let gone : position (is_for tx key) s.waiting ≡ None =
           subst (λ k. position (is_for tx k) s.waiting ≡ None) at
-              (subst (λ u. position (is_for u at_key) s.waiting ≡ None) one none) in
+          (subst (λ u. position (is_for u at_key) s.waiting ≡ None) one none) in
           absurd (omega (arith, q here, none_placed (is_for tx key) s.waiting gone))
 
       by : CountStep own (λ (o : Outgoing). is_hop tx key o.to o.body) s (came_to body) (lqh_table s body)
@@ -163,9 +163,9 @@ module _ (tx : TxId) (key : List ℕ) where
   granted_is s r mine =
       let one : r.tx ≡ tx = same_tx-is r.tx tx (left_of (same_tx r.tx tx) (same_key (work_key r.work) key) mine) in
       let on : work_key r.work ≡ key = same_key-is (work_key r.work) key
-          (right_of (same_tx r.tx tx) (same_key (work_key r.work) key) mine) in
+      (right_of (same_tx r.tx tx) (same_key (work_key r.work) key) mine) in
       ap (λ k. not (is_some (ahead_at s.locks k r.tx))) on
-          ∙ (ap (λ t. not (is_some (ahead_at s.locks key t))) one ∙ ap not (some_is (queued s)))
+      ∙ (ap (λ t. not (is_some (ahead_at s.locks key t))) one ∙ ap not (some_is (queued s)))
     where
       some_is : (b : Bool) → is_some (some_if b (first_other tx (lock_at s.locks key).holders)) ≡ b
       some_is true = refl
@@ -179,8 +179,12 @@ module _ (tx : TxId) (key : List ℕ) where
       served = λ one forth some off. inl (some, (sym (same is) ∙ off, refl));
     };
     queued = λ ahead is. record {
-      there = λ q on. omega (arith, tally_append own s.waiting (r ∷ []), some ahead is q
-          (same_key (work_key r.work) key) refl on);
+      there = λ q on. omega (
+        arith,
+        tally_append own s.waiting (r ∷ []),
+        some ahead is q
+            (same_key (work_key r.work) key) refl on,
+      );
       served = λ one forth some off. let was = before ahead is off some in inl (was.0, (was.1, refl));
     };
   }
@@ -217,8 +221,11 @@ module _ (tx : TxId) (key : List ℕ) where
 
           which : (c : Bool) → queued s ≡ c → (d : Bool) → same_tx r.tx tx ≡ d → 1 ≤ waiting s + one_if (own r)
           which true qs d ds = omega (arith, q qs)
-          which false qs true ds = omega (arith, ap one_if
-              (true_and (same_tx r.tx tx) (same_key (work_key r.work) key) ds e))
+          which false qs true ds = omega (
+            arith,
+            ap one_if
+                (true_and (same_tx r.tx tx) (same_key (work_key r.work) key) ds e),
+          )
           which false qs false ds = absurd (false≢true (sym (ap (λ b. b || same_tx r.tx tx) qs ∙ ds) ∙ now))
       some ahead is q false e on = omega (arith, q (sym (at_lock false e) ∙ on))
 
@@ -228,9 +235,17 @@ module _ (tx : TxId) (key : List ℕ) where
       before ahead is off some_now = by (same_key (work_key r.work) key) refl
         where
           by : (b : Bool) → same_key (work_key r.work) key ≡ b → (1 ≤ waiting s) × (queued s ≡ false)
-          by false e =
-              (omega (arith, some_now, tally_append own s.waiting (r ∷ []), ap
-              (λ b. one_if (same_tx r.tx tx && b)) e, none (same_tx r.tx tx)), sym (at_lock false e) ∙ off)
+          by false e = (
+            omega (
+              arith,
+              some_now,
+              tally_append own s.waiting (r ∷ []),
+              ap
+                  (λ b. one_if (same_tx r.tx tx && b)) e,
+              none (same_tx r.tx tx),
+            ),
+            sym (at_lock false e) ∙ off,
+          )
             where
               none : (b : Bool) → one_if (b && false) ≡ 0
               none true = refl
@@ -245,8 +260,16 @@ module _ (tx : TxId) (key : List ℕ) where
                   → (1 ≤ waiting s) × (queued s ≡ false)
               parts true qs d ds = absurd (false≢true (sym now ∙ ap (λ b. b || same_tx r.tx tx) qs))
               parts false qs true ds = absurd (false≢true (sym now ∙ (ap (λ b. b || same_tx r.tx tx) qs ∙ ds)))
-              parts false qs false ds = (omega (arith, some_now, tally_append own s.waiting (r ∷ []), ap
-                  (λ b. one_if (b && same_key (work_key r.work) key)) ds), qs)
+              parts false qs false ds = (
+                omega (
+                  arith,
+                  some_now,
+                  tally_append own s.waiting (r ∷ []),
+                  ap
+                      (λ b. one_if (b && same_key (work_key r.work) key)) ds,
+                ),
+                qs,
+              )
 
   -- the signal by which the block goes on
   pub more_one : (node : ℕ) → goes_on node (go_on_if node work.Granted true) ≡ 1

@@ -63,7 +63,7 @@ module _ (n : ℕ) (tx : TxId) (key : List ℕ) where
 
   module _ (s : TcState) (body : Body) (right : AreRight s.live) (once : tally (is_keyed tx) s.live ≤ 1)
       (own : Each (λ (e : TxId × Transaction). IsOwn s.node s.next_seq e.0) s.live)
-          (good : IsGoodLayout n s.layout) where
+      (good : IsGoodLayout n s.layout) where
     abbrev Steps : Step TcState → Type 0
     Steps step = StepAsks s step.state step.effects.sends (answers_of tx key body)
 
@@ -101,9 +101,16 @@ module _ (n : ℕ) (tx : TxId) (key : List ℕ) where
           right = subst AreRight (sym last)
               (each_append (λ (e : TxId × Transaction). is_right e.1.asked e.1.phase ≡ true) s.live
               ((next_tx s, fresh) ∷ []) right (refl, tt));
-          asks = λ some. inl (omega
-              (arith, some, ap (tally is_asking) last, tally_append is_asking s.live ((next_tx s, fresh) ∷ []),
-              none (same_tx (next_tx s) tx)), ap (answers_of tx key) about);
+          asks = λ some. inl (
+            omega (
+              arith,
+              some,
+              ap (tally is_asking) last,
+              tally_append is_asking s.live ((next_tx s, fresh) ∷ []),
+              none (same_tx (next_tx s) tx),
+            ),
+            ap (answers_of tx key) about,
+          );
         })
       where
         last : insert_entry same_tx s.live (next_tx s) fresh ≡ s.live ++ (next_tx s, fresh) ∷ []
@@ -130,7 +137,7 @@ module _ (n : ℕ) (tx : TxId) (key : List ℕ) where
         turned =
             turn_by s t (Asks n one key t right_was body) body
             (rows_at s.node s.layout one t body (Asks n one key t right_was body)
-                (asks_forms n one key t right_was body s.node s.layout good))
+            (asks_forms n one key t right_was body s.node s.layout good))
             (λ off. record { right = right_was; asks = λ e. inl (e, turned_none body off) })
           where
             turned_none : (b : Body) → is_turn b ≡ false → answers_of one key b ≡ 0
@@ -178,9 +185,12 @@ module _ (n : ℕ) (tx : TxId) (key : List ℕ) where
           right = each_changed (λ (x : TxId × Transaction). is_right x.1.asked x.1.phase ≡ true) front (one, t)
               (one, turn.step.state) back s.live was right (λ r. turned.right);
           asks = λ some. left (same_tx one tx) refl (asks_key key turn.step.state.asked) refl
-              (omega (arith, some,
-                  tally_between is_asking front (one, turn.step.state) back
-                  (front ++ (one, turn.step.state) ∷ back) refl));
+              (omega (
+                arith,
+                some,
+                tally_between is_asking front (one, turn.step.state) back
+                    (front ++ (one, turn.step.state) ∷ back) refl,
+              ));
         }
 
     pub tc_steps : StepAsks s (tc_table s body).state (tc_table s body).effects.sends (answers_of tx key body)

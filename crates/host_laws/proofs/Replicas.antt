@@ -73,7 +73,7 @@ acknowledged_same s tx key = acknowledge_forms (λ step. at_key key step.state �
 wait_same : (s : LqhState) (tx : TxId) (own key : List ℕ) → at_key key (wait.wait_row s tx own).state ≡ at_key key s
 wait_same s tx own key =
     wait_forms (λ step. at_key key step.state ≡ at_key key s) s tx own
-        (record { none = λ is. refl; some = λ ahead is. refl })
+    (record { none = λ is. refl; some = λ ahead is. refl })
 
 dump_same : (s : LqhState) (at : ℕ) (key : List ℕ) → at_key key (dump.dump_row s at).state ≡ at_key key s
 dump_same s at key = dump_forms (λ step. at_key key step.state ≡ at_key key s) s at (λ rows next. refl)
@@ -98,8 +98,11 @@ expire_well : (t : LqhState) → IsWell t → ExpireForms (λ step. IsWell step.
 expire_well t well = record {
   rests = λ is. well;
   none = λ tx key is none. record { placed = well.placed; orderly = unwait_orderly t.locks key tx well.orderly };
-  some = λ tx key is at r there here. record { placed = well.placed; orderly =
-      unwait_orderly t.locks key tx well.orderly };
+  some = λ tx key is at r there here. record {
+    placed = well.placed;
+    orderly =
+        unwait_orderly t.locks key tx well.orderly;
+  };
 }
 
 pub signals_keep_well : SignalsKeepWell
@@ -111,8 +114,11 @@ signals_keep_well s body well =
       };
       grants = λ at. record {
         none = λ is. well;
-        some = λ place q is here. record { placed = placed-performed (storage_of s) q well.placed; orderly =
-            well.orderly };
+        some = λ place q is here. record {
+          placed = placed-performed (storage_of s) q well.placed;
+          orderly =
+              well.orderly;
+        };
       };
       commits = λ tx key epoch chain at. record {
         last = λ had st markers applies first. record {
@@ -138,8 +144,11 @@ signals_keep_well s body well =
       acknowledges = λ tx markers. record { placed = well.placed; orderly = well.orderly };
       waits = λ tx key. record { none = λ is. well; some = λ ahead is. well };
       dumps = λ at rows next. well;
-      ages = expire_well (expire.aged s) (record { placed = well.placed; orderly =
-          age_round_orderly s.locks well.orderly });
+      ages = expire_well (expire.aged s) (record {
+        placed = well.placed;
+        orderly =
+            age_round_orderly s.locks well.orderly;
+      });
       expires = λ at. expire_well s well;
       rests = λ body is. well;
     }) body
@@ -157,11 +166,14 @@ signals_keep_well s body well =
 -- the rows of the start
 put_placed : (s : RowsState) (rows : List (List ℕ × List ℕ)) → AreApart s.places → s.pending ≡ []
     → IsPlaced (with_rows s rows)
-put_placed s [] apart none = record { apart = apart; placed =
-    subst (Each (λ (r : PendingRecord). has_place s.places r.key ≡ true)) (sym none) tt }
+put_placed s [] apart none = record {
+  apart = apart;
+  placed =
+      subst (Each (λ (r : PendingRecord). has_place s.places r.key ≡ true)) (sym none) tt;
+}
 put_placed s (r ∷ rows) apart none =
     put_placed (put_row s r.0 r.1) rows (apart-set_row (with_place s.places r.0) r.0 (Some r.1)
-        (apart-with_place s.places r.0 apart)) none
+    (apart-with_place s.places r.0 apart)) none
 
 -- a key of the group has of its rows what it has of all rows
 started_row : (shape : Shape) (node : ℕ) (s : RowsState) (table : Rows) (rows : List (List ℕ × List ℕ)) (key : List ℕ)

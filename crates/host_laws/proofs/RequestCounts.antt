@@ -100,8 +100,11 @@ module _ (w : Request → Bool) (test : Outgoing → Bool)
     some = λ at r is here.
         let left = with_waiting s (remove s.waiting at) in
         performs (storage_of s) r
-        (omega (arith, tally_taken (operate.is_granted s.locks) w s.waiting at r
-        (taken_at (operate.is_granted s.locks) s.waiting at r is here)))
+        (omega (
+          arith,
+          tally_taken (operate.is_granted s.locks) w s.waiting at r
+              (taken_at (operate.is_granted s.locks) s.waiting at r is here),
+        ))
         (omega (
           arith,
           tally_append test (operate.performed left r).effects.sends (operate.more_granted left),
@@ -114,12 +117,19 @@ module _ (w : Request → Bool) (test : Outgoing → Bool)
   commits s tx key epoch chain at = record {
     last = λ had st markers applies first.
         rests (omega arith)
-        (omega (arith, none (to_place (coordinator_of tx) (Chain (Committed tx key))) refl, served_none s.node
-        (freed_lock s tx key)));
+        (omega (
+          arith,
+          none (to_place (coordinator_of tx) (Chain (Committed tx key))) refl,
+          served_none s.node
+              (freed_lock s tx key),
+        ));
     passes = λ had st markers applies first.
         rests (omega arith)
-        (omega (arith, none (to_place (rows_of (node_at chain (at - 1))) (Chain (Commit tx key epoch chain (at - 1))))
-        refl));
+        (omega (
+          arith,
+          none (to_place (rows_of (node_at chain (at - 1))) (Chain (Commit tx key epoch chain (at - 1))))
+              refl,
+        ));
   }
 
   completes : (s : LqhState) (tx : TxId) (key : List ℕ) (chain : List Member) (at : ℕ)
@@ -127,12 +137,20 @@ module _ (w : Request → Bool) (test : Outgoing → Bool)
   completes s tx key chain at = record {
     last = λ first.
         rests (omega arith)
-        (omega (arith, none (complete.completed_by tx key chain at true) refl, served_none s.node
-        (freed_lock s tx key)));
+        (omega (
+          arith,
+          none (complete.completed_by tx key chain at true) refl,
+          served_none s.node
+              (freed_lock s tx key),
+        ));
     passes = λ first.
         rests (omega arith)
-        (omega (arith, none (complete.completed_by tx key chain at false) refl, served_none s.node
-        (freed_lock s tx key)));
+        (omega (
+          arith,
+          none (complete.completed_by tx key chain at false) refl,
+          served_none s.node
+              (freed_lock s tx key),
+        ));
   }
 
   aborts : (s : LqhState) (tx : TxId) (key : List ℕ) → AbortForms (Counts s 0) s tx key
@@ -141,13 +159,17 @@ module _ (w : Request → Bool) (test : Outgoing → Bool)
     some = λ had st gives at r is here.
         let t = taken_at (is_for tx key) s.waiting at r is here in
         refuses tx key cause.Request r t.passes (omega (arith, tally_taken (is_for tx key) w s.waiting at r t))
-            (omega (arith, others));
+        (omega (arith, others));
   }
     where
       others : tally test (to_place (coordinator_of tx) (Chain (Aborted tx key)) ∷ serve_granted s.node
           (freed_lock s tx key)) ≡ 0
-      others = omega (arith, none (to_place (coordinator_of tx) (Chain (Aborted tx key))) refl, served_none s.node
-          (freed_lock s tx key))
+      others = omega (
+        arith,
+        none (to_place (coordinator_of tx) (Chain (Aborted tx key))) refl,
+        served_none s.node
+            (freed_lock s tx key),
+      )
 
   -- also where the locks are a round older
   expires : (s t : LqhState) → t.waiting ≡ s.waiting
@@ -158,7 +180,7 @@ module _ (w : Request → Bool) (test : Outgoing → Bool)
     rests = λ is. rests (omega (arith, ap (tally w) same)) refl;
     none = λ tx key is gone.
         ends tx key (as_long tx key (expired_queued t.locks tx key is))
-            (ap (position (is_for tx key)) (sym same) ∙ gone)
+        (ap (position (is_for tx key)) (sym same) ∙ gone)
         (omega (arith, ap (tally w) same)) (others tx key);
     some = λ tx key is at r there here.
         let taken = taken_at (is_for tx key) t.waiting at r there here in
@@ -169,7 +191,7 @@ module _ (w : Request → Bool) (test : Outgoing → Bool)
       others : (tx : TxId) (key : List ℕ)
           → tally test (storage.refusal tx key cause.Timeout
           ∷ (serve_granted t.node (unwaited_at t.locks key tx) ++ expire.more_expired
-              (with_lock t key (unwaited_at t.locks key tx))))
+          (with_lock t key (unwaited_at t.locks key tx))))
           ≡ one_if (test (storage.refusal tx key cause.Timeout))
       others tx key =
           let served = unwaited_at t.locks key tx in
@@ -198,7 +220,7 @@ module _ (w : Request → Bool) (test : Outgoing → Bool)
             (omega (arith, none (to_place client (Client (DumpConf rows next))) refl));
         ages = expires s (expire.aged s) refl (λ tx key is.
             sym (waits_aged tx (lock_at s.locks key).queue)
-                ∙ (ap (λ (l : RowLock). waits tx l.queue) (sym (lock-aged s.locks key)) ∙ is));
+            ∙ (ap (λ (l : RowLock). waits tx l.queue) (sym (lock-aged s.locks key)) ∙ is));
         expires = λ at. expires s s refl (λ tx key is. is);
         rests = λ body is. rests (omega (arith, none_asked w body is)) refl;
       })

@@ -19,8 +19,13 @@ is_answered _ = false
 
 own : (tx : TxId) (body : Body) → is_answered body ≡ false → OwnKinds tx is_keyless body
 own tx body other = record {
-  chains = record { commits = λ key epoch chain at. refl; completes = λ key chain at. refl; aborts =
-      λ key. refl; goes_on = λ at. refl };
+  chains = record {
+    commits = λ key epoch chain at. refl;
+    completes = λ key chain at. refl;
+    aborts =
+        λ key. refl;
+    goes_on = λ at. refl;
+  };
   operates = λ op chain. refl;
   answers = λ key answer is. absurd (let both : true ≡ false = sym (ap is_answered is) ∙ other in cc);
   waits = λ key. refl;

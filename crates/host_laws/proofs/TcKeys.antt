@@ -158,7 +158,7 @@ turn_fair : (s : TcState) (body : Body) (t : Transaction)
 turn_fair s body t =
     let tx = tx_in body in
     turn_by s t (Fairly s.node s.layout tx t body) body
-    (rows_at s.node s.layout tx t body (Fairly s.node s.layout tx t body) (fair_forms s.node s.layout tx t body)) 
+    (rows_at s.node s.layout tx t body (Fairly s.node s.layout tx t body) (fair_forms s.node s.layout tx t body))
     (λ off. record { fair = omega arith })
 
 module _ (tx : TxId) (s : TcState) where
@@ -181,22 +181,24 @@ module _ (tx : TxId) (s : TcState) where
 
       go : (b : Bool) → tally (is_asked tx) (insert_entry same_tx live one operate.fresh) ≤ tally (is_asked tx) live
           → tally (is_asked tx)
-              (if b then (e.0, operate.fresh) ∷ live else e ∷ insert_entry same_tx live one operate.fresh) ≤ tally
-              (is_asked tx) (e ∷ live)
+          (if b then (e.0, operate.fresh) ∷ live else e ∷ insert_entry same_tx live one operate.fresh) ≤ tally
+          (is_asked tx) (e ∷ live)
       go true rest = omega (arith, none (same_tx e.0 tx) (is_some e.1.asked))
       go false rest = omega (arith, rest)
 
   -- what is left of the transaction whose turn it was
   left_few : (one : TxId) (front back : List (TxId × Transaction)) (turn : Turn)
       → tally (is_asked tx) (left_in one front back turn) ≤ tally (is_asked tx) (front ++ back) + one_if
-          (is_asked tx (one, turn.step.state))
+      (is_asked tx (one, turn.step.state))
   left_few one front back turn = by turn.over
     where
       by : (b : Bool) → tally (is_asked tx) (if b then front ++ back else front ++ (one, turn.step.state) ∷ back)
           ≤ tally (is_asked tx) (front ++ back) + one_if (is_asked tx (one, turn.step.state))
       by true = omega arith
-      by false = omega (arith,
-          tally_between (is_asked tx) front (one, turn.step.state) back (front ++ (one, turn.step.state) ∷ back) refl)
+      by false = omega (
+        arith,
+        tally_between (is_asked tx) front (one, turn.step.state) back (front ++ (one, turn.step.state) ∷ back) refl,
+      )
 
   pub tc_fair : (body : Body) → Fair (tc_table s body) (one_if (key_of_tx tx body))
   tc_fair body = by (tc_table s body) (tc_step s body)

@@ -109,7 +109,7 @@ turn_told : (s : TcState) (body : Body) (t : Transaction) → IsTold (tx_in body
 turn_told s body t =
     let tx = tx_in body in
     turn_by s t (IsTold tx t) body
-        (rows_of s.node s.layout tx t body (IsTold tx t) (told_forms s.node s.layout tx t body))
+    (rows_of s.node s.layout tx t body (IsTold tx t) (told_forms s.node s.layout tx t body))
     (λ off over. inl over)
 
 -- what tells neither that a transaction has begun nor of its end
@@ -127,12 +127,12 @@ pub data TcMove (s : TcState) (after : TcState) (sends : List Outgoing) : Type 0
   turns : (tx : TxId) (t u : Transaction) (front back : List (TxId × Transaction)) → s.live ≡ front ++ (tx, t) ∷ back
       → after ≡ with_live s (front ++ (tx, u) ∷ back)
       → are_of (is_tc_kind tx) sends ≡ true
-          → (is_completing u.phase ≡ true → (is_completing t.phase ≡ true) ⊎ (1 ≤ ends_in tx sends))
-          → TcMove s after sends
+      → (is_completing u.phase ≡ true → (is_completing t.phase ≡ true) ⊎ (1 ≤ ends_in tx sends))
+      → TcMove s after sends
   forgets : (tx : TxId) (t : Transaction) (front back : List (TxId × Transaction)) → s.live ≡ front ++ (tx, t) ∷ back
       → after ≡ with_live s (front ++ back)
       → are_of (is_tc_kind tx) sends ≡ true → (is_completing t.phase ≡ true) ⊎ (1 ≤ ends_in tx sends)
-          → TcMove s after sends
+      → TcMove s after sends
 
 abbrev pub Moves : TcState → Step TcState → Type 0
 Moves s step = TcMove s step.state step.effects.sends
@@ -225,19 +225,19 @@ host_moves s x = go (row s x) (block_case s x)
     go t (tc_takes step) =
         subst (λ u. TcMove (tc_of s) u t.effects.sends) (sym step.state)
         (subst (λ f. TcMove (tc_of s) (tc_table (tc_of s) x.body).state f.sends) (sym step.effects)
-            (tc_moves (tc_of s) x.body))
+        (tc_moves (tc_of s) x.body))
     go t (api_takes step) =
         stays step.tc (ap (λ f. are_of is_still_kind f.sends) step.effects
-            ∙ move_still (api_of s) x.body _ _ (api_moves (api_of s) x.body))
+        ∙ move_still (api_of s) x.body _ _ (api_moves (api_of s) x.body))
     go t (dih_takes step) =
         stays step.tc
         (ap (λ f. are_of is_still_kind f.sends) step.effects
         ∙ of_kind is_dih_kind is_still_kind still_dih (dih_table (dih_of s) x.body).effects.sends
-            (dih_kinds (dih_of s) x.body))
+        (dih_kinds (dih_of s) x.body))
     go t (rows_take step) =
         stays step.tc
         (ap (λ f. are_of is_still_kind f.sends) step.effects
         ∙ of_kind is_lqh_kind is_still_kind still_lqh (lqh_table (lqh_of s) x.body).effects.sends
-            (lqh_kinds (lqh_of s) x.body))
+        (lqh_kinds (lqh_of s) x.body))
     go t (none_takes step) =
         stays (ap (λ u. tc_of u.state) step.is) (ap (λ u. are_of is_still_kind u.effects.sends) step.is)

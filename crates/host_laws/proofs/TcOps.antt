@@ -93,7 +93,7 @@ module _ (n : ℕ) (tx : TxId) (key : List ℕ) where
         go true f =
             let one : at ≡ key = same_key-is at key f in
             let here : operate.asked_if a (same_key (key_of a.op) at) ≡ Some a =
-                ap (operate.asked_if a) (subst (λ k. same_key (key_of a.op) k ≡ true) (sym one) e) in
+            ap (operate.asked_if a) (subst (λ k. same_key (key_of a.op) k ≡ true) (sym one) e) in
             absurd (some_none (sym here ∙ none))
           where
             some_none : Some a ≡ None → ⊥
@@ -110,8 +110,11 @@ module _ (n : ℕ) (tx : TxId) (key : List ℕ) where
         → TurnAsks t (going (stay t)) (one_if (same_tx one tx && same_key at key))
     late_asks one at (inl none) = record {
       right = right;
-      asks = λ e. inl (e, ap (λ b. one_if (same_tx one tx && b)) (late_none at t.asked none e)
-          ∙ fails (same_tx one tx));
+      asks = λ e. inl (
+        e,
+        ap (λ b. one_if (same_tx one tx && b)) (late_none at t.asked none e)
+            ∙ fails (same_tx one tx),
+      );
     }
       where
         fails : (b : Bool) → one_if (b && false) ≡ 0
@@ -147,8 +150,8 @@ module _ (n : ℕ) (tx : TxId) (key : List ℕ) where
             asks = λ asked. inr (
                 let chain = chain_of layout (key_of op) in
                 let one = true_and (is_node n (node_at chain 0)) _ (good.first (key_of op))
-                    (true_and (same_tx tx tx) _ (same_tx-self tx)
-                    (true_and (same_key (key_of op) key) (is_good n chain) asked (good.good (key_of op)))) in
+                (true_and (same_tx tx tx) _ (same_tx-self tx)
+                (true_and (same_key (key_of op) key) (is_good n chain) asked (good.good (key_of op)))) in
                 omega (arith, ap one_if one, none is refl)
                 );
           };

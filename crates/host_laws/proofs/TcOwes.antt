@@ -69,13 +69,13 @@ pub data Owes (n : ℕ) (tx : TxId) (t u : Transaction) (sends : List Outgoing) 
     (at : Option ℕ) : Type 0 where
   begins : came ≡ 0 → at ≡ None → k ≡ length u.touched
       → ((PORTION < length u.touched) × (PORTION ≤ sends_of (is_commit n tx) sends)
-          × (1 ≤ sends_of (is_cont tx PORTION) sends)) ⊎ (length u.touched ≤ sends_of (is_commit n tx) sends)
-          → Owes n tx t u sends k came at
+      × (1 ≤ sends_of (is_cont tx PORTION) sends)) ⊎ (length u.touched ≤ sends_of (is_commit n tx) sends)
+      → Owes n tx t u sends k came at
   waits : (epoch before : ℕ) → t.phase ≡ Committing epoch before → at ≡ None → k + came ≤ before
       → u.touched ≡ t.touched → Owes n tx t u sends k came at
   goes_on : (epoch a : ℕ) → at ≡ Some a → came ≡ 0 → t.phase ≡ Committing epoch k → u.touched ≡ t.touched
       → (SENDS ≤ a) ⊎ (((a + PORTION < length u.touched) × (PORTION ≤ sends_of (is_commit n tx) sends)
-          × (1 ≤ sends_of (is_cont tx (a + PORTION)) sends)) ⊎ (length u.touched ≤ a + sends_of (is_commit n tx) sends))
+      × (1 ≤ sends_of (is_cont tx (a + PORTION)) sends)) ⊎ (length u.touched ≤ a + sends_of (is_commit n tx) sends))
       → Owes n tx t u sends k came at
 
 pub record TurnOwes (n : ℕ) (tx : TxId) (t : Transaction) (turn : Turn) (came : ℕ) (at : Option ℕ) : Type 0 where
@@ -112,7 +112,7 @@ primary_chain n (m ∷ chain) good =
 touch_known : (n : ℕ) (touched : List Touched) (key : List ℕ) (chain : List Member) → is_chain n chain ≡ true
     → fits touched key ≡ true → length touched ≤ KEYS → Each (λ (x : Touched). is_chain n x.chain ≡ true) touched
     → (Each (λ (x : Touched). is_chain n x.chain ≡ true) (touch touched key chain))
-        × (length (touch touched key chain) ≤ KEYS)
+    × (length (touch touched key chain) ≤ KEYS)
 touch_known n touched key chain good fit few all = go (place_of touched key) refl
   where
     go : (o : Option ℕ) → place_of touched key ≡ o
@@ -121,9 +121,11 @@ touch_known n touched key chain good fit few all = go (place_of touched key) ref
     go (Some at) e = (all, few)
     go None e =
         let low : nat_lt (length touched) KEYS ≡ true = ap (λ o. is_some o || nat_lt (length touched) KEYS) (sym e)
-            ∙ fit in
-        (each_append (λ (x : Touched). is_chain n x.chain ≡ true) touched (unwritten key chain ∷ []) all
-            (primary_chain n chain good, tt), omega (arith, last_length touched (unwritten key chain), under low))
+        ∙ fit in (
+          each_append (λ (x : Touched). is_chain n x.chain ≡ true) touched (unwritten key chain ∷ []) all
+              (primary_chain n chain good, tt),
+          omega (arith, last_length touched (unwritten key chain), under low),
+        )
       where
         under : nat_lt (length touched) KEYS ≡ true → length touched < KEYS
         under q = grind (arith, nat_tests, q)
@@ -131,14 +133,17 @@ touch_known n touched key chain good fit few all = go (place_of touched key) ref
 after_known : (n : ℕ) (a : Answer) (touched : List Touched) (op : Op) (chain : List Member) → is_chain n chain ≡ true
     → length touched ≤ KEYS → Each (λ (x : Touched). is_chain n x.chain ≡ true) touched
     → (Each (λ (x : Touched). is_chain n x.chain ≡ true) (operate.touched_after a touched op chain))
-        × (length (operate.touched_after a touched op chain) ≤ KEYS)
+    × (length (operate.touched_after a touched op chain) ≤ KEYS)
 after_known n answer.Done touched op chain good few all = go (place_of touched (key_of op))
   where
     go : (o : Option ℕ) → (Each (λ (x : Touched). is_chain n x.chain ≡ true) (written_by touched (key_of op) chain o))
         × (length (written_by touched (key_of op) chain o) ≤ KEYS)
     go None = (all, few)
-    go (Some at) = (set_each (λ (x : Touched). is_chain n x.chain ≡ true) touched at
-        (written (key_of op) chain) good all, omega (arith, few, set_length touched at (written (key_of op) chain)))
+    go (Some at) = (
+      set_each (λ (x : Touched). is_chain n x.chain ≡ true) touched at
+          (written (key_of op) chain) good all,
+      omega (arith, few, set_length touched at (written (key_of op) chain)),
+    )
 after_known n (answer.Found value) touched op chain good few all = (all, few)
 after_known n answer.Missing touched op chain good few all = (all, few)
 after_known n answer.E626 touched op chain good few all = (all, few)
@@ -237,7 +242,7 @@ module _ (n : ℕ) (tx : TxId) (t : Transaction) (known : IsKnown n t) where
       operates = λ op is can.
           let both = and_parts (operate.is_ready t.phase t.asked) (fits t.touched (key_of op)) can in
           let touched = touch_known n t.touched (key_of op) (chain_of layout (key_of op))
-              (good (key_of op)) both.1 known.few known.chains in
+          (good (key_of op)) both.1 known.few known.chains in
           moves _
           (record {
             chains = touched.0;
@@ -248,9 +253,9 @@ module _ (n : ℕ) (tx : TxId) (t : Transaction) (known : IsKnown n t) where
           (ap is_committing (ready_is t.phase t.asked both.0).0);
       answers = λ key answer asked is own at.
           let touched = after_known n answer t.touched asked.op asked.chain
-              (known.asked asked own.is) known.few known.chains in
+          (known.asked asked own.is) known.few known.chains in
           moves _ (record { chains = touched.0; few = touched.1; asked = known_none.asked; some = known.some })
-              (ap is_committing at);
+          (ap is_committing at);
       late = λ key asked why verifying awaited is own at. moves _ known_none (ap is_committing at);
       waits = λ asked is on. waits_on _ (ap (came_in tx) is, ap (cont_in tx) is) known refl refl;
       decides = λ is ready. moves _ (to_phase Verifying refl) refl;
@@ -262,7 +267,7 @@ module _ (n : ℕ) (tx : TxId) (t : Transaction) (known : IsKnown n t) where
             owes = λ f k going on. begins (ap (came_in tx) is) (ap (cont_in tx) is)
                 (the_k epoch (length t.touched) f k on)
                 (from_start (length t.touched) _ _
-                    (part_law n tx node layout epoch (length t.touched) 0 t.touched home known.chains));
+                (part_law n tx node layout epoch (length t.touched) 0 t.touched home known.chains));
           };
       commits_none = λ epoch is at none. commit_owes node layout epoch;
       committed = λ key epoch awaited is at last.
@@ -271,8 +276,13 @@ module _ (n : ℕ) (tx : TxId) (t : Transaction) (known : IsKnown n t) where
             known = known_phase (Committing epoch (awaited - 1))
                 (λ f k on. omega (arith, the_k epoch (awaited - 1) f k on, more));
             owes = λ f k going on. waits epoch awaited at (ap (cont_in tx) is)
-                (omega (arith, the_k epoch (awaited - 1) f k on, more, ap (came_in tx) is,
-                    ap one_if (same_tx-self tx))) refl;
+                (omega (
+                  arith,
+                  the_k epoch (awaited - 1) f k on,
+                  more,
+                  ap (came_in tx) is,
+                  ap one_if (same_tx-self tx),
+                )) refl;
           };
       committed_all = λ key epoch awaited is at last. commit_owes node layout epoch;
       completed = λ key epoch awaited is at more. moves _ (to_phase (Completing epoch _) refl) refl;
@@ -283,8 +293,13 @@ module _ (n : ℕ) (tx : TxId) (t : Transaction) (known : IsKnown n t) where
       };
       refuses = λ key why asked is own at. record {
         enters = λ some. moves _
-            (record { chains = known.chains; few = known.few; asked = known_none.asked; some =
-                (to_phase (Aborting _ _ _) refl).some }) refl;
+            (record {
+              chains = known.chains;
+              few = known.few;
+              asked = known_none.asked;
+              some =
+                  (to_phase (Aborting _ _ _) refl).some;
+            }) refl;
         ends = λ none. over _ refl known_none;
       };
       aborted = λ key why verifying awaited is at more. moves _ (to_phase (Aborting why verifying _) refl) refl;

@@ -26,8 +26,13 @@ TurnSends tx turn = SendsOnly (is_tc_kind tx) turn.step
 
 own : (tx : TxId) (body : Body) → OwnKinds tx (is_tc_kind tx) body
 own tx body = record {
-  chains = record { commits = λ key epoch chain at. refl; completes = λ key chain at. refl; aborts =
-      λ key. refl; goes_on = λ at. refl };
+  chains = record {
+    commits = λ key epoch chain at. refl;
+    completes = λ key chain at. refl;
+    aborts =
+        λ key. refl;
+    goes_on = λ at. refl;
+  };
   operates = λ op chain. refl;
   answers = λ key answer is. same_tx-self tx;
   waits = λ key. refl;

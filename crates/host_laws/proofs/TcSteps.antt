@@ -87,8 +87,13 @@ said_apart tx one off _ e = cc
 
 said_kinds : (tx : TxId) (body : Body) → OwnKinds tx (is_said tx) body
 said_kinds tx body = record {
-  chains = record { commits = λ key epoch chain at. self; completes = λ key chain at. self; aborts =
-      λ key. self; goes_on = λ at. self };
+  chains = record {
+    commits = λ key epoch chain at. self;
+    completes = λ key chain at. self;
+    aborts =
+        λ key. self;
+    goes_on = λ at. self;
+  };
   operates = λ op chain. self;
   answers = λ key answer is. self;
   waits = λ key. refl;
@@ -178,7 +183,7 @@ module _ (tx : TxId) (s : TcState) (body : Body) (once : tally (is_keyed tx) s.l
       last =
           insert_new s.live (next_tx s) fresh
           (each_map (λ (x : TxId × Transaction). IsOwn s.node s.next_seq x.0)
-              (λ (x : TxId × Transaction). x.0.seq < s.next_seq) s.live (λ x o. o.early) own)
+          (λ (x : TxId × Transaction). x.0.seq < s.next_seq) s.live (λ x o. o.early) own)
 
       now : of_live tx step.state.live ≡ of_live tx (s.live ++ (next_tx s, fresh) ∷ [])
       now = ap (λ (x : Step TcState). of_live tx x.state.live) is ∙ ap (of_live tx) last
@@ -205,16 +210,16 @@ module _ (tx : TxId) (s : TcState) (body : Body) (once : tally (is_keyed tx) s.l
       go false off =
           elsewhere (now ∙ of_other s.live [] (next_tx s) tx fresh off ∙ ap (of_live tx) (nothing s.live))
           (ap (λ (x : Step TcState). are_of (is_apart tx) x.effects.sends) is
-              ∙ ap (λ b. if not b then true else false) off)
+          ∙ ap (λ b. if not b then true else false) off)
           (λ turn same. absurd (plain body turn about))
       go true same =
           let here : tx ≡ next_tx s = sym (same_tx-is (next_tx s) tx same) in
           let none : tally (is_keyed tx) s.live ≡ 0 = fewer s.live (ap (λ (x : TxId). x.seq) here) own in
           born name about here (live_none tx s.live none)
           (now ∙ ap (λ k. of_live tx (s.live ++ (k, fresh) ∷ [])) (sym here)
-              ∙ of_here tx tx fresh s.live [] none (same_tx-self tx))
+          ∙ of_here tx tx fresh s.live [] none (same_tx-self tx))
           (ap (λ (x : Step TcState). x.effects.sends) is
-              ∙ ap (λ k. record { to = client; body = Client (TcBeginConf name k) } ∷ []) (sym here))
+          ∙ ap (λ k. record { to = client; body = Client (TcBeginConf name k) } ∷ []) (sym here))
           (omega (arith, ap (λ (x : Step TcState). x.state.next_seq) is))
   tx_of step (takes about t front back was is) = go (same_tx (tx_in body) tx) refl
     where
@@ -237,21 +242,21 @@ module _ (tx : TxId) (s : TcState) (body : Body) (once : tally (is_keyed tx) s.l
       go false off =
           elsewhere
           (ap (of_live tx) live_are ∙ kept turn.over
-              ∙ sym (ap (of_live tx) was ∙ of_other front back (tx_in body) tx t off))
+          ∙ sym (ap (of_live tx) was ∙ of_other front back (tx_in body) tx t off))
           (ap (are_of (is_apart tx)) sends_are
-              ∙ of_kind (is_said (tx_in body)) (is_apart tx) (said_apart tx (tx_in body) off) turn.step.effects.sends
-              (turn_said s body t))
+          ∙ of_kind (is_said (tx_in body)) (is_apart tx) (said_apart tx (tx_in body) off) turn.step.effects.sends
+          (turn_said s body t))
           (λ turn same. absurd (false≢true (sym off ∙ (ap (λ x. same_tx x tx) same ∙ same_tx-self tx))))
         where
           kept : (b : Bool)
               → of_live tx (if b then front ++ back else front ++ (tx_in body, turn.step.state) ∷ back)
-                  ≡ of_live tx (front ++ back)
+              ≡ of_live tx (front ++ back)
           kept true = refl
           kept false = of_other front back (tx_in body) tx turn.step.state off
       go true same =
           turned t about one
           (ap (of_live tx) was ∙ ap (λ k. of_live tx (front ++ (k, t) ∷ back)) one
-              ∙ of_here tx tx t front back none (same_tx-self tx))
+          ∙ of_here tx tx t front back none (same_tx-self tx))
           (subst (λ k. TurnMove s k t body turn) one move) (ap (of_live tx) live_are ∙ kept turn.over) sends_are
         where
           one : tx_in body ≡ tx
@@ -262,7 +267,7 @@ module _ (tx : TxId) (s : TcState) (body : Body) (once : tally (is_keyed tx) s.l
 
           kept : (b : Bool)
               → of_live tx (if b then front ++ back else front ++ (tx_in body, turn.step.state) ∷ back)
-                  ≡ (if b then None else Some turn.step.state)
+              ≡ (if b then None else Some turn.step.state)
           kept true = live_none tx (front ++ back) (omega (arith, once, counted, ap one_if same))
           kept false =
               ap (λ k. of_live tx (front ++ (k, turn.step.state) ∷ back)) one

@@ -131,7 +131,7 @@ unfolding begin_row
 tc_replies name s (Client (TcBeginReq other)) = begin_replies name s other (is_full s)
 tc_replies name s body =
     none_of (is_tc_kind (tx_in body)) (to_node 0 (is_reply name))
-        (λ to b k. and_false (to.node == 0) (is_api to.block) (no_reply_tc name (tx_in body) b k))
+    (λ to b k. and_false (to.node == 0) (is_api to.block) (no_reply_tc name (tx_in body) b k))
     (tc_table s body).effects.sends (tc_kinds s body refl)
 
 -- epochs and rows reply to none
@@ -139,14 +139,14 @@ pub dih_replies : (name : Option ℕ) (s : DihState) (body : Body)
     → sends_of (to_node 0 (is_reply name)) (dih_table s body).effects.sends ≡ 0
 dih_replies name s body =
     none_of is_dih_kind (to_node 0 (is_reply name))
-        (λ to b k. and_false (to.node == 0) (is_api to.block) (no_reply_dih name b k))
+    (λ to b k. and_false (to.node == 0) (is_api to.block) (no_reply_dih name b k))
     (dih_table s body).effects.sends (dih_kinds s body)
 
 pub lqh_replies : (name : Option ℕ) (s : LqhState) (body : Body)
     → sends_of (to_node 0 (is_reply name)) (lqh_table s body).effects.sends ≡ 0
 lqh_replies name s body =
     none_of is_lqh_kind (to_node 0 (is_reply name))
-        (λ to b k. and_false (to.node == 0) (is_api to.block) (no_reply_lqh name b k))
+    (λ to b k. and_false (to.node == 0) (is_api to.block) (no_reply_lqh name b k))
     (lqh_table s body).effects.sends (lqh_kinds s body)
 
 -- none of them wishes for one
@@ -154,7 +154,7 @@ pub tc_wishes : (name : Option ℕ) (s : TcState) (body : Body)
     → sends_of (is_wish name) (tc_table s body).effects.sends ≡ 0
 tc_wishes name =
     tc_none (is_wish name) (λ one to b k. second_fails (is_tc to.block) (no_wish_tc name one b k)) (λ other. refl)
-        (λ other tx. refl)
+    (λ other tx. refl)
 
 pub dih_wishes : (name : Option ℕ) (s : DihState) (body : Body)
     → sends_of (is_wish name) (dih_table s body).effects.sends ≡ 0

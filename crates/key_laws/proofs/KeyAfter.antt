@@ -154,10 +154,10 @@ first_here s key (x ∷ xs) q is at = by (operate.is_granted s.locks x) (asks_fo
     by true false e f is more =
         let one : x ≡ q = cc in
         absurd (let both : true ≡ false = sym (same_key-self key)
-            ∙ (ap (λ k. same_key k key) (sym at) ∙ ap (λ (r : Request). asks_for key r) (sym one) ∙ f) in cc)
+        ∙ (ap (λ k. same_key k key) (sym at) ∙ ap (λ (r : Request). asks_for key r) (sym one) ∙ f) in cc)
     by false true e f is more =
         ap (λ b. if b then Some x else first (is_let_in (lock_at s.locks key)) (filter (asks_for key) xs))
-            (sym (let_in s key x f) ∙ e) ∙ more is
+        (sym (let_in s key x f) ∙ e) ∙ more is
     by false false e f is more = more is
 
 -- without that request
@@ -179,11 +179,11 @@ without_own s key (x ∷ xs) q is at =
         (cond c (x ∷ filter (asks_for key) xs) (filter (asks_for key) xs))
     by true true e f is more =
         sym (ap (λ b. if b then filter (asks_for key) xs else
-            x ∷ drop_first (is_let_in (lock_at s.locks key)) (filter (asks_for key) xs)) (sym (let_in s key x f) ∙ e))
+        x ∷ drop_first (is_let_in (lock_at s.locks key)) (filter (asks_for key) xs)) (sym (let_in s key x f) ∙ e))
     by true false e f is more =
         let one : x ≡ q = cc in
         absurd (let both : true ≡ false = sym (same_key-self key)
-            ∙ (ap (λ k. same_key k key) (sym at) ∙ ap (λ (r : Request). asks_for key r) (sym one) ∙ f) in cc)
+        ∙ (ap (λ k. same_key k key) (sym at) ∙ ap (λ (r : Request). asks_for key r) (sym one) ∙ f) in cc)
     by false true e f is more =
         asks_here key x (drop_first (operate.is_granted s.locks) xs) true f ∙ ap (λ w. x ∷ w) (more is)
         ∙ sym (ap (λ b. if b then filter (asks_for key) xs else
@@ -239,7 +239,7 @@ module _ (s : LqhState) (key : List ℕ) where
             let q_is : Some q ≡ first (operate.is_granted s.locks) s.waiting =
             sym here ∙ (ap (get_by s.waiting) (sym is) ∙ first-get (operate.is_granted s.locks) s.waiting) in
             subst (Comes (operate.granted_on (with_waiting s (remove s.waiting at)) q).state) q_is
-                (served_here at is q (sym q_is));
+            (served_here at is q (sym q_is));
       })
     where
       Comes : LqhState → Option Request → Type 0

@@ -47,7 +47,7 @@ released_other : (s : LqhState) (tx : TxId) (own key : List ℕ) → same_key ow
     → lock_at (kept s.locks own (released_at s.locks own tx).lock) key ≡ lock_at s.locks key
 released_other s tx own key off =
     lock-kept s.locks own key (released_at s.locks own tx).lock
-        ∙ on_other own key (released_at s.locks own tx).lock (lock_at s.locks key) off
+    ∙ on_other own key (released_at s.locks own tx).lock (lock_at s.locks key) off
 
 -- the rows after a commit, whatever was there
 applied_rows : (s : LqhState) (tx : TxId) (key : List ℕ) (epoch : ℕ)
@@ -173,7 +173,7 @@ pub complete_event : (s : LqhState) → IsPlaced s.rows
     ≡ key_after (if_on own key (completes tx)) (at_key key s)
 complete_event s placed tx own chain at key =
     complete_forms (λ step. at_key key step.state ≡ key_after (if_on own key (completes tx)) (at_key key s)) s tx own
-        chain at
+    chain at
     (record { last = λ first. comes; passes = λ behind. comes })
   where
     comes : at_key key (unlocked (with_rows s (complete_record s.rows tx own)) tx own)
@@ -210,7 +210,7 @@ module _ (s : LqhState) (placed : IsPlaced s.rows) (tx : TxId) (own key : List �
   pub abort_event : at_key key (abort.abort_row s tx own).state ≡ key_after (if_on own key (aborts tx)) (at_key key s)
   abort_event =
       abort_forms (λ step. at_key key step.state ≡ key_after (if_on own key (aborts tx)) (at_key key s)) s tx own
-          (record {
+      (record {
         none = λ had st gives none. freed_event gives s.waiting (none_gone tx own s.waiting none);
         some = λ had st gives at r there here.
             freed_event gives (remove s.waiting at) (one_gone tx own s.waiting at there);
@@ -226,7 +226,7 @@ expire_event s key =
           (ended tx own s.waiting (none_gone tx own s.waiting none));
       some = λ tx own is at r there here.
           subst (Comes (left tx own (remove s.waiting at))) (sym is)
-              (ended tx own (remove s.waiting at) (one_gone tx own s.waiting at there));
+          (ended tx own (remove s.waiting at) (one_gone tx own s.waiting at there));
     })
   where
     Comes : LqhState → Option (TxId × List ℕ) → Type 0

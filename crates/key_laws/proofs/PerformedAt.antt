@@ -82,8 +82,8 @@ work_cell s tx chain at (Operate op) q = operate_cell s tx op chain at q (answer
         (answer_to op (seen_by (cell_at q s.rows).row (found tx (cell_at q s.rows).pending))) else cell_at q s.rows)
     by true e =
         ap (λ row. operated (cell_at q s.rows) tx op
-            (storage.is_log_full s.journal (storage.need_of tx (key_of op) (image_of op)) || is_full s.rows (key_of op))
-            (answer_to op row))
+        (storage.is_log_full s.journal (storage.need_of tx (key_of op) (image_of op)) || is_full s.rows (key_of op))
+        (answer_to op row))
         (seen-cell s.rows tx (key_of op) ∙ ap
         (λ k. seen_by (cell_at k s.rows).row (found tx (cell_at k s.rows).pending)) (same (key_of op) q e))
     by false e = refl

@@ -108,10 +108,16 @@ module _ (P : Outgoing → Type 0) (M : Mark → Type 0) where
         log_full = λ used reserved need. record { sends = (sends.log_full used reserved need, tt); marks = tt };
         table_full = λ rows. record { sends = (sends.table_full rows, tt); marks = tt };
         answers = λ a. record { sends = (sends.answers a, tt); marks = tt };
-        passes = λ image next is. record { sends = (sends.passes image next is, tt); marks =
-            (marks r.tx (work_key r.work), tt) };
-        ends = λ image is. record { sends = (sends.answers answer.Done, tt); marks =
-            (marks r.tx (work_key r.work), tt) };
+        passes = λ image next is. record {
+          sends = (sends.passes image next is, tt);
+          marks =
+              (marks r.tx (work_key r.work), tt);
+        };
+        ends = λ image is. record {
+          sends = (sends.answers answer.Done, tt);
+          marks =
+              (marks r.tx (work_key r.work), tt);
+        };
       })
 
   module _ (s : LqhState) (body : Body) (sends : RowsSend P s body) (marks : RowsMark M s body) where
@@ -154,8 +160,11 @@ module _ (P : Outgoing → Type 0) (M : Mark → Type 0) where
 
     aborts : (tx : TxId) (key : List ℕ) → body ≡ Chain (Abort tx key) → AbortForms (λ step. StepEach P M step) s tx key
     aborts tx key is = record {
-      none = λ had st gives none. record { sends = (sends.aborted tx key is, more); marks =
-          given_marks had gives.had_is };
+      none = λ had st gives none. record {
+        sends = (sends.aborted tx key is, more);
+        marks =
+            given_marks had gives.had_is;
+      };
       some = λ had st gives at r there here. record {
         sends = (sends.gives_up tx key is, (sends.aborted tx key is, more));
         marks = given_marks had gives.had_is;
@@ -196,11 +205,14 @@ module _ (P : Outgoing → Type 0) (M : Mark → Type 0) where
     asks = λ r. record {
       granted = λ is sends marks.
           let own = performed (storage_of s) r (sends.asked r refl) marks.prepared in
-              record { sends = own.sends; marks = own.marks };
+          record { sends = own.sends; marks = own.marks };
       queued = λ ahead is sends marks. nothing _;
     };
-    grants = λ at. record { none = λ is sends marks. nothing s; some = λ place r is here sends marks.
-        granted s _ sends marks place r here };
+    grants = λ at. record {
+      none = λ is sends marks. nothing s;
+      some = λ place r is here sends marks.
+          granted s _ sends marks place r here;
+    };
     commits = λ tx key epoch chain at. record {
       last = λ had st markers applies first sends marks.
           (commits s _ sends marks tx key epoch chain at refl).last had st markers applies first;
@@ -209,13 +221,19 @@ module _ (P : Outgoing → Type 0) (M : Mark → Type 0) where
     };
     completes = λ tx key chain at. record {
       last = λ first sends marks. record {
-        sends = (sends.completed tx key chain
-            at refl first, grants_if s _ sends marks (nat_lt 0 (freed_lock s tx key).granted));
+        sends = (
+          sends.completed tx key chain
+              at refl first,
+          grants_if s _ sends marks (nat_lt 0 (freed_lock s tx key).granted),
+        );
         marks = (marks.completed tx key chain at refl, tt);
       };
       passes = λ first sends marks. record {
-        sends = (sends.completes_on tx key chain
-            at refl first, grants_if s _ sends marks (nat_lt 0 (freed_lock s tx key).granted));
+        sends = (
+          sends.completes_on tx key chain
+              at refl first,
+          grants_if s _ sends marks (nat_lt 0 (freed_lock s tx key).granted),
+        );
         marks = (marks.completed tx key chain at refl, tt);
       };
     };
@@ -249,11 +267,16 @@ module _ (P : Outgoing → Type 0) (M : Mark → Type 0) where
   pub lqh_each : (s : LqhState) (body : Body) → RowsSend P s body → RowsMark M s body → StepEach P M (lqh_table s body)
   lqh_each s body sends marks =
       lqh_forms (λ body step. RowsSend P s body → RowsMark M s body → StepEach P M step) s
-          (each_forms s) body sends marks
+      (each_forms s) body sends marks
 
 request_any : (r : Request) → RequestSends (λ (o : Outgoing). Unit {0}) r
-request_any r = record { log_full = λ used reserved need. tt; table_full = λ rows. tt; answers = λ a. tt; passes =
-    λ image next is. tt }
+request_any r = record {
+  log_full = λ used reserved need. tt;
+  table_full = λ rows. tt;
+  answers = λ a. tt;
+  passes =
+      λ image next is. tt;
+}
 
 send_any : (s : LqhState) (body : Body) → RowsSend (λ (o : Outgoing). Unit {0}) s body
 send_any s body = record {

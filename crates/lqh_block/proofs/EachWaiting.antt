@@ -27,8 +27,11 @@ module _ (P : Request → Type 0) where
       queued = λ ahead is own. each_append P s.waiting (r ∷ []) all (own r refl, tt);
     };
     grants = λ at. record { none = λ is own. all; some = λ place r is here own. each_removed P s.waiting place all };
-    commits = λ tx key epoch chain at. record { last = λ had st markers applies first own. all; passes =
-        λ had st markers applies first own. all };
+    commits = λ tx key epoch chain at. record {
+      last = λ had st markers applies first own. all;
+      passes =
+          λ had st markers applies first own. all;
+    };
     completes = λ tx key chain at. record { last = λ first own. all; passes = λ first own. all };
     aborts = λ tx key. record {
       none = λ had st gives none own. all;

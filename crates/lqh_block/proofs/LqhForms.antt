@@ -54,8 +54,11 @@ saying s o = record { state = s; effects = record { sends = o ∷ []; marks = []
 -- an image is prepared and marked, and one signal sent
 abbrev pub preparing : StorageState → TxId → List ℕ → Option (List ℕ) → Outgoing → Step StorageState
 preparing s tx key image o =
-    record { state = storage.prepared_in s tx key image; effects =
-        record { sends = o ∷ []; marks = mark.Prepared tx key ∷ [] } }
+    record {
+      state = storage.prepared_in s tx key image;
+      effects =
+          record { sends = o ∷ []; marks = mark.Prepared tx key ∷ [] };
+    }
 
 -- a request that is performed
 pub record PerformForms (Q : Step StorageState → Type 0) (s : StorageState) (r : Request) : Type 0 where
@@ -81,7 +84,7 @@ module _ (Q : Step StorageState → Type 0) (s : StorageState) (r : Request) (fo
       (forms.ends image last)
   passed key image is (Some next) there =
       subst (λ k. Q (preparing s r.tx k image
-          (to_place (rows_of next.node) (Chain (LqhKeyReq r.tx (Store k image) r.chain (r.at + 1)))))) is
+      (to_place (rows_of next.node) (Chain (LqhKeyReq r.tx (Store k image) r.chain (r.at + 1)))))) is
       (forms.passes image next there)
 
   stored : (key : List ℕ) (image : Option (List ℕ)) → work_key r.work ≡ key
@@ -326,7 +329,7 @@ module _ (Q : Step LqhState → Type 0) (s : LqhState) where
           (record { had_is = there; is = λ waiting. refl }) is
       none is (Some false) there =
           forms.none (Some false) (storage.aborted_in (storage_of s) tx key)
-              (record { had_is = there; is = λ waiting. refl }) is
+          (record { had_is = there; is = λ waiting. refl }) is
 
       some : (at : ℕ) → abort.waits_at s tx key ≡ Some at → (r : Option Request) → slice_get s.waiting at ≡ r
           → is_some r ≡ true
@@ -338,7 +341,7 @@ module _ (Q : Step LqhState → Type 0) (s : LqhState) where
           forms.some (Some true) (storage_of s) (record { had_is = had_is; is = λ waiting. refl }) at r is here
       some at is (Some r) here there (Some false) had_is =
           forms.some (Some false) (storage.aborted_in (storage_of s) tx key)
-              (record { had_is = had_is; is = λ waiting. refl }) at r is here
+          (record { had_is = had_is; is = λ waiting. refl }) at r is here
 
       by : (at : Option ℕ) → abort.waits_at s tx key ≡ at → Q (Does at (record_state s.rows tx key))
       by None is = none is (record_state s.rows tx key) refl
@@ -438,7 +441,7 @@ lqh_forms Q s forms (Host (Continue work.Granted at)) =
     granted_forms (Q (Host (Continue work.Granted at))) s (forms.grants at)
 lqh_forms Q s forms (Chain (Commit tx key epoch chain at)) =
     commit_forms (Q (Chain (Commit tx key epoch chain at))) s tx key epoch chain
-        at (forms.commits tx key epoch chain at)
+    at (forms.commits tx key epoch chain at)
 lqh_forms Q s forms (Chain (Complete tx key chain at)) =
     complete_forms (Q (Chain (Complete tx key chain at))) s tx key chain at (forms.completes tx key chain at)
 lqh_forms Q s forms (Chain (Abort tx key)) = abort_forms (Q (Chain (Abort tx key))) s tx key (forms.aborts tx key)

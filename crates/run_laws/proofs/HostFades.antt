@@ -171,8 +171,12 @@ module _ (tx : TxId) where
   lqh_primary s body key (stays is) ends h =
       inl (record { record_is = h.record_is; there = is ∙ h.there; prepared = h.prepared })
   lqh_primary s body key (is_completed is) ends h =
-      inl (record { record_is = h.record_is; there = is ∙ ap now h.there
-          ∙ ap (λ b. if b then None else Some h.record_is) h.prepared; prepared = h.prepared })
+      inl (record {
+        record_is = h.record_is;
+        there = is ∙ ap now h.there
+            ∙ ap (λ b. if b then None else Some h.record_is) h.prepared;
+        prepared = h.prepared;
+      })
     where
       now : Option PendingRecord → Option PendingRecord
       now None = None
@@ -188,8 +192,8 @@ module _ (tx : TxId) where
           let one_v : one ≡ v = cc in
           let own_key = keys.same own key e in
           inr (marked s one own epoch chain at (ap (λ t. same_tx t tx) one_v ∙ same)
-              (ends one own epoch chain at refl own_key)
-              (subst (λ k. HasPrepared tx (cell_at k s.rows).pending) (sym own_key) h))
+          (ends one own epoch chain at refl own_key)
+          (subst (λ k. HasPrepared tx (cell_at k s.rows).pending) (sym own_key) h))
       by false e q = absurd (none q)
         where
           none : rests ≡ commits v last → ⊥

@@ -117,7 +117,7 @@ module _ (tx : TxId) (key : List ℕ) where
       → tokens_of tx key (storage.operate_by s v op chain at a).effects.sends
       ≡ (if same_tx v tx && same_key (key_of op) key
       then operated_token op chain at (storage.is_log_full s.journal
-          (storage.need_of v (key_of op) (image_of op)) || is_full s.rows (key_of op)) a ∷ [] else [])
+      (storage.need_of v (key_of op) (image_of op)) || is_full s.rows (key_of op)) a ∷ [] else [])
   operated_one s v op chain at answer.Done = store_one s v (key_of op) (image_of op) chain at
   operated_one s v op chain at (answer.Found value) =
       put_home v (same_tx v tx && same_key (key_of op) key) (answers (answer.Found value)) []
@@ -175,7 +175,7 @@ module _ (tx : TxId) (key : List ℕ) where
         → tokens_of tx key (operate.asked_by (operate.asked_for s q) q a).effects.sends ≡ []
     other_tokens Granted off =
         performed_one (storage_of s) q ∙ neither (same_tx q.tx tx) (same_key (work_key q.work) key)
-            (performed_token (cell_at key s.rows) q (is_refused (storage_of s) q)) off
+        (performed_token (cell_at key s.rows) q (is_refused (storage_of s) q)) off
     other_tokens (Queued ahead) off = refl
 
     request_tokens : tokens_of tx key (operate.request_row s q).effects.sends
@@ -201,7 +201,7 @@ module _ (tx : TxId) (key : List ℕ) where
       ≡ event_tokens tx (if_on (work_key q.work) key (serves (is_refused (storage_of s) q))) (at_key key s)
   served_one s at q here =
       tokens-append tx key (operate.performed (with_waiting s (remove s.waiting at)) q).effects.sends
-          (operate.more_granted (with_waiting s (remove s.waiting at)))
+      (operate.more_granted (with_waiting s (remove s.waiting at)))
       ∙ ap (λ w. tokens_of tx key (operate.performed (with_waiting s (remove s.waiting at)) q).effects.sends ++ w)
       (granted_none s.node (is_some (operate.first_granted s.locks (remove s.waiting at))))
       ∙ none_behind (tokens_of tx key (operate.performed (with_waiting s (remove s.waiting at)) q).effects.sends)
@@ -231,7 +231,7 @@ module _ (tx : TxId) (key : List ℕ) where
             let q_is : Some q ≡ first (operate.is_granted s.locks) s.waiting =
             sym here ∙ (ap (get_by s.waiting) (sym is) ∙ first-get (operate.is_granted s.locks) s.waiting) in
             subst (Sent (operate.granted_on (with_waiting s (remove s.waiting at)) q).effects.sends) q_is
-                (served_one s at q (sym q_is));
+            (served_one s at q (sym q_is));
       })
     where
       Sent : List Outgoing → Option Request → Type 0
@@ -279,7 +279,7 @@ module _ (tx : TxId) (key : List ℕ) where
         none = λ had st gives none. served_none s v own;
         some = λ had st gives at r there here.
             refused_one v own (to_place (coordinator_of v) (Chain (Aborted v own)) ∷ serve_granted s.node
-                (freed_lock s v own)) cause.Request (served_none s v own)
+            (freed_lock s v own)) cause.Request (served_none s v own)
             ∙ ap (λ b. if b && same_key own key then refuses ∷ [] else []) off;
       })
 
@@ -324,7 +324,7 @@ module _ (tx : TxId) (key : List ℕ) where
   wait_none : (s : LqhState) (v : TxId) (own : List ℕ) → tokens_of tx key (wait.wait_row s v own).effects.sends ≡ []
   wait_none s v own =
       wait_forms (λ step. tokens_of tx key step.effects.sends ≡ []) s v own
-          (record { none = λ is. refl; some = λ ahead is. refl })
+      (record { none = λ is. refl; some = λ ahead is. refl })
 
   dump_none : (s : LqhState) (at : ℕ) → tokens_of tx key (dump.dump_row s at).effects.sends ≡ []
   dump_none s at = dump_forms (λ step. tokens_of tx key step.effects.sends ≡ []) s at (λ rows next. refl)

@@ -47,7 +47,7 @@ module _ (tx : TxId) where
       → tokens_out tx (storage.refusal other key why ∷ []) ≤ one_if (is_own r)
   refused_tokens other key why r passes =
       let one : r.tx ≡ other = same_tx-is r.tx other
-          (and_parts (same_tx r.tx other) (same_key (work_key r.work) key) passes).0 in
+      (and_parts (same_tx r.tx other) (same_key (work_key r.work) key) passes).0 in
       omega (arith, ap (λ t. one_if (same_tx t tx)) one)
 
   only_work : (body : Body) → is_work body ≡ false → is_token tx body ≡ false

@@ -74,19 +74,31 @@ module _ (start : Start) (node : ℕ) where
           → IsCommitRouted start node key chain at
           → IsSent start (to_place (rows_of (node_at chain (at - 1))) (Chain (Commit tx key epoch chain (at - 1))))
       commit_sent tx key epoch chain at is =
-          record { routed = record { along = is.along; sent =
-          record { inside = omega (arith, is.sent.inside); node_is = refl } }; block = refl }
+          record {
+            routed = record {
+              along = is.along;
+              sent =
+                  record { inside = omega (arith, is.sent.inside); node_is = refl };
+            };
+            block = refl;
+          }
 
       complete_sent : (tx : TxId) (key : List ℕ) (chain : List Member) (at : ℕ)
           → IsCompletionRouted start node key chain at
           → IsSent start (to_place (rows_of (node_at chain (at - 1))) (Chain (Complete tx key chain (at - 1))))
-      complete_sent tx key chain at is = record { routed =
-          record { along = is.along; sent = record { inside = omega (arith, is.sent.inside); node_is = refl } }; block =
-          refl }
+      complete_sent tx key chain at is = record {
+        routed =
+            record { along = is.along; sent = record { inside = omega (arith, is.sent.inside); node_is = refl } };
+        block =
+            refl;
+      }
 
   -- whatever they take
   pub lqh_routed : (s : LqhState) (body : Body) → IsRouted start node body → AreWaiting s.waiting
       → RowsRoute (lqh_table s body)
-  lqh_routed s body is all = record { waiting =
-      waiting_each (λ (q : Request). IsRequestRouted start node q) s body
-      (λ r same. subst (IsRouted start node) same is) all; sends = sent_on s body is all }
+  lqh_routed s body is all = record {
+    waiting =
+        waiting_each (λ (q : Request). IsRequestRouted start node q) s body
+        (λ r same. subst (IsRouted start node) same is) all;
+    sends = sent_on s body is all;
+  }

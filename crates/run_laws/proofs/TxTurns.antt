@@ -122,13 +122,13 @@ module _ (P : Outgoing → Type 0) (tx : TxId) (s : TcState) (beside : SendsBesi
         -- what is left of it
         left : (b : Bool) → of_live tx (front ++ back) ≡ None → same_tx one tx ≡ true → tally (is_keyed tx) front ≡ 0
             → of_live tx (if b then front ++ back else front ++ (one, row.step.state) ∷ back)
-                ≡ (if b then None else Some row.step.state)
+            ≡ (if b then None else Some row.step.state)
         left true gone own none = gone
         left false gone own none = of_here tx one row.step.state front back none own
 
         other : (b : Bool) → same_tx one tx ≡ false
             → of_live tx (if b then front ++ back else front ++ (one, row.step.state) ∷ back)
-                ≡ of_live tx (front ++ back)
+            ≡ of_live tx (front ++ back)
         other true differs = refl
         other false differs = of_other front back one tx row.step.state differs
 

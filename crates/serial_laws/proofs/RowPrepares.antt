@@ -64,14 +64,14 @@ module _ (v : TxId) (key : List ℕ) where
           (and_from (same_tx r.tx v) (same_key own key) f e)
       by true e false f =
           none_there (found v (cell_at key (rows.storing s.rows r.tx own image)).pending)
-              (found v (cell_at key s.rows).pending)
+          (found v (cell_at key s.rows).pending)
           (ap (λ c. found v c.pending) (cell ∙ ap
           (λ b. if b then storing (cell_at key s.rows) r.tx own image false else cell_at key s.rows) e)
           ∙ found-stored v (prepared r.tx own image) (cell_at key s.rows).pending
           ∙ ap (λ b. if b then Some (prepared r.tx own image) else found v (cell_at key s.rows).pending) f) none is
       by false e c f =
           none_there (found v (cell_at key (rows.storing s.rows r.tx own image)).pending)
-              (found v (cell_at key s.rows).pending)
+          (found v (cell_at key s.rows).pending)
           (ap (λ c. found v c.pending) (cell ∙ ap
           (λ b. if b then storing (cell_at key s.rows) r.tx own image false else cell_at key s.rows) e)) none is
 
@@ -138,7 +138,7 @@ module _ (v : TxId) (key : List ℕ) where
       → RowMarksNew s (lqh_table s body).state (lqh_table s body).effects.marks
   event_new s body well makes is none =
       none_there (found v (at_key key (lqh_table s body).state).cell.pending)
-          (found v (key_after (event_at key s body) (at_key key s)).cell.pending)
+      (found v (key_after (event_at key s body) (at_key key s)).cell.pending)
       (ap (λ (r : Replica). found v r.cell.pending) (signals_are_events s body key well)) (makes (at_key key s) none) is
 
   pub new_marked : (s : LqhState) (body : Body) → IsWell s

@@ -205,7 +205,7 @@ ruled tx s f none distinct keys = by (slice_get s.gathered 0) refl
         fits = (
           none,
           first_with
-        (λ x. x.tx ≡ tx → rule.replica_count s.layout x.keys ≤ rule.replica_count s.layout g.keys + f.aborted)
+              (λ x. x.tx ≡ tx → rule.replica_count s.layout x.keys ≤ rule.replica_count s.layout g.keys + f.aborted)
               s.gathered g there (λ same. omega arith),
         );
       };

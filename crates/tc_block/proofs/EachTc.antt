@@ -19,14 +19,14 @@ use Rattle.tc_block.proofs.TurnRows.{PlacedStep, goes, idles, lacks, lost, opens
 -- of the other steps
 pub record TcForms (s : TcState) (body : Body) (R : TxId → Transaction → Turn → Type 0)
     (S : Step TcState → Type 0) : Type 0
-    where
-  pub turns : (tx : TxId) (t : Transaction) (at : ℕ) → Split tx t s.live at → RowsAre s.node s.layout tx t body (R tx t)
-  pub turned : (tx : TxId) (t : Transaction) (at : ℕ) → Split tx t s.live at → (turn : Turn) → R tx t turn
-      → S (turned s at turn)
-  pub stays : S (stay s)
-  pub full : (name : Option ℕ) → S (begin_if s name true)
-  pub begins : (name : Option ℕ) → S (begin_if s name false)
-  pub passes : (tx ahead : TxId) → S (pass_if s tx ahead true)
+  where
+    pub turns : (tx : TxId) (t : Transaction) (at : ℕ) → Split tx t s.live at → RowsAre s.node s.layout tx t body (R tx t)
+    pub turned : (tx : TxId) (t : Transaction) (at : ℕ) → Split tx t s.live at → (turn : Turn) → R tx t turn
+        → S (turned s at turn)
+    pub stays : S (stay s)
+    pub full : (name : Option ℕ) → S (begin_if s name true)
+    pub begins : (name : Option ℕ) → S (begin_if s name false)
+    pub passes : (tx ahead : TxId) → S (pass_if s tx ahead true)
 
 -- whatever the coordinator takes
 pub tc_each : (R : TxId → Transaction → Turn → Type 0) (S : Step TcState → Type 0) (s : TcState) (body : Body)
@@ -44,4 +44,4 @@ tc_each R S s body forms = by (tc_table s body) (placed_step s body)
         subst S (sym is)
         (forms.turned (tx_in body) t at split (turn_row s body t)
         (turn_by s t (R (tx_in body) t) body (forms.turns (tx_in body) t at split)
-            (λ off. absurd (false≢true (sym off ∙ turn)))))
+        (λ off. absurd (false≢true (sym off ∙ turn)))))

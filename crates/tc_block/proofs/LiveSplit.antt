@@ -66,12 +66,12 @@ split_at tx (e ∷ es) at t is there =
 
     by : (b : Bool) → same_tx tx e.0 ≡ b → place_by b (position (same_tx tx) (keys_of es)) ≡ Some at
         → ((m : ℕ) → position (same_tx tx) (keys_of es) ≡ Some m → slice_get (values_of es) m ≡ Some t
-            → Split tx t es m) → Split tx t (e ∷ es) at
+        → Split tx t es m) → Split tx t (e ∷ es) at
     by true own is more = let zero_is : 0 ≡ at = cc in here zero_is (same_tx-is tx e.0 own)
     by false off is more =
         let last = behind (position (same_tx tx) (keys_of es)) at is in
         further last.place last.next
-            (more last.place last.found (ap (slice_get (values_of (e ∷ es))) last.next ∙ there))
+        (more last.place last.found (ap (slice_get (values_of (e ∷ es))) last.next ∙ there))
 
 -- where there is a place there is a transaction
 pub no_value : (tx : TxId) (live : Live) (at : ℕ) → position (same_tx tx) (keys_of live) ≡ Some at
@@ -118,26 +118,30 @@ pub once_set : (front back : Live) (tx : TxId) (t w : Transaction) → KeysOnce 
 once_set [] back tx t w once = once
 once_set (e ∷ front) back tx t w once =
     let P : TxId × Transaction → Type 0 = λ x. same_tx x.0 e.0 ≡ false in
-    let all = each_after P front ((tx, t) ∷ back) once.0 in
-    (each_append P front ((tx, w) ∷ back) (each_before P front ((tx, t) ∷ back) once.0) (all.0, all.1),
-        once_set front back tx t w once.1)
+    let all = each_after P front ((tx, t) ∷ back) once.0 in (
+      each_append P front ((tx, w) ∷ back) (each_before P front ((tx, t) ∷ back) once.0) (all.0, all.1),
+      once_set front back tx t w once.1,
+    )
 
 pub once_gone : (front back : Live) (tx : TxId) (t : Transaction) → KeysOnce (front ++ (tx, t) ∷ back)
     → KeysOnce (front ++ back)
 once_gone [] back tx t once = once.1
 once_gone (e ∷ front) back tx t once =
-    let P : TxId × Transaction → Type 0 = λ x. same_tx x.0 e.0 ≡ false in
-    (each_append P front back (each_before P front ((tx, t) ∷ back) once.0)
-        (each_after P front ((tx, t) ∷ back) once.0).1, once_gone front back tx t once.1)
+    let P : TxId × Transaction → Type 0 = λ x. same_tx x.0 e.0 ≡ false in (
+      each_append P front back (each_before P front ((tx, t) ∷ back) once.0)
+          (each_after P front ((tx, t) ∷ back) once.0).1,
+      once_gone front back tx t once.1,
+    )
 
 -- the others are others
 pub once_front : (front back : Live) (tx : TxId) (t : Transaction) → KeysOnce (front ++ (tx, t) ∷ back)
     → Each (λ (x : TxId × Transaction). same_tx x.0 tx ≡ false) front
 once_front [] back tx t once = tt
-once_front (e ∷ front) back tx t once =
-    (same_tx-swap e.0 tx
-        ∙ (each_after (λ (x : TxId × Transaction). same_tx x.0 e.0 ≡ false) front ((tx, t) ∷ back) once.0).0,
-        once_front front back tx t once.1)
+once_front (e ∷ front) back tx t once = (
+  same_tx-swap e.0 tx
+      ∙ (each_after (λ (x : TxId × Transaction). same_tx x.0 e.0 ≡ false) front ((tx, t) ∷ back) once.0).0,
+  once_front front back tx t once.1,
+)
 
 pub once_back : (front back : Live) (tx : TxId) (t : Transaction) → KeysOnce (front ++ (tx, t) ∷ back)
     → Each (λ (x : TxId × Transaction). same_tx x.0 tx ≡ false) back
@@ -165,6 +169,8 @@ once_inserted (e ∷ es) tx t apart once = by (same_tx tx e.0) refl (once_insert
     by : (b : Bool) → same_tx tx e.0 ≡ b → KeysOnce (insert_entry same_tx es tx t)
         → KeysOnce (if b then (e.0, t) ∷ es else e ∷ insert_entry same_tx es tx t)
     by true e_is more = absurd (let both : true ≡ false = sym e_is ∙ (same_tx-swap tx e.0 ∙ apart.0) in cc)
-    by false e_is more =
-        (each_inserted (λ (x : TxId × Transaction). same_tx x.0 e.0 ≡ false) es tx t apart.1
-            (same_tx-swap tx e.0 ∙ apart.0) once.0, more)
+    by false e_is more = (
+      each_inserted (λ (x : TxId × Transaction). same_tx x.0 e.0 ≡ false) es tx t apart.1
+          (same_tx-swap tx e.0 ∙ apart.0) once.0,
+      more,
+    )

@@ -10,8 +10,8 @@ use crate::phase::Phase;
 use crate::touched::Touched;
 use frag_map::Layout;
 use sig_core::{
-    Body, CLIENT, Chain, ChainSignal, ClientSignal, HostSignal, Key, Members, Outs, PORTION, Portion, TxId, Work,
-    coordinator, last_place, node_at, rows_of,
+    Body, CLIENT, Chain, ChainSignal, ClientSignal, HostSignal, Key, Members, Outs, PORTION,
+    Portion, TxId, Work, coordinator, last_place, node_at, rows_of,
 };
 
 /// The most signals that a list of sends has: `Abort` for 64 keys, to eight replicas of each.
@@ -96,7 +96,14 @@ fn offer_keys(
 
 // What is sent for one key.
 #[tactic(auto, unfolding(crate::specs::Sends::key_sends))]
-fn offer_key(layout: &Layout, tx: TxId, phase: Phase, t: &Touched, portion: &mut Portion, out: &mut Outs)
+fn offer_key(
+    layout: &Layout,
+    tx: TxId,
+    phase: Phase,
+    t: &Touched,
+    portion: &mut Portion,
+    out: &mut Outs,
+)
     requires { length out.old.sends + portion.old.room ≤ 15 }
     ensures offered { so_far portion.new out.new ≡ all_offered (so_far portion.old out.old) (key_sends layout.now tx phase t.now) }
     ensures fits { length out.new.sends + portion.new.room ≤ 15 }

@@ -176,7 +176,14 @@ impl World {
         self.bodies[at].handle(alloc, signal.get(), &mut self.outs)?;
         self.stamps[at] = stamp;
         let marks = self.outs.take_marks(alloc)?;
-        dispatch(alloc, &mut self.network, &self.who, host, stamp, &mut self.outs)?;
+        dispatch(
+            alloc,
+            &mut self.network,
+            &self.who,
+            host,
+            stamp,
+            &mut self.outs,
+        )?;
         let taken = signal;
         self.logs.add(
             host,
