@@ -1,3 +1,4 @@
 mod conversation;
 mod heard;
 mod text;
+mod together;
