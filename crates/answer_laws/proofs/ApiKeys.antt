@@ -93,10 +93,10 @@ module _ (tx : TxId) (s : ApiState) where
           omega (arith, ap (λ o. one_if (is_tx tx o && is_operating t.doing)) p,
               few (same_tx two tx) (is_operating t.doing), ap (λ x. one_if (same_tx x tx)) same)
 
-  asked : (r : ApiReq) (n : ℕ) → ApiRequestForms s (FairStep tx s (Host (Continue (work.Request r) n)))
+  asked : (r : ApiReq) (n : ℕ) → ApiRequestForms s r (FairStep tx s (Host (Continue (work.Request r) n)))
   asked r n = record {
     opens = λ name node op new. omega (arith, tally_append (operates tx) s.opened (asked_for name node op ∷ []));
-    refuses = λ name why up. omega arith;
+    refuses = λ name why own. omega arith;
     operates = λ name op at f one ready own low.
         changed (is_named (Some name)) at f _ _ _ _ (f.set _)
         (omega (arith, not_operating f.item (ap is_operating ready), ap (λ o. one_if (is_tx tx o && true)) own,
@@ -104,12 +104,12 @@ module _ (tx : TxId) (s : ApiState) where
     commits = λ name at f one ready own.
         changed (is_named (Some name)) at f _ _ _ _ (f.set _)
             (omega (arith, not_operating f.item (ap is_operating ready)));
-    aborts = λ name at f one own. omega arith;
+    aborts = λ name at f one is own. omega arith;
     ticks = λ of last. omega (arith, ticked of last, telling_keys tx news.Round (everyone s.view));
     dumps = λ node digest. omega arith;
     waits = λ p at f one own. changed p at f _ _ _ _ (f.set _) (omega arith);
     pends = λ name holder. omega arith;
-    gives_up = λ holder one. omega arith;
+    gives_up = λ p at f holder one is alone own. omega arith;
     is_about_none = omega arith;
     rests = omega arith;
   }

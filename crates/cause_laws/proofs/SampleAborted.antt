@@ -40,7 +40,10 @@ local zero = (
           at = refl;
           stamped = refl;
           runs = tt;
-          fits = record { marks = refl; asked = record { request = request.Begin 7 (Some 1); shell = refl; is = refl } };
+          fits = record {
+            marks = refl;
+            asked = record { request = request.Begin 7 (Some 1); shell = refl; is = refl };
+          };
         },
         tt,
       ),

@@ -1,9 +1,8 @@
 -- A coordinator turns a beginning away only where it was asked for one of that name, and has too many.
-use Rattle.std.proofs.Common.{◌≡◌, ◌⊎◌, ◌==◌, ℕ, ◌-◌, ◌^◌, Bool, true, false, length, refl, inl, inr, arith}
+use Rattle.std.proofs.Common.{◌≡◌, ◌⊎◌, ◌==◌, ℕ, ◌-◌, ◌^◌, Bool, true, false, length, refl, sym, subst, inl, inr, arith}
 use Rattle.std.proofs.lemmas.Bool.{eqb-true, or_cases}
 use Rattle.std.proofs.lemmas.Bool.Decides.{nat_tests}
-use Rattle.std.specs.Map.{values_of}
-use Rattle.std.specs.Prelude.{nat_le, is_some, Option, None, Some, slice_get}
+use Rattle.std.specs.Prelude.{nat_le, Option}
 use Rattle.run_theory.proofs.EachSent.{each_mapped}
 use Rattle.run_theory.specs.Lists.{Each}
 use Rattle.sig_core.specs.declared.member.TxId.{TxId}
@@ -11,32 +10,25 @@ use Rattle.sig_core.specs.declared.outcome.AbortCause.{AbortCause}
 use Rattle.sig_core.specs.declared.outs.Outgoing.{Outgoing}
 use Rattle.sig_core.specs.declared.place.Place.{Place}
 use Rattle.sig_core.specs.declared.signal.Body.{Body}
-use Rattle.sig_core.specs.declared.signal.Body.TheVariants.{Host, Client, Chain, Epoch}
-use Rattle.sig_core.specs.declared.signal.chain.ChainSignal.TheVariants.{LqhKeyConf, LqhKeyRef, Committed, Completed}
-use Rattle.sig_core.specs.declared.signal.chain.ChainSignal.TheVariants.{Aborted}
-use Rattle.sig_core.specs.declared.signal.client.ClientSignal.TheVariants.{TcBeginRef, TcBeginReq, TcKeyReq}
-use Rattle.sig_core.specs.declared.signal.client.ClientSignal.TheVariants.{TcCommitReq, TcRollbackReq, TcWaitReq}
-use Rattle.sig_core.specs.declared.signal.client.ClientSignal.TheVariants.{LqhWaitConf}
-use Rattle.sig_core.specs.declared.signal.epoch.EpochSignal.TheVariants.{DiVerifyConf}
-use Rattle.sig_core.specs.declared.signal.host.HostSignal.TheVariants.{Continue}
-use Rattle.sig_core.specs.declared.signal.host.Work.TheVariants as work
+use Rattle.sig_core.specs.declared.signal.Body.TheVariants.{Client}
+use Rattle.sig_core.specs.declared.signal.client.ClientSignal.TheVariants.{TcBeginRef, TcBeginReq}
 use Rattle.sig_core.specs.Op.{key_of}
 use Rattle.sig_core.specs.Place.{client}
 use Rattle.sig_core.specs.Step.{Step}
 use Rattle.frag_map.specs.Layout.{Layout, chain_of}
-use Rattle.tc_block.proofs.EachTurn.{AbortForms, CommittedForms, RowsAre, TurnForms, rows_of}
+use Rattle.tc_block.proofs.EachTurn.{AbortForms, CommittedForms, TurnForms, rows_of}
+use Rattle.tc_block.proofs.TurnRows.{PlacedStep, goes, idles, lacks, lost, opens, placed_step, tells, turn_by, turn_row}
+use Rattle.tc_block.proofs.TurnRows.{tx_in}
 use Rattle.tc_block.specs.Abort as abort
-use Rattle.tc_block.specs.Commit as commit
 use Rattle.tc_block.specs.Complete as complete
 use Rattle.tc_block.specs.declared.phase.Phase.{Phase}
 use Rattle.tc_block.specs.declared.phase.Phase.TheVariants.{Open, Verifying, Committing, Completing, Aborting}
 use Rattle.tc_block.specs.declared.tc.TheConstants.{TRANSACTIONS}
 use Rattle.tc_block.specs.declared.transaction.Transaction.{Transaction}
-use Rattle.tc_block.specs.Live.{place_in, step_of, step_place, step_value, turn_of, turn_place, turn_value, turned_if}
-use Rattle.tc_block.specs.Operate as operate
-use Rattle.tc_block.specs.Sends.{abort_of, entering, front_sends, go_on_if, go_on_row, wait_of}
+use Rattle.tc_block.specs.Live.{turned_if}
+use Rattle.tc_block.specs.Sends.{abort_of, entering, front_sends, go_on_if, wait_of}
 use Rattle.tc_block.specs.State.{TcState}
-use Rattle.tc_block.specs.Tc.{begin_if, begin_row, is_full, pass_if, pass_row, tc_table}
+use Rattle.tc_block.specs.Tc.{begin_if, begin_row, is_full, tc_table}
 use Rattle.tc_block.specs.Turn.{Turn, going}
 use Rattle.host_laws.proofs.PhaseSends.{HasChains, entering_of_kind, rest_of_kind}
 use Rattle.host_laws.proofs.SendKinds.{are_of, each_of}
@@ -137,40 +129,8 @@ module _ (s : TcState) (body : Body) where
       aborted_all = λ why verifying awaited at last. abort_ends why verifying;
     }
 
-  rows : (tx : TxId) (t : Transaction) → RowsAre s.node s.layout tx t body TurnTells
-  rows tx t = rows_of s.node s.layout tx t body TurnTells (turns s.node s.layout tx t)
-
   abbrev StepTells : Step TcState → Type 0
   StepTells step = Each Tells step.effects.sends
-
-  -- what a transaction sends is all that the step of its coordinator does
-  steps : (tx : TxId) (row : Transaction → Step Transaction) → ((t : Transaction) → TurnTells (going (row t)))
-      → StepTells (step_of s tx row)
-  steps tx row each = at_place (place_in s tx)
-    where
-      at_value : (at : ℕ) (t : Option Transaction) → StepTells (step_value s row at t)
-      at_value at None = tt
-      at_value at (Some t) = each t
-
-      at_place : (at : Option ℕ) → StepTells (step_place s row at)
-      at_place None = tt
-      at_place (Some at) = at_value at (slice_get (values_of s.live) at)
-
-  takes_turn : (tx : TxId) (row : Transaction → Turn) → ((t : Transaction) → TurnTells (row t))
-      → StepTells (turn_of s tx row)
-  takes_turn tx row each = at_place (place_in s tx)
-    where
-      by : (at : ℕ) (turn : Turn) → TurnTells turn → (b : Bool) → StepTells (turned_if s at turn b)
-      by at turn is true = is
-      by at turn is false = is
-
-      at_value : (at : ℕ) (t : Option Transaction) → StepTells (turn_value s row at t)
-      at_value at None = tt
-      at_value at (Some t) = by at (row t) (each t) (row t).over
-
-      at_place : (at : Option ℕ) → StepTells (turn_place s row at)
-      at_place None = tt
-      at_place (Some at) = at_value at (slice_get (values_of s.live) at)
 
   begins : (name : Option ℕ) → body ≡ Client (TcBeginReq name) → StepTells (begin_row s name)
   unfolding begin_row
@@ -180,39 +140,27 @@ module _ (s : TcState) (body : Body) where
       by true full = ((refl, (is, too_many s full)), tt)
       by false full = (tt, tt)
 
-  passes : (tx ahead : TxId) → StepTells (pass_row s tx ahead)
-  unfolding pass_row
-  passes tx ahead = by (is_some (place_in s tx))
-    where
-      by : (b : Bool) → StepTells (pass_if s tx ahead b)
-      by true = (tt, tt)
-      by false = tt
+  -- what a transaction sends is all that the step of its coordinator does
+  turned_tells : (at : ℕ) (turn : Turn) → TurnTells turn → (b : Bool) → StepTells (turned_if s at turn b)
+  turned_tells at turn is true = is
+  turned_tells at turn is false = is
 
 -- whatever the coordinator takes
 pub begins_tell : (s : TcState) (body : Body)
     → Each (λ (o : Outgoing). BeginTells s body o.to o.body) (tc_table s body).effects.sends
-begins_tell s (Host (Continue (work.Transaction tx) at)) =
-    steps s _ tx (λ t. go_on_row s.node s.layout tx t at) (λ t. (rows s _ tx t).goes_on at refl)
-begins_tell s (Client (TcBeginReq name)) = begins s _ name refl
-begins_tell s (Client (TcKeyReq tx op)) =
-    steps s _ tx (λ t. operate.operate_row s.layout tx t op) (λ t. (rows s _ tx t).operates op refl)
-begins_tell s (Client (TcCommitReq tx)) =
-    steps s _ tx (λ t. commit.verify_row s.node tx t) (λ t. (rows s _ tx t).decides refl)
-begins_tell s (Client (TcRollbackReq tx)) =
-    takes_turn s _ tx (λ t. abort.rollback_row s.node s.layout tx t) (λ t. (rows s _ tx t).rolls_back refl)
-begins_tell s (Client (TcWaitReq tx)) =
-    steps s _ tx (λ t. operate.wait_row tx t) (λ t. (rows s _ tx t).waits refl)
-begins_tell s (Client (LqhWaitConf tx ahead)) = passes s _ tx ahead
-begins_tell s (Chain (LqhKeyConf tx key answer)) =
-    steps s _ tx (λ t. operate.answer_row s.layout tx t key answer) (λ t. (rows s _ tx t).answers key answer refl)
-begins_tell s (Chain (LqhKeyRef tx key why)) =
-    takes_turn s _ tx (λ t. abort.refuse_row s.node s.layout tx t key why) (λ t. (rows s _ tx t).refuses key why refl)
-begins_tell s (Chain (Committed tx key)) =
-    takes_turn s _ tx (λ t. commit.committed_row s.node s.layout tx t) (λ t. (rows s _ tx t).committed key refl)
-begins_tell s (Chain (Completed tx key)) =
-    takes_turn s _ tx (λ t. complete.completed_row s.node tx t) (λ t. (rows s _ tx t).completed key refl)
-begins_tell s (Chain (Aborted tx key)) =
-    takes_turn s _ tx (λ t. abort.aborted_row s.node tx t) (λ t. (rows s _ tx t).aborted key refl)
-begins_tell s (Epoch (DiVerifyConf tx epoch)) =
-    takes_turn s _ tx (λ t. commit.commit_row s.node s.layout tx t epoch) (λ t. (rows s _ tx t).commits epoch refl)
-begins_tell s _ = tt
+begins_tell s body = by (tc_table s body) refl (placed_step s body)
+  where
+    begun : (name : Option ℕ) → body ≡ Client (TcBeginReq name) → StepTells s body (tc_table s body)
+    begun name about = subst (λ b. StepTells s body (tc_table s b)) (sym about) (begins s body name about)
+
+    by : (step : Step TcState) → tc_table s body ≡ step → PlacedStep s body step → StepTells s body step
+    by step same (idles off is) = subst (StepTells s body) (sym is) tt
+    by step same (lacks name about is) = subst (StepTells s body) same (begun name about)
+    by step same (opens name about room is) = subst (StepTells s body) same (begun name about)
+    by step same (tells tx ahead about is) = subst (StepTells s body) (sym is) (tt, tt)
+    by step same (lost turn none is) = subst (StepTells s body) (sym is) tt
+    by step same (goes turn t at split is) =
+        let own = turn_by s t (TurnTells s body) body
+        (rows_of s.node s.layout (tx_in body) t body (TurnTells s body) (turns s body s.node s.layout (tx_in body) t))
+        (λ off. tt) in
+        subst (StepTells s body) (sym is) (turned_tells s body at (turn_row s body t) own (turn_row s body t).over)

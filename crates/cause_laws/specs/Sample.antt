@@ -9,7 +9,8 @@ use Rattle.sig_core.specs.declared.outcome.AbortCause.TheVariants.{Request}
 use Rattle.sig_core.specs.declared.outcome.Outcome.TheVariants.{Aborted}
 use Rattle.sig_core.specs.declared.request.ApiReq.TheVariants.{Abort, Begin}
 use Rattle.sig_core.specs.declared.signal.Body.TheVariants.{Client}
-use Rattle.sig_core.specs.declared.signal.client.ClientSignal.TheVariants.{TcBeginConf, TcBeginReq, TcRollbackRep, TcRollbackReq}
+use Rattle.sig_core.specs.declared.signal.client.ClientSignal.TheVariants.{TcBeginConf, TcBeginReq, TcRollbackRep}
+use Rattle.sig_core.specs.declared.signal.client.ClientSignal.TheVariants.{TcRollbackReq}
 use Rattle.sig_core.specs.declared.signal.Signal.{Signal}
 use Rattle.sig_core.specs.Place.{client, coordinator}
 use Rattle.sig_core.specs.Step.{to_place}
@@ -34,8 +35,8 @@ first_tx = record { tc = 1; start = 0; seq = 1 }
 abbrev pub marked : ℕ → ℕ → List Mark → Signal → HostStep
 marked h stamp marks x = record { host = h; step = record { stamp = stamp; taken = x; marks = marks } }
 
--- the shell's host before the report: the client asks for transaction 7 at node 1, is told that it has begun, and asks to
--- abort it
+-- the shell's host before the report: the client asks for transaction 7 at node 1, is told that it has begun, and asks
+-- to abort it
 abbrev pub before_report : List HostStep
 before_report =
     marked 0 4 [] (request_signal one 3 (Abort 7))

@@ -30,7 +30,7 @@ use Rattle.world_core.specs.Hosts.{tc_host}
 use Rattle.world_core.specs.Machine.{after, step_after}
 use Rattle.world_core.specs.Start.{Start}
 use Rattle.world_core.specs.Steps.{Addressed, HostStep}
-use Rattle.host_laws.proofs.BlocksAlong.{tc_number}
+use Rattle.host_laws.proofs.BlocksAlong.{replies_are, tc_number}
 use Rattle.answer_laws.proofs.Begins.{within}
 use Rattle.host_laws.specs.OpenedAfter.{opened_after}
 use Rattle.command_laws.proofs.BeginRows.{IsFree, asking, begin_is, begun_named, begun_opened, begun_replies, begun_sends, entry, is_free, refused_is, refused_left}
@@ -39,7 +39,6 @@ use Rattle.command_laws.proofs.BlockSteps.{api_seen, tc_seen}
 use Rattle.command_laws.proofs.Committed.{calm_at}
 use Rattle.command_laws.proofs.Entries.{NoneBegins}
 use Rattle.command_laws.proofs.First.{IsFirst, first_step, request_first, with_first}
-use Rattle.command_laws.proofs.HostKinds.{replies_are}
 use Rattle.command_laws.proofs.LoneAnswered.{shell_view}
 use Rattle.command_laws.proofs.OneAtATime.{IsNext, Leads, is_done}
 use Rattle.command_laws.specs.Begun.{BeginComesTo, BeginsAt, BeginsBy, coordinator_at}

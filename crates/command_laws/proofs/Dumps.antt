@@ -36,13 +36,13 @@ use Rattle.world_core.specs.Hosts.{rows_host}
 use Rattle.world_core.specs.Machine.{after, step_after}
 use Rattle.world_core.specs.Start.{Start}
 use Rattle.world_core.specs.Steps.{Addressed, HostStep}
+use Rattle.host_laws.proofs.BlocksAlong.{replies_are}
 use Rattle.host_laws.proofs.Replicas.{logs_keep_well}
 use Rattle.answer_laws.proofs.Begins.{within}
 use Rattle.command_laws.proofs.BlocksTake.{api_takes_it, lqh_seen, lqh_takes_it}
 use Rattle.command_laws.proofs.BlockSteps.{api_seen}
 use Rattle.command_laws.proofs.First.{IsFirst, first_step, request_first, with_first}
 use Rattle.command_laws.proofs.GatheredRows.{KeyedRow, gathered_from, gathered_rising, gathered_there}
-use Rattle.command_laws.proofs.HostKinds.{replies_are}
 use Rattle.command_laws.proofs.LoneAnswered.{shell_view}
 use Rattle.command_laws.proofs.OneAtATime.{IsNext, Leads, is_done}
 use Rattle.command_laws.proofs.PlacedRows.{listed_distinct, listed_row, part_listed, row_listed, rows_at, rows_from}

@@ -1,11 +1,10 @@
 -- What the shell's host alone asks of rows: no node sends a round of time, or asks for rows.
 use Rattle.std.proofs.Common.{◌≡◌, ℕ, suc, Bool, true, false, List, [], ◌∷◌, ◌++◌, refl, sym, ◌∙◌, arith}
-use Rattle.std.specs.Prelude.{Option}
 use Rattle.sig_core.specs.declared.member.TxId.{TxId}
 use Rattle.sig_core.specs.declared.place.Place.{Place}
 use Rattle.sig_core.specs.declared.signal.Body.{Body}
 use Rattle.sig_core.specs.declared.signal.Body.TheVariants.{Client, Host}
-use Rattle.sig_core.specs.declared.signal.client.ClientSignal.TheVariants.{DumpReq, TcBeginReq}
+use Rattle.sig_core.specs.declared.signal.client.ClientSignal.TheVariants.{DumpReq}
 use Rattle.sig_core.specs.declared.signal.host.HostSignal.TheVariants.{Round}
 use Rattle.sig_core.specs.declared.signal.Signal.{Signal}
 use Rattle.lqh_block.specs.Lqh.{lqh_table}
@@ -15,15 +14,14 @@ use Rattle.node_core.specs.declared.host.Host as host
 use Rattle.node_core.specs.Dih.{dih_table}
 use Rattle.node_core.specs.Row.{row}
 use Rattle.tc_block.specs.State.{TcState}
-use Rattle.tc_block.specs.Tc.{begin_if, begin_row, is_full, tc_table}
-use Rattle.world_core.specs.Machine.{step_after}
-use Rattle.world_core.specs.Machine.{after}
+use Rattle.tc_block.specs.Tc.{tc_table}
+use Rattle.world_core.specs.Machine.{after, step_after}
 use Rattle.world_core.specs.Start.{Start}
 use Rattle.world_core.specs.Steps.{HostStep}
 use Rattle.host_laws.proofs.DihSends.{dih_kinds}
 use Rattle.host_laws.proofs.LqhSends.{lqh_kinds}
 use Rattle.host_laws.proofs.SendKinds.{are_of, is_dih_kind, is_lqh_kind, is_tc_kind, none_of, of_kind}
-use Rattle.host_laws.proofs.TcSends.{tc_kinds, tx_in}
+use Rattle.host_laws.proofs.TcSends.{tc_only}
 use Rattle.command_laws.proofs.HostKinds.{node_runs_none}
 use Rattle.command_laws.proofs.Since.{sent_since}
 
@@ -48,16 +46,8 @@ lqh_asks_none (Client (DumpReq at)) e = cc
 lqh_asks_none (Host Round) e = cc
 lqh_asks_none _ e = refl
 
-begin_asks_none : (s : TcState) (name : Option ℕ) (b : Bool) → are_of is_no_ask (begin_if s name b).effects.sends ≡ true
-begin_asks_none s name true = refl
-begin_asks_none s name false = refl
-
 tc_sends_none : (s : TcState) (body : Body) → are_of is_no_ask (tc_table s body).effects.sends ≡ true
-unfolding begin_row
-tc_sends_none s (Client (TcBeginReq name)) = begin_asks_none s name (is_full s)
-tc_sends_none s body =
-    of_kind (is_tc_kind (tx_in body)) is_no_ask (tc_asks_none (tx_in body)) (tc_table s body).effects.sends
-    (tc_kinds s body refl)
+tc_sends_none = tc_only is_no_ask tc_asks_none (λ name. refl) (λ name tx. refl)
 
 host_asks_none : (g : host.Host) (x : Signal) → has_api g ≡ false → are_of is_no_ask (row g x).effects.sends ≡ true
 host_asks_none g x none = of_effects (λ f. are_of is_no_ask f.sends ≡ true) g x refl (record {

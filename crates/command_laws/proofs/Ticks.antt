@@ -38,6 +38,7 @@ use Rattle.world_core.specs.Hosts.{hosts, rows_host}
 use Rattle.world_core.specs.Machine.{after, machine, step_after}
 use Rattle.world_core.specs.Start.{Start}
 use Rattle.world_core.specs.Steps.{HostStep}
+use Rattle.host_laws.proofs.BlocksAlong.{replies_are}
 use Rattle.host_laws.proofs.ApiTurns.{signal_turns}
 use Rattle.host_laws.proofs.LinkCounts.{few_sends, signals, steps, steps_from, to_host}
 use Rattle.host_laws.proofs.Tally.{tally_append}
@@ -48,7 +49,6 @@ use Rattle.command_laws.proofs.BlockSteps.{api_host, api_seen}
 use Rattle.command_laws.proofs.Committed.{cut_at_first}
 use Rattle.command_laws.proofs.First.{IsFirst, first_step, request_first}
 use Rattle.command_laws.proofs.HoldersTold.{sent_to_append}
-use Rattle.command_laws.proofs.HostKinds.{replies_are}
 use Rattle.command_laws.proofs.LoneAnswered.{shell_view}
 use Rattle.command_laws.proofs.RowAsks.{is_no_ask, none_asked}
 use Rattle.command_laws.proofs.Since.{few_taken, link_sent_to, link_taken, sent_since_to, taken_few, taken_is, taken_since}

@@ -1,2 +1,3 @@
 mod EpochLemmas
 mod NoneLemmas
+mod ReportLemmas

@@ -1,16 +1,16 @@
 -- What is true of the epochs that a node gives, whatever comes, in whatever order.
 use Rattle.std.specs.Prelude.{◌≡◌, ◌≤◌, ◌<◌, ℕ, false, List, [], ◌∷◌, ◌++◌}
-use Rattle.std.specs.List.{AllPairs, flat_map}
+use Rattle.std.specs.List.{All, AllPairs, flat_map}
 use Rattle.sig_core.specs.declared.mark.Mark.{Mark}
 use Rattle.sig_core.specs.declared.mark.Mark.TheVariants.{Decided}
 use Rattle.sig_core.specs.declared.signal.Body.{Body}
 use Rattle.sig_core.specs.declared.signal.Body.TheVariants.{Epoch}
 use Rattle.sig_core.specs.declared.signal.Signal.{Signal}
-use Rattle.sig_core.specs.declared.signal.epoch.EpochSignal.TheVariants.{GcpCommit}
+use Rattle.sig_core.specs.declared.signal.epoch.EpochSignal.TheVariants.{GcpCommit, GcpNodeFinish}
 use Rattle.sig_core.specs.Step.{Step}
-use Rattle.dih_node.specs.Dih.{dih_row}
+use Rattle.dih_node.specs.Dih.{dih_row, fresh_dih}
 use Rattle.dih_node.specs.Orders.{install_row}
-use Rattle.dih_node.specs.State.{DihState, gives}
+use Rattle.dih_node.specs.State.{DihState, gives, is_unfinished}
 
 -- the block takes a signal, or its host installs the view of a number
 pub data Event : Type 0 where
@@ -54,3 +54,30 @@ EpochsNeverFall =
 -- none is given while an epoch is prepared, or a view is promised that isn't installed
 abbrev pub NoneIsGivenWhilePrepared : Type 0
 NoneIsGivenWhilePrepared = (s : DihState) (e : Event) → gives s ≡ false → given_at (step_at s e) ≡ []
+
+-- the epoch whose end a signal reports
+abbrev pub report_of : Body → List ℕ
+report_of (Epoch (GcpNodeFinish epoch)) = epoch ∷ []
+report_of body = []
+
+-- those reported at a step
+abbrev pub reports_at : Step DihState → List ℕ
+reports_at step = flat_map (λ send. report_of send.body) step.effects.sends
+
+-- the end of an epoch, reported by a node that is in this state then: it gives a greater one, and no transaction with
+-- this epoch or one before is counted any more
+pub record IsTrueOf (s : DihState) (epoch : ℕ) : Type 0 where
+  pub current : epoch < s.current
+  pub finished : is_unfinished s.counted epoch ≡ false
+
+-- each report along a list of events is true
+abbrev pub ReportsHold : DihState → List Event → Type 0
+ReportsHold s [] = Unit {0}
+ReportsHold s (e ∷ events) =
+    All (IsTrueOf (step_at s e).state) (reports_at (step_at s e)) × ReportsHold (step_at s e).state events
+
+-- and so is each of a node from its beginning
+abbrev pub ReportsAreTrue : Type 0
+ReportsAreTrue =
+    (node number current start : ℕ) (events : List Event) → AllNameGreater events
+    → ReportsHold (fresh_dih node number current start) events

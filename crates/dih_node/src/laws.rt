@@ -1,5 +1,5 @@
 //! What is true of the epochs that a node gives, whatever comes, in whatever order.
-ghost use Rattle.dih_node.specs.Laws.{EpochsNeverFall, NoneIsGivenWhilePrepared};
+ghost use Rattle.dih_node.specs.Laws.{EpochsNeverFall, NoneIsGivenWhilePrepared, ReportsAreTrue};
 
 /// The epochs that a node gives never fall, where each order to commit names a greater one to
 /// follow.
@@ -10,4 +10,10 @@ pub fn epochs_never_fall()
 /// No epoch is given while one is prepared, or a view is promised that isn't installed.
 pub fn none_is_given_while_prepared()
     ensures { NoneIsGivenWhilePrepared }
+{}
+
+/// When a node reports the end of an epoch, it gives a greater one and counts no transaction with
+/// that epoch or one before, where each order to commit names a greater one to follow.
+pub fn reports_are_true()
+    ensures { ReportsAreTrue }
 {}

@@ -8,7 +8,7 @@ mod orders;
 mod verify;
 
 pub use dih::{Counted, Dih, Report, TRANSACTIONS};
-pub use laws::{epochs_never_fall, none_is_given_while_prepared};
+pub use laws::{epochs_never_fall, none_is_given_while_prepared, reports_are_true};
 
 #[cfg(test)]
 mod tests;

@@ -1,3 +1,4 @@
 mod ConfirmLemmas
+mod RequestLemmas
 mod TwiceLemmas
 mod VoiceLemmas

@@ -27,7 +27,7 @@ use Rattle.gcp_master.specs.Voices.{is_among}
 use Rattle.gcp_master.proofs.ConfirmLemmas.{copy_ignored, counted_once, finish_ignored, note_ignored, prepare_ignored, save_ignored, state_ignored}
 
 -- a list leaves the phase
-listed_phase : (s : MasterState) (at : ℕ) → (listing s at).state.phase ≡ s.phase
+pub listed_phase : (s : MasterState) (at : ℕ) → (listing s at).state.phase ≡ s.phase
 unfolding listing
 listed_phase s at = by _
   where

@@ -19,7 +19,8 @@ unfolding all_noted
 noted_over items i s past = ap (all_noted s) (drop_all i items past)
 
 pub suspects_more : (items : List Member) (i : ℕ) (d : Member) (k next : Known) → i < length items
-    → next ≡ with_suspect k (get_or items i d) → with_suspects next (drop (i + 1) items) ≡ with_suspects k (drop i items)
+    → next ≡ with_suspect k (get_or items i d)
+    → with_suspects next (drop (i + 1) items) ≡ with_suspects k (drop i items)
 unfolding with_suspects
 suspects_more items i d k next inside is =
     ap (λ t. with_suspects t (drop (i + 1) items)) is ∙ ap (with_suspects k) (sym (drop_more items i d inside))

@@ -1,3 +1,7 @@
 mod FoldLemmas
+mod KeptLemmas
+mod LawLemmas
+mod NewLemmas
+mod RowLemmas
 mod SendLemmas
 mod SetLemmas

@@ -8,7 +8,8 @@ pub filter_passed : {X : Type 0} (p : X → Bool) (now items : List X) (at : ℕ
     → p (get_or items at d) ≡ true
     → (now ++ get_or items at d ∷ []) ++ filter p (drop (at + 1) items) ≡ now ++ filter p (drop at items)
 filter_passed p now items at d inside is =
-    rw (drop_more items at d inside) (rw is (append_assoc now (get_or items at d ∷ []) (filter p (drop (at + 1) items))))
+    rw (drop_more items at d inside)
+    (rw is (append_assoc now (get_or items at d ∷ []) (filter p (drop (at + 1) items))))
 
 -- one that doesn't pass is left out
 pub filter_left : {X : Type 0} (p : X → Bool) (items : List X) (at : ℕ) (d : X) → at < length items

@@ -1,6 +1,7 @@
 pub mod Decide
 pub mod Install
 pub mod Join
+pub mod Laws
 pub mod Promise
 pub mod Propose
 pub mod Qmgr

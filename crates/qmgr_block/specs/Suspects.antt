@@ -102,8 +102,8 @@ is_kept_suspect k member =
 abbrev pub with_closing : Known → Member → Known
 with_closing k member = with_closed (record k { closed = noted k.closed member })
 
--- A member of another node has closed: that isn't forgotten. It counts as a change of the suspects too where it was one,
--- is in the last promise, and no outstanding proposal is without it
+-- A member of another node has closed: that isn't forgotten. It counts as a change of the suspects too where it was
+-- one, is in the last promise, and no outstanding proposal is without it
 unfoldable pub close_row : Known → Member → Step Known
 close_row k member =
     if member.node == k.me.node

@@ -5,6 +5,7 @@ mod decide;
 mod install;
 mod join;
 mod known;
+mod laws;
 mod promise;
 mod propose;
 mod qmgr;
@@ -14,10 +15,11 @@ mod sets;
 mod starts;
 mod suspects;
 
-pub use known::{Known, Proposal};
-pub use promise::Promise;
+pub use laws::{
+    last_promise_is_not_below_the_view, numbers_never_fall, proposals_are_new,
+    starts_are_not_forgotten,
+};
 pub use qmgr::Qmgr;
-pub use starts::Starts;
 
 #[cfg(test)]
 mod tests;

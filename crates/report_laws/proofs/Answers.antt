@@ -87,10 +87,10 @@ asks_for tx (Chain (Commit other key epoch chain at)) is = absurd cc
 asks_for tx _ is = absurd cc
 
 -- a step of the log took the request for the epoch of the entry, with its operations
-record IsAskedIn (log : List HostStep) (entry : Entry) : Type 0 where
-  step : HostStep
-  inside : IsIn step log
-  took : step.step.taken.body ≡ Epoch (DiVerifyReq entry.tx entry.ops)
+pub record IsAskedIn (log : List HostStep) (entry : Entry) : Type 0 where
+  pub step : HostStep
+  pub inside : IsIn step log
+  pub took : step.step.taken.body ≡ Epoch (DiVerifyReq entry.tx entry.ops)
 
 itself : (b : Bool) → b ≡ true → (b || false) ≡ true
 itself true is = refl
@@ -123,9 +123,9 @@ log_asked start whole h (e ∷ log) l right =
         )
 
 -- and so some log has it
-record IsAskedOf (logs : ℕ → List HostStep) (entry : Entry) : Type 0 where
-  host : ℕ
-  is : IsAskedIn (logs host) entry
+pub record IsAskedOf (logs : ℕ → List HostStep) (entry : Entry) : Type 0 where
+  pub host : ℕ
+  pub is : IsAskedIn (logs host) entry
 
 past_prefix : {A : Type 0} (zs : List A) {xs ys : List A} → IsPast xs ys → IsPast xs (zs ++ ys)
 past_prefix [] past = past
@@ -142,11 +142,11 @@ given_past start tx small large past = subst (λ log. IsPast (given start tx sma
     by (e ∷ newer) = past_prefix (if is_answered tx e.step.taken.body then reverse
         (answers_among (new_replies start e (newer ++ small))) else []) (by newer)
 
-append_none : {A : Type 0} (xs : List A) → xs ++ [] ≡ xs
+pub append_none : {A : Type 0} (xs : List A) → xs ++ [] ≡ xs
 append_none [] = refl
 append_none (x ∷ xs) = ap (λ ys. x ∷ ys) (append_none xs)
 
-past_long : {A : Type 0} (xs ys : List A) → IsPast xs ys → length xs ≤ length ys
+pub past_long : {A : Type 0} (xs ys : List A) → IsPast xs ys → length xs ≤ length ys
 past_long xs ys past = omega (arith, ap (λ (zs : List _). length zs) past.is, longer past.newer)
   where
     longer : (newer : List _) → length xs ≤ length (newer ++ xs)
@@ -177,14 +177,18 @@ module _ (start : Start) (end : List HostStep) (run : IsRun start end) where
       ((all_said start tx end xs run transit).taken h) inside in
       subst (SaidTells start tx whole) took tells (same_tx-self tx)
 
-  pub entry_said : (entry : Entry) → IsIn entry (entries (hosts start) whole) → IsSaid start entry.tx whole entry.ops
-  entry_said entry inside =
+  pub entry_asked : (entry : Entry) → IsIn entry (entries (hosts start) whole) → IsAskedOf whole entry
+  entry_asked entry inside =
       let right = logs_of_run (machine start) end run.run in
-      let of = each_in (IsAskedOf whole) entry (entries (hosts start) whole)
+      each_in (IsAskedOf whole) entry (entries (hosts start) whole)
       (each_entry (IsAskedOf whole) (hosts start) whole
       (λ h. each_map (IsAskedIn (whole h)) (IsAskedOf whole) (entries_of h (whole h))
       (λ b is. record { host = h; is = is })
-      (log_asked start whole h (whole h) (right.local h) ((run_is_causal start end run).decisions h)))) inside in
+      (log_asked start whole h (whole h) (right.local h) ((run_is_causal start end run).decisions h)))) inside
+
+  pub entry_said : (entry : Entry) → IsIn entry (entries (hosts start) whole) → IsSaid start entry.tx whole entry.ops
+  entry_said entry inside =
+      let of = entry_asked entry inside in
       asked_said entry.tx entry.ops of.host of.is.step of.is.inside of.is.took
 
   -- what was given of it is the first of what was said

@@ -38,7 +38,8 @@ use Rattle.host_laws.proofs.BlocksAlong.{first_live}
 use Rattle.host_laws.proofs.TcLives.{IsOwn}
 use Rattle.host_laws.specs.Causes.{is_decision}
 use Rattle.run_laws.specs.Keyed.{IsTouchedRightly}
-use Rattle.run_laws.specs.Live.{live_at, of_host, of_live}
+use Rattle.host_laws.specs.Live.{of_live}
+use Rattle.run_laws.specs.Live.{live_at, of_host}
 use Rattle.run_laws.specs.Transit.{AreInTransit, Comes, IsRun, Takes, joined, logs_of}
 use Rattle.run_laws.proofs.CausalFacts.{DecidesAt, DecidesRightly}
 use Rattle.run_laws.proofs.Decided.{run_is_causal}
@@ -47,7 +48,9 @@ use Rattle.run_laws.proofs.Keyed.{log_keyed}
 use Rattle.run_laws.proofs.LiveOf.{of_each}
 use Rattle.run_laws.proofs.Transit.{along_transit}
 use Rattle.run_laws.proofs.TxSteps.{next_number, number_rises}
-use Rattle.run_laws.proofs.TxTurns.{TcTurn, is_for, left_by, tc_turn, turn_for}
+use Rattle.tc_block.proofs.TurnRows.{turn_for}
+use Rattle.host_laws.proofs.TcSteps.{left_of_turn}
+use Rattle.run_laws.proofs.TxTurns.{TcTurn, is_for, tc_turn}
 use Rattle.run_laws.proofs.TxTurns as turn
 use Rattle.run_laws.proofs.Weighing.{each_between, each_joins}
 use Rattle.report_laws.proofs.Facts.{AllTold, IsGranted, IsShut, LiveTells, MarkTells, Tells, mute_tells}
@@ -260,7 +263,7 @@ module _ (start : Start) (tx : TxId) where
             live_was : live_at start old tx ≡ Some t
             live_was = ap (of_host tx) (here_was start es e come tx same) ∙ was
 
-            left_now : live_at start now tx ≡ left_by (turn_for (tc_of g).node (tc_of g).layout tx e.step.taken.body t)
+            left_now : live_at start now tx ≡ left_of_turn (turn_for (tc_of g).node (tc_of g).layout tx e.step.taken.body t)
             left_now = ap (of_host tx) (here_now start es e come tx same) ∙ (live_is ∙ left)
 
             keyed : IsTouchedRightly t

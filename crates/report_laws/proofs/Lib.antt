@@ -2,12 +2,17 @@ pub mod Aborted
 pub mod Answers
 pub mod Committed
 pub mod Confs
+pub mod EntryOperations
 pub mod Facts
 pub mod Given
 pub mod Growing
 pub mod InHistory
+pub mod Keys
 pub mod Once
+pub mod Operations
 pub mod ReportMarks
+pub mod Reports
+pub mod Requested
 pub mod RunOf
 pub mod Replied
 pub mod Said

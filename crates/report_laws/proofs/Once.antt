@@ -60,18 +60,18 @@ module _ (tx : TxId) where
     abbrev SpendsAt : Body → Step ApiState → Type 0
     SpendsAt body step = Spends (tally (has_tx tx) s.opened) step
 
-    at_request : (r : ApiReq) (at : ℕ) → ApiRequestForms s (SpendsAt (Host (Continue (work.Request r) at)))
+    at_request : (r : ApiReq) (at : ℕ) → ApiRequestForms s r (SpendsAt (Host (Continue (work.Request r) at)))
     at_request r at = record {
       opens = λ name node op new. inl refl;
       refuses = λ name why living. inl refl;
       operates = λ name op at f one ready own low. inl refl;
       commits = λ name at f one ready own. inl refl;
-      aborts = λ name at f one own. inl refl;
+      aborts = λ name at f one is own. inl refl;
       ticks = λ of last. inl refl;
       dumps = λ node digest. inl refl;
       waits = λ p at f one own. inl refl;
       pends = λ name holder. inl refl;
-      gives_up = λ holder one. inl refl;
+      gives_up = λ p at f holder one is alone own. inl refl;
       is_about_none = inl refl;
       rests = inl refl;
     }

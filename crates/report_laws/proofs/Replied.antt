@@ -54,18 +54,18 @@ module _ (tx : TxId) (s : ApiState) where
   off : {A : Type 0} (body other : Body) → body ≡ other → answer_of tx other ≡ false → answer_of tx body ≡ true → A
   off body other is none own = absurd (false≢true (sym none ∙ (ap (answer_of tx) (sym is) ∙ own)))
 
-  at_request : (r : ApiReq) (at : ℕ) → ApiRequestForms s (RepliesAt (Host (Continue (work.Request r) at)))
+  at_request : (r : ApiReq) (at : ℕ) → ApiRequestForms s r (RepliesAt (Host (Continue (work.Request r) at)))
   at_request r at = record {
     opens = λ name node op new own. absurd (false≢true own);
     refuses = λ name why living own. absurd (false≢true own);
     operates = λ name op at f one ready of low own. absurd (false≢true own);
     commits = λ name at f one ready of own. absurd (false≢true own);
-    aborts = λ name at f one of own. absurd (false≢true own);
+    aborts = λ name at f one is of own. absurd (false≢true own);
     ticks = λ of last own. absurd (false≢true own);
     dumps = λ node digest own. absurd (false≢true own);
     waits = λ p at f one of own. absurd (false≢true own);
     pends = λ name holder own. absurd (false≢true own);
-    gives_up = λ holder one own. absurd (false≢true own);
+    gives_up = λ p at f holder one is alone of own. absurd (false≢true own);
     is_about_none = λ own. absurd (false≢true own);
     rests = λ own. absurd (false≢true own);
   }
@@ -128,18 +128,18 @@ module _ (tx : TxId) (s : ApiState) where
   abbrev AreThere : Step ApiState → Type 0
   AreThere step = Each (λ (m : Mark). is_ended tx m ≡ true → 1 ≤ tally (has_tx tx) s.opened) step.effects.marks
 
-  there_request : (r : ApiReq) (at : ℕ) → ApiRequestForms s AreThere
+  there_request : (r : ApiReq) (at : ℕ) → ApiRequestForms s r AreThere
   there_request r at = record {
     opens = λ name node op new. tt;
     refuses = λ name why living. tt;
     operates = λ name op at f one ready of low. tt;
     commits = λ name at f one ready of. tt;
-    aborts = λ name at f one of. tt;
+    aborts = λ name at f one is of. tt;
     ticks = λ of last. tt;
     dumps = λ node digest. tt;
     waits = λ p at f one of. tt;
     pends = λ name holder. tt;
-    gives_up = λ holder one. tt;
+    gives_up = λ p at f holder one is alone of. tt;
     is_about_none = tt;
     rests = tt;
   }

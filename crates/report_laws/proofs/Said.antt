@@ -37,7 +37,7 @@ use Rattle.node_core.specs.Dih.{DihState, dih_table}
 use Rattle.node_core.specs.declared.host.Host.{Host}
 use Rattle.node_core.specs.Requests.{is_request}
 use Rattle.node_core.specs.Row.{row}
-use Rattle.tc_block.proofs.EachTurn.{AbortForms, CommittedForms, TurnFormsAt, rows_at}
+use Rattle.tc_block.proofs.EachTurn.{AbortForms, CommittedForms, TurnFormsAt, rows_at, ready_is}
 use Rattle.tc_block.proofs.LiveKeeps.{SendsBeside}
 use Rattle.tc_block.specs.Abort as abort
 use Rattle.tc_block.specs.Complete as complete
@@ -69,27 +69,29 @@ use Rattle.host_laws.proofs.TurnKinds.{OwnKinds, TurnOnly, own_kinds}
 use Rattle.host_laws.proofs.Wishes.{is_api, is_tc}
 use Rattle.host_laws.specs.Counts.{one_if}
 use Rattle.answer_laws.proofs.ApiEntries.{is_commit_req}
-use Rattle.run_laws.specs.Live.{live_at, of_host, of_live}
+use Rattle.host_laws.specs.Live.{of_live}
+use Rattle.run_laws.specs.Live.{live_at, of_host}
 use Rattle.run_laws.specs.Transit.{AreInTransit, Comes, IsRun, Takes, joined, logs_of}
 use Rattle.run_laws.proofs.Addressed.{comes_below}
 use Rattle.run_laws.proofs.HomeSteps.{IsHome, all_home, away, here_now, here_was, own_home}
 use Rattle.run_laws.proofs.LiveOf.{of_each}
-use Rattle.run_laws.proofs.TcCircle.{ready_is}
 use Rattle.run_laws.proofs.Transit.{along_transit}
 use Rattle.run_laws.proofs.TxSteps.{next_number, number_rises}
-use Rattle.run_laws.proofs.TxTurns.{OthersSend, TcTurn, is_for, left_by, tc_turn, turn_each, turn_for}
+use Rattle.tc_block.proofs.TurnRows.{turn_for}
+use Rattle.host_laws.proofs.TcSteps.{left_of_turn}
+use Rattle.run_laws.proofs.TxTurns.{OthersSend, TcTurn, is_for, tc_turn, turn_each}
 use Rattle.run_laws.proofs.TxTurns as turn
 use Rattle.run_laws.proofs.Weighing.{each_between, each_joins, each_taken}
 use Rattle.report_laws.proofs.Confs.{conf, confs_in, confs_none, newest, newest_more, said, sent_confs, told_by}
 use Rattle.report_laws.proofs.Facts.{IsShut, IsShutWith}
 
 -- the signal asks for the epoch of the transaction, or tells an answer of it
-abbrev is_mine : TxId → Body → Bool
+abbrev pub is_mine : TxId → Body → Bool
 is_mine tx (Epoch (DiVerifyReq other ops)) = same_tx other tx
 is_mine tx (Client (TcKeyConf other answer)) = same_tx other tx
 is_mine tx _ = false
 
-abbrev NoneMine : TxId → List Outgoing → Type 0
+abbrev pub NoneMine : TxId → List Outgoing → Type 0
 NoneMine tx sends = Each (λ (o : Outgoing). is_mine tx o.body ≡ false) sends
 
 mine_none : (tx : TxId) (to : Place) (body : Body) → is_mine tx body ≡ false → told_by tx to body ≡ None
@@ -101,7 +103,7 @@ mine_none tx to (Client (TcKeyConf other answer)) off = by (is_api to.block) (sa
     by false b e = refl
 mine_none tx to _ off = refl
 
-request_none : (tx : TxId) (body : Body) → is_request body ≡ true → is_mine tx body ≡ false
+pub request_none : (tx : TxId) (body : Body) → is_request body ≡ true → is_mine tx body ≡ false
 request_none tx (Epoch (DiVerifyReq other ops)) is = absurd cc
 request_none tx (Client (TcKeyConf other answer)) is = absurd cc
 request_none tx _ is = refl
@@ -134,7 +136,8 @@ own tx body = record {
   rolled_back = λ why. refl;
 }
 
-others_none : (tx : TxId) (s : TcState) (body : Body) → OthersSend (λ (o : Outgoing). is_mine tx o.body ≡ false) tx s
+pub others_none : (tx : TxId) (s : TcState) (body : Body) → OthersSend (λ (o : Outgoing). is_mine tx o.body ≡ false) tx
+    s
     body
 others_none tx s body one off its t =
     each_of (is_own one) (λ o. is_mine tx o.body ≡ false) (λ o e. own_none one tx off o.body e)
@@ -142,7 +145,7 @@ others_none tx s body one off its t =
     (turn_each s.node s.layout one body t (TurnOnly (is_own one))
     (own_kinds (is_own one) one body (own one body) s.node s.layout t) its)
 
-beside_none : (tx : TxId) (s : TcState) → SendsBeside (λ (o : Outgoing). is_mine tx o.body ≡ false) s
+pub beside_none : (tx : TxId) (s : TcState) → SendsBeside (λ (o : Outgoing). is_mine tx o.body ≡ false) s
 beside_none tx s = record { full = λ name. (refl, tt); begins = λ name. (refl, tt); passes = λ one ahead. (refl, tt) }
 
 -- nor does another block
@@ -179,27 +182,27 @@ module _ (tx : TxId) where
   move_none s body after sends (refuses other front t back about passes was is kind) = of_kind_none is_api_kind
       api_kind_none sends kind
 
-  api_none : (s : ApiState) (body : Body) → NoneMine tx (api_table s body).effects.sends
+  pub api_none : (s : ApiState) (body : Body) → NoneMine tx (api_table s body).effects.sends
   api_none s body = move_none s body _ _ (api_moves s body)
 
-  rows_none : (s : LqhState) (body : Body) → NoneMine tx (lqh_table s body).effects.sends
+  pub rows_none : (s : LqhState) (body : Body) → NoneMine tx (lqh_table s body).effects.sends
   rows_none s body = of_kind_none is_lqh_kind rows_kind_none (lqh_table s body).effects.sends (lqh_kinds s body)
 
-  dih_none : (s : DihState) (body : Body) → NoneMine tx (dih_table s body).effects.sends
+  pub dih_none : (s : DihState) (body : Body) → NoneMine tx (dih_table s body).effects.sends
   dih_none s body = of_kind_none is_dih_kind dih_kind_none (dih_table s body).effects.sends (dih_kinds s body)
 
 -- what else a coordinator sends
-abbrev is_quiet : Body → Bool
+abbrev pub is_quiet : Body → Bool
 is_quiet (Epoch (DiVerifyReq other ops)) = false
 is_quiet (Client (TcKeyConf other answer)) = false
 is_quiet _ = true
 
-quiet_none : (tx : TxId) (body : Body) → is_quiet body ≡ true → is_mine tx body ≡ false
+pub quiet_none : (tx : TxId) (body : Body) → is_quiet body ≡ true → is_mine tx body ≡ false
 quiet_none tx (Epoch (DiVerifyReq other ops)) e = absurd cc
 quiet_none tx (Client (TcKeyConf other answer)) e = absurd cc
 quiet_none tx _ e = refl
 
-quiet_chains : (tx : TxId) → HasChains tx is_quiet
+pub quiet_chains : (tx : TxId) → HasChains tx is_quiet
 quiet_chains tx = record {
   commits = λ key epoch chain at. refl;
   completes = λ key chain at. refl;
@@ -207,7 +210,7 @@ quiet_chains tx = record {
   goes_on = λ at. refl;
 }
 
-quiet_front : (tx : TxId) (phase : Phase) → are_of is_quiet (front_sends tx phase) ≡ true
+pub quiet_front : (tx : TxId) (phase : Phase) → are_of is_quiet (front_sends tx phase) ≡ true
 unfolding front_sends
 quiet_front tx (Completing epoch awaited) = refl
 quiet_front tx (Committing epoch awaited) = refl
@@ -215,7 +218,7 @@ quiet_front tx (Aborting why verifying awaited) = refl
 quiet_front tx Open = refl
 quiet_front tx Verifying = refl
 
-abort_quiet : (node : ℕ) (tx : TxId) (why : AbortCause) (verifying : Bool) → are_of is_quiet
+pub abort_quiet : (node : ℕ) (tx : TxId) (why : AbortCause) (verifying : Bool) → are_of is_quiet
     (abort.abort_end node tx why verifying) ≡ true
 abort_quiet node tx why true = refl
 abort_quiet node tx why false = refl
@@ -388,13 +391,13 @@ module _ (start : Start) (tx : TxId) where
         (there : blocks.IsHome start tx h) where
       record Turned (turn : Turn) : Type 0 where
         sent : Each (λ (o : Outgoing). SaidTells now o.body) turn.step.effects.sends
-        said_is : (u : Transaction) → left_by turn ≡ Some u → newest u.ops [] ≡ confs_in tx turn.step.effects.sends
+        said_is : (u : Transaction) → left_of_turn turn ≡ Some u → newest u.ops [] ≡ confs_in tx turn.step.effects.sends
             (newest t.ops [])
         still : is_open t.phase ≡ false → (list : List Answer) → confs_in tx turn.step.effects.sends list ≡ list
-        shut : is_open t.phase ≡ false → (u : Transaction) → left_by turn ≡ Some u → IsShutWith t.ops u
+        shut : is_open t.phase ≡ false → (u : Transaction) → left_of_turn turn ≡ Some u → IsShutWith t.ops u
 
       abbrev R : Turn → Type 0
-      R turn = live_at start now tx ≡ left_by turn → said start tx now ≡ confs_in tx turn.step.effects.sends
+      R turn = live_at start now tx ≡ left_of_turn turn → said start tx now ≡ confs_in tx turn.step.effects.sends
           (newest t.ops []) → Turned turn
 
       quiet_sends : (os : List Outgoing) → are_of is_quiet os ≡ true → NoneMine tx os
@@ -508,9 +511,9 @@ module _ (start : Start) (tx : TxId) where
       forms : (node : ℕ) (layout : Layout) → TurnFormsAt node layout tx t e.step.taken.body R
       unfolding entering
       forms node layout = record {
-        stays = λ other left told. goes_quiet _ refl refl (λ off. off);
+        stays = λ other missed left told. goes_quiet _ refl refl (λ off. off);
         stops = λ at is high left told. goes_quiet _ refl refl (λ off. off);
-        goes_on = λ at is left told. goes_quiet (go_on_if node layout tx t at true)
+        goes_on = λ at is low left told. goes_quiet (go_on_if node layout tx t at true)
             (rest_of_kind is_quiet layout tx (quiet_chains tx) node t at (quiet_front tx t.phase)) refl (λ off. off);
         operates = λ op is can left told. goes_quiet _ refl refl (λ off. not_open (can_open op can) off);
         answers = λ key answer asked is on at left told. record {
@@ -520,7 +523,7 @@ module _ (start : Start) (tx : TxId) where
           still = λ off list. not_open at off;
           shut = λ off u is_u. not_open at off;
         };
-        late = λ key asked why verifying awaited on at left told. goes_quiet (late_answer layout tx t key)
+        late = λ key asked why verifying awaited by on at left told. goes_quiet (late_answer layout tx t key)
             (aborts_of_kind is_quiet layout tx (quiet_chains tx) key (chain_of layout key)) refl (λ off. off);
         waits = λ asked is on left told. goes_quiet _
             (of_map is_quiet (wait_of tx (key_of asked.op)) asked.chain (λ r. refl)) refl (λ off. off);
@@ -631,7 +634,7 @@ module _ (start : Start) (tx : TxId) where
             live_was : live_at start old tx ≡ Some t
             live_was = ap (of_host tx) (here_was start es e come tx same) ∙ was
 
-            left_now : live_at start now tx ≡ left_by (turn_for (tc_of g).node (tc_of g).layout tx e.step.taken.body t)
+            left_now : live_at start now tx ≡ left_of_turn (turn_for (tc_of g).node (tc_of g).layout tx e.step.taken.body t)
             left_now = ap (of_host tx) (here_now start es e come tx same) ∙ (live_is ∙ left)
 
             early : tx.seq < next_number (after start at_home (now at_home))

@@ -18,7 +18,7 @@ use Rattle.sig_core.specs.Op.{key_of}
 use Rattle.sig_core.specs.Step.{Step, sends_only}
 use Rattle.sig_core.proofs.Keys.{same_tx-self}
 use Rattle.frag_map.specs.Layout.{Layout, chain_of}
-use Rattle.tc_block.proofs.EachTurn.{AbortForms, CommittedForms, TurnFormsAt, rows_at}
+use Rattle.tc_block.proofs.EachTurn.{AbortForms, CommittedForms, TurnFormsAt, rows_at, ready_is}
 use Rattle.tc_block.specs.Abort as abort
 use Rattle.tc_block.specs.Complete as complete
 use Rattle.tc_block.specs.declared.phase.Phase.{Phase}
@@ -55,10 +55,11 @@ use Rattle.run_laws.specs.Transit.{AreInTransit, Comes, Takes, joined, logs_of}
 use Rattle.run_laws.proofs.CarriedOut.{IsLiveAhead}
 use Rattle.run_laws.proofs.Completions.{under_way}
 use Rattle.run_laws.proofs.FirstCommits.{part}
-use Rattle.run_laws.proofs.TcCircle.{ready_is}
 use Rattle.run_laws.proofs.TxSignals.{is_part, request_part}
 use Rattle.run_laws.proofs.TxSteps.{next_number}
-use Rattle.run_laws.proofs.TxTurns.{is_for, left_by, turn_each, turn_for}
+use Rattle.tc_block.proofs.TurnRows.{turn_for}
+use Rattle.host_laws.proofs.TcSteps.{left_of_turn}
+use Rattle.run_laws.proofs.TxTurns.{is_for, turn_each}
 use Rattle.run_laws.proofs.VerifiedSettled.{verified_settled}
 use Rattle.run_laws.proofs.Ways.{carried_more}
 use Rattle.run_laws.proofs.Weighing.{takes_weigh}
@@ -108,11 +109,11 @@ module _ (start : Start) (tx : TxId) (es : List HostStep) (e : HostStep) (come :
   -- what a turn tells, and leaves
   pub record TurnTells (turn : Turn) : Type 0 where
     pub sent : Each (λ (o : Outgoing). Tells start tx now o.body) turn.step.effects.sends
-    pub live : (u : Transaction) → left_by turn ≡ Some u → LiveTells start tx now u.ops u.touched u.phase
-    pub shut : is_open t.phase ≡ false → (u : Transaction) → left_by turn ≡ Some u → IsShutWith t.ops u
+    pub live : (u : Transaction) → left_of_turn turn ≡ Some u → LiveTells start tx now u.ops u.touched u.phase
+    pub shut : is_open t.phase ≡ false → (u : Transaction) → left_of_turn turn ≡ Some u → IsShutWith t.ops u
 
   abbrev pub R : Turn → Type 0
-  R turn = live_at start now tx ≡ left_by turn → TurnTells turn
+  R turn = live_at start now tx ≡ left_of_turn turn → TurnTells turn
 
   -- signals of such a kind
   telling_one : (told : ℕ → Bool) → ((epoch : ℕ) → told epoch ≡ true → IsSettledIn start tx now epoch) → (body : Body)
@@ -388,14 +389,14 @@ module _ (start : Start) (tx : TxId) (es : List HostStep) (e : HostStep) (come :
   forms : (node : ℕ) (layout : Layout) → TurnFormsAt node layout tx t e.step.taken.body R
   unfolding entering
   forms node layout = record {
-    stays = λ other left. goes _ tt live_now same_shut;
+    stays = λ other missed left. goes _ tt live_now same_shut;
     stops = λ at is high left. goes _ tt live_now same_shut;
-    goes_on = λ at is left. goes (go_on_if node layout tx t at true) (goes_on node layout at) live_now same_shut;
+    goes_on = λ at is low left. goes (go_on_if node layout tx t at true) (goes_on node layout at) live_now same_shut;
     operates = λ op is can left. goes _ (tt, tt) (subst (LiveTells start tx now t.ops _) (sym (can_open op can)) tt)
         (λ off. not_open (can_open op can) off);
     answers = λ key answer asked is on at left. goes _ (tt, tt) (subst (LiveTells start tx now _ _) (sym at) tt)
         (λ off. not_open at off);
-    late = λ key asked why verifying awaited on at left.
+    late = λ key asked why verifying awaited by on at left.
         goes (late_answer layout tx t key) (each_mapped (λ (o : Outgoing). Tells start tx now o.body) (abort_of tx key)
         (chain_of layout key) (λ r. tt)) live_now (λ off. record { shut = off; ops_are = refl });
     waits = λ asked is on left.

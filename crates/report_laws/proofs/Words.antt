@@ -23,7 +23,8 @@ use Rattle.host_laws.proofs.LqhSends.{lqh_kinds}
 use Rattle.host_laws.proofs.SendKinds.{are_of, each_of, is_lqh_kind}
 use Rattle.host_laws.proofs.TcLives.{apart}
 use Rattle.host_laws.proofs.TurnKinds.{OwnKinds, TurnOnly, own_kinds}
-use Rattle.run_laws.proofs.TxTurns.{OthersSend, turn_each, turn_for}
+use Rattle.tc_block.proofs.TurnRows.{turn_for}
+use Rattle.run_laws.proofs.TxTurns.{OthersSend, turn_each}
 
 -- it asks for the epoch of the transaction, gives it, or tells that it is committed
 abbrev pub is_word : TxId → Body → Bool

@@ -1,4 +1,7 @@
 pub mod Answered
+pub mod Asked
 pub mod Growing
 pub mod Reported
+pub mod Reports
+pub mod Requested
 pub mod Told

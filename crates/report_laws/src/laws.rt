@@ -1,8 +1,18 @@
 //! What is reported of a transaction is what the history has of it.
 ghost use Rattle.report_laws.specs.Answered.{GivenAreOfEntries, ReportedAreGiven};
+ghost use Rattle.report_laws.specs.Asked.{AskedAreOfEntries};
 ghost use Rattle.report_laws.specs.Growing.{HistoriesGrow};
 ghost use Rattle.report_laws.specs.Reported.{AbortsAreInNone, CommitsAreInHistory, EndsAreReportedOnce};
-ghost use Rattle.report_laws.specs.Told.{OutcomesAreMarked};
+ghost use Rattle.report_laws.specs.Reports.{ReportsAreTheHistory};
+ghost use Rattle.report_laws.specs.Requested.{AskedAreRequested};
+ghost use Rattle.report_laws.specs.Told.{AnswersAreHeard, OutcomesAreMarked};
+
+/// Of all right logs: the client is told just the ends that are marked as reported, each once; every
+/// closed cut's history has what was reported committed in it, with its epoch and the answers that
+/// were given, and nothing of what was reported aborted; and histories grow by entries alone.
+pub fn reports_are_the_history()
+    ensures { ReportsAreTheHistory }
+{}
 
 /// In each step of host 0 the client is told the ends of transactions that are marked as reported
 /// in it, with the same outcomes.
@@ -26,11 +36,29 @@ pub fn aborts_are_in_none()
     ensures { AbortsAreInNone }
 {}
 
-/// Of two closed cuts, one within the other, the history of the smaller one is that of the larger
+/// Of two cuts, one within the other, the history of the smaller one is that of the larger
 /// one with some entries left out: none of its entries is lost, and none changes its place among
 /// them.
 pub fn histories_grow()
     ensures { HistoriesGrow }
+{}
+
+/// A transaction that is decided has just the operations that the client asked its coordinator for,
+/// all of them, in their order.
+pub fn asked_are_of_entries()
+    ensures { AskedAreOfEntries }
+{}
+
+/// What the client asks a coordinator for is the operation of the request of that step, or of an
+/// earlier request for an operation alone.
+pub fn asked_are_requested()
+    ensures { AskedAreRequested }
+{}
+
+/// In each step of host 0 the client is told no answer of an operation, or just the one that the
+/// step's signal tells.
+pub fn answers_are_heard()
+    ensures { AnswersAreHeard }
 {}
 
 /// The answers that the client was given for a transaction, by whichever moment, are the first of

@@ -4,6 +4,7 @@
 mod laws;
 
 pub use laws::{
-    aborts_are_in_none, commits_are_in_history, ends_are_reported_once, given_are_of_entries, histories_grow,
-    outcomes_are_marked, reported_are_given,
+    aborts_are_in_none, answers_are_heard, asked_are_of_entries, asked_are_requested,
+    commits_are_in_history, ends_are_reported_once, given_are_of_entries, histories_grow,
+    outcomes_are_marked, reported_are_given, reports_are_the_history,
 };

@@ -29,6 +29,8 @@ use Rattle.shell_top.proofs.PrintedLemmas.{prints_both}
 use Rattle.world_core.specs.Lives.{fresh_life}
 use Rattle.world_core.specs.Hosts.{hosts}
 use Rattle.world_core.specs.Machine.{machine}
+use Rattle.cause_laws.proofs.Causes.{replies_caused}
+use Rattle.report_laws.proofs.Reports.{reports_are_the_history}
 use Rattle.serial_laws.proofs.EveryCut.{every_cut_serial}
 use Rattle.command_laws.proofs.RepliesLive.{replies_live}
 use Rattle.command_laws.proofs.RequestsAnswered.{requests_answered}
@@ -117,6 +119,9 @@ is_life shape sound e commands logs lived =
       answered = λ newer step before request at is again.
           requests_answered (fresh shape) (logs_at logs) sound lived.right lived.within lived.at_quiet newer step before request at is
           (ends_or_goes_on e (IsQuiet (machine (fresh shape)) (hosts (fresh shape)) (logs_at logs)) (IsAskedAgain (fresh shape) newer) lived.quiet again);
+      reported = reports_are_the_history (fresh shape) (logs_at logs) sound lived.within lived.right;
+      caused = λ inside cut closed. replies_caused (fresh shape) inside (logs_at logs) sound
+          (record { within = lived.within; right = lived.right; cut = cut; closed = closed });
       living = replies_live (fresh shape) (logs_at logs) lived.within lived.right;
       run = merged_run (machine (fresh shape)) (stamped (fresh shape)) (hosts (fresh shape)) (logs_at logs) lived.within lived.right;
     }

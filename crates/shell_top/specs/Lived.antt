@@ -4,10 +4,12 @@ use Rattle.run_theory.specs.Cuts.{IsCut, IsClosed}
 use Rattle.run_theory.specs.Lists.{Each}
 use Rattle.run_theory.specs.Orders.{LogsRun}
 use Rattle.run_theory.specs.Runs.{AreLogs, IsWithin}
+use Rattle.cause_laws.specs.TurnedAway.{IsReplyCaused}
 use Rattle.command_laws.specs.Answers.{IsAnsweredIn}
 use Rattle.command_laws.specs.Between.{IsAskedAgain}
 use Rattle.command_laws.specs.Living.{is_of_living}
 use Rattle.node_core.specs.Replies.{replies_of}
+use Rattle.report_laws.specs.Reports.{AreReported}
 use Rattle.script_lang.specs.declared.command.Command.{Command}
 use Rattle.sig_core.specs.declared.view.Shape.{Shape}
 use Rattle.sig_core.specs.declared.log.HostLog.{HostLog}
@@ -56,13 +58,17 @@ EachIsAnswered start ending logs =
 
 -- What a life of a cluster of this shape says: it begins without rows, in the first epoch; its logs, one for each host
 -- and each with its host's number, are a run of the machine from there; the requests in them are those of the commands;
--- every closed cut of them is serial; and each request is answered, with no reply that tells of a host that stopped.
+-- every closed cut of them is serial; each request is answered; what is reported is the history of every closed cut,
+-- and each abort that is told has its cause there; and no reply tells of a host that stopped.
 pub record IsLife (shape : Shape) (ending : Ending) (commands : List Command) (life : Life) : Type 0 where
   pub begins : start_of shape life ≡ fresh shape
   pub lived : AreLived (start_of shape life) ending commands life.logs
   pub run : LogsRun (machine (start_of shape life)) (hosts (start_of shape life)) (logs_of life)
   pub serial : (inside : ℕ → List HostStep) → IsCut inside (logs_of life) → IsClosed (machine (start_of shape life)) inside → IsSerial (start_of shape life) inside
   pub answered : EachIsAnswered (start_of shape life) ending (logs_of life)
+  pub reported : AreReported (start_of shape life) (logs_of life)
+  pub caused : (inside : ℕ → List HostStep) → IsCut inside (logs_of life) → IsClosed (machine (start_of shape life)) inside
+      → Each (IsReplyCaused (start_of shape life) inside) (replies_of (after (start_of shape life) 0 (inside 0)))
   -- no reply tells of a host that stopped
   pub living : Each (λ (reply : ApiReply). is_of_living reply ≡ true) (replies_of (after (start_of shape life) 0 (logs_of life 0)))
 

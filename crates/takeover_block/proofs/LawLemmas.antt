@@ -33,7 +33,7 @@ use Rattle.takeover_block.proofs.SentLemmas.{AreRight, FitsTold, IsRight, ask_ri
 use Rattle.takeover_block.proofs.SoundLemmas.{Agrees, AgreesBy, Covers, IsGathered, noted_sound}
 
 -- P is of the first of these, if there is one
-abbrev First : (Gathered → Type 0) → List Gathered → Type 0
+abbrev pub First : (Gathered → Type 0) → List Gathered → Type 0
 First P [] = Unit {0}
 First P (g ∷ gs) = P g
 
@@ -57,23 +57,24 @@ record StepIsSound (before : Layout) (h : Heard) (step : Step TakeoverState) : T
   sends : AreRight h step.effects.sends
 
 -- the first of a list
-each_first : (P : Gathered → Type 0) (gs : List Gathered) (g : Gathered) → slice_get gs 0 ≡ Some g → Each P gs → P g
+pub each_first : (P : Gathered → Type 0) (gs : List Gathered) (g : Gathered) → slice_get gs 0 ≡ Some g → Each P gs → P g
 each_first P [] g is each = absurd cc
 each_first P (x ∷ xs) g is each = let same : x ≡ g = cc in subst P same each.0
 
-first_with : (P : Gathered → Type 0) (gs : List Gathered) (g : Gathered) → slice_get gs 0 ≡ Some g → P g → First P gs
+pub first_with : (P : Gathered → Type 0) (gs : List Gathered) (g : Gathered) → slice_get gs 0 ≡ Some g → P g
+    → First P gs
 first_with P [] g is own = absurd cc
 first_with P (x ∷ xs) g is own = let same : g ≡ x = cc in subst P same own
 
-first_is : (P : Gathered → Type 0) (gs : List Gathered) (g : Gathered) → slice_get gs 0 ≡ Some g → First P gs → P g
+pub first_is : (P : Gathered → Type 0) (gs : List Gathered) (g : Gathered) → slice_get gs 0 ≡ Some g → First P gs → P g
 first_is P [] g is first = absurd cc
 first_is P (x ∷ xs) g is first = let same : x ≡ g = cc in subst P same first
 
-record IsFirst (gs : List Gathered) (tx : TxId) (g : Gathered) : Type 0 where
-  there : slice_get gs 0 ≡ Some g
-  own : g.tx ≡ tx
+pub record IsFirst (gs : List Gathered) (tx : TxId) (g : Gathered) : Type 0 where
+  pub there : slice_get gs 0 ≡ Some g
+  pub own : g.tx ≡ tx
 
-first_found : (gs : List Gathered) (tx : TxId) (g : Gathered) → first_of gs tx ≡ Some g → IsFirst gs tx g
+pub first_found : (gs : List Gathered) (tx : TxId) (g : Gathered) → first_of gs tx ≡ Some g → IsFirst gs tx g
 unfolding first_of
 first_found gs tx g is = by (slice_get gs 0) refl is
   where
@@ -110,17 +111,17 @@ ended_still h gs (Committing e n) idle fits = (ap (λ a. a - 1) fits.0, fits.1)
 ended_still h gs (Completing e n) idle fits = (ap (λ a. a - 1) fits.0, fits.1)
 ended_still h gs (Aborting n) idle fits = (ap (λ a. a - 1) fits.0, fits.1)
 
-least_of : (n : ℕ) → (n == 0) ≡ false → 1 ≤ n
+pub least_of : (n : ℕ) → (n == 0) ≡ false → 1 ≤ n
 least_of zero some = absurd cc
 least_of (suc n) some = omega arith
 
-is_some_of : (awaited n : ℕ) → awaited ≡ n → 1 ≤ n → nat_lt 0 awaited ≡ true
+pub is_some_of : (awaited n : ℕ) → awaited ≡ n → 1 ≤ n → nat_lt 0 awaited ≡ true
 is_some_of awaited n same least = grind (arith, nat_tests)
 
-least_less : (n : ℕ) → nat_lt 1 n ≡ true → 1 ≤ n - 1
+pub least_less : (n : ℕ) → nat_lt 1 n ≡ true → 1 ≤ n - 1
 least_less n more = grind (arith, nat_tests)
 
-none_less : (awaited n : ℕ) → awaited ≡ n → nat_lt 1 n ≡ false → awaited - 1 ≡ 0
+pub none_less : (awaited n : ℕ) → awaited ≡ n → nat_lt 1 n ≡ false → awaited - 1 ≡ 0
 none_less awaited n same last = grind (arith, nat_tests)
 
 -- the first of the transactions is ruled on by what was told of it
@@ -212,9 +213,9 @@ module _ (s : TakeoverState) (h : Heard) (sound : IsSound s h) where
       let fits = fits_at (Gathering n) is in
       let some : nat_lt 0 h.awaited ≡ true = is_some_of h.awaited n fits.0 fits.1 in
       let now = noted_sound h.told tx key epoch s.gathered
-          (record { gathered = sound.gathered; covers = fits.2 }) in
+      (record { gathered = sound.gathered; covers = fits.2 }) in
       let after : FitsHeard (hear_if h (telling tx epoch) true) (noted s.gathered tx key epoch) (Gathering n) =
-          (fits.0, fits.1, now.covers) in
+      (fits.0, fits.1, now.covers) in
       subst (λ b. StepIsSound s.layout (hear_if h (telling tx epoch) b)
       (stay (with_gathered s (noted s.gathered tx key epoch)))) (sym some) (record {
         same = refl;
@@ -279,7 +280,7 @@ module _ (s : TakeoverState) (h : Heard) (sound : IsSound s h) where
       let found = first_found s.gathered tx g first in
       let next = finished s h fits.0 sound.gathered in
       let untold : IsUntold h.told tx =
-          subst (IsUntold h.told) found.own (first_is (λ g. IsUntold h.told g.tx) s.gathered g found.there fits.1) in
+      subst (IsUntold h.told) found.own (first_is (λ g. IsUntold h.told g.tx) s.gathered g found.there fits.1) in
       record {
         same = next.same;
         state = next.state;
@@ -346,26 +347,28 @@ module _ (s : TakeoverState) (h : Heard) (sound : IsSound s h) where
 
 -- and so along all signals
 along : (members : ℕ) (s : TakeoverState) (h : Heard) (xs : List Signal) → members ≡ member_count s.layout.view
-    → IsSound s h → EachSent (λ h send. IsRight h send.body) members s h xs
+    → IsSound s h → EachSent (hear members) (λ h send. IsRight h send.body) s h xs
 along members s h [] is sound = tt
 along members s h (x ∷ xs) is sound =
     let step = subst (λ n. StepIsSound s.layout (hear n h x.body) (takeover_row s x)) (sym is)
-        (step_sound s h sound x.body) in
-    (step.sends,
-    along members (takeover_row s x).state (hear members h x.body) xs
-    (is ∙ ap (λ (l : Layout). member_count l.view) (sym step.same)) step.state)
+    (step_sound s h sound x.body) in (
+      step.sends,
+      along members (takeover_row s x).state (hear members h x.body) xs
+          (is ∙ ap (λ (l : Layout). member_count l.view) (sym step.same)) step.state,
+    )
 
 weaker : (P Q : Heard → Outgoing → Type 0) → ((h : Heard) (send : Outgoing) → P h send → Q h send)
-    → (members : ℕ) (s : TakeoverState) (h : Heard) (xs : List Signal) → EachSent P members s h xs
-    → EachSent Q members s h xs
+    → (members : ℕ) (s : TakeoverState) (h : Heard) (xs : List Signal) → EachSent (hear members) P s h xs
+    → EachSent (hear members) Q s h xs
 weaker P Q f members s h [] e = tt
-weaker P Q f members s h (x ∷ xs) e =
-    (each_map (P (hear members h x.body)) (Q (hear members h x.body)) (takeover_row s x).effects.sends
-    (f (hear members h x.body)) e.0,
-    weaker P Q f members (takeover_row s x).state (hear members h x.body) xs e.1)
+weaker P Q f members s h (x ∷ xs) e = (
+  each_map (P (hear members h x.body)) (Q (hear members h x.body)) (takeover_row s x).effects.sends
+      (f (hear members h x.body)) e.0,
+  weaker P Q f members (takeover_row s x).state (hear members h x.body) xs e.1,
+)
 
 from_rest : (node : ℕ) (layout : Layout) (xs : List Signal)
-    → EachSent (λ h send. IsRight h send.body) (member_count layout.view) (resting node layout) unordered xs
+    → EachSent (hear (member_count layout.view)) (λ h send. IsRight h send.body) (resting node layout) unordered xs
 from_rest node layout xs =
     along (member_count layout.view) (resting node layout) unordered xs refl
     (record { gathered = record { each = tt; distinct = tt }; fits = refl })

@@ -1,9 +1,12 @@
+pub mod AnswerLaw
 pub mod EachTakeover
 pub mod GatheredLemmas
 pub mod LawLemmas
+pub mod NotedEach
 pub mod NotedLemmas
 pub mod OrderLaw
 pub mod OrderLemmas
 pub mod SendLemmas
+pub mod SentEach
 pub mod SentLemmas
 pub mod SoundLemmas

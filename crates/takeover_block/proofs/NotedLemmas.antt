@@ -43,7 +43,7 @@ nothing_behind : (rest : Option ℕ) → place_by false rest ≡ None → rest �
 nothing_behind None is = refl
 nothing_behind (Some m) is = absurd cc
 
-other : (tx u : TxId) → same_tx u tx ≡ false → u ≡ tx → ⊥
+pub other : (tx u : TxId) → same_tx u tx ≡ false → u ≡ tx → ⊥
 other tx u differs same =
     let yes : same_tx u tx ≡ true = ap (λ t. same_tx t tx) same ∙ same_tx-self tx in
     let wrong : true ≡ false = sym yes ∙ differs in

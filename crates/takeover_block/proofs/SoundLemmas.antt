@@ -53,7 +53,7 @@ agrees_first : (told : List Telling) (tx : TxId) (epoch : Option ℕ) → IsUnto
 agrees_first told tx (Some e) untold = inl refl
 agrees_first told tx None untold = ((λ _. refl), untold)
 
-not_here : (tx : TxId) (gs : List Gathered) → Apart tx gs → IsHere gs tx → ⊥
+pub not_here : (tx : TxId) (gs : List Gathered) → Apart tx gs → IsHere gs tx → ⊥
 not_here tx [] apart here = here
 not_here tx (g ∷ gs) apart (inl own) = apart.0 own
 not_here tx (g ∷ gs) apart (inr here) = not_here tx gs apart.1 here
@@ -69,7 +69,7 @@ here_with tx [] back w here = inr here
 here_with tx (f ∷ fs) back w (inl own) = inl own
 here_with tx (f ∷ fs) back w (inr here) = inr (here_with tx fs back w here)
 
-here_own : (tx : TxId) (front back : List Gathered) (w : Gathered) → w.tx ≡ tx → IsHere (front ++ w ∷ back) tx
+pub here_own : (tx : TxId) (front back : List Gathered) (w : Gathered) → w.tx ≡ tx → IsHere (front ++ w ∷ back) tx
 here_own tx [] back w own = inl own
 here_own tx (f ∷ fs) back w own = inr (here_own tx fs back w own)
 

@@ -1,5 +1,5 @@
 //! What is true of all that a takeover sends, whatever signals come, in whatever order.
-ghost use Rattle.takeover_block.specs.Laws.{AbortsWhatNobodyCommitted, CommitsWhatWasTold, GatheredStandInOrder, RulesWhenAllHaveEnded};
+ghost use Rattle.takeover_block.specs.Laws.{AbortsWhatNobodyCommitted, CommitsWhatWasTold, GatheredStandInOrder, RulesWhenAllHaveEnded, TellsWhenAllHaveAnswered};
 
 /// A transaction is committed, and told to the client as committed, only in an epoch that a member
 /// told of it since the last order, before all members had ended.
@@ -22,4 +22,11 @@ pub fn rules_when_all_have_ended()
 /// order, whichever was told of first.
 pub fn gathered_stand_in_order()
     ensures { GatheredStandInOrder }
+{}
+
+/// The client is told that a transaction is committed only when since the last order as many
+/// `Committed` of it came as keys were told of it, and that it is aborted only when as many `Aborted`
+/// came as these keys have replicas in the view.
+pub fn tells_when_all_have_answered()
+    ensures { TellsWhenAllHaveAnswered }
 {}

@@ -4,6 +4,7 @@
 mod abort;
 mod commit;
 mod complete;
+mod operate;
 mod phase;
 mod sends;
 mod tc;

@@ -307,6 +307,18 @@ fn sets_only_shrink_and_numbers_only_rise(rt: HostRuntime) -> Result<(), Fail> {
             ),
             "q1 refused 3 of 1 2 4",
         ),
+        // A join of the installed view, behind which the last promise isn't any more.
+        (
+            Heard::Propose(
+                1,
+                Set {
+                    number: 6,
+                    full: &[ONE, TWO, THREE, FOUR],
+                    starting: &[TWO_AGAIN],
+                },
+            ),
+            "q1 refused 3 of 1 2 4",
+        ),
     ];
     talk(&rt, alloc, &mut qmgr, &lines)
 }
@@ -323,6 +335,7 @@ fn a_join_and_a_promotion(rt: HostRuntime) -> Result<(), Fail> {
     };
     let lines = [
         (Heard::Start(ONE), "api0 started 1"),
+        (Heard::Start(Member { node: 1, start: 1 }), ""),
         (Heard::Start(TWO), "api0 ended 2"),
         (
             Heard::Start(TWO_AGAIN),

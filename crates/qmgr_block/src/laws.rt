@@ -1,0 +1,24 @@
+//! What is true of the membership of a node, whatever signals come and whatever views are
+//! installed.
+ghost use Rattle.qmgr_block.specs.Laws.{LastPromiseIsNotBelowTheView, NumbersNeverFall, ProposalsAreNew, StartsAreNotForgotten};
+
+/// The number of the last promise, and the greatest number proposed, never fall.
+pub fn numbers_never_fall()
+    ensures { NumbersNeverFall }
+{}
+
+/// Each request for a promise names a number above all that the node has proposed or promised, and
+/// that counts as proposed from then on: so no number is proposed twice.
+pub fn proposals_are_new()
+    ensures { ProposalsAreNew }
+{}
+
+/// A start that has closed is never forgotten, nor one that was in a promise or a view.
+pub fn starts_are_not_forgotten()
+    ensures { StartsAreNotForgotten }
+{}
+
+/// The last promise never has a lesser number than the installed view.
+pub fn last_promise_is_not_below_the_view()
+    ensures { LastPromiseIsNotBelowTheView }
+{}

@@ -1,0 +1,47 @@
+-- The operations that the client asked for, of a transaction, and those of its entry.
+use Rattle.std.specs.List.{cons_option}
+use Rattle.std.specs.Prelude.{◌≡◌, ℕ, if◌then◌else◌, List, [], ◌∷◌, map, reverse, Option, None, Some}
+use Rattle.frag_map.specs.Shape.{IsShape}
+use Rattle.run_theory.specs.Lists.{IsIn}
+use Rattle.run_theory.specs.Runs.{AreLogs, IsWithin}
+use Rattle.sig_core.specs.declared.entry.Entry.{Entry}
+use Rattle.sig_core.specs.declared.member.TxId.{TxId}
+use Rattle.sig_core.specs.declared.op.Answer.{Answer}
+use Rattle.sig_core.specs.declared.op.Op.{Op}
+use Rattle.sig_core.specs.declared.outs.Outgoing.{Outgoing}
+use Rattle.sig_core.specs.declared.signal.Body.{Body}
+use Rattle.sig_core.specs.declared.signal.Body.TheVariants.{Client}
+use Rattle.sig_core.specs.declared.signal.client.ClientSignal.TheVariants.{TcKeyReq}
+use Rattle.sig_core.specs.Same.{same_tx}
+use Rattle.world_core.specs.Entries.{entries}
+use Rattle.world_core.specs.Hosts.{hosts}
+use Rattle.world_core.specs.Machine.{machine, step_after}
+use Rattle.world_core.specs.Start.{Start}
+use Rattle.world_core.specs.Steps.{HostStep}
+
+-- the operation of the transaction that the signal asks for
+abbrev pub asked_by : TxId → Body → Option Op
+asked_by tx (Client (TcKeyReq other op)) = if same_tx other tx then Some op else None
+asked_by tx body = None
+
+-- those that these signals ask for, in front of those before, the newest first
+abbrev pub asked_in : TxId → List Outgoing → List Op → List Op
+asked_in tx [] before = before
+asked_in tx (o ∷ more) before = asked_in tx more (cons_option (asked_by tx o.body) before)
+
+-- the operations of the transaction that the client asked its coordinator for, in this log of host 0, the newest first
+abbrev pub asked : Start → TxId → List HostStep → List Op
+asked start tx [] = []
+asked start tx (e ∷ log) = asked_in tx (step_after start 0 log e).effects.sends (asked start tx log)
+
+-- the operations of an entry, the newest first
+abbrev pub operations_of : Entry → List Op
+operations_of entry = reverse (map (λ (op : Op × Answer). op.0) entry.ops)
+
+-- a transaction that is decided has the operations that the client asked for, all of them and no others
+abbrev pub AskedAreOfEntries : Type 0
+AskedAreOfEntries =
+    (start : Start) (logs : ℕ → List HostStep) → IsShape start.shape → IsWithin (hosts start) logs
+    → AreLogs (machine start) logs
+    → (entry : Entry) → IsIn entry (entries (hosts start) logs)
+    → asked start entry.tx (logs 0) ≡ operations_of entry
