@@ -237,10 +237,7 @@ fn nobody_is_granted_a_wait_of_eight_rounds(rt: HostRuntime) -> Result<(), Fail>
         // who held the others' keys lets go before their waits are told
         (Heard::Abort(2, b'b'), "tc1 aborted 2 b, done 2 b"),
         (Heard::Get(4, b'b'), ""),
-        (
-            Heard::Commit(3, b'c', 0),
-            "tc1 committed 3 c, applied 3 c",
-        ),
+        (Heard::Commit(3, b'c', 0), "tc1 committed 3 c, applied 3 c"),
         (Heard::Granted, ""),
         (
             Heard::Expired,

@@ -7,7 +7,7 @@ use std::test::Fail;
 use std::thread::Threads;
 
 // Each script, and what it prints until it ends at the end of its input.
-const CONVERSATIONS: [(&[u8], &[u8]); 13] = [
+const CONVERSATIONS: [(&[u8], &[u8]); 14] = [
     // a put reaches both replicas
     (
         b"put a 1\nrows 1\nrows 2\n",
