@@ -186,9 +186,9 @@ module _ (key : List ℕ) where
   goes_over node sends = sends_of (is_over node) sends
 
   -- where a wait is closed after a step, one was so before, or the rows go on
-  abbrev pub GoesOver : LqhState → Body → Step LqhState → Type 0
-  GoesOver s body step = is_closed step.state.locks ≡ true
-      → ((is_closed s.locks ≡ true) × (is_timer body ≡ false)) ⊎ (1 ≤ goes_over s.node step.effects.sends)
+  pub record GoesOver (s : LqhState) (body : Body) (step : Step LqhState) : Type 0 where
+    pub closes : is_closed step.state.locks ≡ true
+        → ((is_closed s.locks ≡ true) × (is_timer body ≡ false)) ⊎ (1 ≤ goes_over s.node step.effects.sends)
 
   over_one : (node : ℕ) → goes_over node (go_on_if node work.Expired true) ≡ 1
   over_one node = omega (arith, ap one_if (ap (λ b. true && b) (eqb-self node)))
@@ -196,12 +196,12 @@ module _ (key : List ℕ) where
   -- no wait is closed that was open
   stays : (s : LqhState) (body : Body) (step : Step LqhState) → is_timer body ≡ false
       → (is_closed s.locks ≡ false → is_closed step.state.locks ≡ false) → GoesOver s body step
-  stays s body step still open_still closed = by (is_closed s.locks) refl
+  stays s body step still open_still = record { closes = λ closed. by (is_closed s.locks) refl closed }
     where
-      by : (b : Bool) → is_closed s.locks ≡ b
+      by : (b : Bool) → is_closed s.locks ≡ b → is_closed step.state.locks ≡ true
           → ((is_closed s.locks ≡ true) × (is_timer body ≡ false)) ⊎ (1 ≤ goes_over s.node step.effects.sends)
-      by true is = inl (is, still)
-      by false is = absurd (false≢true (sym (open_still is) ∙ closed))
+      by true is closed = inl (is, still)
+      by false is closed = absurd (false≢true (sym (open_still is) ∙ closed))
 
   -- one lock came to be another
   lock_stays : (locks : Locks) (at_key : List ℕ) (lock : RowLock)
@@ -235,9 +235,11 @@ module _ (key : List ℕ) where
   -- the first wait that is over ends
   expires : (s t : LqhState) → t.node ≡ s.node → (body : Body) → ExpireForms (GoesOver s body) t
   expires s t node_is body = record {
-    rests = λ is closed. absurd (false≢true (ap is_some (sym is) ∙ closed_expired t.locks closed));
-    none = λ other at_key is none closed. one other at_key t.waiting closed;
-    some = λ other at_key is at r there here closed. one other at_key t.waiting closed;
+    rests = λ is. record {
+      closes = λ closed. absurd (false≢true (ap is_some (sym is) ∙ closed_expired t.locks closed));
+    };
+    none = λ other at_key is none. record { closes = λ closed. one other at_key t.waiting closed };
+    some = λ other at_key is at r there here. record { closes = λ closed. one other at_key t.waiting closed };
   }
     where
       one : (other : TxId) (at_key : List ℕ) (left : List Request)

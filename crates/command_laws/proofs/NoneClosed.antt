@@ -152,7 +152,7 @@ module _ (start : Start) (key : List ℕ) (node : ℕ) (some_node : 1 ≤ node) 
             k (ap (λ (u : LqhState). is_closed key u.locks) (sym other.0) ∙ is),
           )
       finish (inl step) =
-          by (rows_go_over key s e.step.taken.body
+          by ((rows_go_over key s e.step.taken.body).closes
               (ap (λ (u : LqhState). is_closed key u.locks) (sym step.state) ∙ is))
         where
           by : ((is_closed key s.locks ≡ true) × (is_timer key e.step.taken.body ≡ false))
