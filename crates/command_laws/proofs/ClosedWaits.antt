@@ -1,5 +1,6 @@
 -- Waits that stood eight rounds are closed: where one is left in a queue, the rows of the node go on with those.
-use Rattle.std.proofs.Common.{◌≡◌, ◌⊎◌, ℕ, ◌+◌, ◌≤◌, Bool, true, false, List, [], ◌∷◌, ◌++◌, refl, ap, sym, ◌∙◌, subst, cond, arith, inl, inr}
+use Rattle.std.proofs.Common.{◌≡◌, ◌⊎◌, ℕ, ◌+◌, ◌≤◌, Bool, true, false, List, []}
+use Rattle.std.proofs.Common.{◌∷◌, ◌++◌, refl, ap, sym, ◌∙◌, subst, cond, arith, inl, inr}
 use Rattle.std.proofs.lemmas.Bool.{false≢true, or_from, or_parts}
 use Rattle.std.specs.Prelude.{◌&&◌, ◌||◌, ◌==◌, if◌then◌else◌, not, is_some, Option, None, Some}
 use Rattle.std.specs.FinMap as finite
@@ -21,7 +22,8 @@ use Rattle.row_locks.specs.Holders.{agrees_with, hold, holds, holds_enough, othe
 use Rattle.row_locks.specs.Orderly.{is_first_open}
 use Rattle.row_locks.specs.Queues.{is_open, raised, raised_if, wait_of, waits, without}
 use Rattle.row_locks.specs.Rounds.{expired, expired_in, first_expired, found_at, found_if, is_expired}
-use Rattle.row_locks.specs.Rows.{RowLock, Served, asked, asked_anew, asked_by, is_quiet, may_hold, released, served, served_if, unwaited}
+use Rattle.row_locks.specs.Rows.{RowLock, Served, asked, asked_anew, asked_by}
+use Rattle.row_locks.specs.Rows.{is_quiet, may_hold, released, served, served_if, unwaited}
 use Rattle.row_locks.specs.Tables.{Locks, kept, lock_at, or_unlocked, unwaited_at}
 use Rattle.lqh_block.proofs.IndexLemmas.{same as same_key-is}
 use Rattle.lqh_block.proofs.LqhForms.{ExpireForms, expiring, is_for_rows, lqh_forms}
