@@ -10,7 +10,7 @@ use Rattle.row_locks.specs.declared.mode.Mode.{Mode}
 use Rattle.row_locks.specs.Holders.{agrees_with, hold, holds, holds_enough, others, unless_gone}
 use Rattle.row_locks.specs.Queues.{aged_all, ages, one_round, raised, raised_if, wait_of, waits, without}
 use Rattle.row_locks.specs.Rows.{RowLock, Served, asked, asked_anew, asked_by, is_quiet, released, row_lock, served}
-use Rattle.row_locks.specs.Rows.{served_if, unwaited}
+use Rattle.row_locks.specs.Rows.{may_hold, served_if, unwaited}
 
 abbrev pub AreWaits : (TxId → ℕ → Type 0) → List Wait → Type 0
 AreWaits P queue = Each (λ (w : Wait). P w.tx w.rounds) queue
@@ -28,7 +28,7 @@ module _ (P : TxId → ℕ → Type 0) where
       → AreWaits P (served granted holders queue).lock.queue
   served_keeps granted holders [] all = tt
   served_keeps granted holders (w ∷ queue) all =
-      by (agrees_with w.tx w.mode holders) (served_keeps (granted + 1) (hold w.tx w.mode holders) queue all.1)
+      by (may_hold w holders) (served_keeps (granted + 1) (hold w.tx w.mode holders) queue all.1)
     where
       next : Served
       next = served (granted + 1) (hold w.tx w.mode holders) queue

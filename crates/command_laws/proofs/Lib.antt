@@ -7,6 +7,7 @@ pub mod BeginRows
 pub mod Begins
 pub mod BlockSteps
 pub mod BlocksTake
+pub mod ClosedWaits
 pub mod ComesTo
 pub mod CommitFirst
 pub mod Committed
@@ -40,6 +41,7 @@ pub mod LoneCommitted
 pub mod LoneWishes
 pub mod LqhFair
 pub mod NoDump
+pub mod NoneClosed
 pub mod OneAtATime
 pub mod OperateAsks
 pub mod OperationAnswered

@@ -30,9 +30,11 @@ use Rattle.host_laws.proofs.LqhOps.{right_of}
 use Rattle.host_laws.proofs.Replicas.{logs_keep_well}
 use Rattle.host_laws.proofs.Wishes.{is_api, is_tc, sends_of}
 use Rattle.answer_laws.specs.Answered.{AreQuiet}
+use Rattle.command_laws.proofs.ClosedWaits.{first_open, is_closed}
 use Rattle.command_laws.proofs.Homes.{ahead_rows}
 use Rattle.command_laws.proofs.HostKinds.{node_runs_none}
 use Rattle.command_laws.proofs.HostSends.{not_of_api, shell_silent}
+use Rattle.command_laws.proofs.NoneClosed.{none_closed}
 use Rattle.command_laws.proofs.Since.{front_nil, sent_since}
 use Rattle.command_laws.proofs.WaitRows.{is_telling_who, is_wait_of, tells_who, host_waits}
 use Rattle.command_laws.proofs.WaitSources.{FoundAt, SentBy, came_from, finds_who, is_finding_who, no_find_api, telling_tc, host_found, host_told, sent_by}
@@ -56,12 +58,14 @@ first_holds tx (h ∷ holders) apart = by (same_tx h.tx tx) apart (first_holds t
     by true off rest = or_last (same_tx h.tx (first_other tx holders)) (holds (first_other tx holders) holders) (rest off)
     by false off rest = or_front (same_tx h.tx h.tx) (holds h.tx holders) (same_tx-self h.tx)
 
--- whom a transaction waits behind holds the lock, and is another one
-behind_locks : (locks : Locks) (key : List ℕ) (tx who : TxId) → AreOrderly locks → ahead_at locks key tx ≡ Some who → IsBehind tx who key locks
-behind_locks locks key tx who orderly is = by (waits tx (lock_at locks key).queue) refl is
+-- whom a transaction waits behind holds the lock, where no wait is closed, and is another one
+behind_locks : (locks : Locks) (key : List ℕ) (tx who : TxId) → AreOrderly locks
+    → is_closed key locks ≡ false → ahead_at locks key tx ≡ Some who → IsBehind tx who key locks
+behind_locks locks key tx who orderly none is = by (waits tx (lock_at locks key).queue) refl is
   where
     apart : same_tx who tx ≡ false
-    apart = subst (λ o. IfSome o (λ ahead. same_tx ahead tx ≡ false)) is (ahead_is_other locks key tx orderly)
+    apart = subst (λ o. IfSome o (λ ahead. same_tx ahead tx ≡ false)) is 
+        (ahead_is_other locks key tx orderly (first_open (lock_at locks key).queue none))
 
     by : (b : Bool) → waits tx (lock_at locks key).queue ≡ b → some_if b (first_other tx (lock_at locks key).holders) ≡ Some who → IsBehind tx who key locks
     by true w e =
@@ -159,12 +163,13 @@ module _ (start : Start) (was mid : ℕ → List HostStep) (tx who : TxId) (befo
           found = host_found tx who
               (after start (suc k) (was (suc k))) sender.step.step.taken sender.waits_kind sender.sends
 
-          behind_now : IsBehindAt tx who found.key (after start (suc k) (mid (suc k)))
-          behind_now =
+          behind_now : is_closed found.key (lqh_of (after start (suc k) (was (suc k)))).locks ≡ false
+              → IsBehindAt tx who found.key (after start (suc k) (mid (suc k)))
+          behind_now none =
               subst (IsBehindAt tx who found.key) (sym (ap (after start (suc k)) (cut (suc k)).is
               ∙ node_stays start tx k (cut (suc k)).newer (was (suc k)) (kinds k)))
               (behind_locks (lqh_of (after start (suc k) (was (suc k)))).locks found.key tx who
-              (logs_keep_well start (suc k) (was (suc k))).orderly found.is)
+              (logs_keep_well start (suc k) (was (suc k))).orderly none found.is)
 
           -- who has locks is the host of a node's rows
           there : (suc k < hosts start) ⊎ (hosts start ≤ suc k) → IsBehindThere
@@ -174,7 +179,9 @@ module _ (start : Start) (was mid : ℕ → List HostStep) (tx who : TxId) (befo
                 node = n.node;
                 low = n.low;
                 key = found.key;
-                behind = subst (λ h. IsBehindAt tx who found.key (after start h (mid h))) n.is behind_now;
+                behind = subst (λ h. IsBehindAt tx who found.key (after start h (mid h))) n.is
+                    (behind_now (subst (λ h. is_closed found.key (lqh_of (after start h (was h))).locks ≡ false)
+                        (sym n.is) (none_closed start found.key n.node n.some n.low was before)));
               }
           there (inr high) = absurd (some_step b.front b.step b.back (sym b.is ∙ front_nil (cut (suc k)).newer (was (suc k)) (sym (since.within (suc k) high) ∙ (cut (suc k)).is)))
 

@@ -18,7 +18,7 @@ use Rattle.row_locks.specs.declared.mode.Lock.TheVariants.{Granted, Queued}
 use Rattle.row_locks.specs.Holders.{agrees_with, hold, holds, holds_enough, others, unless_gone}
 use Rattle.row_locks.specs.Queues.{aged_all, raised, raised_if, wait_of, waits, without}
 use Rattle.row_locks.specs.Rounds.{expired, expired_in, first_expired, found_at, found_if, is_expired}
-use Rattle.row_locks.specs.Rows.{Asked, RowLock, Served, asked, asked_anew, asked_by, is_quiet, released, served, served_if, unwaited}
+use Rattle.row_locks.specs.Rows.{Asked, RowLock, Served, asked, asked_anew, asked_by, is_quiet, may_hold, released, served, served_if, unwaited}
 use Rattle.row_locks.specs.Tables.{Locks, lock_at, or_unlocked}
 use Rattle.sig_core.proofs.TxLemmas.{same_tx-is}
 use Rattle.lqh_block.proofs.IndexLemmas.{same as same_key-is}
@@ -125,7 +125,7 @@ without_less tx u ws on = by (same_tx tx u) refl
 -- who waits after the queue was served waited before; where nobody was granted the queue is as it was
 served_less : (n : ℕ) (hs : List Holder) (ws : List Wait) (u : TxId) → waits u (served n hs ws).lock.queue ≡ true → waits u ws ≡ true
 served_less n hs [] u on = on
-served_less n hs (w ∷ ws) u on = by (agrees_with w.tx w.mode hs) on (served_less (n + 1) (hold w.tx w.mode hs) ws u)
+served_less n hs (w ∷ ws) u on = by (may_hold w hs) on (served_less (n + 1) (hold w.tx w.mode hs) ws u)
   where
     by : (b : Bool) → waits u (served_if b (served (n + 1) (hold w.tx w.mode hs) ws) (record { lock = record { holders = hs; queue = w ∷ ws }; granted = n })).lock.queue ≡ true
         → (waits u (served (n + 1) (hold w.tx w.mode hs) ws).lock.queue ≡ true → waits u ws ≡ true) → (same_tx w.tx u || waits u ws) ≡ true
@@ -134,7 +134,7 @@ served_less n hs (w ∷ ws) u on = by (agrees_with w.tx w.mode hs) on (served_le
 
 served_more : (n : ℕ) (hs : List Holder) (ws : List Wait) → n ≤ (served n hs ws).granted
 served_more n hs [] = omega arith
-served_more n hs (w ∷ ws) = by (agrees_with w.tx w.mode hs) (served_more (n + 1) (hold w.tx w.mode hs) ws)
+served_more n hs (w ∷ ws) = by (may_hold w hs) (served_more (n + 1) (hold w.tx w.mode hs) ws)
   where
     by : (b : Bool) → n + 1 ≤ (served (n + 1) (hold w.tx w.mode hs) ws).granted → n ≤ (served_if b (served (n + 1) (hold w.tx w.mode hs) ws) (record { lock = record { holders = hs; queue = w ∷ ws }; granted = n })).granted
     by true more = omega (arith, more)
@@ -142,7 +142,7 @@ served_more n hs (w ∷ ws) = by (agrees_with w.tx w.mode hs) (served_more (n + 
 
 served_none : (n : ℕ) (hs : List Holder) (ws : List Wait) → (served n hs ws).granted ≤ n → (served n hs ws).lock.queue ≡ ws
 served_none n hs [] few = refl
-served_none n hs (w ∷ ws) few = by (agrees_with w.tx w.mode hs) few
+served_none n hs (w ∷ ws) few = by (may_hold w hs) few
   where
     by : (b : Bool) → (served_if b (served (n + 1) (hold w.tx w.mode hs) ws) (record { lock = record { holders = hs; queue = w ∷ ws }; granted = n })).granted ≤ n
         → (served_if b (served (n + 1) (hold w.tx w.mode hs) ws) (record { lock = record { holders = hs; queue = w ∷ ws }; granted = n })).lock.queue ≡ w ∷ ws

@@ -13,8 +13,8 @@ use Rattle.row_locks.specs.declared.mode.Mode.TheVariants.{Shared, Exclusive}
 use Rattle.row_locks.specs.Holders.{agrees_with, hold, holder_of, holds, holds_enough, others, unless_gone}
 use Rattle.row_locks.specs.Modes.{is_enough}
 use Rattle.row_locks.specs.Orderly.{IsOrderly, are_waiting_once, none_has_enough}
-use Rattle.row_locks.specs.Queues.{waits, without}
-use Rattle.row_locks.specs.Rows.{RowLock, asked, asked_anew, asked_by, is_quiet, released, served, served_if, unwaited}
+use Rattle.row_locks.specs.Queues.{is_open, waits, without}
+use Rattle.row_locks.specs.Rows.{RowLock, asked, asked_anew, asked_by, is_quiet, may_hold, released, served, served_if, unwaited}
 use Rattle.row_locks.proofs.NeedLemmas.{enough_shared, need-hold, need-others, need-without}
 use Rattle.row_locks.proofs.OrderlyLemmas.{asked_orderly, gone-without, released_orderly, unwaited_orderly, waiting-without}
 use Rattle.sig_core.proofs.TxLemmas.{same_tx-is}
@@ -132,16 +132,17 @@ served_keeps n hs [] need once u m is = is
 served_keeps n hs (w ∷ ws) need once u m is =
     let parts = and_parts (not (holds_enough w.tx w.mode hs)) (none_has_enough hs ws) need in
     let first = and_parts (not (waits w.tx ws)) (are_waiting_once ws) once in
-    by (agrees_with w.tx w.mode hs) refl (not-true _ parts.0)
+    by (may_hold w hs) refl (not-true _ parts.0)
     (served_keeps (n + 1) (hold w.tx w.mode hs) ws
     (need-hold w.tx w.mode hs ws (not-true _ first.0) ∙ parts.1) first.1 u m)
   where
-    by : (b : Bool) → agrees_with w.tx w.mode hs ≡ b → holds_enough w.tx w.mode hs ≡ false
+    by : (b : Bool) → may_hold w hs ≡ b → holds_enough w.tx w.mode hs ≡ false
         → (holds_enough u m (hold w.tx w.mode hs) ≡ true
         → holds_enough u m (served (n + 1) (hold w.tx w.mode hs) ws).lock.holders ≡ true)
         → holds_enough u m (served_if b (served (n + 1) (hold w.tx w.mode hs) ws)
         (record { lock = record { holders = hs; queue = w ∷ ws }; granted = n })).lock.holders ≡ true
-    by true e less more = more (hold_keeps w.tx w.mode hs e less u m is)
+    by true e less more =
+        more (hold_keeps w.tx w.mode hs (and_parts (is_open w) (agrees_with w.tx w.mode hs) e).1 less u m is)
     by false e less more = is
 
 -- in both modes that makes up holding on

@@ -10,8 +10,8 @@ use Rattle.row_locks.specs.declared.mode.Mode.TheVariants.{Shared, Exclusive}
 use Rattle.row_locks.specs.Holders.{agrees_with, hold, holds, holds_enough, others}
 use Rattle.row_locks.specs.Modes.{is_enough, stronger}
 use Rattle.row_locks.specs.Orderly.{are_waiting_once, none_has_enough}
-use Rattle.row_locks.specs.Queues.{raised, raised_if, wait_of, waits, without, aged_all}
-use Rattle.row_locks.specs.Rows.{asked, asked_anew, asked_by, is_quiet, served, served_if}
+use Rattle.row_locks.specs.Queues.{is_open, raised, raised_if, wait_of, waits, without, aged_all}
+use Rattle.row_locks.specs.Rows.{asked, asked_anew, asked_by, is_quiet, may_hold, served, served_if}
 use Rattle.row_locks.proofs.NeedLemmas.{need-hold, need-others, need-without}
 use Rattle.row_locks.proofs.OrderlyLemmas.{gone-without, waiting-without}
 use Rattle.sig_core.proofs.TxLemmas.{same_tx-is}
@@ -125,7 +125,7 @@ served_attend n hs [] need once u m (inr waiting) = absurd cc
 served_attend n hs (w ∷ ws) need once u m is =
     let parts = and_parts (not (holds_enough w.tx w.mode hs)) (none_has_enough hs ws) need in
     let first = and_parts (not (waits w.tx ws)) (are_waiting_once ws) once in
-    by (agrees_with w.tx w.mode hs) refl (not-true _ parts.0) is
+    by (may_hold w hs) refl (not-true _ parts.0) is
     (served_attend (n + 1) (hold w.tx w.mode hs) ws
     (need-hold w.tx w.mode hs ws (not-true _ first.0) ∙ parts.1) first.1 u m)
   where
@@ -148,13 +148,13 @@ served_attend n hs (w ∷ ws) need once u m is =
     whole (inl held) = or_left _ _ held
     whole (inr waiting) = or_right (holds_enough u m hs) _ waiting
 
-    by : (b : Bool) → agrees_with w.tx w.mode hs ≡ b → holds_enough w.tx w.mode hs ≡ false
+    by : (b : Bool) → may_hold w hs ≡ b → holds_enough w.tx w.mode hs ≡ false
         → (holds_enough u m hs ≡ true) ⊎ (waits_enough u m (w ∷ ws) ≡ true)
         → ((holds_enough u m (hold w.tx w.mode hs) ≡ true) ⊎ (waits_enough u m ws ≡ true)
         → is_attended (served (n + 1) (hold w.tx w.mode hs) ws).lock u m ≡ true)
         → is_attended (served_if b (served (n + 1) (hold w.tx w.mode hs) ws)
         (record { lock = record { holders = hs; queue = w ∷ ws }; granted = n })).lock u m ≡ true
-    by true e less is more = more (onward less e is)
+    by true e less is more = more (onward less (and_parts (is_open w) (agrees_with w.tx w.mode hs) e).1 is)
     by false e less is more = whole is
 
 pub releases_attend : ReleasesAttend

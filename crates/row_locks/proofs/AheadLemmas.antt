@@ -1,4 +1,4 @@
--- Who waits waits for another: the first holder that isn't it is there.
+-- Who waits waits for another, where the first in the queue is open: the first holder that isn't it is there.
 use Rattle.std.proofs.Common.{◌≡◌, ℕ, Bool, true, false, not, ◌&&◌, ◌||◌, List, [], ◌∷◌, refl, ap, sym, ◌∙◌}
 use Rattle.std.specs.Prelude.{IfSome}
 use Rattle.std.proofs.lemmas.Bool.{true≢false, not-true, or_parts}
@@ -11,13 +11,13 @@ use Rattle.row_locks.specs.declared.claim.Wait.{Wait}
 use Rattle.sig_core.specs.Same.{same_tx}
 use Rattle.row_locks.specs.Modes.{agree}
 use Rattle.row_locks.specs.Holders.{agrees_with, holds, holds_enough, first_other, tx_if}
-use Rattle.row_locks.specs.Queues.{waits}
+use Rattle.row_locks.specs.Queues.{waits, is_open}
 use Rattle.row_locks.specs.Rows.{RowLock, asked_by, asked_anew, is_quiet}
-use Rattle.row_locks.specs.Orderly.{IsOrderly, is_first_held_up, none_holds, are_raises_first, test_if}
+use Rattle.row_locks.specs.Orderly.{IsOrderly, is_first_held_up, is_first_open, none_holds, are_raises_first, test_if}
 use Rattle.row_locks.specs.OrderlyTables.{AreOrderly}
 use Rattle.row_locks.specs.Tables.{Locks, lock_at, is_free, ahead_at, some_if, asked_at}
 use Rattle.sig_core.proofs.TxLemmas.{same_tx-is, same_tx-swap, apart_too}
-use Rattle.row_locks.proofs.TableLawLemmas.{held-quiet, free_disagreed}
+use Rattle.row_locks.proofs.TableLawLemmas.{disagreed, held-quiet, free_disagreed}
 
 or_rest : (a b : Bool) → a ≡ false → (a || b) ≡ true → b ≡ true
 or_rest true b p e = absurd (true≢false p)
@@ -82,18 +82,18 @@ ahead_at_first hs w ws u up r e true same = other_disagreed u w.mode hs (ap (λ 
 ahead_at_first hs w ws u up r e false apart =
     behind hs w ws u up apart (or_rest (same_tx w.tx u) (waits u ws) apart e) (holds w.tx hs) refl r
 
-ahead_in : (hs : List Holder) (ws : List Wait) (u : TxId) → is_first_held_up hs ws ≡ true → are_raises_first hs ws ≡ true → waits u ws ≡ true → same_tx (first_other u hs) u ≡ false
-ahead_in hs [] u up r e = absurd (true≢false (sym e))
-ahead_in hs (w ∷ ws) u up r e = ahead_at_first hs w ws u (not-true _ up) r e (same_tx w.tx u) refl
+ahead_in : (hs : List Holder) (ws : List Wait) (u : TxId) → is_first_open ws ≡ true → is_first_held_up hs ws ≡ true → are_raises_first hs ws ≡ true → waits u ws ≡ true → same_tx (first_other u hs) u ≡ false
+ahead_in hs [] u fresh up r e = absurd (true≢false (sym e))
+ahead_in hs (w ∷ ws) u fresh up r e = ahead_at_first hs w ws u (disagreed (is_open w) (agrees_with w.tx w.mode hs) fresh up) r e (same_tx w.tx u) refl
 
 some_ahead : (b : Bool) (ahead u : TxId) → (b ≡ true → same_tx ahead u ≡ false) → IfSome (some_if b ahead) (λ a. same_tx a u ≡ false)
 some_ahead true ahead u f = f refl
 some_ahead false ahead u f = tt
 
-pub ahead_is_other : (locks : Locks) (key : List ℕ) (tx : TxId) → AreOrderly locks → IfSome (ahead_at locks key tx) (λ ahead. same_tx ahead tx ≡ false)
-ahead_is_other locks key tx are =
+pub ahead_is_other : (locks : Locks) (key : List ℕ) (tx : TxId) → AreOrderly locks → is_first_open (lock_at locks key).queue ≡ true → IfSome (ahead_at locks key tx) (λ ahead. same_tx ahead tx ≡ false)
+ahead_is_other locks key tx are fresh =
     let lock = lock_at locks key in
-    some_ahead (waits tx lock.queue) (first_other tx lock.holders) tx (ahead_in lock.holders lock.queue tx (are.each key).held_up (are.each key).raises_first)
+    some_ahead (waits tx lock.queue) (first_other tx lock.holders) tx (ahead_in lock.holders lock.queue tx fresh (are.each key).held_up (are.each key).raises_first)
 
 -- whom an answer names
 abbrev named : Lock → TxId → TxId
@@ -110,24 +110,24 @@ named_other first ahead u apart e = ap (λ answer. same_tx (named answer u) u) (
 not_queued : (ahead u : TxId) → Granted ≡ Queued ahead → same_tx ahead u ≡ false
 not_queued ahead u e = absurd (true≢false (ap is_granted e))
 
-anew_ahead : (lock : RowLock) (tx : TxId) (m : Mode) (ahead : TxId) → IsOrderly lock → (held agrees quiet : Bool) → holds tx lock.holders ≡ held → agrees_with tx m lock.holders ≡ agrees
+anew_ahead : (lock : RowLock) (tx : TxId) (m : Mode) (ahead : TxId) → IsOrderly lock → is_first_open lock.queue ≡ true → (held agrees quiet : Bool) → holds tx lock.holders ≡ held → agrees_with tx m lock.holders ≡ agrees
     → is_quiet lock.queue ≡ quiet → (asked_anew held agrees quiet lock tx m).answer ≡ Queued ahead → same_tx ahead tx ≡ false
-anew_ahead lock tx m ahead is true true quiet h a q e = not_queued ahead tx e
-anew_ahead lock tx m ahead is true false quiet h a q e = named_other (first_other tx lock.holders) ahead tx (other_disagreed tx m lock.holders a) e
-anew_ahead lock tx m ahead is false true true h a q e = not_queued ahead tx e
-anew_ahead lock tx m ahead is false true false h a q e =
-    named_other (first_other tx lock.holders) ahead tx (other_free tx lock.holders h (held-quiet lock.holders lock.queue is.held_up q)) e
-anew_ahead lock tx m ahead is false false quiet h a q e = named_other (first_other tx lock.holders) ahead tx (other_disagreed tx m lock.holders a) e
+anew_ahead lock tx m ahead is fresh true true quiet h a q e = not_queued ahead tx e
+anew_ahead lock tx m ahead is fresh true false quiet h a q e = named_other (first_other tx lock.holders) ahead tx (other_disagreed tx m lock.holders a) e
+anew_ahead lock tx m ahead is fresh false true true h a q e = not_queued ahead tx e
+anew_ahead lock tx m ahead is fresh false true false h a q e =
+    named_other (first_other tx lock.holders) ahead tx (other_free tx lock.holders h (held-quiet lock.holders lock.queue fresh is.held_up q)) e
+anew_ahead lock tx m ahead is fresh false false quiet h a q e = named_other (first_other tx lock.holders) ahead tx (other_disagreed tx m lock.holders a) e
 
-asked_ahead_by : (lock : RowLock) (tx : TxId) (m : Mode) (ahead : TxId) → IsOrderly lock → (enough waiting : Bool) → waits tx lock.queue ≡ waiting
+asked_ahead_by : (lock : RowLock) (tx : TxId) (m : Mode) (ahead : TxId) → IsOrderly lock → is_first_open lock.queue ≡ true → (enough waiting : Bool) → waits tx lock.queue ≡ waiting
     → (asked_by enough waiting lock tx m).answer ≡ Queued ahead → same_tx ahead tx ≡ false
-asked_ahead_by lock tx m ahead is true waiting w e = not_queued ahead tx e
-asked_ahead_by lock tx m ahead is false true w e =
-    named_other (first_other tx lock.holders) ahead tx (ahead_in lock.holders lock.queue tx is.held_up is.raises_first w) e
-asked_ahead_by lock tx m ahead is false false w e =
-    anew_ahead lock tx m ahead is (holds tx lock.holders) (agrees_with tx m lock.holders) (is_quiet lock.queue) refl refl refl e
+asked_ahead_by lock tx m ahead is fresh true waiting w e = not_queued ahead tx e
+asked_ahead_by lock tx m ahead is fresh false true w e =
+    named_other (first_other tx lock.holders) ahead tx (ahead_in lock.holders lock.queue tx fresh is.held_up is.raises_first w) e
+asked_ahead_by lock tx m ahead is fresh false false w e =
+    anew_ahead lock tx m ahead is fresh (holds tx lock.holders) (agrees_with tx m lock.holders) (is_quiet lock.queue) refl refl refl e
 
-pub asked_ahead : (locks : Locks) (key : List ℕ) (tx : TxId) (mode : Mode) (ahead : TxId) → AreOrderly locks → (asked_at locks key tx mode).answer ≡ Queued ahead → same_tx ahead tx ≡ false
-asked_ahead locks key tx mode ahead are e =
+pub asked_ahead : (locks : Locks) (key : List ℕ) (tx : TxId) (mode : Mode) (ahead : TxId) → AreOrderly locks → is_first_open (lock_at locks key).queue ≡ true → (asked_at locks key tx mode).answer ≡ Queued ahead → same_tx ahead tx ≡ false
+asked_ahead locks key tx mode ahead are fresh e =
     let lock = lock_at locks key in
-    asked_ahead_by lock tx mode ahead (are.each key) (holds_enough tx mode lock.holders) (waits tx lock.queue) refl e
+    asked_ahead_by lock tx mode ahead (are.each key) fresh (holds_enough tx mode lock.holders) (waits tx lock.queue) refl e

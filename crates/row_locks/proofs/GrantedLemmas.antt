@@ -6,9 +6,9 @@ use Rattle.sig_core.specs.declared.member.TxId.{TxId}
 use Rattle.row_locks.specs.declared.claim.Holder.{Holder}
 use Rattle.row_locks.specs.declared.claim.Wait.{Wait}
 use Rattle.sig_core.specs.Same.{same_tx}
-use Rattle.row_locks.specs.Holders.{unless_gone, others, agrees_with, hold}
+use Rattle.row_locks.specs.Holders.{unless_gone, others, hold}
 use Rattle.row_locks.specs.Queues.{waits, without}
-use Rattle.row_locks.specs.Rows.{Served, served, served_if}
+use Rattle.row_locks.specs.Rows.{Served, may_hold, served, served_if}
 use Rattle.row_locks.specs.Orderly.{are_waiting_once}
 use Rattle.row_locks.specs.OrderlyTables.{AreOrderly}
 use Rattle.row_locks.specs.Serving.{granted_to, last, GrantsFirst}
@@ -66,7 +66,7 @@ front_granted : (g : ℕ) (hs : List Holder) (ws : List Wait) → are_waiting_on
 front_granted g hs [] once = (0, nobody g hs [])
 front_granted g hs (w ∷ ws) once =
     let parts = and_parts (not (waits w.tx ws)) (are_waiting_once ws) once in
-    at (agrees_with w.tx w.mode hs) (not-true _ parts.0) (front_granted (g + 1) (hold w.tx w.mode hs) ws parts.1)
+    at (may_hold w hs) (not-true _ parts.0) (front_granted (g + 1) (hold w.tx w.mode hs) ws parts.1)
   where
     at : (b : Bool) → waits w.tx ws ≡ false → ((n : ℕ) × HasGranted n (g + 1) (hold w.tx w.mode hs) ws (served (g + 1) (hold w.tx w.mode hs) ws))
         → (n : ℕ) × HasGranted n g hs (w ∷ ws) (served_if b (served (g + 1) (hold w.tx w.mode hs) ws) (record { lock = record { holders = hs; queue = w ∷ ws }; granted = g }))

@@ -9,4 +9,5 @@ pub mod RoundLemmas
 pub mod RowLemmas
 pub mod ServingLemmas
 pub mod TableLawLemmas
+pub mod UnqueuedLemmas
 pub mod WithinLemmas

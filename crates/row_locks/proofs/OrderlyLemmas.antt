@@ -1,5 +1,6 @@
 -- Each call leaves the lock of a row orderly.
-use Rattle.std.proofs.Common.{◌≡◌, ℕ, ◌+◌, Bool, true, false, not, ◌&&◌, ◌||◌, nat_lt, List, [], ◌∷◌, ◌++◌, refl, ap, sym, ◌∙◌}
+use Rattle.std.proofs.Common.{◌≡◌, ℕ, ◌+◌, Bool, true, false, not, ◌&&◌, ◌||◌, nat_lt, List, [], ◌∷◌, ◌++◌, refl, ap, sym, ◌∙◌, arith}
+use Rattle.std.proofs.lemmas.Bool.Decides.{nat_tests}
 use Rattle.std.proofs.lemmas.Bool.{true≢false, and_parts, and_from, not-true, or_parts, or_from}
 use Rattle.sig_core.specs.declared.member.TxId.{TxId}
 use Rattle.row_locks.specs.declared.mode.Mode.{Mode}
@@ -9,8 +10,8 @@ use Rattle.row_locks.specs.declared.claim.Wait.{Wait}
 use Rattle.sig_core.specs.Same.{same_tx}
 use Rattle.row_locks.specs.Modes.{agree, stronger}
 use Rattle.row_locks.specs.Holders.{unless_gone, others, agrees_with, holds, holds_enough, holder_of, hold}
-use Rattle.row_locks.specs.Queues.{waits, without, wait_of, raised, raised_if, aged_all}
-use Rattle.row_locks.specs.Rows.{RowLock, served, served_if, asked, asked_by, asked_anew, anew, is_quiet, released, unwaited, unqueued, grown_old}
+use Rattle.row_locks.specs.Queues.{waits, without, wait_of, raised, raised_if, aged, aged_all, ages, is_open, one_round}
+use Rattle.row_locks.specs.Rows.{RowLock, may_hold, served, served_if, asked, asked_by, asked_anew, anew, is_quiet, released, unwaited, unqueued, grown_old}
 use Rattle.row_locks.specs.Orderly.{IsOrderly, are_held_once, are_agreed, are_waiting_once, is_first_held_up, none_holds, are_raises_first, test_if, none_has_enough, are_within_rounds}
 use Rattle.sig_core.proofs.TxLemmas.{same_tx-swap, apart_too}
 use Rattle.row_locks.proofs.NeedLemmas.{enough_shared, need-others, need-hold, need-without, need-aged, need-raised, need-end, need-quiet}
@@ -221,10 +222,10 @@ served_orderly g hs (x ∷ ws) o a w r n k =
     let raises = raises-same x.tx hs (hold x.tx x.mode hs) (holds-hold x.tx x.mode hs) ws (not-true _ once.0) ∙ raises_tail hs x ws r in
     let need = need-hold x.tx x.mode hs ws (not-true _ once.0) ∙ (and_parts (not (holds_enough x.tx x.mode hs)) (none_has_enough hs ws) n).1 in
     let within = (and_parts (not (nat_lt 8 x.rounds)) (are_within_rounds ws) k).1 in
-    at (agrees_with x.tx x.mode hs) refl
-    (λ e. served_orderly (g + 1) (hold x.tx x.mode hs) ws (once-hold x.tx x.mode hs o) (agreed-hold x.tx x.mode hs a e) once.1 raises need within)
+    at (may_hold x hs) refl
+    (λ e. served_orderly (g + 1) (hold x.tx x.mode hs) ws (once-hold x.tx x.mode hs o) (agreed-hold x.tx x.mode hs a (and_parts (is_open x) (agrees_with x.tx x.mode hs) e).1) once.1 raises need within)
   where
-    at : (b : Bool) → agrees_with x.tx x.mode hs ≡ b → (agrees_with x.tx x.mode hs ≡ true → IsOrderly (served (g + 1) (hold x.tx x.mode hs) ws).lock)
+    at : (b : Bool) → may_hold x hs ≡ b → (may_hold x hs ≡ true → IsOrderly (served (g + 1) (hold x.tx x.mode hs) ws).lock)
         → IsOrderly (served_if b (served (g + 1) (hold x.tx x.mode hs) ws) (record { lock = record { holders = hs; queue = x ∷ ws }; granted = g })).lock
     at true e f = f e
     at false e f = record { held_once = o; agreed = a; waiting_once = w; held_up = ap not e; raises_first = r; in_need = n; within_rounds = k }
@@ -255,9 +256,20 @@ waiting-aged : (ws : List Wait) → are_waiting_once (aged_all ws) ≡ are_waiti
 waiting-aged [] = refl
 waiting-aged (w ∷ ws) = λ i. not (waits-aged w.tx ws i) && waiting-aged ws i
 
-held_up-aged : (hs : List Holder) (ws : List Wait) → is_first_held_up hs (aged_all ws) ≡ is_first_held_up hs ws
-held_up-aged hs [] = refl
-held_up-aged hs (w ∷ ws) = refl
+not_more : (a b : Bool) → (b ≡ true → a ≡ true) → not a ≡ true → not b ≡ true
+not_more a false f n = refl
+not_more a true f n = absurd (true≢false (sym (f refl) ∙ not-true a n))
+
+-- what is open a round later was open before
+open_earlier : (b : Bool) (rounds : ℕ) → nat_lt (one_round b rounds) 8 ≡ true → nat_lt rounds 8 ≡ true
+open_earlier false rounds e = e
+open_earlier true rounds e = grind (arith, nat_tests)
+
+held_up-aged : (hs : List Holder) (ws : List Wait) → is_first_held_up hs ws ≡ true → is_first_held_up hs (aged_all ws) ≡ true
+held_up-aged hs [] up = refl
+held_up-aged hs (w ∷ ws) up =
+    not_more (may_hold w hs) (may_hold (aged w) hs)
+    (λ e. let parts = and_parts (is_open (aged w)) (agrees_with w.tx w.mode hs) e in and_from (is_open w) _ (open_earlier (ages w) w.rounds parts.0) parts.1) up
 
 none-aged : (hs : List Holder) (ws : List Wait) → none_holds hs (aged_all ws) ≡ none_holds hs ws
 none-aged hs [] = refl
@@ -273,7 +285,7 @@ grown_old_orderly lock is =
       held_once = is.held_once;
       agreed = is.agreed;
       waiting_once = waiting-aged lock.queue ∙ is.waiting_once;
-      held_up = held_up-aged lock.holders lock.queue ∙ is.held_up;
+      held_up = held_up-aged lock.holders lock.queue is.held_up;
       raises_first = raises-aged lock.holders lock.queue ∙ is.raises_first;
       in_need = need-aged lock.holders lock.queue ∙ is.in_need;
       within_rounds = within-aged lock.queue is.within_rounds;
@@ -318,17 +330,14 @@ agrees-stronger u m n (h ∷ hs) e =
     let parts = and_parts (same_tx h.tx u || agree h.mode (stronger m n)) (agrees_with u (stronger m n) hs) e in
     and_from _ _ (or_more (same_tx h.tx u) (agree h.mode (stronger m n)) (agree h.mode m) (agree-stronger h.mode m n) parts.0) (agrees-stronger u m n hs parts.1)
 
-not_more : (a b : Bool) → (b ≡ true → a ≡ true) → not a ≡ true → not b ≡ true
-not_more a false f n = refl
-not_more a true f n = absurd (true≢false (sym (f refl) ∙ not-true a n))
-
 not_from : (b : Bool) → (b ≡ true → ⊥) → not b ≡ true
 not_from true never = absurd (never refl)
 not_from false never = refl
 
-held_up_at : (hs : List Holder) (b : Bool) (m : Mode) (w : Wait) → not (agrees_with w.tx w.mode hs) ≡ true
-    → not (agrees_with (raised_if b m w).tx (raised_if b m w).mode hs) ≡ true
-held_up_at hs true m w n = not_more _ _ (agrees-stronger w.tx w.mode m hs) n
+held_up_at : (hs : List Holder) (b : Bool) (m : Mode) (w : Wait) → not (may_hold w hs) ≡ true → not (may_hold (raised_if b m w) hs) ≡ true
+held_up_at hs true m w n =
+    not_more (may_hold w hs) (may_hold (raised_if true m w) hs)
+    (λ e. let parts = and_parts (is_open w) (agrees_with w.tx (stronger w.mode m) hs) e in and_from (is_open w) _ parts.0 (agrees-stronger w.tx w.mode m hs parts.1)) n
 held_up_at hs false m w n = n
 
 held_up-raised : (hs : List Holder) (tx : TxId) (m : Mode) (ws : List Wait) → is_first_held_up hs ws ≡ true → is_first_held_up hs (raised tx m ws) ≡ true
@@ -376,8 +385,8 @@ held_up-exclusive : (tx : TxId) (hs : List Holder) (ws : List Wait) → waits tx
 held_up-exclusive tx hs [] n = refl
 held_up-exclusive tx hs (w ∷ ws) n =
     let apart : same_tx tx w.tx ≡ false = same_tx-swap tx w.tx ∙ (or_parts (same_tx w.tx tx) (waits tx ws) n).0 in
-    not_from (agrees_with w.tx w.mode (hold tx Exclusive hs))
-    (λ e. true≢false (sym (agrees-last w.tx w.mode (others tx hs) (holder_of tx Exclusive) e) ∙ or_from (same_tx tx w.tx) false apart refl))
+    not_from (may_hold w (hold tx Exclusive hs))
+    (λ e. true≢false (sym (agrees-last w.tx w.mode (others tx hs) (holder_of tx Exclusive) (and_parts (is_open w) (agrees_with w.tx w.mode (hold tx Exclusive hs)) e).1) ∙ or_from (same_tx tx w.tx) false apart refl))
 
 raise_orderly : (lock : RowLock) (tx : TxId) (m : Mode) → IsOrderly lock → holds_enough tx m lock.holders ≡ false → waits tx lock.queue ≡ false → holds tx lock.holders ≡ true
     → is_first_held_up (hold tx m lock.holders) lock.queue ≡ true
@@ -391,7 +400,11 @@ held_up-quiet hs (w ∷ ws) q = absurd (true≢false (sym q))
 -- a waiter more at the end, where the queue isn't empty or the new waiter doesn't agree
 held_up-end : (hs : List Holder) (ws : List Wait) (w : Wait) → is_first_held_up hs ws ≡ true → (is_quiet ws ≡ true → agrees_with w.tx w.mode hs ≡ false)
     → is_first_held_up hs (ws ++ w ∷ []) ≡ true
-held_up-end hs [] w n f = ap not (f refl)
+held_up-end hs [] w n f = ap (λ b. not (is_open w && b)) (f refl) ∙ none (is_open w)
+  where
+    none : (b : Bool) → not (b && false) ≡ true
+    none true = refl
+    none false = refl
 held_up-end hs (x ∷ ws) w n f = n
 
 anew_at : (lock : RowLock) (tx : TxId) (m : Mode) → IsOrderly lock → holds_enough tx m lock.holders ≡ false → waits tx lock.queue ≡ false

@@ -4,8 +4,8 @@ use Rattle.row_locks.specs.declared.claim.Holder.{Holder}
 use Rattle.row_locks.specs.declared.claim.Wait.{Wait}
 use Rattle.row_locks.specs.declared.queue.TheConstants.{ROUNDS}
 use Rattle.row_locks.specs.Holders.{holds, holds_enough, agrees_with}
-use Rattle.row_locks.specs.Queues.{waits}
-use Rattle.row_locks.specs.Rows.{RowLock}
+use Rattle.row_locks.specs.Queues.{waits, is_open}
+use Rattle.row_locks.specs.Rows.{RowLock, may_hold}
 
 -- no transaction stands twice among the holders
 abbrev pub are_held_once : List Holder → Bool
@@ -22,10 +22,15 @@ abbrev pub are_waiting_once : List Wait → Bool
 are_waiting_once [] = true
 are_waiting_once (wait ∷ queue) = not (waits wait.tx queue) && are_waiting_once queue
 
--- the first in the queue doesn't agree with all other holders: who could be granted the lock doesn't wait
+-- the first in the queue doesn't agree with all other holders, or its wait is closed: who may hold the lock doesn't wait
 abbrev pub is_first_held_up : List Holder → List Wait → Bool
 is_first_held_up holders [] = true
-is_first_held_up holders (wait ∷ queue) = not (agrees_with wait.tx wait.mode holders)
+is_first_held_up holders (wait ∷ queue) = not (may_hold wait holders)
+
+-- the first in the queue is open
+abbrev pub is_first_open : List Wait → Bool
+is_first_open [] = true
+is_first_open (wait ∷ queue) = is_open wait
 
 -- nobody in the queue holds the lock
 abbrev pub none_holds : List Holder → List Wait → Bool

@@ -31,6 +31,10 @@ raised_if false mode wait = wait
 abbrev pub raised : TxId → Mode → List Wait → List Wait
 raised tx mode queue = map (λ wait. raised_if (same_tx wait.tx tx) mode wait) queue
 
+-- the wait has not stood at eight rounds. One that has is closed: it isn't granted any more, and nor is a wait behind it until it is taken out
+abbrev pub is_open : Wait → Bool
+is_open wait = nat_lt wait.rounds ROUNDS
+
 -- one round more, up to eight
 abbrev pub one_round : Bool → ℕ → ℕ
 one_round true rounds = rounds + 1
@@ -38,7 +42,7 @@ one_round false rounds = rounds
 
 -- the wait ages: it isn't of the copying of rows, which has coordinator 0, and has not come to eight rounds
 abbrev pub ages : Wait → Bool
-ages wait = nat_lt 0 wait.tx.tc && nat_lt wait.rounds ROUNDS
+ages wait = nat_lt 0 wait.tx.tc && is_open wait
 
 -- the wait, one round later
 abbrev pub aged : Wait → Wait

@@ -1,19 +1,23 @@
 -- What goes through the locks of all keys.
-use Rattle.std.specs.Prelude.{ℕ, Bool, true, false, not, nat_lt, List, [], ◌∷◌, map, Option, None, Some}
+use Rattle.std.specs.Prelude.{ℕ, Bool, true, false, not, List, [], ◌∷◌, filter, map, Option, None, Some}
 use Rattle.std.specs.FinMap.{from_entries, entries}
 use Rattle.sig_core.specs.declared.member.TxId.{TxId}
 use Rattle.row_locks.specs.declared.claim.Wait.{Wait}
-use Rattle.row_locks.specs.declared.queue.TheConstants.{ROUNDS}
+use Rattle.row_locks.specs.Queues.{is_open}
 use Rattle.row_locks.specs.Rows.{RowLock, unqueued, grown_old}
-use Rattle.row_locks.specs.Tables.{Locks}
+use Rattle.row_locks.specs.Tables.{Locks, is_idle}
 
 -- the locks of the same keys, each changed by f
 abbrev pub map_locks : (RowLock → RowLock) → Locks → Locks
 map_locks f locks = from_entries (map (λ e. (e.0, f e.1)) (entries locks))
 
--- nobody waits for any key
+-- somebody holds the lock of the entry, or waits for it
+abbrev pub is_used : List ℕ × RowLock → Bool
+is_used e = not (is_idle e.1)
+
+-- nobody waits for any key, and a key that nobody holds isn't there
 abbrev pub all_unqueued : Locks → Locks
-all_unqueued locks = map_locks unqueued locks
+all_unqueued locks = from_entries (filter is_used (map (λ e. (e.0, unqueued e.1)) (entries locks)))
 
 -- a round later
 abbrev pub round_later : Locks → Locks
@@ -21,7 +25,7 @@ round_later locks = map_locks grown_old locks
 
 -- the wait has stood at eight rounds
 abbrev pub is_expired : Wait → Bool
-is_expired wait = not (nat_lt wait.rounds ROUNDS)
+is_expired wait = not (is_open wait)
 
 -- this transaction where it is so, and else what the rest gives
 abbrev pub found_if : Bool → TxId → Option TxId → Option TxId

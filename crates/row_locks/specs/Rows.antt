@@ -1,5 +1,5 @@
 -- The lock of one row: who holds it and who waits, and what each call makes of it.
-use Rattle.std.specs.Prelude.{ℕ, ◌+◌, Bool, true, false, List, [], ◌∷◌, ◌++◌}
+use Rattle.std.specs.Prelude.{ℕ, ◌+◌, Bool, true, false, ◌&&◌, List, [], ◌∷◌, ◌++◌}
 use Rattle.sig_core.specs.declared.member.TxId.{TxId}
 use Rattle.row_locks.specs.declared.mode.Mode.{Mode}
 use Rattle.row_locks.specs.declared.mode.Lock.{Lock}
@@ -7,7 +7,7 @@ use Rattle.row_locks.specs.declared.mode.Lock.TheVariants.{Granted, Queued}
 use Rattle.row_locks.specs.declared.claim.Holder.{Holder}
 use Rattle.row_locks.specs.declared.claim.Wait.{Wait}
 use Rattle.row_locks.specs.Holders.{others, agrees_with, holds, holds_enough, hold, first_other}
-use Rattle.row_locks.specs.Queues.{wait_of, waits, without, raised, aged_all}
+use Rattle.row_locks.specs.Queues.{wait_of, waits, without, raised, aged_all, is_open}
 
 -- the lock of a row
 pub record RowLock : Type 0 where
@@ -28,16 +28,20 @@ pub record Asked : Type 0 where
   pub lock : RowLock
   pub answer : Lock
 
--- the first in the queue is served and then the rest, where it agrees with all other holders; else nobody is
+-- a waiter is granted the lock once it stands first: its wait is open, and it agrees with all other holders
+abbrev pub may_hold : Wait → List Holder → Bool
+may_hold wait holders = is_open wait && agrees_with wait.tx wait.mode holders
+
+-- the first in the queue is served and then the rest, where it may hold the lock; else nobody is
 abbrev pub served_if : Bool → Served → Served → Served
 served_if true one other = one
 served_if false one other = other
 
--- the queue is served in order: while the first waiter agrees with all other holders it becomes the last holder. `granted` were so before
+-- the queue is served in order: while the first waiter may hold the lock it becomes the last holder. `granted` were so before
 abbrev pub served : ℕ → List Holder → List Wait → Served
 served granted holders [] = record { lock = record { holders = holders; queue = [] }; granted = granted }
 served granted holders (wait ∷ queue) =
-    served_if (agrees_with wait.tx wait.mode holders)
+    served_if (may_hold wait holders)
     (served (granted + 1) (hold wait.tx wait.mode holders) queue)
     (record { lock = record { holders = holders; queue = wait ∷ queue }; granted = granted })
 

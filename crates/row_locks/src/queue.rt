@@ -1,6 +1,6 @@
 //! The queue of a lock.
 ghost use Rattle.std.specs.Prelude.{◌≡◌, ◌≤◌, length};
-ghost use Rattle.row_locks.specs.Queues.{waits, without, raised, raised_if, aged, ages, aged_all};
+ghost use Rattle.row_locks.specs.Queues.{waits, without, raised, raised_if, aged, ages, aged_all, is_open};
 ghost use Rattle.sig_core.specs.Same.{same_tx};
 ghost use Rattle.row_locks.specs.Rounds.{first_expired, is_expired};
 
@@ -73,7 +73,7 @@ fn age(wait: &mut Wait)
 fn ages(wait: Wait) -> bool
     ensures { result ≡ ages wait }
 {
-    0 < wait.tx.tc && wait.rounds < ROUNDS
+    0 < wait.tx.tc && is_open(wait)
 }
 
 /// Who waits first of those that have stood at eight rounds.
@@ -92,5 +92,12 @@ pub fn first_expired(queue: &[Wait]) -> Option<TxId>
 fn is_expired(wait: Wait) -> bool
     ensures { result ≡ is_expired wait }
 {
-    ROUNDS <= wait.rounds
+    !is_open(wait)
+}
+
+/// Whether a wait has not stood at eight rounds.
+pub fn is_open(wait: Wait) -> bool
+    ensures { result ≡ is_open wait }
+{
+    wait.rounds < ROUNDS
 }

@@ -2,16 +2,18 @@
 ghost use Rattle.std.specs.Prelude.{◌≡◌, ◌≤◌, ◌+◌, ◌++◌, true, length, map, take, drop};
 ghost use Rattle.std.specs.Vec.{vec_capacity};
 ghost use Rattle.row_locks.specs.Orderly.{are_waiting_once, none_has_enough};
-ghost use Rattle.row_locks.specs.Rows.{served};
+ghost use Rattle.row_locks.specs.Rows.{may_hold, served};
 ghost use Rattle.row_locks.specs.Serving.{granted_to, shared_run};
 
 use crate::claim::{Holder, Wait};
 use crate::holders::{agrees_with, hold};
 use crate::mode::{Mode, is_shared};
+use crate::queue::is_open;
 
 /// Serves the queue in order, and answers how many became holders: these are the last ones. Takes
 /// no memory. If the first request is exclusive, it alone can be granted, and if it is shared, all
-/// shared requests that stand first can; so each list is gone through only a few times.
+/// shared requests that stand first and are open can; so each list is gone through only a few
+/// times.
 pub fn serve(holders: &mut Vec<Holder>, queue: &mut Vec<Wait>) -> usize
     requires room { length holders.old.items + length queue.old.items ≤ vec_capacity holders.old }
     requires once { are_waiting_once queue.old.items ≡ true }
@@ -25,7 +27,7 @@ pub fn serve(holders: &mut Vec<Holder>, queue: &mut Vec<Wait>) -> usize
         return 0;
     }
     let first = queue[0];
-    if !agrees_with(first.tx, first.mode, holders) {
+    if !may_hold(first, holders) {
         return 0;
     }
     match first.mode {
@@ -36,6 +38,13 @@ pub fn serve(holders: &mut Vec<Holder>, queue: &mut Vec<Wait>) -> usize
             1
         }
     }
+}
+
+// Whether a waiter that stands first is granted the lock.
+fn may_hold(wait: Wait, holders: &[Holder]) -> bool
+    ensures { result ≡ may_hold wait holders.now }
+{
+    is_open(wait) && agrees_with(wait.tx, wait.mode, holders)
 }
 
 // Grants the shared requests that stand first, of transactions that hold nothing.
@@ -52,11 +61,14 @@ fn share(holders: &mut Vec<Holder>, queue: &mut Vec<Wait>) -> usize
     granted
 }
 
-// How many shared requests stand first.
+// How many shared requests that are open stand first.
 fn shared_run(queue: &[Wait]) -> usize
     ensures { result ≡ shared_run queue.now }
 {
-    queue.iter().take_while(|wait| is_shared(wait.mode)).count()
+    queue
+        .iter()
+        .take_while(|wait| is_open(**wait) && is_shared(wait.mode))
+        .count()
 }
 
 // Makes each of these the last holder in turn. Takes no memory.

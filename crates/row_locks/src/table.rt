@@ -156,13 +156,13 @@ impl LockTable {
     }
 }
 
-// Takes every waiter out of every queue.
+// Takes every waiter out of every queue, and removes the keys that nobody holds.
 fn clear_queues(rows: &mut BTreeMap<Key, Row>)
     ensures { locks_of rows.new ≡ all_unqueued (locks_of rows.old) }
 {
     rows.retain(|_, row| {
         row.clear_queue();
-        true
+        !row.is_idle()
     });
 }
 

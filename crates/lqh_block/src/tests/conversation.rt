@@ -174,12 +174,83 @@ fn waits_end_after_eight_rounds(rt: HostRuntime) -> Result<(), Fail> {
     let lines = [
         (
             Heard::Round,
-            "tc1 refuse 2 a timeout, lqh1 granted, lqh1 expired, expired 2 a",
+            "tc1 refuse 2 a timeout, lqh1 expired, expired 2 a",
+        ),
+        (
+            Heard::Expired,
+            "tc1 refuse 3 a timeout, lqh1 expired, expired 3 a",
         ),
         (Heard::Expired, "tc1 refuse 4 a timeout, expired 4 a"),
         (Heard::Expired, ""),
+        (Heard::Granted, ""),
+        (Heard::Round, ""),
+    ];
+    talk(&rt, alloc, &mut lqh, &lines)
+}
+
+#[test]
+fn a_younger_wait_is_granted_behind_those_that_end(rt: HostRuntime) -> Result<(), Fail> {
+    let alloc = rt.alloc();
+    let mut lqh = node(alloc, MapRows::new(alloc), CountJournal::new())?;
+    let lines = [
+        (Heard::Get(1, b'a'), "tc1 answer 1 a missing"),
+        (Heard::Put(2, b'a', b'x'), ""),
+        (Heard::Round, ""),
+        (Heard::Get(3, b'a'), ""),
+    ];
+    talk(&rt, alloc, &mut lqh, &lines)?;
+    for _ in 0..6u8 {
+        talk(&rt, alloc, &mut lqh, &[(Heard::Round, "")])?;
+    }
+    let lines = [
+        (
+            Heard::Round,
+            "tc1 refuse 2 a timeout, lqh1 granted, expired 2 a",
+        ),
         (Heard::Granted, "tc1 answer 3 a missing"),
         (Heard::Round, ""),
+    ];
+    talk(&rt, alloc, &mut lqh, &lines)
+}
+
+#[test]
+fn nobody_is_granted_a_wait_of_eight_rounds(rt: HostRuntime) -> Result<(), Fail> {
+    let alloc = rt.alloc();
+    let mut lqh = node(alloc, MapRows::new(alloc), CountJournal::new())?;
+    let lines = [
+        (Heard::Put(1, b'a', b'x'), "lqh2 store 1 at 1, prepared 1 a"),
+        (Heard::Put(2, b'b', b'x'), "lqh2 store 2 at 1, prepared 2 b"),
+        (Heard::Put(3, b'c', b'x'), "lqh2 store 3 at 1, prepared 3 c"),
+        (Heard::Put(2, b'a', b'y'), ""),
+        (Heard::Put(1, b'b', b'y'), ""),
+        (Heard::Put(1, b'c', b'y'), ""),
+    ];
+    talk(&rt, alloc, &mut lqh, &lines)?;
+    for _ in 0..7u8 {
+        talk(&rt, alloc, &mut lqh, &[(Heard::Round, "")])?;
+    }
+    let lines = [
+        (
+            Heard::Round,
+            "tc1 refuse 2 a timeout, lqh1 expired, expired 2 a",
+        ),
+        // who held the others' keys lets go before their waits are told
+        (Heard::Abort(2, b'b'), "tc1 aborted 2 b, done 2 b"),
+        (Heard::Get(4, b'b'), ""),
+        (Heard::Commit(3, b'c', 0), "tc1 committed 3 c, applied 3 c"),
+        (Heard::Granted, ""),
+        (
+            Heard::Expired,
+            "tc1 refuse 1 b timeout, lqh1 granted, lqh1 expired, expired 1 b",
+        ),
+        // aborted before it is told: refused once
+        (
+            Heard::Abort(1, b'c'),
+            "tc1 refuse 1 c request, tc1 aborted 1 c",
+        ),
+        (Heard::Expired, ""),
+        (Heard::Granted, "tc1 answer 4 b missing"),
+        (Heard::Granted, ""),
     ];
     talk(&rt, alloc, &mut lqh, &lines)
 }

@@ -32,7 +32,8 @@ impl PlainLock {
         }
     }
 
-    /// Whom a waiter waits for: the first holder that isn't it.
+    /// Whom a waiter waits for: the first holder that isn't it. Where there is none, a waiter with
+    /// eight rounds stands first, and the waiter itself is named.
     pub fn ahead(&self, tx: TxId) -> Option<TxId> {
         if !self.is_waiting(tx) {
             return None;
@@ -42,7 +43,7 @@ impl PlainLock {
                 return Some(holder.0);
             }
         }
-        None
+        Some(tx)
     }
 
     /// The first waiter with eight rounds.
@@ -117,15 +118,16 @@ impl PlainLock {
         }
     }
 
-    // While the first waiter agrees with all other holders it becomes the last holder.
+    // While the first waiter has fewer than eight rounds and agrees with all other holders it
+    // becomes the last holder.
     fn serve(&mut self) -> Result<usize, AllocError> {
         let most = self.waiters.len();
         for granted in 0..most {
             if self.waiters.is_empty() {
                 return Ok(granted);
             }
-            let (tx, mode, _) = self.waiters[0];
-            if !self.agrees(tx, mode) {
+            let (tx, mode, rounds) = self.waiters[0];
+            if rounds == 8 || !self.agrees(tx, mode) {
                 return Ok(granted);
             }
             self.waiters.remove(0);

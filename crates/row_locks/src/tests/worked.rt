@@ -119,3 +119,27 @@ fn waits_age_to_eight_rounds(rt: HostRuntime) -> Result<(), Fail> {
     assert_eq!(rt; locks.expired(), None);
     Ok(())
 }
+
+#[test]
+fn who_stood_eight_rounds_is_not_granted(rt: HostRuntime) -> Result<(), Fail> {
+    let key = Key::new(b"a")?;
+    let mut locks = LockTable::new(rt.alloc())?;
+    locks.request(tx(1), &key, Mode::Exclusive)?;
+    locks.request(tx(2), &key, Mode::Shared)?;
+    locks.age_round();
+    locks.request(tx(3), &key, Mode::Shared)?;
+    for _ in 0..7 {
+        locks.age_round();
+    }
+    assert_eq!(rt; locks.release(tx(1), &key), 0);
+    assert_eq!(rt; locks.holder(&key, 0), None);
+    assert_eq!(rt; locks.expired(), Some((tx(2), &key)));
+    assert_eq!(rt;
+        locks.request(tx(4), &key, Mode::Shared)?,
+        Lock::Queued { ahead: tx(4) }
+    );
+    assert_eq!(rt; locks.unwait(tx(2), &key), 2);
+    assert_eq!(rt; locks.holder(&key, 0), Some(tx(3)));
+    assert_eq!(rt; locks.holder(&key, 1), Some(tx(4)));
+    Ok(())
+}

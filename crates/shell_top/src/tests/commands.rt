@@ -7,7 +7,7 @@ use std::test::Fail;
 use std::thread::Threads;
 
 // Each script, and what it prints until it ends at the end of its input.
-const CONVERSATIONS: [(&[u8], &[u8]); 13] = [
+const CONVERSATIONS: [(&[u8], &[u8]); 14] = [
     // a put reaches both replicas
     (
         b"put a 1\nrows 1\nrows 2\n",
@@ -27,6 +27,11 @@ const CONVERSATIONS: [(&[u8], &[u8]); 13] = [
     (
         b"begin 1\nbegin 2\n@1 put a 1\n@2 put d 1\n@1 put d 2\ntick 1\n@2 put a 2\ntick 6\ntick 1\ncommit 2\nrows 1\n",
         b"@1 begun 1\n@2 begun 1\n@1 ok\n@2 ok\n@1 pending held by @2\nticked 1\n@2 pending held by @1\nticked 6\nticked 1\n@1 aborted 266 time-out\n@2 ok\n@2 committed 1\na 2\nd 1\nnode 1 rows 2\n",
+    ),
+    // of three in a circle each ends, whatever else they touched
+    (
+        b"begin 1\nbegin 2\nbegin 3\n@1 put a 1\n@2 put b 1\n@3 put c 1\n@1 put b 2\n@2 put c 2\n@3 put a 2\ntick 8\nrows 1\nrows 2\n",
+        b"@1 begun 1\n@2 begun 1\n@3 begun 1\n@1 ok\n@2 ok\n@3 ok\n@1 pending held by @2\n@2 pending held by @3\n@3 pending held by @1\nticked 8\n@1 aborted 266 time-out\n@2 aborted 266 time-out\n@3 aborted 266 time-out\nnode 1 rows 0\nnode 2 rows 0\n",
     ),
     // aborted by request
     (

@@ -1,6 +1,6 @@
 use Rattle.std.proofs.Common.{◌≡◌, ◌<◌, ◌++◌, true, length, map, take, drop, arith, ap, sym, ◌∙◌, zero-add}
 use Rattle.std.proofs.lemmas.Grind.{common_steps}
-use Rattle.row_locks.specs.Holders.{agrees_with}
+use Rattle.row_locks.specs.Rows.{may_hold}
 use Rattle.row_locks.specs.Serving.{granted_to, shared_run}
 use Rattle.row_locks.proofs.ServingLemmas.{served-shared, served-exclusive}
 use Rattle.row_locks.proofs.serving.serve.Goals as goal
@@ -12,7 +12,7 @@ returns-in-Shared c =
     let ws = c.args.queue.now.items in
     let w = c.index-first.result.now in
     let some : 0 < length ws = grind (arith, common_steps) in
-    let may : agrees_with w.tx w.mode hs ≡ true = grind (arith, common_steps) in
+    let may : may_hold w hs ≡ true = grind (arith, common_steps) in
     let all = served-shared hs ws w some c.index-first.ensures c.in-Shared.is may c.requires.once c.requires.in_need in
     record {
       holders = c.share.ensures.holders ∙ ap (λ n. hs ++ map granted_to (take n ws)) c.share.ensures.granted ∙ sym (ap (λ s. s.lock.holders) all);
@@ -28,7 +28,7 @@ returns-in-Exclusive c =
     let ws = c.args.queue.now.items in
     let w = c.index-first.result.now in
     let some : 0 < length ws = grind (arith, common_steps) in
-    let may : agrees_with w.tx w.mode hs ≡ true = grind (arith, common_steps) in
+    let may : may_hold w hs ≡ true = grind (arith, common_steps) in
     let one = served-exclusive hs ws w some c.index-first.ensures c.in-Exclusive.is may c.requires.once in
     record {
       holders = c.hold.ensures.holders ∙ sym (ap (λ s. s.lock.holders) one);
