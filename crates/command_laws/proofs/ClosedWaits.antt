@@ -80,7 +80,7 @@ served_open granted holders (w ∷ queue) none =
 
     by : (b : Bool) → some_closed next.lock.queue ≡ false
         → some_closed (served_if b next
-            (record { lock = record { holders = holders; queue = w ∷ queue }; granted = granted })).lock.queue ≡ false
+        (record { lock = record { holders = holders; queue = w ∷ queue }; granted = granted })).lock.queue ≡ false
     by true rest = rest
     by false rest = none
 
@@ -231,8 +231,8 @@ module _ (key : List ℕ) where
   asked_stays s r none =
       ap (λ (l : RowLock). some_closed l.queue) (lock-inserted s.locks (work_key r.work) key (operate.asking s r).lock)
       ∙ lock_stays s.locks (work_key r.work) (operate.asking s r).lock
-          (asked_open (lock_at s.locks (work_key r.work)) r.tx (work_mode r.work)) none
-          (same_key (work_key r.work) key) refl
+      (asked_open (lock_at s.locks (work_key r.work)) r.tx (work_mode r.work)) none
+      (same_key (work_key r.work) key) refl
 
   -- the first wait that is over ends
   expires : (s t : LqhState) → t.node ≡ s.node → (body : Body) → ExpireForms (GoesOver s body) t
@@ -247,8 +247,8 @@ module _ (key : List ℕ) where
       one : (other : TxId) (at_key : List ℕ) (left : List Request)
           → is_closed (with_lock t at_key (unwaited_at t.locks at_key other)).locks ≡ true
           → ((is_closed s.locks ≡ true) × (is_timer body ≡ false))
-              ⊎ (1 ≤ goes_over s.node
-                  (expiring t other at_key (unwaited_at t.locks at_key other) left).effects.sends)
+          ⊎ (1 ≤ goes_over s.node
+          (expiring t other at_key (unwaited_at t.locks at_key other) left).effects.sends)
       one other at_key left closed =
           let sv = unwaited_at t.locks at_key other in
           let u = with_lock t at_key sv in

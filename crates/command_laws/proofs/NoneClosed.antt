@@ -60,7 +60,7 @@ module _ (start : Start) (key : List ℕ) (node : ℕ) (some_node : 1 ≤ node) 
           → (host_for start to == rows_host start node) ≡ true
       at_self to (body.Host (Continue work.Expired at)) e =
           eq-eqb _ _ (ap (host_for start) (rows_place to (left_of (is_lqh to.block) (to.node == node) e))
-              ∙ ap (rows_host start) (eqb-true to.node node (right_of (is_lqh to.block) (to.node == node) e)))
+          ∙ ap (rows_host start) (eqb-true to.node node (right_of (is_lqh to.block) (to.node == node) e)))
       at_self to _ e = cc
 
       one : (to : Place) (body : Body) (b : Bool) → is_over key node to body ≡ b
@@ -68,8 +68,12 @@ module _ (start : Start) (key : List ℕ) (node : ℕ) (some_node : 1 ≤ node) 
           ≤ one_if ((host_for start to == rows_host start node) && is_over key node to body)
       one to body false e = omega (arith, ap one_if e)
       one to body true e =
-          omega (arith, ap one_if e, ap one_if (true_and (host_for start to == rows_host start node)
-              (is_over key node to body) (at_self to body e) e))
+          omega (
+            arith,
+            ap one_if e,
+            ap one_if (true_and (host_for start to == rows_host start node)
+                (is_over key node to body) (at_self to body e) e),
+          )
 
   -- the host of the node's rows, and the signals by which they go on
   abbrev at : ℕ
@@ -111,8 +115,12 @@ module _ (start : Start) (key : List ℕ) (node : ℕ) (some_node : 1 ≤ node) 
 
       sent_now : over_sent (logs at) + goes_over key node (step_after start at (logs at) e).effects.sends
           ≤ over_sent (now at)
-      sent_now = omega (arith, ap over_sent g.own, sent_signals start (is_over key node) at at e (logs at),
-          over_own (step_after start at (logs at) e).effects.sends)
+      sent_now = omega (
+        arith,
+        ap over_sent g.own,
+        sent_signals start (is_over key node) at at e (logs at),
+        over_own (step_after start at (logs at) e).effects.sends,
+      )
 
       taken_now : over_taken (now at)
           ≡ one_if (is_from (machine start) at e && is_over key node e.step.taken.to e.step.taken.body)
@@ -129,15 +137,23 @@ module _ (start : Start) (key : List ℕ) (node : ℕ) (some_node : 1 ≤ node) 
         where
           by : (b : Bool) → is_from (machine start) at e ≡ b → over_taken (now at) ≤ over_sent (logs at)
           by false f =
-              omega (arith, taken_now, ap (λ b. one_if (b && is_over key node e.step.taken.to e.step.taken.body)) f,
-                  few_taken start logs g.before (is_over key node) at at)
+              omega (
+                arith,
+                taken_now,
+                ap (λ b. one_if (b && is_over key node e.step.taken.to e.step.taken.body)) f,
+                few_taken start logs g.before (is_over key node) at at,
+              )
           by true f = which (is_over key node e.step.taken.to e.step.taken.body) refl
             where
               which : (c : Bool) → is_over key node e.step.taken.to e.step.taken.body ≡ c
                   → over_taken (now at) ≤ over_sent (logs at)
               which false m =
-                  omega (arith, taken_now, off_taken (is_from (machine start) at e) m,
-                      few_taken start logs g.before (is_over key node) at at)
+                  omega (
+                    arith,
+                    taken_now,
+                    off_taken (is_from (machine start) at e) m,
+                    few_taken start logs g.before (is_over key node) at at,
+                  )
               which true m = flow_grows start (is_over key node) logs now at e g
                   (plain_over e.step.taken.to e.step.taken.body m) m f
 
@@ -154,14 +170,20 @@ module _ (start : Start) (key : List ℕ) (node : ℕ) (some_node : 1 ≤ node) 
           )
       finish (inl step) =
           by ((rows_go_over key s e.step.taken.body).closes
-              (ap (λ (u : LqhState). is_closed key u.locks) (sym step.state) ∙ is))
+          (ap (λ (u : LqhState). is_closed key u.locks) (sym step.state) ∙ is))
         where
           by : ((is_closed key s.locks ≡ true) × (is_timer key e.step.taken.body ≡ false))
               ⊎ (1 ≤ goes_over key s.node (lqh_table s e.step.taken.body).effects.sends)
               → over_taken (now at) + 1 ≤ over_sent (now at)
           by (inl p) =
-              omega (arith, sent_now, taken_now, off_taken (is_from (machine start) at e)
-                  (still (is_over key node e.step.taken.to e.step.taken.body) refl), k p.0)
+              omega (
+                arith,
+                sent_now,
+                taken_now,
+                off_taken (is_from (machine start) at e)
+                    (still (is_over key node e.step.taken.to e.step.taken.body) refl),
+                k p.0,
+              )
             where
               still : (b : Bool) → is_over key node e.step.taken.to e.step.taken.body ≡ b
                   → is_over key node e.step.taken.to e.step.taken.body ≡ false
@@ -203,5 +225,8 @@ module _ (start : Start) (key : List ℕ) (node : ℕ) (some_node : 1 ≤ node) 
       by : (b : Bool) → closed (logs at) ≡ b → closed (logs at) ≡ false
       by false is = is
       by true is =
-          absurd (omega (arith, along start GoesOnClosed first step logs quiet.within quiet.right is,
-              ap (signals (is_over key node)) (quiet.quiet at at low low)))
+          absurd (omega (
+            arith,
+            along start GoesOnClosed first step logs quiet.within quiet.right is,
+            ap (signals (is_over key node)) (quiet.quiet at at low low),
+          ))

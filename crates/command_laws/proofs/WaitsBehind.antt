@@ -64,7 +64,7 @@ behind_locks : (locks : Locks) (key : List ℕ) (tx who : TxId) → AreOrderly l
 behind_locks locks key tx who orderly none is = by (waits tx (lock_at locks key).queue) refl is
   where
     apart : same_tx who tx ≡ false
-    apart = subst (λ o. IfSome o (λ ahead. same_tx ahead tx ≡ false)) is 
+    apart = subst (λ o. IfSome o (λ ahead. same_tx ahead tx ≡ false)) is
         (ahead_is_other locks key tx orderly (first_open (lock_at locks key).queue none))
 
     by : (b : Bool) → waits tx (lock_at locks key).queue ≡ b → some_if b (first_other tx (lock_at locks key).holders) ≡ Some who → IsBehind tx who key locks
@@ -181,7 +181,7 @@ module _ (start : Start) (was mid : ℕ → List HostStep) (tx who : TxId) (befo
                 key = found.key;
                 behind = subst (λ h. IsBehindAt tx who found.key (after start h (mid h))) n.is
                     (behind_now (subst (λ h. is_closed found.key (lqh_of (after start h (was h))).locks ≡ false)
-                        (sym n.is) (none_closed start found.key n.node n.some n.low was before)));
+                    (sym n.is) (none_closed start found.key n.node n.some n.low was before)));
               }
           there (inr high) = absurd (some_step b.front b.step b.back (sym b.is ∙ front_nil (cut (suc k)).newer (was (suc k)) (sym (since.within (suc k) high) ∙ (cut (suc k)).is)))
 

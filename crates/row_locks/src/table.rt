@@ -129,8 +129,8 @@ impl LockTable {
         }
     }
 
-    /// Takes every waiter out of every queue, and grants nothing. Goes through all keys, and takes
-    /// no memory.
+    /// Takes every waiter out of every queue, and grants nothing; keys that nobody holds go with
+    /// their waiters. Goes through all keys, and takes no memory.
     pub fn unwait_all(&mut self)
         ensures { self.new ≡ all_unqueued self.old }
     {
