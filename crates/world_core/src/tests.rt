@@ -47,7 +47,7 @@ fn a_step_that_was_asked_for_is_in_the_log(rt: HostRuntime) -> Result<(), Fail> 
     let shell = logs.get(0).ok_or("the shell's host has no log")?;
     let first = shell.steps.as_slice().get(0).ok_or("there is no step")?;
     assert_eq!(rt; first.stamp, 1);
-    assert_eq!(rt; first.taken.to.node, 0);
+    assert_eq!(rt; first.taken.get().to.node, 0);
     Ok(())
 }
 
