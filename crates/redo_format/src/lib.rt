@@ -1,0 +1,14 @@
+//! The bytes of redo records, both ways.
+#![tactic(auto)]
+
+mod decoding;
+mod encoding;
+mod fault;
+mod reading;
+
+pub use decoding::decode;
+pub use encoding::{encode, size_of};
+pub use fault::FormatFault;
+
+#[cfg(test)]
+mod tests;
