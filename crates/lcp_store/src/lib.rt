@@ -1,0 +1,15 @@
+//! The bytes of checkpoints, both ways: rows of two versions, the later with row epochs.
+#![tactic(auto)]
+
+mod field;
+mod row;
+mod rows;
+mod write;
+
+pub use row::{ROW_BYTES, StoredRow, Version, row_in};
+pub use rows::{CheckpointFault, rows_in};
+pub use write::{put_head, put_row, put_row2};
+
+
+#[cfg(test)]
+mod tests;

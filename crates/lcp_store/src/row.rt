@@ -1,0 +1,45 @@
+//! One row of a checkpoint.
+ghost use Rattle.std.specs.Prelude.{◌≡◌, ◌≤◌, length, MatchResult};
+ghost use Rattle.lcp_store.specs.Reading.{row_in};
+
+use crate::field::{epoch_in, key_in, value_in};
+use sig_core::{Key, Value};
+
+/// The most bytes that a row of a checkpoint takes. The fewest are two.
+pub const ROW_BYTES: usize = 242;
+
+/// How the rows of a checkpoint are written.
+#[derive(Clone, Copy, Debug, PartialEq, Eq)]
+pub enum Version {
+    /// Key and value. No head stands in front.
+    First,
+    /// Key, row epoch and value, behind a head.
+    Second,
+}
+
+/// A row as a checkpoint has it.
+#[derive(Clone, Copy, Debug, PartialEq, Eq)]
+pub struct StoredRow {
+    pub key: Key,
+    /// The epoch of the entry that wrote the row. Version 1 has none.
+    pub epoch: Option<u64>,
+    pub value: Value,
+}
+
+/// The row in front of the bytes, and how many bytes it takes, 2 to `ROW_BYTES`. `saved` is the
+/// saved epoch of the slot that names the checkpoint.
+///
+/// # Errors
+/// How many of the bytes are left from the first on that fits no row: 0 where a row is cut short.
+/// Of a row epoch above the saved one the first byte is meant.
+#[tactic(auto, unfolding(crate::specs::Reading::row_in))]
+pub fn row_in(version: Version, saved: u64, bytes: &[u8]) -> Result<(StoredRow, usize), usize>
+    ensures told { result ≡ row_in version saved bytes.now }
+    ensures within { MatchResult result (λ found. (1 ≤ found.1) × (found.1 ≤ length bytes.now)) (λ left. left ≤ length bytes.now) }
+{
+    let (key, key_end) = key_in(bytes)?;
+    let (epoch, epoch_len) = epoch_in(version, saved, &bytes[key_end..])?;
+    let epoch_end = key_end + epoch_len;
+    let (value, value_len) = value_in(&bytes[epoch_end..])?;
+    Ok((StoredRow { key, epoch, value }, epoch_end + value_len))
+}

@@ -1,0 +1,67 @@
+//! The rows of a checkpoint.
+ghost use Rattle.std.specs.Prelude.{◌≡◌, ◌≤◌, length, MatchResult};
+ghost use Rattle.lcp_store.specs.Reading.{Reads, damage, version_in};
+
+use crate::row::{Version, row_in};
+use sig_core::Table;
+use std::alloc::Global;
+
+/// Why the rows of a checkpoint aren't read.
+#[derive(Clone, Copy, Debug, PartialEq, Eq)]
+pub enum CheckpointFault {
+    /// The byte at place `at` is the first that fits no checkpoint. Where the bytes end within a
+    /// row or within the head, `at` is their number, and `byte` is 0.
+    Damaged { at: usize, byte: u8 },
+    NoMemory,
+}
+
+/// The rows of a checkpoint of either version. Of the rows of one key the last counts. `saved` is
+/// the saved epoch of the slot that names the checkpoint.
+///
+/// # Errors
+/// `Damaged` exactly where the bytes are no checkpoint, or have a row epoch above the saved one;
+/// `NoMemory`.
+#[tactic(auto, using(crate::proofs::RowsLemmas::reading))]
+pub fn rows_in(alloc: Global, saved: u64, bytes: &[u8]) -> Result<Table, CheckpointFault>
+    ensures { Reads saved bytes.now result }
+{
+    let (version, head) = match version_in(bytes) {
+        Ok(found) => found,
+        Err(left) => return Err(damage(bytes, left)),
+    };
+    let mut rest = &bytes[head..];
+    let mut rows = Table::new(alloc);
+    'rows: while !rest.is_empty() {
+        match row_in(version, saved, rest) {
+            Ok((row, taken)) => match rows.insert(row.key, row.value) {
+                Ok(()) => rest = &rest[taken..],
+                Err(_) => return Err(CheckpointFault::NoMemory),
+            },
+            Err(left) => return Err(damage(bytes, left)),
+        }
+    }
+    Ok(rows)
+}
+
+// The version of a checkpoint, and how many bytes tell it.
+#[tactic(auto, unfolding(crate::specs::Reading::version_in))]
+fn version_in(bytes: &[u8]) -> Result<(Version, usize), usize>
+    ensures told { result ≡ version_in bytes.now }
+    ensures within { MatchResult result (λ found. found.1 ≤ length bytes.now) (λ left. left ≤ length bytes.now) }
+{
+    match bytes {
+        [0, 2, ..] => Ok((Version::Second, 2)),
+        [0, ..] => Err(bytes.len() - 1),
+        _ => Ok((Version::First, 0)),
+    }
+}
+
+// The byte that doesn't fit, where so many are left from it on.
+fn damage(bytes: &[u8], left: usize) -> CheckpointFault
+    requires { left ≤ length bytes.now }
+    ensures { result ≡ damage bytes.now left }
+{
+    let at = bytes.len() - left;
+    let byte = if at < bytes.len() { bytes[at] } else { 0 };
+    CheckpointFault::Damaged { at, byte }
+}
