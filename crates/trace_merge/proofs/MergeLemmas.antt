@@ -56,6 +56,9 @@ le_self n = omega arith
 at_front : (i : ℕ) → i ≤ 0 → i ≡ 0
 at_front i le = omega (arith, le)
 
+more_is : (n : ℕ) → n + 1 ≡ suc n
+more_is n = omega arith
+
 from_front : (i : ℕ) → i ≡ 0 + i
 from_front i = omega arith
 
@@ -108,7 +111,8 @@ climbs xs sorted i (suc j) d le lt = go (cases_eq i (suc j)) (λ below. climbs x
     next =
         let a = slice_index_or xs (j + 1) d in
         let b = slice_index_or xs j d in
-        not_before a.stamp b.stamp a.host.0 b.host.0 a.step b.step (sorted j d (omega arith) (omega (arith, lt)))
+        subst (λ k. (slice_index_or xs j d).stamp ≤ (slice_index_or xs k d).stamp) (more_is j)
+            (not_before a.stamp b.stamp a.host.0 b.host.0 a.step b.step (sorted j d (omega arith) (omega (arith, lt))))
 
     go : (i ≡ suc j) ⊎ (i ≢ suc j) → (i ≤ j → (slice_index_or xs i d).stamp ≤ (slice_index_or xs j d).stamp) → (slice_index_or xs i d).stamp ≤ (slice_index_or xs (suc j) d).stamp
     go (inl is) rest = subst (λ k. (slice_index_or xs i d).stamp ≤ (slice_index_or xs k d).stamp) is (le_self (slice_index_or xs i d).stamp)
