@@ -1,0 +1,67 @@
+-- Whether a cut, given by how many steps of each log are inside, is closed.
+use Rattle.std.specs.Prelude.{◌≡◌, ◌≤◌, ◌&&◌, ◌||◌, not, nat_lt, ℕ, ◌+◌, Bool, List, [], ◌∷◌, length, map, reverse, slice_index_or, take, if◌then◌else◌, Option, None, Some, Result, Ok, Err}
+use Rattle.api_block.specs.Requests.{is_request}
+use Rattle.sig_core.specs.declared.log.HostLog.{HostLog}
+use Rattle.sig_core.specs.declared.log.LogStep.{LogStep}
+use Rattle.world_core.specs.Steps.{HostStep}
+use Rattle.world_core.specs.World.{no_steps, of_host, steps_of}
+use Rattle.trace_merge.specs.declared.closed.CutFault.{CutFault}
+
+-- the cut has one length for each log, at most that log's
+pub record AreLengths (logs : List HostLog) (cut : List ℕ) : Type 0 where
+  pub one_each : length cut ≡ length logs
+  pub within : (h : ℕ) → slice_index_or cut h 0 ≤ length (steps_of logs h)
+
+-- the steps of a host inside, the newest first
+abbrev pub newest_inside : List HostLog → List ℕ → ℕ → List LogStep
+newest_inside logs cut h = reverse (take (slice_index_or cut h 0) (steps_of logs h))
+
+-- the part of each log inside
+abbrev pub parts_at : List HostLog → List ℕ → ℕ → List HostStep
+parts_at logs cut h = map (of_host h) (newest_inside logs cut h)
+
+-- the stamp at which a host was made; 0 where it has no log
+abbrev pub made_at : List HostLog → ℕ → ℕ
+made_at logs h = (slice_index_or logs h (no_steps 0)).made
+
+-- the stamp of the newest of these steps, or this one where there is none
+abbrev pub newest_stamp : ℕ → List LogStep → ℕ
+newest_stamp made [] = made
+newest_stamp made (e ∷ log) = e.stamp
+
+-- the stamp of a host's last step inside, or of its making where there is none inside
+abbrev pub last_inside : List HostLog → List ℕ → ℕ → ℕ
+last_inside logs cut h = newest_stamp (made_at logs h) (newest_inside logs cut h)
+
+-- a link gave the signal of this step, and it was sent behind its sender's last step inside
+abbrev pub is_sent_outside : List HostLog → List ℕ → LogStep → Bool
+is_sent_outside logs cut e = not (is_request e.taken.body) && nat_lt (last_inside logs cut e.taken.from.0) e.taken.stamp
+
+-- so was it, or the host of this log was made behind the last step of the shell's host inside
+abbrev pub is_outside : List HostLog → List ℕ → HostLog → LogStep → Bool
+is_outside logs cut log e = nat_lt (last_inside logs cut 0) log.made || is_sent_outside logs cut e
+
+-- the first of these steps of a log, numbered from n on, that stands against the cut
+abbrev pub fault_from : List HostLog → List ℕ → HostLog → ℕ → List LogStep → Option CutFault
+fault_from logs cut log n [] = None
+fault_from logs cut log n (e ∷ steps) = if is_outside logs cut log e then Some (record { host = log.host; step = n }) else fault_from logs cut log (n + 1) steps
+
+-- the first one of a log, of which so many steps are inside
+unfoldable pub fault_in : List HostLog → List ℕ → HostLog → ℕ → Option CutFault
+fault_in logs cut log inside = fault_from logs cut log 0 (take inside log.steps)
+
+-- the former, where there is one
+abbrev pub or_later : Option CutFault → Option CutFault → Option CutFault
+or_later None later = later
+or_later (Some fault) later = Some fault
+
+-- the first one of these logs, of which so many steps are inside, log after log
+abbrev pub first_fault : List HostLog → List ℕ → List HostLog → List ℕ → Option CutFault
+first_fault logs cut [] lengths = None
+first_fault logs cut (log ∷ rest) [] = None
+first_fault logs cut (log ∷ rest) (inside ∷ lengths) = or_later (fault_in logs cut log inside) (first_fault logs cut rest lengths)
+
+-- a cut is closed where nothing stands against it
+abbrev pub cut_answer : Option CutFault → Result (Unit {0}) CutFault
+cut_answer None = Ok tt
+cut_answer (Some fault) = Err fault

@@ -1,0 +1,1 @@
+//! Merges and cuts of small logs.
