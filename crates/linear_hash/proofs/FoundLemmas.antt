@@ -97,13 +97,13 @@ place-added (first ∷ entries) entry q none =
     by false x true y false z none known = refl
     by false x false y c z none known = known none ∙ ap (λ t. cond t (Some entry.at) (place_in q entries)) z
 
+cond_alike : {A : Type 0} (b : Bool) (x : A) → x ≡ cond b x x
+cond_alike true x = refl
+cond_alike false x = refl
+
 -- after a key was taken out
 pub place-without : (entries : List Entry) (k q : List ℕ) → place_in q (without k entries) ≡ cond (same_key k q) None (place_in q entries)
-place-without [] k q = by (same_key k q)
-  where
-    by : (b : Bool) → None ≡ cond b None None
-    by true = refl
-    by false = refl
+place-without [] k q = cond_alike (same_key k q) None
 place-without (entry ∷ entries) k q =
     by (same_key entry.key k) refl (same_key k q) refl (same_key entry.key q) refl (place-without entries k q)
   where

@@ -5,13 +5,13 @@ use Rattle.std.specs.Ordering.{eq_by_cmp}
 use Rattle.std.specs.Cmp.Lexicographic.{nat_list_cmp_total}
 use Rattle.std.specs.FinMap as map
 use Rattle.std.proofs.lemmas.Bool.{cases_eq, true≢false}
-use Rattle.std.proofs.lemmas.List.{get_or-set_same, get_or-set_other, get_or_append_left, get_or_push, length-set}
+use Rattle.std.proofs.lemmas.List.{get_or-set_same, get_or-set_other, get_or_append_left, get_or_push, length-set, set-append_left}
 use Rattle.sig_core.specs.Same.{same_key}
 use Rattle.linear_hash.specs.declared.bucket.Entry.{Entry}
 use Rattle.linear_hash.specs.declared.growth.Growth.{Growth}
 use Rattle.linear_hash.specs.Growth.{IsGrowth, first_growth, grown, hash_of, home, home_of}
 use Rattle.linear_hash.specs.Entries.{part_of, place_in, without}
-use Rattle.linear_hash.specs.Places.{PlaceMap, places_of}
+use Rattle.linear_hash.specs.Places.{PlaceMap, Places, buckets_for, inserted, is_crowded, no_places, places_of, removed}
 use Rattle.linear_hash.proofs.FoundLemmas.{key_cmp, place-added, place-part, place-without, same_key-is, tie-same}
 use Rattle.linear_hash.proofs.HomeLemmas.{Comes, comes, home-below}
 use Rattle.linear_hash.proofs.HomeLemmas.Comes.{Elsewhere, Stays, Moves}
@@ -120,6 +120,16 @@ moved growth is buckets all q = by (key_comes growth is q)
         ∙ place-part (grown growth) (length buckets) (get_or buckets growth.split []) q (after ∙ sym all)
         ∙ ap (λ b. place_in q (get_or buckets b [])) (sym before)
 
+-- to add the new bucket and then to write the split one is the same
+pub split-written : (old now : List (List Entry)) (bucket : ℕ) (stays moves : List Entry) (next : Growth) → bucket < length old → now ≡ old ++ moves ∷ []
+    → stays ≡ part_of next bucket (get_or old bucket []) → moves ≡ part_of next (length old) (get_or old bucket [])
+    → set now bucket stays ≡ split_buckets next bucket old
+split-written old now bucket stays moves next inside is stays_is moves_is =
+    ap (λ bs. set bs bucket stays) is
+    ∙ set-append_left old (moves ∷ []) bucket stays inside
+    ∙ ap (λ b. set old bucket b ++ moves ∷ []) stays_is
+    ∙ ap (λ b. set old bucket (part_of next bucket (get_or old bucket [])) ++ b ∷ []) moves_is
+
 -- a split leaves the places as they are
 pub split-places : (growth : Growth) → IsGrowth growth → (buckets : List (List Entry)) → length buckets ≡ growth.size + growth.split
     → places_of (grown growth) (split_buckets (grown growth) growth.split buckets) ≡ places_of growth buckets
@@ -174,9 +184,111 @@ pub first-places : places_of first_growth ([] ∷ []) ≡ map.empty
 unfolding places_of
 first-places = refl
 
+-- so buckets begin
+pub first-view : (buckets : List (List Entry)) → buckets ≡ [] ∷ [] → ◌≡◌ {A = Places} (record { at = places_of first_growth buckets; buckets = length buckets }) no_places
+first-view buckets is =
+    let of_buckets : List (List Entry) → Places = λ bs. record { at = places_of first_growth bs; buckets = length bs } in
+    let of_map : PlaceMap → Places = λ m. record { at = m; buckets = 1 } in
+    ap of_buckets is ∙ ap of_map first-places
+
+-- two equal parts make equal places
+same_places : (a b : PlaceMap) (m n : ℕ) → a ≡ b → m ≡ n → ◌≡◌ {A = Places} (record { at = a; buckets = m }) (record { at = b; buckets = n })
+same_places a b m n at_is buckets_is = λ i. record { at = at_is i; buckets = buckets_is i }
+
+-- what buckets are seen as
+abbrev pub view_of : Growth → List (List Entry) → Places
+view_of growth buckets = record { at = places_of growth buckets; buckets = length buckets }
+
+-- after an entry was put in
+pub added-view : (growth : Growth) (buckets now : List (List Entry)) (places : Places) (entry : Entry) (bucket : ℕ) → view_of growth buckets ≡ places
+    → bucket ≡ home growth entry.key → bucket < length buckets → map.get places.at entry.key ≡ None
+    → now ≡ set buckets bucket (get_or buckets bucket [] ++ entry ∷ [])
+    → view_of growth now ≡ record { at = map.insert places.at entry.key entry.at; buckets = places.buckets }
+added-view growth buckets now places entry bucket view at inside none is =
+    let at_is : places_of growth buckets ≡ places.at = ap (λ p. p.at) view in
+    let buckets_is : length buckets ≡ places.buckets = ap (λ p. p.buckets) view in
+    same_places _ _ _ _
+    (ap (places_of growth) is
+    ∙ added-places growth buckets entry bucket at inside (ap (λ m. map.get m entry.key) at_is ∙ none)
+    ∙ ap (λ m. map.insert m entry.key entry.at) at_is)
+    (ap length is ∙ length-set buckets bucket _ ∙ buckets_is)
+
+-- after a key was taken out
+pub left-view : (growth : Growth) (buckets now : List (List Entry)) (places : Places) (k : List ℕ) (bucket : ℕ) → view_of growth buckets ≡ places
+    → bucket ≡ home growth k → bucket < length buckets → now ≡ set buckets bucket (without k (get_or buckets bucket []))
+    → view_of growth now ≡ removed places k
+unfolding removed
+left-view growth buckets now places k bucket view at inside is =
+    let at_is : places_of growth buckets ≡ places.at = ap (λ p. p.at) view in
+    let buckets_is : length buckets ≡ places.buckets = ap (λ p. p.buckets) view in
+    same_places _ _ _ _
+    (ap (places_of growth) is ∙ left-places growth buckets k bucket at inside ∙ ap (λ m. map.remove m k) at_is)
+    (ap length is ∙ length-set buckets bucket _ ∙ buckets_is)
+
+-- after a split
+pub split-view : (growth next : Growth) → IsGrowth growth → (buckets now : List (List Entry)) (places : Places) → view_of growth buckets ≡ places
+    → next ≡ grown growth → length buckets ≡ growth.size + growth.split → now ≡ split_buckets next growth.split buckets
+    → view_of next now ≡ record { at = places.at; buckets = places.buckets + 1 }
+split-view growth next sound buckets now places view next_is all is =
+    let at_is : places_of growth buckets ≡ places.at = ap (λ p. p.at) view in
+    let buckets_is : length buckets ≡ places.buckets = ap (λ p. p.buckets) view in
+    let longer : length (split_buckets next growth.split buckets) ≡ places.buckets + 1 =
+    first_of (rw length-append (rw length-set (omega (arith, buckets_is))), grind (arith, length-append, length-set, buckets_is)) in
+    same_places _ _ _ _
+    (ap (λ n. places_of n now) next_is
+    ∙ ap (places_of (grown growth)) (is ∙ ap (λ n. split_buckets n growth.split buckets) next_is)
+    ∙ split-places growth sound buckets all
+    ∙ at_is)
+    (ap length is ∙ longer)
+
 -- no places are of no keys
 pub len-none : map.len (map.empty {X = ℕ} {R = key_cmp}) ≡ 0
 len-none = map.len-empty key_cmp ℕ
 
 pub ruleset steps = (get-places, key-below, added-places, left-places, split-places, first-places)
-pub ruleset counts = (remove-insert, remove-absent, len-added, len-left, len-some, len-none)
+-- an insertion that splits no bucket
+pub inserted-alone : (places : Places) (k : List ℕ) (at keys : ℕ) → map.get places.at k ≡ None → keys ≡ map.len places.at + 1 → is_crowded keys places.buckets ≡ false
+    → ◌≡◌ {A = Places} (record { at = map.insert places.at k at; buckets = places.buckets }) (inserted places k at)
+unfolding inserted
+inserted-alone places k at keys none is calm =
+    let of_buckets : ℕ → Places = λ n. record { at = map.insert places.at k at; buckets = n } in
+    ap of_buckets
+    (ap (λ b. cond b (places.buckets + 1) places.buckets) (sym calm)
+    ∙ ap (λ n. buckets_for n places.buckets) (is ∙ sym (len-added places.at k at none)))
+
+-- one that splits a bucket
+pub inserted-split : (places : Places) (k : List ℕ) (at keys : ℕ) → map.get places.at k ≡ None → keys ≡ map.len places.at + 1 → is_crowded keys places.buckets ≡ true
+    → ◌≡◌ {A = Places} (record { at = map.insert places.at k at; buckets = places.buckets + 1 }) (inserted places k at)
+unfolding inserted
+inserted-split places k at keys none is crowded =
+    let of_buckets : ℕ → Places = λ n. record { at = map.insert places.at k at; buckets = n } in
+    ap of_buckets
+    (ap (λ b. cond b (places.buckets + 1) places.buckets) (sym crowded)
+    ∙ ap (λ n. buckets_for n places.buckets) (is ∙ sym (len-added places.at k at none)))
+
+-- one that found no memory for its split is undone
+pub inserted-undone : (places : Places) (k : List ℕ) (at : ℕ) → map.get places.at k ≡ None
+    → removed (record { at = map.insert places.at k at; buckets = places.buckets }) k ≡ places
+unfolding removed
+inserted-undone places k at none =
+    let of_map : PlaceMap → Places = λ m. record { at = m; buckets = places.buckets } in
+    ap of_map (remove-insert places.at k at none)
+
+-- an insertion counts one key more
+pub inserted-len : (places : Places) (k : List ℕ) (at : ℕ) → map.get places.at k ≡ None → map.len (inserted places k at).at ≡ map.len places.at + 1
+unfolding inserted
+inserted-len places k at none = len-added places.at k at none
+
+-- to take out what isn't there changes nothing
+pub removed-absent : (places : Places) (k : List ℕ) → map.get places.at k ≡ None → removed places k ≡ places
+unfolding removed
+removed-absent places k none =
+    let of_map : PlaceMap → Places = λ m. record { at = m; buckets = places.buckets } in
+    ap of_map (remove-absent places.at k none)
+
+-- a removal counts one key less
+pub removed-len : (places : Places) (k : List ℕ) → is_some (map.get places.at k) ≡ true → map.len (removed places k).at ≡ map.len places.at - 1
+unfolding removed
+removed-len places k there = len-left places.at k there
+
+pub ruleset counts = (inserted-alone, inserted-split, inserted-undone, inserted-len, removed-absent, removed-len, len-some, len-none)

@@ -78,7 +78,8 @@ impl Buckets {
         ensures err { OnErr result (self.new ≡ self.old) }
     {
         let home = home(self.growth, key);
-        add_at(&mut self.buckets, home, Entry { key: *key, at })
+        add_at(&mut self.buckets, home, Entry { key: *key, at })?;
+        Ok(())
     }
 
     /// Takes the key out, if it is there. Takes no memory.

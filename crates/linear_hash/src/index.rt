@@ -1,7 +1,7 @@
 //! The index.
-ghost use Rattle.std.specs.Prelude.{◌≡◌, OnOk, OnErr, IfOk, None};
+ghost use Rattle.std.specs.Prelude.{◌≡◌, ◌+◌, OnOk, OnErr, IfOk, None};
 ghost use Rattle.std.specs.FinMap as map;
-ghost use Rattle.linear_hash.specs.Places.{buckets_for, inserted, is_crowded, no_places, removed};
+ghost use Rattle.linear_hash.specs.Places.{inserted, is_crowded, no_places, removed};
 
 use crate::buckets::Buckets;
 use sig_core::{Key, NoMemory};
@@ -65,7 +65,7 @@ impl Index {
     ///
     /// # Errors
     /// `NoMemory`, and then nothing has happened.
-    #[tactic(auto, unfolding(crate::specs::Places::inserted), using(crate::proofs::SplitLemmas::counts))]
+    #[tactic(auto, using(crate::proofs::SplitLemmas::counts))]
     pub fn insert(&mut self, key: &Key, at: u64) -> Result<(), NoMemory>
         requires { map.get self.old.at key.now ≡ None }
         ensures ok { OnOk result (self.new ≡ inserted self.old key.now at) }
@@ -81,7 +81,7 @@ impl Index {
 
     /// Takes the key out, and answers the place that it had; none where it isn't there. The number
     /// of buckets stays. Takes no memory.
-    #[tactic(auto, unfolding(crate::specs::Places::removed), using(crate::proofs::SplitLemmas::counts))]
+    #[tactic(auto, using(crate::proofs::SplitLemmas::counts))]
     pub fn remove(&mut self, key: &Key) -> Option<u64>
         ensures place { result ≡ map.get self.old.at key.now }
         ensures rest { self.new ≡ removed self.old key.now }
@@ -95,21 +95,25 @@ impl Index {
     }
 }
 
-// Puts in a key that isn't there, which brings their number to `keys`.
-#[tactic(auto, unfolding(crate::specs::Places::removed), using(crate::proofs::SplitLemmas::counts))]
+// Puts in a key that isn't there, which brings the number of keys to this.
+#[tactic(auto, unfolding(crate::specs::Places::inserted), using(crate::proofs::SplitLemmas::counts))]
 fn put_in(buckets: &mut Buckets, key: &Key, at: u64, keys: usize) -> Result<(), NoMemory>
-    requires { map.get buckets.old.at key.now ≡ None }
-    ensures ok { OnOk result (buckets.new ≡ record { at = map.insert buckets.old.at key.now at; buckets = buckets_for keys buckets.old.buckets }) }
+    requires absent { map.get buckets.old.at key.now ≡ None }
+    requires keys { keys ≡ map.len buckets.old.at + 1 }
+    ensures ok { OnOk result (buckets.new ≡ inserted buckets.old key.now at) }
     ensures err { OnErr result (buckets.new ≡ buckets.old) }
 {
     buckets.add(key, at)?;
-    if is_crowded(keys, buckets.len()) {
-        if buckets.split().is_err() {
+    if !is_crowded(keys, buckets.len()) {
+        return Ok(());
+    }
+    match buckets.split() {
+        Ok(()) => Ok(()),
+        Err(NoMemory) => {
             buckets.remove(key);
-            return Err(NoMemory);
+            Err(NoMemory)
         }
     }
-    Ok(())
 }
 
 // Whether so many keys are more than four for each bucket.
