@@ -233,7 +233,10 @@ split-view growth next sound buckets now places view next_is all is =
     let at_is : places_of growth buckets ≡ places.at = ap (λ p. p.at) view in
     let buckets_is : length buckets ≡ places.buckets = ap (λ p. p.buckets) view in
     let longer : length (split_buckets next growth.split buckets) ≡ places.buckets + 1 =
-    first_of (rw length-append (rw length-set (omega (arith, buckets_is))), grind (arith, length-append, length-set, buckets_is)) in
+    length-append
+    (set buckets growth.split (part_of next growth.split (get_or buckets growth.split [])))
+    (part_of next (length buckets) (get_or buckets growth.split []) ∷ [])
+    ∙ ap (λ n. n + 1) (length-set buckets growth.split _ ∙ buckets_is) in
     same_places _ _ _ _
     (ap (λ n. places_of n now) next_is
     ∙ ap (places_of (grown growth)) (is ∙ ap (λ n. split_buckets n growth.split buckets) next_is)

@@ -97,20 +97,20 @@ impl Index {
 
 // Puts in a key that isn't there, which brings the number of keys to this.
 #[tactic(auto, unfolding(crate::specs::Places::inserted), using(crate::proofs::SplitLemmas::counts))]
-fn put_in(buckets: &mut Buckets, key: &Key, at: u64, keys: usize) -> Result<(), NoMemory>
-    requires absent { map.get buckets.old.at key.now ≡ None }
-    requires keys { keys ≡ map.len buckets.old.at + 1 }
-    ensures ok { OnOk result (buckets.new ≡ inserted buckets.old key.now at) }
-    ensures err { OnErr result (buckets.new ≡ buckets.old) }
+fn put_in(table: &mut Buckets, key: &Key, at: u64, keys: usize) -> Result<(), NoMemory>
+    requires absent { map.get table.old.at key.now ≡ None }
+    requires keys { keys ≡ map.len table.old.at + 1 }
+    ensures ok { OnOk result (table.new ≡ inserted table.old key.now at) }
+    ensures err { OnErr result (table.new ≡ table.old) }
 {
-    buckets.add(key, at)?;
-    if !is_crowded(keys, buckets.len()) {
+    table.add(key, at)?;
+    if !is_crowded(keys, table.len()) {
         return Ok(());
     }
-    match buckets.split() {
+    match table.split() {
         Ok(()) => Ok(()),
         Err(NoMemory) => {
-            buckets.remove(key);
+            table.remove(key);
             Err(NoMemory)
         }
     }
