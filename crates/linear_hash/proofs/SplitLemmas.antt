@@ -9,7 +9,7 @@ use Rattle.std.proofs.lemmas.List.{get_or-set_same, get_or-set_other, get_or_app
 use Rattle.sig_core.specs.Same.{same_key}
 use Rattle.linear_hash.specs.declared.bucket.Entry.{Entry}
 use Rattle.linear_hash.specs.declared.growth.Growth.{Growth}
-use Rattle.linear_hash.specs.Growth.{IsGrowth, first_growth, grown, hash_of, home, home_of}
+use Rattle.linear_hash.specs.Growth.{IsGrowth, first_growth, grown, hash_of, home}
 use Rattle.linear_hash.specs.Entries.{part_of, place_in, without}
 use Rattle.linear_hash.specs.Places.{PlaceMap, Places, buckets_for, inserted, is_crowded, no_places, places_of, removed}
 use Rattle.linear_hash.proofs.FoundLemmas.{key_cmp, place-added, place-part, place-without, same_key-is, tie-same}
@@ -249,6 +249,7 @@ pub len-none : map.len (map.empty {X = ℕ} {R = key_cmp}) ≡ 0
 len-none = map.len-empty key_cmp ℕ
 
 pub ruleset steps = (get-places, key-below, added-places, left-places, split-places, first-places)
+
 -- an insertion that splits no bucket
 pub inserted-alone : (places : Places) (k : List ℕ) (at keys : ℕ) → map.get places.at k ≡ None → keys ≡ map.len places.at + 1 → is_crowded keys places.buckets ≡ false
     → ◌≡◌ {A = Places} (record { at = map.insert places.at k at; buckets = places.buckets }) (inserted places k at)

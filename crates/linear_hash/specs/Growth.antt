@@ -1,5 +1,5 @@
 -- How many buckets there are, and which one a key is in.
-use Rattle.std.specs.Prelude.{◌≤◌, ◌<◌, ◌≡◌, ℕ, ◌+◌, ◌*◌, ◌%◌, ◌^◌, nat_lt, if◌then◌else◌, List, [], ◌∷◌, take, drop}
+use Rattle.std.specs.Prelude.{◌≤◌, ◌<◌, ℕ, ◌+◌, ◌*◌, ◌%◌, ◌^◌, nat_lt, if◌then◌else◌, List, [], ◌∷◌, take, drop}
 use Rattle.md5.specs.Md5.{md5}
 use Rattle.linear_hash.specs.declared.growth.Growth.{Growth}
 

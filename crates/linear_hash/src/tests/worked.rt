@@ -18,7 +18,13 @@ fn put(rt: &impl Abort, index: &mut Index, word: &[u8], at: u64) -> Result<(), F
 fn the_fifth_key_splits_the_bucket(rt: HostRuntime) -> Result<(), Fail> {
     let mut index = Index::new(rt.alloc())?;
     assert_eq!(rt; index.buckets(), 1);
-    for (word, at, buckets) in [(b"a", 7, 1), (b"b", 0, 1), (b"c", 3, 1), (b"d", 12, 1), (b"e", 1, 2)] {
+    for (word, at, buckets) in [
+        (b"a", 7, 1),
+        (b"b", 0, 1),
+        (b"c", 3, 1),
+        (b"d", 12, 1),
+        (b"e", 1, 2),
+    ] {
         put(&rt, &mut index, word, at)?;
         assert_eq!(rt; index.buckets(), buckets);
     }
