@@ -1,0 +1,4 @@
+pub mod FoundLemmas
+pub mod HomeLemmas
+pub mod PlaceLemmas
+pub mod SplitLemmas

@@ -1,0 +1,8 @@
+use Rattle.std.proofs.Common.{arith}
+use Rattle.linear_hash.proofs.HomeLemmas.{home-below, home-split}
+use Rattle.linear_hash.proofs.growth.home.Goals as goal
+
+-- the bucket was split
+pub returns-then-low-growth-clause-below : goal.returns-then-low-growth-clause-below
+returns-then-low-growth-clause-below c =
+    omega (arith, home-below c.args.growth c.requires c.hash_of-hash.result, home-split c.args.growth c.hash_of-hash.result c.if-low-growth.true)

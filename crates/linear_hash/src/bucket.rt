@@ -1,0 +1,117 @@
+//! The entries of a bucket.
+ghost use Rattle.std.specs.Prelude.{◌≡◌, ◌++◌, [], ◌∷◌, OnOk, OnErr, IfOk};
+ghost use Rattle.linear_hash.specs.Entries.{part_of, place_in, without};
+ghost use Rattle.linear_hash.specs.Growth.{IsGrowth};
+
+use crate::growth::{Growth, home};
+use sig_core::{Key, NoMemory};
+use std::alloc::Global;
+use std::marker::Model;
+
+/// A key, and the place that it leads to.
+#[derive(Clone, Copy)]
+pub struct Entry {
+    pub key: Key,
+    pub at: u64,
+}
+
+/// The entries of a bucket, in the order in which they came. Contracts see their list.
+#[derive(Drop)]
+pub struct Bucket {
+    entries: Vec<Entry>,
+}
+
+impl Model for Bucket {
+    ghost use Rattle.std.specs.Prelude.{List};
+    ghost use Rattle.linear_hash.specs.declared.bucket.Entry.{Entry};
+
+    ghost Value = { List Entry };
+
+    ghost view = { λ b. b.entries.items };
+}
+
+impl Bucket {
+    /// No entries. Takes no memory.
+    pub fn new(alloc: Global) -> Bucket
+        ensures { result ≡ [] }
+    {
+        Bucket {
+            entries: Vec::new(alloc),
+        }
+    }
+
+    /// The place of the key, if it is here.
+    pub fn place(&self, key: &Key) -> Option<u64>
+        ensures { result ≡ place_in key.now self.now }
+    {
+        place_in(key, &self.entries)
+    }
+
+    /// Puts an entry last.
+    ///
+    /// # Errors
+    /// `NoMemory`, and then nothing has happened.
+    pub fn add(&mut self, entry: Entry) -> Result<(), NoMemory>
+        ensures ok { OnOk result (self.new ≡ self.old ++ entry ∷ []) }
+        ensures err { OnErr result (self.new ≡ self.old) }
+    {
+        self.entries.push(entry)?;
+        Ok(())
+    }
+
+    /// Takes the key out. Takes no memory.
+    pub fn leave(&mut self, key: &Key)
+        ensures { self.new ≡ without key.now self.old }
+    {
+        leave(key, &mut self.entries);
+    }
+
+    /// A copy of the entries that are in this bucket when the buckets have grown so far.
+    ///
+    /// # Errors
+    /// `NoMemory`.
+    pub fn part(&self, alloc: Global, growth: Growth, bucket: usize) -> Result<Bucket, NoMemory>
+        requires { IsGrowth growth }
+        ensures { IfOk result (λ part. part ≡ part_of growth bucket self.now) }
+    {
+        let entries = part_of(alloc, &self.entries, growth, bucket)?;
+        Ok(Bucket { entries })
+    }
+}
+
+// The place of the key, of the first entry that has it.
+fn place_in(key: &Key, entries: &[Entry]) -> Option<u64>
+    ensures { result ≡ place_in key.now entries.now }
+{
+    for entry in entries {
+        if entry.key == *key {
+            return Some(entry.at);
+        }
+    }
+    None
+}
+
+// Takes the key out.
+fn leave(key: &Key, entries: &mut Vec<Entry>)
+    ensures { entries.new.items ≡ without key.now entries.old.items }
+{
+    entries.retain(|entry| entry.key != *key);
+}
+
+// A copy of the entries that are in this bucket when the buckets have grown so far.
+fn part_of(
+    alloc: Global,
+    entries: &[Entry],
+    growth: Growth,
+    bucket: usize,
+) -> Result<Vec<Entry>, NoMemory>
+    requires { IsGrowth growth }
+    ensures { IfOk result (λ part. part.items ≡ part_of growth bucket entries.now) }
+{
+    let part = entries
+        .iter()
+        .filter(|entry| home(growth, &entry.key) == bucket)
+        .copied()
+        .collect(alloc)?;
+    Ok(part)
+}
