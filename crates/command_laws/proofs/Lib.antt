@@ -17,6 +17,7 @@ pub mod EarlyNodes
 pub mod EarlyRun
 pub mod EarlySteps
 pub mod EarlyTurns
+pub mod EndsOnce
 pub mod EndsWell
 pub mod Entries
 pub mod EntryGoes
