@@ -54,6 +54,8 @@ pub mod ReadyAtQuiet
 pub mod RepliesLive
 pub mod Reported
 pub mod RequestsAnswered
+pub mod RolledSteps
+pub mod RolledTurns
 pub mod RowAsks
 pub mod SampleServed
 pub mod ServedBetween
