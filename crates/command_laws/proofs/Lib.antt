@@ -25,6 +25,7 @@ pub mod Firm
 pub mod FirmAtQuiet
 pub mod FirmHosts
 pub mod First
+pub mod FirstTaken
 pub mod GatheredRows
 pub mod HeldUp
 pub mod HoldersTold
@@ -68,6 +69,7 @@ pub mod Ticks
 pub mod Told
 pub mod TurnTells
 pub mod TurnedDown
+pub mod WaitAborted
 pub mod WaitApi
 pub mod WaitHosts
 pub mod WaitRows

@@ -26,6 +26,7 @@ use Rattle.command_laws.proofs.OperationAnswered.{operations_answered}
 use Rattle.command_laws.proofs.ServedBetween.{requests_served}
 use Rattle.command_laws.proofs.Ticks.{ticks}
 use Rattle.command_laws.proofs.TurnedDown.{refused_where_due}
+use Rattle.command_laws.proofs.WaitAborted.{waiting_aborts_heard}
 use Rattle.command_laws.specs.Alone.{IsRefusedAlone, IsTurnedAway, WaitsAlone}
 use Rattle.command_laws.specs.Answers.{AnswersRequest, IsAbortedAs, LoneComesTo, RequestsAreAnswered}
 use Rattle.command_laws.specs.Begun.{TakesCommands}
@@ -53,7 +54,10 @@ answers_request start was now idle (request.Commit name) served =
     told tx t =
         let c = commits_committed each_answered start was now name t.item tx served t.named t.ready t.own in
         (c, commit_once start was now name t.item tx served t.named t.ready t.own (outcome.Committed c.epoch) c.told)
-answers_request start was now idle (request.Abort name) served = told
+answers_request start was now idle (request.Abort name) served = (
+  told,
+  (λ tx t. waiting_aborts_heard start was now name tx served t),
+)
   where
     told : (tx : TxId) → TakesCommands start was name tx → IsAbortedAs start was now name × IsToldOnce start was now name
     told tx t =

@@ -21,6 +21,7 @@ use Rattle.world_core.specs.Requests.{AreAskedAtQuiet, request_in}
 use Rattle.world_core.specs.Start.{Start}
 use Rattle.answer_laws.specs.Answered.{IsAnswered}
 use Rattle.host_laws.specs.OpenedAfter.{opened_after}
+use Rattle.command_laws.specs.Aborts.{HasOperation, IsBeingAborted}
 use Rattle.command_laws.specs.Alone.{IsRefusedAlone, IsTurnedAway, WaitsAlone}
 use Rattle.command_laws.specs.Begun.{BeginComesTo, TakesCommands}
 use Rattle.command_laws.specs.Between.{IsAskedAgain, IsServedIn}
@@ -94,7 +95,9 @@ AnswersRequest start was now (request.Commit name) =
     CommitComesTo start was now name ×
     ((tx : TxId) → TakesCommands start was name tx → IsToldCommitted start was now name tx × IsToldOnce start was now name)
 AnswersRequest start was now (request.Abort name) =
-    (tx : TxId) → TakesCommands start was name tx → IsAbortedAs start was now name × IsToldOnce start was now name
+    ((tx : TxId) → TakesCommands start was name tx → IsAbortedAs start was now name × IsToldOnce start was now name)
+    ×
+    ((tx : TxId) → HasOperation start was name tx → IsAbortedAs start was now name ⊎ IsBeingAborted start now name tx)
 AnswersRequest start was now request.Pending =
     (first : ℕ → List HostStep) → IsServedBetween start first was request.Waits → is_left_open
     (after start 0 (first 0)) ≡ true → IsToldHolder start first was now
