@@ -27,6 +27,7 @@ pub mod FirmHosts
 pub mod First
 pub mod FirstTaken
 pub mod GatheredRows
+pub mod GivenUp
 pub mod HeldUp
 pub mod HoldersTold
 pub mod Homes

@@ -17,6 +17,7 @@ use Rattle.command_laws.proofs.ComesTo.{commits_come_to, operations_come_to}
 use Rattle.command_laws.proofs.Committed.{commits_committed}
 use Rattle.command_laws.proofs.Dumps.{digest_comes_to, rows_come_to}
 use Rattle.command_laws.proofs.EndsOnce.{abort_once, commit_once}
+use Rattle.command_laws.proofs.GivenUp.{alone_given_up}
 use Rattle.command_laws.proofs.HeldUp.{each_held_up}
 use Rattle.command_laws.proofs.HoldersTold.{holders_told}
 use Rattle.command_laws.proofs.LoneAnswered.{lone_answered}
@@ -63,7 +64,10 @@ answers_request start was now idle (request.Abort name) served = (
     told tx t =
         let a = aborts_answered each_answered start was now name t.item tx served t.named t.ready t.own in
         (a, abort_once start was now name t.item tx served t.named t.ready t.own (outcome.Aborted cause.Request) a)
-answers_request start was now idle request.Pending served = λ first waits left. holders_told each_answered each_held_up start first was now waits served left
+answers_request start was now idle request.Pending served = λ first waits left. (
+  holders_told each_answered each_held_up start first was now waits served left,
+  alone_given_up start first was now waits served left,
+)
 answers_request start was now idle (request.Begin name at) served = begin_comes_to start was now name at served
 answers_request start was now idle (request.Tick round of) served = ticks start was now round of served
 answers_request start was now idle (request.Rows node) served = rows_come_to start was now idle node served

@@ -13,6 +13,7 @@ use Rattle.sig_core.specs.declared.outcome.AbortCause.TheVariants as cause
 use Rattle.sig_core.specs.declared.outcome.Outcome.TheVariants as outcome
 use Rattle.sig_core.specs.declared.outs.Outgoing.{Outgoing}
 use Rattle.sig_core.specs.declared.reply.ApiReply.TheVariants.{Ended}
+use Rattle.sig_core.specs.declared.request.ApiReq.{ApiReq}
 use Rattle.sig_core.specs.declared.request.ApiReq.TheVariants.{Abort}
 use Rattle.sig_core.specs.declared.signal.Body.{Body}
 use Rattle.sig_core.specs.declared.signal.Body.TheVariants.{Client}
@@ -62,8 +63,8 @@ use Rattle.command_laws.proofs.RolledSteps.{IsRolledNow, RolledOption, WishedOpt
 use Rattle.command_laws.proofs.RolledTurns.{IsWished, is_wished}
 use Rattle.command_laws.proofs.Since.{none_taken, sent_since}
 use Rattle.command_laws.proofs.TellsSince.{OnTc, away_since}
-use Rattle.command_laws.specs.Aborts.{HasOperation, IsBeingAborted, WaitingAbortsAreHeard, is_aborting_as_asked}
-use Rattle.command_laws.specs.Served.{IsHeldUp, IsServedBetween, StillWaits, replies_since}
+use Rattle.command_laws.specs.Aborts.{HasOperation, IsAbortHeard, IsBeingAborted, WaitingAbortsAreHeard, is_aborting_as_asked}
+use Rattle.command_laws.specs.Served.{IsHeldUp, IsServedBetween, replies_since}
 
 stray_wrong : (tx : TxId) (body : Body) → stray_of tx body ≡ false → wrong_of tx body ≡ false
 stray_wrong tx (Client (TcCommitConf other epoch)) e = e
@@ -93,51 +94,40 @@ none_at_shell start log tx u live =
     let sh : IsShell start (after start 0 log) = shell_after start log in
     subst (λ (g : Host). IsIn (tx, u) (tc_of g).live → ⊥) (sym sh.is) (λ none. none) live
 
-module _ (start : Start) (was now : ℕ → List HostStep) (name : ℕ) (tx : TxId)
-    (served : IsServedBetween start was now (Abort name)) (op : HasOperation start was name tx) where
-  f : IsFirst start was now (Abort name)
-  f = request_first start was now (Abort name) served
+-- A request whose step does no more than to wish for the abort of a transaction, as far as those that are open are concerned.
+module _ (start : Start) (was now : ℕ → List HostStep) (request : ApiReq) (called : Option ℕ) (tx : TxId)
+    (item : OpenTransaction) (served : IsServedBetween start was now request)
+    (there : IsIn item (opened_after start was)) (called_is : item.name ≡ called) (own : item.tx ≡ Some tx)
+    (operating : item.doing ≡ Operating) (next : ApiState)
+    (same : next.opened ≡ (api_of (after start 0 (was 0))).opened)
+    (row_is : request_row (api_of (after start 0 (was 0))) request ≡ sending next (coordinator_of tx) (Client (TcRollbackReq tx))) where
+  f : IsFirst start was now request
+  f = request_first start was now request served
 
   abbrev cut : IsCut was now
   cut = cut_at_first was now f.later f.first f.is served.cut
 
-  abbrev s : ApiState
-  s = api_of (after start 0 (was 0))
-
-  n : IsNamed (opened_after start was) name op.item
-  n = named_found (opened_after start was) name op.item op.named
-
-  there : IsIn op.item (opened_after start was)
-  there =
-      subst (λ x. IsIn x (opened_after start was)) n.item
-      (subst (IsIn n.focus.item) (sym n.focus.is) (in_middle n.focus.front n.focus.item n.focus.back))
-
   abbrev out : Outgoing
   out = to_place (coordinator_of tx) (Client (TcRollbackReq tx))
 
-  row_is : request_row s (Abort name) ≡ sending (about s (Some (Some name))) (coordinator_of tx) (Client (TcRollbackReq tx))
-  unfolding request_row
-  row_is = abort_found s name op.item tx op.own n
+  first_is : api_seen (step_after start 0 (was 0) f.first) ≡ sending next (coordinator_of tx) (Client (TcRollbackReq tx))
+  first_is = first_step start was now request f ∙ row_is
 
-  first_is : api_seen (step_after start 0 (was 0) f.first)
-      ≡ sending (about s (Some (Some name))) (coordinator_of tx) (Client (TcRollbackReq tx))
-  first_is = first_step start was now (Abort name) f ∙ row_is
-
-  has : HasOne tx (Some name) Operating (opened_in (after start 0 (f.first ∷ was 0)))
-  has = subst (λ (step : Step ApiState). HasOne tx (Some name) Operating step.state.opened) (sym first_is)
-      (record { item = op.item; inside = there; own = op.own; called = n.called; does = op.operating })
+  has : HasOne tx called Operating (opened_in (after start 0 (f.first ∷ was 0)))
+  has = subst (λ (step : Step ApiState). HasOne tx called Operating step.state.opened) (sym first_is)
+      (record { item = item; inside = subst (IsIn item) (sym same) there; own = own; called = called_is; does = operating })
 
   one_sent : (step_after start 0 (was 0) f.first).effects.sends ≡ out ∷ []
   one_sent = ap (λ (step : Step ApiState). step.effects.sends) first_is
 
   held : IsHeldUp start was tx
-  held = each_held_up start was op.item served.before there tx op.own op.operating
+  held = each_held_up start was item served.before there tx own operating
 
   low : home start tx < hosts start
   low = live_low start was tx held.transaction served.before (home start tx) held.live
 
-  taken_so : IsTaken start was now (Abort name) served f out one_sent low now
-  taken_so = first_taken start was now (Abort name) served f out one_sent low
+  taken_so : IsTaken start was now request served f out one_sent low now
+  taken_so = first_taken start was now request served f out one_sent low
 
   away_from_shell : (h : ℕ) → home start tx ≡ h → with_first was f.first h ≡ was h
   away_from_shell zero at =
@@ -189,33 +179,31 @@ module _ (start : Start) (was now : ℕ → List HostStep) (name : ℕ) (tx : Tx
   none_stray : Each (λ (e : HostStep). is_request e.step.taken.body ≡ false → is_stray tx e.step.taken.to e.step.taken.body ≡ false) (f.later ++ f.first ∷ [])
   none_stray = none_taken start was now served.before served.since cut (is_stray tx) silent 0
 
-  ended_right : HasEnded tx (Some name) start f.later (f.first ∷ was 0)
-      → IsIn (Ended (Some name) (outcome.Aborted cause.Request)) (replies_since start was now)
+  ended_right : HasEnded tx called start f.later (f.first ∷ was 0)
+      → IsIn (Ended called (outcome.Aborted cause.Request)) (replies_since start was now)
   ended_right ended =
-      replied start was now (Abort name) served f ended.newer ended.step ended.older
-      (Ended (Some name) (outcome.Aborted cause.Request)) ended.is
+      replied start was now request served f ended.newer ended.step ended.older
+      (Ended called (outcome.Aborted cause.Request)) ended.is
       (ended.ending.told
-      ∙ ap (λ end. replies_of (after start 0 (ended.older ++ f.first ∷ was 0)) ++ Ended (Some name) end ∷ [])
+      ∙ ap (λ end. replies_of (after start 0 (ended.older ++ f.first ∷ was 0)) ++ Ended called end ∷ [])
       (ends_right tx ended.step.step.taken.body ended.ending.outcome ended.ending.about
       (stray_wrong tx ended.step.step.taken.body
-      (fails_at_end tx (Some name) start f.later (f.first ∷ was 0) f.first (is_stray tx) ended f.plain none_stray))))
+      (fails_at_end tx called start f.later (f.first ∷ was 0) f.first (is_stray tx) ended f.plain none_stray))))
 
-  not_replied : HasReplied tx (Some name) start f.later (f.first ∷ was 0) → ⊥
+  not_replied : HasReplied tx called start f.later (f.first ∷ was 0) → ⊥
   not_replied a =
       false≢true (sym (fails_in f.later f.first (is_stray tx) a.answered.step
       (subst (IsIn a.answered.step) (sym a.answered.is) (in_middle a.answered.newer a.answered.step a.answered.older))
       f.plain none_stray) ∙ answer_stray tx a.answered.step.step.taken.body a.about)
 
-  being : HasOne tx (Some name) Operating (opened_after start now) → IsBeingAborted start now name tx
+  being : HasOne tx called Operating (opened_after start now) → IsBeingAborted start now called tx
   being one = record {
-    waits = record {
-      item = one.item;
-      inside = one.inside;
-      called = one.called;
-      own = one.own;
-      does = one.does;
-      waits = by one.item.doing one.item.tx one.does one.own (each_answered start now one.item served.since one.inside);
-    };
+    item = one.item;
+    inside = one.inside;
+    called = one.called;
+    own = one.own;
+    does = one.does;
+    waits = by one.item.doing one.item.tx one.does one.own (each_answered start now one.item served.since one.inside);
     transaction = held_now.transaction;
     live = held_now.live;
     aborting = as_asked held_now.transaction.phase (subst (RolledOption true) live_now rolled_now.rolled);
@@ -235,19 +223,35 @@ module _ (start : Start) (was now : ℕ → List HostStep) (name : ℕ) (tx : Tx
       rolled_now : OnTc (IsRolledNow tx true) (after start (home start tx) (now (home start tx)))
       rolled_now = subst (λ log. OnTc (IsRolledNow tx true) (after start (home start tx) log)) (sym home_log) run.1
 
-  heard : IsIn (Ended (Some name) (outcome.Aborted cause.Request)) (replies_since start was now)
-      ⊎ IsBeingAborted start now name tx
-  heard = by (waiting_goes tx (Some name) start f.later (f.first ∷ was 0) f.plain has)
+  pub heard : IsAbortHeard start was now called tx
+  heard = by (waiting_goes tx called start f.later (f.first ∷ was 0) f.plain has)
     where
-      by : HasOne tx (Some name) Operating (opened_in (after start 0 (f.later ++ f.first ∷ was 0)))
-          ⊎ (HasReplied tx (Some name) start f.later (f.first ∷ was 0)
-          ⊎ HasEnded tx (Some name) start f.later (f.first ∷ was 0))
-          → IsIn (Ended (Some name) (outcome.Aborted cause.Request)) (replies_since start was now)
-          ⊎ IsBeingAborted start now name tx
+      by : HasOne tx called Operating (opened_in (after start 0 (f.later ++ f.first ∷ was 0)))
+          ⊎ (HasReplied tx called start f.later (f.first ∷ was 0)
+          ⊎ HasEnded tx called start f.later (f.first ∷ was 0))
+          → IsAbortHeard start was now called tx
       by (inl one) =
-          inr (being (subst (λ log. HasOne tx (Some name) Operating (opened_in (after start 0 log))) (sym f.is) one))
+          inr (being (subst (λ log. HasOne tx called Operating (opened_in (after start 0 log))) (sym f.is) one))
       by (inr (inl a)) = absurd (not_replied a)
       by (inr (inr ended)) = inl (ended_right ended)
 
+-- so it is of an abort
+abort_heard : (start : Start) (was now : ℕ → List HostStep) (name : ℕ) (tx : TxId)
+    → IsServedBetween start was now (Abort name) → HasOperation start was name tx
+    → IsAbortHeard start was now (Some name) tx
+unfolding request_row
+abort_heard start was now name tx served op =
+    heard start was now (Abort name) (Some name) tx op.item served there n.called op.own op.operating
+    (about (api_of (after start 0 (was 0))) (Some (Some name))) refl
+    (abort_found (api_of (after start 0 (was 0))) name op.item tx op.own n)
+  where
+    n : IsNamed (opened_after start was) name op.item
+    n = named_found (opened_after start was) name op.item op.named
+
+    there : IsIn op.item (opened_after start was)
+    there =
+        subst (λ x. IsIn x (opened_after start was)) n.item
+        (subst (IsIn n.focus.item) (sym n.focus.is) (in_middle n.focus.front n.focus.item n.focus.back))
+
 pub waiting_aborts_heard : WaitingAbortsAreHeard
-waiting_aborts_heard start was now name tx served op = heard start was now name tx served op
+waiting_aborts_heard start was now name tx served op = abort_heard start was now name tx served op

@@ -21,7 +21,7 @@ use Rattle.world_core.specs.Requests.{AreAskedAtQuiet, request_in}
 use Rattle.world_core.specs.Start.{Start}
 use Rattle.answer_laws.specs.Answered.{IsAnswered}
 use Rattle.host_laws.specs.OpenedAfter.{opened_after}
-use Rattle.command_laws.specs.Aborts.{HasOperation, IsBeingAborted}
+use Rattle.command_laws.specs.Aborts.{HasOperation, IsAbortHeard, IsGivenUp}
 use Rattle.command_laws.specs.Alone.{IsRefusedAlone, IsTurnedAway, WaitsAlone}
 use Rattle.command_laws.specs.Begun.{BeginComesTo, TakesCommands}
 use Rattle.command_laws.specs.Between.{IsAskedAgain, IsServedIn}
@@ -97,10 +97,10 @@ AnswersRequest start was now (request.Commit name) =
 AnswersRequest start was now (request.Abort name) =
     ((tx : TxId) → TakesCommands start was name tx → IsAbortedAs start was now name × IsToldOnce start was now name)
     ×
-    ((tx : TxId) → HasOperation start was name tx → IsAbortedAs start was now name ⊎ IsBeingAborted start now name tx)
+    ((tx : TxId) → HasOperation start was name tx → IsAbortHeard start was now (Some name) tx)
 AnswersRequest start was now request.Pending =
     (first : ℕ → List HostStep) → IsServedBetween start first was request.Waits → is_left_open
-    (after start 0 (first 0)) ≡ true → IsToldHolder start first was now
+    (after start 0 (first 0)) ≡ true → IsToldHolder start first was now × IsGivenUp start first was now
 AnswersRequest start was now (request.Begin name at) = BeginComesTo start was now name at
 AnswersRequest start was now (request.Tick round of) = IsTicked start was now round of
 AnswersRequest start was now (request.Rows node) = DumpComesTo start was now (request.Rows node) node false
