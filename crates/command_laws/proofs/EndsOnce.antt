@@ -23,13 +23,13 @@ use Rattle.sig_core.specs.declared.signal.Signal.{Signal}
 use Rattle.sig_core.specs.Step.{Step}
 use Rattle.api_block.specs.Api.{api_row, request_row}
 use Rattle.api_block.specs.declared.opened.Doing.{Doing}
-use Rattle.api_block.specs.declared.opened.Doing.TheVariants.{Beginning, Ready, Operating, Committing}
+use Rattle.api_block.specs.declared.opened.Doing.TheVariants.{Beginning, Ready, Committing}
 use Rattle.api_block.specs.declared.opened.OpenTransaction.{OpenTransaction}
-use Rattle.api_block.specs.Opened.{answered, begins, begun, begun_operating, behind, committing, is_beginning, is_named, same_name}
+use Rattle.api_block.specs.Opened.{answered, begins, behind, committing, is_beginning, is_named, same_name}
 use Rattle.api_block.specs.State.{ApiState}
 use Rattle.world_core.proofs.HostNumbers.{api_runs}
 use Rattle.world_core.proofs.Replies.{replies_grow}
-use Rattle.world_core.specs.Machine.{after, step_after}
+use Rattle.world_core.specs.Machine.{after}
 use Rattle.world_core.specs.Start.{Start}
 use Rattle.world_core.specs.Steps.{HostStep}
 use Rattle.host_laws.proofs.ApiBegins.{each_at, each_changed, each_less, in_middle, same_name-is, same_name-self}
@@ -41,7 +41,7 @@ use Rattle.host_laws.specs.Counts.{one_if, tally}
 use Rattle.host_laws.specs.OpenedAfter.{opened_after}
 use Rattle.command_laws.proofs.AbortFirst.{abort_found}
 use Rattle.command_laws.proofs.ApiChanges.{ApiChange, BecomesIn, GoesOnAs, IsOneOf, alone, answers, api_changes, commits, ends, idle, is_row_reply, refuses, rests, starts, told, waits}
-use Rattle.command_laws.proofs.BlockSteps.{api_host, api_seen}
+use Rattle.command_laws.proofs.BlockSteps.{api_host}
 use Rattle.command_laws.proofs.CommitFirst.{commit_found}
 use Rattle.command_laws.proofs.Entries.{IsNamed, named_found}
 use Rattle.command_laws.proofs.First.{IsFirst, first_step, request_first}

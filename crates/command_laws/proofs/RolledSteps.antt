@@ -1,7 +1,7 @@
--- Along the log of its home a transaction whose abort the client asked for stays so, or is over, and nothing else is told of it.
-use Rattle.std.proofs.Common.{◌≡◌, ◌<◌, ◌≤◌, ◌+◌, ℕ, Bool, true, false, List, [], ◌∷◌, ◌++◌, refl, sym, ap, ◌∙◌, subst, arith}
+-- Along the log of its home a transaction whose abort the client asked for stays so, or is over, and nothing else is
+-- told of it.
+use Rattle.std.proofs.Common.{◌≡◌, ◌<◌, ◌+◌, ℕ, Bool, true, false, List, [], ◌∷◌, ◌++◌, refl, sym, ap, ◌∙◌, subst, arith}
 use Rattle.std.specs.Prelude.{◌&&◌, if◌then◌else◌, not, Option, None, Some}
-use Rattle.std.proofs.lemmas.Bool.{false≢true}
 use Rattle.sig_core.proofs.Keys.{same_tx-self}
 use Rattle.sig_core.specs.declared.member.TxId.{TxId}
 use Rattle.sig_core.specs.declared.outs.Outgoing.{Outgoing}
@@ -13,7 +13,7 @@ use Rattle.sig_core.specs.declared.signal.Body.TheVariants.{Client}
 use Rattle.sig_core.specs.declared.signal.client.ClientSignal.TheVariants.{TcCommitConf, TcKeyConf, TcRollbackReq, TcRollbackRep}
 use Rattle.sig_core.specs.declared.signal.Signal.{Signal}
 use Rattle.sig_core.specs.Same.{same_tx}
-use Rattle.sig_core.specs.Step.{Effects, Step}
+use Rattle.sig_core.specs.Step.{Step}
 use Rattle.node_core.specs.Blocks.{has_tc, tc_of}
 use Rattle.node_core.specs.declared.host.Host.{Host}
 use Rattle.node_core.specs.Row.{row}
@@ -22,7 +22,7 @@ use Rattle.tc_block.specs.declared.phase.Phase.{Phase}
 use Rattle.tc_block.specs.declared.phase.Phase.TheVariants.{Open, Verifying, Committing, Completing, Aborting}
 use Rattle.tc_block.specs.declared.transaction.Transaction.{Transaction}
 use Rattle.tc_block.specs.State.{TcState}
-use Rattle.tc_block.specs.Tc.{tc_row, tc_table}
+use Rattle.tc_block.specs.Tc.{tc_table}
 use Rattle.world_core.specs.Machine.{after, step_after}
 use Rattle.world_core.specs.Start.{Start}
 use Rattle.world_core.specs.Steps.{HostStep}
@@ -31,7 +31,6 @@ use Rattle.host_laws.specs.Live.{of_live}
 use Rattle.host_laws.proofs.BlocksAlong.{no_live}
 use Rattle.host_laws.proofs.SendKinds.{none_of}
 use Rattle.host_laws.proofs.TcMoves.{same_tx-is}
-use Rattle.host_laws.proofs.TcSteps.{left_of_turn}
 use Rattle.host_laws.proofs.Wishes.{is_tc, sends_of}
 use Rattle.run_laws.proofs.AlongSteps.{first_none}
 use Rattle.command_laws.proofs.AbortSteps.{is_roll_to, roll_of}
@@ -209,13 +208,15 @@ module _ (tx : TxId) where
           × OnTc (IsRolledNow tx true) (after start h ((x ∷ newer) ++ e ∷ log))
       next before =
           let r = host_rolled (after start h (newer ++ e ∷ log)) x.step.taken (sound_at start tx h (newer ++ e ∷ log))
-          (weaker_now (not (is_roll_to tx x.step.taken.to x.step.taken.body)) (tc_of (after start h (newer ++ e ∷ log))) before.1) in
-          (omega (
-            arith,
-            before.0,
-            r.silent,
-            ap (λ l. sends_of (is_stray tx) (step_after start h l x).effects.sends) (parts newer),
-          ), r.rolled)
+          (weaker_now (not (is_roll_to tx x.step.taken.to x.step.taken.body)) (tc_of (after start h (newer ++ e ∷ log))) before.1) in (
+            omega (
+              arith,
+              before.0,
+              r.silent,
+              ap (λ l. sends_of (is_stray tx) (step_after start h l x).effects.sends) (parts newer),
+            ),
+            r.rolled,
+          )
 
   -- what isn't told of it isn't such either
   pub stray_none : (start : Start) (h : ℕ) (newer log : List HostStep) → sent_since start (is_told tx) h newer log ≡ 0

@@ -1,5 +1,5 @@
--- A transaction whose abort the client asked for stays so at its coordinator, whatever comes, and no other end and no answer is
--- told. One that has an operation unanswered is open, or its abort was asked for.
+-- A transaction whose abort the client asked for stays so at its coordinator, whatever comes, and no other end and no
+-- answer is told. One that has an operation unanswered is open, or its abort was asked for.
 use Rattle.std.proofs.Common.{◌≡◌, ◌-◌, ℕ, Bool, true, false, refl, sym, ap, ◌∙◌}
 use Rattle.std.specs.Prelude.{◌||◌, not, Option, None, Some}
 use Rattle.std.proofs.lemmas.Bool.{false≢true}

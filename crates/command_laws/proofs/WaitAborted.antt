@@ -1,6 +1,6 @@
--- An abort of a transaction whose operation waits: its coordinator takes the wish before anything else, so it is aborted at the
--- client's request or being aborted so, and is neither answered nor ended otherwise.
-use Rattle.std.proofs.Common.{◌≡◌, ◌≢◌, ◌⊎◌, ◌<◌, ℕ, zero, suc, Bool, true, false, List, [], ◌∷◌, ◌++◌, refl, sym, ap, ◌∙◌, subst, inl, inr, append_assoc}
+-- An abort of a transaction whose operation waits: its coordinator takes the wish before anything else, so it is
+-- aborted at the client's request or being aborted so, and is neither answered nor ended otherwise.
+use Rattle.std.proofs.Common.{◌≡◌, ◌≢◌, ◌⊎◌, ◌<◌, ℕ, zero, suc, true, false, List, [], ◌∷◌, ◌++◌, refl, sym, ap, ◌∙◌, subst, inl, inr, append_assoc}
 use Rattle.std.proofs.lemmas.Bool.{cases_eq, false≢true}
 use Rattle.std.proofs.lemmas.List.{append_cancel_right}
 use Rattle.std.specs.Prelude.{Option, Some}
@@ -100,7 +100,8 @@ module _ (start : Start) (was now : ℕ → List HostStep) (request : ApiReq) (c
     (there : IsIn item (opened_after start was)) (called_is : item.name ≡ called) (own : item.tx ≡ Some tx)
     (operating : item.doing ≡ Operating) (next : ApiState)
     (same : next.opened ≡ (api_of (after start 0 (was 0))).opened)
-    (row_is : request_row (api_of (after start 0 (was 0))) request ≡ sending next (coordinator_of tx) (Client (TcRollbackReq tx))) where
+    (row_is : request_row (api_of (after start 0 (was 0))) request
+    ≡ sending next (coordinator_of tx) (Client (TcRollbackReq tx))) where
   f : IsFirst start was now request
   f = request_first start was now request served
 
@@ -176,7 +177,8 @@ module _ (start : Start) (was now : ℕ → List HostStep) (request : ApiReq) (c
       by (inr differs) =
           stray_none tx start h (cut h).newer (was h) (away_since start tx h under differs (cut h).newer (was h))
 
-  none_stray : Each (λ (e : HostStep). is_request e.step.taken.body ≡ false → is_stray tx e.step.taken.to e.step.taken.body ≡ false) (f.later ++ f.first ∷ [])
+  none_stray : Each (λ (e : HostStep). is_request e.step.taken.body ≡ false
+      → is_stray tx e.step.taken.to e.step.taken.body ≡ false) (f.later ++ f.first ∷ [])
   none_stray = none_taken start was now served.before served.since cut (is_stray tx) silent 0
 
   ended_right : HasEnded tx called start f.later (f.first ∷ was 0)

@@ -55,7 +55,8 @@ abbrev pub IsAbortHeard : Start → (was now : ℕ → List HostStep) → Option
 IsAbortHeard start was now name tx =
     IsIn (Ended name (Aborted cause.Request)) (replies_since start was now) ⊎ IsBeingAborted start now name tx
 
--- An abort of a transaction whose operation waits ends in its being aborted at the client's request, or it is being aborted so.
+-- An abort of a transaction whose operation waits ends in its being aborted at the client's request, or it is being
+-- aborted so.
 abbrev pub WaitingAbortsAreHeard : Type 0
 WaitingAbortsAreHeard =
     (start : Start) (was now : ℕ → List HostStep) (name : ℕ) (tx : TxId) → IsServedBetween start was now (Abort name)
