@@ -24,7 +24,8 @@ use Rattle.command_laws.specs.Served.{IsServedBetween}
 
 module _ (start : Start) (was now : ℕ → List HostStep) (asked : ApiReq) (served : IsServedBetween start was now asked)
     (f : IsFirst start was now asked) (out : Outgoing)
-    (one : (step_after start 0 (was 0) f.first).effects.sends ≡ out ∷ []) (there : host_for start out.to < hosts start) where
+    (one : (step_after start 0 (was 0) f.first).effects.sends ≡ out ∷ [])
+    (there : host_for start out.to < hosts start) where
   abbrev m : Machine HostStep Addressed
   m = machine start
 

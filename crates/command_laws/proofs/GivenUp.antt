@@ -32,7 +32,8 @@ use Rattle.command_laws.specs.Aborts.{IsAbortHeard, IsGivenUp}
 use Rattle.command_laws.specs.Served.{IsServedBetween, own_in}
 
 module _ (start : Start) (was mid now : ℕ → List HostStep) (t : OpenTransaction)
-    (first_served : IsServedBetween start was mid request.Waits) (then_served : IsServedBetween start mid now request.Pending)
+    (first_served : IsServedBetween start was mid request.Waits)
+    (then_served : IsServedBetween start mid now request.Pending)
     (own : own_in (after start 0 (was 0)) ≡ Some t) (unanswered : is_unanswered t.doing ≡ true) where
   abbrev s : ApiState
   s = api_of (after start 0 (mid 0))

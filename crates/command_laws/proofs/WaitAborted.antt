@@ -94,7 +94,8 @@ none_at_shell start log tx u live =
     let sh : IsShell start (after start 0 log) = shell_after start log in
     subst (λ (g : Host). IsIn (tx, u) (tc_of g).live → ⊥) (sym sh.is) (λ none. none) live
 
--- A request whose step does no more than to wish for the abort of a transaction, as far as those that are open are concerned.
+-- A request whose step does no more than to wish for the abort of a transaction, as far as those that are open are
+-- concerned.
 module _ (start : Start) (was now : ℕ → List HostStep) (request : ApiReq) (called : Option ℕ) (tx : TxId)
     (item : OpenTransaction) (served : IsServedBetween start was now request)
     (there : IsIn item (opened_after start was)) (called_is : item.name ≡ called) (own : item.tx ≡ Some tx)
@@ -111,12 +112,19 @@ module _ (start : Start) (was now : ℕ → List HostStep) (request : ApiReq) (c
   abbrev out : Outgoing
   out = to_place (coordinator_of tx) (Client (TcRollbackReq tx))
 
-  first_is : api_seen (step_after start 0 (was 0) f.first) ≡ sending next (coordinator_of tx) (Client (TcRollbackReq tx))
+  first_is : api_seen (step_after start 0 (was 0) f.first)
+      ≡ sending next (coordinator_of tx) (Client (TcRollbackReq tx))
   first_is = first_step start was now request f ∙ row_is
 
   has : HasOne tx called Operating (opened_in (after start 0 (f.first ∷ was 0)))
   has = subst (λ (step : Step ApiState). HasOne tx called Operating step.state.opened) (sym first_is)
-      (record { item = item; inside = subst (IsIn item) (sym same) there; own = own; called = called_is; does = operating })
+      (record {
+        item = item;
+        inside = subst (IsIn item) (sym same) there;
+        own = own;
+        called = called_is;
+        does = operating;
+      })
 
   one_sent : (step_after start 0 (was 0) f.first).effects.sends ≡ out ∷ []
   one_sent = ap (λ (step : Step ApiState). step.effects.sends) first_is
