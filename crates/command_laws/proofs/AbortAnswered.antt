@@ -60,7 +60,7 @@ use Rattle.command_laws.specs.Aborts.{ReadyAbortsAreAnswered}
 use Rattle.command_laws.specs.Served.{IsServedBetween, named_in, replies_since}
 
 -- an end that isn't wrong is an abort at the client's request
-ends_right : (tx : TxId) (body : Body) (end : Outcome) → outcome_in body ≡ Some (tx, end) → wrong_of tx body ≡ false → end ≡ outcome.Aborted cause.Request
+pub ends_right : (tx : TxId) (body : Body) (end : Outcome) → outcome_in body ≡ Some (tx, end) → wrong_of tx body ≡ false → end ≡ outcome.Aborted cause.Request
 ends_right tx (Client (TcCommitConf one epoch)) end is right =
     absurd (let same : same_tx one tx ≡ true = ap (λ (e : OutcomeOf). same_tx e.0 tx) (ending_is (one, outcome.Committed epoch) (tx, end) is) ∙ same_tx-self tx in
     let off : false ≡ true = sym right ∙ same in cc)

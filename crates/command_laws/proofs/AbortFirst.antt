@@ -30,7 +30,7 @@ use Rattle.command_laws.proofs.OperateAsks.{AreNamed}
 use Rattle.command_laws.specs.Served.{named_in}
 
 -- the row where the name is found
-abort_found : (s : ApiState) (name : ℕ) (t : OpenTransaction) (tx : TxId) → t.tx ≡ Some tx → (f : IsNamed s.opened name t)
+pub abort_found : (s : ApiState) (name : ℕ) (t : OpenTransaction) (tx : TxId) → t.tx ≡ Some tx → (f : IsNamed s.opened name t)
     → abort_row s name ≡ sending (about s (Some (Some name))) (coordinator_of tx) (Client (TcRollbackReq tx))
 unfolding abort_row
 abort_found s name t tx own f =

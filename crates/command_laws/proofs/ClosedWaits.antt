@@ -1,6 +1,6 @@
 -- Waits that stood eight rounds are closed: where one is left in a queue, the rows of the node go on with those.
 use Rattle.std.proofs.Common.{◌≡◌, ◌⊎◌, ℕ, ◌+◌, ◌≤◌, Bool, true, false, List, []}
-use Rattle.std.proofs.Common.{◌∷◌, ◌++◌, refl, ap, sym, ◌∙◌, subst, cond, arith, inl, inr}
+use Rattle.std.proofs.Common.{◌∷◌, ◌++◌, refl, ap, sym, ◌∙◌, cond, arith, inl, inr}
 use Rattle.std.proofs.lemmas.Bool.{false≢true, or_from, or_parts}
 use Rattle.std.specs.Prelude.{◌&&◌, ◌||◌, ◌==◌, if◌then◌else◌, not, is_some, Option, None, Some}
 use Rattle.std.specs.FinMap as finite
@@ -9,7 +9,7 @@ use Rattle.sig_core.specs.declared.member.TxId.{TxId}
 use Rattle.sig_core.specs.declared.outs.Outgoing.{Outgoing}
 use Rattle.sig_core.specs.declared.place.Place.{Place}
 use Rattle.sig_core.specs.declared.signal.Body.{Body}
-use Rattle.sig_core.specs.declared.signal.Body.TheVariants.{Chain, Client, Host}
+use Rattle.sig_core.specs.declared.signal.Body.TheVariants.{Host}
 use Rattle.sig_core.specs.declared.signal.host.HostSignal.TheVariants.{Continue, Round}
 use Rattle.sig_core.specs.declared.signal.host.Work.TheVariants as work
 use Rattle.sig_core.specs.Same.{same_key, same_tx}
@@ -23,7 +23,7 @@ use Rattle.row_locks.specs.Orderly.{is_first_open}
 use Rattle.row_locks.specs.Queues.{is_open, raised, raised_if, wait_of, waits, without}
 use Rattle.row_locks.specs.Rounds.{expired, expired_in, first_expired, found_at, found_if, is_expired}
 use Rattle.row_locks.specs.Rows.{RowLock, Served, asked, asked_anew, asked_by}
-use Rattle.row_locks.specs.Rows.{is_quiet, may_hold, released, served, served_if, unwaited}
+use Rattle.row_locks.specs.Rows.{is_quiet, may_hold, released, served, served_if}
 use Rattle.row_locks.specs.Tables.{Locks, kept, lock_at, or_unlocked, unwaited_at}
 use Rattle.lqh_block.proofs.IndexLemmas.{same as same_key-is}
 use Rattle.lqh_block.proofs.LqhForms.{ExpireForms, expiring, is_for_rows, lqh_forms}

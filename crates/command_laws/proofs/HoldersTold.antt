@@ -61,10 +61,10 @@ sent_to_append start test h j (e ∷ xs) ys log =
     omega (arith, sent_to_append start test h j xs ys log, ap (λ l. sends_of (to_host start j test) (step_after start h l e).effects.sends) (append_assoc xs ys log))
 
 -- what is unanswered at quiet is an operation that was sent
-record IsWaiting (t : OpenTransaction) : Type 0 where
-  tx : TxId
-  own : t.tx ≡ Some tx
-  does : t.doing ≡ Operating
+pub record IsWaiting (t : OpenTransaction) : Type 0 where
+  pub tx : TxId
+  pub own : t.tx ≡ Some tx
+  pub does : t.doing ≡ Operating
 
 is_waiting : (start : Start) (logs : ℕ → List HostStep) (t : OpenTransaction) → is_unanswered t.doing ≡ true → is_answered_by start logs t.doing t.tx → IsWaiting t
 is_waiting start logs t unanswered answered = by t.doing t.tx refl refl unanswered answered
@@ -108,16 +108,16 @@ module _ (answered : EachIsAnswered) (held_up : EachIsHeldUp) (start : Start) (w
   abbrev s : ApiState
   s = api_of (after start 0 (was 0))
 
-  i : IsOwn s t
+  pub i : IsOwn s t
   i = own_found s t own
 
   in_opened : IsIn t (opened_after start was)
   in_opened = subst (IsIn t) (sym i.first.is) (in_middle i.first.front t i.first.back)
 
-  w : IsWaiting t
+  pub w : IsWaiting t
   w = is_waiting start was t unanswered (answered start was t first_served.before in_opened)
 
-  up : IsHeldUp start was w.tx
+  pub up : IsHeldUp start was w.tx
   up = held_up start was t first_served.before in_opened w.tx w.own w.does
 
   abbrev c_host : ℕ
@@ -127,11 +127,11 @@ module _ (answered : EachIsAnswered) (held_up : EachIsHeldUp) (start : Start) (w
   m_host = rows_host start up.member.node
 
   -- the transaction as its coordinator has it
-  live : OnTc (λ c. of_live w.tx c.live ≡ Some up.transaction) (after start c_host (was c_host))
+  pub live : OnTc (λ c. of_live w.tx c.live ≡ Some up.transaction) (after start c_host (was c_host))
   live = live_tx start w.tx c_host (was c_host) up.transaction up.live
 
   -- no other transaction of the API has its number
-  none : tally (has_tx w.tx) i.first.front ≡ 0
+  pub none : tally (has_tx w.tx) i.first.front ≡ 0
   none =
       let h = holds_at start w.tx was first_served.before in
       omega (
@@ -143,10 +143,10 @@ module _ (answered : EachIsAnswered) (held_up : EachIsHeldUp) (start : Start) (w
         tally_append (has_tx w.tx) i.first.front i.first.back,
       )
 
-  f : IsFirst start was mid request.Waits
+  pub f : IsFirst start was mid request.Waits
   f = request_first start was mid request.Waits first_served
 
-  asking : IsAsking start s t w.tx i (api_seen (step_after start 0 (was 0) f.first))
+  pub asking : IsAsking start s t w.tx i (api_seen (step_after start 0 (was 0) f.first))
   asking = subst (IsAsking start s t w.tx i) (sym (first_step start was mid request.Waits f))
       (waits_first start s t w.tx i unanswered w.own)
 
@@ -157,7 +157,7 @@ module _ (answered : EachIsAnswered) (held_up : EachIsHeldUp) (start : Start) (w
   asked_same : requests (mid 0) ≡ requests (f.first ∷ was 0)
   asked_same = first_served.asked ∙ ap (λ o. requests (was 0) ++ option_to_list o) (sym (ap request_in f.body))
 
-  all : AllHold start was first_served.before f.first w.tx up.transaction up.asked up.member up.unanswered up.inside live up.held i.first.front t i.first.back (Some i.name) w.own none asking.plain mid
+  pub all : AllHold start was first_served.before f.first w.tx up.transaction up.asked up.member up.unanswered up.inside live up.held i.first.front t i.first.back (Some i.name) w.own none asking.plain mid
   all =
       all_hold start was first_served.before f.first w.tx up.transaction up.asked up.member up.unanswered up.inside live up.held i.first.front t i.first.back (Some i.name) w.own none asking.plain mid f.right
       first_served.since first_cut asked_same asking.about
@@ -233,13 +233,13 @@ module _ (answered : EachIsAnswered) (held_up : EachIsHeldUp) (start : Start) (w
       (not_held w.tx (key_of up.asked.op)) m_host up.held in
       all.shell.known (passed c.0 m.0 c.1 m.1)
 
-  then : IsFirst start mid now request.Pending
+  pub then : IsFirst start mid now request.Pending
   then = request_first start mid now request.Pending then_served
 
-  about : IsAboutOne i.first.front t i.first.back (Some i.name) all.shell.ahead (api_of (after start 0 (mid 0)))
+  pub about : IsAboutOne i.first.front t i.first.back (Some i.name) all.shell.ahead (api_of (after start 0 (mid 0)))
   about = subst (λ log. IsAboutOne i.first.front t i.first.back (Some i.name) all.shell.ahead (api_of (after start 0 log))) (sym (all.is 0)) all.shell.about
 
-  tells : TellsHolder t.name all.shell.ahead (api_of (after start 0 (mid 0))) (api_seen (step_after start 0 (mid 0) then.first))
+  pub tells : TellsHolder t.name all.shell.ahead (api_of (after start 0 (mid 0))) (api_seen (step_after start 0 (mid 0) then.first))
   tells =
       subst (TellsHolder t.name all.shell.ahead (api_of (after start 0 (mid 0))))
       (sym (first_step start mid now request.Pending then))
@@ -283,12 +283,12 @@ module _ (answered : EachIsAnswered) (held_up : EachIsHeldUp) (start : Start) (w
       }
 
 -- the own transaction of a host whose last command left it unanswered
-record IsLeft (g : Host) : Type 0 where
-  t : OpenTransaction
-  own : own_in g ≡ Some t
-  unanswered : is_unanswered t.doing ≡ true
+pub record IsLeft (g : Host) : Type 0 where
+  pub t : OpenTransaction
+  pub own : own_in g ≡ Some t
+  pub unanswered : is_unanswered t.doing ≡ true
 
-left_own : (g : Host) → is_left_open g ≡ true → IsLeft g
+pub left_own : (g : Host) → is_left_open g ≡ true → IsLeft g
 unfolding is_left_open
 left_own (Main m) left = cc
 left_own (Tc p) left = cc

@@ -17,6 +17,7 @@ pub mod EarlyNodes
 pub mod EarlyRun
 pub mod EarlySteps
 pub mod EarlyTurns
+pub mod EndsOnce
 pub mod EndsWell
 pub mod Entries
 pub mod EntryGoes
@@ -24,7 +25,9 @@ pub mod Firm
 pub mod FirmAtQuiet
 pub mod FirmHosts
 pub mod First
+pub mod FirstTaken
 pub mod GatheredRows
+pub mod GivenUp
 pub mod HeldUp
 pub mod HoldersTold
 pub mod Homes
@@ -53,6 +56,8 @@ pub mod ReadyAtQuiet
 pub mod RepliesLive
 pub mod Reported
 pub mod RequestsAnswered
+pub mod RolledSteps
+pub mod RolledTurns
 pub mod RowAsks
 pub mod SampleServed
 pub mod ServedBetween
@@ -65,6 +70,7 @@ pub mod Ticks
 pub mod Told
 pub mod TurnTells
 pub mod TurnedDown
+pub mod WaitAborted
 pub mod WaitApi
 pub mod WaitHosts
 pub mod WaitRows

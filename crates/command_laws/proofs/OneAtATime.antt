@@ -26,7 +26,7 @@ use Rattle.command_laws.proofs.First.{IsFirst, fits_asked, with_first}
 use Rattle.command_laws.specs.Served.{IsServedBetween}
 
 -- a list isn't an older part of what is shorter
-longer : {A : Type 0} (x : A) (xs : List A) → IsPast (x ∷ xs) xs → ⊥
+pub longer : {A : Type 0} (x : A) (xs : List A) → IsPast (x ∷ xs) xs → ⊥
 longer x xs past = omega (arith, ap length past.is, length-append past.newer (x ∷ xs))
 
 first_of : {A : Type 0} (x y : A) (xs : List A) → IsPast (x ∷ xs) (y ∷ xs) → x ≡ y
@@ -131,7 +131,7 @@ module _ (start : Start) (P : Addressed → (ℕ → List HostStep) → Type 0) 
           by (inl same) = own i same apart
           by (inr differs) = sent_other i j differs
 
-      goes_under_way : AllTaken → host_for start out.to < hosts start → IsUnderWay start after y
+      pub goes_under_way : AllTaken → host_for start out.to < hosts start → IsUnderWay start after y
       goes_under_way all there = record {
         from = low;
         to = there;
@@ -152,7 +152,7 @@ module _ (start : Start) (P : Addressed → (ℕ → List HostStep) → Type 0) 
         )
 
     -- a request takes nothing from a link
-    asked_all : is_request e.step.taken.body ≡ true → IsQuiet m (hosts start) before → AllTaken
+    pub asked_all : is_request e.step.taken.body ≡ true → IsQuiet m (hosts start) before → AllTaken
     asked_all asked quiet i j under below = by (cases_eq e.host j)
       where
         own : (k : ℕ) → k < hosts start → e.host ≡ k → taken m i (after k) ≡ sent m i k (before i)
@@ -196,7 +196,7 @@ module _ (start : Start) (P : Addressed → (ℕ → List HostStep) → Type 0) 
             subst (λ h. sent m source h (before source) ≡ x ∷ taken m source (before h)) (sym same_host)
             (subst (λ i. sent m i x.to (before i) ≡ x ∷ taken m i (before x.to)) (sym same_source) way.ahead)
 
-        takes_it : it ≡ x
+        pub takes_it : it ≡ x
         takes_it = first_of it x (taken m source (before e.host))
             (subst (IsPast (it ∷ taken m source (before e.host))) ahead_here past)
 
@@ -230,11 +230,11 @@ module _ (start : Start) (P : Addressed → (ℕ → List HostStep) → Type 0) 
         → P x before → Leads before after e
 
   module _ (was now : ℕ → List HostStep) (request : ApiReq) (served : IsServedBetween start was now request)
-      (f : IsFirst start was now request) (at_shell : f.first.host ≡ 0) (steered : IsSteered was f.first) where
+      (f : IsFirst start was now request) (at_shell : f.first.host ≡ 0) where
     abbrev asks : HostStep → Bool
     asks e = is_request e.step.taken.body
 
-    next_first : IsNext was (with_first was f.first) f.first
+    pub next_first : IsNext was (with_first was f.first) f.first
     next_first = record { own = by f.first.host at_shell; others = others }
       where
         by : (h : ℕ) → h ≡ 0 → with_first was f.first h ≡ f.first ∷ was h
@@ -244,14 +244,6 @@ module _ (start : Start) (P : Addressed → (ℕ → List HostStep) → Type 0) 
         others : (h : ℕ) → f.first.host ≢ h → with_first was f.first h ≡ was h
         others zero apart = absurd (apart at_shell)
         others (suc h) apart = refl
-
-    phase_first : IsPhase (with_first was f.first)
-    phase_first = leads_on was (with_first was f.first) f.first next_first first_low
-        (asked_all was (with_first was f.first) f.first next_first first_low
-        (ap is_request f.body) served.before.quiet) steered.begins
-      where
-        first_low : f.first.host < hosts start
-        first_low = omega (arith, at_shell)
 
     -- the request is the only one
     asks_once : tally asks (now 0) ≡ 1 + tally asks (was 0)
@@ -264,16 +256,11 @@ module _ (start : Start) (P : Addressed → (ℕ → List HostStep) → Type 0) 
           ap (λ body. one_if (is_request body)) f.body,
         )
 
-    -- all along the steps since the request, as far as they are those of these logs
-    record Goes (logs : ℕ → List HostStep) : Type 0 where
-      since : IsPast (f.first ∷ was 0) (logs 0)
-      phase : IsCut logs now → IsPhase logs
-
     front_none : (xs : List HostStep) (e : HostStep) (log : List HostStep) → [] ≡ xs ++ e ∷ log → ⊥
     front_none [] e log is = cc
     front_none (x ∷ xs) e log is = cc
 
-    module _ (es : List HostStep) (e : HostStep) (run : Run m es) (happens : Happens m es e) (goes : Goes (log_of m es))
+    module _ (es : List HostStep) (e : HostStep) (run : Run m es) (happens : Happens m es e) (since : IsPast (f.first ∷ was 0) (log_of m es 0))
         (cut : IsCut (log_of m (e ∷ es)) now) where
       abbrev before : ℕ → List HostStep
       before = log_of m es
@@ -281,13 +268,13 @@ module _ (start : Start) (P : Addressed → (ℕ → List HostStep) → Type 0) 
       abbrev after : ℕ → List HostStep
       after = log_of m (e ∷ es)
 
-      next_here : IsNext before after e
+      pub next_here : IsNext before after e
       next_here = record { own = log_of-own m e es e.host refl; others = λ h apart. log_of-other m e es h apart }
 
-      cut_before : IsCut before now
+      pub cut_before : IsCut before now
       cut_before h = past_trans (log_of-past m e es h) (cut h)
 
-      low_here : e.host < hosts start
+      pub low_here : e.host < hosts start
       low_here = by (cases_lt e.host (hosts start))
         where
           by : (e.host < hosts start) ⊎ (hosts start ≤ e.host) → e.host < hosts start
@@ -297,7 +284,7 @@ module _ (start : Start) (P : Addressed → (ℕ → List HostStep) → Type 0) 
               absurd (front_none p.newer e (before e.host)
               (sym (served.since.within e.host high) ∙ p.is ∙ ap (λ log. p.newer ++ log) next_here.own))
 
-      plain_here : is_request e.step.taken.body ≡ false
+      pub plain_here : is_request e.step.taken.body ≡ false
       plain_here = by (is_request e.step.taken.body) refl
         where
           by : (b : Bool) → is_request e.step.taken.body ≡ b → b ≡ false
@@ -311,18 +298,18 @@ module _ (start : Start) (P : Addressed → (ℕ → List HostStep) → Type 0) 
                 tally_past asks (cut 0),
                 ap (tally asks) (log_of-own m e es 0 asked.shell),
                 ap one_if is,
-                tally_past asks goes.since,
+                tally_past asks since,
                 ap (λ body. one_if (is_request body)) f.body,
               ))
 
       abbrev from_here : ℕ
       from_here = e.step.taken.from.0
 
-      past_here : IsPast (it before after e next_here low_here ∷ taken m from_here (before e.host))
+      pub past_here : IsPast (it before after e next_here low_here ∷ taken m from_here (before e.host))
           (sent m from_here e.host (before from_here))
       past_here = given_past start from_here e.host (before from_here) _ (happens.takes plain_here)
 
-      source_here : from_here < hosts start
+      pub source_here : from_here < hosts start
       source_here = by (cases_lt from_here (hosts start))
         where
           empty : (xs : List HostStep) (log : List HostStep) → [] ≡ xs ++ log → log ≡ []
@@ -341,41 +328,69 @@ module _ (start : Start) (P : Addressed → (ℕ → List HostStep) → Type 0) 
               (sym (served.since.within from_here high) ∙ (cut_before from_here).is) in
               absurd (nothing past_here.newer _ _ (sym (ap (sent m from_here e.host) none) ∙ past_here.is))
 
-      phase_here : IsPhase before → IsPhase after
-      phase_here (inl (x, (way, holds))) =
-          let takes = takes_it before after e next_here low_here plain_here source_here past_here x way in
-          leads_on before after e next_here low_here
-          (taken_all before after e next_here low_here plain_here source_here past_here x way)
-          (steered.goes before after e x next_here (ap (λ (z : Addressed). z.signal) takes)
-          (ap (λ (z : Addressed). z.to) takes) holds)
-      phase_here (inr (quiet, done)) =
-          absurd (not_at_quiet before after e next_here low_here plain_here source_here past_here
-          (quiet from_here e.host source_here low_here))
-
-    goes_step : (es : List HostStep) (e : HostStep) → Run m es → Happens m es e → Goes (log_of m es)
-        → Goes (log_of m (e ∷ es))
-    goes_step es e run happens goes = record {
-      since = past_trans goes.since (log_of-past m e es 0);
-      phase = λ cut. phase_here es e run happens goes cut (goes.phase (λ h. past_trans (log_of-past m e es h) (cut h)));
-    }
-
-    cut_first : IsCut (with_first was f.first) now
+    pub cut_first : IsCut (with_first was f.first) now
     cut_first zero = record { newer = f.later; is = f.is }
     cut_first (suc h) = served.cut (suc h)
 
-    phase_now : IsPhase now
-    phase_now =
-        (along_cuts m (stamped start) Goes goes_step (hosts start)
-        (with_first was f.first) now served.since.within served.since.right f.right cut_first
-        (record { since = past_self (f.first ∷ was 0); phase = λ cut. phase_first })).phase (λ h. past_self (now h))
+    module _ (steered : IsSteered was f.first) where
+      phase_first : IsPhase (with_first was f.first)
+      phase_first = leads_on was (with_first was f.first) f.first next_first first_low
+          (asked_all was (with_first was f.first) f.first next_first first_low
+          (ap is_request f.body) served.before.quiet) steered.begins
+        where
+          first_low : f.first.host < hosts start
+          first_low = omega (arith, at_shell)
 
-    -- when nothing is under way any more it is done
-    pub is_done : D now
-    is_done = by phase_now
-      where
-        by : IsPhase now → D now
-        by (inl (x, (way, holds))) =
-            absurd (longer x (taken m x.signal.from.0 (now x.to))
-            (subst (λ xs. IsPast xs (taken m x.signal.from.0 (now x.to)))
-            (served.since.quiet x.signal.from.0 x.to way.from way.to ∙ way.ahead) (past_self _)))
-        by (inr (quiet, done)) = done
+      -- all along the steps since the request, as far as they are those of these logs
+      record Goes (logs : ℕ → List HostStep) : Type 0 where
+        since : IsPast (f.first ∷ was 0) (logs 0)
+        phase : IsCut logs now → IsPhase logs
+
+      phase_here : (es : List HostStep) (e : HostStep) (run : Run m es) (happens : Happens m es e)
+          (since : IsPast (f.first ∷ was 0) (log_of m es 0)) (cut : IsCut (log_of m (e ∷ es)) now) → IsPhase (log_of m es)
+          → IsPhase (log_of m (e ∷ es))
+      phase_here es e run happens since cut = by
+        where
+          next : IsNext (log_of m es) (log_of m (e ∷ es)) e
+          next = next_here es e run happens since cut
+
+          low : e.host < hosts start
+          low = low_here es e run happens since cut
+
+          by : IsPhase (log_of m es) → IsPhase (log_of m (e ∷ es))
+          by (inl (x, (way, holds))) =
+              let takes = takes_it (log_of m es) (log_of m (e ∷ es)) e next low (plain_here es e run happens since cut)
+              (source_here es e run happens since cut) (past_here es e run happens since cut) x way in
+              leads_on (log_of m es) (log_of m (e ∷ es)) e next low
+              (taken_all (log_of m es) (log_of m (e ∷ es)) e next low (plain_here es e run happens since cut)
+              (source_here es e run happens since cut) (past_here es e run happens since cut) x way)
+              (steered.goes (log_of m es) (log_of m (e ∷ es)) e x next (ap (λ (z : Addressed). z.signal) takes)
+              (ap (λ (z : Addressed). z.to) takes) holds)
+          by (inr (quiet, done)) =
+              absurd (not_at_quiet (log_of m es) (log_of m (e ∷ es)) e next low (plain_here es e run happens since cut)
+              (source_here es e run happens since cut) (past_here es e run happens since cut)
+              (quiet e.step.taken.from.0 e.host (source_here es e run happens since cut) low))
+
+      goes_step : (es : List HostStep) (e : HostStep) → Run m es → Happens m es e → Goes (log_of m es)
+          → Goes (log_of m (e ∷ es))
+      goes_step es e run happens goes = record {
+        since = past_trans goes.since (log_of-past m e es 0);
+        phase = λ cut. phase_here es e run happens goes.since cut (goes.phase (λ h. past_trans (log_of-past m e es h) (cut h)));
+      }
+
+      phase_now : IsPhase now
+      phase_now =
+          (along_cuts m (stamped start) Goes goes_step (hosts start)
+          (with_first was f.first) now served.since.within served.since.right f.right cut_first
+          (record { since = past_self (f.first ∷ was 0); phase = λ cut. phase_first })).phase (λ h. past_self (now h))
+
+      -- when nothing is under way any more it is done
+      pub is_done : D now
+      is_done = by phase_now
+        where
+          by : IsPhase now → D now
+          by (inl (x, (way, holds))) =
+              absurd (longer x (taken m x.signal.from.0 (now x.to))
+              (subst (λ xs. IsPast xs (taken m x.signal.from.0 (now x.to)))
+              (served.since.quiet x.signal.from.0 x.to way.from way.to ∙ way.ahead) (past_self _)))
+          by (inr (quiet, done)) = done

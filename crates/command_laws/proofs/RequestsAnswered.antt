@@ -2,7 +2,10 @@
 use Rattle.std.proofs.Common.{◌⊎◌, ℕ, List, inl, inr}
 use Rattle.std.specs.Prelude.{None, Some}
 use Rattle.run_theory.proofs.Pasts.{past_trans}
+use Rattle.sig_core.specs.declared.member.TxId.{TxId}
 use Rattle.sig_core.specs.declared.op.Op.{Op}
+use Rattle.sig_core.specs.declared.outcome.AbortCause.TheVariants as cause
+use Rattle.sig_core.specs.declared.outcome.Outcome.TheVariants as outcome
 use Rattle.sig_core.specs.declared.request.ApiReq.{ApiReq}
 use Rattle.sig_core.specs.declared.request.ApiReq.TheVariants as request
 use Rattle.world_core.specs.Start.{Start}
@@ -13,6 +16,8 @@ use Rattle.command_laws.proofs.Begins.{begin_comes_to}
 use Rattle.command_laws.proofs.ComesTo.{commits_come_to, operations_come_to}
 use Rattle.command_laws.proofs.Committed.{commits_committed}
 use Rattle.command_laws.proofs.Dumps.{digest_comes_to, rows_come_to}
+use Rattle.command_laws.proofs.EndsOnce.{abort_once, commit_once}
+use Rattle.command_laws.proofs.GivenUp.{alone_given_up}
 use Rattle.command_laws.proofs.HeldUp.{each_held_up}
 use Rattle.command_laws.proofs.HoldersTold.{holders_told}
 use Rattle.command_laws.proofs.LoneAnswered.{lone_answered}
@@ -22,9 +27,12 @@ use Rattle.command_laws.proofs.OperationAnswered.{operations_answered}
 use Rattle.command_laws.proofs.ServedBetween.{requests_served}
 use Rattle.command_laws.proofs.Ticks.{ticks}
 use Rattle.command_laws.proofs.TurnedDown.{refused_where_due}
+use Rattle.command_laws.proofs.WaitAborted.{waiting_aborts_heard}
 use Rattle.command_laws.specs.Alone.{IsRefusedAlone, IsTurnedAway, WaitsAlone}
-use Rattle.command_laws.specs.Answers.{AnswersRequest, LoneComesTo, RequestsAreAnswered}
-use Rattle.command_laws.specs.Served.{IsAnsweredAlone, IsServedBetween}
+use Rattle.command_laws.specs.Answers.{AnswersRequest, IsAbortedAs, LoneComesTo, RequestsAreAnswered}
+use Rattle.command_laws.specs.Begun.{TakesCommands}
+use Rattle.command_laws.specs.Once.{IsToldOnce}
+use Rattle.command_laws.specs.Served.{IsAnsweredAlone, IsServedBetween, IsToldCommitted}
 
 lone_comes_to : (start : Start) (was now : ℕ → List HostStep) (op : Op) → IsServedBetween start was now (request.Operate None op) → LoneComesTo start was now
 lone_comes_to start was now op served = by (lone_answered each_answered start was now op served)
@@ -41,9 +49,25 @@ answers_request start was now idle (request.Operate (Some name) op) served = (
 )
 answers_request start was now idle (request.Operate None op) served = lone_comes_to start was now op served
 answers_request start was now idle (request.Commit name) served =
-    (commits_come_to start was now name served, (λ tx t. commits_committed each_answered start was now name t.item tx served t.named t.ready t.own))
-answers_request start was now idle (request.Abort name) served = λ tx t. aborts_answered each_answered start was now name t.item tx served t.named t.ready t.own
-answers_request start was now idle request.Pending served = λ first waits left. holders_told each_answered each_held_up start first was now waits served left
+    (commits_come_to start was now name served, told)
+  where
+    told : (tx : TxId) → TakesCommands start was name tx → IsToldCommitted start was now name tx × IsToldOnce start was now name
+    told tx t =
+        let c = commits_committed each_answered start was now name t.item tx served t.named t.ready t.own in
+        (c, commit_once start was now name t.item tx served t.named t.ready t.own (outcome.Committed c.epoch) c.told)
+answers_request start was now idle (request.Abort name) served = (
+  told,
+  (λ tx t. waiting_aborts_heard start was now name tx served t),
+)
+  where
+    told : (tx : TxId) → TakesCommands start was name tx → IsAbortedAs start was now name × IsToldOnce start was now name
+    told tx t =
+        let a = aborts_answered each_answered start was now name t.item tx served t.named t.ready t.own in
+        (a, abort_once start was now name t.item tx served t.named t.ready t.own (outcome.Aborted cause.Request) a)
+answers_request start was now idle request.Pending served = λ first waits left. (
+  holders_told each_answered each_held_up start first was now waits served left,
+  alone_given_up start first was now waits served left,
+)
 answers_request start was now idle (request.Begin name at) served = begin_comes_to start was now name at served
 answers_request start was now idle (request.Tick round of) served = ticks start was now round of served
 answers_request start was now idle (request.Rows node) served = rows_come_to start was now idle node served

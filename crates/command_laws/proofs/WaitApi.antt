@@ -182,6 +182,19 @@ pending_by_replies s holder None (Some tx) = refl
 pending_by_replies s holder None None = refl
 pending_by_replies s holder (Some name) one = refl
 
+-- the row of the question for replies, where it is known for whom the transaction waits
+pub pending_is : (s : ApiState) (front : List OpenTransaction) (t : OpenTransaction) (back : List OpenTransaction)
+    (name : Option ℕ) (next : TxId) → IsAboutOne front t back (Some name) (Some next) s → is_unanswered t.doing ≡ true
+    → tally (is_named name) front ≡ 0 → is_named name t ≡ true
+    → pending_row s ≡ pending_by s (name_of s next) t.name t.tx
+unfolding pending_row
+pending_is s front t back name next about waits none named =
+    ap (where_at s.opened (stay s) (λ at (x : OpenTransaction). pending_if s x (is_unanswered x.doing) x.ahead))
+    (own_place_is s name front (behind t (Some next)) back about.own_is about.opened none named)
+    ∙ ap (if_there (stay s) (λ (x : OpenTransaction). pending_if s x (is_unanswered x.doing) x.ahead))
+    (ap (λ xs. slice_get xs (length front)) about.opened ∙ split_get front (behind t (Some next)) back)
+    ∙ ap (λ b. pending_if s (behind t (Some next)) b (Some next)) waits
+
 -- the question for replies tells the holder
 pub record TellsHolder (name : Option ℕ) (ahead : Option TxId) (s : ApiState) (step : Step ApiState) : Type 0 where
   pub who : TxId
@@ -191,7 +204,7 @@ pub record TellsHolder (name : Option ℕ) (ahead : Option TxId) (s : ApiState) 
 pub pending_first : (s : ApiState) (front : List OpenTransaction) (t : OpenTransaction) (back : List OpenTransaction) (name : Option ℕ) (ahead : Option TxId) → IsAboutOne front t back (Some name) ahead s
     → is_unanswered t.doing ≡ true → tally (is_named name) front ≡ 0 → is_named name t ≡ true → is_some ahead ≡ true
     → TellsHolder t.name ahead s (request_row s request.Pending)
-unfolding request_row pending_row
+unfolding request_row
 pending_first s front t back name ahead about waits none named some = by ahead some about
   where
     by : (a : Option TxId) → is_some a ≡ true → IsAboutOne front t back (Some name) a s
@@ -204,8 +217,4 @@ pending_first s front t back name ahead about waits none named some = by ahead s
     }
       where
         now : pending_row s ≡ pending_by s (name_of s next) t.name t.tx
-        now =
-            ap (where_at s.opened (stay s) (λ at (x : OpenTransaction). pending_if s x (is_unanswered x.doing) x.ahead))
-            (own_place_is s name front (behind t (Some next)) back about.own_is about.opened none named)
-            ∙ ap (if_there (stay s) (λ (x : OpenTransaction). pending_if s x (is_unanswered x.doing) x.ahead)) (ap (λ xs. slice_get xs (length front)) about.opened ∙ split_get front (behind t (Some next)) back)
-            ∙ ap (λ b. pending_if s (behind t (Some next)) b (Some next)) waits
+        now = pending_is s front t back name next about waits none named

@@ -21,10 +21,12 @@ use Rattle.world_core.specs.Requests.{AreAskedAtQuiet, request_in}
 use Rattle.world_core.specs.Start.{Start}
 use Rattle.answer_laws.specs.Answered.{IsAnswered}
 use Rattle.host_laws.specs.OpenedAfter.{opened_after}
+use Rattle.command_laws.specs.Aborts.{HasOperation, IsAbortHeard, IsGivenUp}
 use Rattle.command_laws.specs.Alone.{IsRefusedAlone, IsTurnedAway, WaitsAlone}
 use Rattle.command_laws.specs.Begun.{BeginComesTo, TakesCommands}
 use Rattle.command_laws.specs.Between.{IsAskedAgain, IsServedIn}
 use Rattle.command_laws.specs.Dumped.{DumpComesTo}
+use Rattle.command_laws.specs.Once.{IsToldOnce}
 use Rattle.command_laws.specs.Served.{IsAnsweredAlone, IsAnsweredAs, IsCommittedAlone, IsRefusedAs, IsServedBetween, IsToldCommitted, IsToldHolder, StillWaits, replies_since}
 use Rattle.command_laws.specs.Ticked.{IsTicked}
 use Rattle.command_laws.specs.TurnedDown.{IsRefusedWhereDue, IsTurnedDown}
@@ -80,7 +82,8 @@ pub record TakesOperations (start : Start) (logs : ℕ → List HostStep) (name 
 abbrev pub IsAbortedAs : Start → (was now : ℕ → List HostStep) → ℕ → Type 0
 IsAbortedAs start was now name = IsIn (Ended (Some name) (Aborted cause.Request)) (replies_since start was now)
 
--- What a request comes to between these two moments. A transaction that takes it isn't turned down. A command that left
+-- What a request comes to between these two moments. A transaction that takes it isn't turned down, and at a commit or an
+-- abort no other reply has its name than that of its end. A command that left
 -- something of its own unanswered is asked about twice: the second time it is told who holds what it waits for.
 abbrev pub AnswersRequest : Start → (was now : ℕ → List HostStep) → ApiReq → Type 0
 AnswersRequest start was now (request.Operate (Some name) op) =
@@ -90,12 +93,14 @@ AnswersRequest start was now (request.Operate (Some name) op) =
 AnswersRequest start was now (request.Operate None op) = LoneComesTo start was now
 AnswersRequest start was now (request.Commit name) =
     CommitComesTo start was now name ×
-    ((tx : TxId) → TakesCommands start was name tx → IsToldCommitted start was now name tx)
+    ((tx : TxId) → TakesCommands start was name tx → IsToldCommitted start was now name tx × IsToldOnce start was now name)
 AnswersRequest start was now (request.Abort name) =
-    (tx : TxId) → TakesCommands start was name tx → IsAbortedAs start was now name
+    ((tx : TxId) → TakesCommands start was name tx → IsAbortedAs start was now name × IsToldOnce start was now name)
+    ×
+    ((tx : TxId) → HasOperation start was name tx → IsAbortHeard start was now (Some name) tx)
 AnswersRequest start was now request.Pending =
     (first : ℕ → List HostStep) → IsServedBetween start first was request.Waits → is_left_open
-    (after start 0 (first 0)) ≡ true → IsToldHolder start first was now
+    (after start 0 (first 0)) ≡ true → IsToldHolder start first was now × IsGivenUp start first was now
 AnswersRequest start was now (request.Begin name at) = BeginComesTo start was now name at
 AnswersRequest start was now (request.Tick round of) = IsTicked start was now round of
 AnswersRequest start was now (request.Rows node) = DumpComesTo start was now (request.Rows node) node false

@@ -5,6 +5,7 @@ pub mod Begun
 pub mod Between
 pub mod Dumped
 pub mod Living
+pub mod Once
 pub mod Sample
 pub mod Served
 pub mod Ticked

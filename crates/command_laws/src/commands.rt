@@ -1,5 +1,5 @@
 //! What is proved of commands.
-ghost use Rattle.command_laws.specs.Aborts.{ReadyAbortsAreAnswered};
+ghost use Rattle.command_laws.specs.Aborts.{ReadyAbortsAreAnswered, WaitingAbortsAreHeard};
 ghost use Rattle.command_laws.specs.Alone.{LoneOperationsAreAnswered};
 ghost use Rattle.command_laws.specs.Living.{RepliesAreOfTheLiving};
 ghost use Rattle.command_laws.specs.Sample.{SampleIsServed};
@@ -37,6 +37,12 @@ pub fn commits_come_to_something()
 /// An abort of a transaction that takes commands ends in its being aborted at the client's request.
 pub fn aborts_are_answered()
     ensures { ReadyAbortsAreAnswered }
+{}
+
+/// An abort of a transaction whose operation waits ends in its being aborted at the client's request, or
+/// its operation waits on, and its coordinator is aborting it so.
+pub fn waiting_aborts_are_heard()
+    ensures { WaitingAbortsAreHeard }
 {}
 
 /// An operation alone is answered, or its transaction is aborted for want of room or of time, or can't
