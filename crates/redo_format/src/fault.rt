@@ -3,7 +3,7 @@
 /// Why bytes were not read as a record.
 #[derive(Clone, Copy, Debug, PartialEq, Eq)]
 pub enum FormatFault {
-    /// No record stands at the front of the bytes. `at` is the length of their longest front with
-    /// which some record begins: the place of the first byte that fits none, or the end.
+    /// No record stands at the front of the bytes. `at` is the place of the first byte that fits
+    /// none, or their length where each fits and more would have to follow.
     NotRecord { at: usize },
 }

@@ -6,7 +6,7 @@ mod encoding;
 mod fault;
 mod reading;
 
-pub use decoding::decode;
+pub use decoding::{decode, none_begins_another};
 pub use encoding::{encode, size_of};
 pub use fault::FormatFault;
 
