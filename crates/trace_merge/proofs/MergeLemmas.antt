@@ -59,13 +59,13 @@ at_front i le = omega (arith, le)
 more_is : (n : ℕ) → n + 1 ≡ suc n
 more_is n = omega arith
 
-from_front : (i : ℕ) → i ≡ 0 + i
+pub from_front : (i : ℕ) → i ≡ 0 + i
 from_front i = omega arith
 
-from_here : (n : ℕ) → n ≡ n + 0
+pub from_here : (n : ℕ) → n ≡ n + 0
 from_here n = omega arith
 
-from_next : (n i : ℕ) → n + suc i ≡ (n + 1) + i
+pub from_next : (n i : ℕ) → n + suc i ≡ (n + 1) + i
 from_next n i = omega arith
 
 -- what holds at each place of a list holds of each entry, and back
