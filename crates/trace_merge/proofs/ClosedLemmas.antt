@@ -52,7 +52,6 @@ neither true b e = absurd (never (sym e))
 both_false : (a b : Bool) → a ≡ false → b ≡ false → (a || b) ≡ false
 both_false a b p q = ap (λ v. v || b) p ∙ q
 
-
 has_last : {A : Type 0} (xs : List A) (x : A) → HasEntry (xs ++ x ∷ [])
 has_last [] x = tt
 has_last (y ∷ xs) x = tt
@@ -107,7 +106,7 @@ module _ (logs : List HostLog) (cut : List ℕ) where
   stands_none log n [] all = refl
   stands_none log n (e ∷ steps) all =
       ap (λ b. if b then Some (record { host = log.host; step = n }) else fault_from logs cut log (n + 1) steps)
-          (both_false (nat_lt (last_inside logs cut 0) log.made) (is_sent_outside logs cut e) (above_not (last_inside logs cut 0) log.made all.0.0) all.0.1)
+      (both_false (nat_lt (last_inside logs cut 0) log.made) (is_sent_outside logs cut e) (above_not (last_inside logs cut 0) log.made all.0.0) all.0.1)
       ∙ stands_none log (n + 1) steps all.1
 
   -- each of the steps of a log inside stands, where there is such a log
@@ -135,7 +134,7 @@ module _ (logs : List HostLog) (cut : List ℕ) where
   stand_all [] n all = refl
   stand_all (log ∷ ls) n all =
       ap (λ o. or_later o (first_fault logs cut ls (n + 1)))
-          (stands_none log 0 (take (slice_index_or cut n 0) log.steps) (subst (λ k. AllStand log (slice_index_or cut k 0)) (sym (from_here n)) (all zero)))
+      (stands_none log 0 (take (slice_index_or cut n 0) log.steps) (subst (λ k. AllStand log (slice_index_or cut k 0)) (sym (from_here n)) (all zero)))
       ∙ stand_all ls (n + 1) (λ h. subst (λ k. AllStand (slice_index_or ls h (no_steps 0)) (slice_index_or cut k 0)) (from_next n h) (all (suc h)))
 
   module _ (start : Start) (made : ℕ → ℕ) (same : (h : ℕ) → made h ≡ made_at logs h) where
@@ -171,9 +170,10 @@ module _ (logs : List HostLog) (cut : List ℕ) where
 
     below_taken : (j : ℕ) (log : List LogStep) → ((i : ℕ) → Each (Below i) (taken m i (map (of_host j) log))) → Each SentInside log
     below_taken j [] all = tt
-    below_taken j (e ∷ log) all =
-        (head (is_request e.taken.body) refl (all e.taken.from.0),
-         below_taken j log (λ i. tail i (is_request e.taken.body) (e.taken.from.0 == i) (all i)))
+    below_taken j (e ∷ log) all = (
+      head (is_request e.taken.body) refl (all e.taken.from.0),
+      below_taken j log (λ i. tail i (is_request e.taken.body) (e.taken.from.0 == i) (all i)),
+    )
       where
         x : Addressed
         x = record { to = j; signal = e.taken }
@@ -203,9 +203,10 @@ module _ (logs : List HostLog) (cut : List ℕ) where
       where
         newest : (h : ℕ) → Each (λ e. MadeInside (made_at logs h)) (newest_inside logs cut h) × Each SentInside (newest_inside logs cut h)
         newest h =
-            let oldest = both_each (λ e. MadeInside (made_at logs h)) SentInside (take (slice_index_or cut h 0) (steps_of logs h)) (subst (λ k. AllStand (slice_index_or logs h (no_steps 0)) (slice_index_or cut k 0)) (sym (from_front h)) (all_stand logs 0 none h)) in
-            (each_reverse (λ e. MadeInside (made_at logs h)) (take (slice_index_or cut h 0) (steps_of logs h)) oldest.0,
-             each_reverse SentInside (take (slice_index_or cut h 0) (steps_of logs h)) oldest.1)
+            let oldest = both_each (λ e. MadeInside (made_at logs h)) SentInside (take (slice_index_or cut h 0) (steps_of logs h)) (subst (λ k. AllStand (slice_index_or logs h (no_steps 0)) (slice_index_or cut k 0)) (sym (from_front h)) (all_stand logs 0 none h)) in (
+              each_reverse (λ e. MadeInside (made_at logs h)) (take (slice_index_or cut h 0) (steps_of logs h)) oldest.0,
+              each_reverse SentInside (take (slice_index_or cut h 0) (steps_of logs h)) oldest.1,
+            )
 
     unfaulted : IsClosed m (parts_at logs cut) → first_fault logs cut logs 0 ≡ None
     unfaulted c = stand_all logs 0 (λ h. subst (λ k. AllStand (slice_index_or logs h (no_steps 0)) (slice_index_or cut k 0)) (from_front h) (stands h))
@@ -227,7 +228,7 @@ module _ (logs : List HostLog) (cut : List ℕ) where
         stands : (h : ℕ) → Each (Stands (slice_index_or logs h (no_steps 0))) (take (slice_index_or cut h 0) (steps_of logs h))
         stands h =
             join h (take (slice_index_or cut h 0) (steps_of logs h)) (λ has. is_made h (entry h (take (slice_index_or cut h 0) (steps_of logs h)) has))
-                (subst (Each SentInside) (reverse-reverse (take (slice_index_or cut h 0) (steps_of logs h))) (each_reverse SentInside (newest_inside logs cut h) (sent h)))
+            (subst (Each SentInside) (reverse-reverse (take (slice_index_or cut h 0) (steps_of logs h))) (each_reverse SentInside (newest_inside logs cut h) (sent h)))
 
     pub where_none : first_fault logs cut logs 0 ≡ None → (true ≡ true) ↔ IsClosed m (parts_at logs cut)
     where_none is = (λ ok. closed is, λ c. refl)

@@ -87,7 +87,12 @@ fn is_request(body: &Body) -> bool
     ensures { result ≡ is_request body.now }
 {
     match body {
-        Body::Host(HostSignal::Continue { work: Work::Request(_), .. }) => true,
+        Body::Host(
+            HostSignal::Continue {
+                work: Work::Request(_),
+                ..
+            },
+        ) => true,
         _ => false,
     }
 }
@@ -121,5 +126,9 @@ fn inside(log: &HostLog, count: usize) -> &[LogStep]
     ensures { result.now ≡ take count log.now.steps }
 {
     let steps = log.steps.as_slice();
-    if count < steps.len() { &steps[..count] } else { steps }
+    if count < steps.len() {
+        &steps[..count]
+    } else {
+        steps
+    }
 }

@@ -1,8 +1,8 @@
 //! Merges and cuts of small logs, made by hand.
 use crate::{CutFault, is_closed, merge};
 use sig_core::{
-    ApiReq, Body, Boxed, CLIENT, Held, HostId, HostLog, HostSignal, LogStep, Marks, Member, Members,
-    NoMemory, Seq, Signal, View, Work,
+    ApiReq, Body, Boxed, CLIENT, Held, HostId, HostLog, HostSignal, LogStep, Marks, Member,
+    Members, NoMemory, Seq, Signal, View, Work,
 };
 use std::alloc::Global;
 use std::test::Fail;
@@ -10,7 +10,13 @@ use std::test::Fail;
 const NOBODY: Member = Member { node: 0, start: 0 };
 
 // A step with this stamp, that took a signal of a host, which had that stamp.
-fn step(alloc: Global, stamp: u64, from: u32, sent_at: u64, body: Body) -> Result<LogStep, NoMemory> {
+fn step(
+    alloc: Global,
+    stamp: u64,
+    from: u32,
+    sent_at: u64,
+    body: Body,
+) -> Result<LogStep, NoMemory> {
     let view = View {
         number: 1,
         full: Members::new(),
@@ -87,7 +93,8 @@ fn logs_sort_by_stamp_and_host(rt: HostRuntime) -> Result<(), Fail> {
     for at in run.as_slice() {
         places.push((at.host.0, at.step))?;
     }
-    assert_eq!(rt; places.as_slice(), &[(0, 0), (1, 0), (2, 0), (1, 1), (0, 1)]);
+    let wanted: [(u32, usize); 5] = [(0, 0), (1, 0), (2, 0), (1, 1), (0, 1)];
+    assert_eq!(rt; places.as_slice(), wanted.as_slice());
     Ok(())
 }
 
