@@ -18,7 +18,7 @@ use Rattle.world_core.specs.Steps.{Addressed, HostStep}
 use Rattle.world_core.specs.World.{no_steps, of_host, steps_of}
 use Rattle.trace_merge.specs.declared.closed.CutFault.{CutFault}
 use Rattle.trace_merge.specs.Closed.{fault_from, fault_in, first_fault, is_outside, is_sent_outside, last_inside, made_at, newest_inside, newest_stamp, or_later, parts_at}
-use Rattle.trace_merge.proofs.MergeLemmas.{each_reverse}
+use Rattle.trace_merge.proofs.MergeLemmas.{each_reverse, from_front, from_here, from_next}
 
 -- tests over plain numbers and truth values
 not_above : (m n : ℕ) → nat_lt m n ≡ false → n ≤ m
@@ -52,7 +52,6 @@ neither true b e = absurd (never (sym e))
 both_false : (a b : Bool) → a ≡ false → b ≡ false → (a || b) ≡ false
 both_false a b p q = ap (λ v. v || b) p ∙ q
 
-
 has_last : {A : Type 0} (xs : List A) (x : A) → HasEntry (xs ++ x ∷ [])
 has_last [] x = tt
 has_last (y ∷ xs) x = tt
@@ -75,6 +74,10 @@ each_of_one P (x ∷ xs) has all = all.0
 both_each : {A : Type 0} (P Q : A → Type 0) (xs : List A) → Each (λ x. P x × Q x) xs → Each P xs × Each Q xs
 both_each P Q [] all = (tt, tt)
 both_each P Q (x ∷ xs) all = let rest = both_each P Q xs all.1 in ((all.0.0, rest.0), (all.0.1, rest.1))
+
+take_none : (n : ℕ) → take {A = LogStep} n [] ≡ []
+take_none zero = refl
+take_none (suc n) = refl
 
 module _ (logs : List HostLog) (cut : List ℕ) where
   -- the host of a log was made inside, and the signal of a step sent inside
@@ -103,36 +106,36 @@ module _ (logs : List HostLog) (cut : List ℕ) where
   stands_none log n [] all = refl
   stands_none log n (e ∷ steps) all =
       ap (λ b. if b then Some (record { host = log.host; step = n }) else fault_from logs cut log (n + 1) steps)
-          (both_false (nat_lt (last_inside logs cut 0) log.made) (is_sent_outside logs cut e) (above_not (last_inside logs cut 0) log.made all.0.0) all.0.1)
+      (both_false (nat_lt (last_inside logs cut 0) log.made) (is_sent_outside logs cut e) (above_not (last_inside logs cut 0) log.made all.0.0) all.0.1)
       ∙ stands_none log (n + 1) steps all.1
 
   -- each of the steps of a log inside stands, where there is such a log
   abbrev AllStand : HostLog → ℕ → Type 0
   AllStand log inside = Each (Stands log) (take inside log.steps)
 
-  all_stand : (ls : List HostLog) (ns : List ℕ) → length ns ≡ length ls → first_fault logs cut ls ns ≡ None
-      → (h : ℕ) → AllStand (slice_index_or ls h (no_steps 0)) (slice_index_or ns h 0)
+  all_stand : (ls : List HostLog) (n : ℕ) → first_fault logs cut ls n ≡ None
+      → (h : ℕ) → AllStand (slice_index_or ls h (no_steps 0)) (slice_index_or cut (n + h) 0)
   unfolding fault_in
-  all_stand [] [] same none zero = tt
-  all_stand [] [] same none (suc h) = tt
-  all_stand [] (n ∷ ns) same none h = absurd (omega (arith, same))
-  all_stand (log ∷ ls) [] same none h = absurd (omega (arith, same))
-  all_stand (log ∷ ls) (n ∷ ns) same none h = go (fault_in logs cut log n) refl none (λ is k. all_stand ls ns (omega (arith, same)) is k) h
+  all_stand [] n none h = subst (Each (Stands (no_steps 0))) (sym (take_none (slice_index_or cut (n + h) 0))) tt
+  all_stand (log ∷ ls) n none h = go (fault_in logs cut log (slice_index_or cut n 0)) refl none (λ is k. all_stand ls (n + 1) is k) h
     where
-      go : (o : Option CutFault) → fault_in logs cut log n ≡ o → or_later o (first_fault logs cut ls ns) ≡ None
-          → (first_fault logs cut ls ns ≡ None → (k : ℕ) → AllStand (slice_index_or ls k (no_steps 0)) (slice_index_or ns k 0))
-          → (h : ℕ) → AllStand (slice_index_or (log ∷ ls) h (no_steps 0)) (slice_index_or (n ∷ ns) h 0)
-      go None at is later zero = none_stands log 0 (take n log.steps) at
-      go None at is later (suc h) = later is h
+      go : (o : Option CutFault) → fault_in logs cut log (slice_index_or cut n 0) ≡ o → or_later o (first_fault logs cut ls (n + 1)) ≡ None
+          → (first_fault logs cut ls (n + 1) ≡ None → (k : ℕ) → AllStand (slice_index_or ls k (no_steps 0)) (slice_index_or cut ((n + 1) + k) 0))
+          → (h : ℕ) → AllStand (slice_index_or (log ∷ ls) h (no_steps 0)) (slice_index_or cut (n + h) 0)
+      go None at is later zero =
+          subst (λ k. AllStand log (slice_index_or cut k 0)) (from_here n) (none_stands log 0 (take (slice_index_or cut n 0) log.steps) at)
+      go None at is later (suc h) =
+          subst (λ k. AllStand (slice_index_or ls h (no_steps 0)) (slice_index_or cut k 0)) (sym (from_next n h)) (later is h)
       go (Some fault) at is later h = absurd (some_none fault is)
 
-  stand_all : (ls : List HostLog) (ns : List ℕ) → ((h : ℕ) → AllStand (slice_index_or ls h (no_steps 0)) (slice_index_or ns h 0))
-      → first_fault logs cut ls ns ≡ None
+  stand_all : (ls : List HostLog) (n : ℕ) → ((h : ℕ) → AllStand (slice_index_or ls h (no_steps 0)) (slice_index_or cut (n + h) 0))
+      → first_fault logs cut ls n ≡ None
   unfolding fault_in
-  stand_all [] ns all = refl
-  stand_all (log ∷ ls) [] all = refl
-  stand_all (log ∷ ls) (n ∷ ns) all =
-      ap (λ o. or_later o (first_fault logs cut ls ns)) (stands_none log 0 (take n log.steps) (all zero)) ∙ stand_all ls ns (λ h. all (suc h))
+  stand_all [] n all = refl
+  stand_all (log ∷ ls) n all =
+      ap (λ o. or_later o (first_fault logs cut ls (n + 1)))
+      (stands_none log 0 (take (slice_index_or cut n 0) log.steps) (subst (λ k. AllStand log (slice_index_or cut k 0)) (sym (from_here n)) (all zero)))
+      ∙ stand_all ls (n + 1) (λ h. subst (λ k. AllStand (slice_index_or ls h (no_steps 0)) (slice_index_or cut k 0)) (from_next n h) (all (suc h)))
 
   module _ (start : Start) (made : ℕ → ℕ) (same : (h : ℕ) → made h ≡ made_at logs h) where
     abbrev m : Machine HostStep Addressed
@@ -167,9 +170,10 @@ module _ (logs : List HostLog) (cut : List ℕ) where
 
     below_taken : (j : ℕ) (log : List LogStep) → ((i : ℕ) → Each (Below i) (taken m i (map (of_host j) log))) → Each SentInside log
     below_taken j [] all = tt
-    below_taken j (e ∷ log) all =
-        (head (is_request e.taken.body) refl (all e.taken.from.0),
-         below_taken j log (λ i. tail i (is_request e.taken.body) (e.taken.from.0 == i) (all i)))
+    below_taken j (e ∷ log) all = (
+      head (is_request e.taken.body) refl (all e.taken.from.0),
+      below_taken j log (λ i. tail i (is_request e.taken.body) (e.taken.from.0 == i) (all i)),
+    )
       where
         x : Addressed
         x = record { to = j; signal = e.taken }
@@ -190,8 +194,8 @@ module _ (logs : List HostLog) (cut : List ℕ) where
         tail i false false all = all
         tail i false true all = all.1
 
-    closed : length cut ≡ length logs → first_fault logs cut logs cut ≡ None → IsClosed m (parts_at logs cut)
-    closed sizes none =
+    closed : first_fault logs cut logs 0 ≡ None → IsClosed m (parts_at logs cut)
+    closed none =
         record {
           signals = λ i j. subst (λ k. Each (λ (x : Addressed). x.signal.stamp ≤ k) (taken m i (parts_at logs cut j))) (sym (last_at i)) (taken_below i j (newest_inside logs cut j) (newest j).1);
           hosts = λ h has. subst (λ k. made h ≤ k) (sym (last_at 0)) (subst (λ k. k ≤ last_inside logs cut 0) (sym (same h)) (each_of_one (MadeInside (made_at logs h)) (newest_inside logs cut h) (map_has (of_host h) (newest_inside logs cut h) has) (newest h).0));
@@ -199,12 +203,13 @@ module _ (logs : List HostLog) (cut : List ℕ) where
       where
         newest : (h : ℕ) → Each (λ e. MadeInside (made_at logs h)) (newest_inside logs cut h) × Each SentInside (newest_inside logs cut h)
         newest h =
-            let oldest = both_each (λ e. MadeInside (made_at logs h)) SentInside (take (slice_index_or cut h 0) (steps_of logs h)) (all_stand logs cut sizes none h) in
-            (each_reverse (λ e. MadeInside (made_at logs h)) (take (slice_index_or cut h 0) (steps_of logs h)) oldest.0,
-             each_reverse SentInside (take (slice_index_or cut h 0) (steps_of logs h)) oldest.1)
+            let oldest = both_each (λ e. MadeInside (made_at logs h)) SentInside (take (slice_index_or cut h 0) (steps_of logs h)) (subst (λ k. AllStand (slice_index_or logs h (no_steps 0)) (slice_index_or cut k 0)) (sym (from_front h)) (all_stand logs 0 none h)) in (
+              each_reverse (λ e. MadeInside (made_at logs h)) (take (slice_index_or cut h 0) (steps_of logs h)) oldest.0,
+              each_reverse SentInside (take (slice_index_or cut h 0) (steps_of logs h)) oldest.1,
+            )
 
-    unfaulted : IsClosed m (parts_at logs cut) → first_fault logs cut logs cut ≡ None
-    unfaulted c = stand_all logs cut stands
+    unfaulted : IsClosed m (parts_at logs cut) → first_fault logs cut logs 0 ≡ None
+    unfaulted c = stand_all logs 0 (λ h. subst (λ k. AllStand (slice_index_or logs h (no_steps 0)) (slice_index_or cut k 0)) (from_front h) (stands h))
       where
         sent : (h : ℕ) → Each SentInside (newest_inside logs cut h)
         sent h = below_taken h (newest_inside logs cut h) (λ i. subst (λ k. Each (λ (x : Addressed). x.signal.stamp ≤ k) (taken m i (parts_at logs cut h))) (last_at i) (c.signals i h))
@@ -223,10 +228,10 @@ module _ (logs : List HostLog) (cut : List ℕ) where
         stands : (h : ℕ) → Each (Stands (slice_index_or logs h (no_steps 0))) (take (slice_index_or cut h 0) (steps_of logs h))
         stands h =
             join h (take (slice_index_or cut h 0) (steps_of logs h)) (λ has. is_made h (entry h (take (slice_index_or cut h 0) (steps_of logs h)) has))
-                (subst (Each SentInside) (reverse-reverse (take (slice_index_or cut h 0) (steps_of logs h))) (each_reverse SentInside (newest_inside logs cut h) (sent h)))
+            (subst (Each SentInside) (reverse-reverse (take (slice_index_or cut h 0) (steps_of logs h))) (each_reverse SentInside (newest_inside logs cut h) (sent h)))
 
-    pub where_none : length cut ≡ length logs → first_fault logs cut logs cut ≡ None → (true ≡ true) ↔ IsClosed m (parts_at logs cut)
-    where_none sizes is = (λ ok. closed sizes is, λ c. refl)
+    pub where_none : first_fault logs cut logs 0 ≡ None → (true ≡ true) ↔ IsClosed m (parts_at logs cut)
+    where_none is = (λ ok. closed is, λ c. refl)
 
-    pub where_some : (fault : CutFault) → first_fault logs cut logs cut ≡ Some fault → (false ≡ true) ↔ IsClosed m (parts_at logs cut)
+    pub where_some : (fault : CutFault) → first_fault logs cut logs 0 ≡ Some fault → (false ≡ true) ↔ IsClosed m (parts_at logs cut)
     where_some fault is = (λ no. absurd (never no), λ c. absurd (some_none fault (sym is ∙ unfaulted c)))

@@ -59,13 +59,13 @@ at_front i le = omega (arith, le)
 more_is : (n : ℕ) → n + 1 ≡ suc n
 more_is n = omega arith
 
-from_front : (i : ℕ) → i ≡ 0 + i
+pub from_front : (i : ℕ) → i ≡ 0 + i
 from_front i = omega arith
 
-from_here : (n : ℕ) → n ≡ n + 0
+pub from_here : (n : ℕ) → n ≡ n + 0
 from_here n = omega arith
 
-from_next : (n i : ℕ) → n + suc i ≡ (n + 1) + i
+pub from_next : (n i : ℕ) → n + suc i ≡ (n + 1) + i
 from_next n i = omega arith
 
 -- what holds at each place of a list holds of each entry, and back
@@ -98,9 +98,10 @@ Ascends (a ∷ rest) = Each (λ (b : Stamped). a.stamp ≤ b.stamp) rest × Asce
 
 ascends : (xs : List Stamped) → ((i j : ℕ) (d : Stamped) → i ≤ j → j < length xs → (slice_index_or xs i d).stamp ≤ (slice_index_or xs j d).stamp) → Ascends xs
 ascends [] up = tt
-ascends (a ∷ rest) up =
-    (each_at (λ (b : Stamped). a.stamp ≤ b.stamp) rest (λ k d lt. up 0 (suc k) d (omega arith) (omega (arith, lt))),
-     ascends rest (λ i j d le lt. up (suc i) (suc j) d (omega (arith, le)) (omega (arith, lt))))
+ascends (a ∷ rest) up = (
+  each_at (λ (b : Stamped). a.stamp ≤ b.stamp) rest (λ k d lt. up 0 (suc k) d (omega arith) (omega (arith, lt))),
+  ascends rest (λ i j d le lt. up (suc i) (suc j) d (omega (arith, le)) (omega (arith, lt))),
+)
 
 -- in a list in order no stamp is lower than one before it
 climbs : (xs : List Stamped) → IsSortedBy is_before xs → (i j : ℕ) (d : Stamped) → i ≤ j → j < length xs → (slice_index_or xs i d).stamp ≤ (slice_index_or xs j d).stamp
@@ -112,7 +113,7 @@ climbs xs sorted i (suc j) d le lt = go (cases_eq i (suc j)) (λ below. climbs x
         let a = slice_index_or xs (j + 1) d in
         let b = slice_index_or xs j d in
         subst (λ k. (slice_index_or xs j d).stamp ≤ (slice_index_or xs k d).stamp) (more_is j)
-            (not_before a.stamp b.stamp a.host.0 b.host.0 a.step b.step (sorted j d (omega arith) (omega (arith, lt))))
+        (not_before a.stamp b.stamp a.host.0 b.host.0 a.step b.step (sorted j d (omega arith) (omega (arith, lt))))
 
     go : (i ≡ suc j) ⊎ (i ≢ suc j) → (i ≤ j → (slice_index_or xs i d).stamp ≤ (slice_index_or xs j d).stamp) → (slice_index_or xs i d).stamp ≤ (slice_index_or xs (suc j) d).stamp
     go (inl is) rest = subst (λ k. (slice_index_or xs i d).stamp ≤ (slice_index_or xs k d).stamp) is (le_self (slice_index_or xs i d).stamp)
@@ -138,17 +139,18 @@ module _ (start : Start) (logs : List HostLog) (none : LogStep) where
     read_from n [] same = refl
     read_from n (e ∷ steps) same =
         ap₂ (λ v w. v ∷ w)
-            (ap (λ (k : HostId). of_host k.0 (slice_index_or (steps_of logs k.0) n none)) own
-             ∙ ap (of_host h) (ap (λ i. slice_index_or (steps_of logs h) i none) (from_here n) ∙ sym (same 0)))
-            (read_from (n + 1) steps (λ i. same (suc i) ∙ ap (λ k. slice_index_or (steps_of logs h) k none) (from_next n i)))
+        (ap (λ (k : HostId). of_host k.0 (slice_index_or (steps_of logs k.0) n none)) own
+        ∙ ap (of_host h) (ap (λ i. slice_index_or (steps_of logs h) i none) (from_here n) ∙ sym (same 0)))
+        (read_from (n + 1) steps (λ i. same (suc i) ∙ ap (λ k. slice_index_or (steps_of logs h) k none) (from_next n i)))
 
     stamps_from : (n : ℕ) (steps : List LogStep) → ((i : ℕ) → slice_index_or steps i none ≡ slice_index_or (steps_of logs h) (n + i) none)
         → Each IsRead (stamped_from host n steps)
     stamps_from n [] same = tt
-    stamps_from n (e ∷ steps) same =
-        (ap (λ (k : HostId). (slice_index_or (steps_of logs k.0) n none).stamp) own
-             ∙ ap (λ (f : LogStep). f.stamp) (ap (λ i. slice_index_or (steps_of logs h) i none) (from_here n) ∙ sym (same 0)),
-         stamps_from (n + 1) steps (λ i. same (suc i) ∙ ap (λ k. slice_index_or (steps_of logs h) k none) (from_next n i)))
+    stamps_from n (e ∷ steps) same = (
+      ap (λ (k : HostId). (slice_index_or (steps_of logs k.0) n none).stamp) own
+          ∙ ap (λ (f : LogStep). f.stamp) (ap (λ i. slice_index_or (steps_of logs h) i none) (from_here n) ∙ sym (same 0)),
+      stamps_from (n + 1) steps (λ i. same (suc i) ∙ ap (λ k. slice_index_or (steps_of logs h) k none) (from_next n i)),
+    )
 
   abbrev log_at : ℕ → HostLog
   log_at h = slice_index_or logs h (no_steps 0)
@@ -185,8 +187,8 @@ module _ (start : Start) (logs : List HostLog) (none : LogStep) where
     stamps_all zero le = tt
     stamps_all (suc k) le =
         subst (Each IsRead) (sym (all_more k (omega (arith, le))))
-            (each_append IsRead (all_stamped (take k logs)) (stamped_log (log_at k)) (stamps_all k (omega (arith, le)))
-                (stamps_from k (log_at k).host (numbered.hosts k (omega (arith, le))) 0 (steps_of logs k) (λ i. ap (λ n. slice_index_or (steps_of logs k) n none) (from_front i))))
+        (each_append IsRead (all_stamped (take k logs)) (stamped_log (log_at k)) (stamps_all k (omega (arith, le)))
+        (stamps_from k (log_at k).host (numbered.hosts k (omega (arith, le))) 0 (steps_of logs k) (λ i. ap (λ n. slice_index_or (steps_of logs k) n none) (from_front i))))
 
     whole : {A : Type 0} (xs : List A) → take (length xs) xs ≡ xs
     whole [] = refl
@@ -207,14 +209,14 @@ module _ (start : Start) (logs : List HostLog) (none : LogStep) where
     by_stamp [] up read = tt
     by_stamp (a ∷ rest) up read =
         subst (IsByStamp (machine start)) (sym (reverse-append (event_of a ∷ []) (map event_of rest)))
-            (by_stamp_snoc (reverse (map event_of rest)) (event_of a) (by_stamp rest up.1 read.1)
-                (each_reverse (λ (f : HostStep). (event_of a).step.stamp ≤ f.step.stamp) (map event_of rest) (raised a rest read.0 read.1 up.0)))
+        (by_stamp_snoc (reverse (map event_of rest)) (event_of a) (by_stamp rest up.1 read.1)
+        (each_reverse (λ (f : HostStep). (event_of a).step.stamp ≤ f.step.stamp) (map event_of rest) (raised a rest read.0 read.1 up.0)))
 
     module _ (xs : List Stamped) (once : IsPermutation (all_stamped logs) xs) (sorted : IsSortedBy is_before xs) where
       xs_read : Each IsRead xs
       xs_read =
           each_at IsRead xs (All-permutation IsRead (all_stamped logs) xs once
-              (at_each IsRead (all_stamped logs) (subst (λ zs. Each IsRead (all_stamped zs)) (whole logs) (stamps_all (length logs) (omega arith)))))
+          (at_each IsRead (all_stamped logs) (subst (λ zs. Each IsRead (all_stamped zs)) (whole logs) (stamps_all (length logs) (omega arith)))))
 
       in_order : IsByStamp (machine start) (reverse (map event_of xs))
       in_order = by_stamp xs (ascends xs (climbs xs sorted)) xs_read
@@ -222,12 +224,12 @@ module _ (start : Start) (logs : List HostLog) (none : LogStep) where
       same_steps : IsPermutation (joined (length logs) (logs_at logs)) (reverse (map event_of xs))
       same_steps =
           IsPermutation-trans (joined (length logs) (logs_at logs)) (map event_of (all_stamped logs)) (reverse (map event_of xs))
-              (IsPermutation-sym (map event_of (all_stamped logs)) (joined (length logs) (logs_at logs))
-                  (subst (IsPermutation (map event_of (all_stamped logs)))
-                      (subst (λ zs. reverse (map event_of (all_stamped zs)) ≡ joined (length logs) (logs_at logs)) (whole logs) (read_all (length logs) (omega arith)))
-                      (IsPermutation-reverse (map event_of (all_stamped logs)))))
-              (IsPermutation-trans (map event_of (all_stamped logs)) (map event_of xs) (reverse (map event_of xs))
-                  (IsPermutation-map event_of (all_stamped logs) xs once) (IsPermutation-reverse (map event_of xs)))
+          (IsPermutation-sym (map event_of (all_stamped logs)) (joined (length logs) (logs_at logs))
+          (subst (IsPermutation (map event_of (all_stamped logs)))
+          (subst (λ zs. reverse (map event_of (all_stamped zs)) ≡ joined (length logs) (logs_at logs)) (whole logs) (read_all (length logs) (omega arith)))
+          (IsPermutation-reverse (map event_of (all_stamped logs)))))
+          (IsPermutation-trans (map event_of (all_stamped logs)) (map event_of xs) (reverse (map event_of xs))
+          (IsPermutation-map event_of (all_stamped logs) xs once) (IsPermutation-reverse (map event_of xs)))
 
       run_of : AreLogs (machine start) (logs_at logs) → IsRunOf start logs (reverse (map event_of xs))
       run_of a =
@@ -242,5 +244,5 @@ pub merge_runs : (start : Start) (logs : List HostLog) (run : List RunStep) (non
     → AreLogs (machine start) (logs_at logs) → IsRunOf start logs (events_of logs none run)
 merge_runs start logs run none m numbered a =
     subst (IsRunOf start logs)
-        (sym (ap (λ r. reverse (map (event_at logs none) r)) m.is ∙ ap reverse (events_map start logs none m.stamped)))
-        (run_of start logs none numbered m.stamped m.each_once m.sorted a)
+    (sym (ap (λ r. reverse (map (event_at logs none) r)) m.is ∙ ap reverse (events_map start logs none m.stamped)))
+    (run_of start logs none numbered m.stamped m.each_once m.sorted a)

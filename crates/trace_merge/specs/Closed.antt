@@ -1,16 +1,11 @@
 -- Whether a cut, given by how many steps of each log are inside, is closed.
-use Rattle.std.specs.Prelude.{◌≡◌, ◌≤◌, ◌&&◌, ◌||◌, not, nat_lt, ℕ, ◌+◌, Bool, List, [], ◌∷◌, length, map, reverse, slice_index_or, take, if◌then◌else◌, Option, None, Some, Result, Ok, Err}
+use Rattle.std.specs.Prelude.{◌&&◌, ◌||◌, not, nat_lt, ℕ, ◌+◌, Bool, List, [], ◌∷◌, map, reverse, slice_index_or, take, if◌then◌else◌, Option, None, Some, Result, Ok, Err}
 use Rattle.api_block.specs.Requests.{is_request}
 use Rattle.sig_core.specs.declared.log.HostLog.{HostLog}
 use Rattle.sig_core.specs.declared.log.LogStep.{LogStep}
 use Rattle.world_core.specs.Steps.{HostStep}
 use Rattle.world_core.specs.World.{no_steps, of_host, steps_of}
 use Rattle.trace_merge.specs.declared.closed.CutFault.{CutFault}
-
--- the cut has one length for each log, at most that log's
-pub record AreLengths (logs : List HostLog) (cut : List ℕ) : Type 0 where
-  pub one_each : length cut ≡ length logs
-  pub within : (h : ℕ) → slice_index_or cut h 0 ≤ length (steps_of logs h)
 
 -- the steps of a host inside, the newest first
 abbrev pub newest_inside : List HostLog → List ℕ → ℕ → List LogStep
@@ -55,11 +50,10 @@ abbrev pub or_later : Option CutFault → Option CutFault → Option CutFault
 or_later None later = later
 or_later (Some fault) later = Some fault
 
--- the first one of these logs, of which so many steps are inside, log after log
-abbrev pub first_fault : List HostLog → List ℕ → List HostLog → List ℕ → Option CutFault
-first_fault logs cut [] lengths = None
-first_fault logs cut (log ∷ rest) [] = None
-first_fault logs cut (log ∷ rest) (inside ∷ lengths) = or_later (fault_in logs cut log inside) (first_fault logs cut rest lengths)
+-- the first one of these logs, log after log, of which the first is that of host h
+abbrev pub first_fault : List HostLog → List ℕ → List HostLog → ℕ → Option CutFault
+first_fault logs cut [] h = None
+first_fault logs cut (log ∷ rest) h = or_later (fault_in logs cut log (slice_index_or cut h 0)) (first_fault logs cut rest (h + 1))
 
 -- a cut is closed where nothing stands against it
 abbrev pub cut_answer : Option CutFault → Result (Unit {0}) CutFault
