@@ -43,32 +43,40 @@ head-found : (q : List ℕ) (entry : Entry) (pairs : List (List ℕ × ℕ)) (b 
 head-found q entry pairs b is = ap (λ t. cond t (Some entry.at) (map.find key_cmp q pairs)) (tie-same q entry.key ∙ is)
 
 -- in the key's bucket
-pub found-here : (home_of : List ℕ → ℕ) (bucket : ℕ) (entries : List Entry) (rest : List (List ℕ × ℕ)) (q : List ℕ) → home_of q ≡ bucket
-    → map.find key_cmp q (pairs_at home_of bucket entries ++ rest) ≡ first_of_two (place_in q entries) (map.find key_cmp q rest)
+pub found-here : (home_of : List ℕ → ℕ) (bucket : ℕ) (entries : List Entry) (rest : List (List ℕ × ℕ)) (q : List ℕ)
+    → home_of q ≡ bucket
+    → map.find key_cmp q (pairs_at home_of bucket entries ++ rest) ≡ first_of_two (place_in q entries)
+    (map.find key_cmp q rest)
 found-here home_of bucket [] rest q here = refl
 found-here home_of bucket (entry ∷ entries) rest q here =
     by (same_key entry.key q) refl (home_of entry.key == bucket) refl (found-here home_of bucket entries rest q here)
   where
     by : (b : Bool) → same_key entry.key q ≡ b → (h : Bool) → (home_of entry.key == bucket) ≡ h
-        → map.find key_cmp q (pairs_at home_of bucket entries ++ rest) ≡ first_of_two (place_in q entries) (map.find key_cmp q rest)
-        → map.find key_cmp q (cond h ((entry.key, entry.at) ∷ pairs_at home_of bucket entries) (pairs_at home_of bucket entries) ++ rest)
+        → map.find key_cmp q (pairs_at home_of bucket entries ++ rest) ≡ first_of_two (place_in q entries)
+        (map.find key_cmp q rest)
+        → map.find key_cmp q
+        (cond h ((entry.key, entry.at) ∷ pairs_at home_of bucket entries) (pairs_at home_of bucket entries) ++ rest)
         ≡ first_of_two (cond b (Some entry.at) (place_in q entries)) (map.find key_cmp q rest)
     by true same true at known = head-found q entry (pairs_at home_of bucket entries ++ rest) true same
     by true same false at known =
-        absurd (true≢false (sym (eq-eqb (home_of entry.key) bucket (ap home_of (same_key-is entry.key q same) ∙ here)) ∙ at))
+        absurd (true≢false
+        (sym (eq-eqb (home_of entry.key) bucket (ap home_of (same_key-is entry.key q same) ∙ here)) ∙ at))
     by false same true at known = head-found q entry (pairs_at home_of bucket entries ++ rest) false same ∙ known
     by false same false at known = known
 
 -- in another bucket
-pub found-elsewhere : (home_of : List ℕ → ℕ) (bucket : ℕ) (entries : List Entry) (rest : List (List ℕ × ℕ)) (q : List ℕ) → home_of q ≢ bucket
+pub found-elsewhere : (home_of : List ℕ → ℕ) (bucket : ℕ) (entries : List Entry) (rest : List (List ℕ × ℕ)) (q : List ℕ)
+    → home_of q ≢ bucket
     → map.find key_cmp q (pairs_at home_of bucket entries ++ rest) ≡ map.find key_cmp q rest
 found-elsewhere home_of bucket [] rest q away = refl
 found-elsewhere home_of bucket (entry ∷ entries) rest q away =
-    by (same_key entry.key q) refl (home_of entry.key == bucket) refl (found-elsewhere home_of bucket entries rest q away)
+    by (same_key entry.key q) refl (home_of entry.key == bucket) refl
+    (found-elsewhere home_of bucket entries rest q away)
   where
     by : (b : Bool) → same_key entry.key q ≡ b → (h : Bool) → (home_of entry.key == bucket) ≡ h
         → map.find key_cmp q (pairs_at home_of bucket entries ++ rest) ≡ map.find key_cmp q rest
-        → map.find key_cmp q (cond h ((entry.key, entry.at) ∷ pairs_at home_of bucket entries) (pairs_at home_of bucket entries) ++ rest)
+        → map.find key_cmp q
+        (cond h ((entry.key, entry.at) ∷ pairs_at home_of bucket entries) (pairs_at home_of bucket entries) ++ rest)
         ≡ map.find key_cmp q rest
     by true same true at known =
         absurd (away (sym (ap home_of (same_key-is entry.key q same)) ∙ eqb-true (home_of entry.key) bucket at))
@@ -84,12 +92,16 @@ pub place-added : (entries : List Entry) (entry : Entry) (q : List ℕ) → plac
     → place_in q (entries ++ entry ∷ []) ≡ cond (same_key entry.key q) (Some entry.at) (place_in q entries)
 place-added [] entry q none = refl
 place-added (first ∷ entries) entry q none =
-    by (same_key first.key entry.key) refl (same_key first.key q) refl (same_key entry.key q) refl none (place-added entries entry q)
+    by (same_key first.key entry.key) refl (same_key first.key q) refl (same_key entry.key q) refl none
+    (place-added entries entry q)
   where
-    by : (a : Bool) → same_key first.key entry.key ≡ a → (b : Bool) → same_key first.key q ≡ b → (c : Bool) → same_key entry.key q ≡ c
+    by : (a : Bool) → same_key first.key entry.key ≡ a → (b : Bool) → same_key first.key q ≡ b → (c : Bool)
+        → same_key entry.key q ≡ c
         → cond a (Some first.at) (place_in entry.key entries) ≡ None
-        → (place_in entry.key entries ≡ None → place_in q (entries ++ entry ∷ []) ≡ cond (same_key entry.key q) (Some entry.at) (place_in q entries))
-        → cond b (Some first.at) (place_in q (entries ++ entry ∷ [])) ≡ cond c (Some entry.at) (cond b (Some first.at) (place_in q entries))
+        → (place_in entry.key entries ≡ None → place_in q (entries ++ entry ∷ []) ≡ cond (same_key entry.key q)
+        (Some entry.at) (place_in q entries))
+        → cond b (Some first.at) (place_in q (entries ++ entry ∷ [])) ≡ cond c (Some entry.at)
+        (cond b (Some first.at) (place_in q entries))
     by true x b y c z none known = absurd (some_is_not (first.at) none)
     by false x true y true z none known =
         absurd (true≢false (sym (ap (same_key first.key) (same_key-is entry.key q z) ∙ y) ∙ x))
@@ -101,21 +113,24 @@ cond_alike true x = refl
 cond_alike false x = refl
 
 -- after a key was taken out
-pub place-without : (entries : List Entry) (k q : List ℕ) → place_in q (without k entries) ≡ cond (same_key k q) None (place_in q entries)
+pub place-without : (entries : List Entry) (k q : List ℕ)
+    → place_in q (without k entries) ≡ cond (same_key k q) None (place_in q entries)
 place-without [] k q = cond_alike (same_key k q) None
 place-without (entry ∷ entries) k q =
     by (same_key entry.key k) refl (same_key k q) refl (same_key entry.key q) refl (place-without entries k q)
   where
     by : (a : Bool) → same_key entry.key k ≡ a → (b : Bool) → same_key k q ≡ b → (c : Bool) → same_key entry.key q ≡ c
         → place_in q (without k entries) ≡ cond (same_key k q) None (place_in q entries)
-        → place_in q (cond (not a) (entry ∷ without k entries) (without k entries)) ≡ cond b None (cond c (Some entry.at) (place_in q entries))
+        → place_in q (cond (not a) (entry ∷ without k entries) (without k entries)) ≡ cond b None
+        (cond c (Some entry.at) (place_in q entries))
     by true x true y c z known = known ∙ ap (λ t. cond t None (place_in q entries)) y
     by true x false y true z known =
         absurd (true≢false (sym (ap (λ t. same_key t q) (sym (same_key-is entry.key k x)) ∙ z) ∙ y))
     by true x false y false z known = known ∙ ap (λ t. cond t None (place_in q entries)) y
     by false x true y true z known =
         absurd (true≢false (sym (ap (same_key entry.key) (same_key-is k q y) ∙ z) ∙ x))
-    by false x true y false z known = ap (λ t. cond t (Some entry.at) (place_in q (without k entries))) z ∙ known ∙ ap (λ t. cond t None (place_in q entries)) y
+    by false x true y false z known = ap (λ t. cond t (Some entry.at) (place_in q (without k entries))) z ∙ known
+        ∙ ap (λ t. cond t None (place_in q entries)) y
     by false x false y c z known =
         ap (λ t. cond t (Some entry.at) (place_in q (without k entries))) z
         ∙ ap (cond c (Some entry.at)) (known ∙ ap (λ t. cond t None (place_in q entries)) y)
@@ -129,9 +144,12 @@ place-part growth bucket (entry ∷ entries) q here =
   where
     by : (b : Bool) → same_key entry.key q ≡ b → (h : Bool) → (home growth entry.key == bucket) ≡ h
         → place_in q (part_of growth bucket entries) ≡ place_in q entries
-        → place_in q (cond h (entry ∷ part_of growth bucket entries) (part_of growth bucket entries)) ≡ cond b (Some entry.at) (place_in q entries)
+        → place_in q (cond h (entry ∷ part_of growth bucket entries) (part_of growth bucket entries)) ≡ cond b
+        (Some entry.at) (place_in q entries)
     by b same true at known =
-        ap (λ t. cond t (Some entry.at) (place_in q (part_of growth bucket entries))) same ∙ ap (cond b (Some entry.at)) known
+        ap (λ t. cond t (Some entry.at) (place_in q (part_of growth bucket entries))) same
+        ∙ ap (cond b (Some entry.at)) known
     by true same false at known =
-        absurd (true≢false (sym (eq-eqb (home growth entry.key) bucket (ap (home growth) (same_key-is entry.key q same) ∙ here)) ∙ at))
+        absurd (true≢false
+        (sym (eq-eqb (home growth entry.key) bucket (ap (home growth) (same_key-is entry.key q same) ∙ here)) ∙ at))
     by false same false at known = known

@@ -30,12 +30,16 @@ twice hash size some = by (cases_lt (hash % (2 * size)) size)
     by (inr high) = inr (omega (arith, high, high_half hash size some high))
 
 -- of a bucket that was split the number is in that of twice as many
-pub home-split : (growth : Growth) (hash : ℕ) → hash % growth.size < growth.split → home_of growth hash ≡ hash % (2 * growth.size)
-home-split growth hash low = ap (λ b. cond b (hash % (2 * growth.size)) (hash % growth.size)) (lt-ltb (hash % growth.size) growth.split low)
+pub home-split : (growth : Growth) (hash : ℕ) → hash % growth.size < growth.split
+    → home_of growth hash ≡ hash % (2 * growth.size)
+home-split growth hash low =
+    ap (λ b. cond b (hash % (2 * growth.size)) (hash % growth.size)) (lt-ltb (hash % growth.size) growth.split low)
 
 -- of another it is in its own
-pub home-whole : (growth : Growth) (hash : ℕ) → growth.split ≤ hash % growth.size → home_of growth hash ≡ hash % growth.size
-home-whole growth hash high = ap (λ b. cond b (hash % (2 * growth.size)) (hash % growth.size)) (le-ltb (hash % growth.size) growth.split high)
+pub home-whole : (growth : Growth) (hash : ℕ) → growth.split ≤ hash % growth.size
+    → home_of growth hash ≡ hash % growth.size
+home-whole growth hash high =
+    ap (λ b. cond b (hash % (2 * growth.size)) (hash % growth.size)) (le-ltb (hash % growth.size) growth.split high)
 
 -- each number has a bucket
 pub home-below : (growth : Growth) → IsGrowth growth → (hash : ℕ) → home_of growth hash < growth.size + growth.split
@@ -44,50 +48,82 @@ home-below growth is hash = by (cases_lt (hash % growth.size) growth.split)
     within : hash % growth.size < growth.size
     within = mod_below hash growth.size (omega (arith, is.some))
 
-    further : hash % growth.size < growth.split → (hash % (2 * growth.size) ≡ hash % growth.size) ⊎ (hash % (2 * growth.size) ≡ hash % growth.size + growth.size) → home_of growth hash < growth.size + growth.split
+    further : hash % growth.size < growth.split
+        → (hash % (2 * growth.size) ≡ hash % growth.size) ⊎
+        (hash % (2 * growth.size) ≡ hash % growth.size + growth.size) → home_of growth hash < growth.size + growth.split
     further low (inl e) = omega (arith, within, e, home-split growth hash low)
     further low (inr e) = omega (arith, low, e, home-split growth hash low)
 
-    by : (hash % growth.size < growth.split) ⊎ (growth.split ≤ hash % growth.size) → home_of growth hash < growth.size + growth.split
+    by : (hash % growth.size < growth.split) ⊎ (growth.split ≤ hash % growth.size)
+        → home_of growth hash < growth.size + growth.split
     by (inl low) = further low (twice hash growth.size is.some)
     by (inr high) = omega (arith, within, home-whole growth hash high)
 
--- where a number comes: it stays in a bucket that isn't split, or is in the one that is split, and stays or comes to the new one
+-- where a number comes: it stays in a bucket that isn't split, or is in the one that is split, and stays or comes to
+-- the new one
 pub data Comes (before after split new : ℕ) : Type 0 where
   Elsewhere : after ≡ before → before ≢ split → Comes before after split new
   Stays : before ≡ split → after ≡ split → Comes before after split new
   Moves : before ≡ split → after ≡ new → Comes before after split new
 
--- growing within the level, and to the next one, is the same rule: numbers up to the one that is split are among twice as many
-after-low : (growth : Growth) → IsGrowth growth → (hash : ℕ) → hash % growth.size ≤ growth.split → home_of (grown growth) hash ≡ hash % (2 * growth.size)
+-- growing within the level, and to the next one, is the same rule: numbers up to the one that is split are among
+-- twice as many
+after-low : (growth : Growth) → IsGrowth growth → (hash : ℕ) → hash % growth.size ≤ growth.split
+    → home_of (grown growth) hash ≡ hash % (2 * growth.size)
 after-low growth is hash low = by (cases_lt (growth.split + 1) growth.size)
   where
-    by : (growth.split + 1 < growth.size) ⊎ (growth.size ≤ growth.split + 1) → home_of (grown growth) hash ≡ hash % (2 * growth.size)
+    by : (growth.split + 1 < growth.size) ⊎ (growth.size ≤ growth.split + 1)
+        → home_of (grown growth) hash ≡ hash % (2 * growth.size)
     by (inl within) =
-        ap (λ b. home_of (cond b (record { size = growth.size; split = growth.split + 1 }) (record { size = 2 * growth.size; split = 0 })) hash) (lt-ltb (growth.split + 1) growth.size within)
+        ap (λ b. home_of
+        (cond b (record { size = growth.size; split = growth.split + 1 })
+        (record { size = 2 * growth.size; split = 0 })) hash) (lt-ltb (growth.split + 1) growth.size within)
         ∙ home-split (record { size = growth.size; split = growth.split + 1 }) hash (omega (arith, low))
     by (inr past) =
-        ap (λ b. home_of (cond b (record { size = growth.size; split = growth.split + 1 }) (record { size = 2 * growth.size; split = 0 })) hash) (le-ltb (growth.split + 1) growth.size past)
+        ap (λ b. home_of
+        (cond b (record { size = growth.size; split = growth.split + 1 })
+        (record { size = 2 * growth.size; split = 0 })) hash) (le-ltb (growth.split + 1) growth.size past)
         ∙ home-whole (record { size = 2 * growth.size; split = 0 }) hash (omega arith)
 
-after-high : (growth : Growth) → IsGrowth growth → (hash : ℕ) → growth.split < hash % growth.size → home_of (grown growth) hash ≡ hash % growth.size
+after-high : (growth : Growth) → IsGrowth growth → (hash : ℕ) → growth.split < hash % growth.size
+    → home_of (grown growth) hash ≡ hash % growth.size
 after-high growth is hash high =
-    let within : growth.split + 1 < growth.size = omega (arith, high, mod_below hash growth.size (omega (arith, is.some))) in
-    ap (λ b. home_of (cond b (record { size = growth.size; split = growth.split + 1 }) (record { size = 2 * growth.size; split = 0 })) hash) (lt-ltb (growth.split + 1) growth.size within)
+    let within : growth.split + 1 < growth.size =
+    omega (arith, high, mod_below hash growth.size (omega (arith, is.some))) in
+    ap (λ b. home_of
+    (cond b (record { size = growth.size; split = growth.split + 1 })
+    (record { size = 2 * growth.size; split = 0 })) hash) (lt-ltb (growth.split + 1) growth.size within)
     ∙ home-whole (record { size = growth.size; split = growth.split + 1 }) hash (omega (arith, high))
 
-pub comes : (growth : Growth) → IsGrowth growth → (hash : ℕ) → Comes (home_of growth hash) (home_of (grown growth) hash) growth.split (growth.size + growth.split)
+pub comes : (growth : Growth) → IsGrowth growth → (hash : ℕ)
+    → Comes (home_of growth hash) (home_of (grown growth) hash) growth.split (growth.size + growth.split)
 comes growth is hash = by (cases_lt (hash % growth.size) growth.split) (cases_eq (hash % growth.size) growth.split)
   where
-    split_before : hash % growth.size < growth.split → (hash % (2 * growth.size) ≡ hash % growth.size) ⊎ (hash % (2 * growth.size) ≡ hash % growth.size + growth.size) → Comes (home_of growth hash) (home_of (grown growth) hash) growth.split (growth.size + growth.split)
-    split_before low (inl e) = Elsewhere (after-low growth is hash (omega (arith, low)) ∙ sym (home-split growth hash low)) (omega (arith, low, e, home-split growth hash low))
-    split_before low (inr e) = Elsewhere (after-low growth is hash (omega (arith, low)) ∙ sym (home-split growth hash low)) (omega (arith, low, e, home-split growth hash low, is.below))
+    split_before : hash % growth.size < growth.split
+        → (hash % (2 * growth.size) ≡ hash % growth.size) ⊎
+        (hash % (2 * growth.size) ≡ hash % growth.size + growth.size) → Comes (home_of growth hash)
+        (home_of (grown growth) hash) growth.split (growth.size + growth.split)
+    split_before low (inl e) =
+        Elsewhere (after-low growth is hash (omega (arith, low)) ∙ sym (home-split growth hash low))
+        (omega (arith, low, e, home-split growth hash low))
+    split_before low (inr e) =
+        Elsewhere (after-low growth is hash (omega (arith, low)) ∙ sym (home-split growth hash low))
+        (omega (arith, low, e, home-split growth hash low, is.below))
 
-    split_now : hash % growth.size ≡ growth.split → (hash % (2 * growth.size) ≡ hash % growth.size) ⊎ (hash % (2 * growth.size) ≡ hash % growth.size + growth.size) → Comes (home_of growth hash) (home_of (grown growth) hash) growth.split (growth.size + growth.split)
-    split_now here (inl e) = Stays (home-whole growth hash (omega (arith, here)) ∙ here) (after-low growth is hash (omega (arith, here)) ∙ e ∙ here)
-    split_now here (inr e) = Moves (home-whole growth hash (omega (arith, here)) ∙ here) (omega (arith, here, e, after-low growth is hash (omega (arith, here))))
+    split_now : hash % growth.size ≡ growth.split
+        → (hash % (2 * growth.size) ≡ hash % growth.size) ⊎
+        (hash % (2 * growth.size) ≡ hash % growth.size + growth.size) → Comes (home_of growth hash)
+        (home_of (grown growth) hash) growth.split (growth.size + growth.split)
+    split_now here (inl e) =
+        Stays (home-whole growth hash (omega (arith, here)) ∙ here)
+        (after-low growth is hash (omega (arith, here)) ∙ e ∙ here)
+    split_now here (inr e) =
+        Moves (home-whole growth hash (omega (arith, here)) ∙ here)
+        (omega (arith, here, e, after-low growth is hash (omega (arith, here))))
 
-    by : (hash % growth.size < growth.split) ⊎ (growth.split ≤ hash % growth.size) → (hash % growth.size ≡ growth.split) ⊎ (hash % growth.size ≢ growth.split) → Comes (home_of growth hash) (home_of (grown growth) hash) growth.split (growth.size + growth.split)
+    by : (hash % growth.size < growth.split) ⊎ (growth.split ≤ hash % growth.size)
+        → (hash % growth.size ≡ growth.split) ⊎ (hash % growth.size ≢ growth.split)
+        → Comes (home_of growth hash) (home_of (grown growth) hash) growth.split (growth.size + growth.split)
     by (inl low) there = split_before low (twice hash growth.size is.some)
     by (inr high) (inl here) = split_now here (twice hash growth.size is.some)
     by (inr high) (inr other) =

@@ -24,7 +24,8 @@ first-alone (Some at) = refl
 first-alone None = refl
 
 -- n buckets further on is the key's
-found-from : (home_of : List ℕ → ℕ) (bucket : ℕ) (buckets : List (List Entry)) (n : ℕ) (q : List ℕ) → n + bucket ≡ home_of q
+found-from : (home_of : List ℕ → ℕ) (bucket : ℕ) (buckets : List (List Entry)) (n : ℕ) (q : List ℕ)
+    → n + bucket ≡ home_of q
     → map.find key_cmp q (pairs_from home_of bucket buckets) ≡ place_in q (get_or buckets n [])
 found-from home_of bucket [] n q there = refl
 found-from home_of bucket (entries ∷ buckets) zero q there =

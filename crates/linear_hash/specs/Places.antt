@@ -37,7 +37,10 @@ buckets_for keys buckets = if is_crowded keys buckets then buckets + 1 else buck
 -- a key and its place are put in, and a bucket is added where the keys are then crowded
 unfoldable pub inserted : Places → List ℕ → ℕ → Places
 inserted places key at =
-    record { at = map.insert places.at key at; buckets = buckets_for (map.len (map.insert places.at key at)) places.buckets }
+    record {
+      at = map.insert places.at key at;
+      buckets = buckets_for (map.len (map.insert places.at key at)) places.buckets;
+    }
 
 -- a key is taken out: the buckets stay
 unfoldable pub removed : Places → List ℕ → Places
@@ -47,12 +50,15 @@ removed places key = record { at = map.remove places.at key; buckets = places.bu
 abbrev pub pairs_at : (List ℕ → ℕ) → ℕ → List Entry → List (List ℕ × ℕ)
 pairs_at home_of bucket [] = []
 pairs_at home_of bucket (entry ∷ entries) =
-    cond (home_of entry.key == bucket) ((entry.key, entry.at) ∷ pairs_at home_of bucket entries) (pairs_at home_of bucket entries)
+    cond (home_of entry.key == bucket)
+    ((entry.key, entry.at) ∷ pairs_at home_of bucket entries)
+    (pairs_at home_of bucket entries)
 
 -- those of all buckets, from this one on
 abbrev pub pairs_from : (List ℕ → ℕ) → ℕ → List (List Entry) → List (List ℕ × ℕ)
 pairs_from home_of bucket [] = []
-pairs_from home_of bucket (entries ∷ buckets) = pairs_at home_of bucket entries ++ pairs_from home_of (bucket + 1) buckets
+pairs_from home_of bucket (entries ∷ buckets) =
+    pairs_at home_of bucket entries ++ pairs_from home_of (bucket + 1) buckets
 
 -- the places that buckets hold
 unfoldable pub places_of : Growth → List (List Entry) → PlaceMap

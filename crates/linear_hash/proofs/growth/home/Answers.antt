@@ -5,4 +5,5 @@ use Rattle.linear_hash.proofs.growth.home.Goals as goal
 -- the bucket was split
 pub returns-then-low-growth-clause-below : goal.returns-then-low-growth-clause-below
 returns-then-low-growth-clause-below c =
-    omega (arith, home-below c.args.growth c.requires c.hash_of-hash.result, home-split c.args.growth c.hash_of-hash.result c.if-low-growth.true)
+    let below = home-below c.args.growth c.requires c.hash_of-hash.result in
+    omega (arith, below, home-split c.args.growth c.hash_of-hash.result c.if-low-growth.true)

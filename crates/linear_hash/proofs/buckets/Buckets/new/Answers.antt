@@ -6,4 +6,5 @@ use Rattle.linear_hash.proofs.buckets.Buckets.new.Goals as goal
 pub returns : goal.returns
 returns c =
     first-view c.push.new.self.items
-    (c.in_ok-push.ensures.items ∙ ap (λ bs. bs ++ c.new.result ∷ []) c.new-buckets.ensures.items ∙ ap (λ b. b ∷ []) c.new.ensures)
+    (c.in_ok-push.ensures.items ∙ ap (λ bs. bs ++ c.new.result ∷ []) c.new-buckets.ensures.items ∙ ap
+    (λ b. b ∷ []) c.new.ensures)
