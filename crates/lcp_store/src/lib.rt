@@ -10,6 +10,5 @@ pub use row::{ROW_BYTES, StoredRow, Version, row_in};
 pub use rows::{CheckpointFault, rows_in};
 pub use write::{put_head, put_row, put_row2};
 
-
 #[cfg(test)]
 mod tests;
