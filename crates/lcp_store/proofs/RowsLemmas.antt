@@ -21,7 +21,7 @@ unfolding rows_in
 begins saved bytes version head rows rest is none all =
     let few : length rest ≤ length bytes = rw (all, length-drop head bytes) (omega arith) in
     let same : or_damage bytes (rows_from (length bytes) version saved rows rest) ≡ rows_in saved bytes =
-          rw (none, all) (sym (ap (λ v. or_damage bytes (rows_behind saved bytes v)) is)) in
+    rw (none, all) (sym (ap (λ v. or_damage bytes (rows_behind saved bytes v)) is)) in
     (few, (length bytes, (few, same)))
 
 pub goes_on : (saved : ℕ) (bytes : List ℕ) (version : Version) (rows : Rows) (rest : List ℕ) (row : StoredRow) (taken : ℕ)
@@ -36,7 +36,7 @@ goes_on saved bytes version rows (byte ∷ rest) row taken more_rows less (in_al
     let fewer : length less ≤ more = rw (all, length-drop taken (byte ∷ rest)) (omega (arith, few, one)) in
     let within : length less ≤ length bytes = rw (all, length-drop taken (byte ∷ rest)) (omega (arith, in_all)) in
     let lead : or_damage bytes (rows_from more version saved more_rows less) ≡ rows_in saved bytes =
-          rw (put, all) (sym (ap (λ r. or_damage bytes (read_on (rows_from more version saved) rows (byte ∷ rest) r)) is) ∙ same) in
+    rw (put, all) (sym (ap (λ r. or_damage bytes (read_on (rows_from more version saved) rows (byte ∷ rest) r)) is) ∙ same) in
     (within, (more, (fewer, lead)))
 
 pub stops : (saved : ℕ) (bytes : List ℕ) (version : Version) (rows : Rows) (rest : List ℕ) (left : ℕ) (fault : CheckpointFault)
@@ -46,7 +46,7 @@ stops saved bytes version rows [] left fault way some is same_fault = absurd (om
 stops saved bytes version rows (byte ∷ rest) left fault (in_all, (zero, (few, same))) some is same_fault = absurd (omega (arith, few))
 stops saved bytes version rows (byte ∷ rest) left fault (in_all, (suc more, (few, same))) some is same_fault =
     subst (λ f. Reads saved bytes (Err f)) (sym same_fault)
-      (sym same ∙ ap (λ r. or_damage bytes (read_on (rows_from more version saved) rows (byte ∷ rest) r)) is)
+    (sym same ∙ ap (λ r. or_damage bytes (read_on (rows_from more version saved) rows (byte ∷ rest) r)) is)
 
 pub ends : (saved : ℕ) (bytes : List ℕ) (version : Version) (rows : Rows) (rest : List ℕ)
     → (length rest ≤ length bytes) × (IsOnTheWay saved bytes version rows rest) → length rest ≤ 0 → Reads saved bytes (Ok rows)

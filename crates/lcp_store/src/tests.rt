@@ -6,9 +6,7 @@ use std::process::Abort;
 use std::test::Fail;
 
 /// A checkpoint of version 1: the rows `a 1`, `bc` with no value, and `a 23`.
-const FIRST: [u8; 13] = [
-    1, b'a', 1, b'1', 2, b'b', b'c', 0, 1, b'a', 2, b'2', b'3',
-];
+const FIRST: [u8; 13] = [1, b'a', 1, b'1', 2, b'b', b'c', 0, 1, b'a', 2, b'2', b'3'];
 
 /// A checkpoint of version 2: the row `a 1` of epoch 1, and `b` with no value of epoch 258.
 const SECOND: [u8; 25] = [
@@ -30,15 +28,15 @@ fn expect_damage<R: Abort>(rt: &R, alloc: Global, saved: u64, bytes: &[u8], at: 
 fn a_row_of_each_version_is_these_bytes(rt: HostRuntime) -> Result<(), Fail> {
     let mut out = Vec::new(rt.alloc());
     put_row(&mut out, &Key::new(b"a")?, &Value::new(b"1")?)?;
-    assert_eq!(rt; out.as_slice(), &[1, b'a', 1, b'1']);
+    assert_eq!(rt; out.as_slice(), [1, b'a', 1, b'1'].as_slice());
     put_row(&mut out, &Key::new(b"bc")?, &Value::new(b"")?)?;
     put_row(&mut out, &Key::new(b"a")?, &Value::new(b"23")?)?;
-    assert_eq!(rt; out.as_slice(), &FIRST);
+    assert_eq!(rt; out.as_slice(), FIRST.as_slice());
     let mut out = Vec::new(rt.alloc());
     put_head(&mut out)?;
     put_row2(&mut out, &Key::new(b"a")?, 1, &Value::new(b"1")?)?;
     put_row2(&mut out, &Key::new(b"b")?, 258, &Value::new(b"")?)?;
-    assert_eq!(rt; out.as_slice(), &SECOND);
+    assert_eq!(rt; out.as_slice(), SECOND.as_slice());
     Ok(())
 }
 
@@ -67,7 +65,10 @@ fn rows_have_their_epochs(rt: HostRuntime) -> Result<(), Fail> {
         epoch: Some(258),
         value: Value::new(b"")?,
     };
-    assert_eq!(rt; row_in(Version::Second, 258, &SECOND[14..]), Ok((second, 11)));
+    assert_eq!(rt;
+        row_in(Version::Second, 258, &SECOND[14..]),
+        Ok((second, 11))
+    );
     let plain = StoredRow {
         key: Key::new(b"bc")?,
         epoch: None,
@@ -134,7 +135,10 @@ fn every_changed_byte_is_named(rt: HostRuntime) -> Result<(), Fail> {
     let places = [
         Place::Length { least: 1, most: 32 },
         Place::Byte,
-        Place::Length { least: 0, most: 200 },
+        Place::Length {
+            least: 0,
+            most: 200,
+        },
         Place::Byte,
     ];
     for (at, place) in places.iter().enumerate() {
@@ -186,7 +190,10 @@ fn the_longest_row_fits(rt: HostRuntime) -> Result<(), Fail> {
         epoch: Some(u64::MAX),
         value,
     };
-    assert_eq!(rt; row_in(Version::Second, u64::MAX, &out), Ok((row, crate::ROW_BYTES)));
+    assert_eq!(rt;
+        row_in(Version::Second, u64::MAX, &out),
+        Ok((row, crate::ROW_BYTES))
+    );
     for cut in 0..out.len() {
         assert_eq!(rt; row_in(Version::Second, u64::MAX, &out[..cut]), Err(0));
     }
