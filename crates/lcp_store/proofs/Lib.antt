@@ -1,2 +1,3 @@
 mod FrontLemmas
+mod ReadingLaws
 mod RowsLemmas

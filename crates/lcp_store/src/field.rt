@@ -1,5 +1,5 @@
 //! The fields of a row: a word behind its length, and a row epoch.
-ghost use Rattle.std.specs.Prelude.{◌≡◌, ◌≤◌, ◌<◌, length, take, drop, position, None, IfOk, IfSome, MatchResult};
+ghost use Rattle.std.specs.Prelude.{◌≡◌, ◌+◌, ◌≤◌, ◌<◌, length, take, drop, position, None, IfOk, IfSome, MatchResult};
 ghost use Rattle.sig_core.specs.Word.{is_unprintable};
 ghost use Rattle.sig_core.specs.declared.key.TheConstants.{KEY_BYTES};
 ghost use Rattle.sig_core.specs.declared.value.TheConstants.{VALUE_BYTES};
@@ -14,6 +14,7 @@ use sig_core::{KEY_BYTES, Key, VALUE_BYTES, Value};
 /// How many bytes are left from the first on that doesn't fit; 0 where they are cut short.
 pub fn key_in(bytes: &[u8]) -> Result<(Key, usize), usize>
     ensures told { result ≡ word_in 1 KEY_BYTES bytes.now }
+    ensures most { IfOk result (λ found. found.1 ≤ KEY_BYTES + 1) }
     ensures within { MatchResult result (λ found. (1 ≤ found.1) × (found.1 ≤ length bytes.now)) (λ left. left ≤ length bytes.now) }
 {
     let len = word_len(bytes, 1, KEY_BYTES)?;
@@ -29,6 +30,7 @@ pub fn key_in(bytes: &[u8]) -> Result<(Key, usize), usize>
 /// As of `key_in`.
 pub fn value_in(bytes: &[u8]) -> Result<(Value, usize), usize>
     ensures told { result ≡ word_in 0 VALUE_BYTES bytes.now }
+    ensures most { IfOk result (λ found. found.1 ≤ VALUE_BYTES + 1) }
     ensures within { MatchResult result (λ found. (1 ≤ found.1) × (found.1 ≤ length bytes.now)) (λ left. left ≤ length bytes.now) }
 {
     let len = word_len(bytes, 0, VALUE_BYTES)?;
@@ -94,6 +96,7 @@ fn first_unprintable(word: &[u8]) -> Option<usize>
 #[tactic(auto, unfolding(crate::specs::Reading::epoch_in))]
 pub fn epoch_in(version: Version, saved: u64, bytes: &[u8]) -> Result<(Option<u64>, usize), usize>
     ensures told { result ≡ epoch_in version saved bytes.now }
+    ensures most { IfOk result (λ found. found.1 ≤ 8) }
     ensures within { MatchResult result (λ found. found.1 ≤ length bytes.now) (λ left. left ≤ length bytes.now) }
 {
     if let Version::First = version {

@@ -1,6 +1,7 @@
 //! One row of a checkpoint.
-ghost use Rattle.std.specs.Prelude.{◌≡◌, ◌≤◌, length, MatchResult};
+ghost use Rattle.std.specs.Prelude.{◌≡◌, ◌≤◌, length, IfOk, MatchResult};
 ghost use Rattle.lcp_store.specs.Reading.{row_in};
+ghost use Rattle.lcp_store.specs.declared.row.TheConstants.{ROW_BYTES};
 
 use crate::field::{epoch_in, key_in, value_in};
 use sig_core::{Key, Value};
@@ -35,6 +36,7 @@ pub struct StoredRow {
 #[tactic(auto, unfolding(crate::specs::Reading::row_in))]
 pub fn row_in(version: Version, saved: u64, bytes: &[u8]) -> Result<(StoredRow, usize), usize>
     ensures told { result ≡ row_in version saved bytes.now }
+    ensures most { IfOk result (λ found. found.1 ≤ ROW_BYTES) }
     ensures within { MatchResult result (λ found. (1 ≤ found.1) × (found.1 ≤ length bytes.now)) (λ left. left ≤ length bytes.now) }
 {
     let (key, key_end) = key_in(bytes)?;

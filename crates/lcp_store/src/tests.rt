@@ -28,15 +28,15 @@ fn expect_damage<R: Abort>(rt: &R, alloc: Global, saved: u64, bytes: &[u8], at: 
 fn a_row_of_each_version_is_these_bytes(rt: HostRuntime) -> Result<(), Fail> {
     let mut out = Vec::new(rt.alloc());
     put_row(&mut out, &Key::new(b"a")?, &Value::new(b"1")?)?;
-    assert_eq!(rt; out.as_slice(), &[1, b'a', 1, b'1']);
+    assert_eq!(rt; out.as_slice(), [1, b'a', 1, b'1'].as_slice());
     put_row(&mut out, &Key::new(b"bc")?, &Value::new(b"")?)?;
     put_row(&mut out, &Key::new(b"a")?, &Value::new(b"23")?)?;
-    assert_eq!(rt; out.as_slice(), &FIRST);
+    assert_eq!(rt; out.as_slice(), FIRST.as_slice());
     let mut out = Vec::new(rt.alloc());
     put_head(&mut out)?;
     put_row2(&mut out, &Key::new(b"a")?, 1, &Value::new(b"1")?)?;
     put_row2(&mut out, &Key::new(b"b")?, 258, &Value::new(b"")?)?;
-    assert_eq!(rt; out.as_slice(), &SECOND);
+    assert_eq!(rt; out.as_slice(), SECOND.as_slice());
     Ok(())
 }
 
