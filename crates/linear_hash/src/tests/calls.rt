@@ -50,7 +50,7 @@ fn call(
     if found.is_none() {
         index.insert(key, at)?;
         plain.insert(*key, at)?;
-        let crowded = before * 4 < plain.len() as u64;
+        let crowded = before.saturating_mul(4) < plain.len() as u64;
         return Ok(index.buckets() == if crowded { before + 1 } else { before });
     }
     if takes {
