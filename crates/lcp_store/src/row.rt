@@ -6,7 +6,7 @@ ghost use Rattle.lcp_store.specs.declared.row.TheConstants.{ROW_BYTES};
 use crate::field::{epoch_in, key_in, value_in};
 use sig_core::{Key, Value};
 
-/// The most bytes that a row of a checkpoint takes. The fewest are two.
+/// The most bytes that a row of a checkpoint takes.
 pub const ROW_BYTES: usize = 242;
 
 /// How the rows of a checkpoint are written.
@@ -27,7 +27,7 @@ pub struct StoredRow {
     pub value: Value,
 }
 
-/// The row in front of the bytes, and how many bytes it takes, 2 to `ROW_BYTES`. `saved` is the
+/// The row in front of the bytes, and how many it takes, at most `ROW_BYTES`. `saved` is the
 /// saved epoch of the slot that names the checkpoint.
 ///
 /// # Errors
