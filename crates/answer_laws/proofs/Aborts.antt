@@ -10,11 +10,14 @@ use Rattle.node_core.specs.Blocks.{lqh_of, tc_of}
 use Rattle.node_core.specs.declared.host.Host.{Host}
 use Rattle.run_theory.specs.Links.{sent, taken}
 use Rattle.run_theory.specs.Runs.{log_of}
+use Rattle.sig_core.specs.declared.portion.TheConstants.{PORTION}
 use Rattle.sig_core.specs.declared.member.TxId.{TxId}
 use Rattle.sig_core.specs.declared.outcome.AbortCause.{AbortCause}
 use Rattle.sig_core.specs.declared.outs.Outgoing.{Outgoing}
 use Rattle.sig_core.specs.declared.signal.Signal.{Signal}
 use Rattle.sig_core.specs.Place.{coordinator_of}
+use Rattle.tc_block.specs.declared.sends.TheConstants.{SENDS}
+use Rattle.tc_block.specs.declared.touched.TheConstants.{KEYS}
 use Rattle.tc_block.specs.declared.phase.Phase.{Phase}
 use Rattle.tc_block.specs.declared.phase.Phase.TheVariants.{Open, Verifying, Committing, Completing, Aborting}
 use Rattle.tc_block.specs.declared.touched.Touched.{Touched}
@@ -26,7 +29,7 @@ use Rattle.world_core.specs.Hosts.{home, hosts}
 use Rattle.world_core.specs.Machine.{after, machine, step_after}
 use Rattle.world_core.specs.Start.{Start}
 use Rattle.world_core.specs.Steps.{HostStep}
-use Rattle.host_laws.specs.Counts.{one_if}
+use Rattle.run_theory.specs.Counts.{one_if}
 use Rattle.answer_laws.proofs.AbortCounts.{abort_low, answer_turn, cont_place, cont_turn, few_answers, few_rows, lqh_aborts, none_at}
 use Rattle.run_laws.proofs.AlongSteps.{Goes, addressed, along, at_home, at_tc, first_none, heard_rows, home_place, live_tx, no_transaction, other_turn, the_transaction, turn_at, tx_at}
 use Rattle.run_laws.proofs.Always.{few_touched}
@@ -78,7 +81,7 @@ module _ (start : Start) (shape : IsShape start.shape) (tx : TxId) (some_node : 
       (t : Transaction) (why : AbortCause) (v : Bool) (k : ℕ) → tx_at tx
       (after start at (logs at)) ≡ Some t → t.phase ≡ Aborting why v k → IsDue logs t k
 
-  few_all : (touched : List Touched) → length touched ≤ 64 → replica_count (first_layout start.shape) touched ≤ 512
+  few_all : (touched : List Touched) → length touched ≤ KEYS → replica_count (first_layout start.shape) touched ≤ SENDS
   few_all touched low = omega (arith, low, each_few touched)
     where
       each_few : (xs : List Touched) → replica_count (first_layout start.shape) xs ≤ 8 * length xs
@@ -210,7 +213,7 @@ module _ (start : Start) (shape : IsShape start.shape) (tx : TxId) (some_node : 
               moved (begins none off some k_is part) = record {
                 some = some;
                 owed = begun_owed start tx (is_abort nodes tx) logs now _ e.step.taken.to e.step.taken.body told _ _ k
-                    (omega (arith, came, ap one_if none)) (off 8 e.step.taken.to) k_is part;
+                    (omega (arith, came, ap one_if none)) (off PORTION e.step.taken.to) k_is part;
               }
               moved (waits other z m p some off touched le) = record { some = some d.some; owed = subst (λ xs. IsOwed start tx (is_abort nodes tx) now (replica_count (first_layout start.shape) xs) (asked_count (first_layout start.shape) step.turn.step.state.asked) k) (sym touched) by_owed }
                 where

@@ -18,6 +18,7 @@ use Rattle.sig_core.specs.declared.signal.client.ClientSignal.TheVariants.{TcBeg
 use Rattle.sig_core.specs.Place.{coordinator_of}
 use Rattle.sig_core.specs.Same.{same_tx}
 use Rattle.sig_core.specs.Step.{Step, to_place}
+use Rattle.api_block.specs.declared.operate.TheConstants.{OPERATIONS}
 use Rattle.api_block.specs.declared.opened.Doing.TheVariants.{Ready, Operating, Committing}
 use Rattle.api_block.specs.declared.opened.OpenTransaction.{OpenTransaction}
 use Rattle.api_block.specs.Opened.{asked_for, has_tx, is_beginning, is_tx}
@@ -27,8 +28,8 @@ use Rattle.node_core.specs.Row.{shell_row}
 use Rattle.host_laws.proofs.ApiBegins.{AreGood, IsGood, each_at}
 use Rattle.answer_laws.proofs.ApiSteps.{ApiStep, Changes, IsUnheard, Unheard, absent, answered_last, answered_ready, api_step, begins_ready, begins_working, changes, commits, drops, idle, is_calm, notes, opens, rests, works}
 use Rattle.host_laws.proofs.SendKinds.{are_of, none_of}
-use Rattle.host_laws.proofs.Tally.{none_if, tally_append, tally_between, tally_in}
-use Rattle.host_laws.specs.Counts.{one_if, tally}
+use Rattle.run_theory.proofs.Tally.{none_if, tally_append, tally_between, tally_in}
+use Rattle.run_theory.specs.Counts.{one_if, tally}
 use Rattle.host_laws.proofs.TcKeys.{answer_of, is_key, key_of_tx}
 use Rattle.host_laws.proofs.TcLives.{start_of}
 use Rattle.host_laws.proofs.TcMoves.{same_tx-is}
@@ -125,7 +126,7 @@ asks_commit tx one sends is = record { keys = ap (keys_to tx) is ∙ none_if (on
 
 -- how the transaction goes on: what it does before and after, how many operations it has been asked for, and what is asked for
 pub data Moves (tx : TxId) (body : Body) (t u : OpenTransaction) (sends : List Outgoing) : Type 0 where
-  works_on : answer_of tx body ≡ false → t.doing ≡ Ready → t.operations < 64 → u.operations ≡ t.operations + 1 → u.doing ≡ Operating → Asks tx sends 1 0 → Moves tx body t u sends
+  works_on : answer_of tx body ≡ false → t.doing ≡ Ready → t.operations < OPERATIONS → u.operations ≡ t.operations + 1 → u.doing ≡ Operating → Asks tx sends 1 0 → Moves tx body t u sends
   asks_end : answer_of tx body ≡ false → t.doing ≡ Ready → u.operations ≡ t.operations → u.doing ≡ Committing → Asks tx sends 0 1 → Moves tx body t u sends
   is_answered : answer_of tx body ≡ true → t.doing ≡ Operating → u.operations ≡ t.operations → u.doing ≡ Ready → Asks tx sends 0 0 → Moves tx body t u sends
   is_answered_last : answer_of tx body ≡ true → t.doing ≡ Operating → u.operations ≡ t.operations → u.doing ≡ Committing → Asks tx sends 0 1 → Moves tx body t u sends
@@ -134,14 +135,14 @@ pub data Moves (tx : TxId) (body : Body) (t u : OpenTransaction) (sends : List O
 -- A step of the API, as far as one transaction goes.
 pub data EntryStep (tx : TxId) (body : Body) (before after : Option OpenTransaction) (sends : List Outgoing) : Type 0 where
   stays : after ≡ before → Asks tx sends 0 0 → (answer_of tx body ≡ true → (t : OpenTransaction) → before ≡ Some t → is_operating t.doing ≡ false) → EntryStep tx body before after sends
-  starts_ready : (u : OpenTransaction) → start_of tx body ≡ true → answer_of tx body ≡ false → after ≡ Some u → u.operations ≤ 64 → u.doing ≡ Ready → Asks tx sends 0 0 → EntryStep tx body before after sends
+  starts_ready : (u : OpenTransaction) → start_of tx body ≡ true → answer_of tx body ≡ false → after ≡ Some u → u.operations ≤ OPERATIONS → u.doing ≡ Ready → Asks tx sends 0 0 → EntryStep tx body before after sends
   starts_working : (u : OpenTransaction) → start_of tx body ≡ true → answer_of tx body ≡ false → after ≡ Some u → u.operations ≡ 1 → u.doing ≡ Operating → Asks tx sends 1 0 → EntryStep tx body before after sends
   moves : (t u : OpenTransaction) → before ≡ Some t → after ≡ Some u → Moves tx body t u sends → EntryStep tx body before after sends
   goes : after ≡ None → Asks tx sends 0 0 → answer_of tx body ≡ false → EntryStep tx body before after sends
 
 -- what is so of each entry
 pub record IsEntryRight (t : OpenTransaction) : Type 0 where
-  pub few : t.operations ≤ 64
+  pub few : t.operations ≤ OPERATIONS
   pub begun : is_beginning t.doing ≡ false → is_some t.tx ≡ true
 
 module _ (tx : TxId) (s : ApiState) (body : Body) (good : AreGood s.view s.opened) (right : Each IsEntryRight s.opened) (once : tally (has_tx tx) s.opened ≤ 1) (new : start_of tx body ≡ true → tally (has_tx tx) s.opened ≡ 0) where
@@ -205,7 +206,7 @@ module _ (tx : TxId) (s : ApiState) (body : Body) (good : AreGood s.view s.opene
       one_is : (one : TxId) → t.tx ≡ Some one → (b : Bool) → has_tx tx t ≡ b → same_tx one tx ≡ b
       one_is one is b on = ap (is_tx tx) (sym is) ∙ on
 
-      lower : nat_lt t.operations 64 ≡ true → t.operations < 64
+      lower : nat_lt t.operations OPERATIONS ≡ true → t.operations < OPERATIONS
       lower q = grind (arith, nat_tests, q)
 
       asks_as : (b : Bool) (one : TxId) → same_tx one tx ≡ b → (k c : ℕ) → Asks tx sends k c → (k ≡ one_if (same_tx one tx)) → Asks tx sends (one_if b) c

@@ -14,6 +14,7 @@ use Rattle.sig_core.specs.declared.signal.host.HostSignal.TheVariants.{Continue}
 use Rattle.sig_core.specs.declared.signal.host.Work.TheVariants as work
 use Rattle.sig_core.specs.Place.{coordinator_of}
 use Rattle.sig_core.specs.Step.{Step, to_place}
+use Rattle.api_block.specs.declared.operate.TheConstants.{OPERATIONS}
 use Rattle.api_block.specs.declared.members.News.{News}
 use Rattle.api_block.specs.declared.members.News.TheVariants as news
 use Rattle.api_block.specs.declared.opened.Doing.{Doing}
@@ -24,9 +25,9 @@ use Rattle.api_block.specs.Commands.{ticked_if}
 use Rattle.api_block.specs.Members.{everyone, telling_all}
 use Rattle.api_block.specs.Opened.{asked_for, begins_at, has_tx, is_beginning, same_name}
 use Rattle.api_block.specs.State.{ApiState, about}
-use Rattle.host_laws.proofs.ApiTurns.{IsStray, ApiRequestForms, ApiSignalForms, api_turns}
+use Rattle.api_block.proofs.ApiTurns.{IsStray, ApiRequestForms, ApiSignalForms, api_turns}
 use Rattle.host_laws.proofs.LqhOps.{left_of}
-use Rattle.host_laws.specs.Counts.{tally}
+use Rattle.run_theory.specs.Counts.{tally}
 use Rattle.host_laws.proofs.SendKinds.{are_of}
 use Rattle.host_laws.proofs.TcKeys.{answer_of}
 use Rattle.answer_laws.specs.Answered.{is_operating}
@@ -59,7 +60,7 @@ pub data Changes (body : Body) (t u : OpenTransaction) (sends : List Outgoing) :
   begins_working : (name : Option ℕ) (one : TxId) (op : Op) → body ≡ Client (TcBeginConf name one)
       → is_beginning t.doing ≡ true → u.tx ≡ Some one → u.operations ≡ 1 → u.doing ≡ Operating
       → sends ≡ to_place (coordinator_of one) (Client (TcKeyReq one op)) ∷ [] → Changes body t u sends
-  works : (one : TxId) (op : Op) → IsNoAnswer body → t.tx ≡ Some one → t.doing ≡ Ready → nat_lt t.operations 64 ≡ true
+  works : (one : TxId) (op : Op) → IsNoAnswer body → t.tx ≡ Some one → t.doing ≡ Ready → nat_lt t.operations OPERATIONS ≡ true
       → u.tx ≡ t.tx → u.operations ≡ t.operations + 1 → u.doing ≡ Operating
       → sends ≡ to_place (coordinator_of one) (Client (TcKeyReq one op)) ∷ [] → Changes body t u sends
   commits : (one : TxId) → IsNoAnswer body → t.tx ≡ Some one → t.doing ≡ Ready → u.tx ≡ t.tx

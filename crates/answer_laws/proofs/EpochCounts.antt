@@ -12,15 +12,16 @@ use Rattle.sig_core.specs.declared.signal.Body.{Body}
 use Rattle.sig_core.specs.declared.signal.Body.TheVariants.{Epoch}
 use Rattle.sig_core.specs.declared.signal.epoch.EpochSignal.TheVariants.{DiVerifyReq, DiVerifyEnd}
 use Rattle.sig_core.specs.Same.{same_tx}
+use Rattle.tc_block.specs.declared.tc.TheConstants.{TRANSACTIONS}
 use Rattle.world_core.specs.Hosts.{first_membership, host_for}
 use Rattle.world_core.specs.Machine.{addressed, all_addressed, counted as one_counted, machine}
 use Rattle.world_core.specs.Start.{Start}
 use Rattle.world_core.specs.Steps.{Addressed}
 use Rattle.run_laws.proofs.AlongSteps.{is_dih}
-use Rattle.host_laws.proofs.Focus.{IsFocus, absent, found}
+use Rattle.run_theory.proofs.Focus.{IsFocus, absent, found}
 use Rattle.host_laws.proofs.SendKinds.{are_of}
-use Rattle.host_laws.proofs.Tally.{tally_between}
-use Rattle.host_laws.specs.Counts.{one_if, tally}
+use Rattle.run_theory.proofs.Tally.{tally_between}
+use Rattle.run_theory.specs.Counts.{one_if, tally}
 use Rattle.host_laws.proofs.TcMoves.{same_tx-is}
 
 -- what the block of epochs makes of the transactions that it counts
@@ -33,7 +34,7 @@ ended_by c None = c
 ended_by c (Some at) = remove c at
 
 abbrev pub counts_by : Body → List TxId → List TxId
-counts_by (Epoch (DiVerifyReq tx ops)) c = with_asked c tx (nat_lt (length c) 64)
+counts_by (Epoch (DiVerifyReq tx ops)) c = with_asked c tx (nat_lt (length c) TRANSACTIONS)
 counts_by (Epoch (DiVerifyEnd tx)) c = ended_by c (position (same_tx tx) c)
 counts_by _ c = c
 
@@ -51,10 +52,10 @@ abbrev pub is_request : Body → Bool
 is_request (Epoch (DiVerifyReq tx ops)) = true
 is_request _ = false
 
--- each that asks finds fewer than 64 counted
+-- each that asks finds fewer counted than a coordinator keeps
 abbrev pub AreFew : List Addressed → Type 0
 AreFew [] = Unit {0}
-AreFew (x ∷ xs) = ((is_dih x.signal.to.block && is_request x.signal.body) ≡ true → length (counted_of xs) < 64) × AreFew xs
+AreFew (x ∷ xs) = ((is_dih x.signal.to.block && is_request x.signal.body) ≡ true → length (counted_of xs) < TRANSACTIONS) × AreFew xs
 
 -- the same of the signals of a step that are for such places, the first first
 abbrev pub sends_count : (Place → Bool) → List Outgoing → List TxId → List TxId
@@ -63,7 +64,7 @@ sends_count at (o ∷ more) c = sends_count at more (counts_if (at o.to && is_di
 
 abbrev pub SendsFew : (Place → Bool) → List Outgoing → List TxId → Type 0
 SendsFew at [] c = Unit {0}
-SendsFew at (o ∷ more) c = ((at o.to && (is_dih o.to.block && is_request o.body)) ≡ true → length c < 64) × SendsFew at more (counts_if (at o.to && is_dih o.to.block) o.body c)
+SendsFew at (o ∷ more) c = ((at o.to && (is_dih o.to.block && is_request o.body)) ≡ true → length c < TRANSACTIONS) × SendsFew at more (counts_if (at o.to && is_dih o.to.block) o.body c)
 
 module _ (start : Start) (h : ℕ) (stamp : ℕ) where
   -- the places of host h
@@ -131,10 +132,10 @@ plain_counts at (o ∷ more) c e =
     let here = still_counts (at o.to && is_dih o.to.block) o.body c parts.0 in
     (ap (sends_count at more) here ∙ rest.0, (λ asks. absurd (still_asks (at o.to) (is_dih o.to.block) o.body parts.0 asks), subst (SendsFew at more) (sym here) rest.1))
 
--- one more is counted, where fewer than 64 are
-pub asked_count : (c : List TxId) (tx : TxId) → length c < 64 → with_asked c tx (nat_lt (length c) 64) ≡ c ++ tx ∷ []
+-- one more is counted, where fewer are than a coordinator keeps
+pub asked_count : (c : List TxId) (tx : TxId) → length c < TRANSACTIONS → with_asked c tx (nat_lt (length c) TRANSACTIONS) ≡ c ++ tx ∷ []
 asked_count c tx low =
-    let fewer : nat_lt (length c) 64 ≡ true = grind (arith, nat_tests, low) in
+    let fewer : nat_lt (length c) TRANSACTIONS ≡ true = grind (arith, nat_tests, low) in
     ap (with_asked c tx) fewer
 
 -- one that ends is counted no more

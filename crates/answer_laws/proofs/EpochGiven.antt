@@ -24,13 +24,14 @@ use Rattle.sig_core.specs.declared.signal.epoch.EpochSignal.TheVariants.{DiVerif
 use Rattle.sig_core.specs.Place.{coordinator, epochs}
 use Rattle.sig_core.specs.Same.{same_tx}
 use Rattle.sig_core.specs.Step.{Step}
+use Rattle.tc_block.specs.declared.tc.TheConstants.{TRANSACTIONS}
 use Rattle.tc_block.specs.Tc.{tc_table}
 use Rattle.world_core.proofs.HostNumbers.{host_below, tc_runs, tc_started}
 use Rattle.world_core.specs.Hosts.{host_for, hosts, receiver, started, tc_host}
 use Rattle.world_core.specs.Machine.{after, machine, sent_count, step_after}
 use Rattle.world_core.specs.Start.{Start}
 use Rattle.world_core.specs.Steps.{Addressed, HostStep}
-use Rattle.host_laws.specs.Counts.{one_if}
+use Rattle.run_theory.specs.Counts.{one_if}
 use Rattle.run_laws.proofs.AlongSteps.{at_tc, few_taken, is_dih}
 use Rattle.host_laws.proofs.ApiMoves.{api_moves}
 use Rattle.host_laws.proofs.DihSends.{dih_kinds}
@@ -323,8 +324,8 @@ module _ (start : Start) (node : ℕ) (some : 1 ≤ node) (few_nodes : node ≤ 
           at_most tx false q = omega (arith, ap one_if q)
 
           -- who asks finds fewer than 64 counted
-          few_here : AreFew (own_taken start node (e ∷ log)) → is_dih x.to.block ≡ true → (tx : TxId) → req_body tx x.body ≡ true → length d.counted < 64
-          few_here f at tx q = subst (λ c. length c < 64) (sym k.counted) (by (is_from (machine start) h e) (from_own e log own (asks (is_dih x.to.block) x.body at q)) f)
+          few_here : AreFew (own_taken start node (e ∷ log)) → is_dih x.to.block ≡ true → (tx : TxId) → req_body tx x.body ≡ true → length d.counted < TRANSACTIONS
+          few_here f at tx q = subst (λ c. length c < TRANSACTIONS) (sym k.counted) (by (is_from (machine start) h e) (from_own e log own (asks (is_dih x.to.block) x.body at q)) f)
             where
               asks : (b : Bool) (body : Body) → b ≡ true → req_body tx body ≡ true → (b && not (is_epochless body)) ≡ true
               asks true (Epoch (DiVerifyReq other ops)) p q = refl
@@ -336,7 +337,7 @@ module _ (start : Start) (node : ℕ) (some : 1 ≤ node) (few_nodes : node ≤ 
               wants true _ p q = cc
               wants false body p q = absurd (false≢true p)
 
-              by : (b : Bool) → b ≡ true → AreFew (if b then record { to = e.host; signal = x } ∷ own_taken start node log else own_taken start node log) → length (counted_of (own_taken start node log)) < 64
+              by : (b : Bool) → b ≡ true → AreFew (if b then record { to = e.host; signal = x } ∷ own_taken start node log else own_taken start node log) → length (counted_of (own_taken start node log)) < TRANSACTIONS
               by true p f = f.0 (wants (is_dih x.to.block) x.body at q)
               by false p f = absurd (false≢true p)
 

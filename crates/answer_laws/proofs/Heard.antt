@@ -2,6 +2,7 @@
 use Rattle.std.proofs.Common.{◌≡◌, ◌≢◌, ◌⊎◌, ℕ, ◌+◌, ◌≤◌, ◌<◌, List, [], length, Bool, true, false, refl, ap, sym, ◌∙◌, subst, arith, inl, inr}
 use Rattle.std.specs.Prelude.{◌&&◌, is_some, if◌then◌else◌, Option, None, Some}
 use Rattle.std.proofs.lemmas.Bool.{cases_eq}
+use Rattle.api_block.specs.declared.operate.TheConstants.{OPERATIONS}
 use Rattle.api_block.specs.declared.opened.OpenTransaction.{OpenTransaction}
 use Rattle.api_block.specs.Opened.{has_tx}
 use Rattle.api_block.specs.State.{ApiState}
@@ -53,7 +54,7 @@ use Rattle.tc_block.proofs.TurnRows.{tx_in, is_turn}
 use Rattle.answer_laws.proofs.Wants.{IsAsking, all_right, entry_next, held_few}
 use Rattle.host_laws.proofs.Wishes.{is_api, is_tc, second_fails, sends_of, to_node}
 use Rattle.host_laws.specs.OpenedAfter.{opened_in}
-use Rattle.host_laws.specs.Counts.{one_if, tally}
+use Rattle.run_theory.specs.Counts.{one_if, tally}
 
 -- the commit of a transaction is asked for at a coordinator
 commit_part : (tx : TxId) (to : Place) (body : Body) → is_commit_req tx to body ≡ true → part_of to.block ≡ part.Tc
@@ -343,7 +344,7 @@ module _ (start : Start) (tx : TxId) (some : 1 ≤ tx.tc) (low : tx.tc ≤ start
                     o = q.heard step.was step.there was_open
 
                     -- one more has come, so all before was answered
-                    answered_all : key_of_tx tx x.body ≡ true → (one_if (is_some step.was.asked) ≡ 0) × (keys_taken (logs h) < 64)
+                    answered_all : key_of_tx tx x.body ≡ true → (one_if (is_some step.was.asked) ≡ 0) × (keys_taken (logs h) < OPERATIONS)
                     answered_all key =
                         let few = keys_few start tx now g.right g.within in
                         let sent_same : keys_sent now ≡ keys_sent logs = ap (λ log. signals (is_key tx) (sent (machine start) 0 h log)) (g.others 0 zero_home) in (

@@ -17,6 +17,7 @@ use Rattle.sig_core.specs.declared.signal.Body.TheVariants.{Client}
 use Rattle.sig_core.specs.declared.signal.client.ClientSignal.TheVariants.{TcKeyReq, TcCommitReq}
 use Rattle.sig_core.specs.Op.{key_of}
 use Rattle.sig_core.specs.Step.{stay}
+use Rattle.tc_block.specs.declared.touched.TheConstants.{KEYS}
 use Rattle.tc_block.specs.declared.phase.Asked.{Asked}
 use Rattle.tc_block.specs.declared.phase.Phase.TheVariants.{Open}
 use Rattle.tc_block.specs.declared.transaction.Transaction.{Transaction}
@@ -24,7 +25,7 @@ use Rattle.tc_block.specs.Operate.{can_operate, is_ready}
 use Rattle.tc_block.specs.Touched.{fits, place_of}
 use Rattle.answer_laws.proofs.ApiEntries.{is_commit_req, of_opened}
 use Rattle.answer_laws.proofs.OpenTurns.{commit_body}
-use Rattle.host_laws.specs.Counts.{one_if, tally}
+use Rattle.run_theory.specs.Counts.{one_if, tally}
 use Rattle.host_laws.proofs.TcKeys.{key_of_tx}
 use Rattle.host_laws.proofs.TcMoves.{same_tx-is}
 use Rattle.tc_block.proofs.EachTurn.{IsMissed}
@@ -75,10 +76,10 @@ none_asked (Some a) e = absurd (omega (arith, e))
 pub ready : (t : Transaction) → t.phase ≡ Open → t.asked ≡ None → is_ready t.phase t.asked ≡ true
 ready t p q = ap (λ x. is_ready x t.asked) p ∙ ap (is_ready Open) q
 
-pub missed_key : (tx : TxId) (t : Transaction) (body : Body) → IsMissed t body → key_of_tx tx body ≡ true → t.phase ≡ Open → t.asked ≡ None → length t.touched < 64 → ⊥
+pub missed_key : (tx : TxId) (t : Transaction) (body : Body) → IsMissed t body → key_of_tx tx body ≡ true → t.phase ≡ Open → t.asked ≡ None → length t.touched < KEYS → ⊥
 missed_key tx t (Client (TcKeyReq other op)) missed e p q low = false≢true (sym missed ∙ can)
   where
-    room : nat_lt (length t.touched) 64 ≡ true
+    room : nat_lt (length t.touched) KEYS ≡ true
     room = grind (arith, nat_tests, low)
 
     can : can_operate t op ≡ true

@@ -18,6 +18,7 @@ use Rattle.sig_core.specs.declared.signal.host.Work.TheVariants as work
 use Rattle.frag_map.specs.Layout.{Layout, chain_of}
 use Rattle.sig_core.specs.Op.{key_of}
 use Rattle.sig_core.specs.Same.{same_tx}
+use Rattle.tc_block.specs.declared.sends.TheConstants.{SENDS}
 use Rattle.tc_block.specs.declared.phase.Asked.{Asked}
 use Rattle.tc_block.specs.declared.phase.Phase.{Phase}
 use Rattle.tc_block.specs.declared.phase.Phase.TheVariants.{Open, Verifying, Committing, Completing, Aborting}
@@ -31,7 +32,7 @@ use Rattle.tc_block.specs.Turn.{Turn}
 use Rattle.lqh_block.proofs.IndexLemmas.{same as same_key-is}
 use Rattle.sig_core.proofs.Keys.{same_tx-self}
 use Rattle.host_laws.proofs.LqhOps.{is_good, is_lqh, is_node, left_of, right_of, true_and}
-use Rattle.host_laws.specs.Counts.{one_if}
+use Rattle.run_theory.specs.Counts.{one_if}
 use Rattle.host_laws.proofs.PartCounts.{IsPart, all_counted, is_cont, part_is}
 use Rattle.tc_block.proofs.EachTurn.{IsAnswered, IsMissed}
 use Rattle.host_laws.proofs.TcTurns.{abort_ends, aborted, aborts, all_completed, answers, asked_to, asks, commits, committed, completed, completes, decides, ends, entered_phase, gives_up, GivesUp, goes_on, is_row_answer, keeps, late, over_not, refused, TurnMove}
@@ -93,9 +94,9 @@ module _ (n : ℕ) (tx : TxId) (layout : Layout) (good : (key : List ℕ) → is
     begins : aborted_body tx body ≡ false → ((at : ℕ) → (to : Place) → is_cont tx at to body ≡ false) → 1 ≤ k
         → k ≡ abort.replica_count layout u.touched + abort.asked_count layout u.asked
         → IsPart (is_abort n tx) tx (abort.replica_count layout u.touched) 0 sends → AbortMove t body u sends k
-    waits : (why : AbortCause) (v : Bool) (before : ℕ) → t.phase ≡ Aborting why v before → (1 ≤ before → 1 ≤ k) → ((at : ℕ) (to : Place) → at < 512 → is_cont tx at to body ≡ false) → u.touched ≡ t.touched
+    waits : (why : AbortCause) (v : Bool) (before : ℕ) → t.phase ≡ Aborting why v before → (1 ≤ before → 1 ≤ k) → ((at : ℕ) (to : Place) → at < SENDS → is_cont tx at to body ≡ false) → u.touched ≡ t.touched
         → k + one_if (aborted_body tx body) + abort.asked_count layout t.asked ≤ before + abort.asked_count layout u.asked + sends_of (is_abort n tx) sends → AbortMove t body u sends k
-    continues : (why : AbortCause) (v : Bool) (at : ℕ) → t.phase ≡ Aborting why v k → body ≡ Host (Continue (work.Transaction tx) at) → at < 512 → u ≡ t
+    continues : (why : AbortCause) (v : Bool) (at : ℕ) → t.phase ≡ Aborting why v k → body ≡ Host (Continue (work.Transaction tx) at) → at < SENDS → u ≡ t
         → IsPart (is_abort n tx) tx (abort.replica_count layout t.touched) at sends → AbortMove t body u sends k
 
   module _ (s : TcState) (home : s.node ≡ tx.tc) (view_is : s.layout ≡ layout) (t : Transaction) (body : Body) (turn : Turn) where
@@ -103,7 +104,7 @@ module _ (n : ℕ) (tx : TxId) (layout : Layout) (good : (key : List ℕ) → is
     other_phase other phase why v k is p off e =
         absurd (false≢true (sym off ∙ (ap is_aborting (sym p) ∙ (ap (λ (x : Turn). is_aborting x.step.state.phase) (sym is) ∙ ap is_aborting e))))
 
-    missed_cont : (b : Body) → IsMissed t b → (at : ℕ) (to : Place) → at < 512 → is_cont tx at to b ≡ false
+    missed_cont : (b : Body) → IsMissed t b → (at : ℕ) (to : Place) → at < SENDS → is_cont tx at to b ≡ false
     missed_cont (Host (Continue (work.Transaction other) a)) missed at to low = by (a == at) refl (is_tc to.block && (to.node == tx.tc)) (same_tx other tx)
       where
         by : (x : Bool) → (a == at) ≡ x → (y z : Bool) → (y && (z && x)) ≡ false

@@ -3,6 +3,7 @@ use Rattle.std.proofs.Common.{◌≡◌, ℕ, zero, suc, ◌+◌, ◌≤◌, ◌
 use Rattle.std.specs.Prelude.{nat_lt, is_some, Option, None, Some}
 use Rattle.std.proofs.lemmas.Bool.{false≢true}
 use Rattle.std.proofs.lemmas.Bool.Decides.{nat_tests}
+use Rattle.api_block.specs.declared.operate.TheConstants.{OPERATIONS}
 use Rattle.api_block.specs.declared.opened.Doing.{Doing}
 use Rattle.api_block.specs.declared.opened.Doing.TheVariants.{Beginning, Ready, Operating, Committing}
 use Rattle.api_block.specs.declared.opened.OpenTransaction.{OpenTransaction}
@@ -28,7 +29,7 @@ use Rattle.host_laws.proofs.ApiHolds.{shell_holds}
 use Rattle.answer_laws.proofs.ApiSteps.{ApiStep, Changes, answered_last, answered_ready, api_step, begins_ready, begins_working, changes, commits, drops, notes, opens, rests, works}
 use Rattle.host_laws.proofs.ShellHost.{opened_first, opened_next, shell_after}
 use Rattle.host_laws.proofs.LinkCounts.{steps}
-use Rattle.host_laws.specs.Counts.{one_if, tally}
+use Rattle.run_theory.specs.Counts.{one_if, tally}
 use Rattle.host_laws.proofs.TcKeys.{answer_of}
 use Rattle.host_laws.proofs.TcLives.{is_start, start_of}
 use Rattle.answer_laws.specs.Answered.{is_operating}
@@ -40,7 +41,7 @@ changed_right body t u sends (begins_ready name one about b is ops doing kind) r
 changed_right body t u sends (begins_working name one op about b is ops doing sent) r = record { few = omega (arith, ops); begun = λ e. ap is_some is }
 changed_right body t u sends (works one op none is ready low same ops doing sent) r = record { few = omega (arith, ops, under low); begun = λ e. ap is_some (same ∙ is) }
   where
-    under : nat_lt t.operations 64 ≡ true → t.operations < 64
+    under : nat_lt t.operations OPERATIONS ≡ true → t.operations < OPERATIONS
     under q = grind (arith, nat_tests, q)
 changed_right body t u sends (commits one none is ready same ops doing sent) r = record { few = omega (arith, r.few, ops); begun = λ e. ap is_some (same ∙ is) }
 changed_right body t u sends (answered_ready one answer about on working same ops doing kind) r =
@@ -88,7 +89,7 @@ IsHeld o k c a Committing = (1 ≤ c) × (k ≤ a)
 -- beginnings that it took: one operation at a time, no more than 64, and none behind a commit
 pub record IsAsking (before : Option OpenTransaction) (k c a b : ℕ) : Type 0 where
   pub held : (t : OpenTransaction) → before ≡ Some t → IsHeld t.operations k c a t.doing
-  pub few : k ≤ 64
+  pub few : k ≤ OPERATIONS
   pub ahead : k ≤ a + 1
   pub done : 1 ≤ c → k ≤ a
   pub new : b ≡ 0 → (k ≡ 0) × (c ≡ 0)
@@ -177,7 +178,7 @@ entry_next tx body before after sends k c a b (moves t u was now move) q less fi
     some_b : 1 ≤ b
     some_b = there t was
 
-    result : IsHeld u.operations (keys_to tx sends + k) (commits_to tx sends + c) (a + one_if (answer_of tx body)) u.doing → keys_to tx sends + k ≤ 64 → keys_to tx sends + k ≤ a + one_if (answer_of tx body) + 1
+    result : IsHeld u.operations (keys_to tx sends + k) (commits_to tx sends + c) (a + one_if (answer_of tx body)) u.doing → keys_to tx sends + k ≤ OPERATIONS → keys_to tx sends + k ≤ a + one_if (answer_of tx body) + 1
         → (1 ≤ commits_to tx sends + c → keys_to tx sends + k ≤ a + one_if (answer_of tx body))
         → IsAsking after (keys_to tx sends + k) (commits_to tx sends + c) (a + one_if (answer_of tx body)) (one_if (start_of tx body) + b)
     result h few ahead done = record {

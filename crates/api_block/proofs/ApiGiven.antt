@@ -15,6 +15,7 @@ use Rattle.sig_core.specs.declared.reply.Refusal.TheVariants.{NotOpen, IsOpen, N
 use Rattle.sig_core.specs.declared.reply.Refusal.{Refusal}
 use Rattle.sig_core.specs.declared.reply.Waiting.TheVariants.{HeldBy}
 use Rattle.sig_core.specs.Step.{Effects, Step, nothing, stay}
+use Rattle.api_block.specs.declared.operate.TheConstants.{OPERATIONS}
 use Rattle.api_block.specs.declared.dump.Dump.{Dump}
 use Rattle.api_block.specs.declared.members.News.TheVariants as news
 use Rattle.api_block.specs.declared.opened.Doing.{Doing}
@@ -136,7 +137,7 @@ operate_if_given given s name op at t tx false = refused_given given s (Some nam
 
 operate_by_given : (given : List ApiReply) (s : ApiState) (name : ℕ) (op : Op) (at : ℕ) (t : OpenTransaction) (doing : Doing) (tx : Option TxId)
     → operate_by (in_given given s) name op at t doing tx ≡ step_in_given given (operate_by s name op at t doing tx)
-operate_by_given given s name op at t Ready (Some tx) = operate_if_given given s name op at t tx (nat_lt t.operations 64)
+operate_by_given given s name op at t Ready (Some tx) = operate_if_given given s name op at t tx (nat_lt t.operations OPERATIONS)
 operate_by_given given s name op at t _ _ = refused_given given s (Some name) Busy
 
 pub operate_given : (given : List ApiReply) (s : ApiState) (name : ℕ) (op : Op)

@@ -2,6 +2,7 @@
 use Rattle.std.proofs.Common.{◌≡◌, ◌⊎◌, ◌+◌, ℕ, Bool, true, false, List, [], ◌∷◌, ◌++◌, length, refl, sym, ap, ◌∙◌, inl, inr}
 use Rattle.std.specs.List.{flat_map}
 use Rattle.std.specs.Prelude.{if◌then◌else◌, None, drop, nat_lt, not, take}
+use Rattle.sig_core.specs.declared.portion.TheConstants.{PORTION}
 use Rattle.sig_core.specs.declared.member.TxId.{TxId}
 use Rattle.sig_core.specs.declared.outcome.AbortCause.{AbortCause}
 use Rattle.sig_core.specs.declared.outs.Outgoing.{Outgoing}
@@ -88,10 +89,10 @@ phase_open layout tx phase touched is = ap (λ p. front_sends tx p ++ flat_map (
 part_none : (kind : Body → Bool) (node : ℕ) (tx : TxId) (at : ℕ) → ((n : ℕ) → kind (Host (Continue (work.Transaction tx) n)) ≡ true) → (sends : List Outgoing) → sends ≡ [] → are_of kind (part_effects node tx sends at).sends ≡ true
 unfolding part_effects
 part_none kind node tx at goes sends none =
-    of_append kind (take 8 (drop at sends)) (rest_if node tx at (nat_lt (at + 8) (length sends))) (of_take kind 8 (drop at sends) (of_drop kind at sends (ap (are_of kind) none))) (by (nat_lt (at + 8) (length sends)))
+    of_append kind (take PORTION (drop at sends)) (rest_if node tx at (nat_lt (at + PORTION) (length sends))) (of_take kind PORTION (drop at sends) (of_drop kind at sends (ap (are_of kind) none))) (by (nat_lt (at + PORTION) (length sends)))
   where
     by : (b : Bool) → are_of kind (rest_if node tx at b) ≡ true
-    by true = one_kind (kind (Host (Continue (work.Transaction tx) (at + 8)))) (goes (at + 8))
+    by true = one_kind (kind (Host (Continue (work.Transaction tx) (at + PORTION)))) (goes (at + PORTION))
     by false = refl
 
 fair_cause : (b same : Bool) → same ≡ true → (if b then true else not same) ≡ true → b ≡ true

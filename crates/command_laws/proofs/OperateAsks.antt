@@ -15,6 +15,7 @@ use Rattle.sig_core.specs.declared.signal.client.ClientSignal.TheVariants.{TcCom
 use Rattle.sig_core.specs.declared.signal.Signal.{Signal}
 use Rattle.sig_core.specs.Same.{same_tx}
 use Rattle.sig_core.specs.Step.{Step}
+use Rattle.api_block.specs.declared.operate.TheConstants.{OPERATIONS}
 use Rattle.api_block.specs.Api.{api_row, request_row}
 use Rattle.api_block.specs.declared.opened.Doing.{Doing}
 use Rattle.api_block.specs.declared.opened.Doing.TheVariants.{Operating, Ready}
@@ -35,7 +36,7 @@ use Rattle.host_laws.proofs.LqhOps.{left_of}
 use Rattle.host_laws.proofs.SendKinds.{none_of}
 use Rattle.host_laws.proofs.TcMoves.{same_tx-is}
 use Rattle.host_laws.proofs.Wishes.{is_tc, sends_of}
-use Rattle.host_laws.specs.Counts.{one_if}
+use Rattle.run_theory.specs.Counts.{one_if}
 use Rattle.host_laws.specs.OpenedAfter.{opened_in}
 use Rattle.command_laws.proofs.ApiChanges.{ApiChange, IsOneOf, answers, api_changes, commits, ends, is_news_kind, refuses, rests, starts, waits}
 use Rattle.command_laws.proofs.EarlySteps.{is_wish_to, wish_of}
@@ -154,14 +155,14 @@ module _ (tx : TxId) where
           (kept.named, omega (arith, kept.wishes, before.1))
 
 -- the row where the name is found
-operate_found : (s : ApiState) (name : ℕ) (op : Op) (t : OpenTransaction) (tx : TxId) → t.doing ≡ Ready → t.tx ≡ Some tx → t.operations < 64 → (f : IsNamed s.opened name t)
+operate_found : (s : ApiState) (name : ℕ) (op : Op) (t : OpenTransaction) (tx : TxId) → t.doing ≡ Ready → t.tx ≡ Some tx → t.operations < OPERATIONS → (f : IsNamed s.opened name t)
     → operate_row s name op ≡ key_request (about (changing s f.at (operating t)) (Some (Some name))) tx op
 unfolding operate_row
 operate_found s name op t tx ready own few f =
     ap (where_at s.opened (refused s (Some name) NotOpen) (λ at (u : OpenTransaction). operate_by s name op at u u.doing u.tx)) f.place
     ∙ ap (if_there (refused s (Some name) NotOpen) (λ (u : OpenTransaction). operate_by s name op f.at u u.doing u.tx)) f.get
     ∙ ap (λ (d : Doing). operate_by s name op f.at t d t.tx) ready ∙ ap (operate_by s name op f.at t Ready) own
-    ∙ (let low : nat_lt t.operations 64 ≡ true = grind (arith, nat_tests, few) in ap (operate_if s name op f.at t tx) low)
+    ∙ (let low : nat_lt t.operations OPERATIONS ≡ true = grind (arith, nat_tests, few) in ap (operate_if s name op f.at t tx) low)
 
 -- after it the transaction is operating, and its commit or abort isn't wished for
 pub record IsAskedFor (tx : TxId) (name : ℕ) (step : Step ApiState) : Type 0 where
@@ -169,7 +170,7 @@ pub record IsAskedFor (tx : TxId) (name : ℕ) (step : Step ApiState) : Type 0 w
   pub named : AreNamed tx step.state.opened
   pub wishes : sends_of (is_wish_to tx) step.effects.sends ≡ 0
 
-pub operate_first : (s : ApiState) (name : ℕ) (op : Op) (t : OpenTransaction) (tx : TxId) → named_in s.opened name ≡ Some t → t.doing ≡ Ready → t.tx ≡ Some tx → t.operations < 64 → AreNamed tx s.opened
+pub operate_first : (s : ApiState) (name : ℕ) (op : Op) (t : OpenTransaction) (tx : TxId) → named_in s.opened name ≡ Some t → t.doing ≡ Ready → t.tx ≡ Some tx → t.operations < OPERATIONS → AreNamed tx s.opened
     → IsAskedFor tx name (request_row s (request.Operate (Some name) op))
 unfolding request_row
 operate_first s name op t tx is ready own few were = record {

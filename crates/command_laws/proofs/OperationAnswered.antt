@@ -5,6 +5,7 @@ use Rattle.sig_core.specs.declared.member.TxId.{TxId}
 use Rattle.sig_core.specs.declared.op.Op.{Op}
 use Rattle.sig_core.specs.declared.reply.ApiReply.TheVariants.{Answered}
 use Rattle.sig_core.specs.declared.request.ApiReq.TheVariants.{Operate}
+use Rattle.api_block.specs.declared.operate.TheConstants.{OPERATIONS}
 use Rattle.api_block.specs.declared.opened.Doing.{Doing}
 use Rattle.api_block.specs.declared.opened.Doing.TheVariants.{Operating, Ready}
 use Rattle.api_block.specs.declared.opened.OpenTransaction.{OpenTransaction}
@@ -30,7 +31,7 @@ use Rattle.command_laws.proofs.TellsSince.{OnTc}
 use Rattle.command_laws.specs.Served.{IsAnsweredAs, IsRefusedAs, IsServedBetween, OperationsAreAnswered, StillWaits, named_in}
 
 module _ (answered : EachIsAnswered) (start : Start) (was now : ℕ → List HostStep) (name : ℕ) (op : Op) (t : OpenTransaction) (tx : TxId) (served : IsServedBetween start was now (Operate (Some name) op))
-    (named : named_in (opened_after start was) name ≡ Some t) (ready : t.doing ≡ Ready) (own : t.tx ≡ Some tx) (few : t.operations < 64) where
+    (named : named_in (opened_after start was) name ≡ Some t) (ready : t.doing ≡ Ready) (own : t.tx ≡ Some tx) (few : t.operations < OPERATIONS) where
   f : IsFirst start was now (Operate (Some name) op)
   f = request_first start was now (Operate (Some name) op) served
 

@@ -22,6 +22,7 @@ use Rattle.sig_core.specs.Place.{rows_of}
 use Rattle.sig_core.specs.Step.{Step}
 use Rattle.frag_map.specs.Layout.{first_view, members}
 use Rattle.frag_map.specs.Replicas.{first_start}
+use Rattle.api_block.specs.declared.members.TheConstants.{TOLD}
 use Rattle.api_block.specs.Api.{api_table, request_row}
 use Rattle.api_block.specs.Commands.{tick_row, ticked_if}
 use Rattle.api_block.specs.declared.members.News.{News}
@@ -39,11 +40,11 @@ use Rattle.world_core.specs.Machine.{after, machine, step_after}
 use Rattle.world_core.specs.Start.{Start}
 use Rattle.world_core.specs.Steps.{HostStep}
 use Rattle.host_laws.proofs.BlocksAlong.{replies_are}
-use Rattle.host_laws.proofs.ApiTurns.{signal_turns}
+use Rattle.api_block.proofs.ApiTurns.{signal_turns}
 use Rattle.host_laws.proofs.LinkCounts.{few_sends, signals, steps, steps_from, to_host}
-use Rattle.host_laws.proofs.Tally.{tally_append}
+use Rattle.run_theory.proofs.Tally.{tally_append}
 use Rattle.host_laws.proofs.Wishes.{sends_of}
-use Rattle.host_laws.specs.Counts.{one_if}
+use Rattle.run_theory.specs.Counts.{one_if}
 use Rattle.command_laws.proofs.ApiChanges.{ApiChange, alone, answers, api_changes, commits, ends, idle, is_row_reply, refuses, rests, starts, told, waits}
 use Rattle.command_laws.proofs.BlockSteps.{api_host, api_seen}
 use Rattle.command_laws.proofs.Committed.{cut_at_first}
@@ -211,7 +212,7 @@ module _ (start : Start) where
     unfolding everyone
     sent_all =
         ap (λ (xs : List Member). sends_of for_node (telling_all news.Round (members start.shape.nodes ++ xs)))
-        (take_none (12 - length (members start.shape.nodes)))
+        (take_none (TOLD - length (members start.shape.nodes)))
         ∙ ap (λ (xs : List Member). sends_of for_node (telling_all news.Round xs))
         (append-nil (members start.shape.nodes))
         ∙ one_for start.shape.nodes low (omega arith)

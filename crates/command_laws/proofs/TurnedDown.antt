@@ -12,6 +12,7 @@ use Rattle.sig_core.specs.declared.reply.Refusal.TheVariants.{IsOpen, NotOpen}
 use Rattle.sig_core.specs.declared.request.ApiReq.{ApiReq}
 use Rattle.sig_core.specs.declared.request.ApiReq.TheVariants as request
 use Rattle.sig_core.specs.Step.{Step}
+use Rattle.api_block.specs.declared.operate.TheConstants.{OPERATIONS}
 use Rattle.api_block.specs.Api.{request_row}
 use Rattle.api_block.specs.Commands.{abort_by, abort_row, begin_at, begin_if, begin_row, commit_by, commit_row, dump_if, dump_row, node_for}
 use Rattle.api_block.specs.declared.opened.Doing.{Doing}
@@ -44,7 +45,7 @@ pub record TakesCommands (opened : List OpenTransaction) (name : ℕ) : Type 0 w
 -- and operations
 pub record TakesOperations (opened : List OpenTransaction) (name : ℕ) : Type 0 where
   pub takes : TakesCommands opened name
-  pub few : takes.item.operations < 64
+  pub few : takes.item.operations < OPERATIONS
 
 module _ (s : ApiState) where
   -- the refusal is all that a step replies
@@ -98,9 +99,9 @@ module _ (s : ApiState) where
       few at t tx false due = cc
 
       by : (at : ℕ) (t : OpenTransaction) (d : Doing) (o : Option TxId)
-          → busy_or (full_at (nat_lt t.operations 64)) d o ≡ Some r
+          → busy_or (full_at (nat_lt t.operations OPERATIONS)) d o ≡ Some r
           → Refuses (operate_by s name op at t d o) (Some name) r
-      by at t Ready (Some tx) due = few at t tx (nat_lt t.operations 64) due
+      by at t Ready (Some tx) due = few at t tx (nat_lt t.operations OPERATIONS) due
       by at t Ready None due = cc
       by at t (Beginning first) o due = cc
       by at t Operating o due = cc
@@ -194,10 +195,10 @@ module _ (s : ApiState) where
       let t = named_taken name commit_refused free in
       (taken_by name t.item None t.named t.free).0
 
-  few_of : (n : ℕ) → full_at (nat_lt n 64) ≡ None → n < 64
-  few_of n = by (nat_lt n 64) refl
+  few_of : (n : ℕ) → full_at (nat_lt n OPERATIONS) ≡ None → n < OPERATIONS
+  few_of n = by (nat_lt n OPERATIONS) refl
     where
-      by : (b : Bool) → nat_lt n 64 ≡ b → full_at b ≡ None → n < 64
+      by : (b : Bool) → nat_lt n OPERATIONS ≡ b → full_at b ≡ None → n < OPERATIONS
       by true is free = grind (arith, nat_tests, is)
       by false is free = absurd cc
 
@@ -205,8 +206,8 @@ module _ (s : ApiState) where
       → TakesOperations s.opened name
   operate_takes name op free =
       let t = named_taken name operation_refused free in
-      let taken = taken_by name t.item (full_at (nat_lt t.item.operations 64)) t.named t.free in
-      record { takes = taken.0; few = subst (λ (u : OpenTransaction). u.operations < 64) (sym taken.1) (few_of t.item.operations taken.2) }
+      let taken = taken_by name t.item (full_at (nat_lt t.item.operations OPERATIONS)) t.named t.free in
+      record { takes = taken.0; few = subst (λ (u : OpenTransaction). u.operations < OPERATIONS) (sym taken.1) (few_of t.item.operations taken.2) }
 
 -- what the first step replies is told since then
 module _ (start : Start) (was now : ℕ → List HostStep) (q : ApiReq) (served : IsServedBetween start was now q) where

@@ -150,7 +150,7 @@ module _ (tx : TxId) where
       → list_any (λ (o : Outgoing). is_forth tx (way_of o.body)) (part_effects node tx (phase_sends layout tx (Completing epoch awaited) touched) 0).sends ≡ true
   unfolding part_effects phase_sends front_sends
   completing_tells node layout touched epoch awaited =
-      tells_first epoch (take 7 (flat_map (key_sends layout tx (Completing epoch awaited)) touched) ++ rest node tx (phase_sends layout tx (Completing epoch awaited) touched) 0)
+      tells_first epoch (take (PORTION - 1) (flat_map (key_sends layout tx (Completing epoch awaited)) touched) ++ rest node tx (phase_sends layout tx (Completing epoch awaited) touched) 0)
 
   -- an answer that comes late sends aborts again
   late_ways : (layout : Layout) (t : Transaction) (key : List ℕ) → is_aborting t.phase ≡ true → Ways tx t.phase (operate.late_answer layout tx t key)

@@ -5,6 +5,7 @@ use Rattle.std.specs.List.{flat_map}
 use Rattle.run_theory.specs.Lists.{Each}
 use Rattle.run_theory.proofs.EachSent.{each_drop, each_flat, each_mapped, each_take}
 use Rattle.run_theory.proofs.Pasts.{each_append}
+use Rattle.sig_core.specs.declared.portion.TheConstants.{PORTION}
 use Rattle.sig_core.specs.declared.member.TxId.{TxId}
 use Rattle.sig_core.specs.declared.outcome.AbortCause.{AbortCause}
 use Rattle.sig_core.specs.declared.outs.Outgoing.{Outgoing}
@@ -38,8 +39,8 @@ module _ (node : ℕ) (layout : Layout) (tx : TxId) where
   part_asks : (sends : List Outgoing) (at : ℕ) → Each AsksNone sends → Each AsksNone (part_effects node tx sends at).sends
   unfolding part_effects
   part_asks sends at all =
-      each_append AsksNone (take 8 (drop at sends)) (rest_if node tx at (nat_lt (at + 8) (length sends)))
-      (each_take AsksNone 8 (drop at sends) (each_drop AsksNone at sends all)) (rest_asks at (nat_lt (at + 8) (length sends)))
+      each_append AsksNone (take PORTION (drop at sends)) (rest_if node tx at (nat_lt (at + PORTION) (length sends)))
+      (each_take AsksNone PORTION (drop at sends) (each_drop AsksNone at sends all)) (rest_asks at (nat_lt (at + PORTION) (length sends)))
 
   front_asks : (phase : Phase) → Each AsksNone (front_sends tx phase)
   unfolding front_sends

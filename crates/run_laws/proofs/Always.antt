@@ -11,6 +11,7 @@ use Rattle.sig_core.specs.declared.op.Answer.TheVariants as answer
 use Rattle.sig_core.specs.declared.op.Op.{Op}
 use Rattle.sig_core.specs.declared.signal.Body.{Body}
 use Rattle.sig_core.specs.Op.{key_of}
+use Rattle.tc_block.specs.declared.touched.TheConstants.{KEYS}
 use Rattle.tc_block.specs.declared.phase.Phase.{Phase}
 use Rattle.tc_block.specs.declared.touched.Touched.{Touched}
 use Rattle.tc_block.specs.declared.transaction.Transaction.{Transaction}
@@ -29,7 +30,7 @@ use Rattle.sig_core.proofs.Keys.{same_tx-self}
 use Rattle.run_laws.proofs.AlongSteps.{first_none, no_transaction, the_transaction, turn_at, tx_at}
 use Rattle.host_laws.proofs.BlocksAlong.{tc_layout}
 use Rattle.host_laws.proofs.HostTurns.{HostTurn, aside, in_rows, starting, turning}
-use Rattle.host_laws.specs.Counts.{one_if}
+use Rattle.run_theory.specs.Counts.{one_if}
 use Rattle.host_laws.proofs.TcKeys.{key_of_tx}
 use Rattle.host_laws.proofs.TcOwes.{last_length, set_length}
 use Rattle.host_laws.specs.Live.{of_live}
@@ -58,20 +59,20 @@ always start tx h P stable (e ∷ log) t at = next (always start tx h P stable l
 
 -- the keys that a transaction touches: one more where it is asked for an operation, and then no more than 64
 pub record Touches (tx : TxId) (t : Transaction) (body : Body) (u : Transaction) : Type 0 where
-  pub few : length t.touched ≤ 64 → length u.touched ≤ 64
+  pub few : length t.touched ≤ KEYS → length u.touched ≤ KEYS
   pub more : length u.touched ≤ length t.touched + one_if (key_of_tx tx body)
 
 touch_length : (touched : List Touched) (key : List ℕ) (chain : List Member) → fits touched key ≡ true
-    → (length (touch touched key chain) ≤ length touched) ⊎ ((length touched < 64) × (length (touch touched key chain) ≡ length touched + 1))
+    → (length (touch touched key chain) ≤ length touched) ⊎ ((length touched < KEYS) × (length (touch touched key chain) ≡ length touched + 1))
 touch_length touched key chain fit = go (place_of touched key) refl
   where
-    go : (o : Option ℕ) → place_of touched key ≡ o → (length (touched_by touched key chain o) ≤ length touched) ⊎ ((length touched < 64) × (length (touched_by touched key chain o) ≡ length touched + 1))
+    go : (o : Option ℕ) → place_of touched key ≡ o → (length (touched_by touched key chain o) ≤ length touched) ⊎ ((length touched < KEYS) × (length (touched_by touched key chain o) ≡ length touched + 1))
     go (Some at) e = inl (omega arith)
     go None e =
-        let low : nat_lt (length touched) 64 ≡ true = ap (λ o. is_some o || nat_lt (length touched) 64) (sym e) ∙ fit in
+        let low : nat_lt (length touched) KEYS ≡ true = ap (λ o. is_some o || nat_lt (length touched) KEYS) (sym e) ∙ fit in
         inr (under low, last_length touched (unwritten key chain))
       where
-        under : nat_lt (length touched) 64 ≡ true → length touched < 64
+        under : nat_lt (length touched) KEYS ≡ true → length touched < KEYS
         under q = grind (arith, nat_tests, q)
 
 after_length : (a : Answer) (touched : List Touched) (op : Op) (chain : List Member) → length (touched_after a touched op chain) ≡ length touched
@@ -110,7 +111,7 @@ turn_touches s tx t body turn move = go move
         now = ap (λ (x : Turn). length x.step.state.touched) is
 
         by : (length (touch t.touched (key_of op) (chain_of s.layout (key_of op))) ≤ length t.touched)
-            ⊎ ((length t.touched < 64) × (length (touch t.touched (key_of op) (chain_of s.layout (key_of op))) ≡ length t.touched + 1)) → Touches tx t body turn.step.state
+            ⊎ ((length t.touched < KEYS) × (length (touch t.touched (key_of op) (chain_of s.layout (key_of op))) ≡ length t.touched + 1)) → Touches tx t body turn.step.state
         by (inl less) = record { few = λ low. omega (arith, low, now, less); more = omega (arith, now, less) }
         by (inr one) = record { few = λ low. omega (arith, now, one.0, one.1); more = omega (arith, now, one.1, ap one_if (ap (key_of_tx tx) about ∙ same_tx-self tx)) }
     go (answers key a asked about p q is) = alike _ is (after_length a t.touched asked.op asked.chain)
@@ -127,7 +128,7 @@ turn_touches s tx t body turn move = go move
     go (completed epoch k p is) = alike _ is refl
     go (all_completed epoch k p is) = alike _ is refl
 
-pub few_touched : (start : Start) (tx : TxId) (h : ℕ) (log : List HostStep) (t : Transaction) → tx_at tx (after start h log) ≡ Some t → length t.touched ≤ 64
+pub few_touched : (start : Start) (tx : TxId) (h : ℕ) (log : List HostStep) (t : Transaction) → tx_at tx (after start h log) ≡ Some t → length t.touched ≤ KEYS
 few_touched start tx h =
-    always start tx h (λ t. length t.touched ≤ 64)
+    always start tx h (λ t. length t.touched ≤ KEYS)
     (record { begins = omega arith; turns = λ s t body turn layout move over few. (turn_touches s tx t body turn move).few few })

@@ -10,6 +10,7 @@ use Rattle.sig_core.specs.declared.signal.Body.{Body}
 use Rattle.sig_core.specs.declared.signal.Body.TheVariants.{Chain}
 use Rattle.sig_core.specs.declared.signal.chain.ChainSignal.TheVariants.{Commit, Complete}
 use Rattle.sig_core.specs.Chain.{last_place, node_at}
+use Rattle.tc_block.specs.declared.sends.TheConstants.{SENDS}
 use Rattle.tc_block.specs.declared.phase.Phase.{Phase}
 use Rattle.tc_block.specs.declared.phase.Phase.TheVariants.{Open, Verifying, Committing, Completing, Aborting}
 use Rattle.tc_block.specs.declared.touched.Touched.{Touched}
@@ -56,7 +57,7 @@ pub record IsAlong (start : Start) (logs : ℕ → List HostStep) (tx : TxId) (u
 
 -- It commits, and awaits so many: no more are on their way, and for each key one is, unless the key is done.
 pub record IsGoing (start : Start) (logs : ℕ → List HostStep) (xs : List Addressed) (tx : TxId) (touched : List Touched) (awaited : ℕ) : Type 0 where
-  pub few : length touched ≤ 512
+  pub few : length touched ≤ SENDS
   pub weighs : in_transit (weight tx (length touched)) xs ≤ awaited
   pub along : Each (IsAlong start logs tx) touched
   pub covered : (front : List Touched) (u : Touched) (back : List Touched) → touched ≡ front ++ u ∷ back → (1 ≤ in_transit (cover tx u.key (length front)) xs) ⊎ IsDone start logs tx u.key

@@ -18,6 +18,7 @@ use Rattle.sig_core.specs.declared.signal.host.Work.TheVariants as work
 use Rattle.frag_map.specs.Layout.{Layout}
 use Rattle.sig_core.specs.Chain.{last_place}
 use Rattle.sig_core.specs.Same.{same_tx}
+use Rattle.tc_block.specs.declared.sends.TheConstants.{SENDS}
 use Rattle.tc_block.specs.declared.phase.Phase.{Phase}
 use Rattle.tc_block.specs.declared.phase.Phase.TheVariants.{Open, Verifying, Committing, Completing, Aborting}
 use Rattle.tc_block.specs.declared.touched.Touched.{Touched}
@@ -28,7 +29,7 @@ use Rattle.tc_block.specs.Turn.{Turn, at_phase}
 use Rattle.node_core.specs.Requests.{is_request}
 use Rattle.world_core.specs.Start.{Start}
 use Rattle.host_laws.proofs.LqhOps.{is_lqh}
-use Rattle.host_laws.specs.Counts.{one_if}
+use Rattle.run_theory.specs.Counts.{one_if}
 use Rattle.host_laws.proofs.Wishes.{is_tc}
 use Rattle.run_laws.specs.Completions.{IsCommittedAtAll}
 use Rattle.run_laws.proofs.Ahead as ahead
@@ -241,7 +242,7 @@ module _ (start : Start) (logs now : ℕ → List HostStep) (e : HostStep) (befo
         spread_now : Each (λ (u : Touched). IsSpread start now tx u.key u.chain (last_place u.chain)) t.touched
         spread_now = each_map (IsAlong start now tx) (λ (u : Touched). IsSpread start now tx u.key u.chain (last_place u.chain)) t.touched (λ u a. a.spread) (along_stays start logs now e tx f t.touched g.along)
 
-        stop_leads : (one : TxId) (at : ℕ) → e.step.taken.body ≡ Host (Continue (work.Transaction one) at) → 512 ≤ at → Leads t.touched
+        stop_leads : (one : TxId) (at : ℕ) → e.step.taken.body ≡ Host (Continue (work.Transaction one) at) → SENDS ≤ at → Leads t.touched
         stop_leads one at is high front u back split =
             inl (omega (
               arith,

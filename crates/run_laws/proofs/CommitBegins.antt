@@ -3,6 +3,7 @@ use Rattle.std.proofs.Common.{◌≡◌, ℕ, suc, ◌+◌, List, [], ◌∷◌,
 use Rattle.std.specs.Prelude.{◌==◌, nat_lt, None}
 use Rattle.std.proofs.lemmas.Bool.{eqb-true}
 use Rattle.run_theory.specs.Lists.{Each}
+use Rattle.sig_core.specs.declared.portion.TheConstants.{PORTION}
 use Rattle.sig_core.specs.declared.member.TxId.{TxId}
 use Rattle.sig_core.specs.declared.outcome.AbortCause.{AbortCause}
 use Rattle.sig_core.specs.declared.outs.Outgoing.{Outgoing}
@@ -71,7 +72,7 @@ module _ (node : ℕ) (layout : Layout) (tx : TxId) where
   part_back t turn (x ∷ xs) all is =
       backs (record {
         first = x;
-        more = take 7 xs ++ rest_if node tx 0 (nat_lt (0 + 8) (length (x ∷ xs)));
+        more = take (PORTION - 1) xs ++ rest_if node tx 0 (nat_lt (0 + PORTION) (length (x ∷ xs)));
         is = is;
         aborts = all.0;
       })

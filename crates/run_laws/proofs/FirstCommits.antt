@@ -12,6 +12,7 @@ use Rattle.sig_core.specs.declared.place.Place.{Place}
 use Rattle.sig_core.specs.declared.signal.Body.{Body}
 use Rattle.sig_core.specs.Chain.{last_place}
 use Rattle.sig_core.specs.Step.{Effects}
+use Rattle.tc_block.specs.declared.touched.TheConstants.{KEYS}
 use Rattle.tc_block.specs.declared.phase.Phase.TheVariants.{Committing, Verifying}
 use Rattle.tc_block.specs.declared.touched.Touched.{Touched}
 use Rattle.tc_block.specs.declared.transaction.Transaction.{Transaction}
@@ -32,7 +33,7 @@ use Rattle.host_laws.specs.ReplicaLaws.{key_in}
 use Rattle.host_laws.specs.Ways.{tc_sends}
 use Rattle.host_laws.proofs.TcWays.{not_both}
 use Rattle.sig_core.proofs.Keys.{same_tx-self}
-use Rattle.host_laws.specs.Counts.{one_if}
+use Rattle.run_theory.specs.Counts.{one_if}
 use Rattle.run_laws.proofs.Always.{few_touched}
 use Rattle.host_laws.proofs.TcLives.{IsOwn}
 use Rattle.run_laws.specs.Circle.{IsSettled, at_host}
@@ -204,7 +205,7 @@ module _ (start : Start) (es : List HostStep) (e : HostStep) (come : Comes start
         all [] r k = tt
         all (u ∷ us) r k = (settled_along start (logs_of start es) tx t.ops u (settled.settled u.key) r.0 k.0, all us r.1 k.1)
 
-    few : length t.touched ≤ 64
+    few : length t.touched ≤ KEYS
     few = few_touched start tx h (logs_of start es h) t was
 
     abbrev PartOf : ℕ → List Outgoing

@@ -4,6 +4,7 @@ use Rattle.std.specs.Prelude.{◌==◌, None}
 use Rattle.std.specs.List.{list_any}
 use Rattle.std.proofs.lemmas.Bool.{or_left}
 use Rattle.std.proofs.lemmas.Bool.Decides.{nat_tests}
+use Rattle.sig_core.specs.declared.portion.TheConstants.{PORTION}
 use Rattle.sig_core.specs.declared.member.TxId.{TxId}
 use Rattle.sig_core.specs.declared.outcome.AbortCause.{AbortCause}
 use Rattle.sig_core.specs.declared.outs.Outgoing.{Outgoing}
@@ -40,10 +41,10 @@ unfolding entering part_effects phase_sends front_sends
 enters_told tx node layout t why verifying awaited has waits =
     told _ (aborts_first layout tx why verifying awaited t.touched (λ none. absurd (grind (arith, nat_tests, waits, none, asked_count_few layout t.touched t.asked has))))
   where
-    told : {sends : List Outgoing} (behind : List Outgoing) → IsBackFirst tx sends → gives_up tx (take 8 sends ++ behind) ≡ true
+    told : {sends : List Outgoing} (behind : List Outgoing) → IsBackFirst tx sends → gives_up tx (take PORTION sends ++ behind) ≡ true
     told {sends} behind f =
-        subst (λ all. gives_up tx (take 8 all ++ behind) ≡ true) (sym f.is)
-        (back_more (same_tx tx) (take 7 f.more ++ behind) (back_by (way_of f.first.body) [])
+        subst (λ all. gives_up tx (take PORTION all ++ behind) ≡ true) (sym f.is)
+        (back_more (same_tx tx) (take (PORTION - 1) f.more ++ behind) (back_by (way_of f.first.body) [])
         (ap (λ w. list_any (same_tx tx) (back_by w [])) f.goes ∙ or_left (same_tx tx tx) false (same_tx-self tx)))
 
 module _ (node : ℕ) (layout : Layout) (tx : TxId) (t : Transaction) (has : HasTouchedAsked t.touched t.asked) where

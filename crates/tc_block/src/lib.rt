@@ -11,7 +11,7 @@ mod tc;
 mod touched;
 mod transaction;
 
-pub use tc::Tc;
+pub use tc::{TRANSACTIONS, Tc};
 
 #[cfg(test)]
 mod tests;

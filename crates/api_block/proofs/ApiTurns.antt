@@ -1,6 +1,8 @@
 -- What the API does at each request and signal: what is so of each form of its steps is so of each of its steps.
 use Rattle.std.proofs.Common.{◌≡◌, ℕ, List, [], ◌∷◌, Bool, true, false, refl, subst, sym}
 use Rattle.std.specs.Prelude.{◌==◌, Option, None, Some, is_some, nat_lt}
+use Rattle.run_theory.specs.Counts.{tally}
+use Rattle.run_theory.proofs.Focus.{IsFocus, none_placed}
 use Rattle.sig_core.specs.declared.member.TxId.{TxId}
 use Rattle.sig_core.specs.declared.op.Answer.{Answer}
 use Rattle.sig_core.specs.declared.op.Op.{Op}
@@ -35,9 +37,8 @@ use Rattle.api_block.specs.Outcome.{abort_report_row, acknowledging, commit_repo
 use Rattle.api_block.specs.Requests.{is_request}
 use Rattle.api_block.specs.State.{ApiState, about, changing, refused, replied, with_dump}
 use Rattle.api_block.specs.Wait.{behind_row, name_of, pending_by, pending_if, pending_row, waits_if, waits_row}
-use Rattle.host_laws.proofs.Focus.{IsFocus, none_placed, where_found}
-use Rattle.host_laws.specs.Counts.{tally}
 use Rattle.api_block.specs.declared.operate.TheConstants.{OPERATIONS}
+use Rattle.api_block.proofs.WhereFound.{where_found}
 
 -- nothing that was opened is what the signal tells of
 abbrev pub IsVoid : List OpenTransaction → Body → Type 0
