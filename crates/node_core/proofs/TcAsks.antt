@@ -1,5 +1,5 @@
 -- The coordinator sends no request of the shell.
-use Rattle.std.proofs.Common.{◌≡◌, ℕ, List, [], ◌∷◌, ◌++◌, take, drop, length, Bool, true, false, refl}
+use Rattle.std.proofs.Common.{ℕ, List, take, drop, length, Bool, true, false, refl}
 use Rattle.std.specs.Prelude.{◌+◌, nat_lt}
 use Rattle.std.specs.List.{flat_map}
 use Rattle.run_theory.specs.Lists.{Each}
