@@ -1,5 +1,5 @@
--- The block of epochs gives one to each transaction that asks, since it never counts as many as a coordinator keeps when
--- it is asked.
+-- The block of epochs gives one to each transaction that asks, since it never counts as many as a coordinator keeps
+-- when it is asked.
 use Rattle.std.proofs.Common.{◌≡◌, ◌+◌, ◌≤◌, ◌<◌, List, ◌∷◌, length, Bool, true, false, refl, sym, ap, ◌∙◌, arith}
 use Rattle.std.specs.Prelude.{◌&&◌, not, nat_lt}
 use Rattle.std.proofs.lemmas.Bool.Decides.{nat_tests}
@@ -172,7 +172,7 @@ pub dih_gives : (at : Place → Bool) (tx : TxId) (s : DihState) (body : Body) �
     → one_if (req_body tx body) ≤ sends_of (at_place at (is_conf tx)) (dih_table s body).effects.sends
 dih_gives at tx s body own =
     dih_forms (λ b step. (req_body tx b ≡ true → length s.counted < TRANSACTIONS)
-        → one_if (req_body tx b) ≤ sends_of (at_place at (is_conf tx)) step.effects.sends) s
+    → one_if (req_body tx b) ≤ sends_of (at_place at (is_conf tx)) step.effects.sends) s
     (record {
       decides = λ other ops low few. omega (arith, ap (λ b. one_if (b && same_tx other tx)) own);
       is_full = λ other ops high few. none_asks (same_tx other tx) high few;

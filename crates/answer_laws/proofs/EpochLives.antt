@@ -1,5 +1,6 @@
 -- The transactions that the block of epochs counts are those of its node's coordinator that have asked for an epoch.
-use Rattle.std.proofs.Common.{◌≡◌, ℕ, ◌+◌, ◌≤◌, ◌<◌, List, [], ◌∷◌, ◌++◌, length, Bool, true, false, refl, ap, sym, ◌∙◌, subst, arith, inl, inr}
+use Rattle.std.proofs.Common.{◌≡◌, ℕ, ◌+◌, ◌≤◌, ◌<◌, List, [], ◌∷◌, ◌++◌, length, Bool, true, false, refl, ap, sym, ◌∙◌}
+use Rattle.std.proofs.Common.{subst, arith, inl, inr}
 use Rattle.std.specs.Prelude.{◌-◌, ◌^◌, ◌==◌, ◌&&◌, ◌||◌, nat_le, if◌then◌else◌, position}
 use Rattle.std.proofs.lemmas.Bool.{false≢true}
 use Rattle.std.proofs.lemmas.Bool.Decides.{nat_tests}
@@ -29,13 +30,17 @@ use Rattle.tc_block.specs.State.{TcState}
 use Rattle.tc_block.specs.Tc.{is_full, next_tx, tc_table}
 use Rattle.tc_block.specs.Turn.{Turn}
 use Rattle.sig_core.proofs.Keys.{same_tx-self}
-use Rattle.answer_laws.proofs.EpochCounts.{IsWithout, SendsFew, asked_count, counts_if, ended_by, ended_count, is_epochless, plain_counts, sends_count}
+use Rattle.answer_laws.proofs.EpochCounts.{IsWithout, SendsFew, asked_count, counts_if, ended_by, ended_count}
+use Rattle.answer_laws.proofs.EpochCounts.{is_epochless, plain_counts, sends_count}
 use Rattle.host_laws.proofs.PartKinds.{IsPartKind, entering_of, parts_of}
 use Rattle.host_laws.proofs.SendKinds.{are_of, of_kind, of_map}
 use Rattle.run_theory.proofs.Tally.{tally_append, tally_between}
 use Rattle.run_theory.specs.Counts.{one_if, tally}
 use Rattle.host_laws.proofs.TcLives.{IsOwn, insert_new}
-use Rattle.host_laws.proofs.TcTurns.{GivesUp, IsCommitted, TurnMove, abort_ends, aborted, aborts, all_completed, answers, asked_to, asks, at_last, at_once, commits, committed, completed, completes, decides, ends, gives_up, goes_on, is_wait_kind, keeps, late, refused, turn_moves}
+use Rattle.host_laws.proofs.TcTurns.{GivesUp, IsCommitted, TurnMove, abort_ends, aborted, aborts, all_completed}
+use Rattle.host_laws.proofs.TcTurns.{answers, asked_to, asks, at_last, at_once, commits, committed, completed}
+use Rattle.host_laws.proofs.TcTurns.{completes, decides, ends, gives_up, goes_on, is_wait_kind, keeps, late, refused}
+use Rattle.host_laws.proofs.TcTurns.{turn_moves}
 use Rattle.tc_block.specs.Phases.{is_committing}
 use Rattle.tc_block.proofs.TurnRows.{begins, misses, rests, takes, tc_step, TcStep, turn_row, tx_in, passes, refuses}
 

@@ -82,8 +82,11 @@ module _ (start : Start) (tx : TxId) (test : Place → Body → Bool) where
       by : IsOwed logs l 0 k → ⊥
       by (inl enough) = omega (arith, enough, some, all_taken)
       by (inr left) =
-          omega
-          (arith, left.coming, ap (signals (is_cont tx left.place)) (quiet.quiet (home start tx) (home start tx) low low))
+          omega (
+            arith,
+            left.coming,
+            ap (signals (is_cont tx left.place)) (quiet.quiet (home start tx) (home start tx) low low),
+          )
 
   module _ (low_of : (to : Place) (body : Body) → test to body ≡ true → host_for start to < hosts start)
       (logs now : ℕ → List HostStep) (h : ℕ) (e : HostStep) (g : Goes start logs now h e) where
@@ -108,7 +111,8 @@ module _ (start : Start) (tx : TxId) (test : Place → Body → Bool) where
   pub home_step : ((to : Place) (body : Body) → test to body ≡ true → host_for start to < hosts start)
       → (logs now : ℕ → List HostStep) (e : HostStep)
       → Goes start logs now (home start tx) e
-      → HomeStep logs now (step_after start (home start tx) (logs (home start tx)) e).effects.sends e.step.taken.to e.step.taken.body
+      → HomeStep logs now (step_after start (home start tx)
+      (logs (home start tx)) e).effects.sends e.step.taken.to e.step.taken.body
   home_step low_of logs now e g =
       let at = home start tx in
       record {
@@ -151,7 +155,13 @@ module _ (start : Start) (tx : TxId) (test : Place → Body → Bool) where
     waits_owed l a m b k le off (inr left) = inr (record {
       place = left.place;
       low = left.low;
-      coming = omega (arith, left.coming, f.c_sent left.place, f.c_taken left.place, ap one_if (off left.place left.low));
+      coming = omega (
+        arith,
+        left.coming,
+        f.c_sent left.place,
+        f.c_taken left.place,
+        ap one_if (off left.place left.low),
+      );
       owed = omega (arith, left.owed, le, f.s_more, f.t_more);
     })
 
@@ -167,7 +177,14 @@ module _ (start : Start) (tx : TxId) (test : Place → Body → Bool) where
         here is (inr (inl p)) = inr (record {
           place = place + PORTION;
           low = omega (arith, p.0, few);
-          coming = omega (arith, p.2, f.c_sent (place + PORTION), f.c_taken (place + PORTION), f.c_few (place + PORTION), ap one_if (off (place + PORTION) (λ same. absurd (omega (arith, same)))));
+          coming = omega (
+            arith,
+            p.2,
+            f.c_sent (place + PORTION),
+            f.c_taken (place + PORTION),
+            f.c_few (place + PORTION),
+            ap one_if (off (place + PORTION) (λ same. absurd (omega (arith, same)))),
+          );
           owed = omega (arith, left.owed, p.1, is, f.s_more, f.t_more, none);
         })
         here is (inr (inr p)) = inl (omega (arith, left.owed, p, is, f.s_more, f.t_more, none))
@@ -177,6 +194,12 @@ module _ (start : Start) (tx : TxId) (test : Place → Body → Bool) where
         by (inr differs) = inr (record {
           place = left.place;
           low = left.low;
-          coming = omega (arith, left.coming, f.c_sent left.place, f.c_taken left.place, ap one_if (off left.place differs));
+          coming = omega (
+            arith,
+            left.coming,
+            f.c_sent left.place,
+            f.c_taken left.place,
+            ap one_if (off left.place differs),
+          );
           owed = omega (arith, left.owed, f.s_more, f.t_more, none);
         })

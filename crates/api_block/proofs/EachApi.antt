@@ -1,5 +1,5 @@
--- What holds of each form of signal and mark of the API, and of each transaction that it has opened, holds of each of its
--- steps.
+-- What holds of each form of signal and mark of the API, and of each transaction that it has opened, holds of each of
+-- its steps.
 use Rattle.std.proofs.Common.{◌≡◌, ℕ, List, [], ◌∷◌, Bool, true, false, refl, ap}
 use Rattle.std.specs.Prelude.{Option, None, Some, remove, slice_set}
 use Rattle.run_theory.specs.Lists.{Each}
@@ -17,7 +17,8 @@ use Rattle.sig_core.specs.declared.request.ApiReq.{ApiReq}
 use Rattle.sig_core.specs.declared.signal.Body.{Body}
 use Rattle.sig_core.specs.declared.signal.Body.TheVariants.{Host, Client}
 use Rattle.sig_core.specs.declared.signal.client.ClientSignal.TheVariants.{TcBeginReq, TcKeyReq, TcCommitReq}
-use Rattle.sig_core.specs.declared.signal.client.ClientSignal.TheVariants.{TcRollbackReq, TcWaitReq, TcCommitAck, DumpReq}
+use Rattle.sig_core.specs.declared.signal.client.ClientSignal.TheVariants.{TcRollbackReq, TcWaitReq, TcCommitAck}
+use Rattle.sig_core.specs.declared.signal.client.ClientSignal.TheVariants.{DumpReq}
 use Rattle.sig_core.specs.declared.signal.client.ClientSignal.TheVariants.{TcBeginConf, TcCommitConf, TcRollbackRep}
 use Rattle.sig_core.specs.declared.signal.host.HostSignal.TheVariants.{Round}
 use Rattle.sig_core.specs.Place.{coordinator, coordinator_of, rows_of}
@@ -35,7 +36,8 @@ use Rattle.api_block.proofs.ApiTurns.{ApiRequestForms, ApiSignalForms, api_turns
 
 -- K is of each transaction that is opened, P of each signal that is sent, and M of each mark. A transaction that is
 -- opened changes in all but its number, which it has once it has begun; and what is sent of one is of its number
-pub record ApiForms (K : OpenTransaction → Type 0) (P : Outgoing → Type 0) (M : Mark → Type 0) (body : Body) : Type 0 where
+pub record ApiForms (K : OpenTransaction → Type 0) (P : Outgoing → Type 0) (M : Mark → Type 0)
+    (body : Body) : Type 0 where
   pub asked : (name : Option ℕ) (node : ℕ) (op : Option Op) → K (asked_for name node op)
   pub changed : (t u : OpenTransaction) → u.tx ≡ t.tx → K t → K u
   pub begun : (name : Option ℕ) (tx : TxId) (u : OpenTransaction) → body ≡ Client (TcBeginConf name tx)

@@ -1,5 +1,6 @@
 -- The rows of a node, place by place: a dump lists them from a place on, and each key has the row of its place.
-use Rattle.std.proofs.Common.{◌≡◌, ◌+◌, ℕ, zero, suc, Bool, true, false, List, [], ◌∷◌, ◌++◌, refl, sym, ap, ◌∙◌, inl, inr, append_assoc, arith}
+use Rattle.std.proofs.Common.{◌≡◌, ◌+◌, ℕ, zero, suc, Bool, true, false, List, [], ◌∷◌, ◌++◌, refl, sym, ap, ◌∙◌, inl}
+use Rattle.std.proofs.Common.{inr, append_assoc, arith}
 use Rattle.std.proofs.lemmas.Bool.{false≢true}
 use Rattle.std.proofs.lemmas.List.{drop-drop}
 use Rattle.std.specs.Prelude.{if◌then◌else◌, drop, is_some, position, slice_index_or, Option, None, Some}
@@ -10,7 +11,6 @@ use Rattle.sig_core.proofs.Keys.{same_key-self}
 use Rattle.sig_core.specs.declared.rows.Slot.{Slot}
 use Rattle.sig_core.specs.Rows.{RowsState, has_row, next_by, next_place}
 use Rattle.sig_core.specs.Same.{same_key}
-use Rattle.lqh_block.specs.declared.dump.TheConstants.{DUMP_ROWS}
 use Rattle.lqh_block.proofs.IndexLemmas.{same}
 use Rattle.lqh_block.specs.Dump.{Dumped, dumped, dumped_from, more, one_more_by, row_of_slot, row_with}
 use Rattle.key_laws.proofs.PlacesAt.{row_at}
@@ -91,7 +91,7 @@ more_listed s (suc n) d = one_listed s (more s n d).rows (more s n d).next ∙ m
 pub part_listed : (s : RowsState) (at : ℕ)
     → (dumped_from s at).rows ++ rows_from s (dumped_from s at).next ≡ rows_at (drop at s.places)
 unfolding dumped_from
-part_listed s at = more_listed s DUMP_ROWS (dumped [] (next_place s at)) ∙ next_listed s at
+part_listed s at = more_listed s 8 (dumped [] (next_place s at)) ∙ next_listed s at
 
 not_both : (b : Bool) {c : Bool} → (if b then true else c) ≡ false → c ≡ false
 not_both true off = cc

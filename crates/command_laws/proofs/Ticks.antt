@@ -1,5 +1,6 @@
 -- Rounds of time: the rows of each node have one at a command's request, and the last one is replied.
-use Rattle.std.proofs.Common.{◌≡◌, ◌≢◌, ◌⊎◌, ◌+◌, ◌-◌, ◌<◌, ◌≤◌, ◌==◌, ◌&&◌, ℕ, zero, suc, Bool, true, false, List, [], ◌∷◌, ◌++◌, take, filter, length, refl, sym, ap, ◌∙◌, inl, inr, eq-eqb, ne_eqb, arith}
+use Rattle.std.proofs.Common.{◌≡◌, ◌≢◌, ◌⊎◌, ◌+◌, ◌-◌, ◌<◌, ◌≤◌, ◌==◌, ◌&&◌, ℕ, zero, suc, Bool, true, false, List, []}
+use Rattle.std.proofs.Common.{◌∷◌, ◌++◌, take, filter, length, refl, sym, ap, ◌∙◌, inl, inr, eq-eqb, ne_eqb, arith}
 use Rattle.std.proofs.lemmas.Bool.{cases_eq}
 use Rattle.std.proofs.lemmas.List.{append-nil}
 use Rattle.std.proofs.lemmas.List.Elements.{filter-append}
@@ -45,14 +46,16 @@ use Rattle.host_laws.proofs.LinkCounts.{few_sends, signals, steps, steps_from, t
 use Rattle.run_theory.proofs.Tally.{tally_append}
 use Rattle.host_laws.proofs.Wishes.{sends_of}
 use Rattle.run_theory.specs.Counts.{one_if}
-use Rattle.command_laws.proofs.ApiChanges.{ApiChange, alone, answers, api_changes, commits, ends, idle, is_row_reply, refuses, rests, starts, told, waits}
+use Rattle.command_laws.proofs.ApiChanges.{ApiChange, alone, answers, api_changes, commits, ends, idle, is_row_reply}
+use Rattle.command_laws.proofs.ApiChanges.{refuses, rests, starts, told, waits}
 use Rattle.command_laws.proofs.BlockSteps.{api_host, api_seen}
 use Rattle.command_laws.proofs.Committed.{cut_at_first}
 use Rattle.command_laws.proofs.First.{IsFirst, first_step, request_first}
 use Rattle.command_laws.proofs.HoldersTold.{sent_to_append}
 use Rattle.command_laws.proofs.LoneAnswered.{shell_view}
 use Rattle.command_laws.proofs.RowAsks.{is_no_ask, none_asked}
-use Rattle.command_laws.proofs.Since.{few_taken, link_sent_to, link_taken, sent_since_to, taken_few, taken_is, taken_since}
+use Rattle.command_laws.proofs.Since.{few_taken, link_sent_to, link_taken, sent_since_to, taken_few, taken_is}
+use Rattle.command_laws.proofs.Since.{taken_since}
 use Rattle.command_laws.specs.Served.{IsServedBetween, replies_since}
 use Rattle.command_laws.specs.Ticked.{IsTicked, is_lqh, is_round, is_round_to, is_ticked, rounds_of, ticked_at}
 

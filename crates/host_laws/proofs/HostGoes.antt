@@ -24,7 +24,8 @@ use Rattle.node_core.specs.Blocks.{api_of, dih_of, has_api, has_lqh, has_tc, lqh
 use Rattle.node_core.specs.Dih.{DihState, dih_table}
 use Rattle.node_core.specs.Row.{row}
 use Rattle.node_core.proofs.DihForms.{dih_forms}
-use Rattle.node_core.proofs.HostCases.{BlockCase, IsApiStep, IsDihStep, IsRowsStep, IsTcStep, api_takes, block_case, dih_takes, none_takes, rows_take, tc_takes}
+use Rattle.node_core.proofs.HostCases.{BlockCase, IsApiStep, IsDihStep, IsRowsStep, IsTcStep, api_takes, block_case}
+use Rattle.node_core.proofs.HostCases.{dih_takes, none_takes, rows_take, tc_takes}
 use Rattle.host_laws.specs.Causes.{is_decision}
 use Rattle.host_laws.specs.Kinds.{Kind, kind_of}
 use Rattle.host_laws.specs.Kinds as kind
@@ -35,7 +36,8 @@ use Rattle.host_laws.proofs.LqhMarks.{lqh_marks}
 use Rattle.host_laws.proofs.LqhOther.{RowsSay, lqh_says}
 use Rattle.host_laws.proofs.PlainMarks.{ArePlain, is_plain}
 use Rattle.host_laws.proofs.TcMarks.{tc_marks}
-use Rattle.host_laws.proofs.TcNumbers.{AllSayAt, IsNumbered, SaysAt, Tells, begun_by, put_kinds, tc_numbered, verified_by}
+use Rattle.host_laws.proofs.TcNumbers.{AllSayAt, IsNumbered, SaysAt, Tells, begun_by, put_kinds, tc_numbered}
+use Rattle.host_laws.proofs.TcNumbers.{verified_by}
 
 -- what a signal of a host says, of a step that took this and has these marks
 abbrev pub HostSays : (Own T D : TxId → Type 0) → Kind → List Mark → Outgoing → Kind → Type 0
@@ -52,7 +54,8 @@ abbrev pub Decides : Kind → Mark → Type 0
 Decides taken (mark.Decided tx epoch) = taken ≡ kind.verified tx
 Decides taken m = Unit {0}
 
--- what is true of a host with the coordinator of this node, which said these to have begun and asked for an epoch for those
+-- what is true of a host with the coordinator of this node, which said these to have begun and asked for an epoch for
+-- those
 pub record HostKnows (node : ℕ) (T D : TxId → Type 0) (s : Host) (begun_yet verified : List TxId) : Type 0 where
   pub told : AreTold T (api_of s).opened
   pub numbered : IsNumbered node D (tc_of s) begun_yet verified
@@ -82,10 +85,13 @@ plain_decides taken marks plain = each_map (λ m. is_plain m ≡ true) (Decides 
     by m is = tt
 
 -- the rows of a node add to neither list
-rows_none : (f : Kind → List TxId → List TxId) → ((before : List TxId) → f kind.other before ≡ before) → ((tx : TxId) (before : List TxId) → f (kind.committing tx) before ≡ before)
-    → (taken : Kind) (sends : List Outgoing) (before : List TxId) → Each (λ (o : Outgoing). RowsSay taken (kind_of o.body)) sends → put_kinds f sends before ≡ before
+rows_none : (f : Kind → List TxId → List TxId) → ((before : List TxId) → f kind.other before ≡ before)
+    → ((tx : TxId) (before : List TxId) → f (kind.committing tx) before ≡ before)
+    → (taken : Kind) (sends : List Outgoing) (before : List TxId)
+    → Each (λ (o : Outgoing). RowsSay taken (kind_of o.body)) sends → put_kinds f sends before ≡ before
 rows_none f none committing taken [] before all = refl
-rows_none f none committing taken (o ∷ more) before all = ap (put_kinds f more) (by (kind_of o.body) all.0) ∙ rows_none f none committing taken more before all.1
+rows_none f none committing taken (o ∷ more) before all =
+    ap (put_kinds f more) (by (kind_of o.body) all.0) ∙ rows_none f none committing taken more before all.1
   where
     by : (k : Kind) → RowsSay taken k → f k before ≡ before
     by (kind.begun tx) says = absurd says
@@ -97,7 +103,8 @@ rows_none f none committing taken (o ∷ more) before all = ap (put_kinds f more
     by kind.other says = none before
 
 module _ (node : ℕ) (Own T D : TxId → Type 0) where
-  rows_say : (taken : Kind) → Tells D taken → (marks : List Mark) (sends : List Outgoing) → Each (λ (o : Outgoing). RowsSay taken (kind_of o.body)) sends
+  rows_say : (taken : Kind) → Tells D taken → (marks : List Mark) (sends : List Outgoing)
+      → Each (λ (o : Outgoing). RowsSay taken (kind_of o.body)) sends
       → Each (λ (o : Outgoing). HostSays Own T D taken marks o (kind_of o.body)) sends
   rows_say taken tells marks sends all =
       each_map (λ (o : Outgoing). RowsSay taken (kind_of o.body))
@@ -128,7 +135,8 @@ module _ (node : ℕ) (Own T D : TxId → Type 0) where
       by o (kind.ended tx) says = says
       by o kind.other says = tt
 
-  api_says : (taken : Kind) (marks : List Mark) (sends : List Outgoing) → Each (λ (o : Outgoing). ApiSays T (kind_of o.body)) sends
+  api_says : (taken : Kind) (marks : List Mark) (sends : List Outgoing)
+      → Each (λ (o : Outgoing). ApiSays T (kind_of o.body)) sends
       → Each (λ (o : Outgoing). HostSays Own T D taken marks o (kind_of o.body)) sends
   api_says taken marks sends all =
       each_map (λ (o : Outgoing). ApiSays T (kind_of o.body))
@@ -143,10 +151,13 @@ module _ (node : ℕ) (Own T D : TxId → Type 0) where
       by o (kind.ended tx) says = absurd says
       by o kind.other says = tt
 
-  api_none : (f : Kind → List TxId → List TxId) → ((before : List TxId) → f kind.other before ≡ before) → ((tx : TxId) (before : List TxId) → f (kind.wanted tx) before ≡ before)
-      → (sends : List Outgoing) (before : List TxId) → Each (λ (o : Outgoing). ApiSays T (kind_of o.body)) sends → put_kinds f sends before ≡ before
+  api_none : (f : Kind → List TxId → List TxId) → ((before : List TxId) → f kind.other before ≡ before)
+      → ((tx : TxId) (before : List TxId) → f (kind.wanted tx) before ≡ before)
+      → (sends : List Outgoing) (before : List TxId) → Each (λ (o : Outgoing). ApiSays T (kind_of o.body)) sends
+      → put_kinds f sends before ≡ before
   api_none f none wanted [] before all = refl
-  api_none f none wanted (o ∷ more) before all = ap (put_kinds f more) (by (kind_of o.body) all.0) ∙ api_none f none wanted more before all.1
+  api_none f none wanted (o ∷ more) before all =
+      ap (put_kinds f more) (by (kind_of o.body) all.0) ∙ api_none f none wanted more before all.1
     where
       by : (k : Kind) → ApiSays T k → f k before ≡ before
       by (kind.begun tx) says = absurd says

@@ -1,5 +1,6 @@
 -- The answers that the client was given for a transaction are those of its entry.
-use Rattle.std.proofs.Common.{◌≡◌, ◌≤◌, ℕ, Bool, true, false, ◌||◌, List, [], ◌∷◌, ◌++◌, length, map, reverse, refl, sym, ap, ◌∙◌, subst, inl, inr, arith}
+use Rattle.std.proofs.Common.{◌≡◌, ◌≤◌, ℕ, Bool, true, false, ◌||◌, List, [], ◌∷◌, ◌++◌, length, map, reverse, refl}
+use Rattle.std.proofs.Common.{sym, ap, ◌∙◌, subst, inl, inr, arith}
 use Rattle.std.specs.List.{list_any}
 use Rattle.std.specs.Prelude.{if◌then◌else◌}
 use Rattle.run_theory.specs.Links.{sent}
@@ -59,7 +60,8 @@ use Rattle.run_laws.proofs.EachEntry.{each_entry}
 use Rattle.run_laws.proofs.Epochs.{plain_entries, step_marks}
 use Rattle.run_laws.proofs.Transit.{along_transit}
 use Rattle.run_laws.proofs.TransitRuns.{runs_have_transit}
-use Rattle.report_laws.specs.Answered.{GivenAreOfEntries, ReportedAreGiven, answers_among, answers_of, given, is_answered, new_replies}
+use Rattle.report_laws.specs.Answered.{GivenAreOfEntries, ReportedAreGiven, answers_among, answers_of, given}
+use Rattle.report_laws.specs.Answered.{is_answered, new_replies}
 use Rattle.report_laws.specs.Reported.{is_ended}
 use Rattle.report_laws.proofs.Committed.{all_told}
 use Rattle.report_laws.proofs.Confs.{conf_counts, heard, heard_past, newest, newest_is, said}

@@ -1,5 +1,6 @@
 -- What is reported committed was decided in that epoch, and applied where it writes; so the history has it.
-use Rattle.std.proofs.Common.{◌≡◌, ◌≢◌, ◌⊎◌, ◌<◌, ℕ, Bool, true, false, ◌||◌, List, [], ◌∷◌, refl, sym, ap, ◌∙◌, subst, inl, inr, arith}
+use Rattle.std.proofs.Common.{◌≡◌, ◌≢◌, ◌⊎◌, ◌<◌, ℕ, Bool, true, false, ◌||◌, List, [], ◌∷◌, refl, sym, ap, ◌∙◌, subst}
+use Rattle.std.proofs.Common.{inl, inr, arith}
 use Rattle.std.proofs.lemmas.Bool.{cases_eq}
 use Rattle.std.specs.List.{list_any}
 use Rattle.std.specs.Prelude.{None, Some}
@@ -21,7 +22,8 @@ use Rattle.sig_core.specs.Same.{same_tx}
 use Rattle.sig_core.specs.Step.{Effects, Step}
 use Rattle.sig_core.proofs.Keys.{same_tx-self}
 use Rattle.sig_core.proofs.TxLemmas.{same_tx-is}
-use Rattle.node_core.proofs.HostCases.{BlockCase, IsDihStep, IsTcStep, api_takes, block_case, dih_takes, none_takes, rows_take, tc_takes}
+use Rattle.node_core.proofs.HostCases.{BlockCase, IsDihStep, IsTcStep, api_takes, block_case, dih_takes, none_takes}
+use Rattle.node_core.proofs.HostCases.{rows_take, tc_takes}
 use Rattle.node_core.specs.Blocks.{api_of, dih_of, lqh_of, tc_of}
 use Rattle.node_core.specs.Dih.{DihState, dih_table}
 use Rattle.node_core.proofs.DihForms.{dih_forms}
@@ -182,7 +184,7 @@ module _ (start : Start) (tx : TxId) where
           → Each (λ (o : Outgoing). Tells start tx now o.body) (dih_table s body).effects.sends
       dih_tells s =
           dih_forms (λ body step. e.step.taken.body ≡ body → e.step.marks ≡ step.effects.marks
-              → Each (λ (o : Outgoing). Tells start tx now o.body) step.effects.sends) s
+          → Each (λ (o : Outgoing). Tells start tx now o.body) step.effects.sends) s
           (record {
             decides = λ one ops low is marks. ((λ same. decides one ops s.epoch is marks shut same), tt);
             is_full = λ one ops high is marks. tt;
@@ -260,7 +262,8 @@ module _ (start : Start) (tx : TxId) where
             live_was : live_at start old tx ≡ Some t
             live_was = ap (of_host tx) (here_was start es e come tx same) ∙ was
 
-            left_now : live_at start now tx ≡ left_of_turn (turn_for (tc_of g).node (tc_of g).layout tx e.step.taken.body t)
+            left_now : live_at start now tx ≡ left_of_turn
+                (turn_for (tc_of g).node (tc_of g).layout tx e.step.taken.body t)
             left_now = ap (of_host tx) (here_now start es e come tx same) ∙ (live_is ∙ left)
 
             keyed : IsTouchedRightly t

@@ -1,5 +1,5 @@
--- Whose marks the steps of a host have: a row is applied, or a commit reported, of the transaction that the signal takes
--- forth.
+-- Whose marks the steps of a host have: a row is applied, or a commit reported, of the transaction that the signal
+-- takes forth.
 use Rattle.std.proofs.Common.{◌≡◌, sym, ap, subst}
 use Rattle.sig_core.specs.declared.signal.Body.{Body}
 use Rattle.lqh_block.specs.Lqh.{lqh_table}
