@@ -47,7 +47,7 @@ fn fill(rows: &mut MapRows, count: usize) -> Result<(), Fail>
 {
     let value = Value::new(b"x")?;
     for i in 0..count {
-        rows.put_row(&numbered(i)?, &value)?;
+        rows.put_row(&numbered(i)?, &value, 1)?;
     }
     Ok(())
 }
@@ -74,7 +74,7 @@ fn put_letters(rows: &mut MapRows, letters: &[u8]) -> Result<(), Fail>
 {
     let value = Value::new(b"x")?;
     for letter in letters {
-        rows.put_row(&Key::new(&[*letter])?, &value)?;
+        rows.put_row(&Key::new(&[*letter])?, &value, 1)?;
     }
     Ok(())
 }
