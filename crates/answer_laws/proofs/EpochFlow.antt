@@ -191,14 +191,6 @@ dih_gives at tx s body own =
     others (Epoch _) off = omega arith
     others _ off = omega arith
 
--- the other blocks give none
-pub no_conf : (at : Place → Bool) (tx : TxId) (kind : Body → Bool)
-    → ((to : Place) (body : Body) → kind body ≡ true → is_conf tx to body ≡ false) → (sends : List Outgoing)
-    → are_of kind sends ≡ true
-    → sends_of (at_place at (is_conf tx)) sends ≡ 0
-no_conf at tx kind fails sends e =
-    none_of kind (at_place at (is_conf tx)) (λ to body k. second_fails (at to) (fails to body k)) sends e
-
 pub tc_confless : (at : Place → Bool) (tx : TxId) (s : TcState) (body : Body)
     → sends_of (at_place at (is_conf tx)) (tc_table s body).effects.sends ≡ 0
 tc_confless at tx s body =
