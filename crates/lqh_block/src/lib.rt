@@ -16,12 +16,14 @@ mod record_id;
 mod records;
 mod request;
 mod storage;
+mod views;
 mod wait;
 mod work;
 
 pub use count_journal::CountJournal;
 pub use lqh::Lqh;
 pub use map_rows::MapRows;
+pub use views::is_coordinated;
 pub use request::{Marker, Request};
 
 #[cfg(test)]

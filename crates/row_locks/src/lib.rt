@@ -3,6 +3,7 @@
 
 mod claim;
 mod holders;
+mod keeping;
 mod laws;
 mod mode;
 mod queue;
@@ -10,6 +11,7 @@ mod row;
 mod serving;
 mod table;
 
+pub use keeping::Keeper;
 pub use laws::{granted_are_last_holders, locks_stay_orderly, waits_are_for_others};
 pub use mode::{Lock, Mode};
 pub use table::LockTable;
