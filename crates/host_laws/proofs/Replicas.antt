@@ -1,5 +1,5 @@
 -- A replica is its keys.
-use Rattle.std.proofs.Common.{◌≡◌, ◌%◌, ℕ, zero, suc, Bool, true, false, cond, List, [], ◌∷◌, filter, refl, sym, ap}
+use Rattle.std.proofs.Common.{◌≡◌, ◌%◌, ℕ, zero, suc, Bool, true, false, cond, List, [], ◌∷◌, refl, sym, ap}
 use Rattle.std.proofs.Common.{◌∙◌, subst}
 use Rattle.std.proofs.lemmas.Bool.{false≢true}
 use Rattle.std.specs.Cmp.Lexicographic.{nat_list_cmp_total}
@@ -18,7 +18,7 @@ use Rattle.sig_core.specs.declared.signal.Signal.{Signal}
 use Rattle.sig_core.specs.declared.signal.client.ClientSignal.TheVariants.{TcCommitAck, LqhWaitReq, DumpReq}
 use Rattle.sig_core.specs.declared.signal.host.HostSignal.TheVariants.{Round, Continue}
 use Rattle.sig_core.specs.declared.signal.host.Work.TheVariants as work
-use Rattle.sig_core.specs.Rows.{RowsState, complete_record, is_on, no_rows, put_row, with_place}
+use Rattle.sig_core.specs.Rows.{RowsState, complete_record, no_rows, put_row, with_place}
 use Rattle.sig_core.specs.declared.rows.PendingRecord.{PendingRecord}
 use Rattle.sig_core.specs.declared.view.Shape.{Shape}
 use Rattle.sig_core.specs.Same.{same_key}
@@ -61,11 +61,13 @@ use Rattle.host_laws.specs.ReplicaLaws.{SignalsKeepWell}
 use Rattle.key_laws.proofs.CellsAt.{placed-aborted, placed-committed, placed-completed}
 use Rattle.key_laws.proofs.PerformedAt.{placed-performed}
 use Rattle.key_laws.proofs.KeyAfter.{granted_event, replica_is, request_event}
+use Rattle.key_laws.proofs.EpochLemmas.{epochless}
 use Rattle.key_laws.proofs.KeyEnds.{abort_event, commit_event, committed_rows, complete_event, expire_event}
 use Rattle.key_laws.proofs.KeyEnds.{given_up_rows, round_event}
 use Rattle.sig_core.proofs.Keys.{same_key-swap, tied-same_key}
 use Rattle.key_laws.proofs.PlacesAt.{apart-set_row, apart-with_place, has-own_place, row-set_row, row-with_place}
 use Rattle.key_laws.proofs.PlacesAt.{row_at, row_of-at}
+use Rattle.key_laws.proofs.RecordsAt.{on}
 
 acknowledged_same : (s : LqhState) (tx : TxId) (key : List ℕ) → at_key key (wait.acknowledged s tx) ≡ at_key key s
 acknowledged_same s tx key = acknowledge_forms (λ step. at_key key step.state ≡ at_key key s) s tx (λ markers. refl)
@@ -122,11 +124,11 @@ signals_keep_well s body well =
       };
       commits = λ tx key epoch chain at. record {
         last = λ had st markers applies first. record {
-          placed = subst IsPlaced (sym (committed_rows applies)) (placed-committed s.rows tx key well.placed);
+          placed = subst IsPlaced (sym (committed_rows applies)) (placed-committed s.rows tx key epoch well.placed);
           orderly = release_orderly s.locks key tx well.orderly;
         };
         passes = λ had st markers applies first. record {
-          placed = subst IsPlaced (sym (committed_rows applies)) (placed-committed s.rows tx key well.placed);
+          placed = subst IsPlaced (sym (committed_rows applies)) (placed-committed s.rows tx key epoch well.placed);
           orderly = well.orderly;
         };
       };
@@ -164,26 +166,28 @@ signals_keep_well s body well =
     }
 
 -- the rows of the start
-put_placed : (s : RowsState) (rows : List (List ℕ × List ℕ)) → AreApart s.places → s.pending ≡ []
-    → IsPlaced (with_rows s rows)
-put_placed s [] apart none = record {
+put_placed : (s : RowsState) (rows : List (List ℕ × List ℕ)) (epoch : ℕ) → AreApart s.places → s.pending ≡ []
+    → IsPlaced (with_rows s rows epoch)
+put_placed s [] epoch apart none = record {
   apart = apart;
   placed =
       subst (Each (λ (r : PendingRecord). has_place s.places r.key ≡ true)) (sym none) tt;
 }
-put_placed s (r ∷ rows) apart none =
-    put_placed (put_row s r.0 r.1) rows (apart-set_row (with_place s.places r.0) r.0 (Some r.1)
+put_placed s (r ∷ rows) epoch apart none =
+    put_placed (put_row s r.0 r.1 epoch) rows epoch (apart-set_row (with_place s.places r.0) r.0 (Some r.1) epoch
     (apart-with_place s.places r.0 apart)) none
 
 -- a key of the group has of its rows what it has of all rows
-started_row : (shape : Shape) (node : ℕ) (s : RowsState) (table : Rows) (rows : List (List ℕ × List ℕ)) (key : List ℕ)
+started_row : (shape : Shape) (node epoch : ℕ) (s : RowsState) (table : Rows) (rows : List (List ℕ × List ℕ))
+    (key : List ℕ)
     → holds shape node key ≡ true
     → row_at s.places key ≡ map.get table key
-    → row_at (with_rows s (own_rows shape node rows)).places key ≡ map.get (rows_over table rows) key
-started_row shape node s table [] key held same = same
-started_row shape node s table (r ∷ rows) key held same =
-    go (holds shape node r.0) refl (started_row shape node (put_row s r.0 r.1) (map.insert table r.0 r.1) rows key held)
-    (started_row shape node s (map.insert table r.0 r.1) rows key held)
+    → row_at (with_rows s (own_rows shape node rows) epoch).places key ≡ map.get (rows_over table rows) key
+started_row shape node epoch s table [] key held same = same
+started_row shape node epoch s table (r ∷ rows) key held same =
+    go (holds shape node r.0) refl (started_row shape node epoch (put_row s r.0 r.1 epoch)
+    (map.insert table r.0 r.1) rows key held)
+    (started_row shape node epoch s (map.insert table r.0 r.1) rows key held)
   where
     by : (b : Bool) → (if b then Some r.1 else row_at s.places key) ≡ cond b (Some r.1) (map.get table key)
     by true = refl
@@ -194,9 +198,9 @@ started_row shape node s table (r ∷ rows) key held same =
         map.get-insert nat_list_cmp_total table r.0 r.1 key
         ∙ ap (λ b. cond b (Some r.1) (map.get table key)) (tied-same_key key r.0 ∙ same_key-swap key r.0)
 
-    put : row_at (put_row s r.0 r.1).places key ≡ map.get (map.insert table r.0 r.1) key
+    put : row_at (put_row s r.0 r.1 epoch).places key ≡ map.get (map.insert table r.0 r.1) key
     put =
-        row-set_row (with_place s.places r.0) r.0 key (Some r.1) (has-own_place s.places r.0)
+        row-set_row (with_place s.places r.0) r.0 key (Some r.1) epoch (has-own_place s.places r.0)
         ∙ ap (λ w. if same_key r.0 key then Some r.1 else w) (row-with_place s.places r.0 key) ∙ by (same_key r.0 key)
         ∙ sym inserted
 
@@ -207,20 +211,21 @@ started_row shape node s table (r ∷ rows) key held same =
     other off false own = refl
 
     go : (b : Bool) → holds shape node r.0 ≡ b
-        → (row_at (put_row s r.0 r.1).places key ≡ map.get (map.insert table r.0 r.1) key
-        → row_at (with_rows (put_row s r.0 r.1) (own_rows shape node rows)).places key
+        → (row_at (put_row s r.0 r.1 epoch).places key ≡ map.get (map.insert table r.0 r.1) key
+        → row_at (with_rows (put_row s r.0 r.1 epoch) (own_rows shape node rows) epoch).places key
         ≡ map.get (rows_over (map.insert table r.0 r.1) rows) key)
         → (row_at s.places key ≡ map.get (map.insert table r.0 r.1) key
-        → row_at (with_rows s (own_rows shape node rows)).places key
+        → row_at (with_rows s (own_rows shape node rows) epoch).places key
         ≡ map.get (rows_over (map.insert table r.0 r.1) rows) key)
-        → row_at (with_rows s (if b then r ∷ own_rows shape node rows else own_rows shape node rows)).places key
+        → row_at (with_rows s (if b then r ∷ own_rows shape node rows else own_rows shape node rows) epoch).places key
         ≡ map.get (rows_over (map.insert table r.0 r.1) rows) key
     go true is own without = own put
     go false is own without = without (same ∙ other is (same_key r.0 key) refl ∙ sym inserted)
 
-pub started_pending : (s : RowsState) (rows : List (List ℕ × List ℕ)) → (with_rows s rows).pending ≡ s.pending
-started_pending s [] = refl
-started_pending s (r ∷ rows) = started_pending (put_row s r.0 r.1) rows
+pub started_pending : (s : RowsState) (rows : List (List ℕ × List ℕ)) (epoch : ℕ)
+    → (with_rows s rows epoch).pending ≡ s.pending
+started_pending s [] epoch = refl
+started_pending s (r ∷ rows) epoch = started_pending (put_row s r.0 r.1 epoch) rows epoch
 
 pub keys_begin_at_rest : KeysBeginAtRest
 unfolding fresh_part
@@ -228,26 +233,26 @@ keys_begin_at_rest member layout epoch rows key held =
     let own = own_rows layout.shape member.node rows in
     replica_is _ _
     (λ i. record {
-      row = (row_of-at (with_rows no_rows own) key
-          ∙ started_row layout.shape member.node no_rows map.empty rows key held (sym (map.get-empty key_cmp key))) i;
-      pending = ap (filter (is_on key)) (started_pending no_rows own) i;
+      row = (row_of-at (with_rows no_rows own epoch) key
+          ∙ started_row layout.shape member.node epoch no_rows map.empty rows key held (sym (map.get-empty key_cmp key))) i;
+      pending = ap (λ xs. epochless (on key xs)) (started_pending no_rows own epoch) i;
     })
     (ap or_unlocked (map.get-empty key_cmp key)) refl
 
-idle_well : (node : ℕ) (layout : Layout) (rows : List (List ℕ × List ℕ))
-    → IsWell (unasked_yet node layout (with_rows no_rows rows) (record { used = 0; reserved = 0 }))
-idle_well node layout rows = record { placed = put_placed no_rows rows tt refl; orderly = empty_orderly }
+idle_well : (node : ℕ) (layout : Layout) (rows : List (List ℕ × List ℕ)) (epoch : ℕ)
+    → IsWell (unasked_yet node layout (with_rows no_rows rows epoch) (record { used = 0; reserved = 0 }))
+idle_well node layout rows epoch = record { placed = put_placed no_rows rows epoch tt refl; orderly = empty_orderly }
 
 part_well : (of : Part) (member : Member) (layout : Layout) (epoch : ℕ) (rows : List (List ℕ × List ℕ))
     → IsWellHost (fresh_part of member layout epoch rows)
 unfolding fresh_part
-part_well part.Main member layout epoch rows = idle_well 0 nowhere []
-part_well part.Tc member layout epoch rows = idle_well 0 nowhere []
-part_well part.Ldm member layout epoch rows = idle_well member.node layout (own_rows layout.shape member.node rows)
+part_well part.Main member layout epoch rows = idle_well 0 nowhere [] 0
+part_well part.Tc member layout epoch rows = idle_well 0 nowhere [] 0
+part_well part.Ldm member layout epoch rows = idle_well member.node layout (own_rows layout.shape member.node rows) epoch
 
 started_well : (start : Start) (h : ℕ) → IsWellHost (started start h)
 unfolding fresh_shell started
-started_well start zero = idle_well 0 nowhere []
+started_well start zero = idle_well 0 nowhere [] 0
 started_well start (suc h) =
     part_well (part_by (h % 3)) (member_at (made start) (suc h)) (first_layout start.shape) start.epoch start.rows
 

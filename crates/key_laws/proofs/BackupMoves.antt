@@ -16,7 +16,7 @@ use Rattle.sig_core.proofs.TxLemmas.{same_tx-is, same_tx-swap}
 use Rattle.key_laws.specs.Backup.{Backup, HasImage, IsLedUnlessSpoilt, IsSound, committed_at, is_spoilt, kept_of}
 use Rattle.key_laws.specs.BackupLaws.{AbortsMove, CommitsMove, CompletionsMove, DecisionsMove, GrantsMove, ImagesMove, Moves, UnkeptDecisionsMove}
 use Rattle.key_laws.specs.Primary.{HoldOn, ended_too}
-use Rattle.key_laws.specs.Records.{AreOnce, as_committed, committed_row, edited, found, if_committed, kept_row, put_back, unless_committed}
+use Rattle.key_laws.specs.Records.{AreOnce, as_committed, committed, committed_row, edited, found, if_committed, kept_row, put_back, unless_committed}
 use Rattle.key_laws.proofs.Holding.{holds_so, only_holder}
 use Rattle.sig_core.proofs.Keys.{same_tx-self}
 use Rattle.key_laws.proofs.PrimaryValue.{all_committed}
@@ -83,11 +83,11 @@ edited_same tx [] x is done = absurd cc
 edited_same tx (r ∷ rest) x is done = by (same_tx r.tx tx) refl is (λ more. edited_same tx rest x more done)
   where
     by : (b : Bool) → same_tx r.tx tx ≡ b → (if b then Some r else found tx rest) ≡ Some x → (found tx rest ≡ Some x → edited as_committed tx rest ≡ rest)
-        → (if b then rows.committed r ∷ rest else r ∷ edited as_committed tx rest) ≡ r ∷ rest
+        → (if b then committed r ∷ rest else r ∷ edited as_committed tx rest) ≡ r ∷ rest
     by true e is more =
         let one : r ≡ x = cc in
         let own : r.committed ≡ true = ap (λ (r : PendingRecord). r.committed) one ∙ done in
-        λ i. record { tx = r.tx; key = r.key; image = r.image; committed = sym own i } ∷ rest
+        λ i. record { tx = r.tx; key = r.key; image = r.image; committed = sym own i; epoch = r.epoch } ∷ rest
     by false e is more = ap (λ w. r ∷ w) (more is)
 
 pub grants_move : GrantsMove
@@ -136,7 +136,7 @@ commits_move decided final b tx sound told = by (found tx b.pending) refl
       where
         spoils_if : (xs rest : List PendingRecord) (r : PendingRecord) (b : Bool) → same_tx r.tx tx ≡ b → (if b then Some r else found tx rest) ≡ Some x
             → (found tx rest ≡ Some x → list_any (is_spoilt final) (edited as_committed tx rest) ≡ true)
-            → list_any (is_spoilt final) (if b then rows.committed r ∷ rest else r ∷ edited as_committed tx rest) ≡ true
+            → list_any (is_spoilt final) (if b then committed r ∷ rest else r ∷ edited as_committed tx rest) ≡ true
         spoils_if xs rest r true same is more = ap (λ c. not c || list_any (is_spoilt final) rest) (ap final (same_tx-is r.tx tx same) ∙ e)
         spoils_if xs rest r false same is more = or_right (is_spoilt final r) (list_any (is_spoilt final) (edited as_committed tx rest)) (more is)
 

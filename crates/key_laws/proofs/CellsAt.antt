@@ -14,10 +14,11 @@ use Rattle.sig_core.specs.Same.{same_key, same_tx}
 use Rattle.lqh_block.proofs.IndexLemmas.{same}
 use Rattle.sig_core.specs.Firsts.{first}
 use Rattle.key_laws.specs.Placed.{AreApart, IsPlaced, has_place}
-use Rattle.key_laws.specs.Records.{as_committed, committed_row, edited, if_committed, put_back, unless_committed}
+use Rattle.key_laws.specs.Records.{as_committed, committed_row, edited, found, if_committed, put_back, unless_committed, without_epoch}
 use Rattle.key_laws.specs.Replica.{Cell, aborting, cell_at, committing, completing, storing}
 use Rattle.sig_core.proofs.Firsts.{drop_by, first-drop, first-get, first-set, get_by, set_by}
 use Rattle.sig_core.proofs.Keys.{same_key-swap}
+use Rattle.key_laws.proofs.EpochLemmas.{AreAlike, committed_row-without, edited-epochless, epochless, found-epochless, stored-epochless, without}
 use Rattle.key_laws.proofs.PlacesAt.{apart-freed, apart-set_row, apart-with_place, has-freed, has-own_place, has-set_row, has-with_place, row-freed, row-set_row, row-with_place, row_at, row_of-at}
 use Rattle.key_laws.proofs.RecordsAt.{KeepsKey, each-edited_in, each-first, each-recorded, edited_in, edited_in-drop, edited_in-keep, edited_in-none, edited_in-set, first-found, on, on-edited, on-edited_other, on-storing, on-storing_other, record_of-first}
 
@@ -43,10 +44,13 @@ cell-storing s tx key image q = cell_if (same_key key q) (cell_at q (rows.storin
     row = row_of-at (rows.storing s tx key image) q ∙ row-with_place s.places key q ∙ sym (row_of-at s q)
 
     own : same_key key q ≡ true → cell_at q (rows.storing s tx key image) ≡ storing (cell_at q s) tx key image false
-    own e = cell_is (cell_at q (rows.storing s tx key image)) (storing (cell_at q s) tx key image false) row (on-storing q (rows.prepared tx key image) s.pending (same key q e))
+    own e = cell_is (cell_at q (rows.storing s tx key image)) (storing (cell_at q s) tx key image false) row
+        (ap epochless (on-storing q (rows.prepared tx key image) s.pending (same key q e))
+        ∙ stored-epochless (rows.prepared tx key image) (on q s.pending))
 
     other : same_key key q ≡ false → cell_at q (rows.storing s tx key image) ≡ cell_at q s
-    other e = cell_is (cell_at q (rows.storing s tx key image)) (cell_at q s) row (on-storing_other q (rows.prepared tx key image) s.pending e)
+    other e = cell_is (cell_at q (rows.storing s tx key image)) (cell_at q s) row
+        (ap epochless (on-storing_other q (rows.prepared tx key image) s.pending e))
 
 pub placed-storing : (s : RowsState) (tx : TxId) (key : List ℕ) (image : Option (List ℕ)) → IsPlaced s → IsPlaced (rows.storing s tx key image)
 unfolding rows.storing
@@ -57,57 +61,75 @@ placed-storing s tx key image is = record {
       (λ r there. has-with_place s.places key r.key there) is.placed);
 }
 
--- a commit
-committed_places : List (Option Slot) → Option PendingRecord → List (Option Slot)
-committed_places places None = places
-committed_places places (Some r) = if r.committed then places else set_row places r.key r.image
+-- a commit, after which a record tells its epoch
+commits_in : ℕ → PendingRecord → Option PendingRecord
+commits_in epoch r = if r.committed then Some r else Some (rows.committed r epoch)
 
-record CommitIs (s after : RowsState) (tx : TxId) (key : List ℕ) : Type 0 where
-  pending : after.pending ≡ edited_in as_committed (is_of tx key) s.pending
-  places : after.places ≡ committed_places s.places (first (is_of tx key) s.pending)
-
-commit_is : (s : RowsState) (tx : TxId) (key : List ℕ) → CommitIs s (commit_record s tx key) tx key
-unfolding commit_record committed_places
-commit_is s tx key = by (record_at s.pending tx key) refl (record_of s tx key) refl
+commits_alike : (epoch : ℕ) → AreAlike (commits_in epoch) as_committed
+unfolding commits_in
+commits_alike epoch r = by r.committed refl
   where
-    stays : first (is_of tx key) s.pending ≡ None → CommitIs s s tx key
+    by : (b : Bool) → r.committed ≡ b
+        → without (if b then Some r else Some (rows.committed r epoch)) ≡ as_committed (without_epoch r)
+    by true e = λ i. Some (record { tx = r.tx; key = r.key; image = r.image; committed = e i; epoch = 0 })
+    by false e = refl
+
+committed_places : List (Option Slot) → ℕ → Option PendingRecord → List (Option Slot)
+committed_places places epoch None = places
+committed_places places epoch (Some r) = if r.committed then places else set_row places r.key r.image epoch
+
+record CommitIs (s after : RowsState) (tx : TxId) (key : List ℕ) (epoch : ℕ) : Type 0 where
+  pending : after.pending ≡ edited_in (commits_in epoch) (is_of tx key) s.pending
+  places : after.places ≡ committed_places s.places epoch (first (is_of tx key) s.pending)
+
+commit_is : (s : RowsState) (tx : TxId) (key : List ℕ) (epoch : ℕ) → CommitIs s (commit_record s tx key epoch) tx key epoch
+unfolding commit_record committed_places commits_in
+commit_is s tx key epoch = by (record_at s.pending tx key) refl (record_of s tx key) refl
+  where
+    stays : first (is_of tx key) s.pending ≡ None → CommitIs s s tx key epoch
     stays none = record {
-      pending = sym (edited_in-none as_committed (is_of tx key) s.pending none);
-      places = ap (committed_places s.places) (sym none);
+      pending = sym (edited_in-none (commits_in epoch) (is_of tx key) s.pending none);
+      places = ap (committed_places s.places epoch) (sym none);
     }
 
-    same_record : (r : PendingRecord) → r.committed ≡ true → as_committed r ≡ Some r
-    same_record r is = λ i. Some (record { tx = r.tx; key = r.key; image = r.image; committed = sym is i })
+    edit : (r : PendingRecord) (b : Bool) → r.committed ≡ b
+        → commits_in epoch r ≡ (if b then Some r else Some (rows.committed r epoch))
+    edit r b e = ap (λ c. if c then Some r else Some (rows.committed r epoch)) e
 
-    at_record : (at : ℕ) → record_at s.pending tx key ≡ Some at → (r : PendingRecord) → first (is_of tx key) s.pending ≡ Some r → (b : Bool) → r.committed ≡ b → CommitIs s (commit_if s at r b) tx key
+    at_record : (at : ℕ) → record_at s.pending tx key ≡ Some at → (r : PendingRecord) → first (is_of tx key) s.pending ≡ Some r → (b : Bool) → r.committed ≡ b → CommitIs s (commit_if s at r epoch b) tx key epoch
     at_record at at_is r here true e = record {
-      pending = sym (edited_in-keep as_committed (is_of tx key) s.pending r here (same_record r e));
-      places = sym (ap (committed_places s.places) here ∙ ap (λ b. if b then s.places else set_row s.places r.key r.image) e);
+      pending = sym (edited_in-keep (commits_in epoch) (is_of tx key) s.pending r here (edit r true e));
+      places = sym (ap (committed_places s.places epoch) here ∙ ap (λ b. if b then s.places else set_row s.places r.key r.image epoch) e);
     }
     at_record at at_is r here false e = record {
       pending =
-          ap (set_by (rows.committed r) s.pending) (sym at_is) ∙ first-set (is_of tx key) (rows.committed r) s.pending
-          ∙ sym (edited_in-set as_committed (is_of tx key) s.pending r (rows.committed r) here refl);
-      places = sym (ap (committed_places s.places) here ∙ ap (λ b. if b then s.places else set_row s.places r.key r.image) e);
+          ap (set_by (rows.committed r epoch) s.pending) (sym at_is) ∙ first-set (is_of tx key) (rows.committed r epoch) s.pending
+          ∙ sym (edited_in-set (commits_in epoch) (is_of tx key) s.pending r (rows.committed r epoch) here (edit r false e));
+      places = sym (ap (committed_places s.places epoch) here ∙ ap (λ b. if b then s.places else set_row s.places r.key r.image epoch) e);
     }
 
-    by : (at : Option ℕ) → record_at s.pending tx key ≡ at → (o : Option PendingRecord) → record_of s tx key ≡ o → CommitIs s (commit_by s at o) tx key
+    by : (at : Option ℕ) → record_at s.pending tx key ≡ at → (o : Option PendingRecord) → record_of s tx key ≡ o → CommitIs s (commit_by s epoch at o) tx key epoch
     by None at_is o is = stays (sym (first-get (is_of tx key) s.pending) ∙ ap (get_by s.pending) at_is)
     by (Some at) at_is None is = stays (sym (record_of-first s tx key) ∙ is)
     by (Some at) at_is (Some r) is = at_record at at_is r (sym (record_of-first s tx key) ∙ is) r.committed refl
 
-committed_keeps_key : KeepsKey as_committed
-committed_keeps_key r x is = let now : rows.committed r ≡ x = cc in sym (ap (λ (r : PendingRecord). r.key) now)
+committed_keeps_key : (epoch : ℕ) → KeepsKey (commits_in epoch)
+unfolding commits_in
+committed_keeps_key epoch r x is = by r.committed is
+  where
+    by : (b : Bool) → (if b then Some r else Some (rows.committed r epoch)) ≡ Some x → x.key ≡ r.key
+    by true is = let now : r ≡ x = cc in sym (ap (λ (r : PendingRecord). r.key) now)
+    by false is = let now : rows.committed r epoch ≡ x = cc in sym (ap (λ (r : PendingRecord). r.key) now)
 
-row-committed : (s : RowsState) → IsPlaced s → (tx : TxId) (key q : List ℕ) (o : Option PendingRecord) → first (is_of tx key) s.pending ≡ o
-    → row_at (committed_places s.places o) q ≡ (if same_key key q then committed_row (row_at s.places q) o else row_at s.places q)
+row-committed : (s : RowsState) → IsPlaced s → (tx : TxId) (key q : List ℕ) (epoch : ℕ) (o : Option PendingRecord) → first (is_of tx key) s.pending ≡ o
+    → row_at (committed_places s.places epoch o) q ≡ (if same_key key q then committed_row (row_at s.places q) o else row_at s.places q)
 unfolding committed_places
-row-committed s is tx key q None here = by (same_key key q)
+row-committed s is tx key q epoch None here = by (same_key key q)
   where
     by : (b : Bool) → row_at s.places q ≡ (if b then row_at s.places q else row_at s.places q)
     by true = refl
     by false = refl
-row-committed s is tx key q (Some r) here =
+row-committed s is tx key q epoch (Some r) here =
     let own = each-first (λ (r : PendingRecord). has_place s.places r.key ≡ true) tx key s.pending r is.placed here in
     by r.committed own.0 own.1
   where
@@ -116,62 +138,68 @@ row-committed s is tx key q (Some r) here =
     either false = refl
 
     by : (c : Bool) → has_place s.places r.key ≡ true → r.key ≡ key
-        → row_at (if c then s.places else set_row s.places r.key r.image) q ≡ (if same_key key q then (if c then row_at s.places q else r.image) else row_at s.places q)
+        → row_at (if c then s.places else set_row s.places r.key r.image epoch) q ≡ (if same_key key q then (if c then row_at s.places q else r.image) else row_at s.places q)
     by true there own = either (same_key key q)
-    by false there own = row-set_row s.places r.key q r.image there ∙ ap (λ k. if same_key k q then r.image else row_at s.places q) own
+    by false there own = row-set_row s.places r.key q r.image epoch there ∙ ap (λ k. if same_key k q then r.image else row_at s.places q) own
 
-pub cell-committed : (s : RowsState) → IsPlaced s → (tx : TxId) (key q : List ℕ)
-    → cell_at q (commit_record s tx key) ≡ (if same_key key q then committing (cell_at q s) tx else cell_at q s)
-cell-committed s is tx key q = cell_if (same_key key q) (cell_at q (commit_record s tx key)) (committing (cell_at q s) tx) (cell_at q s) own other
+pub cell-committed : (s : RowsState) → IsPlaced s → (tx : TxId) (key : List ℕ) (epoch : ℕ) (q : List ℕ)
+    → cell_at q (commit_record s tx key epoch) ≡ (if same_key key q then committing (cell_at q s) tx else cell_at q s)
+cell-committed s is tx key epoch q = cell_if (same_key key q) (cell_at q (commit_record s tx key epoch)) (committing (cell_at q s) tx) (cell_at q s) own other
   where
-    row : row_of (commit_record s tx key) q ≡ (if same_key key q then committed_row (row_at s.places q) (first (is_of tx key) s.pending) else row_at s.places q)
+    row : row_of (commit_record s tx key epoch) q ≡ (if same_key key q then committed_row (row_at s.places q) (first (is_of tx key) s.pending) else row_at s.places q)
     row =
-        row_of-at (commit_record s tx key) q ∙ ap (λ w. row_at w q) (commit_is s tx key).places
-        ∙ row-committed s is tx key q (first (is_of tx key) s.pending) refl
+        row_of-at (commit_record s tx key epoch) q ∙ ap (λ w. row_at w q) (commit_is s tx key epoch).places
+        ∙ row-committed s is tx key q epoch (first (is_of tx key) s.pending) refl
 
-    own : same_key key q ≡ true → cell_at q (commit_record s tx key) ≡ committing (cell_at q s) tx
+    own : same_key key q ≡ true → cell_at q (commit_record s tx key epoch) ≡ committing (cell_at q s) tx
     own e =
         let at : key ≡ q = same key q e in
-        cell_is (cell_at q (commit_record s tx key)) (committing (cell_at q s) tx)
+        cell_is (cell_at q (commit_record s tx key epoch)) (committing (cell_at q s) tx)
         (row ∙ ap (λ b. if b then committed_row (row_at s.places q) (first (is_of tx key) s.pending) else row_at s.places q) e
-        ∙ (λ i. committed_row (sym (row_of-at s q) i) ((ap (λ k. first (is_of tx k) s.pending) at ∙ first-found tx q s.pending) i)))
-        (ap (on q) (commit_is s tx key).pending ∙ ap (λ k. on q (edited_in as_committed (is_of tx k) s.pending)) at
-        ∙ on-edited as_committed committed_keeps_key tx q s.pending)
+        ∙ (λ i. committed_row (sym (row_of-at s q) i) ((ap (λ k. first (is_of tx k) s.pending) at ∙ first-found tx q s.pending) i))
+        ∙ committed_row-without (row_of s q) (found tx (on q s.pending))
+        ∙ ap (committed_row (row_of s q)) (sym (found-epochless tx (on q s.pending))))
+        (ap epochless (ap (on q) (commit_is s tx key epoch).pending
+        ∙ ap (λ k. on q (edited_in (commits_in epoch) (is_of tx k) s.pending)) at
+        ∙ on-edited (commits_in epoch) (committed_keeps_key epoch) tx q s.pending)
+        ∙ edited-epochless (commits_in epoch) as_committed (commits_alike epoch) tx (on q s.pending))
 
-    other : same_key key q ≡ false → cell_at q (commit_record s tx key) ≡ cell_at q s
+    other : same_key key q ≡ false → cell_at q (commit_record s tx key epoch) ≡ cell_at q s
     other e =
-        cell_is (cell_at q (commit_record s tx key)) (cell_at q s)
+        cell_is (cell_at q (commit_record s tx key epoch)) (cell_at q s)
         (row ∙ ap (λ b. if b then committed_row (row_at s.places q) (first (is_of tx key) s.pending) else row_at s.places q) e ∙ sym (row_of-at s q))
-        (ap (on q) (commit_is s tx key).pending ∙ on-edited_other as_committed committed_keeps_key tx key q s.pending e)
+        (ap epochless (ap (on q) (commit_is s tx key epoch).pending
+        ∙ on-edited_other (commits_in epoch) (committed_keeps_key epoch) tx key q s.pending e))
 
-pub placed-committed : (s : RowsState) (tx : TxId) (key : List ℕ) → IsPlaced s → IsPlaced (commit_record s tx key)
+pub placed-committed : (s : RowsState) (tx : TxId) (key : List ℕ) (epoch : ℕ) → IsPlaced s → IsPlaced (commit_record s tx key epoch)
 unfolding committed_places
-placed-committed s tx key is = record {
-  apart = subst AreApart (sym (commit_is s tx key).places) (apart (first (is_of tx key) s.pending));
-  placed = subst (Each Here) (sym (commit_is s tx key).pending)
-      (each-edited_in Here as_committed (is_of tx key) s.pending (λ r x edit there. ap (has_place (commit_record s tx key).places) (committed_keeps_key r x edit) ∙ there)
+placed-committed s tx key epoch is = record {
+  apart = subst AreApart (sym (commit_is s tx key epoch).places) (apart (first (is_of tx key) s.pending));
+  placed = subst (Each Here) (sym (commit_is s tx key epoch).pending)
+      (each-edited_in Here (commits_in epoch) (is_of tx key) s.pending
+      (λ r x edit there. ap (has_place (commit_record s tx key epoch).places) (committed_keeps_key epoch r x edit) ∙ there)
       (each_map (λ (r : PendingRecord). has_place s.places r.key ≡ true) Here s.pending
-      (λ r there. ap (λ w. has_place w r.key) (commit_is s tx key).places ∙ there_still r.key (first (is_of tx key) s.pending) ∙ there) is.placed));
+      (λ r there. ap (λ w. has_place w r.key) (commit_is s tx key epoch).places ∙ there_still r.key (first (is_of tx key) s.pending) ∙ there) is.placed));
 }
   where
     Here : PendingRecord → Type 0
-    Here = λ r. has_place (commit_record s tx key).places r.key ≡ true
+    Here = λ r. has_place (commit_record s tx key epoch).places r.key ≡ true
 
-    apart : (o : Option PendingRecord) → AreApart (committed_places s.places o)
+    apart : (o : Option PendingRecord) → AreApart (committed_places s.places epoch o)
     apart None = is.apart
     apart (Some r) = by r.committed
       where
-        by : (b : Bool) → AreApart (if b then s.places else set_row s.places r.key r.image)
+        by : (b : Bool) → AreApart (if b then s.places else set_row s.places r.key r.image epoch)
         by true = is.apart
-        by false = apart-set_row s.places r.key r.image is.apart
+        by false = apart-set_row s.places r.key r.image epoch is.apart
 
-    there_still : (q : List ℕ) (o : Option PendingRecord) → has_place (committed_places s.places o) q ≡ has_place s.places q
+    there_still : (q : List ℕ) (o : Option PendingRecord) → has_place (committed_places s.places epoch o) q ≡ has_place s.places q
     there_still q None = refl
     there_still q (Some r) = by r.committed
       where
-        by : (b : Bool) → has_place (if b then s.places else set_row s.places r.key r.image) q ≡ has_place s.places q
+        by : (b : Bool) → has_place (if b then s.places else set_row s.places r.key r.image epoch) q ≡ has_place s.places q
         by true = refl
-        by false = has-set_row s.places r.key q r.image
+        by false = has-set_row s.places r.key q r.image epoch
 
 -- a record is dropped, or not, as its state is asked for
 drops : Bool → PendingRecord → Option PendingRecord
@@ -184,6 +212,14 @@ drop_same done false r x is = cc
 drops_keep_key : (done : Bool) → KeepsKey (drops done)
 unfolding drops
 drops_keep_key done r x is = sym (ap (λ (r : PendingRecord). r.key) (drop_same done (is_as done r.committed) r x is))
+
+drops_alike : (done : Bool) → AreAlike (drops done) (drops done)
+unfolding drops
+drops_alike done r = by (is_as done r.committed)
+  where
+    by : (b : Bool) → without (if b then None else Some r) ≡ (if b then None else Some (without_epoch r))
+    by true = refl
+    by false = refl
 
 dropped_places : Bool → List (Option Slot) → List PendingRecord → Option PendingRecord → List (Option Slot)
 dropped_places done places after None = places
@@ -231,21 +267,23 @@ module _ (done : Bool) (s after : RowsState) (is : IsPlaced s) (tx : TxId) (key 
       by true = row-freed s.places after.pending r.key q is.apart
       by false = refl
 
-  cell-dropped : (q : List ℕ) → cell_at q after ≡ (if same_key key q then record { row = row_of s q; pending = edited (drops done) tx (on q s.pending) } else cell_at q s)
-  cell-dropped q = cell_if (same_key key q) (cell_at q after) (record { row = row_of s q; pending = edited (drops done) tx (on q s.pending) }) (cell_at q s) own other
+  cell-dropped : (q : List ℕ) → cell_at q after ≡ (if same_key key q then record { row = row_of s q; pending = edited (drops done) tx (epochless (on q s.pending)) } else cell_at q s)
+  cell-dropped q = cell_if (same_key key q) (cell_at q after) (record { row = row_of s q; pending = edited (drops done) tx (epochless (on q s.pending)) }) (cell_at q s) own other
     where
       row : row_of after q ≡ row_of s q
       row = row_of-at after q ∙ ap (λ w. row_at w q) drop.places ∙ row-dropped q (first (is_of tx key) s.pending) ∙ sym (row_of-at s q)
 
-      own : same_key key q ≡ true → cell_at q after ≡ record { row = row_of s q; pending = edited (drops done) tx (on q s.pending) }
+      own : same_key key q ≡ true → cell_at q after ≡ record { row = row_of s q; pending = edited (drops done) tx (epochless (on q s.pending)) }
       own e =
-          cell_is (cell_at q after) (record { row = row_of s q; pending = edited (drops done) tx (on q s.pending) }) row
-          (ap (on q) drop.pending ∙ ap (λ k. on q (edited_in (drops done) (is_of tx k) s.pending)) (same key q e) ∙ on-edited (drops done) (drops_keep_key done) tx q s.pending)
+          cell_is (cell_at q after) (record { row = row_of s q; pending = edited (drops done) tx (epochless (on q s.pending)) }) row
+          (ap epochless (ap (on q) drop.pending ∙ ap (λ k. on q (edited_in (drops done) (is_of tx k) s.pending)) (same key q e)
+          ∙ on-edited (drops done) (drops_keep_key done) tx q s.pending)
+          ∙ edited-epochless (drops done) (drops done) (drops_alike done) tx (on q s.pending))
 
       other : same_key key q ≡ false → cell_at q after ≡ cell_at q s
       other e =
           cell_is (cell_at q after) (cell_at q s) row
-          (ap (on q) drop.pending ∙ on-edited_other (drops done) (drops_keep_key done) tx key q s.pending e)
+          (ap epochless (ap (on q) drop.pending ∙ on-edited_other (drops done) (drops_keep_key done) tx key q s.pending e))
 
   -- a key whose place is freed has no record
   idle_apart : (k : List ℕ) (xs : List PendingRecord) → is_idle xs k ≡ true → Each (λ (r : PendingRecord). same_key k r.key ≡ false) xs
@@ -312,7 +350,7 @@ pub cell-completed : (s : RowsState) → IsPlaced s → (tx : TxId) (key q : Lis
 unfolding complete_record
 cell-completed s is tx key q =
     cell-dropped true s (complete_record s tx key) is tx key (drop_is true s tx key) q
-    ∙ ap (λ w. if same_key key q then record { row = row_of s q; pending = w } else cell_at q s) (edited_alike (drops true) unless_committed tx (on q s.pending) drops_completed)
+    ∙ ap (λ w. if same_key key q then record { row = row_of s q; pending = w } else cell_at q s) (edited_alike (drops true) unless_committed tx (epochless (on q s.pending)) drops_completed)
 
 pub placed-completed : (s : RowsState) (tx : TxId) (key : List ℕ) → IsPlaced s → IsPlaced (complete_record s tx key)
 unfolding complete_record
@@ -322,7 +360,7 @@ pub cell-aborted : (s : RowsState) → IsPlaced s → (tx : TxId) (key q : List 
 unfolding abort_record
 cell-aborted s is tx key q =
     cell-dropped false s (abort_record s tx key) is tx key (drop_is false s tx key) q
-    ∙ ap (λ w. if same_key key q then record { row = row_of s q; pending = w } else cell_at q s) (edited_alike (drops false) if_committed tx (on q s.pending) drops_aborted)
+    ∙ ap (λ w. if same_key key q then record { row = row_of s q; pending = w } else cell_at q s) (edited_alike (drops false) if_committed tx (epochless (on q s.pending)) drops_aborted)
 
 pub placed-aborted : (s : RowsState) (tx : TxId) (key : List ℕ) → IsPlaced s → IsPlaced (abort_record s tx key)
 unfolding abort_record

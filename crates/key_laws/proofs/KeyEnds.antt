@@ -51,20 +51,20 @@ released_other s tx own key off =
 
 -- the rows after a commit, whatever was there
 applied_rows : (s : LqhState) (tx : TxId) (key : List ℕ) (epoch : ℕ)
-    → (commit.applied s tx key epoch (record_state s.rows tx key)).rows ≡ commit_record s.rows tx key
+    → (commit.applied s tx key epoch (record_state s.rows tx key)).rows ≡ commit_record s.rows tx key epoch
 unfolding record_state commit_record storage.committed_in
 applied_rows s tx key epoch = by (record_at s.rows.pending tx key) refl (record_of s.rows tx key) refl
   where
     at_state : (at : Option ℕ) → record_at s.rows.pending tx key ≡ at → (r : PendingRecord)
         → record_of s.rows tx key ≡ Some r → (b : Bool) → r.committed ≡ b
-        → (commit.applied s tx key epoch (Some b)).rows ≡ commit_by s.rows at (Some r)
+        → (commit.applied s tx key epoch (Some b)).rows ≡ commit_by s.rows epoch at (Some r)
     at_state None at_is r is true e = refl
-    at_state (Some at) at_is r is true e = sym (ap (rows.commit_if s.rows at r) e)
-    at_state at at_is r is false e = λ i. commit_by s.rows (at_is i) (is i)
+    at_state (Some at) at_is r is true e = sym (ap (rows.commit_if s.rows at r epoch) e)
+    at_state at at_is r is false e = λ i. commit_by s.rows epoch (at_is i) (is i)
 
     by : (at : Option ℕ) → record_at s.rows.pending tx key ≡ at → (o : Option PendingRecord)
         → record_of s.rows tx key ≡ o
-        → (commit.applied s tx key epoch (state_by o)).rows ≡ commit_by s.rows at o
+        → (commit.applied s tx key epoch (state_by o)).rows ≡ commit_by s.rows epoch at o
     by None at_is None is = refl
     by (Some at) at_is None is = refl
     by at at_is (Some r) is = at_state at at_is r is r.committed refl
@@ -72,7 +72,7 @@ applied_rows s tx key epoch = by (record_at s.rows.pending tx key) refl (record_
 -- what the walk calls so
 pub committed_rows : {s : LqhState} {tx : TxId} {key : List ℕ} {epoch : ℕ} {had : Option Bool} {st : StorageState}
     {markers : List Marker}
-    → Applies s tx key epoch had st markers → st.rows ≡ commit_record s.rows tx key
+    → Applies s tx key epoch had st markers → st.rows ≡ commit_record s.rows tx key epoch
 committed_rows {s} {tx} {key} {epoch} applies =
     ap (λ (t : LqhState). t.rows) applies.is ∙ ap (λ o. (commit.applied s tx key epoch o).rows) (sym applies.had_is)
     ∙ applied_rows s tx key epoch
@@ -140,7 +140,7 @@ module _ (s : LqhState) (placed : IsPlaced s.rows) (tx : TxId) (own : List ℕ) 
     (key : List ℕ) where
   done_cell : {had : Option Bool} {st : StorageState} {markers : List Marker} → Applies s tx own epoch had st markers
       → cell_at key st.rows ≡ (if same_key own key then committing (cell_at key s.rows) tx else cell_at key s.rows)
-  done_cell applies = ap (cell_at key) (committed_rows applies) ∙ cell-committed s.rows placed tx own key
+  done_cell applies = ap (cell_at key) (committed_rows applies) ∙ cell-committed s.rows placed tx own epoch key
 
   pub commit_event : at_key key (commit.commit_row s tx own epoch chain at).state
       ≡ key_after (if_on own key (commits tx (at == 0))) (at_key key s)

@@ -1,6 +1,7 @@
 pub mod BackupMoves
 pub mod BackupOrder
 pub mod CellsAt
+pub mod EpochLemmas
 pub mod Holding
 pub mod KeyAfter
 pub mod KeyEnds

@@ -22,7 +22,7 @@ use Rattle.sig_core.specs.Work.{work_key}
 use Rattle.key_laws.specs.Placed.{IsPlaced}
 use Rattle.key_laws.specs.Records.{found, seen_by}
 use Rattle.key_laws.specs.Replica.{cell_at, is_refused, operated, storing, worked}
-use Rattle.key_laws.proofs.RecordsAt.{first-found, record_of-first}
+use Rattle.key_laws.proofs.EpochLemmas.{record_in_cell, without}
 use Rattle.key_laws.proofs.CellsAt.{cell-storing, either_cell, placed-storing}
 
 -- the row as a transaction sees it
@@ -30,9 +30,9 @@ pub seen-cell : (s : RowsState) (tx : TxId) (key : List ℕ)
     → seen s tx key ≡ seen_by (cell_at key s).row (found tx (cell_at key s).pending)
 unfolding seen
 seen-cell s tx key = by (record_of s tx key)
-    ∙ ap (seen_by (row_of s key)) (record_of-first s tx key ∙ first-found tx key s.pending)
+    ∙ ap (seen_by (row_of s key)) (record_in_cell s tx key)
   where
-    by : (o : Option PendingRecord) → rows.seen_by s key o ≡ seen_by (row_of s key) o
+    by : (o : Option PendingRecord) → rows.seen_by s key o ≡ seen_by (row_of s key) (without o)
     by None = refl
     by (Some r) = refl
 

@@ -123,22 +123,23 @@ has-own_place places key = by (place_of places key) refl
     by (Some at) is = sym (place_of-has places key) ∙ ap is_some is
 
 -- the row of one key is set
-set_row-first : (places : List (Option Slot)) (key : List ℕ) (row : Option (List ℕ)) → set_row places key row ≡ set_first (is_at key) (Some (with_row key row)) places
-set_row-first places key row = by (place_of places key) ∙ first-set (is_at key) (Some (with_row key row)) places
+set_row-first : (places : List (Option Slot)) (key : List ℕ) (row : Option (List ℕ)) (epoch : ℕ)
+    → set_row places key row epoch ≡ set_first (is_at key) (Some (with_row key row epoch)) places
+set_row-first places key row epoch = by (place_of places key) ∙ first-set (is_at key) (Some (with_row key row epoch)) places
   where
-    by : (at : Option ℕ) → set_row_by places key row at ≡ set_by (Some (with_row key row)) places at
+    by : (at : Option ℕ) → set_row_by places key row epoch at ≡ set_by (Some (with_row key row epoch)) places at
     by None = refl
     by (Some at) = refl
 
-row-set_first : (places : List (Option Slot)) (key q : List ℕ) (row : Option (List ℕ)) → has_place places key ≡ true
-    → row_at (set_first (is_at key) (Some (with_row key row)) places) q ≡ (if same_key key q then row else row_at places q)
-row-set_first [] key q row there = absurd cc
-row-set_first (None ∷ places) key q row there = row-set_first places key q row there
-row-set_first (Some slot ∷ places) key q row there = by (same_key slot.key key) refl there (row-set_first places key q row)
+row-set_first : (places : List (Option Slot)) (key q : List ℕ) (row : Option (List ℕ)) (epoch : ℕ) → has_place places key ≡ true
+    → row_at (set_first (is_at key) (Some (with_row key row epoch)) places) q ≡ (if same_key key q then row else row_at places q)
+row-set_first [] key q row epoch there = absurd cc
+row-set_first (None ∷ places) key q row epoch there = row-set_first places key q row epoch there
+row-set_first (Some slot ∷ places) key q row epoch there = by (same_key slot.key key) refl there (row-set_first places key q row epoch)
   where
     by : (b : Bool) → same_key slot.key key ≡ b → (if b then true else has_place places key) ≡ true
-        → (has_place places key ≡ true → row_at (set_first (is_at key) (Some (with_row key row)) places) q ≡ (if same_key key q then row else row_at places q))
-        → row_at (if b then Some (with_row key row) ∷ places else Some slot ∷ set_first (is_at key) (Some (with_row key row)) places) q
+        → (has_place places key ≡ true → row_at (set_first (is_at key) (Some (with_row key row epoch)) places) q ≡ (if same_key key q then row else row_at places q))
+        → row_at (if b then Some (with_row key row epoch) ∷ places else Some slot ∷ set_first (is_at key) (Some (with_row key row epoch)) places) q
         ≡ (if same_key key q then row else (if same_key slot.key q then slot.row else row_at places q))
     by true e there more = at (same_key key q) (ap (λ k. same_key k q) (same slot.key key e))
       where
@@ -156,35 +157,39 @@ row-set_first (Some slot ∷ places) key q row there = by (same_key slot.key key
         apart false f true g = refl
         apart false f false g = refl
 
-has-set_first : (places : List (Option Slot)) (key q : List ℕ) (row : Option (List ℕ)) → has_place (set_first (is_at key) (Some (with_row key row)) places) q ≡ has_place places q
-has-set_first [] key q row = refl
-has-set_first (None ∷ places) key q row = has-set_first places key q row
-has-set_first (Some slot ∷ places) key q row = by (same_key slot.key key) refl (has-set_first places key q row)
+has-set_first : (places : List (Option Slot)) (key q : List ℕ) (row : Option (List ℕ)) (epoch : ℕ)
+    → has_place (set_first (is_at key) (Some (with_row key row epoch)) places) q ≡ has_place places q
+has-set_first [] key q row epoch = refl
+has-set_first (None ∷ places) key q row epoch = has-set_first places key q row epoch
+has-set_first (Some slot ∷ places) key q row epoch = by (same_key slot.key key) refl (has-set_first places key q row epoch)
   where
-    by : (b : Bool) → same_key slot.key key ≡ b → has_place (set_first (is_at key) (Some (with_row key row)) places) q ≡ has_place places q
-        → has_place (if b then Some (with_row key row) ∷ places else Some slot ∷ set_first (is_at key) (Some (with_row key row)) places) q ≡ has_place (Some slot ∷ places) q
+    by : (b : Bool) → same_key slot.key key ≡ b → has_place (set_first (is_at key) (Some (with_row key row epoch)) places) q ≡ has_place places q
+        → has_place (if b then Some (with_row key row epoch) ∷ places else Some slot ∷ set_first (is_at key) (Some (with_row key row epoch)) places) q ≡ has_place (Some slot ∷ places) q
     by true e more = ap (λ k. if same_key k q then true else has_place places q) (sym (same slot.key key e))
     by false e more = ap (λ w. if same_key slot.key q then true else w) more
 
-apart-set_first : (places : List (Option Slot)) (key : List ℕ) (row : Option (List ℕ)) → AreApart places → AreApart (set_first (is_at key) (Some (with_row key row)) places)
-apart-set_first [] key row apart = tt
-apart-set_first (None ∷ places) key row apart = apart-set_first places key row apart
-apart-set_first (Some slot ∷ places) key row apart = by (same_key slot.key key) refl (apart-set_first places key row apart.1)
+apart-set_first : (places : List (Option Slot)) (key : List ℕ) (row : Option (List ℕ)) (epoch : ℕ)
+    → AreApart places → AreApart (set_first (is_at key) (Some (with_row key row epoch)) places)
+apart-set_first [] key row epoch apart = tt
+apart-set_first (None ∷ places) key row epoch apart = apart-set_first places key row epoch apart
+apart-set_first (Some slot ∷ places) key row epoch apart = by (same_key slot.key key) refl (apart-set_first places key row epoch apart.1)
   where
-    by : (b : Bool) → same_key slot.key key ≡ b → AreApart (set_first (is_at key) (Some (with_row key row)) places)
-        → AreApart (if b then Some (with_row key row) ∷ places else Some slot ∷ set_first (is_at key) (Some (with_row key row)) places)
+    by : (b : Bool) → same_key slot.key key ≡ b → AreApart (set_first (is_at key) (Some (with_row key row epoch)) places)
+        → AreApart (if b then Some (with_row key row epoch) ∷ places else Some slot ∷ set_first (is_at key) (Some (with_row key row epoch)) places)
     by true e more = (ap (has_place places) (sym (same slot.key key e)) ∙ apart.0, apart.1)
-    by false e more = (has-set_first places key slot.key row ∙ apart.0, more)
+    by false e more = (has-set_first places key slot.key row epoch ∙ apart.0, more)
 
-pub row-set_row : (places : List (Option Slot)) (key q : List ℕ) (row : Option (List ℕ)) → has_place places key ≡ true
-    → row_at (set_row places key row) q ≡ (if same_key key q then row else row_at places q)
-row-set_row places key q row there = ap (λ w. row_at w q) (set_row-first places key row) ∙ row-set_first places key q row there
+pub row-set_row : (places : List (Option Slot)) (key q : List ℕ) (row : Option (List ℕ)) (epoch : ℕ) → has_place places key ≡ true
+    → row_at (set_row places key row epoch) q ≡ (if same_key key q then row else row_at places q)
+row-set_row places key q row epoch there = ap (λ w. row_at w q) (set_row-first places key row epoch) ∙ row-set_first places key q row epoch there
 
-pub has-set_row : (places : List (Option Slot)) (key q : List ℕ) (row : Option (List ℕ)) → has_place (set_row places key row) q ≡ has_place places q
-has-set_row places key q row = ap (λ w. has_place w q) (set_row-first places key row) ∙ has-set_first places key q row
+pub has-set_row : (places : List (Option Slot)) (key q : List ℕ) (row : Option (List ℕ)) (epoch : ℕ)
+    → has_place (set_row places key row epoch) q ≡ has_place places q
+has-set_row places key q row epoch = ap (λ w. has_place w q) (set_row-first places key row epoch) ∙ has-set_first places key q row epoch
 
-pub apart-set_row : (places : List (Option Slot)) (key : List ℕ) (row : Option (List ℕ)) → AreApart places → AreApart (set_row places key row)
-apart-set_row places key row apart = subst AreApart (sym (set_row-first places key row)) (apart-set_first places key row apart)
+pub apart-set_row : (places : List (Option Slot)) (key : List ℕ) (row : Option (List ℕ)) (epoch : ℕ) → AreApart places
+    → AreApart (set_row places key row epoch)
+apart-set_row places key row epoch apart = subst AreApart (sym (set_row-first places key row epoch)) (apart-set_first places key row epoch apart)
 
 -- the place of a key without a row is freed
 row-cleared : (places : List (Option Slot)) (key q : List ℕ) → AreApart places → row_at places key ≡ None → row_at (set_first (is_at key) None places) q ≡ row_at places q

@@ -22,7 +22,7 @@ use Rattle.lqh_block.specs.Work.{op_mode}
 use Rattle.key_laws.specs.OneKey.{AreRight, row_after, row_after_all, row_by}
 use Rattle.key_laws.specs.Primary.{HasPrepared, HoldOn, IsGood, IsOwned, Primary, answered, ended_too, ended_with, seen_at, stored_by}
 use Rattle.key_laws.specs.PrimaryLaws.{AbortsKeepGood, CommitsKeepGood, CompletionsKeepGood, GrantsKeepGood, OperationsKeepGood}
-use Rattle.key_laws.specs.Records.{AreOnce, as_committed, committed_row, edited, found, if_committed, seen_by, unless_committed}
+use Rattle.key_laws.specs.Records.{AreOnce, as_committed, committed, committed_row, edited, found, if_committed, seen_by, unless_committed}
 use Rattle.sig_core.proofs.Keys.{same_tx-self}
 use Rattle.key_laws.proofs.Holding.{holds_so, only_holder}
 use Rattle.key_laws.proofs.RecordLemmas.{KeepsTx, committed_keeps, each-edited, each-stored, each_apart, each_both, each_found, found-edited, found-stored, if_keeps, once-edited, once-stored, unless_keeps}
@@ -210,7 +210,7 @@ commits_keep p tx holders good on =
     (λ r x own is before. inl (done r x is)) good.owned)
   where
     done : (r x : PendingRecord) → as_committed r ≡ Some x → x.committed ≡ true
-    done r x is = let now : rows.committed r ≡ x = cc in sym (ap (λ (r : PendingRecord). r.committed) now)
+    done r x is = let now : committed r ≡ x = cc in sym (ap (λ (r : PendingRecord). r.committed) now)
 
 pub aborts_keep : AbortsKeepGood
 aborts_keep p tx holders good on =

@@ -16,7 +16,7 @@ use Rattle.row_locks.specs.Holders.{holds}
 use Rattle.key_laws.specs.OneKey.{AreRight, row_after_all}
 use Rattle.key_laws.specs.Primary.{IsGood, IsLedTo, IsOwned, Primary, seen_at, stored_by}
 use Rattle.key_laws.specs.PrimaryLaws.{AbortsKeepValue, CommitsKeepValue, CompletionsKeepValue, DecisionsAreRight, IsDecidedRightly, OperationsKeepValue}
-use Rattle.key_laws.specs.Records.{AreOnce, as_committed, committed_row, edited, found, is_kept, kept_row, seen_by}
+use Rattle.key_laws.specs.Records.{AreOnce, as_committed, committed, committed_row, edited, found, is_kept, kept_row, seen_by}
 use Rattle.sig_core.proofs.Keys.{same_tx-self}
 use Rattle.key_laws.proofs.Holding.{holds_so, only_holder}
 use Rattle.key_laws.proofs.RecordLemmas.{OnlyOf, each-edited, each_found, kept_row-aborted, kept_row-committed, kept_row-completed, kept_row-one, kept_row-others, kept_row-stored, kept_row-unkept}
@@ -64,7 +64,7 @@ all_committed tx xs once only =
     others r apart (inr is) = absurd (let both : true ≡ false = sym (same_tx-self tx) ∙ (ap (λ t. same_tx t tx) (sym is) ∙ apart) in cc)
 
     own : (r x : PendingRecord) → same_tx r.tx tx ≡ true → as_committed r ≡ Some x → (r.committed ≡ true) ⊎ (r.tx ≡ tx) → x.committed ≡ true
-    own r x same is before = let now : rows.committed r ≡ x = cc in sym (ap (λ (r : PendingRecord). r.committed) now)
+    own r x same is before = let now : committed r ≡ x = cc in sym (ap (λ (r : PendingRecord). r.committed) now)
 
 -- a commit of a transaction with nothing to commit edits nothing that is kept
 pub edited_value : (kept : TxId → Bool) (row : Option (List ℕ)) (tx : TxId) (xs : List PendingRecord) → ((r : PendingRecord) → found tx xs ≡ Some r → r.committed ≡ true)
@@ -72,11 +72,11 @@ pub edited_value : (kept : TxId → Bool) (row : Option (List ℕ)) (tx : TxId) 
 edited_value kept row tx [] done = refl
 edited_value kept row tx (r ∷ rest) done = by (same_tx r.tx tx) refl (λ more. edited_value kept row tx rest more)
   where
-    same_record : r.committed ≡ true → rows.committed r ≡ r
-    same_record is = λ i. record { tx = r.tx; key = r.key; image = r.image; committed = sym is i }
+    same_record : r.committed ≡ true → committed r ≡ r
+    same_record is = λ i. record { tx = r.tx; key = r.key; image = r.image; committed = sym is i; epoch = r.epoch }
 
     by : (b : Bool) → same_tx r.tx tx ≡ b → (((x : PendingRecord) → found tx rest ≡ Some x → x.committed ≡ true) → kept_row kept row (edited as_committed tx rest) ≡ kept_row kept row rest)
-        → kept_row kept row (if b then rows.committed r ∷ rest else r ∷ edited as_committed tx rest) ≡ kept_row kept row (r ∷ rest)
+        → kept_row kept row (if b then committed r ∷ rest else r ∷ edited as_committed tx rest) ≡ kept_row kept row (r ∷ rest)
     by true e more = ap (λ x. kept_row kept row (x ∷ rest)) (same_record (done r (ap (λ b. if b then Some r else found tx rest) e)))
     by false e more =
         ap (λ w. if is_kept kept r then r.image else w) (more (λ x is. done x (ap (λ b. if b then Some r else found tx rest) e ∙ is)))

@@ -5,11 +5,10 @@ use Rattle.run_theory.specs.Lists.{Each}
 use Rattle.run_theory.proofs.Pasts.{each_map}
 use Rattle.sig_core.specs.declared.member.TxId.{TxId}
 use Rattle.sig_core.specs.declared.rows.PendingRecord.{PendingRecord}
-use Rattle.sig_core.specs.Rows.{committed}
 use Rattle.sig_core.specs.Same.{same_tx}
 use Rattle.sig_core.proofs.TxLemmas.{same_tx-is, same_tx-swap}
 use Rattle.sig_core.proofs.Keys.{same_tx-self}
-use Rattle.key_laws.specs.Records.{AreOnce, as_committed, edited, found, if_committed, is_kept, kept_row, put_back, stored, unless_committed}
+use Rattle.key_laws.specs.Records.{AreOnce, as_committed, committed, edited, found, if_committed, is_kept, kept_row, put_back, stored, unless_committed}
 
 -- an edit leaves the record to its transaction
 abbrev pub KeepsTx : (PendingRecord → Option PendingRecord) → Type 0

@@ -1,8 +1,7 @@
 -- The records of transactions on one key, the oldest first, and the row beside them.
-use Rattle.std.specs.Prelude.{◌≡◌, ◌&&◌, not, if◌then◌else◌, ℕ, Bool, List, [], ◌∷◌, Option, None, Some}
+use Rattle.std.specs.Prelude.{◌≡◌, ◌&&◌, not, true, if◌then◌else◌, ℕ, Bool, List, [], ◌∷◌, Option, None, Some}
 use Rattle.sig_core.specs.declared.member.TxId.{TxId}
 use Rattle.sig_core.specs.declared.rows.PendingRecord.{PendingRecord}
-use Rattle.sig_core.specs.Rows.{committed}
 use Rattle.sig_core.specs.Same.{same_tx}
 
 -- the transaction's record
@@ -33,6 +32,14 @@ put_back (Some r) rest = r ∷ rest
 abbrev pub edited : (PendingRecord → Option PendingRecord) → TxId → List PendingRecord → List PendingRecord
 edited f tx [] = []
 edited f tx (r ∷ rest) = if same_tx r.tx tx then put_back (f r) rest else r ∷ edited f tx rest
+
+-- the record, but for its epoch
+abbrev pub without_epoch : PendingRecord → PendingRecord
+without_epoch r = record { tx = r.tx; key = r.key; image = r.image; committed = r.committed; epoch = 0 }
+
+-- the record is committed, whatever its epoch is
+abbrev pub committed : PendingRecord → PendingRecord
+committed r = record { tx = r.tx; key = r.key; image = r.image; committed = true; epoch = r.epoch }
 
 -- a commit makes a record committed, an abort drops one that isn't, and a completion one that is
 abbrev pub as_committed : PendingRecord → Option PendingRecord

@@ -113,11 +113,11 @@ count-some pending at r q is of =
     itself = same_key-self q
 
 -- a record becomes committed
-pub count-commit : (pending : List PendingRecord) (at : ℕ) (r : PendingRecord) (q : List ℕ)
+pub count-commit : (pending : List PendingRecord) (at epoch : ℕ) (r : PendingRecord) (q : List ℕ)
     → slice_get pending at ≡ Some r
-    → count_by (is_on q) (committed_at pending at (slice_get pending at)) ≡ count_by (is_on q) pending
-count-commit pending at r q is = ap (λ o. count_by (is_on q) (committed_at pending at o)) is
-    ∙ count-set pending at r (committed r) q is refl
+    → count_by (is_on q) (committed_at pending at epoch (slice_get pending at)) ≡ count_by (is_on q) pending
+count-commit pending at epoch r q is = ap (λ o. count_by (is_on q) (committed_at pending at epoch o)) is
+    ∙ count-set pending at r (committed r epoch) q is refl
 
 -- a record of a key that has one takes its place: the number of records stays, and it isn't 0
 module _ (pending : List PendingRecord) (tx : TxId) (key : List ℕ) (image : Option (List ℕ))

@@ -123,16 +123,16 @@ abort_fits s j tx key is had =
     omega (arith, is.kept, within_due s.pending has.at has.r has.there, has.due_is, size_of-Abort tx key)
 
 pub covered_commit : (s : RowsState) (j : JournalState) (tx : TxId) (key : List ℕ) (epoch : ℕ) → IsCovered s j → record_state s tx key ≡ Some false
-    → IsCovered (commit_record s tx key) (appending j (size_of (redo.Commit tx epoch key)))
+    → IsCovered (commit_record s tx key epoch) (appending j (size_of (redo.Commit tx epoch key)))
 unfolding commit_record record_of
 covered_commit s j tx key epoch is had =
     let has = has_prepared s tx key had in
     let after = appending j (size_of (redo.Commit tx epoch key)) in
-    let P : Option ℕ → Type 0 = λ o. IsCovered (commit_by s o (get_at s.pending o)) after in
-    let Q : Option PendingRecord → Type 0 = λ o. IsCovered (commit_by s (Some has.at) o) after in
-    let B : Bool → Type 0 = λ b. IsCovered (commit_if s has.at has.r b) after in
+    let P : Option ℕ → Type 0 = λ o. IsCovered (commit_by s epoch o (get_at s.pending o)) after in
+    let Q : Option PendingRecord → Type 0 = λ o. IsCovered (commit_by s epoch (Some has.at) o) after in
+    let B : Bool → Type 0 = λ b. IsCovered (commit_if s has.at has.r epoch b) after in
     subst P (sym has.placed) (subst Q (sym has.there) (subst B (sym has.open_yet)
-    (record { kept = omega (arith, is.kept, due_of-set s.pending has.at has.r (committed has.r) has.there, has.due_is, size_of-Commit tx epoch key) })))
+    (record { kept = omega (arith, is.kept, due_of-set s.pending has.at has.r (committed has.r epoch) has.there, has.due_is, size_of-Commit tx epoch key) })))
 
 pub covered_abort : (s : RowsState) (j : JournalState) (tx : TxId) (key : List ℕ) → IsCovered s j → record_state s tx key ≡ Some false
     → IsCovered (abort_record s tx key) (unreserving (appending j (size_of (redo.Abort tx key))) 8)

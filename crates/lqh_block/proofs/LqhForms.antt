@@ -290,7 +290,7 @@ module _ (Q : Step LqhState → Type 0) (s : LqhState) where
       by (Some true) there = told (Some true) (storage_of s) s.markers (record { had_is = there; is = refl })
           (at == 0) refl
       by (Some false) there =
-          told (Some false) (storage.committed_in (storage_of s) tx key epoch) (commit.marked s.markers tx key)
+          told (Some false) (storage.committed_in (storage_of s) tx key epoch) (commit.marked s.markers tx key epoch)
           (record { had_is = there; is = refl }) (at == 0) refl
 
   pub complete_forms : (tx : TxId) (key : List ℕ) (chain : List Member) (at : ℕ) → CompleteForms Q s tx key chain at

@@ -171,20 +171,20 @@ module _ {S : Type 0} (places : List (Option Slot)) (index : HashMap (List ℕ) 
       by q false = refl
 
 -- a place whose row changes keeps its key
-keys_in-set : (places : List (Option Slot)) (key : List ℕ) (row : Option (List ℕ)) (at : ℕ) → seek (keys_in places) key ≡ Some at
-    → keys_in (slice_set places at (Some (with_row key row))) ≡ keys_in places
-keys_in-set [] key row at there = cc
-keys_in-set (None ∷ places) key row at there =
+keys_in-set : (places : List (Option Slot)) (key : List ℕ) (row : Option (List ℕ)) (epoch at : ℕ) → seek (keys_in places) key ≡ Some at
+    → keys_in (slice_set places at (Some (with_row key row epoch))) ≡ keys_in places
+keys_in-set [] key row epoch at there = cc
+keys_in-set (None ∷ places) key row epoch at there =
     let behind = found_behind (seek (keys_in places) key) at there in
-    let P : ℕ → Type 0 = λ n. keys_in (slice_set (None ∷ places) n (Some (with_row key row))) ≡ keys_in (None ∷ places) in
-    subst P (sym behind.next) (ap (λ keys. None ∷ keys) (keys_in-set places key row behind.place behind.found))
-keys_in-set (Some slot ∷ places) key row at there = here (same_key slot.key key) refl there (keys_in-set places key row)
+    let P : ℕ → Type 0 = λ n. keys_in (slice_set (None ∷ places) n (Some (with_row key row epoch))) ≡ keys_in (None ∷ places) in
+    subst P (sym behind.next) (ap (λ keys. None ∷ keys) (keys_in-set places key row epoch behind.place behind.found))
+keys_in-set (Some slot ∷ places) key row epoch at there = here (same_key slot.key key) refl there (keys_in-set places key row epoch)
   where
     P : ℕ → Type 0
-    P n = keys_in (slice_set (Some slot ∷ places) n (Some (with_row key row))) ≡ keys_in (Some slot ∷ places)
+    P n = keys_in (slice_set (Some slot ∷ places) n (Some (with_row key row epoch))) ≡ keys_in (Some slot ∷ places)
 
     here : (b : Bool) → same_key slot.key key ≡ b → seek_by b (seek (keys_in places) key) ≡ Some at
-        → ((m : ℕ) → seek (keys_in places) key ≡ Some m → keys_in (slice_set places m (Some (with_row key row))) ≡ keys_in places)
+        → ((m : ℕ) → seek (keys_in places) key ≡ Some m → keys_in (slice_set places m (Some (with_row key row epoch))) ≡ keys_in places)
         → P at
     here true e there further =
         let place : 0 ≡ at = cc in
@@ -204,17 +204,17 @@ place_within places key at there =
     )
 
 -- the place of a key is taken by it
-pub rewritten-at : (places : List (Option Slot)) (key : List ℕ) (row : Option (List ℕ)) (at : ℕ) (slot : Option Slot)
+pub rewritten-at : (places : List (Option Slot)) (key : List ℕ) (row : Option (List ℕ)) (epoch at : ℕ) (slot : Option Slot)
     → place_of places key ≡ Some at
-    → slice_get places at ≡ Some slot → rewritten slot row ≡ Some (with_row key row)
-rewritten-at places key row at slot there is =
+    → slice_get places at ≡ Some slot → rewritten slot row epoch ≡ Some (with_row key row epoch)
+rewritten-at places key row epoch at slot there is =
     here places at slot (sym (place_of-keys_in places key) ∙ there) is
   where
-    taken_by : (s : Slot) → same_key s.key key ≡ true → rewritten (Some s) row ≡ Some (with_row key row)
-    taken_by s e = ap (λ k. Some (with_row k row)) (same s.key key e)
+    taken_by : (s : Slot) → same_key s.key key ≡ true → rewritten (Some s) row epoch ≡ Some (with_row key row epoch)
+    taken_by s e = ap (λ k. Some (with_row k row epoch)) (same s.key key e)
 
     here : (ps : List (Option Slot)) (n : ℕ) (one : Option Slot) → seek (keys_in ps) key ≡ Some n
-        → slice_get ps n ≡ Some one → rewritten one row ≡ Some (with_row key row)
+        → slice_get ps n ≡ Some one → rewritten one row epoch ≡ Some (with_row key row epoch)
     here [] n one there is = cc
     here (None ∷ ps) n one there is =
         let behind = found_behind (seek (keys_in ps) key) n there in
@@ -224,28 +224,28 @@ rewritten-at places key row at slot there is =
         by : (b : Bool) → same_key s.key key ≡ b → seek_by b (seek (keys_in ps) key) ≡ Some n
             → slice_get (Some s ∷ ps) n ≡ Some one
             → ((m : ℕ) (other : Option Slot) → seek (keys_in ps) key ≡ Some m → slice_get ps m ≡ Some other
-            → rewritten other row ≡ Some (with_row key row))
-            → rewritten one row ≡ Some (with_row key row)
+            → rewritten other row epoch ≡ Some (with_row key row epoch))
+            → rewritten one row epoch ≡ Some (with_row key row epoch)
         by true e there is further =
             let place : 0 ≡ n = cc in
             let first : Some (Some s) ≡ Some one = ap (slice_get (Some s ∷ ps)) place ∙ is in
             let item : Some s ≡ one = cc in
-            ap (λ o. rewritten o row) (sym item) ∙ taken_by s e
+            ap (λ o. rewritten o row epoch) (sym item) ∙ taken_by s e
         by false e there is further =
             let behind = found_behind (seek (keys_in ps) key) n there in
             further behind.place one behind.found (sym (ap (slice_get (Some s ∷ ps)) behind.next) ∙ is)
 
-pub row_written : (places : List (Option Slot)) (key : List ℕ) (row : Option (List ℕ)) (at : ℕ)
+pub row_written : (places : List (Option Slot)) (key : List ℕ) (row : Option (List ℕ)) (epoch at : ℕ)
     (slot after : Option Slot) → place_of places key ≡ Some at
-    → slot ≡ slice_index_or places at slot → after ≡ rewritten slot row → after ≡ Some (with_row key row)
-row_written places key row at slot after there is e =
-    e ∙ rewritten-at places key row at slot there (slice_get_read places (length places) at slot refl
+    → slot ≡ slice_index_or places at slot → after ≡ rewritten slot row epoch → after ≡ Some (with_row key row epoch)
+row_written places key row epoch at slot after there is e =
+    e ∙ rewritten-at places key row epoch at slot there (slice_get_read places (length places) at slot refl
     (place_within places key at there) is)
 
-pub row_kept : (places : List (Option Slot)) (key : List ℕ) (row : Option (List ℕ)) (at : ℕ)
+pub row_kept : (places : List (Option Slot)) (key : List ℕ) (row : Option (List ℕ)) (epoch at : ℕ)
     → place_of places key ≡ Some at
-    → keys_in (slice_set places at (Some (with_row key row))) ≡ keys_in places
-row_kept places key row at there = keys_in-set places key row at (sym (place_of-keys_in places key) ∙ there)
+    → keys_in (slice_set places at (Some (with_row key row epoch))) ≡ keys_in places
+row_kept places key row epoch at there = keys_in-set places key row epoch at (sym (place_of-keys_in places key) ∙ there)
 
 -- how many records are on each key, where an entry of the index is made or changes
 module _ {S : Type 0} (index after : HashMap (List ℕ) KeyEntry S) (key : List ℕ) (entry : KeyEntry)

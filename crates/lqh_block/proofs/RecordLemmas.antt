@@ -70,7 +70,7 @@ entry_record (entry ∷ entries) tx key (suc at) id version is of = entry_record
 -- a version that is put in is the record's
 pub put_record : (entries : List (RecordId × Version)) (tx : TxId) (key : List ℕ) (image : Option (List ℕ))
     (version : Version)
-    → version ≡ record { image = image; committed = false }
+    → version ≡ record { image = image; committed = false; epoch = 0 }
     → map record_in (insert_entry same_id entries (id_of tx key) version)
     ≡ recorded_by (map record_in entries) (prepared tx key image) (record_at (map record_in entries) tx key)
 put_record [] tx key image version is = ap (λ v. record_by tx key v ∷ []) is
@@ -106,23 +106,23 @@ lookup-position (entry ∷ entries) test = by (test entry.0) (position test (key
     by false None more = more
     by false (Some at) more = more
 
-pub set_committed : (entries : List (RecordId × Version)) (at : ℕ) (before after : Version)
+pub set_committed : (entries : List (RecordId × Version)) (at epoch : ℕ) (before after : Version)
     → slice_get (values_of entries) at ≡ Some before
-    → after ≡ record { image = before.image; committed = true }
-    → map record_in (set_value_at entries at after) ≡ committed_at (map record_in entries) at
+    → after ≡ record { image = before.image; committed = true; epoch = epoch }
+    → map record_in (set_value_at entries at after) ≡ committed_at (map record_in entries) at epoch
     (slice_get (map record_in entries) at)
-set_committed [] at before after is of = cc
-set_committed (entry ∷ entries) zero before after is of =
+set_committed [] at epoch before after is of = cc
+set_committed (entry ∷ entries) zero epoch before after is of =
     let one : entry.1 ≡ before = cc in
     ap (λ v. record_in (entry.0, v) ∷ map record_in entries) of
-    ∙ ap (λ v. record { tx = entry.0.tx; key = entry.0.key; image = v.image; committed = true } ∷ map record_in entries)
+    ∙ ap (λ v. record { tx = entry.0.tx; key = entry.0.key; image = v.image; committed = true; epoch = epoch } ∷ map record_in entries)
     (sym one)
-set_committed (entry ∷ entries) (suc at) before after is of =
-    ap (λ w. record_in entry ∷ w) (set_committed entries at before after is of)
+set_committed (entry ∷ entries) (suc at) epoch before after is of =
+    ap (λ w. record_in entry ∷ w) (set_committed entries at epoch before after is of)
     ∙ behind (slice_get (map record_in entries) at)
   where
-    behind : (o : Option PendingRecord) → record_in entry ∷ committed_at (map record_in entries) at o
-        ≡ committed_at (record_in entry ∷ map record_in entries) (suc at) o
+    behind : (o : Option PendingRecord) → record_in entry ∷ committed_at (map record_in entries) at epoch o
+        ≡ committed_at (record_in entry ∷ map record_in entries) (suc at) epoch o
     behind None = refl
     behind (Some r) = refl
 

@@ -26,21 +26,22 @@ module _ (s : RowsState) (tx : TxId) (key : List ℕ) (at : ℕ) (version : Vers
   unfolding record_of
   found_record = ap (get_at s.pending) (sym place) ∙ is
 
-  commit_if_found : commit_record s tx key ≡ commit_if s at (record_by tx key version) version.committed
+  commit_if_found : (epoch : ℕ) → commit_record s tx key epoch ≡ commit_if s at (record_by tx key version) epoch version.committed
   unfolding commit_record
-  commit_if_found = ap (λ o. commit_by s o (record_of s tx key)) (sym place) ∙ ap (commit_by s (Some at)) found_record
+  commit_if_found epoch = ap (λ o. commit_by s epoch o (record_of s tx key)) (sym place)
+      ∙ ap (commit_by s epoch (Some at)) found_record
 
   -- a record that is found is committed, or was so before
-  pub commit_found : (places : List (Option Slot)) (pending : List PendingRecord) → version.committed ≡ false
-      → places ≡ set_row s.places key version.image
-      → pending ≡ committed_at s.pending at (slice_get s.pending at)
-      → ◌≡◌ {A = RowsState} (record { places = places; pending = pending }) (commit_record s tx key)
-  commit_found places pending prior rows records =
-      (λ i. record { places = rows i; pending = (records ∙ ap (committed_at s.pending at) is) i })
-      ∙ sym (ap (commit_if s at (record_by tx key version)) prior) ∙ sym commit_if_found
+  pub commit_found : (places : List (Option Slot)) (pending : List PendingRecord) (epoch : ℕ) → version.committed ≡ false
+      → places ≡ set_row s.places key version.image epoch
+      → pending ≡ committed_at s.pending at epoch (slice_get s.pending at)
+      → ◌≡◌ {A = RowsState} (record { places = places; pending = pending }) (commit_record s tx key epoch)
+  commit_found places pending epoch prior rows records =
+      (λ i. record { places = rows i; pending = (records ∙ ap (committed_at s.pending at epoch) is) i })
+      ∙ sym (ap (commit_if s at (record_by tx key version) epoch) prior) ∙ sym (commit_if_found epoch)
 
-  pub commit_kept : version.committed ≡ true → s ≡ commit_record s tx key
-  commit_kept done = sym (commit_if_found ∙ ap (commit_if s at (record_by tx key version)) done)
+  pub commit_kept : (epoch : ℕ) → version.committed ≡ true → s ≡ commit_record s tx key epoch
+  commit_kept epoch done = sym (commit_if_found epoch ∙ ap (commit_if s at (record_by tx key version) epoch) done)
 
   drop_if_found : (done : Bool) → drop_by s done (record_at s.pending tx key) (record_of s tx key)
       ≡ drop_if s at (record_by tx key version) (is_as done version.committed)

@@ -16,8 +16,9 @@ use Rattle.lqh_block.specs.declared.request.Marker.{Marker}
 use Rattle.lqh_block.specs.State.{LqhState, freed_lock, serve_granted, storage_of, unlocked, with_markers, with_storage}
 use Rattle.lqh_block.specs.Storage.{committed_in}
 
-abbrev pub marker_of : TxId → List ℕ → Marker
-marker_of tx key = record { tx = tx; key = key }
+-- the marker of a commit, with its epoch
+abbrev pub marker_of : TxId → List ℕ → ℕ → Marker
+marker_of tx key epoch = record { tx = tx; key = key; epoch = epoch }
 
 -- the marker is the transaction's on this key
 abbrev pub is_marker : TxId → List ℕ → Marker → Bool
@@ -28,13 +29,13 @@ marked_if markers marker true = markers
 marked_if markers marker false = markers ++ marker ∷ []
 
 -- the commit is marked, behind the others unless it is so already
-abbrev pub marked : List Marker → TxId → List ℕ → List Marker
-marked markers tx key = marked_if markers (marker_of tx key) (list_any (is_marker tx key) markers)
+abbrev pub marked : List Marker → TxId → List ℕ → ℕ → List Marker
+marked markers tx key epoch = marked_if markers (marker_of tx key epoch) (list_any (is_marker tx key) markers)
 
 -- a prepared record is committed and marked; where there is none nothing is
 abbrev pub applied : LqhState → TxId → List ℕ → ℕ → Option Bool → LqhState
 applied s tx key epoch (Some false) =
-    with_markers (with_storage s (committed_in (storage_of s) tx key epoch)) (marked s.markers tx key)
+    with_markers (with_storage s (committed_in (storage_of s) tx key epoch)) (marked s.markers tx key epoch)
 applied s tx key epoch _ = s
 
 -- the primary is marked as having committed the row, where the transaction has a record

@@ -53,7 +53,7 @@ records_on index key = records_in (lookup (pointwise nat_eq key) index)
 abbrev pub IsPlaced : PlacesState → Type 0
 IsPlaced p = (q : List ℕ) → 0 < records_on p.index q → is_some (place_of p.slots q) ≡ true
 
--- a place that is taken has this row
-abbrev pub rewritten : Option Slot → Option (List ℕ) → Option Slot
-rewritten None row = None
-rewritten (Some slot) row = Some (with_row slot.key row)
+-- a place that is taken has this row, of this epoch
+abbrev pub rewritten : Option Slot → Option (List ℕ) → ℕ → Option Slot
+rewritten None row epoch = None
+rewritten (Some slot) row epoch = Some (with_row slot.key row epoch)

@@ -9,7 +9,7 @@ use Rattle.lqh_block.specs.declared.record_id.Version.{Version}
 
 -- a transaction's record on a key
 abbrev pub record_by : TxId → List ℕ → Version → PendingRecord
-record_by tx key version = record { tx = tx; key = key; image = version.image; committed = version.committed }
+record_by tx key version = record { tx = tx; key = key; image = version.image; committed = version.committed; epoch = version.epoch }
 
 abbrev pub record_in : RecordId × Version → PendingRecord
 record_in entry = record_by entry.0.tx entry.0.key entry.1
@@ -22,7 +22,7 @@ pub record RecordsState : Type 0 where
 abbrev pub records_state : {S : Type 0} → HashMap RecordId Version S → RecordsState
 records_state entries = record { pending = map record_in entries.entries; roomy = nat_lt 0 (spare entries) }
 
--- the image of a record at a place is the row
-abbrev pub committed_at : List PendingRecord → ℕ → Option PendingRecord → List PendingRecord
-committed_at pending at None = pending
-committed_at pending at (Some r) = slice_set pending at (committed r)
+-- the image of a record at a place is the row, since this epoch
+abbrev pub committed_at : List PendingRecord → ℕ → ℕ → Option PendingRecord → List PendingRecord
+committed_at pending at epoch None = pending
+committed_at pending at epoch (Some r) = slice_set pending at (committed r epoch)

@@ -112,7 +112,7 @@ perform s r = perform_by s r.tx r.chain r.at r.work
 
 -- the transaction's prepared image of the row is committed, and the journal told so in the bytes that it kept free for that
 unfoldable pub committed_in : StorageState → TxId → List ℕ → ℕ → StorageState
-committed_in s tx key epoch = storage (commit_record s.rows tx key) (appending s.journal (size_of (redo.Commit tx epoch key)))
+committed_in s tx key epoch = storage (commit_record s.rows tx key epoch) (appending s.journal (size_of (redo.Commit tx epoch key)))
 
 -- the transaction's prepared image of the row is given up, and the journal told so in those bytes, of which eight are left over
 unfoldable pub aborted_in : StorageState → TxId → List ℕ → StorageState

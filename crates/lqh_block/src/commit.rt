@@ -52,7 +52,7 @@ impl<R: Rows, J: Journal> Lqh<R, J> {
         match had {
             Some(false) => {
                 self.storage.commit(tx, key, epoch);
-                mark(&mut self.markers, tx, key);
+                mark(&mut self.markers, tx, key, epoch);
             }
             Some(true) | None => {}
         }
@@ -127,13 +127,18 @@ fn tell_completion(tx: TxId, key: &Key, chain: &Members, at: u8, out: &mut Outs)
     }
 }
 
-// Marks a commit behind the others, unless it is marked already. Takes no memory.
-fn mark(markers: &mut Vec<Marker>, tx: TxId, key: &Key)
+// Marks a commit, with its epoch, behind the others, unless it is marked already. Takes no memory.
+fn mark(markers: &mut Vec<Marker>, tx: TxId, key: &Key, epoch: u64)
     requires { length markers.old.items < vec_capacity markers.old }
-    ensures { markers.new.items ≡ marked markers.old.items tx key.now }
+    ensures { markers.new.items ≡ marked markers.old.items tx key.now epoch }
 {
     if !is_marked(markers, tx, key) {
-        markers.push_reserved(Marker { tx, key: *key });
+        let marker = Marker {
+            tx,
+            key: *key,
+            epoch,
+        };
+        markers.push_reserved(marker);
     }
 }
 

@@ -5,10 +5,12 @@ ghost use Rattle.lqh_block.specs.MapRows.{IsCounted};
 ghost use Rattle.lqh_block.specs.Places.{IsPlaced};
 ghost use Rattle.lqh_block.specs.Records.{record_by};
 
-use crate::places::{Places, has_row};
+use crate::places::{Places, epoch_in, has_row};
 use crate::record_id::Version;
 use crate::records::Records;
-use sig_core::{Answer, Key, NoMemory, Op, PLACES, Rows, RowsFault, Slot, TxId, Value};
+use sig_core::{
+    Answer, Key, NoMemory, Op, PLACES, PendingRecord, Rows, RowsFault, Slot, TxId, Value,
+};
 use std::alloc::Global;
 use std::marker::Model;
 
@@ -126,21 +128,21 @@ impl Rows for MapRows {
         Ok(())
     }
 
-    fn put_row(&mut self, key: &Key, value: &Value) -> Result<(), NoMemory> {
+    fn put_row(&mut self, key: &Key, value: &Value, epoch: u64) -> Result<(), NoMemory> {
         self.places.reserve()?;
         self.places.claim(key);
-        self.places.set_row(key, &Some(*value));
+        self.places.set_row(key, &Some(*value), epoch);
         Ok(())
     }
 
     #[tactic(auto, unfolding(sig_core::specs::Rows::commit_record))]
-    fn commit(&mut self, tx: TxId, key: &Key, _epoch: u64) {
+    fn commit(&mut self, tx: TxId, key: &Key, epoch: u64) {
         let Some((at, version)) = self.records.find(tx, key) else {
             return;
         };
         if !version.committed {
-            self.places.set_row(key, &version.image);
-            self.records.commit(at);
+            self.places.set_row(key, &version.image, epoch);
+            self.records.commit(at, epoch);
         }
     }
 
@@ -165,6 +167,25 @@ impl Rows for MapRows {
         }
     }
 
+    #[tactic(auto, unfolding(sig_core::specs::Rows::row_epoch))]
+    fn row_epoch(&self, key: &Key) -> Option<u64> {
+        match self.places.place_of(key) {
+            Some(at) => match self.places.as_slice().get(at) {
+                Some(slot) => epoch_in(slot),
+                None => None,
+            },
+            None => None,
+        }
+    }
+
+    fn records(&self) -> usize {
+        self.records.len()
+    }
+
+    fn record_at(&self, at: usize) -> Option<PendingRecord> {
+        self.records.get(at)
+    }
+
     #[tactic(auto, unfolding(sig_core::specs::Rows::next_place))]
     fn place_from(&self, at: u64) -> Option<u64> {
         let from = at as usize;
@@ -184,6 +205,7 @@ impl Rows for MapRows {
                 Slot {
                     key,
                     row: Some(value),
+                    epoch: _,
                 },
             ) => (key, value),
             _ => unreachable!(),

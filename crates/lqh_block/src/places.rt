@@ -2,7 +2,7 @@
 ghost use Rattle.std.specs.Prelude.{◌≡◌, ◌<◌, IsOk, List, OnOk, [], cond, is_some, length, nat_eq, ℕ, None, Some, true, slice_set, ◌+◌, ◌^◌};
 ghost use Rattle.std.specs.Vec.{vec_capacity};
 ghost use Rattle.std.specs.BinaryHeap.{heap_capacity};
-ghost use Rattle.sig_core.specs.Rows.{freed_by, has_row, no_row, place_of, placed, set_row, with_place};
+ghost use Rattle.sig_core.specs.Rows.{epoch_in, freed_by, has_row, kept_epoch, no_row, place_of, placed, set_row, with_place};
 ghost use Rattle.sig_core.specs.Same.{same_key};
 ghost use Rattle.lqh_block.specs.Free.{HoldsFree, free_at};
 ghost use Rattle.lqh_block.specs.Index.{first_free, keys_in};
@@ -134,6 +134,7 @@ impl Places {
         let slot = Slot {
             key: *key,
             row: None,
+            epoch: 0,
         };
         let place = put_slot(&mut self.slots, &mut self.free, slot);
         match self.index.insert(*key, KeyEntry { place, records }) {
@@ -142,14 +143,14 @@ impl Places {
         }
     }
 
-    /// Makes this the committed row of the key, or none. A key without a place changes nothing.
-
-    pub fn set_row(&mut self, key: &Key, row: &Option<Value>)
-        ensures slots { self.new.slots ≡ set_row self.old.slots key.now row.now }
+    /// Makes this the committed row of the key, of this epoch, or none. A key without a place changes
+    /// nothing.
+    pub fn set_row(&mut self, key: &Key, row: &Option<Value>, epoch: u64)
+        ensures slots { self.new.slots ≡ set_row self.old.slots key.now row.now epoch }
         ensures index { self.new.index ≡ self.old.index }
     {
         if let Some(at) = self.place_of(key) {
-            rewrite(&mut self.slots[at], row);
+            rewrite(&mut self.slots[at], row, epoch);
         }
     }
 
@@ -216,13 +217,31 @@ pub fn has_row(slot: &Option<Slot>) -> bool
     }
 }
 
-// Makes this the row of a place that is taken.
-fn rewrite(slot: &mut Option<Slot>, row: &Option<Value>)
-    ensures { slot.new ≡ rewritten slot.old row.now }
+/// The epoch of the row of the place, if it has one.
+pub fn epoch_in(slot: &Option<Slot>) -> Option<u64>
+    ensures { result ≡ epoch_in slot.now }
+{
+    match slot {
+        Some(slot) if slot.row.is_some() => Some(slot.epoch),
+        _ => None,
+    }
+}
+
+// Makes this the row of a place that is taken, of this epoch.
+fn rewrite(slot: &mut Option<Slot>, row: &Option<Value>, epoch: u64)
+    ensures { slot.new ≡ rewritten slot.old row.now epoch }
 {
     if let Some(slot) = slot {
         slot.row = *row;
+        slot.epoch = kept_epoch(row, epoch);
     }
+}
+
+// The epoch that is kept of a row: 0 where it is none.
+fn kept_epoch(row: &Option<Value>, epoch: u64) -> u64
+    ensures { result ≡ kept_epoch row.now epoch }
+{
+    if row.is_some() { epoch } else { 0 }
 }
 
 // Puts a slot at the least free place, and answers which that is.

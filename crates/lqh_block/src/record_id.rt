@@ -16,4 +16,6 @@ pub struct Version {
     pub image: Option<Value>,
     /// The image is the row.
     pub committed: bool,
+    /// That of the commit, 0 before.
+    pub epoch: u64,
 }

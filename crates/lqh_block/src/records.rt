@@ -5,7 +5,7 @@ ghost use Rattle.lqh_block.specs.Records.{committed_at, record_by};
 
 use crate::record_id::{RecordId, Version};
 use indexmap::IndexMap;
-use sig_core::{Key, NoMemory, TxId, Value};
+use sig_core::{Key, NoMemory, PendingRecord, TxId, Value};
 use std::alloc::Global;
 use std::marker::Model;
 
@@ -70,6 +70,7 @@ impl Records {
         let version = Version {
             image: *image,
             committed: false,
+            epoch: 0,
         };
         let count = self.entries.len();
         match self.entries.insert(RecordId { tx, key: *key }, version) {
@@ -78,12 +79,35 @@ impl Records {
         }
     }
 
-    /// The image of the record at a place is the row.
-    pub fn commit(&mut self, at: usize)
+    /// The image of the record at a place is the row, since this epoch.
+    pub fn commit(&mut self, at: usize, epoch: u64)
         requires { at < length self.old.pending }
-        ensures { self.new.pending ≡ committed_at self.old.pending at (slice_get self.old.pending at) }
+        ensures { self.new.pending ≡ committed_at self.old.pending at epoch (slice_get self.old.pending at) }
     {
-        self.entries[at].committed = true;
+        let version = &mut self.entries[at];
+        version.committed = true;
+        version.epoch = epoch;
+    }
+
+    /// How many there are.
+    pub fn len(&self) -> usize
+        ensures { result ≡ length self.now.pending }
+    {
+        self.entries.len()
+    }
+
+    /// The record at a place, from 0, if there is one.
+    pub fn get(&self, at: usize) -> Option<PendingRecord>
+        ensures { result ≡ slice_get self.now.pending at }
+    {
+        let (id, version) = self.entries.get_index(at)?;
+        Some(PendingRecord {
+            tx: id.tx,
+            key: id.key,
+            image: version.image,
+            committed: version.committed,
+            epoch: version.epoch,
+        })
     }
 
     /// Takes the record at a place out. Takes no memory.

@@ -32,4 +32,6 @@ impl Request {
 pub struct Marker {
     pub tx: TxId,
     pub key: Key,
+    /// The epoch of the commit.
+    pub epoch: u64,
 }

@@ -10,32 +10,37 @@ use Rattle.lqh_block.specs.Due.{IsCovered, due_of}
 use Rattle.node_core.specs.Fresh.{own_rows, with_rows}
 
 -- the group's part of one row, and then of others
-own_more : (shape : Shape) (node : ℕ) (s : RowsState) (row : List ℕ × List ℕ) (rows : List (List ℕ × List ℕ))
-    → with_rows (with_rows s (own_rows shape node (row ∷ []))) (own_rows shape node rows) ≡ with_rows s (own_rows shape node (row ∷ rows))
-own_more shape node s row rows = go (holds shape node row.0)
+own_more : (shape : Shape) (node : ℕ) (s : RowsState) (row : List ℕ × List ℕ) (rows : List (List ℕ × List ℕ)) (epoch : ℕ)
+    → with_rows (with_rows s (own_rows shape node (row ∷ [])) epoch) (own_rows shape node rows) epoch
+    ≡ with_rows s (own_rows shape node (row ∷ rows)) epoch
+own_more shape node s row rows epoch = go (holds shape node row.0)
   where
-    go : (b : Bool) → with_rows (with_rows s (if b then row ∷ [] else [])) (own_rows shape node rows)
-        ≡ with_rows s (if b then row ∷ own_rows shape node rows else own_rows shape node rows)
+    go : (b : Bool) → with_rows (with_rows s (if b then row ∷ [] else []) epoch) (own_rows shape node rows) epoch
+        ≡ with_rows s (if b then row ∷ own_rows shape node rows else own_rows shape node rows) epoch
     go true = refl
     go false = refl
 
 -- one row more, and those behind it
-pub row_put : (shape : Shape) (node : ℕ) (before after all : RowsState) (rows : List (List ℕ × List ℕ)) (i : ℕ) (row : List ℕ × List ℕ) → i < length rows
-    → row ≡ slice_index_or rows i row → after ≡ with_rows before (own_rows shape node (row ∷ [])) → with_rows before (own_rows shape node (drop i rows)) ≡ all
-    → with_rows after (own_rows shape node (drop (i + 1) rows)) ≡ all
-row_put shape node before after all rows i row low is put left =
-    ap (λ s. with_rows s (own_rows shape node (drop (i + 1) rows))) put
-    ∙ own_more shape node before row (drop (i + 1) rows)
-    ∙ sym (ap (λ rs. with_rows before (own_rows shape node rs)) (drop_more rows i row low) ∙ ap (λ r. with_rows before (own_rows shape node (r ∷ drop (i + 1) rows))) (sym is))
+pub row_put : (shape : Shape) (node epoch : ℕ) (before after all : RowsState) (rows : List (List ℕ × List ℕ)) (i : ℕ)
+    (row : List ℕ × List ℕ) → i < length rows
+    → row ≡ slice_index_or rows i row → after ≡ with_rows before (own_rows shape node (row ∷ [])) epoch
+    → with_rows before (own_rows shape node (drop i rows)) epoch ≡ all
+    → with_rows after (own_rows shape node (drop (i + 1) rows)) epoch ≡ all
+row_put shape node epoch before after all rows i row low is put left =
+    ap (λ s. with_rows s (own_rows shape node (drop (i + 1) rows)) epoch) put
+    ∙ own_more shape node before row (drop (i + 1) rows) epoch
+    ∙ sym (ap (λ rs. with_rows before (own_rows shape node rs) epoch) (drop_more rows i row low)
+    ∙ ap (λ r. with_rows before (own_rows shape node (r ∷ drop (i + 1) rows)) epoch) (sym is))
     ∙ left
 
 -- no record is at work on them
-none_pending : (s : RowsState) (rows : List (List ℕ × List ℕ)) → (with_rows s rows).pending ≡ s.pending
-none_pending s [] = refl
-none_pending s (row ∷ rows) = none_pending (put_row s row.0 row.1) rows
+none_pending : (s : RowsState) (rows : List (List ℕ × List ℕ)) (epoch : ℕ) → (with_rows s rows epoch).pending ≡ s.pending
+none_pending s [] epoch = refl
+none_pending s (row ∷ rows) epoch = none_pending (put_row s row.0 row.1 epoch) rows epoch
 
 -- so an empty journal covers what they need
-pub fresh_covered : (s : RowsState) (journal : JournalState) (rows : List (List ℕ × List ℕ)) → s ≡ with_rows no_rows rows → journal ≡ record { used = 0; reserved = 0 } → IsCovered s journal
-fresh_covered s journal rows are empty =
-    let none : due_of s.pending ≡ 0 = ap (λ (t : RowsState). due_of t.pending) are ∙ ap due_of (none_pending no_rows rows) in
+pub fresh_covered : (s : RowsState) (journal : JournalState) (rows : List (List ℕ × List ℕ)) (epoch : ℕ)
+    → s ≡ with_rows no_rows rows epoch → journal ≡ record { used = 0; reserved = 0 } → IsCovered s journal
+fresh_covered s journal rows epoch are empty =
+    let none : due_of s.pending ≡ 0 = ap (λ (t : RowsState). due_of t.pending) are ∙ ap due_of (none_pending no_rows rows epoch) in
     record { kept = omega (arith, none) }

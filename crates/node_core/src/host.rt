@@ -39,7 +39,7 @@ impl Host {
     }
 
     /// A part of a member that begins a life in this layout and epoch, with those of these rows
-    /// that its group has. The keys of the rows are distinct.
+    /// that its group has, which are of that epoch. The keys of the rows are distinct.
     ///
     /// # Errors
     /// `NoMemory`.
@@ -58,7 +58,7 @@ impl Host {
             Part::Main => Ok(Host::Main(MainPart::new(member))),
             Part::Tc => Ok(Host::Tc(TcPart::new(alloc, member, layout, epoch)?)),
             Part::Ldm => {
-                let rows = stored(alloc, &layout.shape(), member.node, rows)?;
+                let rows = stored(alloc, &layout.shape(), member.node, epoch, rows)?;
                 let lqh = Lqh::new(alloc, member.node, *layout, rows, CountJournal::new())?;
                 Ok(Host::Ldm(lqh))
             }
@@ -90,30 +90,37 @@ impl Host {
     }
 }
 
-/// Of these rows those that a node's group has, put one after the other.
+/// Of these rows those that a node's group has, put one after the other, all of this epoch.
 fn stored(
     alloc: Global,
     shape: &Shape,
     node: u8,
+    epoch: u64,
     rows: &[(Key, Value)],
 ) -> Result<MapRows, NoMemory>
     requires { IsShape shape.now }
-    ensures { IfOk result (λ stored. stored.rows ≡ with_rows no_rows (own_rows shape.now node rows.now)) }
+    ensures { IfOk result (λ stored. stored.rows ≡ with_rows no_rows (own_rows shape.now node rows.now) epoch) }
 {
     let mut stored = MapRows::new(alloc);
     for row in rows {
-        put(&mut stored, shape, node, row)?;
+        put(&mut stored, shape, node, epoch, row)?;
     }
     Ok(stored)
 }
 
-/// Puts a row, if the node's group has it.
-fn put(stored: &mut MapRows, shape: &Shape, node: u8, row: &(Key, Value)) -> Result<(), NoMemory>
+/// Puts a row of this epoch, if the node's group has it.
+fn put(
+    stored: &mut MapRows,
+    shape: &Shape,
+    node: u8,
+    epoch: u64,
+    row: &(Key, Value),
+) -> Result<(), NoMemory>
     requires { IsShape shape.now }
-    ensures { OnOk result (stored.new.rows ≡ with_rows stored.old.rows (own_rows shape.now node (row.now ∷ []))) }
+    ensures { OnOk result (stored.new.rows ≡ with_rows stored.old.rows (own_rows shape.now node (row.now ∷ [])) epoch) }
 {
     if holds(node, &row.0, shape) {
-        stored.put_row(&row.0, &row.1)?;
+        stored.put_row(&row.0, &row.1, epoch)?;
     }
     Ok(())
 }

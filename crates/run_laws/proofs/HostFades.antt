@@ -43,7 +43,7 @@ use Rattle.key_laws.specs.Replica.{Event, Replica, asks_for, at_key, cell_at, co
 use Rattle.key_laws.specs.Replica.{key_after, rests, serves_if}
 use Rattle.host_laws.specs.ReplicaLaws.{event_in, key_in}
 use Rattle.run_laws.proofs.EachEntry.{each_filter}
-use Rattle.key_laws.proofs.RecordsAt.{first-found, record_of-first}
+use Rattle.key_laws.proofs.EpochLemmas.{state_found}
 use Rattle.run_laws.specs.Tokens.{is_token, waiting_in}
 use Rattle.run_laws.proofs.RecordsFade.{Fading, IsHarmless, commit_ends, is_committed, is_completed, stays}
 use Rattle.run_laws.proofs.RowsEvents.{EventCase, event_case, event_rows, no_event, of_rows}
@@ -137,10 +137,9 @@ module _ (tx : TxId) where
   state_of : (s : LqhState) (one : TxId) (own : List ℕ) → same_tx one tx ≡ true
       → (h : HasPrepared tx (cell_at own s.rows).pending)
       → record_state s.rows one own ≡ Some h.record_is.committed
-  unfolding record_state
   state_of s one own same h =
-      ap state_by (record_of-first s.rows one own ∙ first-found one own s.rows.pending
-      ∙ ap (λ t. found t (cell_at own s.rows).pending) (same_tx-is one tx same) ∙ h.there)
+      state_found s.rows one own
+      ∙ ap state_by (ap (λ t. found t (cell_at own s.rows).pending) (same_tx-is one tx same) ∙ h.there)
 
   -- the primary marks what it commits
   marked : (s : LqhState) (one : TxId) (own : List ℕ) (epoch : ℕ) (chain : List Member) (at : ℕ) → same_tx one tx ≡ true

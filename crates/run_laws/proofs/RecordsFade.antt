@@ -10,7 +10,7 @@ use Rattle.sig_core.specs.declared.rows.PendingRecord.{PendingRecord}
 use Rattle.sig_core.specs.declared.signal.chain.RowWork.{RowWork}
 use Rattle.sig_core.specs.declared.signal.chain.RowWork.TheVariants.{Operate, Store}
 use Rattle.sig_core.specs.Op.{answer_to, image_of, key_of}
-use Rattle.sig_core.specs.Rows.{committed, prepared}
+use Rattle.sig_core.specs.Rows.{prepared}
 use Rattle.sig_core.specs.Same.{same_tx}
 use Rattle.sig_core.proofs.TxLemmas.{same_tx-is}
 use Rattle.row_locks.specs.declared.mode.Lock.{Lock}
@@ -22,7 +22,7 @@ use Rattle.world_core.specs.Machine.{after}
 use Rattle.world_core.specs.Start.{Start}
 use Rattle.sig_core.specs.Firsts.{first}
 use Rattle.key_laws.specs.Primary.{HasPrepared}
-use Rattle.key_laws.specs.Records.{AreOnce, as_committed, edited, found, if_committed, put_back, seen_by, unless_committed}
+use Rattle.key_laws.specs.Records.{AreOnce, as_committed, committed, edited, found, if_committed, put_back, seen_by, unless_committed}
 use Rattle.key_laws.specs.Replica.{Cell, Event, Replica, aborts, ages, asked_by, asks, commits, completes, expires, is_let_in, key_after, operated, rests, served_by, serves, storing, worked}
 use Rattle.host_laws.specs.ReplicaLaws.{event_in, key_in}
 use Rattle.key_laws.proofs.RecordLemmas.{committed_keeps, found-edited, found-stored, if_keeps, once-edited, once-stored, unless_keeps}

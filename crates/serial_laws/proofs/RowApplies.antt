@@ -28,7 +28,8 @@ use Rattle.key_laws.specs.Records.{found}
 use Rattle.key_laws.specs.Replica.{Event, aborts, asks, cell_at, commits, completes, event_at, expires, expires_if}
 use Rattle.key_laws.specs.Replica.{if_on, is_refused, rests, serves, serves_if}
 use Rattle.sig_core.proofs.Keys.{same_key-self, same_tx-self}
-use Rattle.serial_laws.proofs.RowMarks.{alone_so, of_marked, state_found}
+use Rattle.key_laws.proofs.EpochLemmas.{state_found}
+use Rattle.serial_laws.proofs.RowMarks.{alone_so, of_marked}
 use Rattle.lqh_block.proofs.EachLqh.{lqh_marks_each}
 use Rattle.lqh_block.proofs.LqhForms.{commit_forms}
 

@@ -8,7 +8,7 @@ use Rattle.sig_core.specs.declared.mark.Mark.TheVariants as mark
 use Rattle.sig_core.specs.declared.member.TxId.{TxId}
 use Rattle.sig_core.specs.declared.rows.PendingRecord.{PendingRecord}
 use Rattle.sig_core.specs.declared.signal.Body.{Body}
-use Rattle.sig_core.specs.Rows.{RowsState, record_state, state_by}
+use Rattle.sig_core.specs.Rows.{state_by}
 use Rattle.sig_core.specs.Same.{same_key, same_tx}
 use Rattle.sig_core.proofs.TxLemmas.{same_tx-is}
 use Rattle.lqh_block.proofs.IndexLemmas.{same}
@@ -20,7 +20,7 @@ use Rattle.key_laws.specs.Primary.{HasPrepared}
 use Rattle.key_laws.specs.Records.{found}
 use Rattle.key_laws.specs.Replica.{Event, aborts, cell_at, completes, event_at, if_on, rests}
 use Rattle.lqh_block.proofs.EachLqh.{lqh_marks_each}
-use Rattle.key_laws.proofs.RecordsAt.{first-found, record_of-first}
+use Rattle.key_laws.proofs.EpochLemmas.{state_found}
 
 -- a mark that stands alone
 pub alone : (b : Bool) → (b || false) ≡ true → b ≡ true
@@ -42,11 +42,6 @@ of_marked {A} test (m ∷ more) is all = by (test m) refl is (λ rest. of_marked
     by : (b : Bool) → test m ≡ b → (b || list_any test more) ≡ true → (list_any test more ≡ true → A) → A
     by true e is later = all.0 e
     by false e is later = later is
-
--- the record of a transaction on a key, among those of the key
-pub state_found : (s : RowsState) (tx : TxId) (key : List ℕ) → record_state s tx key ≡ state_by (found tx (cell_at key s).pending)
-unfolding record_state
-state_found s tx key = ap state_by (record_of-first s tx key ∙ first-found tx key s.pending)
 
 -- an event ends the transaction's part in the key
 abbrev pub EndsPart : TxId → Event → List PendingRecord → Type 0

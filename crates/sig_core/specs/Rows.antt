@@ -42,6 +42,23 @@ row_by places (Some at) = row_in (slice_index_or places at None)
 unfoldable pub row_of : RowsState → List ℕ → Option (List ℕ)
 row_of s key = row_by s.places (place_of s.places key)
 
+abbrev pub epoch_if : Option (List ℕ) → ℕ → Option ℕ
+epoch_if None epoch = None
+epoch_if (Some value) epoch = Some epoch
+
+-- the epoch of the row of a place, if it has one
+abbrev pub epoch_in : Option Slot → Option ℕ
+epoch_in None = None
+epoch_in (Some slot) = epoch_if slot.row slot.epoch
+
+abbrev pub epoch_by : List (Option Slot) → Option ℕ → Option ℕ
+epoch_by places None = None
+epoch_by places (Some at) = epoch_in (slice_index_or places at None)
+
+-- the epoch of the committed row of the key, if there is one
+unfoldable pub row_epoch : RowsState → List ℕ → Option ℕ
+row_epoch s key = epoch_by s.places (place_of s.places key)
+
 -- how many places are taken
 abbrev pub taken : List (Option Slot) → ℕ
 taken [] = 0
@@ -55,7 +72,7 @@ placed slot (None ∷ places) = Some slot ∷ places
 placed slot (Some other ∷ places) = Some other ∷ placed slot places
 
 abbrev pub no_row : List ℕ → Slot
-no_row key = record { key = key; row = None }
+no_row key = record { key = key; row = None; epoch = 0 }
 
 abbrev pub with_place_by : List (Option Slot) → List ℕ → Option ℕ → List (Option Slot)
 with_place_by places key None = placed (no_row key) places
@@ -65,16 +82,21 @@ with_place_by places key (Some at) = places
 abbrev pub with_place : List (Option Slot) → List ℕ → List (Option Slot)
 with_place places key = with_place_by places key (place_of places key)
 
-abbrev pub with_row : List ℕ → Option (List ℕ) → Slot
-with_row key row = record { key = key; row = row }
+abbrev pub kept_epoch : Option (List ℕ) → ℕ → ℕ
+kept_epoch None epoch = 0
+kept_epoch (Some value) epoch = epoch
 
-abbrev pub set_row_by : List (Option Slot) → List ℕ → Option (List ℕ) → Option ℕ → List (Option Slot)
-set_row_by places key row None = places
-set_row_by places key row (Some at) = slice_set places at (Some (with_row key row))
+-- the place of a key whose row is this, of this epoch; of no row no epoch is kept
+abbrev pub with_row : List ℕ → Option (List ℕ) → ℕ → Slot
+with_row key row epoch = record { key = key; row = row; epoch = kept_epoch row epoch }
 
--- this is the committed row of a key that has a place
-abbrev pub set_row : List (Option Slot) → List ℕ → Option (List ℕ) → List (Option Slot)
-set_row places key row = set_row_by places key row (place_of places key)
+abbrev pub set_row_by : List (Option Slot) → List ℕ → Option (List ℕ) → ℕ → Option ℕ → List (Option Slot)
+set_row_by places key row epoch None = places
+set_row_by places key row epoch (Some at) = slice_set places at (Some (with_row key row epoch))
+
+-- this is the committed row of a key that has a place, and its epoch
+abbrev pub set_row : List (Option Slot) → List ℕ → Option (List ℕ) → ℕ → List (Option Slot)
+set_row places key row epoch = set_row_by places key row epoch (place_of places key)
 
 -- the record is the transaction's on this key
 abbrev pub is_of : TxId → List ℕ → PendingRecord → Bool
@@ -104,7 +126,7 @@ unfoldable pub seen : RowsState → TxId → List ℕ → Option (List ℕ)
 seen s tx key = seen_by s key (record_of s tx key)
 
 abbrev pub prepared : TxId → List ℕ → Option (List ℕ) → PendingRecord
-prepared tx key image = record { tx = tx; key = key; image = image; committed = false }
+prepared tx key image = record { tx = tx; key = key; image = image; committed = false; epoch = 0 }
 
 abbrev pub recorded_by : List PendingRecord → PendingRecord → Option ℕ → List PendingRecord
 recorded_by pending r None = pending ++ r ∷ []
@@ -138,8 +160,8 @@ Prepares s tx op after (Err NoMemory) = after ≡ s
 Prepares s tx op after (Err (Full rows)) =
     (answer_to op (seen s tx (key_of op)) ≡ Done) × (is_full s (key_of op) ≡ true) × (rows ≡ taken s.places) × (after ≡ s)
 
-abbrev pub put_row : RowsState → List ℕ → List ℕ → RowsState
-put_row s key value = record { places = set_row (with_place s.places key) key (Some value); pending = s.pending }
+abbrev pub put_row : RowsState → List ℕ → List ℕ → ℕ → RowsState
+put_row s key value epoch = record { places = set_row (with_place s.places key) key (Some value) epoch; pending = s.pending }
 
 -- nothing is at work on the key
 abbrev pub is_idle : List PendingRecord → List ℕ → Bool
@@ -161,20 +183,23 @@ freed places pending key = freed_by places (is_idle pending key) (place_of place
 abbrev pub dropping : RowsState → List ℕ → ℕ → RowsState
 dropping s key at = record { places = freed s.places (remove s.pending at) key; pending = remove s.pending at }
 
-abbrev pub committed : PendingRecord → PendingRecord
-committed r = record { tx = r.tx; key = r.key; image = r.image; committed = true }
+-- the record's image is the row, since this epoch
+abbrev pub committed : PendingRecord → ℕ → PendingRecord
+committed r epoch = record { tx = r.tx; key = r.key; image = r.image; committed = true; epoch = epoch }
 
 -- a prepared record's image becomes the row
-abbrev pub commit_if : RowsState → ℕ → PendingRecord → Bool → RowsState
-commit_if s at r true = s
-commit_if s at r false = record { places = set_row s.places r.key r.image; pending = slice_set s.pending at (committed r) }
+abbrev pub commit_if : RowsState → ℕ → PendingRecord → ℕ → Bool → RowsState
+commit_if s at r epoch true = s
+commit_if s at r epoch false =
+    record { places = set_row s.places r.key r.image epoch; pending = slice_set s.pending at (committed r epoch) }
 
-abbrev pub commit_by : RowsState → Option ℕ → Option PendingRecord → RowsState
-commit_by s (Some at) (Some r) = commit_if s at r r.committed
-commit_by s _ _ = s
+abbrev pub commit_by : RowsState → ℕ → Option ℕ → Option PendingRecord → RowsState
+commit_by s epoch (Some at) (Some r) = commit_if s at r epoch r.committed
+commit_by s epoch _ _ = s
 
-unfoldable pub commit_record : RowsState → TxId → List ℕ → RowsState
-commit_record s tx key = commit_by s (record_at s.pending tx key) (record_of s tx key)
+-- the transaction's prepared record on the key is committed in this epoch
+unfoldable pub commit_record : RowsState → TxId → List ℕ → ℕ → RowsState
+commit_record s tx key epoch = commit_by s epoch (record_at s.pending tx key) (record_of s tx key)
 
 abbrev pub is_as : Bool → Bool → Bool
 is_as true committed = committed
@@ -217,6 +242,11 @@ state_by (Some r) = Some r.committed
 unfoldable pub record_state : RowsState → TxId → List ℕ → Option Bool
 record_state s tx key = state_by (record_of s tx key)
 
--- the row at a place
+abbrev pub epoch_or : Option Slot → ℕ
+epoch_or None = 0
+epoch_or (Some slot) = slot.epoch
+
+-- the row at a place, of whichever epoch
 abbrev pub IsRowAt : RowsState → ℕ → List ℕ → List ℕ → Type 0
-IsRowAt s at key value = slice_index_or s.places at None ≡ Some (with_row key (Some value))
+IsRowAt s at key value =
+    slice_index_or s.places at None ≡ Some (with_row key (Some value) (epoch_or (slice_index_or s.places at None)))

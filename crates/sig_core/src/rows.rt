@@ -1,8 +1,8 @@
 //! What the rows of a node are.
-ghost use Rattle.std.specs.Prelude.{◌≡◌, ◌≢◌, IsTrue, List, ◌+◌, ◌<◌, ◌^◌, MatchOption, IfSome, None, Some, Err, OnOk, OnErr, slice_index_or, ℕ};
+ghost use Rattle.std.specs.Prelude.{◌≡◌, ◌≢◌, IsTrue, List, ◌+◌, ◌<◌, ◌^◌, MatchOption, IfSome, None, Some, Err, OnOk, OnErr, length, slice_get, slice_index_or, ℕ};
 ghost use Rattle.sig_core.specs.declared.rows.RowsFault.TheVariants as fault;
 ghost use Rattle.sig_core.specs.Op.{key_of};
-ghost use Rattle.sig_core.specs.Rows.{IsRowAt, Prepares, RowsState, Stores, abort_record, commit_record, complete_record, has_row, next_place, put_row, record_state, row_of, seen};
+ghost use Rattle.sig_core.specs.Rows.{IsRowAt, Prepares, RowsState, Stores, abort_record, commit_record, complete_record, has_row, next_place, put_row, record_state, row_epoch, row_of, seen};
 
 use crate::key::Key;
 use crate::member::TxId;
@@ -16,6 +16,9 @@ pub struct Slot {
     pub key: Key,
     /// The committed row.
     pub row: Option<Value>,
+    /// That of the commit that wrote the row, or the first one of the life for a row that the life
+    /// begins with. 0 where there is no row.
+    pub epoch: u64,
 }
 
 /// A transaction's part in a row, from its write on until it is done.
@@ -27,6 +30,8 @@ pub struct PendingRecord {
     pub image: Option<Value>,
     /// The image is the row.
     pub committed: bool,
+    /// That of the commit, 0 before.
+    pub epoch: u64,
 }
 
 /// The most places that rows and the keys of records take.
@@ -85,18 +90,18 @@ pub trait Rows {
         ensures answer { Stores (state_of self.old) tx key.now image.now (state_of self.new) result }
         ensures room { has_room self.old key.now → result ≢ Err fault.NoMemory };
 
-    /// Puts or replaces a committed row, without the limit on places.
+    /// Puts or replaces a committed row, with its epoch, without the limit on places.
     ///
     /// # Errors
     /// `NoMemory`, and then the rows are as they were.
-    fn put_row(&mut self, key: &Key, value: &Value) -> Result<(), NoMemory>
-        ensures ok { OnOk result (state_of self.new ≡ put_row (state_of self.old) key.now value.now) }
+    fn put_row(&mut self, key: &Key, value: &Value, epoch: u64) -> Result<(), NoMemory>
+        ensures ok { OnOk result (state_of self.new ≡ put_row (state_of self.old) key.now value.now epoch) }
         ensures err { OnErr result (state_of self.new ≡ state_of self.old) };
 
-    /// Makes the image of the transaction's prepared record the row. Changes nothing where there is
-    /// no such record. Takes no memory.
-    fn commit(&mut self, tx: TxId, key: &Key, _epoch: u64)
-        ensures { state_of self.new ≡ commit_record (state_of self.old) tx key.now };
+    /// Makes the image of the transaction's prepared record the row, of this epoch, which the record
+    /// tells from then on. Changes nothing where there is no such record. Takes no memory.
+    fn commit(&mut self, tx: TxId, key: &Key, epoch: u64)
+        ensures { state_of self.new ≡ commit_record (state_of self.old) tx key.now epoch };
 
     /// Drops the transaction's prepared record. Changes nothing where there is no such record.
     /// Takes no memory.
@@ -111,6 +116,19 @@ pub trait Rows {
     /// The committed row of the key.
     fn row(&self, key: &Key) -> Option<&Value>
         ensures { MatchOption result (row_of (state_of self.now) key.now ≡ None) (λ row. row_of (state_of self.now) key.now ≡ Some row.now) };
+
+    /// The epoch of the committed row of the key. None where there is no row. Takes no memory.
+    fn row_epoch(&self, key: &Key) -> Option<u64>
+        ensures { result ≡ row_epoch (state_of self.now) key.now };
+
+    /// How many records there are.
+    fn records(&self) -> usize
+        ensures { result ≡ length (state_of self.now).pending };
+
+    /// The record at a place of the list of records, from 0, the oldest first. None where the list has
+    /// no such place. Takes no memory.
+    fn record_at(&self, at: usize) -> Option<PendingRecord>
+        ensures { result ≡ slice_get (state_of self.now).pending at };
 
     /// The least place at or above this one that has a row. Below the greatest `u64`.
     fn place_from(&self, at: u64) -> Option<u64>

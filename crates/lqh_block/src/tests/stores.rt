@@ -18,6 +18,50 @@ fn a_write_is_prepared(rt: HostRuntime) -> Result<(), Fail> {
     Ok(())
 }
 
+// What is told of the record at a place: whether it is committed, and in which epoch.
+fn told(rows: &MapRows, at: usize) -> Option<(bool, u64)> {
+    match &rows.record_at(at) {
+        Some(record) => Some((record.committed, record.epoch)),
+        None => None,
+    }
+}
+
+#[test]
+fn a_record_tells_the_epoch_of_its_commit(rt: HostRuntime) -> Result<(), Fail> {
+    let mut rows = MapRows::new(rt.alloc());
+    let (a, b, image) = (Key::new(b"a")?, Key::new(b"b")?, Some(Value::new(b"x")?));
+    assert!(rt; rows.prepare_image(tx_of(1), &a, &image).is_ok());
+    assert!(rt; rows.prepare_image(tx_of(1), &b, &image).is_ok());
+    rows.commit(tx_of(1), &a, 6);
+    rows.commit(tx_of(1), &a, 7);
+    assert_eq!(rt; rows.records(), 2);
+    assert_eq!(rt; told(&rows, 0), Some((true, 6)));
+    assert_eq!(rt; told(&rows, 1), Some((false, 0)));
+    assert_eq!(rt; told(&rows, 2), None);
+    Ok(())
+}
+
+// The transaction makes this image the row of the key, in this epoch. Answers the row's epoch.
+fn write(rows: &mut MapRows, seq: u64, key: &Key, image: &Option<Value>, epoch: u64) -> Option<u64> {
+    if rows.prepare_image(tx_of(seq), key, image).is_ok() {
+        rows.commit(tx_of(seq), key, epoch);
+    }
+    rows.row_epoch(key)
+}
+
+#[test]
+fn a_row_has_the_epoch_of_its_last_commit(rt: HostRuntime) -> Result<(), Fail> {
+    let mut rows = MapRows::new(rt.alloc());
+    let (key, value) = (Key::new(b"a")?, Value::new(b"x")?);
+    assert_eq!(rt; rows.row_epoch(&key), None);
+    rows.put_row(&key, &value, 3)?;
+    assert_eq!(rt; rows.row_epoch(&key), Some(3));
+    assert_eq!(rt; write(&mut rows, 1, &key, &Some(value), 5), Some(5));
+    assert_eq!(rt; write(&mut rows, 2, &key, &None, 6), None);
+    assert_eq!(rt; write(&mut rows, 3, &key, &Some(value), 8), Some(8));
+    Ok(())
+}
+
 #[test]
 fn a_journal_has_16_mib(rt: HostRuntime) {
     let mut journal = CountJournal::new();
@@ -47,7 +91,7 @@ fn fill(rows: &mut MapRows, count: usize) -> Result<(), Fail>
 {
     let value = Value::new(b"x")?;
     for i in 0..count {
-        rows.put_row(&numbered(i)?, &value)?;
+        rows.put_row(&numbered(i)?, &value, 1)?;
     }
     Ok(())
 }
@@ -74,7 +118,7 @@ fn put_letters(rows: &mut MapRows, letters: &[u8]) -> Result<(), Fail>
 {
     let value = Value::new(b"x")?;
     for letter in letters {
-        rows.put_row(&Key::new(&[*letter])?, &value)?;
+        rows.put_row(&Key::new(&[*letter])?, &value, 1)?;
     }
     Ok(())
 }

@@ -6,5 +6,5 @@ use Rattle.node_core.proofs.host.stored.Given as goal
 -- what is left leads to the same as all did
 abbrev pub invariant-loop-row : goal.invariant-loop-row
 invariant-loop-row l = record {
-  left : with_rows l.stored.rows (own_rows l.shape l.node (drop l.row-index l.rows)) ≡ with_rows no_rows (own_rows l.shape l.node l.rows);
+  left : with_rows l.stored.rows (own_rows l.shape l.node (drop l.row-index l.rows)) l.epoch ≡ with_rows no_rows (own_rows l.shape l.node l.rows) l.epoch;
 }

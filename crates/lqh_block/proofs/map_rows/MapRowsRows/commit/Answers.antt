@@ -11,7 +11,7 @@ pub invariant_of-self : goal.invariant_of-self
 invariant_of-self c = λ q.
     ap (λ index. records_on index q) c.set_row.ensures.index ∙ c.self.invariant q
     ∙ sym (ap (count_by (is_on q)) c.commit.ensures
-    ∙ count-commit c.self.inside.records.pending c.in-Some.at (record_by c.args.tx c.args.key.now c.in-Some.version.now)
+    ∙ count-commit c.self.inside.records.pending c.in-Some.at c.args.epoch (record_by c.args.tx c.args.key.now c.in-Some.version.now)
     q c.in-Some.ensures.record)
 
 pub returns-then-not-version : goal.returns-then-not-version
@@ -20,14 +20,14 @@ returns-then-not-version c =
     let view : s ≡ c.args.self.now.rows = ap (λ m. m.rows) c.self.view_is in
     commit_found s c.args.tx c.args.key.now c.in-Some.at c.in-Some.version.now c.in-Some.ensures.place
     c.in-Some.ensures.record
-    c.set_row.new.self.slots c.commit.new.self.pending c.if-not-version.true c.set_row.ensures.slots c.commit.ensures
-    ∙ ap (λ rows. commit_record rows c.args.tx c.args.key.now) view
+    c.set_row.new.self.slots c.commit.new.self.pending c.args.epoch c.if-not-version.true c.set_row.ensures.slots c.commit.ensures
+    ∙ ap (λ rows. commit_record rows c.args.tx c.args.key.now c.args.epoch) view
 
 pub returns-else-not-version : goal.returns-else-not-version
 returns-else-not-version c =
     let s : RowsState = record { places = c.self.inside.places.slots; pending = c.self.inside.records.pending } in
     let view : s ≡ c.args.self.now.rows = ap (λ m. m.rows) c.self.view_is in
-    let P : RowsState → Type 0 = λ rows. rows ≡ commit_record rows c.args.tx c.args.key.now in
+    let P : RowsState → Type 0 = λ rows. rows ≡ commit_record rows c.args.tx c.args.key.now c.args.epoch in
     subst P view
     (commit_kept s c.args.tx c.args.key.now c.in-Some.at c.in-Some.version.now c.in-Some.ensures.place
-    c.in-Some.ensures.record c.if-not-version.false)
+    c.in-Some.ensures.record c.args.epoch c.if-not-version.false)

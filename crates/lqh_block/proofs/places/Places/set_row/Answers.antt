@@ -13,12 +13,12 @@ invariant_of-self c =
     let row = c.args.row.now in
     let slots : places ≡ c.args.self.now.slots = cc in
     let there : place_of places key ≡ Some c.in-Some.at = ap (λ ps. place_of ps key) slots ∙ sym c.in-Some.ensures in
-    let written : c.rewrite.new.slot ≡ Some (with_row key row) =
-    row_written places key row c.in-Some.at c.index_mut.result.now c.rewrite.new.slot there c.index_mut.ensures.value
+    let written : c.rewrite.new.slot ≡ Some (with_row key row c.args.epoch) =
+    row_written places key row c.args.epoch c.in-Some.at c.index_mut.result.now c.rewrite.new.slot there c.index_mut.ensures.value
     c.rewrite.ensures in
     let P : List (Option (List ℕ)) → Type 0 = λ keys. ArePlaces keys c.self.inside.index c.self.inside.free in
     subst P (sym (ap (λ slot. keys_in (slice_set places c.in-Some.at slot)) written
-    ∙ row_kept places key row c.in-Some.at there)) c.self.invariant
+    ∙ row_kept places key row c.args.epoch c.in-Some.at there)) c.self.invariant
 
 pub returns-in-Some-clause-slots : goal.returns-in-Some-clause-slots
 returns-in-Some-clause-slots c =
@@ -27,8 +27,8 @@ returns-in-Some-clause-slots c =
     let row = c.args.row.now in
     let slots : places ≡ c.args.self.now.slots = cc in
     let there : place_of places key ≡ Some c.in-Some.at = ap (λ ps. place_of ps key) slots ∙ sym c.in-Some.ensures in
-    let written : c.rewrite.new.slot ≡ Some (with_row key row) =
-    row_written places key row c.in-Some.at c.index_mut.result.now c.rewrite.new.slot there c.index_mut.ensures.value
+    let written : c.rewrite.new.slot ≡ Some (with_row key row c.args.epoch) =
+    row_written places key row c.args.epoch c.in-Some.at c.index_mut.result.now c.rewrite.new.slot there c.index_mut.ensures.value
     c.rewrite.ensures in
-    ap (slice_set places c.in-Some.at) written ∙ ap (set_row_by places key row) (sym there)
-    ∙ ap (λ ps. set_row ps key row) slots
+    ap (slice_set places c.in-Some.at) written ∙ ap (set_row_by places key row c.args.epoch) (sym there)
+    ∙ ap (λ ps. set_row ps key row c.args.epoch) slots
