@@ -22,6 +22,7 @@ fn was_begun_by(tx: TxId, member: &Member) -> bool
 }
 
 // Who goes on holding locks over these rows, where these are the full members.
+#[derive(Drop)]
 struct Claims<'a, R: Rows> {
     rows: &'a R,
     full: &'a [Member],

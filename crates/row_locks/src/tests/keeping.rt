@@ -6,6 +6,7 @@ use sig_core::{Key, TxId};
 use std::test::Fail;
 
 // The transaction of this number alone.
+#[derive(Drop)]
 struct Only(u64);
 
 impl Keeper for Only {
