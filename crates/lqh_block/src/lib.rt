@@ -23,8 +23,8 @@ mod work;
 pub use count_journal::CountJournal;
 pub use lqh::Lqh;
 pub use map_rows::MapRows;
-pub use views::is_coordinated;
 pub use request::{Marker, Request};
+pub use views::is_coordinated;
 
 #[cfg(test)]
 mod tests;

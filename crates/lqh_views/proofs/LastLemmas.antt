@@ -18,18 +18,16 @@ pub record IsThere {X : Type 0} (p : X → Bool) (xs : List X) (found : ℕ × X
 
 pub last-there : {X : Type 0} (p : X → Bool) (xs : List X) (before : ℕ) → IfSome (last_before p xs before) (IsThere p xs)
 last-there p xs zero = tt
-last-there {X} p xs (suc n) = by (slice_get xs n) refl
+last-there {X} p xs (suc n) = by (slice_get xs n) refl (last-there p xs n)
   where
-    rest : IfSome (last_before p xs n) (IsThere p xs)
-    rest = last-there p xs n
-
-    by_if : (x : X) (b : Bool) → slice_get xs n ≡ Some x → p x ≡ b
+    by_if : (x : X) (b : Bool) → slice_get xs n ≡ Some x → p x ≡ b → IfSome (last_before p xs n) (IsThere p xs)
         → IfSome (found_if n x (last_before p xs n) b) (IsThere p xs)
-    by_if x true is passes = record { there = is; passes = passes }
-    by_if x false is passes = rest
+    by_if x true is passes rest = record { there = is; passes = passes }
+    by_if x false is passes rest = rest
 
-    by : (o : Option X) → slice_get xs n ≡ o → IfSome (found_at p n (last_before p xs n) o) (IsThere p xs)
-    by None is = rest
-    by (Some x) is = by_if x (p x) is refl
+    by : (o : Option X) → slice_get xs n ≡ o → IfSome (last_before p xs n) (IsThere p xs)
+        → IfSome (found_at p n (last_before p xs n) o) (IsThere p xs)
+    by None is rest = rest
+    by (Some x) is rest = by_if x (p x) is refl rest
 
 pub ruleset lasts = (last-down)

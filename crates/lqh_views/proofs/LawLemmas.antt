@@ -88,14 +88,12 @@ calm_steps s x is calm = passes_on s x x.body refl is ∙ passed_beside s x calm
 
 each_passes : (p : Holder → Bool) (hs : List Holder) → Each (λ h. p h ≡ true) (filter p hs)
 each_passes p [] = tt
-each_passes p (h ∷ hs) = by (p h) refl
+each_passes p (h ∷ hs) = by (p h) refl (each_passes p hs)
   where
-    rest : Each (λ h. p h ≡ true) (filter p hs)
-    rest = each_passes p hs
-
-    by : (b : Bool) → p h ≡ b → Each (λ h. p h ≡ true) (cond b (h ∷ filter p hs) (filter p hs))
-    by true is = (is, rest)
-    by false is = rest
+    by : (b : Bool) → p h ≡ b → Each (λ h. p h ≡ true) (filter p hs)
+        → Each (λ h. p h ≡ true) (cond b (h ∷ filter p hs) (filter p hs))
+    by true is rest = (is, rest)
+    by false is rest = rest
 
 pub installations_end_waits : InstallationsEndWaits
 installations_end_waits s view =

@@ -4,9 +4,7 @@ ghost use Rattle.sig_core.specs.Step.{HasRoom, IsTaken};
 ghost use Rattle.lqh_views.specs.Epochs.{close_row, epoch_table, fence_row, greater, save_row, state_row};
 
 use crate::replica::Replica;
-use sig_core::{
-    Body, EpochSignal, Journal, MembershipSignal, Outs, Rows, checkpoints, membership,
-};
+use sig_core::{Body, EpochSignal, Journal, MembershipSignal, Outs, Rows, checkpoints, membership};
 
 // The greater of two.
 fn greater(one: u64, other: u64) -> u64

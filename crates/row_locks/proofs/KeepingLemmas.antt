@@ -45,7 +45,7 @@ module _ {F : Type 0} (T : F → List ℕ → RowLock → Bool → RowLock → F
 -- of the holders of one key
 
 module _ (stays : TxId → Bool) where
-  left : List Holder → List Holder
+  abbrev left : List Holder → List Holder
   left hs = filter (λ h. stays h.tx) hs
 
   unheld_if : (u : TxId) (h : Holder) (rest : List Holder) (b : Bool) → same_tx h.tx u ≡ false → holds u rest ≡ false
@@ -124,8 +124,7 @@ module _ (stays : TxId → Bool) where
       let few = fewer-left hs in
       let now_many = ap length held in
       let none_many = ap length none in
-      let fits = row.0 in
-      (
+      let fits = row.0 in (
         omega (arith, few, now_many, none_many, fits, same),
         subst (λ lock. IsOrderly lock) (λ i. row_lock (sym held i) (sym none i)) (left_orderly (row_lock hs ws) row.1),
       )
@@ -137,19 +136,17 @@ lookup-left : (stays : List ℕ → TxId → Bool) (q : List ℕ) (es : List (Li
     → lookup (is_at (key_cmp q)) (map (λ e. (e.0, left_to (stays e.0) e.1)) es)
     ≡ option_map (left_to (stays q)) (lookup (is_at (key_cmp q)) es)
 lookup-left stays q [] = refl
-lookup-left stays q (e ∷ es) = by (is_at (key_cmp q) e.0) refl
+lookup-left stays q (e ∷ es) = by (is_at (key_cmp q) e.0) refl (lookup-left stays q es)
   where
-    rest : lookup (is_at (key_cmp q)) (map (λ e. (e.0, left_to (stays e.0) e.1)) es)
-        ≡ option_map (left_to (stays q)) (lookup (is_at (key_cmp q)) es)
-    rest = lookup-left stays q es
-
     by : (b : Bool) → is_at (key_cmp q) e.0 ≡ b
+        → lookup (is_at (key_cmp q)) (map (λ e. (e.0, left_to (stays e.0) e.1)) es)
+        ≡ option_map (left_to (stays q)) (lookup (is_at (key_cmp q)) es)
         → cond b (Some (left_to (stays e.0) e.1)) (lookup (is_at (key_cmp q)) (map (λ e. (e.0, left_to (stays e.0) e.1)) es))
         ≡ option_map (left_to (stays q)) (cond b (Some e.1) (lookup (is_at (key_cmp q)) es))
-    by true is =
+    by true is rest =
         ap (λ k. Some (left_to (stays k) e.1))
         (sym (finite.slice_cmp-IsAntisymmetric finite.nat_cmp-IsAntisymmetric q e.0 ((Equal-is (key_cmp q e.0)).0 is)))
-    by false is = rest
+    by false is rest = rest
 
 keys-left : (stays : List ℕ → TxId → Bool) (es : List (List ℕ × RowLock))
     → keys_of (map (λ e. (e.0, left_to (stays e.0) e.1)) es) ≡ keys_of es

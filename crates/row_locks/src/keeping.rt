@@ -1,5 +1,6 @@
 //! Who goes on holding the locks of all keys when all waits end.
 ghost use Rattle.std.specs.Prelude.{◌≡◌, filter};
+ghost use Rattle.std.specs.Vec.{vec_capacity};
 ghost use Rattle.row_locks.specs.Keeping.{all_left_to, left_to};
 ghost use Rattle.row_locks.specs.Tables.{locks_of};
 
@@ -55,7 +56,8 @@ impl Row {
 
 // Takes those out of the holders that don't pass the test. Takes no memory.
 fn keep_holders<K: Keeper>(key: &Key, keeper: &K, holders: &mut Vec<Holder>)
-    ensures { holders.new.items ≡ filter (λ holder. K.keeps keeper.now key.now holder.tx) holders.old.items }
+    ensures holders { holders.new.items ≡ filter (λ holder. K.keeps keeper.now key.now holder.tx) holders.old.items }
+    ensures capacity { vec_capacity holders.new ≡ vec_capacity holders.old }
 {
     holders.retain(|holder| keeper.keeps(key, holder.tx));
 }

@@ -28,14 +28,7 @@ fn over(alloc: Global, rows: MapRows) -> Result<Node, Fail>
         replicas: 2,
         fragments: 1,
     });
-    Ok(Replica::new(
-        alloc,
-        1,
-        layout,
-        rows,
-        CountJournal::new(),
-        5,
-    )?)
+    Ok(Replica::new(alloc, 1, layout, rows, CountJournal::new(), 5)?)
 }
 
 fn signal(alloc: Global, number: u64, heard: Heard) -> Result<Signal, Fail> {
@@ -182,8 +175,14 @@ fn owners_are_told(rt: HostRuntime) -> Result<(), Fail> {
     talk(&rt, alloc, &mut rows, 1, &lines)?;
     enter(&rt, alloc, &mut rows, 2, 2, 2)?;
     let lines = [
-        (Heard::Commit(1, b'a'), "takeover2 committed 1 a, applied 1 a"),
-        (Heard::Complete(1, b'a'), "takeover2 completed 1 a, done 1 a"),
+        (
+            Heard::Commit(1, b'a'),
+            "takeover2 committed 1 a, applied 1 a",
+        ),
+        (
+            Heard::Complete(1, b'a'),
+            "takeover2 completed 1 a, done 1 a",
+        ),
         (Heard::Abort(2, b'b'), "takeover2 aborted 2 b, done 2 b"),
         (Heard::Commit(11, b'c'), "tc2 committed 11 c, applied 11 c"),
     ];
@@ -213,7 +212,10 @@ fn all_is_reported(rt: HostRuntime) -> Result<(), Fail> {
         (Heard::Ack(12), ""),
         (Heard::Put(3, b'f', b'x'), "lqh2 store 3, prepared 3 f"),
         (Heard::More(1), ""),
-        (Heard::More(2), "takeover1 has committed 11 a in 7, lqh1 more"),
+        (
+            Heard::More(2),
+            "takeover1 has committed 11 a in 7, lqh1 more",
+        ),
         (Heard::Commit(3, b'f'), "tc1 committed 3 f, applied 3 f"),
         (Heard::More(2), "takeover1 has marker 11 a in 7, lqh1 more"),
         (Heard::More(2), "takeover1 end"),
@@ -236,7 +238,10 @@ fn reports_begin_anew_and_end(rt: HostRuntime) -> Result<(), Fail> {
     let lines = [
         (Heard::Ask(1), "takeover1 has prepared 12 b in 0, lqh1 more"),
         (Heard::Ask(2), "takeover2 has prepared 12 b in 0, lqh1 more"),
-        (Heard::More(2), "takeover2 has prepared 11 a in 0, lqh1 more"),
+        (
+            Heard::More(2),
+            "takeover2 has prepared 11 a in 0, lqh1 more",
+        ),
         (Heard::More(2), "takeover2 end"),
         (Heard::Ask(1), "takeover1 has prepared 12 b in 0, lqh1 more"),
     ];

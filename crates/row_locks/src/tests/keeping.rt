@@ -34,7 +34,10 @@ fn one_goes_on_holding(rt: HostRuntime) -> Result<(), Fail> {
     assert_eq!(rt; table.request(tx(2), &a, Mode::Shared)?, Lock::Granted);
     assert_eq!(rt; table.request(tx(2), &b, Mode::Exclusive)?, Lock::Granted);
     let ahead = tx(1);
-    assert_eq!(rt; table.request(tx(3), &a, Mode::Exclusive)?, Lock::Queued { ahead });
+    assert_eq!(rt;
+        table.request(tx(3), &a, Mode::Exclusive)?,
+        Lock::Queued { ahead }
+    );
     table.keep(&Only(1));
     assert_eq!(rt; table.holder(&a, 0), Some(tx(1)));
     assert_eq!(rt; table.holder(&a, 1), None);
