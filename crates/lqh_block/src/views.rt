@@ -65,8 +65,9 @@ impl<R: Rows, J: Journal> Lqh<R, J> {
         ensures { self.new ≡ entered self.old view.now }
     {
         self.waiting.clear();
+        let storage = &self.storage;
         let claims = Claims {
-            rows: &self.storage.rows,
+            rows: &storage.rows,
             full: view.full.as_slice(),
         };
         self.locks.keep(&claims);
