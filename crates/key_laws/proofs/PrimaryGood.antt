@@ -12,7 +12,6 @@ use Rattle.sig_core.specs.declared.op.Op.TheVariants.{Get}
 use Rattle.sig_core.specs.declared.rows.PendingRecord.{PendingRecord}
 use Rattle.sig_core.specs.Op.{answer_to, image_of, key_of}
 use Rattle.sig_core.specs.Rows.{prepared}
-use Rattle.sig_core.specs.Rows as rows
 use Rattle.sig_core.specs.Same.{same_tx}
 use Rattle.row_locks.specs.declared.claim.Holder.{Holder}
 use Rattle.row_locks.specs.declared.mode.Mode.TheVariants.{Exclusive}

@@ -100,14 +100,16 @@ impl Records {
     pub fn get(&self, at: usize) -> Option<PendingRecord>
         ensures { result ≡ slice_get self.now.pending at }
     {
-        let (id, version) = self.entries.get_index(at)?;
-        Some(PendingRecord {
-            tx: id.tx,
-            key: id.key,
-            image: version.image,
-            committed: version.committed,
-            epoch: version.epoch,
-        })
+        match self.entries.get_index(at) {
+            Some((id, version)) => Some(PendingRecord {
+                tx: id.tx,
+                key: id.key,
+                image: version.image,
+                committed: version.committed,
+                epoch: version.epoch,
+            }),
+            None => None,
+        }
     }
 
     /// Takes the record at a place out. Takes no memory.

@@ -42,7 +42,13 @@ fn a_record_tells_the_epoch_of_its_commit(rt: HostRuntime) -> Result<(), Fail> {
 }
 
 // The transaction makes this image the row of the key, in this epoch. Answers the row's epoch.
-fn write(rows: &mut MapRows, seq: u64, key: &Key, image: &Option<Value>, epoch: u64) -> Option<u64> {
+fn write(
+    rows: &mut MapRows,
+    seq: u64,
+    key: &Key,
+    image: &Option<Value>,
+    epoch: u64,
+) -> Option<u64> {
     if rows.prepare_image(tx_of(seq), key, image).is_ok() {
         rows.commit(tx_of(seq), key, epoch);
     }

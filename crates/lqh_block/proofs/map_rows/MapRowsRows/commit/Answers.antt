@@ -11,7 +11,8 @@ pub invariant_of-self : goal.invariant_of-self
 invariant_of-self c = λ q.
     ap (λ index. records_on index q) c.set_row.ensures.index ∙ c.self.invariant q
     ∙ sym (ap (count_by (is_on q)) c.commit.ensures
-    ∙ count-commit c.self.inside.records.pending c.in-Some.at c.args.epoch (record_by c.args.tx c.args.key.now c.in-Some.version.now)
+    ∙ count-commit c.self.inside.records.pending c.in-Some.at c.args.epoch
+    (record_by c.args.tx c.args.key.now c.in-Some.version.now)
     q c.in-Some.ensures.record)
 
 pub returns-then-not-version : goal.returns-then-not-version

@@ -8,5 +8,6 @@ pub returns : goal.returns
 returns c =
     let pending : map record_in c.self.inside.entries.entries ≡ c.args.self.now.pending =
     ap (λ s. s.pending) c.self.view_is in
-    set_committed c.self.inside.entries.entries c.args.at c.args.epoch c.index_mut.result.now _ c.index_mut.ensures.value refl
+    set_committed c.self.inside.entries.entries c.args.at c.args.epoch c.index_mut-version.result.now _
+    c.index_mut-version.ensures.value refl
     ∙ ap (λ p. committed_at p c.args.at c.args.epoch (slice_get p c.args.at)) pending
