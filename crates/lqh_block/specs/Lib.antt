@@ -15,5 +15,6 @@ pub mod Ready
 pub mod Records
 pub mod State
 pub mod Storage
+pub mod Views
 pub mod Wait
 pub mod Work

@@ -16,6 +16,7 @@ mod record_id;
 mod records;
 mod request;
 mod storage;
+mod views;
 mod wait;
 mod work;
 
@@ -23,6 +24,7 @@ pub use count_journal::CountJournal;
 pub use lqh::Lqh;
 pub use map_rows::MapRows;
 pub use request::{Marker, Request};
+pub use views::is_coordinated;
 
 #[cfg(test)]
 mod tests;

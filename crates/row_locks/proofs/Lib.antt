@@ -1,6 +1,7 @@
 pub mod AheadLemmas
 pub mod GoneLemmas
 pub mod GrantedLemmas
+pub mod KeepingLemmas
 pub mod LocksLemmas
 pub mod NeedLemmas
 pub mod OrderlyLemmas

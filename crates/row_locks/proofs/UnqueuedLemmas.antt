@@ -49,14 +49,14 @@ above_all k (e ∷ es) h =
     let parts = and_parts (is_lt (key_cmp k e.0)) (below_all key_cmp k es) h in
     (less_is (key_cmp k e.0) parts.0, above_all k es parts.1)
 
-rising : (es : List (List ℕ × RowLock)) → finite.is_sorted key_cmp es ≡ true → IsStrictlySortedBy key_cmp (keys_of es)
+pub rising : (es : List (List ℕ × RowLock)) → finite.is_sorted key_cmp es ≡ true → IsStrictlySortedBy key_cmp (keys_of es)
 unfolding IsStrictlySortedBy
 rising [] h = tt
 rising (e ∷ es) h =
     let parts = and_parts (below_all key_cmp e.0 es) (finite.is_sorted key_cmp es) h in
     (above_all e.0 es parts.0, rising es parts.1)
 
-holds_true : (b : Bool) → T b → b ≡ true
+pub holds_true : (b : Bool) → T b → b ≡ true
 holds_true true t = refl
 holds_true false t = absurd t
 

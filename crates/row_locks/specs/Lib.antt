@@ -1,5 +1,6 @@
 pub mod Codes
 pub mod Holders
+pub mod Keeping
 pub mod Modes
 pub mod Orderly
 pub mod OrderlyTables

@@ -19,8 +19,8 @@ use std::marker::Model;
 /// they are served at once.
 #[derive(Drop)]
 pub struct Row {
-    holders: Vec<Holder>,
-    queue: Vec<Wait>,
+    pub(crate) holders: Vec<Holder>,
+    pub(crate) queue: Vec<Wait>,
 }
 
 impl Model for Row {

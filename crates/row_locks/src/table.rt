@@ -20,7 +20,7 @@ use std::marker::Model;
 /// and linear in that key's holders and waiters.
 #[derive(Drop)]
 pub struct LockTable {
-    rows: BTreeMap<Key, Row>,
+    pub(crate) rows: BTreeMap<Key, Row>,
     alloc: Global,
 }
 

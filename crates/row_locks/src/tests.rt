@@ -1,3 +1,4 @@
 mod calls;
 mod definition;
+mod keeping;
 mod worked;

@@ -1,0 +1,6 @@
+pub mod Address
+pub mod Epochs
+pub mod Laws
+pub mod Replica
+pub mod Report
+pub mod State

@@ -1,0 +1,22 @@
+//! What is true of the steps of a node's rows under views.
+ghost use Rattle.lqh_views.specs.Laws.{CalmSteps, InstallationsEndWaits, ReportsAreTrue};
+
+/// Where all whom a step of the rows tells of the end of a transaction's part are coordinators that
+/// are full members, a step at a signal of the rows is that of `Lqh`, and all else stays.
+pub fn calm_steps()
+    ensures { CalmSteps }
+{}
+
+/// After an installation nobody waits, and no report is under way. Of each key those hold the lock,
+/// in the same order, who held it before and have a record on the key or a coordinator that is a
+/// full member.
+pub fn installations_end_waits()
+    ensures { InstallationsEndWaits }
+{}
+
+/// Whatever is told to a takeover is so in the state in which it is told: a record that is prepared,
+/// with epoch 0, one that is committed, with the epoch of the commit, or a marker, with its epoch;
+/// each of a transaction whose coordinator isn't a full member.
+pub fn reports_are_true()
+    ensures { ReportsAreTrue }
+{}

@@ -1,0 +1,47 @@
+//! Who goes on holding locks.
+ghost use Rattle.std.specs.Prelude.{nat_eq};
+
+use crate::{Keeper, Lock, LockTable, Mode};
+use sig_core::{Key, TxId};
+use std::test::Fail;
+
+// The transaction of this number alone.
+#[derive(Drop)]
+struct Only(u64);
+
+impl Keeper for Only {
+    ghost keeps = { λ only key tx. nat_eq tx.seq only.0 };
+
+    fn keeps(&self, _key: &Key, tx: TxId) -> bool {
+        tx.seq == self.0
+    }
+}
+
+fn tx(seq: u64) -> TxId {
+    TxId {
+        tc: 1,
+        start: 0,
+        seq,
+    }
+}
+
+#[test]
+fn one_goes_on_holding(rt: HostRuntime) -> Result<(), Fail> {
+    let mut table = LockTable::new(rt.alloc())?;
+    let a = Key::new(b"a")?;
+    let b = Key::new(b"b")?;
+    assert_eq!(rt; table.request(tx(1), &a, Mode::Shared)?, Lock::Granted);
+    assert_eq!(rt; table.request(tx(2), &a, Mode::Shared)?, Lock::Granted);
+    assert_eq!(rt; table.request(tx(2), &b, Mode::Exclusive)?, Lock::Granted);
+    let ahead = tx(1);
+    assert_eq!(rt;
+        table.request(tx(3), &a, Mode::Exclusive)?,
+        Lock::Queued { ahead }
+    );
+    table.keep(&Only(1));
+    assert_eq!(rt; table.holder(&a, 0), Some(tx(1)));
+    assert_eq!(rt; table.holder(&a, 1), None);
+    assert_eq!(rt; table.holder(&b, 0), None);
+    assert_eq!(rt; table.ahead(tx(3), &a), None);
+    Ok(())
+}
