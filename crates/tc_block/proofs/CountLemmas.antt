@@ -1,5 +1,6 @@
 -- How many transactions a step leaves to a coordinator, and how many signals it sends for what an installation left to do.
-use Rattle.std.proofs.Common.{◌≡◌, ◌==◌, ◌≤◌, ◌+◌, ℕ, zero, suc, Bool, true, false, List, [], ◌∷◌, ◌++◌, length, remove, slice_get, take, drop, nat_lt, nat_le, refl, sym, subst}
+use Rattle.std.proofs.Common.{◌≡◌, ◌==◌, ◌≤◌, ◌+◌, arith, ℕ, zero, suc, Bool, true, false, List, [], ◌∷◌, ◌++◌, length, remove, slice_get, take, drop, nat_lt, nat_le, refl, sym, subst}
+use Rattle.std.proofs.lemmas.Bool.{leb-false}
 use Rattle.std.specs.Map.{values_of}
 use Rattle.std.specs.Prelude.{◌-◌, ◌^◌, ◌||◌, Option, None, Some, if◌then◌else◌}
 use Rattle.indexmap.specs.IndexMap.{insert_entry, set_value_at}
@@ -29,7 +30,8 @@ use Rattle.tc_block.proofs.TurnRows.{PlacedStep, goes, idles, lacks, lost, opens
 use Rattle.tc_block.proofs.LiveSplit.{Live}
 
 few_removed : {X : Type 0} (xs : List X) (i : ℕ) → length (remove xs i) ≤ length xs
-few_removed [] i = omega arith
+few_removed [] zero = omega arith
+few_removed [] (suc i) = omega arith
 few_removed (x ∷ xs) zero = omega arith
 few_removed (x ∷ xs) (suc i) = omega (arith, few_removed xs i)
 
@@ -71,7 +73,7 @@ few_live s body few = by (tc_table s body) (placed_step s body)
     by step (lacks name about is) = subst Few (sym is) few
     by step (opens name about some is) =
         subst Few (sym is)
-        (let under : nat_le 64 (length s.live) ≡ false = room (nat_le 64 (length s.live)) some in
+        (let under = leb-false 64 (length s.live) (room (nat_le 64 (length s.live)) some) in
         omega (arith, few_inserted s.live (next_tx s) fresh, under))
     by step (tells tx ahead about is) = subst Few (sym is) few
     by step (lost turns none is) = subst Few (sym is) few
@@ -100,7 +102,7 @@ few_taken (suc n) [] = omega arith
 few_taken (suc n) (x ∷ xs) = omega (arith, few_taken n xs)
 
 joined_length : {X : Type 0} (xs ys : List X) → length (xs ++ ys) ≡ length xs + length ys
-joined_length [] ys = refl
+joined_length [] ys = omega arith
 joined_length (x ∷ xs) ys = omega (arith, joined_length xs ys)
 
 few_rest : (node : ℕ) (tx : TxId) (at : ℕ) (b : Bool) → length (rest_if node tx at b) ≤ 1
@@ -119,7 +121,7 @@ few_part node tx sends at =
     )
 
 module _ (node : ℕ) (layout : Layout) (tx : TxId) where
-  FewSent : Turn → Type 0
+  abbrev FewSent : Turn → Type 0
   FewSent turn = length turn.step.effects.sends ≤ 9
 
   few_entered : (t : Transaction) (phase : Phase) → length (entering node layout tx t phase).effects.sends ≤ 9

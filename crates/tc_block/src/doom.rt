@@ -16,7 +16,8 @@ impl Transaction {
     pub fn is_doomed_by(&self, view: &View) -> bool
         ensures { result ≡ is_doomed_by view.now self.now }
     {
-        is_undecided(self.phase) && (self.asked.is_some() || some_stray(view, self.touched.as_slice()))
+        is_undecided(self.phase)
+            && (self.asked.is_some() || some_stray(view, self.touched.as_slice()))
     }
 }
 
@@ -40,7 +41,10 @@ fn some_stray(view: &View, touched: &[Touched]) -> bool
 fn strays(view: &View, t: &Touched) -> bool
     ensures { result ≡ strays view.now t.now }
 {
-    t.chain.as_slice().iter().any(|member| is_outside(view, member))
+    t.chain
+        .as_slice()
+        .iter()
+        .any(|member| is_outside(view, member))
 }
 
 // Whether the view does without this start of a node.
@@ -53,7 +57,10 @@ fn is_outside(view: &View, member: &Member) -> bool
 fn has(members: &Members, member: &Member) -> bool
     ensures { result ≡ list_any (is_member member.now) members.now }
 {
-    members.as_slice().iter().any(|other| is_same(member, other))
+    members
+        .as_slice()
+        .iter()
+        .any(|other| is_same(member, other))
 }
 
 fn is_same(one: &Member, other: &Member) -> bool

@@ -66,14 +66,7 @@ impl Tc {
             return;
         };
         let t = &mut self.live[at];
-        let over = t.resume(
-            self.node,
-            &self.layout,
-            task.tx,
-            task.verdict,
-            number,
-            out,
-        );
+        let over = t.resume(self.node, &self.layout, task.tx, task.verdict, number, out);
         if over {
             self.forget(at);
         }

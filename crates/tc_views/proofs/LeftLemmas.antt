@@ -1,5 +1,5 @@
 -- What an installation leaves to do.
-use Rattle.std.proofs.Common.{◌≡◌, ◌==◌, ℕ, Bool, true, false, List, [], ◌∷◌, ◌++◌, nat_lt, refl, ap}
+use Rattle.std.proofs.Common.{◌≡◌, ◌==◌, ℕ, Bool, true, false, List, [], ◌∷◌, ◌++◌, nat_lt, refl, ap, arith}
 use Rattle.std.specs.List.{All, AllPairs, flat_map}
 use Rattle.std.specs.Prelude.{Option, None, Some}
 use Rattle.sig_core.specs.declared.member.TxId.{TxId}

@@ -2,7 +2,7 @@ use Rattle.std.proofs.Common.{◌≡◌, ◌≤◌, ◌+◌, ◌++◌, length}
 use Rattle.std.specs.List.{flat_map}
 use Rattle.std.specs.Vec.{vec_capacity}
 use Rattle.tc_block.specs.Resume.{task_of}
-use Rattle.tc_block.proofs.tasks.Tc.list_tasks.Given as goal
+use Rattle.tc_block.proofs.tc.Tc.list_tasks.Given as goal
 
 -- those so far, and those of the transactions that are left, are all
 abbrev pub invariant-loop-tx : goal.invariant-loop-tx
