@@ -1,5 +1,5 @@
 -- A doomed transaction that isn't decided is decided by no step.
-use Rattle.std.proofs.Common.{◌≡◌, ◌==◌, ◌∙◌, ℕ, Bool, true, false, List, [], ◌∷◌, ◌++◌, slice_get, refl, sym, ap, subst}
+use Rattle.std.proofs.Common.{◌≡◌, ◌==◌, ◌∙◌, ℕ, Bool, true, false, List, [], ◌∷◌, ◌++◌, nat_lt, slice_get, refl, sym, ap, subst}
 use Rattle.std.specs.Map.{values_of}
 use Rattle.std.specs.Prelude.{Option, None, Some, if◌then◌else◌}
 use Rattle.indexmap.specs.IndexMap.{insert_entry}
@@ -49,7 +49,10 @@ clash : (phase other : Phase) → phase ≡ other → is_decided phase ≡ false
 clash phase other at fine = ap is_decided (sym at) ∙ fine
 
 module _ (tx : TxId) where
-  AllFine : Live → Type 0
+  abbrev One : TxId × Transaction → Type 0
+  One e = IsNotDecided tx e
+
+  abbrev AllFine : Live → Type 0
   AllFine live = Each (IsNotDecided tx) live
 
   -- no turn decides it but at an epoch
@@ -91,23 +94,20 @@ module _ (tx : TxId) where
   unfolding without
   turned_fine s one t at split turn all leaves = by turn.over
     where
-      Fine : TxId × Transaction → Type 0
-      Fine = IsNotDecided tx
+      whole : Each One (split.front ++ (one, t) ∷ split.back)
+      whole = subst (Each One) split.is all
 
-      whole : Each Fine (split.front ++ (one, t) ∷ split.back)
-      whole = subst (Each Fine) split.is all
+      front : Each One split.front
+      front = each_before One split.front ((one, t) ∷ split.back) whole
 
-      front : Each Fine split.front
-      front = each_before Fine split.front ((one, t) ∷ split.back) whole
-
-      back : Each Fine split.back
-      back = (each_after Fine split.front ((one, t) ∷ split.back) whole).1
+      back : Each One split.back
+      back = (each_after One split.front ((one, t) ∷ split.back) whole).1
 
       by : (b : Bool) → AllFine (turned_if s at turn b).state.live
-      by true = subst (Each Fine) (sym split.gone) (each_append Fine split.front split.back front back)
+      by true = subst (Each One) (sym split.gone) (each_append One split.front split.back front back)
       by false =
-          subst (Each Fine) (sym (split.set turn.step.state))
-          (each_append Fine split.front ((one, turn.step.state) ∷ split.back) front (leaves, back))
+          subst (Each One) (sym (split.set turn.step.state))
+          (each_append One split.front ((one, turn.step.state) ∷ split.back) front (leaves, back))
 
   own : (s : TcState) (one : TxId) (t : Transaction) (at : ℕ) → Split one t s.live at → AllFine s.live
       → IsNotDecided tx (one, t)
@@ -190,7 +190,7 @@ module _ (tx : TxId) where
       at_place None here = all
       at_place (Some at) here = at_value at here (slice_get (values_of s.live) at) refl
 
-  Fine : CoordinatorState → Type 0
+  abbrev Fine : CoordinatorState → Type 0
   Fine s = AllFine s.tc.live
 
   goes_on : (s : CoordinatorState) (number : ℕ) → Fine s → Fine (resumes_row s number).state
@@ -233,11 +233,11 @@ module _ (tx : TxId) where
   table_fine s number (Membership (FenceReq proposal)) doomed fine = fine
   table_fine s number (Host (Continue work.Installation at)) doomed fine = goes_on s number fine
   table_fine s number (Host (Continue (work.Transaction one) at)) doomed fine =
-      unless_fine s _ _ (λ other epoch off is. absurd cc) fine
+      unless_fine s (Host (Continue (work.Transaction one) at)) (nat_lt number s.number) (λ other epoch off is. absurd cc) fine
   table_fine s number (Client (TcRollbackReq one)) doomed fine =
-      unless_fine s _ _ (λ other epoch off is. absurd cc) fine
+      unless_fine s (Client (TcRollbackReq one)) (is_to_fail s.left one) (λ other epoch off is. absurd cc) fine
   table_fine s number (Epoch (DiVerifyConf one epoch)) doomed fine =
-      unless_fine s _ _ named fine
+      unless_fine s (Epoch (DiVerifyConf one epoch)) (is_among s.doomed one) named fine
     where
       named : (other : TxId) (e : ℕ) → is_among s.doomed one ≡ false
           → Epoch (DiVerifyConf one epoch) ≡ Epoch (DiVerifyConf other e)

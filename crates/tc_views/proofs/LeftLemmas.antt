@@ -1,6 +1,7 @@
 -- What an installation leaves to do.
 use Rattle.std.proofs.Common.{◌≡◌, ◌==◌, ℕ, Bool, true, false, List, [], ◌∷◌, ◌++◌, nat_lt, refl, ap, arith}
-use Rattle.std.specs.List.{All, AllPairs, flat_map}
+use Rattle.std.specs.List.{flat_map}
+use Rattle.run_theory.specs.Lists.{Each}
 use Rattle.std.specs.Prelude.{Option, None, Some}
 use Rattle.sig_core.specs.declared.member.TxId.{TxId}
 use Rattle.sig_core.specs.declared.outcome.AbortCause.TheVariants.{NodeFail}
@@ -17,7 +18,7 @@ use Rattle.tc_block.specs.Doom.{is_among, is_undecided}
 use Rattle.tc_block.specs.Resume.{resume_by, resume_row, task_if, task_of, tasks_in, verdict_of}
 use Rattle.tc_block.specs.Sends.{entering}
 use Rattle.tc_block.specs.Turn.{asking}
-use Rattle.tc_views.specs.Laws.{AreApart, AreOfTwo, FailedAreToldTheView, FailsBy, NoneIsLeftTwice}
+use Rattle.tc_views.specs.Laws.{AreLeftOnce, AreOnce, FailedAreToldTheView, FailsBy, NoneIsLeftTwice}
 use Rattle.tc_views.specs.State.{CoordinatorState}
 use Rattle.tc_views.specs.Views.{install_row, tasks_if}
 
@@ -25,33 +26,30 @@ abbrev Live : Type 0
 Live = List (TxId × Transaction)
 
 -- what is left for other transactions is of others
-others : (doomed : List TxId) (e : TxId × Transaction) (verdict : Verdict) (es : Live) → All (AreApart e) es
-    → All (AreOfTwo (record { tx = e.0; verdict = verdict })) (flat_map (task_of doomed) es)
-others doomed e verdict [] apart = tt
-others doomed e verdict (one ∷ es) apart = by (verdict_of one.1 (is_among doomed one.0)) (others doomed e verdict es apart.1)
+others : (doomed : List TxId) (e : TxId × Transaction) (es : Live) → Each (λ other. same_tx e.0 other.0 ≡ false) es
+    → Each (λ (other : Task). same_tx e.0 other.tx ≡ false) (flat_map (task_of doomed) es)
+others doomed e [] apart = tt
+others doomed e (one ∷ es) apart = by (verdict_of one.1 (is_among doomed one.0)) (others doomed e es apart.1)
   where
-    task : Task
-    task = record { tx = e.0; verdict = verdict }
-
-    by : (o : Option Verdict) → All (AreOfTwo task) (flat_map (task_of doomed) es)
-        → All (AreOfTwo task) (task_if one.0 o ++ flat_map (task_of doomed) es)
+    by : (o : Option Verdict) → Each (λ (other : Task). same_tx e.0 other.tx ≡ false) (flat_map (task_of doomed) es)
+        → Each (λ (other : Task). same_tx e.0 other.tx ≡ false) (task_if one.0 o ++ flat_map (task_of doomed) es)
     by None rest = rest
     by (Some other) rest = (apart.0, rest)
 
-tasks_apart : (doomed : List TxId) (es : Live) → AllPairs AreApart es → AllPairs AreOfTwo (flat_map (task_of doomed) es)
+tasks_apart : (doomed : List TxId) (es : Live) → AreOnce es → AreLeftOnce (flat_map (task_of doomed) es)
 tasks_apart doomed [] apart = tt
 tasks_apart doomed (e ∷ es) apart = by (verdict_of e.1 (is_among doomed e.0)) (tasks_apart doomed es apart.1)
   where
-    by : (o : Option Verdict) → AllPairs AreOfTwo (flat_map (task_of doomed) es)
-        → AllPairs AreOfTwo (task_if e.0 o ++ flat_map (task_of doomed) es)
+    by : (o : Option Verdict) → AreLeftOnce (flat_map (task_of doomed) es)
+        → AreLeftOnce (task_if e.0 o ++ flat_map (task_of doomed) es)
     by None rest = rest
-    by (Some verdict) rest = (others doomed e verdict es apart.0, rest)
+    by (Some verdict) rest = (others doomed e es apart.0, rest)
 
 pub none_is_left_twice : NoneIsLeftTwice
 unfolding install_row tasks_in
 none_is_left_twice s view apart = by (nat_lt view.number s.fence)
   where
-    by : (b : Bool) → AllPairs AreOfTwo (tasks_if s b)
+    by : (b : Bool) → AreLeftOnce (tasks_if s b)
     by true = tt
     by false = tasks_apart s.doomed s.tc.live apart
 

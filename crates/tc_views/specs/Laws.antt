@@ -1,6 +1,5 @@
 -- What is true of a coordinator under views, whatever comes.
-use Rattle.std.specs.Prelude.{◌≡◌, ℕ, Bool, true, false, nat_lt, [], ◌∷◌, None}
-use Rattle.std.specs.List.{AllPairs}
+use Rattle.std.specs.Prelude.{◌≡◌, ℕ, true, false, nat_lt, List, [], ◌∷◌}
 use Rattle.run_theory.specs.Lists.{Each}
 use Rattle.frag_map.specs.Layout.{Layout}
 use Rattle.sig_core.specs.declared.member.TxId.{TxId}
@@ -57,18 +56,19 @@ DoomedAreNotDecided =
     (s : CoordinatorState) (x : Signal) (tx : TxId) → is_among s.doomed tx ≡ true
     → Each (IsNotDecided tx) s.tc.live → Each (IsNotDecided tx) (coordinator_row s x).state.tc.live
 
--- the two are different transactions
-abbrev pub AreApart : TxId × Transaction → TxId × Transaction → Type 0
-AreApart one other = same_tx one.0 other.0 ≡ false
+-- no transaction stands twice among those that aren't forgotten
+abbrev pub AreOnce : List (TxId × Transaction) → Type 0
+AreOnce [] = Unit {0}
+AreOnce (e ∷ live) = Each (λ other. same_tx e.0 other.0 ≡ false) live × AreOnce live
 
-abbrev pub AreOfTwo : Task → Task → Type 0
-AreOfTwo one other = same_tx one.tx other.tx ≡ false
+-- nor in what is left to do
+abbrev pub AreLeftOnce : List Task → Type 0
+AreLeftOnce [] = Unit {0}
+AreLeftOnce (task ∷ left) = Each (λ other. same_tx task.tx other.tx ≡ false) left × AreLeftOnce left
 
 -- what an installation leaves to do has no transaction twice
 abbrev pub NoneIsLeftTwice : Type 0
-NoneIsLeftTwice =
-    (s : CoordinatorState) (view : View) → AllPairs AreApart s.tc.live
-    → AllPairs AreOfTwo (install_row s view).state.left
+NoneIsLeftTwice = (s : CoordinatorState) (view : View) → AreOnce s.tc.live → AreLeftOnce (install_row s view).state.left
 
 -- a transaction that is aborted since a node failed, by the number of the view: its end is told with that number, or it is
 -- its cause

@@ -49,16 +49,16 @@ install_row s view =
     }
 
 -- and then it goes on with what is left
-abbrev pub and_go_on : CoordinatorState → Step CoordinatorState → Step CoordinatorState
-and_go_on s step =
+abbrev pub and_go_on : Step CoordinatorState → Step CoordinatorState
+and_go_on step =
     record {
       state = step.state;
-      effects = joined step.effects (sends_only (go_on_with s.tc.node s.left));
+      effects = joined step.effects (sends_only (go_on_with step.state.tc.node step.state.left));
     }
 
 -- the first thing that is left is done
 abbrev pub resume_first : CoordinatorState → Task → Step CoordinatorState
-resume_first s task = and_go_on s (within s (resume_step s.tc task s.number))
+resume_first s task = and_go_on (within s (resume_step s.tc task s.number))
 
 abbrev pub resume_by : CoordinatorState → List Task → Step CoordinatorState
 resume_by s [] = stay s

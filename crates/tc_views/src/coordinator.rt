@@ -52,12 +52,7 @@ impl Coordinator {
     ///
     /// # Errors
     /// `NoMemory`.
-    pub fn new(
-        alloc: Global,
-        node: u8,
-        start: u32,
-        layout: Layout,
-    ) -> Result<Coordinator, NoMemory>
+    pub fn new(alloc: Global, node: u8, start: u32, layout: Layout) -> Result<Coordinator, NoMemory>
         ensures { IfOk result (λ coordinator. coordinator ≡ fresh_coordinator node start layout) }
     {
         let number = layout.view().number;

@@ -5,7 +5,9 @@ ghost use Rattle.tc_views.specs.State.{go_on_with};
 ghost use Rattle.tc_views.specs.Views.{fence_row, greater, install_row, resume_first, resume_row, tasks_at};
 
 use crate::coordinator::Coordinator;
-use sig_core::{Actor, Body, HostSignal, MembershipSignal, Outs, View, Work, coordinator, membership};
+use sig_core::{
+    Actor, Body, HostSignal, MembershipSignal, Outs, View, Work, coordinator, membership,
+};
 use std::mem;
 use tc_block::Task;
 
@@ -17,7 +19,8 @@ impl Coordinator {
         ensures { IsTaken (fence_row self.old proposal.now) self.new out.old out.new }
     {
         self.fence = greater(self.fence, proposal.number);
-        self.tc.list_doomed(proposal, self.doomed.as_slice(), &mut self.spare);
+        self.tc
+            .list_doomed(proposal, self.doomed.as_slice(), &mut self.spare);
         mem::swap(&mut self.doomed, &mut self.spare);
         out.send(
             membership(self.tc.node()),
