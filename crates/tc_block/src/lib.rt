@@ -4,13 +4,18 @@
 mod abort;
 mod commit;
 mod complete;
+mod doom;
 mod operate;
 mod phase;
+mod resume;
 mod sends;
+mod task;
+mod tasks;
 mod tc;
 mod touched;
 mod transaction;
 
+pub use task::{Task, Verdict};
 pub use tc::{TRANSACTIONS, Tc};
 
 #[cfg(test)]
