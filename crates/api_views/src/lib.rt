@@ -1,0 +1,18 @@
+//! The client's side of a cluster that fails: what the API does where nodes stop, are cut off, or
+//! are left out of a view.
+#![tactic(auto)]
+
+mod client;
+mod closings;
+mod commands;
+mod cuts;
+mod members;
+mod pending;
+mod reports;
+mod stops;
+
+pub use client::Client;
+pub use closings::Closing;
+pub use cuts::CutPair;
+pub use reports::Verdict;
+pub use stops::HostStop;
