@@ -15,7 +15,9 @@ mod views;
 mod wait;
 
 pub use api::Api;
-pub use opened::{Doing, OpenTransaction, is_beginning, is_unanswered, place_beginning_at, place_named};
+pub use opened::{
+    Doing, OpenTransaction, is_beginning, is_unanswered, place_beginning_at, place_named,
+};
 
 #[cfg(test)]
 mod tests;

@@ -69,12 +69,7 @@ impl Api {
     /// # Errors
     /// `NoMemory`, and then nothing has happened.
     #[tactic(auto, unfolding(crate::specs::Outcome::commit_report_row))]
-    pub fn report_commit(
-        &mut self,
-        tx: TxId,
-        epoch: u64,
-        out: &mut Outs,
-    ) -> Result<(), NoMemory>
+    pub fn report_commit(&mut self, tx: TxId, epoch: u64, out: &mut Outs) -> Result<(), NoMemory>
         requires { HasRoom out.old }
         ensures ok { OnOk result (IsTaken (commit_report_row self.old tx epoch) self.new out.old out.new) }
         ensures err { OnErr result (IsUntouched self.old self.new out.old out.new) }

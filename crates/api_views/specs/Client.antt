@@ -84,7 +84,7 @@ is_known s x = is_member s.api.view x.member
 abbrev pub client_table : ClientState → Signal → Body → Step ClientState
 client_table s x (Host (Continue (Request r) at)) = asked_row s r
 client_table s x (Host (Continue Report at)) = report_row s
-client_table s x (Host (Closed cause)) = stop_row s x.member x.from.0 cause
+client_table s x (Host (Closed cause)) = stop_row s x.member x.from cause
 client_table s x (Client ViewRep) = view_row s x.view
 client_table s x (Epoch (GcpRep epoch)) = closed_row s Gcp epoch
 client_table s x (Epoch (MicroRep epoch)) = closed_row s Micro epoch

@@ -15,6 +15,7 @@ use Rattle.sig_core.specs.Place.{coordinator, membership, rows_of}
 use Rattle.sig_core.specs.Step.{Step, sending, sends_only, stay, to_place}
 use Rattle.api_block.specs.Api.{request_row}
 use Rattle.api_block.specs.Commands.{beginning, or_none}
+use Rattle.api_block.specs.Members.{lesser}
 use Rattle.api_block.specs.Opened.{place_named}
 use Rattle.api_views.specs.declared.cuts.CutPair.{CutPair}
 use Rattle.api_views.specs.declared.stops.HostStop.{HostStop}
@@ -27,7 +28,7 @@ on_api s request = within (aside s) (request_row s.api request)
 
 -- the member is at this node, and hasn't stopped
 abbrev pub serves_at : List HostStop → ℕ → Member → Bool
-serves_at stops node member = (member.node == node) && still_runs stops member
+serves_at stops node member = still_runs stops member && (member.node == node)
 
 -- the node has a full member that hasn't stopped
 unfoldable pub serves : ClientState → ℕ → Bool
@@ -36,7 +37,7 @@ serves s node = list_any (serves_at s.stops node) s.api.view.full
 -- the least node of a full member that hasn't stopped, of these and what is known
 abbrev pub lower_by : ℕ → Option ℕ → Option ℕ
 lower_by node None = Some node
-lower_by node (Some least) = Some (if nat_lt node least then node else least)
+lower_by node (Some least) = Some (lesser least node)
 
 abbrev pub lower_if : Option ℕ → ℕ → Bool → Option ℕ
 lower_if least node true = lower_by node least
@@ -99,7 +100,7 @@ first_host node = 3 * node - 2
 
 -- its hosts are to be cut off
 abbrev pub cut_body : ℕ → Body
-cut_body node = Host (Cut node (first_host node))
+cut_body node = Host (Cut node (record { 0 = first_host node }))
 
 -- a signal for each host of a node
 abbrev pub to_hosts : ℕ → Body → List Outgoing

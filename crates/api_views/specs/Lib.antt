@@ -1,6 +1,7 @@
 pub mod Client
 pub mod Closings
 pub mod Commands
+pub mod Laws
 pub mod Members
 pub mod Pending
 pub mod Reports

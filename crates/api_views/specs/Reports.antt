@@ -1,5 +1,6 @@
 -- What the client is told of commands and transactions that get no answer any more, one an event.
 use Rattle.std.specs.Prelude.{ℕ, ◌||◌, if◌then◌else◌, Bool, true, false, is_some, List, [], ◌∷◌, ◌++◌, position, Option, None, Some}
+use Rattle.sig_core.specs.declared.member.HostId.{HostId}
 use Rattle.sig_core.specs.declared.member.Member.{Member}
 use Rattle.sig_core.specs.declared.member.TxId.{TxId}
 use Rattle.sig_core.specs.declared.outcome.AbortCause.TheVariants.{Down, NodeFail}
@@ -19,12 +20,12 @@ use Rattle.api_block.specs.declared.opened.Doing.TheVariants.{Committing}
 use Rattle.api_block.specs.declared.opened.OpenTransaction.{OpenTransaction}
 use Rattle.api_block.specs.Opened.{is_beginning, where_at}
 use Rattle.api_block.specs.Outcome.{ending, over}
-use Rattle.api_block.specs.State.{replied, with_dump}
+use Rattle.api_block.specs.State.{ApiState, replied, with_dump}
 use Rattle.api_block.specs.Views.{dump_node}
 use Rattle.api_views.specs.declared.reports.Verdict.{Verdict}
 use Rattle.api_views.specs.declared.reports.Verdict.TheVariants.{NeverBegins, Ends}
 use Rattle.api_views.specs.Members.{first_start, greater_view, is_member}
-use Rattle.api_views.specs.State.{ClientState, telling, with_api, within}
+use Rattle.api_views.specs.State.{ClientState, with_api, within}
 use Rattle.api_views.specs.Stops.{is_down, is_told, is_sibling, ldm_stopped, stop_of, tc_stopped}
 
 -- the member whose coordinator began a transaction
@@ -113,14 +114,15 @@ unfoldable pub report_row : ClientState → Step ClientState
 report_row s = going_on (told_if s (dump_breaks s))
 
 -- a node's stop is told with the cause of the first of its hosts that didn't stop because of another
-abbrev pub stop_told_if : ClientState → ℕ → StopCause → Bool → ClientState
+abbrev pub stop_told_if : ApiState → ℕ → StopCause → Bool → ApiState
 stop_told_if s node cause true = s
-stop_told_if s node cause false = telling s (Stopped node cause)
+stop_told_if s node cause false = replied s (Stopped node cause ∷ [])
 
 -- a host stopped
-abbrev pub with_stop : ClientState → Member → ℕ → StopCause → ClientState
+abbrev pub with_stop : ClientState → Member → HostId → StopCause → ClientState
 with_stop s member host cause =
-    record (stop_told_if s member.node cause (is_sibling cause || is_told s.stops member)) {
+    record s {
+      api = stop_told_if s.api member.node cause (is_sibling cause || is_told s.stops member);
       stops = s.stops ++ stop_of member host cause ∷ [];
     }
 
@@ -132,7 +134,7 @@ unasked_if s false = s
 abbrev pub unasked : ClientState → ClientState
 unasked s = unasked_if s (is_down s)
 
-unfoldable pub stop_row : ClientState → Member → ℕ → StopCause → Step ClientState
+unfoldable pub stop_row : ClientState → Member → HostId → StopCause → Step ClientState
 stop_row s member host cause = going_on (stay (unasked (with_stop s member host cause)))
 
 -- the takeover of a view is complete

@@ -1,6 +1,7 @@
 -- Hosts that stopped, and what that says of their nodes.
 use Rattle.std.specs.Prelude.{ℕ, ◌%◌, ◌==◌, ◌&&◌, Bool, true, false, not, nat_le, List, [], ◌∷◌, ◌++◌}
 use Rattle.std.specs.List.{list_any}
+use Rattle.sig_core.specs.declared.member.HostId.{HostId}
 use Rattle.sig_core.specs.declared.member.Member.{Member}
 use Rattle.sig_core.specs.declared.outcome.StopCause.{StopCause}
 use Rattle.sig_core.specs.declared.outcome.StopCause.TheVariants.{Sibling}
@@ -21,7 +22,7 @@ abbrev pub is_sibling : StopCause → Bool
 is_sibling (Sibling host) = true
 is_sibling _ = false
 
-abbrev pub stop_of : Member → ℕ → StopCause → HostStop
+abbrev pub stop_of : Member → HostId → StopCause → HostStop
 stop_of member host cause = record { member = member; host = host; sibling = is_sibling cause }
 
 abbrev pub is_of : Member → HostStop → Bool
@@ -40,14 +41,14 @@ is_told stops member = list_any (tells member) stops
 
 -- the host of its coordinator has stopped, from which no answer comes any more
 abbrev pub ends_tc : Member → HostStop → Bool
-ends_tc member stop = is_of member stop && is_tc stop.host
+ends_tc member stop = is_of member stop && is_tc stop.host.0
 
 unfoldable pub tc_stopped : List HostStop → Member → Bool
 tc_stopped stops member = list_any (ends_tc member) stops
 
 -- and the host of its rows
 abbrev pub ends_ldm : Member → HostStop → Bool
-ends_ldm member stop = is_of member stop && is_ldm stop.host
+ends_ldm member stop = is_of member stop && is_ldm stop.host.0
 
 unfoldable pub ldm_stopped : List HostStop → Member → Bool
 ldm_stopped stops member = list_any (ends_ldm member) stops

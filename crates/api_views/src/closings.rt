@@ -74,7 +74,12 @@ impl Client {
 
     // An epoch is closed.
     #[tactic(auto, unfolding(crate::specs::Closings::closed_row))]
-    pub(crate) fn closed(&mut self, closing: Closing, epoch: u64, out: &mut Outs) -> Result<(), NoMemory>
+    pub(crate) fn closed(
+        &mut self,
+        closing: Closing,
+        epoch: u64,
+        out: &mut Outs,
+    ) -> Result<(), NoMemory>
         ensures ok { OnOk result (IsTaken (closed_row self.old closing epoch) self.new out.old out.new) }
         ensures err { OnErr result (IsUntouched self.old self.new out.old out.new) }
     {

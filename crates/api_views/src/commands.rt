@@ -18,7 +18,7 @@ use std::alloc::Global;
 fn serves_at(stops: &[HostStop], node: u8, member: &Member) -> bool
     ensures { result ≡ serves_at stops.now node member.now }
 {
-    member.node == node && still_runs(stops, member)
+    still_runs(stops, member) && member.node == node
 }
 
 fn lower_by(node: u8, least: Option<u8>) -> Option<u8>

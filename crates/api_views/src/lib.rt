@@ -6,6 +6,7 @@ mod client;
 mod closings;
 mod commands;
 mod cuts;
+mod laws;
 mod members;
 mod pending;
 mod reports;
@@ -14,5 +15,9 @@ mod stops;
 pub use client::Client;
 pub use closings::Closing;
 pub use cuts::CutPair;
+pub use laws::{calm_steps, dropped_changes_nothing};
 pub use reports::Verdict;
 pub use stops::HostStop;
+
+#[cfg(test)]
+mod tests;

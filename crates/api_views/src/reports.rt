@@ -1,14 +1,13 @@
 //! What the client is told of commands and transactions that get no answer any more.
 ghost use Rattle.std.specs.Prelude.{◌≡◌, ◌<◌, ◌+◌, ◌≤◌, position, length, slice_get, IfSome, OnOk, OnErr};
 ghost use Rattle.sig_core.specs.Step.{HasRoom, IsTaken, IsUntouched, joined, sends_only};
-ghost use Rattle.std.specs.Vec.{vec_capacity};
 ghost use Rattle.api_block.specs.Views.{dump_node};
 ghost use Rattle.api_views.specs.Reports.{begun_verdict, broken_by, complete_row, down_outcome, dump_breaks, ended_by, failed_by, first_ended, going_on, greater_of, has_more, is_due, more_if, place_due, report_row, stop_row, stop_told_if, told_if, unasked, unbegun_if, verdict, with_stop};
 
 use crate::client::Client;
 use crate::members::{first_start, greater_view, is_member};
 use crate::stops::{HostStop, is_sibling, is_told, ldm_stopped, tc_stopped};
-use api_block::{Doing, OpenTransaction, is_beginning};
+use api_block::{Api, Doing, OpenTransaction, is_beginning};
 use sig_core::{
     AbortCause, ApiReply, Body, CLIENT, HostId, HostSignal, Member, NoMemory, Outcome, Outs,
     Refusal, StopCause, TxId, View, Work,
@@ -229,7 +228,7 @@ impl Client {
         out: &mut Outs,
     ) -> Result<(), NoMemory>
         requires { HasRoom out.old }
-        ensures ok { OnOk result (IsTaken (stop_row self.old member.now host.0 cause.now) self.new out.old out.new) }
+        ensures ok { OnOk result (IsTaken (stop_row self.old member.now host cause.now) self.new out.old out.new) }
         ensures err { OnErr result (IsUntouched self.old self.new out.old out.new) }
     {
         match self.note_stop(member, host, cause) {
@@ -249,29 +248,15 @@ impl Client {
         host: HostId,
         cause: &StopCause,
     ) -> Result<(), NoMemory>
-        ensures ok { OnOk result (self.new ≡ with_stop self.old member.now host.0 cause.now) }
+        ensures ok { OnOk result (self.new ≡ with_stop self.old member.now host cause.now) }
         ensures err { OnErr result (self.new ≡ self.old) }
     {
         self.stops.reserve(1)?;
         let told = is_sibling(cause) || is_told(&self.stops, member);
-        self.tell_stop(member.node, cause, told)?;
-        self.stops.push_reserved(HostStop::new(*member, host, cause));
+        tell_stop(&mut self.api, member.node, cause, told)?;
+        self.stops
+            .push_reserved(HostStop::new(*member, host, cause));
         Ok(())
-    }
-
-    // Tells of a node's stop, unless that was told.
-    fn tell_stop(&mut self, node: u8, cause: &StopCause, told: bool) -> Result<(), NoMemory>
-        ensures ok { OnOk result (self.new ≡ stop_told_if self.old node cause.now told) }
-        ensures err { OnErr result (self.new ≡ self.old) }
-        ensures room { vec_capacity self.new.stops ≡ vec_capacity self.old.stops }
-    {
-        if told {
-            return Ok(());
-        }
-        self.api.reply(ApiReply::Stopped {
-            node,
-            cause: *cause,
-        })
     }
 
     // When the cluster is down no closing of an epoch is waited for.
@@ -294,6 +279,20 @@ impl Client {
         self.taken_over = Some(greater);
         self.go_on(out);
     }
+}
+
+// Tells of a node's stop, unless that was told.
+fn tell_stop(api: &mut Api, node: u8, cause: &StopCause, told: bool) -> Result<(), NoMemory>
+    ensures ok { OnOk result (api.new ≡ stop_told_if api.old node cause.now told) }
+    ensures err { OnErr result (api.new ≡ api.old) }
+{
+    if told {
+        return Ok(());
+    }
+    api.reply(ApiReply::Stopped {
+        node,
+        cause: *cause,
+    })
 }
 
 fn greater_of(view: &View, other: &Option<View>) -> View

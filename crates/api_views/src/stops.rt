@@ -18,7 +18,7 @@ pub struct HostStop {
 impl HostStop {
     /// This host stopped.
     pub fn new(member: Member, host: HostId, cause: &StopCause) -> HostStop
-        ensures { result ≡ stop_of member host.0 cause.now }
+        ensures { result ≡ stop_of member host cause.now }
     {
         HostStop {
             member,
