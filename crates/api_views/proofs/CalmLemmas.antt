@@ -1,5 +1,5 @@
 -- In a calm cluster a step of the client's side is the API's.
-use Rattle.std.proofs.Common.{◌≡◌, ℕ, Bool, true, false, List, [], ◌∷◌, refl, sym, subst}
+use Rattle.std.proofs.Common.{◌≡◌, ℕ, Bool, true, false, List, [], ◌∷◌, refl}
 use Rattle.std.specs.Prelude.{is_some, nat_lt, Option, None, Some, slice_get}
 use Rattle.sig_core.specs.declared.member.Member.{Member}
 use Rattle.sig_core.specs.declared.member.TxId.{TxId}
@@ -13,7 +13,6 @@ use Rattle.sig_core.specs.declared.signal.client.ClientSignal.TheVariants.{TcBeg
 use Rattle.sig_core.specs.declared.signal.host.HostSignal.TheVariants.{Continue}
 use Rattle.sig_core.specs.declared.signal.host.Work.TheVariants.{Request}
 use Rattle.sig_core.specs.declared.view.View.{View}
-use Rattle.sig_core.specs.Step.{Step, stay}
 use Rattle.api_block.specs.declared.opened.OpenTransaction.{OpenTransaction}
 use Rattle.api_block.specs.Api.{api_row, api_table, request_row}
 use Rattle.api_block.specs.Commands as api
@@ -24,19 +23,11 @@ use Rattle.api_block.specs.State.{ApiState}
 use Rattle.api_block.specs.Wait.{pending_if, pending_row}
 use Rattle.api_views.specs.Client.{asked_row, client_row, client_table, command_row, is_known}
 use Rattle.api_views.specs.Commands.{begin_at, begin_row, lone_by, lone_row, lowest, lowest_from, node_for, rows_row, serves}
-use Rattle.api_views.specs.declared.closings.Closing.{Closing}
-use Rattle.api_views.specs.declared.cuts.CutPair.{CutPair}
-use Rattle.api_views.specs.declared.stops.HostStop.{HostStop}
-use Rattle.api_views.specs.Laws.{IsCalm, IsCalmSignal, is_calm_body, is_served}
+use Rattle.api_views.specs.Laws.{IsCalmSignal, calm_state, is_calm_body, is_served}
 use Rattle.api_views.specs.Members.{noted}
 use Rattle.api_views.specs.Pending.{client_pending_row, obstacle, own_waits, waits_by}
 use Rattle.api_views.specs.State.{ClientState, within}
 use Rattle.api_views.specs.Stops.{has_stopped, is_down}
-
--- a client's side that knows of no stop and no cut, and asked for no closing
-abbrev pub calm_state : ApiState → ℕ → Option View → ClientState
-calm_state a nodes over =
-    record { api = a; nodes = nodes; stops = []; cuts = []; taken_over = over; closing = None; own = false }
 
 -- the least node of those that haven't stopped is that of all
 pub lowest_calm : (least : ℕ) (members : List Member)
@@ -46,7 +37,7 @@ lowest_calm least [] = refl
 lowest_calm least (m ∷ members) = lowest_calm (lesser least m.node) members
 
 pub lowest_all : (members : List Member) → lowest_from [] None members ≡ least_node members
-unfolding has_stopped, least_node
+unfolding has_stopped least_node
 lowest_all [] = refl
 lowest_all (m ∷ members) = lowest_calm m.node members
 
@@ -60,19 +51,19 @@ module _ (a : ApiState) (nodes : ℕ) (over : Option View) where
   lone_alike op (Some node) = refl
 
   pub lone_calm : (op : Op) → lone_row s op ≡ within s (request_row a (request.Operate None op))
-  unfolding lone_row, api_operate.lone_row, lowest, request_row
+  unfolding lone_row api_operate.lone_row lowest request_row
   lone_calm op = rw (lowest_all a.view.full) (lone_alike op (least_node a.view.full))
 
   -- a named transaction, by whether the name is taken and the node has a full member
   pub begin_alike : (name node : ℕ) (taken full : Bool) → is_some (place_named a (Some name)) ≡ taken → is_full a.view node ≡ full
       → begin_at s name node ≡ within s (api.begin_if a name (Some node) (is_some (place_named a (Some name))))
-  unfolding serves, has_stopped, api.begin_row, request_row
+  unfolding serves has_stopped api.begin_row request_row
   begin_alike name node true full is fits = rw (is) refl
   begin_alike name node false true is fits = rw (is, fits) refl
   begin_alike name node false false is fits = rw (is, fits) refl
 
   pub begin_calm : (name : ℕ) (node : Option ℕ) → begin_row s name node ≡ within s (request_row a (request.Begin name node))
-  unfolding begin_row, api.begin_row, request_row, lowest
+  unfolding begin_row api.begin_row request_row lowest
   begin_calm name (Some node) = begin_alike name node (is_some (place_named a (Some name))) (is_full a.view node) refl refl
   begin_calm name None = rw (lowest_all a.view.full)
       (begin_alike name (api.node_for a.view None) (is_some (place_named a (Some name))) (is_full a.view (api.node_for a.view None)) refl refl)
@@ -80,21 +71,21 @@ module _ (a : ApiState) (nodes : ℕ) (over : Option View) where
   -- rows
   pub rows_alike : (r : ApiReq) (node : ℕ) (digest full : Bool) → is_full a.view node ≡ full
       → request_row a r ≡ api.dump_row a node digest → rows_row s r node ≡ within s (request_row a r)
-  unfolding rows_row, serves, has_stopped, api.dump_row
+  unfolding rows_row serves has_stopped api.dump_row
   rows_alike r node digest true fits is = rw (fits) refl
   rows_alike r node digest false fits is = rw (fits, is) refl
 
   -- waits
   pub waits_alike : (t : OpenTransaction) (unanswered : Bool) (ahead : Option TxId)
       → pending_row a ≡ pending_if a t unanswered ahead → waits_by s t.name unanswered ahead ≡ within s (request_row a request.Pending)
-  unfolding obstacle, request_row
+  unfolding obstacle request_row
   waits_alike t true None is = rw (is) refl
   waits_alike t true (Some ahead) is = refl
   waits_alike t false ahead is = refl
 
   pub own_alike : (at : Option ℕ) (t : Option OpenTransaction) → own_place a ≡ at
       → ((n : ℕ) → at ≡ Some n → slice_get a.opened n ≡ t) → own_waits s ≡ within s (request_row a request.Pending)
-  unfolding request_row, pending_row
+  unfolding request_row pending_row
   own_alike None t is found = rw (is) refl
   own_alike (Some n) None is found = rw (is, found n refl) refl
   own_alike (Some n) (Some t) is found =
@@ -122,7 +113,7 @@ module _ (a : ApiState) (nodes : ℕ) (over : Option View) where
 
   -- a command, of a cluster that isn't down
   pub up_calm : (r : ApiReq) → is_served r ≡ true → is_down s ≡ false → asked_row s r ≡ within s (request_row a r)
-  unfolding asked_row, command_row
+  unfolding asked_row command_row
   up_calm (request.Begin name node) served up = rw (up) (begin_calm name node)
   up_calm (request.Operate None op) served up = rw (up) (lone_calm op)
   up_calm (request.Operate (Some name) op) served up = rw (up) refl
@@ -148,27 +139,6 @@ module _ (a : ApiState) (nodes : ℕ) (over : Option View) where
   body_calm x (Client (DumpConf rows next)) is calm up known = rw (is) refl
   body_calm x _ is calm up known = cc
 
-  pub seen_calm : (x : Signal) → IsCalmSignal s x → is_calm_body x.body ≡ true → is_down s ≡ false
-      → client_row s x ≡ within s (api_row a x)
+  pub calm : (x : Signal) → IsCalmSignal s x → is_calm_body x.body ≡ true → client_row s x ≡ within s (api_row a x)
   unfolding noted
-  seen_calm x signal calm up = rw (signal.view) (body_calm x x.body refl calm up signal.known)
-
--- what a client's side is that is calm
-pub is_calm_state : (s : ClientState) → IsCalm s → s ≡ calm_state s.api s.nodes s.taken_over
-is_calm_state s calm = by s.stops s.cuts s.closing s.own calm.stops calm.cuts calm.closing calm.own
-  where
-    by : (stops : List HostStop) (cuts : List CutPair) (closing : Option Closing) (own : Bool)
-        → stops ≡ [] → cuts ≡ [] → closing ≡ None → own ≡ false
-        → record s { stops = stops; cuts = cuts; closing = closing; own = own } ≡ calm_state s.api s.nodes s.taken_over
-    by [] [] None false refl refl refl refl = refl
-
-pub calm_by : (s t : ClientState) → s ≡ t → (x : Signal) → (IsCalmSignal t x → client_row t x ≡ within t (api_row t.api x))
-    → IsCalmSignal s x → client_row s x ≡ within s (api_row s.api x)
-calm_by s t same x known signal = subst (λ u. client_row u x ≡ within u (api_row u.api x)) (sym same) (known (subst (λ u. IsCalmSignal u x) same signal))
-
-pub calm : (s : ClientState) (x : Signal) → IsCalm s → IsCalmSignal s x → is_calm_body x.body ≡ true
-    → client_row s x ≡ within s (api_row s.api x)
-calm s x calm signal body =
-    calm_by s (calm_state s.api s.nodes s.taken_over) (is_calm_state s calm) x
-    (λ known. seen_calm s.api s.nodes s.taken_over x known body (subst (λ u. is_down u ≡ false) (is_calm_state s calm) calm.up))
-    signal
+  calm x signal body = rw (signal.view) (body_calm x x.body refl body signal.up signal.known)

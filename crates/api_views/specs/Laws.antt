@@ -8,35 +8,35 @@ use Rattle.sig_core.specs.declared.signal.Signal.{Signal}
 use Rattle.sig_core.specs.declared.signal.client.ClientSignal.TheVariants.{TcBeginConf, TcBeginRef, TcKeyConf, TcCommitConf, TcRollbackRep, TcKeyFailConf, TcKeyFailRef, NfCompleteRep, TcWaitConf, DumpConf}
 use Rattle.sig_core.specs.declared.signal.host.HostSignal.TheVariants.{Continue}
 use Rattle.sig_core.specs.declared.signal.host.Work.TheVariants.{Request}
+use Rattle.sig_core.specs.declared.view.View.{View}
 use Rattle.sig_core.specs.Step.{stay}
 use Rattle.api_block.specs.Api.{api_row}
+use Rattle.api_block.specs.State.{ApiState}
 use Rattle.api_views.specs.Client.{client_row, is_known}
 use Rattle.api_views.specs.Members.{noted}
 use Rattle.api_views.specs.State.{ClientState, within}
 use Rattle.api_views.specs.Stops.{is_down}
 
--- no host stopped, no node was cut, no closing of an epoch is asked for, and the view has a full member
-pub record IsCalm (s : ClientState) : Type 0 where
-  pub stops : s.stops ≡ []
-  pub cuts : s.cuts ≡ []
-  pub closing : s.closing ≡ None
-  pub own : s.own ≡ false
-  pub up : is_down s ≡ false
+-- no host stopped, no node was cut, and no closing of an epoch is asked for
+abbrev pub calm_state : ApiState → ℕ → Option View → ClientState
+calm_state a nodes over =
+    record { api = a; nodes = nodes; stops = []; cuts = []; taken_over = over; closing = None; own = false }
 
--- a signal of a member of the greatest view, that brings no greater one
+-- a signal of a member of the greatest view, which has a full member, that brings no greater one
 pub record IsCalmSignal (s : ClientState) (x : Signal) : Type 0 where
   pub view : nat_lt s.api.view.number x.view.number ≡ false
   pub known : is_known s x ≡ true
+  pub up : is_down s ≡ false
 
 -- a request that a calm cluster serves
 abbrev pub is_served : ApiReq → Bool
-is_served (request.Begin name node) = true
+is_served (request.Begin name at) = true
 is_served (request.Operate name op) = true
 is_served (request.Commit name) = true
 is_served (request.Abort name) = true
 is_served (request.Tick round of) = true
-is_served (request.Rows node) = true
-is_served (request.Digest node) = true
+is_served (request.Rows at) = true
+is_served (request.Digest at) = true
 is_served request.Waits = true
 is_served request.Pending = true
 is_served _ = false
@@ -56,8 +56,9 @@ is_calm_body _ = false
 -- in a calm cluster a step is the API's
 abbrev pub CalmSteps : Type 0
 CalmSteps =
-    (s : ClientState) (x : Signal) → IsCalm s → IsCalmSignal s x → is_calm_body x.body ≡ true
-    → client_row s x ≡ within s (api_row s.api x)
+    (a : ApiState) (nodes : ℕ) (over : Option View) (x : Signal)
+    → IsCalmSignal (calm_state a nodes over) x → is_calm_body x.body ≡ true
+    → client_row (calm_state a nodes over) x ≡ within (calm_state a nodes over) (api_row a x)
 
 -- a signal that tells how a transaction ended
 abbrev pub is_report : Body → Bool

@@ -101,12 +101,12 @@ abbrev pub first_ended : ClientState → Step ClientState
 first_ended s = where_at s.api.opened (stay s) (λ at t. ended_by s at t.name t.node (verdict s t)) (place_due s)
 
 -- the dump is over
-abbrev pub broken_by : ClientState → Option ℕ → Step ClientState
-broken_by s None = stay s
-broken_by s (Some node) = stay (with_api s (replied (with_dump s.api None) (Refused None (NoMember node) ∷ [])))
+abbrev pub broken_by : ClientState → Option ℕ → ClientState
+broken_by s None = s
+broken_by s (Some node) = with_api s (replied (with_dump s.api None) (Refused None (NoMember node) ∷ []))
 
 abbrev pub told_if : ClientState → Bool → Step ClientState
-told_if s true = broken_by s (dump_node s.api)
+told_if s true = stay (broken_by s (dump_node s.api))
 told_if s false = first_ended s
 
 -- the next thing is told

@@ -303,6 +303,7 @@ impl Actor for Client {
 
     ghost installed = { λ s view. stay (noted s view) };
 
+    #[tactic(auto, unfolding(crate::specs::Members::noted))]
     fn handle(&mut self, alloc: Global, signal: &Signal, out: &mut Outs) -> Result<(), NoMemory> {
         let before = *self.api.view();
         self.note(signal.view.get());

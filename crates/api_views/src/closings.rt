@@ -8,7 +8,7 @@ use crate::members::president;
 use sig_core::{ApiReply, Body, EpochSignal, NoMemory, Outs, Refusal, View, checkpoints};
 
 /// A closing of the current epoch.
-#[derive(Clone, Copy, Debug, PartialEq, Eq)]
+#[derive(Clone, Copy)]
 pub enum Closing {
     /// It is made durable.
     Gcp,

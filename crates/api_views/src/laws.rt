@@ -2,7 +2,7 @@
 ghost use Rattle.api_views.specs.Laws.{CalmSteps, DroppedChangesNothing};
 
 /// Where no host stopped, no node was cut and no closing of an epoch is asked for, a step at a
-/// signal of a member of the greatest view is that of the API.
+/// signal of a member of the greatest view, which has a full member, is that of the API.
 pub fn calm_steps()
     ensures { CalmSteps }
 {}

@@ -14,7 +14,7 @@ use sig_core::{
 };
 
 /// How a transaction ends that gets no answer any more.
-#[derive(Clone, Copy, Debug, PartialEq, Eq)]
+#[derive(Clone, Copy)]
 pub enum Verdict {
     /// Its coordinator stopped before it began.
     NeverBegins,
@@ -67,7 +67,10 @@ impl Client {
     fn unbegun_verdict(&self, node: u8, beginning: bool) -> Option<Verdict>
         ensures { result ≡ unbegun_if self.now node beginning }
     {
-        if beginning && tc_stopped(&self.stops, &first_start(node)) {
+        if !beginning {
+            return None;
+        }
+        if tc_stopped(&self.stops, &first_start(node)) {
             Some(Verdict::NeverBegins)
         } else {
             None
@@ -161,7 +164,7 @@ impl Client {
 
     // The dump that is under way is over.
     fn break_dump(&mut self) -> Result<(), NoMemory>
-        ensures ok { OnOk result (self.new ≡ (broken_by self.old (dump_node self.old.api)).state) }
+        ensures ok { OnOk result (self.new ≡ broken_by self.old (dump_node self.old.api)) }
         ensures err { OnErr result (self.new ≡ self.old) }
     {
         match self.api.dump_node() {

@@ -7,7 +7,7 @@ use crate::members::{first_start, is_same};
 use sig_core::{HostId, Member, StopCause};
 
 /// A host that stopped.
-#[derive(Clone, Copy, Debug, PartialEq, Eq)]
+#[derive(Clone, Copy)]
 pub struct HostStop {
     pub member: Member,
     pub host: HostId,

@@ -198,7 +198,8 @@ fn cuts_and_views(rt: HostRuntime) -> Result<(), Fail> {
         (0, 2, Heard::Pending, "pending node 2, ?"),
         (0, 2, Heard::Begin(1, None), "tc3 begin, ?"),
         (0, 2, Heard::Rows(3), "lqh3 dump 0"),
-        (9, 2, SIBLING, "api0 goes on, aborted?"),
+        (9, 2, SIBLING, "api0 goes on"),
+        (0, 2, Heard::GoOn, "no member 3"),
     ];
     talk(&rt, rt.alloc(), &lines)
 }
