@@ -1,5 +1,6 @@
 //! The commands that look at which nodes run.
 ghost use Rattle.std.specs.Prelude.{◌≡◌, ◌<◌, ◌≤◌, ◌+◌, length, None, OnOk, OnErr};
+ghost use Rattle.std.specs.List.{list_any};
 ghost use Rattle.sig_core.specs.Step.{HasRoom, IsTaken, IsUntouched, joined, sends_only, stay};
 ghost use Rattle.api_views.specs.Commands.{begin_at, begin_row, cut_body, cut_by, cut_row, kill_row, lone_row, lower, lower_by, lowest, lowest_from, node_for, rows_row, serves, serves_at, show_row, to_hosts, with_cut};
 ghost use Rattle.api_views.specs.State.{left, telling};
@@ -19,6 +20,12 @@ fn serves_at(stops: &[HostStop], node: u8, member: &Member) -> bool
     ensures { result ≡ serves_at stops.now node member.now }
 {
     still_runs(stops, member) && member.node == node
+}
+
+fn some_serves(stops: &[HostStop], node: u8, members: &[Member]) -> bool
+    ensures { result ≡ list_any (serves_at stops.now node) members.now }
+{
+    members.iter().any(|member| serves_at(stops, node, member))
 }
 
 fn lower_by(node: u8, least: Option<u8>) -> Option<u8>
@@ -57,9 +64,7 @@ impl Client {
     fn serves(&self, node: u8) -> bool
         ensures { result ≡ serves self.now node }
     {
-        let stops = self.stops.as_slice();
-        let mut full = self.api.view().full.as_slice().iter();
-        full.any(|member| serves_at(stops, node, member))
+        some_serves(&self.stops, node, self.api.view().full.as_slice())
     }
 
     // The least node of a full member that hasn't stopped.

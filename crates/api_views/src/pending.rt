@@ -1,5 +1,6 @@
 //! What an unanswered command waits for.
 ghost use Rattle.std.specs.Prelude.{◌≡◌, OnOk, OnErr, true, false};
+ghost use Rattle.std.specs.List.{list_any};
 ghost use Rattle.sig_core.specs.Firsts.{first};
 ghost use Rattle.sig_core.specs.Step.{HasRoom, IsTaken, IsUntouched, stay};
 ghost use Rattle.api_block.specs.Opened.{is_unanswered};
@@ -19,11 +20,16 @@ fn is_at(node: u8, member: &Member) -> bool
     member.node == node
 }
 
+fn is_among(node: u8, members: &[Member]) -> bool
+    ensures { result ≡ list_any (is_at node) members.now }
+{
+    members.iter().any(|member| is_at(node, member))
+}
+
 fn has_node(view: &View, node: u8) -> bool
     ensures { result ≡ has_node view.now node }
 {
-    view.full.as_slice().iter().any(|m| is_at(node, m))
-        || view.starting.as_slice().iter().any(|m| is_at(node, m))
+    is_among(node, view.full.as_slice()) || is_among(node, view.starting.as_slice())
 }
 
 fn parts(view: &View, cut: &CutPair) -> bool

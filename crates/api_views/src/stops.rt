@@ -1,5 +1,6 @@
 //! Hosts that stopped, and what that says of their nodes.
 ghost use Rattle.std.specs.Prelude.{◌≡◌};
+ghost use Rattle.std.specs.List.{list_any};
 ghost use Rattle.api_views.specs.Stops.{ends_ldm, ends_tc, has_stopped, is_down, is_ldm, is_of, is_sibling, is_tc, is_told, ldm_stopped, runs, still_runs, stop_of, tc_stopped, tells};
 
 use crate::client::Client;
@@ -116,6 +117,13 @@ pub fn still_runs(stops: &[HostStop], member: &Member) -> bool
     !has_stopped(stops, member)
 }
 
+// Whether one of the members hasn't stopped.
+fn some_run(stops: &[HostStop], members: &[Member]) -> bool
+    ensures { result ≡ list_any (still_runs stops.now) members.now }
+{
+    members.iter().any(|member| still_runs(stops, member))
+}
+
 impl Client {
     // Whether the node is one of the cluster, and none of its hosts has stopped.
     #[tactic(auto, unfolding(crate::specs::Stops::runs))]
@@ -131,8 +139,6 @@ impl Client {
     pub fn is_down(&self) -> bool
         ensures { result ≡ is_down self.now }
     {
-        let stops = self.stops.as_slice();
-        let mut full = self.api.view().full.as_slice().iter();
-        !full.any(|member| still_runs(stops, member))
+        !some_run(&self.stops, self.api.view().full.as_slice())
     }
 }
