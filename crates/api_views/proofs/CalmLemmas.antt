@@ -1,9 +1,10 @@
 -- In a calm cluster a step of the client's side is the API's.
-use Rattle.std.proofs.Common.{◌≡◌, ℕ, Bool, true, false, List, [], ◌∷◌, refl}
-use Rattle.std.specs.Prelude.{is_some, nat_lt, Option, None, Some, slice_get}
+use Rattle.std.proofs.Common.{◌≡◌, ℕ, Bool, true, false, List, [], ◌∷◌, refl, ap}
+use Rattle.std.specs.Prelude.{◌||◌, is_some, nat_lt, Option, None, Some, slice_get}
 use Rattle.sig_core.specs.declared.member.Member.{Member}
 use Rattle.sig_core.specs.declared.member.TxId.{TxId}
 use Rattle.sig_core.specs.declared.op.Op.{Op}
+use Rattle.sig_core.specs.declared.reply.Refusal.TheVariants.{NoMember}
 use Rattle.sig_core.specs.declared.request.ApiReq.{ApiReq}
 use Rattle.sig_core.specs.declared.request.ApiReq.TheVariants as request
 use Rattle.sig_core.specs.declared.signal.Body.{Body}
@@ -13,16 +14,17 @@ use Rattle.sig_core.specs.declared.signal.client.ClientSignal.TheVariants.{TcBeg
 use Rattle.sig_core.specs.declared.signal.host.HostSignal.TheVariants.{Continue}
 use Rattle.sig_core.specs.declared.signal.host.Work.TheVariants.{Request}
 use Rattle.sig_core.specs.declared.view.View.{View}
+use Rattle.sig_core.specs.Step.{Step, stay}
 use Rattle.api_block.specs.declared.opened.OpenTransaction.{OpenTransaction}
 use Rattle.api_block.specs.Api.{api_row, api_table, request_row}
 use Rattle.api_block.specs.Commands as api
 use Rattle.api_block.specs.Members.{is_full, least_from, least_node, lesser}
 use Rattle.api_block.specs.Opened.{is_unanswered, own_place, place_named}
 use Rattle.api_block.specs.Operate as api_operate
-use Rattle.api_block.specs.State.{ApiState}
+use Rattle.api_block.specs.State.{ApiState, refused}
 use Rattle.api_block.specs.Wait.{pending_if, pending_row}
 use Rattle.api_views.specs.Client.{asked_row, client_row, client_table, command_row, is_known}
-use Rattle.api_views.specs.Commands.{begin_at, begin_row, lone_by, lone_row, lowest, lowest_from, node_for, rows_row, serves}
+use Rattle.api_views.specs.Commands.{begin_if, begin_row, lone_by, lone_row, lowest, lowest_from, node_for, rows_row, serves}
 use Rattle.api_views.specs.Laws.{IsCalmSignal, calm_state, is_calm_body, is_served}
 use Rattle.api_views.specs.Members.{noted}
 use Rattle.api_views.specs.Pending.{client_pending_row, obstacle, own_waits, waits_by}
@@ -55,25 +57,35 @@ module _ (a : ApiState) (nodes : ℕ) (over : Option View) where
   lone_calm op = rw (lowest_all a.view.full) (lone_alike op (least_node a.view.full))
 
   -- a named transaction, by whether the name is taken and the node has a full member
-  pub begin_alike : (name node : ℕ) (taken full : Bool) → is_some (place_named a (Some name)) ≡ taken → is_full a.view node ≡ full
-      → begin_at s name node ≡ within s (api.begin_if a name (Some node) (is_some (place_named a (Some name))))
-  unfolding serves has_stopped api.begin_row request_row
-  begin_alike name node true full is fits = rw (is) refl
-  begin_alike name node false true is fits = rw (is, fits) refl
-  begin_alike name node false false is fits = rw (is, fits) refl
+  pub api_begins : (name node : ℕ) (taken : Bool) → is_some (place_named a (Some name)) ≡ taken
+      → request_row a (request.Begin name (Some node)) ≡ api.begin_if a name (Some node) taken
+  unfolding api.begin_row request_row
+  api_begins name node taken is = ap (λ (b : Bool). api.begin_if a name (Some node) b) is
+
+  pub begin_by : (name : ℕ) (node : Option ℕ) (taken full : Bool) → is_some (place_named a (Some name)) ≡ taken
+      → is_full a.view (api.node_for a.view node) ≡ full
+      → begin_if s name (api.node_for a.view node) (taken || full) ≡ within s (api.begin_if a name node taken)
+  begin_by name node true full is fits = ap (λ (r : Step ApiState). within s r) (api_begins name (api.node_for a.view node) true is)
+  begin_by name node false true is fits = ap (λ (r : Step ApiState). within s r) (api_begins name (api.node_for a.view node) false is)
+  begin_by name node false false is fits = rw (fits) refl
 
   pub begin_calm : (name : ℕ) (node : Option ℕ) → begin_row s name node ≡ within s (request_row a (request.Begin name node))
-  unfolding begin_row api.begin_row request_row lowest
-  begin_calm name (Some node) = begin_alike name node (is_some (place_named a (Some name))) (is_full a.view node) refl refl
+  unfolding begin_row serves has_stopped api.begin_row request_row lowest
+  begin_calm name (Some node) = begin_by name (Some node) (is_some (place_named a (Some name))) (is_full a.view node) refl refl
   begin_calm name None = rw (lowest_all a.view.full)
-      (begin_alike name (api.node_for a.view None) (is_some (place_named a (Some name))) (is_full a.view (api.node_for a.view None)) refl refl)
+      (begin_by name None (is_some (place_named a (Some name))) (is_full a.view (api.node_for a.view None)) refl refl)
 
   -- rows
+  pub dump_refused : (node : ℕ) (digest : Bool) → is_full a.view node ≡ false
+      → api.dump_row a node digest ≡ refused a None (NoMember node)
+  unfolding api.dump_row
+  dump_refused node digest fits = rw (fits) refl
+
   pub rows_alike : (r : ApiReq) (node : ℕ) (digest full : Bool) → is_full a.view node ≡ full
       → request_row a r ≡ api.dump_row a node digest → rows_row s r node ≡ within s (request_row a r)
-  unfolding rows_row serves has_stopped api.dump_row
+  unfolding rows_row serves has_stopped
   rows_alike r node digest true fits is = rw (fits) refl
-  rows_alike r node digest false fits is = rw (fits, is) refl
+  rows_alike r node digest false fits is = rw (fits, is, dump_refused node digest fits) refl
 
   -- waits
   pub waits_alike : (t : OpenTransaction) (unanswered : Bool) (ahead : Option TxId)
@@ -83,13 +95,25 @@ module _ (a : ApiState) (nodes : ℕ) (over : Option View) where
   waits_alike t true (Some ahead) is = refl
   waits_alike t false ahead is = refl
 
+  pub row_none : own_place a ≡ None → request_row a request.Pending ≡ stay a
+  unfolding request_row pending_row
+  row_none is = rw (is) refl
+
+  pub row_nobody : (n : ℕ) → own_place a ≡ Some n → slice_get a.opened n ≡ None → request_row a request.Pending ≡ stay a
+  unfolding request_row pending_row
+  row_nobody n is found = rw (is, found) refl
+
+  pub row_some : (n : ℕ) (t : OpenTransaction) → own_place a ≡ Some n → slice_get a.opened n ≡ Some t
+      → pending_row a ≡ pending_if a t (is_unanswered t.doing) t.ahead
+  unfolding pending_row
+  row_some n t is found = rw (is, found) refl
+
   pub own_alike : (at : Option ℕ) (t : Option OpenTransaction) → own_place a ≡ at
       → ((n : ℕ) → at ≡ Some n → slice_get a.opened n ≡ t) → own_waits s ≡ within s (request_row a request.Pending)
-  unfolding request_row pending_row
-  own_alike None t is found = rw (is) refl
-  own_alike (Some n) None is found = rw (is, found n refl) refl
+  own_alike None t is found = rw (is, row_none is) refl
+  own_alike (Some n) None is found = rw (is, found n refl, row_nobody n is (found n refl)) refl
   own_alike (Some n) (Some t) is found =
-      rw (is, found n refl) (waits_alike t (is_unanswered t.doing) t.ahead (rw (is, found n refl) refl))
+      rw (is, found n refl) (waits_alike t (is_unanswered t.doing) t.ahead (row_some n t is (found n refl)))
 
   -- the entry that stands there
   abbrev at_own : Option ℕ → Option OpenTransaction
