@@ -65,9 +65,9 @@ module _ (a : ApiState) (nodes : ℕ) (over : Option View) where
   pub begin_by : (name : ℕ) (node : Option ℕ) (taken full : Bool) → is_some (place_named a (Some name)) ≡ taken
       → is_full a.view (api.node_for a.view node) ≡ full
       → begin_if s name (api.node_for a.view node) (taken || full) ≡ within s (api.begin_if a name node taken)
-  begin_by name node true full is fits = ap (λ (r : Step ApiState). within s r) (api_begins name (api.node_for a.view node) true is)
-  begin_by name node false true is fits = ap (λ (r : Step ApiState). within s r) (api_begins name (api.node_for a.view node) false is)
-  begin_by name node false false is fits = rw (fits) refl
+  begin_by name at true full is fits = ap (λ (r : Step ApiState). within s r) (api_begins name (api.node_for a.view at) true is)
+  begin_by name at false true is fits = ap (λ (r : Step ApiState). within s r) (api_begins name (api.node_for a.view at) false is)
+  begin_by name at false false is fits = rw (fits) refl
 
   pub begin_calm : (name : ℕ) (node : Option ℕ) → begin_row s name node ≡ within s (request_row a (request.Begin name node))
   unfolding begin_row serves has_stopped api.begin_row request_row lowest
