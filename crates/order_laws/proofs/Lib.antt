@@ -1,0 +1,9 @@
+pub mod Askers
+pub mod Attended
+pub mod Behind
+pub mod LetGo
+pub mod Lines
+pub mod Over
+pub mod Passed
+pub mod Performs
+pub mod Sources

@@ -1,0 +1,15 @@
+//! Whom a transaction waits for at a replica behind the primary.
+ghost use Rattle.order_laws.specs.LetGo.{HoldersHaveLetGo, WhoLetsGoIsOver};
+
+/// After every run: whom a transaction waits for at a place of a key's chain behind the first has let
+/// go of the key at the place in front, by an abort, by a completion, or by its commit at the primary.
+#[tactic(auto, using(crate::proofs::LetGo::holders_have_let_go))]
+pub fn holders_have_let_go()
+    ensures { HoldersHaveLetGo }
+{}
+
+/// Who has let go of a key at a host is given up or carried out by its coordinator.
+#[tactic(auto, using(crate::proofs::Over::who_lets_go_is_over))]
+pub fn who_lets_go_is_over()
+    ensures { WhoLetsGoIsOver }
+{}

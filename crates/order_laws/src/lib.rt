@@ -1,0 +1,6 @@
+//! The replicas of a key lock it in one order.
+#![tactic(auto)]
+
+mod laws;
+
+pub use laws::{holders_have_let_go, who_lets_go_is_over};
