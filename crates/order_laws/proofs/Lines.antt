@@ -14,7 +14,7 @@ use Rattle.row_locks.specs.Queues.{aged_all, raised, raised_if, wait_of, waits, 
 use Rattle.row_locks.specs.Rows.{RowLock, asked, asked_anew, asked_by, grown_old, is_quiet, may_hold, released, served}
 use Rattle.row_locks.specs.Rows.{served_if, unwaited}
 
-holds_others : (tx u : TxId) (hs : List Holder) → holds u (others tx hs) ≡ true → holds u hs ≡ true
+pub holds_others : (tx u : TxId) (hs : List Holder) → holds u (others tx hs) ≡ true → holds u hs ≡ true
 holds_others tx u [] is = is
 holds_others tx u (h ∷ hs) is = by (same_tx h.tx tx) is (holds_others tx u hs)
   where
@@ -49,7 +49,7 @@ holds_last u (g ∷ hs) h is = by (or_cases (same_tx g.tx u) (holds u (hs ++ h �
     by (inr rest) more = after (more rest)
 
 -- who holds the lock once a transaction does is that one, or held it before
-holds_hold : (u tx : TxId) (mode : Mode) (hs : List Holder) → holds u (hold tx mode hs) ≡ true
+pub holds_hold : (u tx : TxId) (mode : Mode) (hs : List Holder) → holds u (hold tx mode hs) ≡ true
     → (holds u hs ≡ true) ⊎ (tx ≡ u)
 holds_hold u tx mode hs is = by (holds_last u (others tx hs) (holder_of tx mode) is)
   where
@@ -57,7 +57,7 @@ holds_hold u tx mode hs is = by (holds_last u (others tx hs) (holder_of tx mode)
     by (inl rest) = inl (holds_others tx u hs rest)
     by (inr own) = inr (same_tx-is tx u own)
 
-waits_without : (tx u : TxId) (ws : List Wait) → waits u (without tx ws) ≡ true → waits u ws ≡ true
+pub waits_without : (tx u : TxId) (ws : List Wait) → waits u (without tx ws) ≡ true → waits u ws ≡ true
 waits_without tx u [] is = is
 waits_without tx u (w ∷ ws) is = by (same_tx w.tx tx) is (waits_without tx u ws)
   where
@@ -71,7 +71,7 @@ waits_without tx u (w ∷ ws) is = by (same_tx w.tx tx) is (waits_without tx u w
     by true is more = or_right (same_tx w.tx u) (waits u ws) (more is)
     by false is more = which (or_cases (same_tx w.tx u) (waits u (without tx ws)) is) more
 
-waits_last : (u : TxId) (ws : List Wait) (w : Wait) → waits u (ws ++ w ∷ []) ≡ true
+pub waits_last : (u : TxId) (ws : List Wait) (w : Wait) → waits u (ws ++ w ∷ []) ≡ true
     → (waits u ws ≡ true) ⊎ (same_tx w.tx u ≡ true)
 waits_last u [] w is = by (or_cases (same_tx w.tx u) false is)
   where
@@ -91,7 +91,7 @@ waits_last u (v ∷ ws) w is = by (or_cases (same_tx v.tx u) (waits u (ws ++ w �
     by (inl own) more = inl (or_left (same_tx v.tx u) (waits u ws) own)
     by (inr rest) more = after (more rest)
 
-waits_aged : (u : TxId) (ws : List Wait) → waits u (aged_all ws) ≡ waits u ws
+pub waits_aged : (u : TxId) (ws : List Wait) → waits u (aged_all ws) ≡ waits u ws
 waits_aged u [] = refl
 waits_aged u (w ∷ ws) = ap (λ b. same_tx w.tx u || b) (waits_aged u ws)
 
@@ -99,7 +99,7 @@ raised_tx : (b : Bool) (mode : Mode) (w : Wait) → (raised_if b mode w).tx ≡ 
 raised_tx true mode w = refl
 raised_tx false mode w = refl
 
-waits_raised : (tx u : TxId) (mode : Mode) (ws : List Wait) → waits u (raised tx mode ws) ≡ waits u ws
+pub waits_raised : (tx u : TxId) (mode : Mode) (ws : List Wait) → waits u (raised tx mode ws) ≡ waits u ws
 waits_raised tx u mode [] = refl
 waits_raised tx u mode (w ∷ ws) =
     λ i. same_tx (raised_tx (same_tx w.tx tx) mode w i) u || waits_raised tx u mode ws i

@@ -1,4 +1,5 @@
 //! Whom a transaction waits for at a replica behind the primary.
+ghost use Rattle.order_laws.specs.Gone.{WhoHasGoneIsOut};
 ghost use Rattle.order_laws.specs.LetGo.{HoldersHaveLetGo, WhoLetsGoIsOver};
 
 /// After every run: whom a transaction waits for at a place of a key's chain behind the first has let
@@ -12,4 +13,10 @@ pub fn holders_have_let_go()
 #[tactic(auto, using(crate::proofs::Over::who_lets_go_is_over))]
 pub fn who_lets_go_is_over()
     ensures { WhoLetsGoIsOver }
+{}
+
+/// Who has let go of a key at a host, and hasn't asked for it there since, neither holds its lock nor
+/// waits for it: no request of another, no serving of the queue and no round brings it back.
+pub fn who_has_gone_is_out()
+    ensures { WhoHasGoneIsOut }
 {}
