@@ -1,14 +1,17 @@
 -- Who has let go of a key at one of its replicas.
-use Rattle.std.specs.Prelude.{◌≡◌, ◌⊎◌, ◌<◌, ◌+◌, ℕ, Bool, true, false, List, length}
+use Rattle.std.specs.Prelude.{◌≡◌, ◌⊎◌, ◌<◌, ◌+◌, ◌||◌, ℕ, Bool, true, false, List, length, Some}
 use Rattle.sig_core.specs.declared.member.TxId.{TxId}
 use Rattle.sig_core.specs.Same.{same_tx}
 use Rattle.row_locks.specs.Holders.{holds}
 use Rattle.row_locks.specs.Queues.{waits}
 use Rattle.row_locks.specs.Rows.{RowLock}
+use Rattle.tc_block.specs.declared.transaction.Transaction.{Transaction}
+use Rattle.tc_block.specs.Phases.{is_aborting, is_decided}
 use Rattle.world_core.specs.Start.{Start}
 use Rattle.world_core.specs.Steps.{HostStep}
 use Rattle.run_laws.specs.Circle.{at_host, primary_along}
 use Rattle.run_laws.specs.GivenUp.{is_carried_out, is_given_up}
+use Rattle.run_laws.specs.Live.{live_at}
 use Rattle.run_laws.specs.Routes.{replica_host, replicas}
 use Rattle.run_laws.specs.Transit.{IsRun, logs_of}
 
@@ -35,3 +38,14 @@ WhoLetsGoIsOver =
     (start : Start) (es : List HostStep) (key : List ℕ) (h : ℕ) (tx : TxId) → IsRun start es
     → has_let_go start (logs_of start es) key h tx ≡ true
     → (is_given_up start (logs_of start es) tx ≡ true) ⊎ (is_carried_out start (logs_of start es) tx ≡ true)
+
+-- Whom a transaction waits for at a place behind the first is decided or being aborted at its coordinator, where that
+-- hasn't forgotten it.
+abbrev pub HoldersAreEnding : Type 0
+HoldersAreEnding =
+    (start : Start) (es : List HostStep) (key : List ℕ) (at : ℕ) (holder waiter : TxId) (t : Transaction)
+    → IsRun start es → at + 1 < length (replicas start key) → same_tx holder waiter ≡ false
+    → holds holder (lock_at_place start (logs_of start es) key (at + 1)).holders ≡ true
+    → waits waiter (lock_at_place start (logs_of start es) key (at + 1)).queue ≡ true
+    → live_at start (logs_of start es) holder ≡ Some t
+    → (is_decided t.phase || is_aborting t.phase) ≡ true

@@ -1,12 +1,18 @@
 //! Whom a transaction waits for at a replica behind the primary.
 ghost use Rattle.order_laws.specs.Gone.{WhoHasGoneIsOut};
-ghost use Rattle.order_laws.specs.LetGo.{HoldersHaveLetGo, WhoLetsGoIsOver};
+ghost use Rattle.order_laws.specs.LetGo.{HoldersAreEnding, HoldersHaveLetGo, WhoLetsGoIsOver};
 
 /// After every run: whom a transaction waits for at a place of a key's chain behind the first has let
 /// go of the key at the place in front, by an abort, by a completion, or by its commit at the primary.
 #[tactic(auto, using(crate::proofs::LetGo::holders_have_let_go))]
 pub fn holders_have_let_go()
     ensures { HoldersHaveLetGo }
+{}
+
+/// So where its coordinator hasn't forgotten it, it is decided there or being aborted: nobody waits at
+/// a backup for a transaction that takes operations or waits for its epoch.
+pub fn holders_are_ending()
+    ensures { HoldersAreEnding }
 {}
 
 /// Who has let go of a key at a host is given up or carried out by its coordinator.
