@@ -42,7 +42,7 @@ ending start logs tx t live (inr carried) =
     (forth_decided start (home start tx) (logs (home start tx))) live carried)
 
 pub holders_are_ending : HoldersAreEnding
-holders_are_ending start es key at holder waiter t run inside apart holding waiting live =
+holders_are_ending start es key at holder waiter t run is live =
     ending start (logs_of start es) holder t live
     (who_lets_go_is_over start es key (replica_host start key at) holder run
-    (holders_have_let_go start es key at holder waiter run inside apart holding waiting))
+    (holders_have_let_go start es key at holder waiter run is))

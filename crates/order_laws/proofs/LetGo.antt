@@ -51,8 +51,9 @@ module _ (start : Start) (es : List HostStep) (key : List ℕ) (at : ℕ) (run :
       (behind_past u v came_past.newer (came key (logs_of start es here)) is)
 
 pub holders_have_let_go : HoldersHaveLetGo
-holders_have_let_go start es key at holder waiter run inside apart holding waiting =
+holders_have_let_go start es key at holder waiter run is =
     let line = lined_along key start (replica_host start key (at + 1))
-    (first_idle start key (at + 1) run.shape inside) (logs_of start es (replica_host start key (at + 1))) in
-    (passed_along start key (replica_host start key (at + 1)) at (omega (arith, inside)) es run).behind holder waiter
-    (passed_behind start es key at run inside holder waiter (line.across holder waiter holding waiting)) apart
+    (first_idle start key (at + 1) run.shape is.inside) (logs_of start es (replica_host start key (at + 1))) in
+    (passed_along start key (replica_host start key (at + 1)) at (omega (arith, is.inside)) es run).behind holder waiter
+    (passed_behind start es key at run is.inside holder waiter (line.across holder waiter is.holding is.waiting))
+    is.apart

@@ -1,6 +1,7 @@
 pub mod Askers
 pub mod Attended
 pub mod Behind
+pub mod Carried
 pub mod Ending
 pub mod Gone
 pub mod LetGo

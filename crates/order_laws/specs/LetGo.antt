@@ -23,13 +23,20 @@ lock_at_place start logs key at = (at_host start logs key (replica_host start ke
 abbrev pub has_let_go : Start → (ℕ → List HostStep) → List ℕ → ℕ → TxId → Bool
 has_let_go start logs key h tx = (primary_along start h key (logs h)).ended tx
 
+-- at the next place of the key's chain a transaction waits for this one
+pub record IsWaitedFor (start : Start) (logs : ℕ → List HostStep) (key : List ℕ) (at : ℕ)
+    (holder waiter : TxId) : Type 0
+  where
+    pub inside : at + 1 < length (replicas start key)
+    pub apart : same_tx holder waiter ≡ false
+    pub holding : holds holder (lock_at_place start logs key (at + 1)).holders ≡ true
+    pub waiting : waits waiter (lock_at_place start logs key (at + 1)).queue ≡ true
+
 -- whom a transaction waits for at a place behind the first has let go of the key at the place in front
 abbrev pub HoldersHaveLetGo : Type 0
 HoldersHaveLetGo =
     (start : Start) (es : List HostStep) (key : List ℕ) (at : ℕ) (holder waiter : TxId) → IsRun start es
-    → at + 1 < length (replicas start key) → same_tx holder waiter ≡ false
-    → holds holder (lock_at_place start (logs_of start es) key (at + 1)).holders ≡ true
-    → waits waiter (lock_at_place start (logs_of start es) key (at + 1)).queue ≡ true
+    → IsWaitedFor start (logs_of start es) key at holder waiter
     → has_let_go start (logs_of start es) key (replica_host start key at) holder ≡ true
 
 -- who has let go of a key anywhere is given up, or carried out
@@ -44,8 +51,6 @@ WhoLetsGoIsOver =
 abbrev pub HoldersAreEnding : Type 0
 HoldersAreEnding =
     (start : Start) (es : List HostStep) (key : List ℕ) (at : ℕ) (holder waiter : TxId) (t : Transaction)
-    → IsRun start es → at + 1 < length (replicas start key) → same_tx holder waiter ≡ false
-    → holds holder (lock_at_place start (logs_of start es) key (at + 1)).holders ≡ true
-    → waits waiter (lock_at_place start (logs_of start es) key (at + 1)).queue ≡ true
+    → IsRun start es → IsWaitedFor start (logs_of start es) key at holder waiter
     → live_at start (logs_of start es) holder ≡ Some t
     → (is_decided t.phase || is_aborting t.phase) ≡ true

@@ -1,4 +1,5 @@
 //! Whom a transaction waits for at a replica behind the primary.
+ghost use Rattle.order_laws.specs.Carried.{CarriedOutStayOut};
 ghost use Rattle.order_laws.specs.Gone.{WhoHasGoneIsOut};
 ghost use Rattle.order_laws.specs.LetGo.{HoldersAreEnding, HoldersHaveLetGo, WhoLetsGoIsOver};
 
@@ -25,4 +26,9 @@ pub fn who_lets_go_is_over()
 /// waits for it: no request of another, no serving of the queue and no round brings it back.
 pub fn who_has_gone_is_out()
     ensures { WhoHasGoneIsOut }
+{}
+
+/// A transaction that is carried out neither holds nor waits for a lock that it has let go of.
+pub fn carried_out_stay_out()
+    ensures { CarriedOutStayOut }
 {}
