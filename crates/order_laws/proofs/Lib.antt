@@ -2,8 +2,10 @@ pub mod Askers
 pub mod Attended
 pub mod Behind
 pub mod Carried
+pub mod Completed
 pub mod Ending
 pub mod Gone
+pub mod Later
 pub mod LetGo
 pub mod Lines
 pub mod Over

@@ -128,24 +128,24 @@ module _ (p : AtPrimary) (orderly : IsOrderly p.replica.lock) (u : TxId) where
   done_after (ages (Some tx)) is =
       unwaited_done (grown_old p.replica.lock) tx (grown_old_orderly p.replica.lock orderly) is
 
-  -- and who has let go stays so
-  ended_stays : (event : Event) → p.ended u ≡ true → ended_after event p u ≡ true
-  ended_stays rests is = is
-  ended_stays (asks q refused) is = is
-  ended_stays (serves refused) is = is
-  ended_stays (commits tx true) is = or_right (same_tx tx u) (p.ended u) is
-  ended_stays (commits tx false) is = is
-  ended_stays (completes tx) is = or_right (same_tx tx u) (p.ended u) is
-  ended_stays (aborts tx) is = or_right (same_tx tx u) (p.ended u) is
-  ended_stays (expires tx) is = is
-  ended_stays (ages wait) is = is
+-- and who has let go stays so
+pub ended_stays : (event : Event) (p : AtPrimary) (u : TxId) → p.ended u ≡ true → ended_after event p u ≡ true
+ended_stays rests p u is = is
+ended_stays (asks q refused) p u is = is
+ended_stays (serves refused) p u is = is
+ended_stays (commits tx true) p u is = or_right (same_tx tx u) (p.ended u) is
+ended_stays (commits tx false) p u is = is
+ended_stays (completes tx) p u is = or_right (same_tx tx u) (p.ended u) is
+ended_stays (aborts tx) p u is = or_right (same_tx tx u) (p.ended u) is
+ended_stays (expires tx) p u is = is
+ended_stays (ages wait) p u is = is
 
 passed_after : (event : Event) (p : AtPrimary) (xs : List TxId) → IsOrderly p.replica.lock
     → ArePassed p.ended p.replica.lock.holders xs
     → ArePassed (ended_after event p) (key_after event p.replica).lock.holders xs
 passed_after event p xs orderly was = record {
   among = λ u is. done_after p orderly u event (was.among u is);
-  behind = λ u v is apart. ended_stays p orderly u event (was.behind u v is apart);
+  behind = λ u v is apart. ended_stays event p u (was.behind u v is apart);
 }
 
 module _ (start : Start) (key : List ℕ) (j : ℕ) where

@@ -54,3 +54,10 @@ HoldersAreEnding =
     → IsRun start es → IsWaitedFor start (logs_of start es) key at holder waiter
     → live_at start (logs_of start es) holder ≡ Some t
     → (is_decided t.phase || is_aborting t.phase) ≡ true
+
+-- whom a transaction waits for at a place behind the second is given up
+abbrev pub LaterHoldersAreGivenUp : Type 0
+LaterHoldersAreGivenUp =
+    (start : Start) (es : List HostStep) (key : List ℕ) (at : ℕ) (holder waiter : TxId) → IsRun start es → 0 < at
+    → IsWaitedFor start (logs_of start es) key at holder waiter
+    → is_given_up start (logs_of start es) holder ≡ true

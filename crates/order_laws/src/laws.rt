@@ -1,7 +1,7 @@
 //! Whom a transaction waits for at a replica behind the primary.
 ghost use Rattle.order_laws.specs.Carried.{CarriedOutStayOut};
 ghost use Rattle.order_laws.specs.Gone.{WhoHasGoneIsOut};
-ghost use Rattle.order_laws.specs.LetGo.{HoldersAreEnding, HoldersHaveLetGo, WhoLetsGoIsOver};
+ghost use Rattle.order_laws.specs.LetGo.{HoldersAreEnding, HoldersHaveLetGo, LaterHoldersAreGivenUp, WhoLetsGoIsOver};
 
 /// After every run: whom a transaction waits for at a place of a key's chain behind the first has let
 /// go of the key at the place in front, by an abort, by a completion, or by its commit at the primary.
@@ -31,4 +31,10 @@ pub fn who_has_gone_is_out()
 /// A transaction that is carried out neither holds nor waits for a lock that it has let go of.
 pub fn carried_out_stay_out()
     ensures { CarriedOutStayOut }
+{}
+
+/// Whom a transaction waits for at a place of a key's chain behind the second is given up by its
+/// coordinator: a row is completed at each place behind the place after it.
+pub fn later_holders_are_given_up()
+    ensures { LaterHoldersAreGivenUp }
 {}
