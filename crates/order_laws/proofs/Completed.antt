@@ -1,32 +1,30 @@
 -- A row is completed at a place of its chain behind the place after it, so nobody waits behind the second place for a
 -- transaction that is carried out.
-use Rattle.std.proofs.Common.{◌≡◌, ◌≢◌, ◌⊎◌, ◌<◌, ◌+◌, ℕ, zero, suc, Bool, true, false, List, [], ◌∷◌, length, refl, sym, ap}
-use Rattle.std.proofs.Common.{◌∙◌, subst, arith, inl, inr, eqb-true}
-use Rattle.std.proofs.lemmas.Bool.{cases_eq, false≢true, or_cases, or_left, true≢false}
+use Rattle.std.proofs.Common.{◌≡◌, ◌≢◌, ◌⊎◌, ◌<◌, ◌+◌, ℕ, zero, suc, Bool, true, false, List, [], ◌∷◌, length, refl, ap}
+use Rattle.std.proofs.Common.{◌∙◌, subst, arith, inl, inr}
+use Rattle.std.proofs.lemmas.Bool.{cases_eq, or_left, true≢false}
 use Rattle.std.specs.List.{flat_map}
-use Rattle.std.specs.Prelude.{◌-◌, ◌==◌, if◌then◌else◌, Option, None, Some}
+use Rattle.std.specs.Prelude.{◌-◌, ◌==◌, if◌then◌else◌}
 use Rattle.run_theory.proofs.EachSent.{each_mapped}
 use Rattle.run_theory.proofs.Pasts.{each_append, each_map}
-use Rattle.run_theory.proofs.Runs.{log_of-other, log_of-own, log_of-past}
+use Rattle.run_theory.proofs.Runs.{log_of-other, log_of-own}
 use Rattle.run_theory.specs.Lists.{Each}
 use Rattle.sig_core.proofs.Keys.{same_key-self, same_tx-self}
-use Rattle.sig_core.proofs.TxLemmas.{same_tx-is}
 use Rattle.sig_core.specs.declared.member.Member.{Member}
 use Rattle.sig_core.specs.declared.member.TxId.{TxId}
 use Rattle.sig_core.specs.declared.outs.Outgoing.{Outgoing}
 use Rattle.sig_core.specs.declared.place.BlockId.TheVariants.{Lqh}
 use Rattle.sig_core.specs.declared.signal.Body.{Body}
-use Rattle.sig_core.specs.declared.signal.Body.TheVariants.{Host, Chain}
-use Rattle.sig_core.specs.declared.signal.chain.ChainSignal.TheVariants.{LqhKeyReq, Commit, Complete, Abort}
-use Rattle.sig_core.specs.declared.signal.host.HostSignal.TheVariants.{Round, Continue}
+use Rattle.sig_core.specs.declared.signal.Body.TheVariants.{Chain}
+use Rattle.sig_core.specs.declared.signal.chain.ChainSignal.TheVariants.{Complete}
 use Rattle.sig_core.specs.declared.signal.host.Work.TheVariants as work
 use Rattle.sig_core.specs.Chain.{last_place, node_at}
-use Rattle.sig_core.specs.Same.{same_key, same_tx}
+use Rattle.sig_core.specs.Same.{same_tx}
 use Rattle.frag_map.specs.Layout.{Layout, chain_of}
 use Rattle.lqh_block.proofs.EachLqh.{RequestSends, lqh_sends_each}
 use Rattle.lqh_block.specs.declared.request.Request.{Request}
 use Rattle.lqh_block.specs.Lqh.{lqh_table}
-use Rattle.tc_block.proofs.LiveKeeps.{AllAre, LiveKeeps, TurnsKeep, is_chain, live_keeps}
+use Rattle.tc_block.proofs.LiveKeeps.{AllAre, TurnsKeep, is_chain, live_keeps}
 use Rattle.tc_block.specs.declared.phase.Phase.{Phase}
 use Rattle.tc_block.specs.declared.phase.Phase.TheVariants.{Open, Verifying, Committing, Completing, Aborting}
 use Rattle.tc_block.specs.declared.touched.Touched.{Touched}
@@ -36,10 +34,8 @@ use Rattle.tc_block.specs.State.{TcState}
 use Rattle.tc_block.specs.Tc.{tc_table}
 use Rattle.node_core.proofs.HostCases.{each_send}
 use Rattle.node_core.specs.Blocks.{api_of, dih_of, has_lqh, lqh_of, tc_of}
-use Rattle.node_core.specs.Dih.{dih_table}
-use Rattle.node_core.specs.Requests.{is_request}
 use Rattle.world_core.specs.Hosts.{rows_host}
-use Rattle.world_core.specs.Machine.{after, machine, signals_of, step_after}
+use Rattle.world_core.specs.Machine.{after, machine, step_after}
 use Rattle.world_core.specs.Start.{Start}
 use Rattle.world_core.specs.Steps.{Addressed, HostStep}
 use Rattle.key_laws.specs.PrimaryEvents.{AtPrimary, ended_after}

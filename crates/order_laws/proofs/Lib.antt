@@ -4,6 +4,7 @@ pub mod Behind
 pub mod Carried
 pub mod Completed
 pub mod Ending
+pub mod Ends
 pub mod Gone
 pub mod Later
 pub mod LetGo
