@@ -11,7 +11,6 @@ ghost use Rattle.sig_core.specs.Work.{work_image, work_key};
 
 use crate::ready::Ready;
 use crate::request::Request;
-use frag_map::{Layout, frag_of};
 use sig_core::{
     AbortCause, Answer, Body, Chain, ChainSignal, HeldAnswer, HeldWork, Journal, JournalFault, Key,
     Mark, Members, NoMemory, Outs, Redo, Rows, RowsFault, TxId, Value, commit_size, coordinator_of,
@@ -44,10 +43,10 @@ impl<R: Rows, J: Journal> Storage<R, J> {
         Ok(())
     }
 
-    /// Performs a request whose lock is granted, in memory that was made for it. Where a write takes
-    /// effect the journal is told the fragment of its row in this layout.
+    /// Performs a request whose lock is granted, in memory that was made for it. The journal is told
+    /// the fragment of its row.
     #[tactic(auto, unfolding(crate::specs::Storage::perform))]
-    pub fn perform(&mut self, request: &Request, ready: Ready, layout: &Layout, out: &mut Outs)
+    pub fn perform(&mut self, request: &Request, ready: Ready, fragment: u8, out: &mut Outs)
         requires room { HasRoom out.old }
         requires ready { IsReady (R.state_of self.old.rows) request.now ready }
         requires rows { R.has_room self.old.rows (work_key request.now.work) }
@@ -64,7 +63,7 @@ impl<R: Rows, J: Journal> Storage<R, J> {
                     key,
                     &request.work.image(),
                     onward,
-                    layout,
+                    fragment,
                     &request.chain,
                     request.at,
                     out,
@@ -84,7 +83,7 @@ impl<R: Rows, J: Journal> Storage<R, J> {
         key: &Key,
         image: &Option<Value>,
         onward: HeldWork,
-        layout: &Layout,
+        fragment: u8,
         chain: &Members,
         at: u8,
         out: &mut Outs,
@@ -119,7 +118,6 @@ impl<R: Rows, J: Journal> Storage<R, J> {
         }
         match self.rows.prepare_image(tx, key, image) {
             Ok(()) => {
-                let fragment = frag_of(key, &layout.shape());
                 journal_image(&mut self.journal, tx, key, image, fragment, had);
                 out.mark(Mark::Prepared { tx, key: *key });
                 pass_on(tx, key, onward, chain, at, out);
