@@ -23,8 +23,8 @@ use Rattle.run_laws.proofs.AlongSteps.{home_place}
 use Rattle.host_laws.proofs.BlocksAlong.{reaches}
 use Rattle.host_laws.proofs.LinkCounts.{to_host}
 use Rattle.host_laws.proofs.LqhOps.{is_lqh, is_node, left_of, right_of, true_and}
-use Rattle.host_laws.proofs.Tally.{and_few}
-use Rattle.host_laws.specs.Counts.{one_if}
+use Rattle.run_theory.proofs.Tally.{and_few}
+use Rattle.run_theory.specs.Counts.{one_if}
 use Rattle.answer_laws.proofs.TcAborts.{aborted_body, is_abort}
 use Rattle.host_laws.proofs.PartCounts.{is_cont}
 use Rattle.host_laws.proofs.TcMoves.{same_tx-is}

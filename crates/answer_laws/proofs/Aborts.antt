@@ -1,5 +1,6 @@
 -- What a transaction that aborts waits for is on its way, or it has an operation unanswered.
-use Rattle.std.proofs.Common.{◌≡◌, ◌≢◌, ◌⊎◌, ℕ, ◌+◌, ◌*◌, ◌≤◌, ◌<◌, List, [], ◌∷◌, length, Bool, true, false, refl, ap, sym, ◌∙◌, subst, arith, inl, inr}
+use Rattle.std.proofs.Common.{◌≡◌, ◌≢◌, ◌⊎◌, ℕ, ◌+◌, ◌*◌, ◌≤◌, ◌<◌, List, [], ◌∷◌, length, Bool, true, false, refl, ap}
+use Rattle.std.proofs.Common.{sym, ◌∙◌, subst, arith, inl, inr}
 use Rattle.std.specs.Prelude.{◌==◌, ◌&&◌, if◌then◌else◌, None, Some}
 use Rattle.std.proofs.lemmas.Bool.{cases_eq, true≢false}
 use Rattle.frag_map.proofs.FirstReplicas.{few_replicas}
@@ -10,11 +11,14 @@ use Rattle.node_core.specs.Blocks.{lqh_of, tc_of}
 use Rattle.node_core.specs.declared.host.Host.{Host}
 use Rattle.run_theory.specs.Links.{sent, taken}
 use Rattle.run_theory.specs.Runs.{log_of}
+use Rattle.sig_core.specs.declared.portion.TheConstants.{PORTION}
 use Rattle.sig_core.specs.declared.member.TxId.{TxId}
 use Rattle.sig_core.specs.declared.outcome.AbortCause.{AbortCause}
 use Rattle.sig_core.specs.declared.outs.Outgoing.{Outgoing}
 use Rattle.sig_core.specs.declared.signal.Signal.{Signal}
 use Rattle.sig_core.specs.Place.{coordinator_of}
+use Rattle.tc_block.specs.declared.sends.TheConstants.{SENDS}
+use Rattle.tc_block.specs.declared.touched.TheConstants.{KEYS}
 use Rattle.tc_block.specs.declared.phase.Phase.{Phase}
 use Rattle.tc_block.specs.declared.phase.Phase.TheVariants.{Open, Verifying, Committing, Completing, Aborting}
 use Rattle.tc_block.specs.declared.touched.Touched.{Touched}
@@ -26,9 +30,11 @@ use Rattle.world_core.specs.Hosts.{home, hosts}
 use Rattle.world_core.specs.Machine.{after, machine, step_after}
 use Rattle.world_core.specs.Start.{Start}
 use Rattle.world_core.specs.Steps.{HostStep}
-use Rattle.host_laws.specs.Counts.{one_if}
-use Rattle.answer_laws.proofs.AbortCounts.{abort_low, answer_turn, cont_place, cont_turn, few_answers, few_rows, lqh_aborts, none_at}
-use Rattle.run_laws.proofs.AlongSteps.{Goes, addressed, along, at_home, at_tc, first_none, heard_rows, home_place, live_tx, no_transaction, other_turn, the_transaction, turn_at, tx_at}
+use Rattle.run_theory.specs.Counts.{one_if}
+use Rattle.answer_laws.proofs.AbortCounts.{abort_low, answer_turn, cont_place, cont_turn, few_answers, few_rows}
+use Rattle.answer_laws.proofs.AbortCounts.{lqh_aborts, none_at}
+use Rattle.run_laws.proofs.AlongSteps.{Goes, addressed, along, at_home, at_tc, first_none, heard_rows, home_place}
+use Rattle.run_laws.proofs.AlongSteps.{live_tx, no_transaction, other_turn, the_transaction, turn_at, tx_at}
 use Rattle.run_laws.proofs.Always.{few_touched}
 use Rattle.answer_laws.proofs.FirstChains.{good_chain}
 use Rattle.host_laws.proofs.BlocksAlong.{IsHome, tc_layout}
@@ -40,7 +46,8 @@ use Rattle.answer_laws.proofs.TcAborts.{AbortMove, abort_move, aborted_body, beg
 use Rattle.host_laws.specs.Live.{of_live}
 use Rattle.host_laws.proofs.TcSteps.{live_home}
 use Rattle.tc_block.proofs.TurnRows.{tx_in, is_turn}
-use Rattle.answer_laws.proofs.SentInParts.{HomeStep, IsOwed, begun_owed, continued_owed, home_step, none_owed, s_more, stays_owed, t_more, waits_owed}
+use Rattle.answer_laws.proofs.SentInParts.{HomeStep, IsOwed, begun_owed, continued_owed, home_step, none_owed, s_more}
+use Rattle.answer_laws.proofs.SentInParts.{stays_owed, t_more, waits_owed}
 use Rattle.host_laws.proofs.Wishes.{is_tc, sends_of}
 use Rattle.answer_laws.specs.Answered.{AreQuiet, NoAbortIsAwaited}
 use Rattle.tc_block.specs.Phases.{is_aborting}
@@ -78,7 +85,7 @@ module _ (start : Start) (shape : IsShape start.shape) (tx : TxId) (some_node : 
       (t : Transaction) (why : AbortCause) (v : Bool) (k : ℕ) → tx_at tx
       (after start at (logs at)) ≡ Some t → t.phase ≡ Aborting why v k → IsDue logs t k
 
-  few_all : (touched : List Touched) → length touched ≤ 64 → replica_count (first_layout start.shape) touched ≤ 512
+  few_all : (touched : List Touched) → length touched ≤ KEYS → replica_count (first_layout start.shape) touched ≤ SENDS
   few_all touched low = omega (arith, low, each_few touched)
     where
       each_few : (xs : List Touched) → replica_count (first_layout start.shape) xs ≤ 8 * length xs
@@ -115,7 +122,8 @@ module _ (start : Start) (shape : IsShape start.shape) (tx : TxId) (some_node : 
         rows : (is_lqh x.to.block && is_node nodes x.to.node) ≡ true → ⊥
         rows q =
             true≢false
-            (sym (heard_rows start h (logs h) x.to (addressed start logs now h e g) q) ∙ step.unheard (left_of (is_lqh x.to.block) (is_node nodes x.to.node) q))
+            (sym (heard_rows start h (logs h) x.to (addressed start logs now h e g) q) ∙ step.unheard
+            (left_of (is_lqh x.to.block) (is_node nodes x.to.node) q))
 
   own_step : (logs now : ℕ → List HostStep) (e : HostStep) → Goes start logs now at e → AllDue logs → AllDue now
   own_step logs now e g all u why v k u_at u_is = by (turn_at start tx at (logs at) e)
@@ -145,7 +153,8 @@ module _ (start : Start) (shape : IsShape start.shape) (tx : TxId) (some_node : 
             owed =
                 let l = replica_count (first_layout start.shape) u.touched in
                 let more = asked_count (first_layout start.shape) u.asked in
-                waits_owed start tx (is_abort nodes tx) logs now own_sends e.step.taken.to e.step.taken.body f l more k more k (omega (arith, passed)) (λ b low. off b) due.owed;
+                waits_owed start tx (is_abort nodes tx) logs now own_sends e.step.taken.to e.step.taken.body
+                f l more k more k (omega (arith, passed)) (λ b low. off b) due.owed;
           }
 
       by : HostTurn tx s e.step.taken (step_after start at (logs at) e) → IsDue now u k
@@ -154,7 +163,11 @@ module _ (start : Start) (shape : IsShape start.shape) (tx : TxId) (some_node : 
           (λ a. cont_block tx a e.step.taken.to e.step.taken.body (ap is_tc step.at))
       by (aside step) =
           kept step.same
-          (omega (arith, aside_none logs now at e g step (λ tc said. let turn = answer_turn tx e.step.taken.body said in gone (left_of (is_tc e.step.taken.to.block) (e.step.taken.to.node == tx.tc) tc) turn.0 turn.1)))
+          (omega (
+            arith,
+            aside_none logs now at e g step (λ tc said. let turn = answer_turn tx e.step.taken.body said in gone
+                (left_of (is_tc e.step.taken.to.block) (e.step.taken.to.node == tx.tc) tc) turn.0 turn.1),
+          ))
           (λ a. off_cont a (is_cont tx a e.step.taken.to e.step.taken.body) refl)
         where
           gone : is_tc e.step.taken.to.block ≡ true → is_turn e.step.taken.body ≡ true → tx_in e.step.taken.body ≡ tx
@@ -169,7 +182,8 @@ module _ (start : Start) (shape : IsShape start.shape) (tx : TxId) (some_node : 
               by_block : (b : Bool) → is_tc e.step.taken.to.block ≡ b
                   → is_cont tx a e.step.taken.to e.step.taken.body ≡ false
               by_block false off = cont_block tx a e.step.taken.to e.step.taken.body off
-              by_block true on = let turn = cont_turn tx a e.step.taken.to e.step.taken.body q in absurd (gone on turn.0 turn.1)
+              by_block true on =
+                  let turn = cont_turn tx a e.step.taken.to e.step.taken.body q in absurd (gone on turn.0 turn.1)
       by (starting step) =
           absurd
           (open_not (ap (λ (t : Transaction). t.phase) (the_transaction fresh u (sym step.there ∙ now_at)) ∙ u_is))
@@ -181,7 +195,8 @@ module _ (start : Start) (shape : IsShape start.shape) (tx : TxId) (some_node : 
           came : c ≤ one_if (aborted_body tx e.step.taken.body)
           came = few_answers nodes tx e.step.taken.to e.step.taken.body (ap is_lqh step.at)
 
-          told : HomeStep start tx (is_abort nodes tx) logs now step.turn.step.effects.sends e.step.taken.to e.step.taken.body
+          told : HomeStep start tx
+              (is_abort nodes tx) logs now step.turn.step.effects.sends e.step.taken.to e.step.taken.body
           told =
               subst
               (λ xs. HomeStep start tx (is_abort nodes tx) logs now xs e.step.taken.to e.step.taken.body) step.told f
@@ -194,7 +209,9 @@ module _ (start : Start) (shape : IsShape start.shape) (tx : TxId) (some_node : 
               no_transaction u (sym (step.left ∙ ap (λ b. if b then None else Some step.turn.step.state) over) ∙ now_at)
           which false over =
               subst (λ w. IsDue now w k) same
-              (moved (abort_move nodes tx (first_layout start.shape) good (tc_of s) number (tc_layout start at (logs at) step.runs) step.was e.step.taken.body step.turn step.move over why v k (ap (λ (w : Transaction). w.phase) same ∙ u_is)))
+              (moved (abort_move nodes tx (first_layout start.shape) good (tc_of s) number
+              (tc_layout start at (logs at) step.runs) step.was e.step.taken.body step.turn step.move over why v k
+              (ap (λ (w : Transaction). w.phase) same ∙ u_is)))
             where
               same : step.turn.step.state ≡ u
               same =
@@ -205,19 +222,28 @@ module _ (start : Start) (shape : IsShape start.shape) (tx : TxId) (some_node : 
                   → IsDue logs step.was m
               before other z m p = all step.was other z m step.there p
 
-              moved : AbortMove nodes tx (first_layout start.shape) good step.was e.step.taken.body step.turn.step.state step.turn.step.effects.sends k
+              moved : AbortMove nodes tx (first_layout start.shape) good step.was e.step.taken.body
+                  step.turn.step.state step.turn.step.effects.sends k
                   → IsDue now step.turn.step.state k
               moved (begins none off some k_is part) = record {
                 some = some;
                 owed = begun_owed start tx (is_abort nodes tx) logs now _ e.step.taken.to e.step.taken.body told _ _ k
-                    (omega (arith, came, ap one_if none)) (off 8 e.step.taken.to) k_is part;
+                    (omega (arith, came, ap one_if none)) (off PORTION e.step.taken.to) k_is part;
               }
-              moved (waits other z m p some off touched le) = record { some = some d.some; owed = subst (λ xs. IsOwed start tx (is_abort nodes tx) now (replica_count (first_layout start.shape) xs) (asked_count (first_layout start.shape) step.turn.step.state.asked) k) (sym touched) by_owed }
+              moved (waits other z m p some off touched le) =
+                  record {
+                    some = some d.some;
+                    owed = subst
+                        (λ xs. IsOwed start tx (is_abort nodes tx) now (replica_count (first_layout start.shape) xs)
+                        (asked_count (first_layout start.shape) step.turn.step.state.asked) k) (sym touched) by_owed;
+                  }
                 where
                   d : IsDue logs step.was m
                   d = before other z m p
 
-                  by_owed : IsOwed start tx (is_abort nodes tx) now (replica_count (first_layout start.shape) step.was.touched) (asked_count (first_layout start.shape) step.turn.step.state.asked) k
+                  by_owed : IsOwed start tx (is_abort nodes tx) now
+                      (replica_count (first_layout start.shape) step.was.touched)
+                      (asked_count (first_layout start.shape) step.turn.step.state.asked) k
                   by_owed =
                       waits_owed start tx (is_abort nodes tx) logs now _ e.step.taken.to e.step.taken.body told
                       (replica_count (first_layout start.shape) step.was.touched)
@@ -236,7 +262,8 @@ module _ (start : Start) (shape : IsShape start.shape) (tx : TxId) (some_node : 
                       (is_abort nodes tx) logs now _ e.step.taken.to e.step.taken.body told _ _ k place
                       (few_all step.was.touched (few_touched start tx at (logs at) step.was step.there))
                       (omega (arith, came, ap (λ b. one_if (aborted_body tx b)) about))
-                      (λ b differs. ap (is_cont tx b e.step.taken.to) about ∙ cont_place tx b place e.step.taken.to differs)
+                      (λ b differs. ap (is_cont tx b e.step.taken.to) about
+                      ∙ cont_place tx b place e.step.taken.to differs)
                       (inr part)
 
   -- the step of another host
@@ -250,7 +277,12 @@ module _ (start : Start) (shape : IsShape start.shape) (tx : TxId) (some_node : 
         owed =
             stays_owed start tx (is_abort nodes tx) logs now (replica_count (first_layout start.shape) u.touched)
             (asked_count (first_layout start.shape) u.asked) k
-            (omega (arith, passed (other_turn start tx h (logs h) e g.low differs), s_more start tx (is_abort nodes tx) (abort_low start tx few_nodes) logs now h e g, t_more start tx (is_abort nodes tx) (abort_low start tx few_nodes) logs now h e g))
+            (omega (
+              arith,
+              passed (other_turn start tx h (logs h) e g.low differs),
+              s_more start tx (is_abort nodes tx) (abort_low start tx few_nodes) logs now h e g,
+              t_more start tx (is_abort nodes tx) (abort_low start tx few_nodes) logs now h e g,
+            ))
             (λ b low. omega (
               arith,
               ap (λ log. signals (is_cont tx b) (taken (machine start) at log)) log_is,
@@ -258,12 +290,17 @@ module _ (start : Start) (shape : IsShape start.shape) (tx : TxId) (some_node : 
             )) due.owed;
       }
     where
-      passed : IsRowsStep (after start h (logs h)) e.step.taken (step_after start h (logs h) e) ⊎ IsAside tx (after start h (logs h)) e.step.taken (step_after start h (logs h) e)
-          → one_if (is_abort nodes tx e.step.taken.to e.step.taken.body) ≤ sends_of (is_abort nodes tx) (step_after start h (logs h) e).effects.sends
+      passed : IsRowsStep (after start h (logs h)) e.step.taken (step_after start h (logs h) e)
+          ⊎ IsAside tx (after start h (logs h)) e.step.taken (step_after start h (logs h) e)
+          → one_if (is_abort nodes tx e.step.taken.to e.step.taken.body) ≤ sends_of (is_abort nodes tx)
+          (step_after start h (logs h) e).effects.sends
       passed (inl rows) = rows_pass logs now h e g rows
       passed (inr other) =
-          omega
-          (arith, aside_none logs now h e g other (λ tc said. differs (sym (addressed start logs now h e g) ∙ home_place start tx e.step.taken.to tc)))
+          omega (
+            arith,
+            aside_none logs now h e g other
+                (λ tc said. differs (sym (addressed start logs now h e g) ∙ home_place start tx e.step.taken.to tc)),
+          )
 
   step : (logs now : ℕ → List HostStep) (h : ℕ) (e : HostStep) → Goes start logs now h e → AllDue logs → AllDue now
   step logs now h e g all = by (cases_eq h at)
@@ -281,7 +318,8 @@ module _ (start : Start) (shape : IsShape start.shape) (tx : TxId) (some_node : 
   none_aborts logs quiet t why v k there none is =
       none_owed start tx (is_abort nodes tx) logs
       (replica_count (first_layout start.shape) t.touched) k quiet low due.some
-      (subst (λ asked. IsOwed start tx (is_abort nodes tx) logs (replica_count (first_layout start.shape) t.touched) (asked_count (first_layout start.shape) asked) k) none due.owed)
+      (subst (λ asked. IsOwed start tx (is_abort nodes tx) logs (replica_count (first_layout start.shape) t.touched)
+      (asked_count (first_layout start.shape) asked) k) none due.owed)
     where
       due : IsDue logs t k
       due = along start AllDue first step logs quiet.within quiet.right t why v k there is
@@ -299,7 +337,8 @@ no_abort start logs h tx t quiet low live none = go t.phase refl
     go : (phase : Phase) → t.phase ≡ phase → is_aborting t.phase ≡ false
     go (Aborting why v k) p =
         absurd
-        (none_aborts start quiet.shape tx of.some of.low logs quiet t why v k (subst (λ j. tx_at tx (after start j (logs j)) ≡ Some t) of.is there) none p)
+        (none_aborts start quiet.shape tx of.some of.low logs quiet t why v k
+        (subst (λ j. tx_at tx (after start j (logs j)) ≡ Some t) of.is there) none p)
     go Open p = ap is_aborting p
     go Verifying p = ap is_aborting p
     go (Committing epoch k) p = ap is_aborting p

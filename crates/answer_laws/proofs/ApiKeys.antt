@@ -22,10 +22,10 @@ use Rattle.api_block.specs.Commands.{ticked_if}
 use Rattle.api_block.specs.Members.{everyone, telling_all}
 use Rattle.api_block.specs.Opened.{asked_for, begins, begins_at, has_tx, is_beginning, is_named, is_tx, same_name}
 use Rattle.api_block.specs.State.{ApiState}
-use Rattle.host_laws.proofs.ApiTurns.{ApiRequestForms, ApiSignalForms, api_turns}
-use Rattle.host_laws.proofs.Focus.{IsFocus}
-use Rattle.host_laws.proofs.Tally.{tally_append, tally_between}
-use Rattle.host_laws.specs.Counts.{one_if, tally}
+use Rattle.api_block.proofs.ApiTurns.{ApiRequestForms, ApiSignalForms, api_turns}
+use Rattle.run_theory.proofs.Focus.{IsFocus}
+use Rattle.run_theory.proofs.Tally.{tally_append, tally_between}
+use Rattle.run_theory.specs.Counts.{one_if, tally}
 use Rattle.host_laws.proofs.TcKeys.{answer_of, is_key}
 use Rattle.host_laws.proofs.TcMoves.{end_of, same_tx-is}
 use Rattle.host_laws.proofs.Wishes.{sends_of}

@@ -9,11 +9,13 @@ use Rattle.sig_core.specs.declared.outs.Outgoing.{Outgoing}
 use Rattle.sig_core.specs.declared.request.ApiReq.{ApiReq}
 use Rattle.sig_core.specs.declared.signal.Body.{Body}
 use Rattle.sig_core.specs.declared.signal.Body.TheVariants.{Host, Client}
-use Rattle.sig_core.specs.declared.signal.client.ClientSignal.TheVariants.{TcBeginConf, TcKeyReq, TcKeyConf, TcCommitReq}
+use Rattle.sig_core.specs.declared.signal.client.ClientSignal.TheVariants.{TcBeginConf, TcKeyReq, TcKeyConf}
+use Rattle.sig_core.specs.declared.signal.client.ClientSignal.TheVariants.{TcCommitReq}
 use Rattle.sig_core.specs.declared.signal.host.HostSignal.TheVariants.{Continue}
 use Rattle.sig_core.specs.declared.signal.host.Work.TheVariants as work
 use Rattle.sig_core.specs.Place.{coordinator_of}
 use Rattle.sig_core.specs.Step.{Step, to_place}
+use Rattle.api_block.specs.declared.operate.TheConstants.{OPERATIONS}
 use Rattle.api_block.specs.declared.members.News.{News}
 use Rattle.api_block.specs.declared.members.News.TheVariants as news
 use Rattle.api_block.specs.declared.opened.Doing.{Doing}
@@ -24,9 +26,9 @@ use Rattle.api_block.specs.Commands.{ticked_if}
 use Rattle.api_block.specs.Members.{everyone, telling_all}
 use Rattle.api_block.specs.Opened.{asked_for, begins_at, has_tx, is_beginning, same_name}
 use Rattle.api_block.specs.State.{ApiState, about}
-use Rattle.host_laws.proofs.ApiTurns.{IsStray, ApiRequestForms, ApiSignalForms, api_turns}
+use Rattle.api_block.proofs.ApiTurns.{IsStray, ApiRequestForms, ApiSignalForms, api_turns}
 use Rattle.host_laws.proofs.LqhOps.{left_of}
-use Rattle.host_laws.specs.Counts.{tally}
+use Rattle.run_theory.specs.Counts.{tally}
 use Rattle.host_laws.proofs.SendKinds.{are_of}
 use Rattle.host_laws.proofs.TcKeys.{answer_of}
 use Rattle.answer_laws.specs.Answered.{is_operating}
@@ -59,7 +61,8 @@ pub data Changes (body : Body) (t u : OpenTransaction) (sends : List Outgoing) :
   begins_working : (name : Option ℕ) (one : TxId) (op : Op) → body ≡ Client (TcBeginConf name one)
       → is_beginning t.doing ≡ true → u.tx ≡ Some one → u.operations ≡ 1 → u.doing ≡ Operating
       → sends ≡ to_place (coordinator_of one) (Client (TcKeyReq one op)) ∷ [] → Changes body t u sends
-  works : (one : TxId) (op : Op) → IsNoAnswer body → t.tx ≡ Some one → t.doing ≡ Ready → nat_lt t.operations 64 ≡ true
+  works : (one : TxId) (op : Op) → IsNoAnswer body → t.tx ≡ Some one → t.doing ≡ Ready
+      → nat_lt t.operations OPERATIONS ≡ true
       → u.tx ≡ t.tx → u.operations ≡ t.operations + 1 → u.doing ≡ Operating
       → sends ≡ to_place (coordinator_of one) (Client (TcKeyReq one op)) ∷ [] → Changes body t u sends
   commits : (one : TxId) → IsNoAnswer body → t.tx ≡ Some one → t.doing ≡ Ready → u.tx ≡ t.tx
@@ -111,7 +114,11 @@ at_request s r n = record {
 }
   where
     round : (of : ℕ) (last : Bool) → ApiStep s (Host (Continue (work.Request r) n))
-        (record { state = about (ticked_if s of last) None; effects = record { sends = telling_all news.Round (everyone s.view); marks = [] } })
+        (record {
+          state = about (ticked_if s of last) None;
+          effects =
+              record { sends = telling_all news.Round (everyone s.view); marks = [] };
+        })
     round of true = rests refl (telling_calm news.Round (everyone s.view)) tt
     round of false = rests refl (telling_calm news.Round (everyone s.view)) tt
 
@@ -134,26 +141,32 @@ unheard_of opened _ stray = tt
 at_signal : (s : ApiState) (body : Body) → ApiSignalForms s body (ApiStep s body)
 at_signal s body = record {
   begins_named = λ name one at f called is e.
-      changes f.front f.item _ f.back f.is (f.set _) (begins_ready name one is (beginning_of name one.tc f.item f.passes) refl refl refl refl);
+      changes f.front f.item _ f.back f.is (f.set _)
+      (begins_ready name one is (beginning_of name one.tc f.item f.passes) refl refl refl refl);
   begins_alone = λ name one at f op is e d.
-      changes f.front f.item _ f.back f.is (f.set _) (begins_working name one op is (beginning_of name one.tc f.item f.passes) refl refl refl refl);
+      changes f.front f.item _ f.back f.is (f.set _)
+      (begins_working name one op is (beginning_of name one.tc f.item f.passes) refl refl refl refl);
   begins_idle = λ name one at f is.
-      changes f.front f.item _ f.back f.is (f.set _) (begins_ready name one is (beginning_of name one.tc f.item f.passes) refl refl refl refl);
+      changes f.front f.item _ f.back f.is (f.set _)
+      (begins_ready name one is (beginning_of name one.tc f.item f.passes) refl refl refl refl);
   refuses = λ name at f is. drops f.front f.item f.back f.is f.removed refl (subst IsNoAnswer (sym is) (λ tx. refl));
   answers = λ one answer at f name is d e.
       changes f.front f.item _ f.back f.is (f.set _) (answered_ready one answer is f.passes d refl refl refl refl);
   answers_last = λ one answer at f is d e.
       changes f.front f.item _ f.back f.is (f.set _) (answered_last one answer is f.passes d refl refl refl refl);
   answers_none = λ one answer at f is other.
-      rests refl refl (subst (IsUnheard s.opened) (sym is) (idle f.front f.item f.back f.is f.passes (not_operating f.item.doing other)));
+      rests refl refl (subst (IsUnheard s.opened) (sym is)
+      (idle f.front f.item f.back f.is f.passes (not_operating f.item.doing other)));
   commits = λ one epoch at f is.
-      drops f.front f.item f.back f.is f.removed (telling_calm (news.Committed one) (everyone s.view)) (subst IsNoAnswer (sym is) (λ tx. refl));
+      drops f.front f.item f.back f.is f.removed (telling_calm (news.Committed one) (everyone s.view))
+      (subst IsNoAnswer (sym is) (λ tx. refl));
   acknowledges = λ one epoch is none.
       rests refl (telling_calm (news.Committed one) (everyone s.view)) (subst (IsUnheard s.opened) (sym is) tt);
   aborts = λ one cause at f is.
       drops f.front f.item f.back f.is f.removed refl (subst IsNoAnswer (sym is) (λ tx. refl));
   waits = λ one ahead at f is.
-      changes f.front f.item _ f.back f.is (f.set _) (notes (subst IsNoAnswer (sym is) (λ tx. refl)) refl refl refl refl);
+      changes f.front f.item _ f.back f.is (f.set _)
+      (notes (subst IsNoAnswer (sym is) (λ tx. refl)) refl refl refl refl);
   dumps = λ d rows next at is. rests refl refl (subst (IsUnheard s.opened) (sym is) tt);
   dumped = λ d rows next is. rests refl refl (subst (IsUnheard s.opened) (sym is) tt);
   rests = λ void stray. rests refl refl (unheard_of s.opened body stray);

@@ -43,13 +43,13 @@ use Rattle.host_laws.proofs.LinkCounts.{all_three, few_sends, sent_signals, shel
 use Rattle.answer_laws.proofs.Lives.{holds_at, once_started}
 use Rattle.host_laws.proofs.LqhSends.{lqh_kinds}
 use Rattle.host_laws.proofs.SendKinds.{are_of, is_dih_kind, is_lqh_kind, is_tc_kind, none_of}
-use Rattle.host_laws.proofs.Tally.{Counted, counted, none_if, only_one, tally_in}
-use Rattle.host_laws.specs.Counts.{one_if, tally}
+use Rattle.run_theory.proofs.Tally.{Counted, counted, none_if, only_one, tally_in}
+use Rattle.run_theory.specs.Counts.{one_if, tally}
 use Rattle.host_laws.proofs.TcKeys.{answer_of, answers_in, is_answer, is_asked, is_key, key_of_tx, tc_fair}
 use Rattle.host_laws.proofs.TcMoves.{end_of, is_end}
 use Rattle.answer_laws.proofs.Totals.{spread_few}
 use Rattle.host_laws.proofs.Sums.{total_add, total_at, total_le, total_same}
-use Rattle.host_laws.specs.Counts.{total}
+use Rattle.run_theory.specs.Counts.{total}
 use Rattle.host_laws.proofs.Wishes.{and_false, is_api, is_tc, second_fails, sends_of, to_node, tc_none}
 use Rattle.answer_laws.specs.Answered.{AreQuiet, EachAsksWhereOperating, is_operating}
 use Rattle.host_laws.specs.OpenedAfter.{opened_after, opened_in}

@@ -16,6 +16,7 @@ use Rattle.run_theory.proofs.Pasts.{each_in}
 use Rattle.run_theory.specs.Links.{sent, taken}
 use Rattle.run_theory.specs.Lists.{Each, IsIn}
 use Rattle.run_theory.specs.Runs.{log_of}
+use Rattle.sig_core.specs.declared.portion.TheConstants.{PORTION}
 use Rattle.sig_core.specs.declared.member.Member.{Member}
 use Rattle.sig_core.specs.declared.member.TxId.{TxId}
 use Rattle.sig_core.specs.declared.outs.Outgoing.{Outgoing}
@@ -29,6 +30,7 @@ use Rattle.sig_core.specs.declared.signal.host.Work.TheVariants as work
 use Rattle.sig_core.specs.Chain.{node_at}
 use Rattle.sig_core.specs.Place.{coordinator_of}
 use Rattle.sig_core.specs.Same.{same_tx}
+use Rattle.tc_block.specs.declared.sends.TheConstants.{SENDS}
 use Rattle.tc_block.specs.declared.phase.Phase.{Phase}
 use Rattle.tc_block.specs.declared.phase.Phase.TheVariants.{Open, Verifying, Committing, Completing, Aborting}
 use Rattle.tc_block.specs.declared.transaction.Transaction.{Transaction}
@@ -39,8 +41,8 @@ use Rattle.world_core.specs.Hosts.{home, host_for, hosts}
 use Rattle.world_core.specs.Machine.{after, machine, step_after}
 use Rattle.world_core.specs.Start.{Start}
 use Rattle.world_core.specs.Steps.{HostStep}
-use Rattle.host_laws.proofs.Tally.{and_few}
-use Rattle.host_laws.specs.Counts.{one_if}
+use Rattle.run_theory.proofs.Tally.{and_few}
+use Rattle.run_theory.specs.Counts.{one_if}
 use Rattle.run_laws.proofs.AlongSteps.{Goes, addressed, along, at_home, at_tc, heard_rows, home_place, live_tx, tx_at}
 use Rattle.answer_laws.proofs.FirstChains.{chain_some, good_chain}
 use Rattle.host_laws.proofs.BlocksAlong.{IsHome, first_live, reaches, tc_layout}
@@ -256,11 +258,11 @@ module _ (start : Start) (shape : IsShape start.shape) (tx : TxId) where
       go : Owes nodes tx of.before u sends k came at → IsAwaited now (length u.touched) k
       go (begins none_came none l parts) =
           begun_owed start tx (is_commit nodes tx) logs now sends to body f (length u.touched) 0 k
-          (omega (arith, less, none_came)) (not_cont 8 (no_some none 8)) (omega (arith, l))
+          (omega (arith, less, none_came)) (not_cont PORTION (no_some none PORTION)) (omega (arith, l))
           (first_part parts)
         where
-          first_part : ((8 < length u.touched) × (8 ≤ sends_of (is_commit nodes tx) sends)
-              × (1 ≤ sends_of (is_cont tx 8) sends)) ⊎ (length u.touched ≤ sends_of (is_commit nodes tx) sends)
+          first_part : ((PORTION < length u.touched) × (PORTION ≤ sends_of (is_commit nodes tx) sends)
+              × (1 ≤ sends_of (is_cont tx PORTION) sends)) ⊎ (length u.touched ≤ sends_of (is_commit nodes tx) sends)
               → IsPart (is_commit nodes tx) tx (length u.touched) 0 sends
           first_part (inl p) = inl p
           first_part (inr p) = inr (omega (arith, p))
@@ -275,7 +277,7 @@ module _ (start : Start) (shape : IsShape start.shape) (tx : TxId) where
           (λ b differs. not_cont b (differs_some b differs)) parts
           (subst (λ n. IsAwaited logs n k) (sym (ap length same)) (all of.before other k of.inside was))
         where
-          few_touched : length u.touched ≤ 512
+          few_touched : length u.touched ≤ SENDS
           few_touched =
               omega (
                 arith,

@@ -1,10 +1,12 @@
--- The block of epochs gives one to each transaction that asks, since it never counts 64 when it is asked.
-use Rattle.std.proofs.Common.{◌≡◌, ℕ, ◌+◌, ◌≤◌, ◌<◌, List, ◌∷◌, length, Bool, true, false, refl, ap, ◌∙◌, arith}
-use Rattle.std.specs.Prelude.{◌&&◌, not, nat_lt, Option, None, Some, position}
+-- The block of epochs gives one to each transaction that asks, since it never counts as many as a coordinator keeps
+-- when it is asked.
+use Rattle.std.proofs.Common.{◌≡◌, ◌+◌, ◌≤◌, ◌<◌, List, ◌∷◌, length, Bool, true, false, refl, sym, ap, ◌∙◌, arith}
+use Rattle.std.specs.Prelude.{◌&&◌, not, nat_lt}
 use Rattle.std.proofs.lemmas.Bool.Decides.{nat_tests}
 use Rattle.api_block.specs.declared.opened.OpenTransaction.{OpenTransaction}
 use Rattle.api_block.specs.State.{ApiState}
-use Rattle.node_core.specs.Dih.{DihState, decide_if, decide_row, dih_table, end_by, end_row}
+use Rattle.node_core.specs.Dih.{DihState, dih_table}
+use Rattle.node_core.proofs.DihForms.{dih_forms, is_for_epochs}
 use Rattle.sig_core.specs.declared.member.TxId.{TxId}
 use Rattle.sig_core.specs.declared.outs.Outgoing.{Outgoing}
 use Rattle.sig_core.specs.declared.place.Place.{Place}
@@ -15,6 +17,7 @@ use Rattle.sig_core.specs.declared.view.View.{View}
 use Rattle.sig_core.specs.Place.{client, coordinator, epochs}
 use Rattle.sig_core.specs.Same.{same_tx}
 use Rattle.sig_core.specs.Step.{Step}
+use Rattle.tc_block.specs.declared.tc.TheConstants.{TRANSACTIONS}
 use Rattle.tc_block.specs.Sends.{verify_end}
 use Rattle.tc_block.specs.State.{TcState}
 use Rattle.tc_block.specs.Tc.{tc_table}
@@ -24,8 +27,8 @@ use Rattle.host_laws.proofs.ApiMoves.{ApiMove, begun_as, ends, goes, is_api_kind
 use Rattle.answer_laws.proofs.EpochCounts.{counts_by, ended_by, is_epochless, with_asked}
 use Rattle.answer_laws.proofs.EpochLives.{TurnCounts, asking, ending, gone, unchanged, turn_counts}
 use Rattle.host_laws.proofs.SendKinds.{are_of, is_dih_kind, is_lqh_kind, is_tc_kind, none_of, of_kind}
-use Rattle.host_laws.proofs.Tally.{and_few, none_if, tally_append}
-use Rattle.host_laws.specs.Counts.{one_if}
+use Rattle.run_theory.proofs.Tally.{and_few, none_if, tally_append}
+use Rattle.run_theory.specs.Counts.{one_if}
 use Rattle.tc_block.proofs.TurnRows as turns
 use Rattle.tc_block.proofs.TurnRows.{begins, misses, takes, tc_step, TcStep, turn_row, tx_in}
 use Rattle.host_laws.proofs.TcTurns.{turn_moves}
@@ -122,72 +125,71 @@ move_epochs at s body after sends (refuses other front t back about passes was i
 
 -- what the block makes of its transactions
 pub dih_counts : (s : DihState) (body : Body) → (dih_table s body).state.counted ≡ counts_by body s.counted
-unfolding decide_row end_row
-dih_counts s (Epoch (DiVerifyReq tx ops)) = by (nat_lt (length s.counted) 64)
+dih_counts s =
+    dih_forms (λ body step. step.state.counted ≡ counts_by body s.counted) s (record {
+      decides = λ tx ops low. ap (with_asked s.counted tx) (sym low);
+      is_full = λ tx ops high. ap (with_asked s.counted tx) (sym high);
+      ends = λ tx at there. ap (ended_by s.counted) (sym there);
+      misses = λ tx none. ap (ended_by s.counted) (sym none);
+      rests = others;
+    })
   where
-    by : (b : Bool) → (decide_if s tx b).state.counted ≡ with_asked s.counted tx b
-    by true = refl
-    by false = refl
-dih_counts s (Epoch (DiVerifyEnd tx)) = by (position (same_tx tx) s.counted)
-  where
-    by : (o : Option ℕ) → (end_by s o).counted ≡ ended_by s.counted o
-    by None = refl
-    by (Some at) = refl
-dih_counts s _ = refl
+    others : (body : Body) → is_for_epochs body ≡ false → s.counted ≡ counts_by body s.counted
+    others (Epoch (DiVerifyReq tx ops)) off = cc
+    others (Epoch (DiVerifyEnd tx)) off = cc
+    others (Epoch _) off = refl
+    others _ off = refl
 
 pub dih_stays : (s : DihState) (body : Body) → (dih_table s body).state.node ≡ s.node
-unfolding decide_row end_row
-dih_stays s (Epoch (DiVerifyReq tx ops)) = by (nat_lt (length s.counted) 64)
-  where
-    by : (b : Bool) → (decide_if s tx b).state.node ≡ s.node
-    by true = refl
-    by false = refl
-dih_stays s (Epoch (DiVerifyEnd tx)) = by (position (same_tx tx) s.counted)
-  where
-    by : (o : Option ℕ) → (end_by s o).node ≡ s.node
-    by None = refl
-    by (Some at) = refl
-dih_stays s _ = refl
+dih_stays s =
+    dih_forms (λ body step. step.state.node ≡ s.node) s (record {
+      decides = λ tx ops low. refl;
+      is_full = λ tx ops high. refl;
+      ends = λ tx at there. refl;
+      misses = λ tx none. refl;
+      rests = λ body off. refl;
+    })
 
--- it gives an epoch to each that asks, where fewer than 64 are counted, and to no other
+-- it gives an epoch to each that asks, where fewer are counted than a coordinator keeps, and to no other
 abbrev pub req_body : TxId → Body → Bool
 req_body tx (Epoch (DiVerifyReq other ops)) = same_tx other tx
 req_body tx _ = false
 
 pub dih_few : (at : Place → Bool) (tx : TxId) (s : DihState) (body : Body)
     → sends_of (at_place at (is_conf tx)) (dih_table s body).effects.sends ≤ one_if (req_body tx body)
-unfolding decide_row end_row
-dih_few at tx s (Epoch (DiVerifyReq other ops)) = by (nat_lt (length s.counted) 64)
-  where
-    by : (b : Bool) → sends_of (at_place at (is_conf tx)) (decide_if s other b).effects.sends ≤ one_if
-        (same_tx other tx)
-    by true = omega (arith, and_few (at (coordinator s.node)) (same_tx other tx))
-    by false = omega arith
-dih_few at tx s (Epoch (DiVerifyEnd other)) = omega arith
-dih_few at tx s _ = omega arith
+dih_few at tx s =
+    dih_forms (λ body step. sends_of (at_place at (is_conf tx)) step.effects.sends ≤ one_if (req_body tx body)) s
+    (record {
+      decides = λ other ops low. omega (arith, and_few (at (coordinator s.node)) (same_tx other tx));
+      is_full = λ other ops high. omega arith;
+      ends = λ other place there. omega arith;
+      misses = λ other none. omega arith;
+      rests = λ body off. omega arith;
+    })
 
 pub dih_gives : (at : Place → Bool) (tx : TxId) (s : DihState) (body : Body) → at (coordinator s.node) ≡ true
-    → (req_body tx body ≡ true → length s.counted < 64)
+    → (req_body tx body ≡ true → length s.counted < TRANSACTIONS)
     → one_if (req_body tx body) ≤ sends_of (at_place at (is_conf tx)) (dih_table s body).effects.sends
-unfolding decide_row end_row
-dih_gives at tx s (Epoch (DiVerifyReq other ops)) own few =
-    by (same_tx other tx) refl (nat_lt (length s.counted) 64) refl
+dih_gives at tx s body own =
+    dih_forms (λ b step. (req_body tx b ≡ true → length s.counted < TRANSACTIONS)
+    → one_if (req_body tx b) ≤ sends_of (at_place at (is_conf tx)) step.effects.sends) s
+    (record {
+      decides = λ other ops low few. omega (arith, ap (λ b. one_if (b && same_tx other tx)) own);
+      is_full = λ other ops high few. none_asks (same_tx other tx) high few;
+      ends = λ other place there few. omega arith;
+      misses = λ other none few. omega arith;
+      rests = λ b off few. others b off;
+    }) body
   where
-    by : (m : Bool) → same_tx other tx ≡ m → (b : Bool) → nat_lt (length s.counted) 64 ≡ b
-        → one_if (same_tx other tx) ≤ sends_of (at_place at (is_conf tx)) (decide_if s other b).effects.sends
-    by m e true q = omega (arith, ap (λ b. one_if (b && same_tx other tx)) own)
-    by false e false q = omega (arith, ap one_if e)
-    by true e false q = absurd (grind (arith, nat_tests, q, few e))
-dih_gives at tx s (Epoch (DiVerifyEnd other)) own few = omega arith
-dih_gives at tx s _ own few = omega arith
+    none_asks : (m : Bool) → nat_lt (length s.counted) TRANSACTIONS ≡ false
+        → (m ≡ true → length s.counted < TRANSACTIONS) → one_if m ≤ 0
+    none_asks true high few = absurd (grind (arith, nat_tests, high, few refl))
+    none_asks false high few = omega arith
 
--- the other blocks give none
-pub no_conf : (at : Place → Bool) (tx : TxId) (kind : Body → Bool)
-    → ((to : Place) (body : Body) → kind body ≡ true → is_conf tx to body ≡ false) → (sends : List Outgoing)
-    → are_of kind sends ≡ true
-    → sends_of (at_place at (is_conf tx)) sends ≡ 0
-no_conf at tx kind fails sends e =
-    none_of kind (at_place at (is_conf tx)) (λ to body k. second_fails (at to) (fails to body k)) sends e
+    others : (b : Body) → is_for_epochs b ≡ false → one_if (req_body tx b) ≤ 0
+    others (Epoch (DiVerifyReq other ops)) off = cc
+    others (Epoch _) off = omega arith
+    others _ off = omega arith
 
 pub tc_confless : (at : Place → Bool) (tx : TxId) (s : TcState) (body : Body)
     → sends_of (at_place at (is_conf tx)) (tc_table s body).effects.sends ≡ 0

@@ -1,5 +1,6 @@
 -- The transactions that the block of epochs counts are those of its node's coordinator that have asked for an epoch.
-use Rattle.std.proofs.Common.{◌≡◌, ℕ, ◌+◌, ◌≤◌, ◌<◌, List, [], ◌∷◌, ◌++◌, length, Bool, true, false, refl, ap, sym, ◌∙◌, subst, arith, inl, inr}
+use Rattle.std.proofs.Common.{◌≡◌, ℕ, ◌+◌, ◌≤◌, ◌<◌, List, [], ◌∷◌, ◌++◌, length, Bool, true, false, refl, ap, sym, ◌∙◌}
+use Rattle.std.proofs.Common.{subst, arith, inl, inr}
 use Rattle.std.specs.Prelude.{◌-◌, ◌^◌, ◌==◌, ◌&&◌, ◌||◌, nat_le, if◌then◌else◌, position}
 use Rattle.std.proofs.lemmas.Bool.{false≢true}
 use Rattle.std.proofs.lemmas.Bool.Decides.{nat_tests}
@@ -17,6 +18,7 @@ use Rattle.sig_core.specs.declared.signal.epoch.EpochSignal.TheVariants.{DiVerif
 use Rattle.sig_core.specs.Place.{epochs}
 use Rattle.sig_core.specs.Same.{same_tx}
 use Rattle.sig_core.specs.Step.{Step, to_place}
+use Rattle.tc_block.specs.declared.tc.TheConstants.{TRANSACTIONS}
 use Rattle.tc_block.specs.declared.phase.Phase.{Phase}
 use Rattle.tc_block.specs.declared.phase.Phase.TheVariants.{Open, Verifying, Committing, Completing, Aborting}
 use Rattle.tc_block.specs.declared.transaction.Transaction.{Transaction}
@@ -28,13 +30,17 @@ use Rattle.tc_block.specs.State.{TcState}
 use Rattle.tc_block.specs.Tc.{is_full, next_tx, tc_table}
 use Rattle.tc_block.specs.Turn.{Turn}
 use Rattle.sig_core.proofs.Keys.{same_tx-self}
-use Rattle.answer_laws.proofs.EpochCounts.{IsWithout, SendsFew, asked_count, counts_if, ended_by, ended_count, is_epochless, plain_counts, sends_count}
+use Rattle.answer_laws.proofs.EpochCounts.{IsWithout, SendsFew, asked_count, counts_if, ended_by, ended_count}
+use Rattle.answer_laws.proofs.EpochCounts.{is_epochless, plain_counts, sends_count}
 use Rattle.host_laws.proofs.PartKinds.{IsPartKind, entering_of, parts_of}
 use Rattle.host_laws.proofs.SendKinds.{are_of, of_kind, of_map}
-use Rattle.host_laws.proofs.Tally.{tally_append, tally_between}
-use Rattle.host_laws.specs.Counts.{one_if, tally}
+use Rattle.run_theory.proofs.Tally.{tally_append, tally_between}
+use Rattle.run_theory.specs.Counts.{one_if, tally}
 use Rattle.host_laws.proofs.TcLives.{IsOwn, insert_new}
-use Rattle.host_laws.proofs.TcTurns.{GivesUp, IsCommitted, TurnMove, abort_ends, aborted, aborts, all_completed, answers, asked_to, asks, at_last, at_once, commits, committed, completed, completes, decides, ends, gives_up, goes_on, is_wait_kind, keeps, late, refused, turn_moves}
+use Rattle.host_laws.proofs.TcTurns.{GivesUp, IsCommitted, TurnMove, abort_ends, aborted, aborts, all_completed}
+use Rattle.host_laws.proofs.TcTurns.{answers, asked_to, asks, at_last, at_once, commits, committed, completed}
+use Rattle.host_laws.proofs.TcTurns.{completes, decides, ends, gives_up, goes_on, is_wait_kind, keeps, late, refused}
+use Rattle.host_laws.proofs.TcTurns.{turn_moves}
 use Rattle.tc_block.specs.Phases.{is_committing}
 use Rattle.tc_block.proofs.TurnRows.{begins, misses, rests, takes, tc_step, TcStep, turn_row, tx_in, passes, refuses}
 
@@ -152,7 +158,7 @@ module _ (s : TcState) (tx : TxId) (t : Transaction) (body : Body) (turn : Turn)
 pub record AreCounted (s : TcState) (c : List TxId) : Type 0 where
   pub all : length c ≡ tally is_counted_one s.live
   pub own : (v : TxId) → tally (same_tx v) c ≡ tally (is_counted_as v) s.live
-  pub room : length s.live ≤ 64
+  pub room : length s.live ≤ TRANSACTIONS
 
 -- after signals of which one asks for an epoch or ends one
 count_append : (at : Place → Bool) (xs ys : List Outgoing) (c : List TxId)
@@ -187,7 +193,7 @@ module _ (s : TcState) (at : Place → Bool) (own : at (epochs s.node) ≡ true)
   plain_step : (step : Step TcState) → are_of is_epochless step.effects.sends ≡ true
       → tally is_counted_one step.state.live ≡ tally is_counted_one s.live
       → ((v : TxId) → tally (is_counted_as v) step.state.live ≡ tally (is_counted_as v) s.live)
-      → length step.state.live ≤ 64
+      → length step.state.live ≤ TRANSACTIONS
       → StepCounts at step.state step.effects.sends c
   plain_step step kind all each room =
       let p = plain_counts at step.effects.sends c kind in
@@ -250,10 +256,10 @@ module _ (s : TcState) (at : Place → Bool) (own : at (epochs s.node) ≡ true)
       length_last [] = refl
       length_last (x ∷ live) = omega (arith, length_last live)
 
-      fewer : length s.live < 64
-      fewer = by (nat_le 64 (length s.live)) refl room
+      fewer : length s.live < TRANSACTIONS
+      fewer = by (nat_le TRANSACTIONS (length s.live)) refl room
         where
-          by : (b : Bool) → nat_le 64 (length s.live) ≡ b → is_full s ≡ false → length s.live < 64
+          by : (b : Bool) → nat_le TRANSACTIONS (length s.live) ≡ b → is_full s ≡ false → length s.live < TRANSACTIONS
           by true e full = absurd (false≢true (sym full ∙ ap (λ b. b || (s.next_seq == 2 ^ 64 - 1)) e))
           by false e full = grind (arith, nat_tests, e)
   step_of_counts step (takes about t front back was is) = by (turn_counts s one t body turn (turn_moves s body t about))
@@ -362,7 +368,7 @@ module _ (s : TcState) (at : Place → Bool) (own : at (epochs s.node) ≡ true)
             few = (λ e. fewer, tt);
           })
         where
-          fewer : length c < 64
+          fewer : length c < TRANSACTIONS
           fewer = omega (
             arith,
             k.all,

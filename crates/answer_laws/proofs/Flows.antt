@@ -16,8 +16,8 @@ use Rattle.world_core.specs.Start.{Start}
 use Rattle.run_laws.proofs.AlongSteps.{Goes, few_taken}
 use Rattle.host_laws.proofs.LinkCounts.{all_three, signals, taken_signals}
 use Rattle.host_laws.proofs.LqhOps.{right_of, true_and}
-use Rattle.host_laws.proofs.Tally.{tally_past}
-use Rattle.host_laws.specs.Counts.{one_if}
+use Rattle.run_theory.proofs.Tally.{tally_past}
+use Rattle.run_theory.specs.Counts.{one_if}
 use Rattle.answer_laws.proofs.Totals.{Grown, sent_all, sent_few, taken_all, taken_exact}
 use Rattle.host_laws.proofs.Sums.{total_at, total_le, total_less}
 use Rattle.host_laws.proofs.Wishes.{sends_of}

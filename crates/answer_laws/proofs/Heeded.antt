@@ -23,7 +23,7 @@ use Rattle.host_laws.proofs.BlocksAlong.{IsHome}
 use Rattle.host_laws.proofs.LinkCounts.{signals, taken_steps}
 use Rattle.answer_laws.proofs.Lives.{live_low}
 use Rattle.answer_laws.proofs.Strangers.{starts_once}
-use Rattle.host_laws.specs.Counts.{one_if}
+use Rattle.run_theory.specs.Counts.{one_if}
 use Rattle.host_laws.proofs.TcKeys.{is_answer, is_key}
 use Rattle.host_laws.proofs.TcSteps.{live_in}
 use Rattle.answer_laws.proofs.Wants.{IsHeld, all_right, held_few}

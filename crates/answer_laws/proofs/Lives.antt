@@ -23,8 +23,8 @@ use Rattle.run_laws.proofs.AlongSteps.{few_taken, link, none_else}
 use Rattle.host_laws.proofs.ApiHolds.{AreHeld, IsOrdered, log_holds}
 use Rattle.host_laws.proofs.BlocksAlong.{first_live}
 use Rattle.host_laws.proofs.LinkCounts.{all_three, signals, steps, steps_from, taken_signals, taken_steps}
-use Rattle.host_laws.proofs.Tally.{Counted, counted, tally_in}
-use Rattle.host_laws.specs.Counts.{one_if, tally}
+use Rattle.run_theory.proofs.Tally.{Counted, counted, tally_in}
+use Rattle.run_theory.specs.Counts.{one_if, tally}
 use Rattle.host_laws.proofs.TcLives.{is_over, is_keyed, is_start, start_of}
 use Rattle.host_laws.proofs.TcMoves.{end_of, is_end, same_tx-is}
 use Rattle.host_laws.proofs.Wishes.{is_api}

@@ -32,7 +32,7 @@ use Rattle.world_core.specs.Machine.{after, machine, step_after}
 use Rattle.world_core.specs.Start.{Start}
 use Rattle.world_core.specs.Steps.{HostStep}
 use Rattle.host_laws.proofs.Sums.{total_at, total_one, total_zero}
-use Rattle.host_laws.specs.Counts.{one_if, total}
+use Rattle.run_theory.specs.Counts.{one_if, total}
 use Rattle.run_laws.proofs.AlongSteps.{Goes, along, at_tc, first_none, no_transaction, other_turn, the_transaction, turn_at, tx_at}
 use Rattle.answer_laws.proofs.Flows.{flow_few, flow_sent, flow_taken, flow_took}
 use Rattle.host_laws.proofs.HostTurns.{HostTurn, IsAside, aside, in_rows, is_aside, starting, turning}

@@ -1,5 +1,6 @@
 -- An open transaction that has nothing unanswered misses neither an operation nor its commit.
-use Rattle.std.proofs.Common.{◌≡◌, ℕ, ◌+◌, ◌≤◌, ◌<◌, List, [], ◌∷◌, length, Bool, true, false, refl, ap, sym, ◌∙◌, arith}
+use Rattle.std.proofs.Common.{◌≡◌, ℕ, ◌+◌, ◌≤◌, ◌<◌, List, [], ◌∷◌, length, Bool, true, false, refl, ap, sym, ◌∙◌}
+use Rattle.std.proofs.Common.{arith}
 use Rattle.std.specs.Prelude.{◌&&◌, ◌||◌, nat_lt, is_some, if◌then◌else◌, Option, None, Some}
 use Rattle.std.proofs.lemmas.Bool.{false≢true}
 use Rattle.std.proofs.lemmas.Bool.Decides.{nat_tests}
@@ -17,6 +18,7 @@ use Rattle.sig_core.specs.declared.signal.Body.TheVariants.{Client}
 use Rattle.sig_core.specs.declared.signal.client.ClientSignal.TheVariants.{TcKeyReq, TcCommitReq}
 use Rattle.sig_core.specs.Op.{key_of}
 use Rattle.sig_core.specs.Step.{stay}
+use Rattle.tc_block.specs.declared.touched.TheConstants.{KEYS}
 use Rattle.tc_block.specs.declared.phase.Asked.{Asked}
 use Rattle.tc_block.specs.declared.phase.Phase.TheVariants.{Open}
 use Rattle.tc_block.specs.declared.transaction.Transaction.{Transaction}
@@ -24,18 +26,21 @@ use Rattle.tc_block.specs.Operate.{can_operate, is_ready}
 use Rattle.tc_block.specs.Touched.{fits, place_of}
 use Rattle.answer_laws.proofs.ApiEntries.{is_commit_req, of_opened}
 use Rattle.answer_laws.proofs.OpenTurns.{commit_body}
-use Rattle.host_laws.specs.Counts.{one_if, tally}
+use Rattle.run_theory.specs.Counts.{one_if, tally}
 use Rattle.host_laws.proofs.TcKeys.{key_of_tx}
 use Rattle.host_laws.proofs.TcMoves.{same_tx-is}
 use Rattle.tc_block.proofs.EachTurn.{IsMissed}
 use Rattle.tc_block.proofs.TurnRows.{tx_in, is_turn}
 use Rattle.host_laws.proofs.Wishes.{is_api, is_tc}
 
-pub some_held : (tx : TxId) (opened : List OpenTransaction) (t : OpenTransaction) → of_opened tx opened ≡ Some t → 1 ≤ tally (has_tx tx) opened
+pub some_held : (tx : TxId) (opened : List OpenTransaction) (t : OpenTransaction) → of_opened tx opened ≡ Some t
+    → 1 ≤ tally (has_tx tx) opened
 some_held tx [] t there = absurd cc
 some_held tx (x ∷ opened) t there = go (has_tx tx x) refl there (some_held tx opened t)
   where
-    go : (b : Bool) → has_tx tx x ≡ b → (if b then Some x else of_opened tx opened) ≡ Some t → (of_opened tx opened ≡ Some t → 1 ≤ tally (has_tx tx) opened) → 1 ≤ one_if (has_tx tx x) + tally (has_tx tx) opened
+    go : (b : Bool) → has_tx tx x ≡ b → (if b then Some x else of_opened tx opened) ≡ Some t
+        → (of_opened tx opened ≡ Some t → 1 ≤ tally (has_tx tx) opened)
+        → 1 ≤ one_if (has_tx tx x) + tally (has_tx tx) opened
     go true is there rest = omega (arith, ap one_if is)
     go false is there rest = omega (arith, rest there)
 
@@ -51,7 +56,8 @@ shell_stays s _ x e = refl
 pub has_asked : Transaction → ℕ
 has_asked t = one_if (is_some t.asked)
 
-pub commit_at : (tx : TxId) (to : Place) (body : Body) → is_commit_req tx to body ≡ (is_tc to.block && commit_body tx body)
+pub commit_at : (tx : TxId) (to : Place) (body : Body)
+    → is_commit_req tx to body ≡ (is_tc to.block && commit_body tx body)
 commit_at tx to (Client (TcCommitReq other)) = refl
 commit_at tx to _ = by (is_tc to.block)
   where
@@ -75,20 +81,24 @@ none_asked (Some a) e = absurd (omega (arith, e))
 pub ready : (t : Transaction) → t.phase ≡ Open → t.asked ≡ None → is_ready t.phase t.asked ≡ true
 ready t p q = ap (λ x. is_ready x t.asked) p ∙ ap (is_ready Open) q
 
-pub missed_key : (tx : TxId) (t : Transaction) (body : Body) → IsMissed t body → key_of_tx tx body ≡ true → t.phase ≡ Open → t.asked ≡ None → length t.touched < 64 → ⊥
+pub missed_key : (tx : TxId) (t : Transaction) (body : Body) → IsMissed t body → key_of_tx tx body ≡ true
+    → t.phase ≡ Open → t.asked ≡ None → length t.touched < KEYS → ⊥
 missed_key tx t (Client (TcKeyReq other op)) missed e p q low = false≢true (sym missed ∙ can)
   where
-    room : nat_lt (length t.touched) 64 ≡ true
+    room : nat_lt (length t.touched) KEYS ≡ true
     room = grind (arith, nat_tests, low)
 
     can : can_operate t op ≡ true
-    can = ap (λ b. b && fits t.touched (key_of op)) (ready t p q) ∙ (ap (λ b. is_some (place_of t.touched (key_of op)) || b) room ∙ either (is_some (place_of t.touched (key_of op))))
+    can = ap (λ b. b && fits t.touched (key_of op)) (ready t p q)
+        ∙ (ap (λ b. is_some (place_of t.touched (key_of op)) || b) room ∙ either
+        (is_some (place_of t.touched (key_of op))))
       where
         either : (b : Bool) → (b || true) ≡ true
         either true = refl
         either false = refl
 missed_key tx t _ missed e p q low = false≢true e
 
-pub missed_commit : (tx : TxId) (t : Transaction) (body : Body) → IsMissed t body → commit_body tx body ≡ true → t.phase ≡ Open → t.asked ≡ None → ⊥
+pub missed_commit : (tx : TxId) (t : Transaction) (body : Body) → IsMissed t body → commit_body tx body ≡ true
+    → t.phase ≡ Open → t.asked ≡ None → ⊥
 missed_commit tx t (Client (TcCommitReq other)) missed e p q = false≢true (sym missed ∙ ready t p q)
 missed_commit tx t _ missed e p q = false≢true e

@@ -28,8 +28,8 @@ use Rattle.tc_block.proofs.EachTurn.{rows_at}
 use Rattle.tc_block.proofs.LiveSplit.{AreOthers}
 use Rattle.tc_block.proofs.TurnRows.{TcStep, begins, is_turn, misses, passes, refuses, rests, takes, tc_step, turn_by, turn_row, tx_in, left_if}
 use Rattle.host_laws.proofs.ApiBegins.{each_at, each_changed, each_less, in_middle}
-use Rattle.host_laws.proofs.Tally.{tally_between, tally_in, tally_none}
-use Rattle.host_laws.specs.Counts.{one_if, tally}
+use Rattle.run_theory.proofs.Tally.{tally_between, tally_in, tally_none}
+use Rattle.run_theory.specs.Counts.{one_if, tally}
 use Rattle.host_laws.proofs.TcCommits.{is_chain}
 use Rattle.host_laws.proofs.TcLives.{IsOwn, insert_new, is_keyed}
 use Rattle.host_laws.proofs.TcOwes.{IsKnown, Owes, Owing, TurnOwes, at_if, came_in, cont_in, owes_forms, waits}

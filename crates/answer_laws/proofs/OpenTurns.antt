@@ -21,7 +21,7 @@ use Rattle.tc_block.specs.Turn.{Turn}
 use Rattle.sig_core.proofs.Keys.{same_tx-self}
 use Rattle.host_laws.proofs.PartKinds.{IsPartKind, parts_of}
 use Rattle.host_laws.proofs.SendKinds.{is_keyless, of_kind}
-use Rattle.host_laws.specs.Counts.{one_if}
+use Rattle.run_theory.specs.Counts.{one_if}
 use Rattle.host_laws.proofs.TcKeys.{answers_in, key_of_tx, no_answers}
 use Rattle.tc_block.proofs.EachTurn.{IsMissed}
 use Rattle.host_laws.proofs.TcTurns.{abort_ends, aborted, aborts, all_completed, answers, asks, commits, committed, completed, completes, decides, ends, entered_phase, gives_up, goes_on, is_wait_kind, keeps, late, over_not, TurnMove}

@@ -42,13 +42,13 @@ use Rattle.host_laws.proofs.HostTurns.{idle_unheard}
 use Rattle.host_laws.proofs.LinkCounts.{signals}
 use Rattle.host_laws.proofs.LqhOps.{came_of, is_good, is_lqh, is_mine, is_node, is_op, left_of, lqh_ops, ops, right_of, true_and}
 use Rattle.host_laws.proofs.NodeOps.{AreRight, StepAsks, is_asking, tc_steps}
-use Rattle.host_laws.proofs.Tally.{Counted, and_few, counted, tally_in}
-use Rattle.host_laws.specs.Counts.{one_if, tally}
+use Rattle.run_theory.proofs.Tally.{Counted, and_few, counted, tally_in}
+use Rattle.run_theory.specs.Counts.{one_if, tally}
 use Rattle.host_laws.proofs.TcMoves.{same_tx-is}
 use Rattle.host_laws.proofs.TcOps.{answers_of, asks_key, IsGoodLayout}
 use Rattle.answer_laws.proofs.Totals.{Grown, sent_all, sent_more, taken_all, taken_more}
 use Rattle.host_laws.proofs.Sums.{IsSome, total_one, total_same, total_some}
-use Rattle.host_laws.specs.Counts.{total}
+use Rattle.run_theory.specs.Counts.{total}
 use Rattle.host_laws.proofs.Wishes.{is_tc}
 use Rattle.answer_laws.specs.Answered.{AreQuiet, EachOperationWaits, IsLiveAs, IsWaitingAt, Waits}
 

@@ -28,8 +28,8 @@ use Rattle.world_core.specs.Machine.{after, machine, step_after}
 use Rattle.world_core.specs.Start.{Start}
 use Rattle.world_core.specs.Steps.{HostStep}
 use Rattle.sig_core.proofs.Keys.{same_key-self, same_tx-self}
-use Rattle.host_laws.proofs.Tally.{tally_in}
-use Rattle.host_laws.specs.Counts.{one_if}
+use Rattle.run_theory.proofs.Tally.{tally_in}
+use Rattle.run_theory.specs.Counts.{one_if}
 use Rattle.run_laws.proofs.AlongSteps.{Goes, along, at_home, few_taken, live_tx, rows_place, tx_at}
 use Rattle.answer_laws.proofs.Flows.{flow_grows}
 use Rattle.host_laws.proofs.HostTurns.{rows_turn}

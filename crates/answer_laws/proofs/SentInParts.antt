@@ -3,6 +3,7 @@ use Rattle.std.proofs.Common.{◌≡◌, ◌≢◌, ◌⊎◌, ℕ, ◌+◌, ◌
 use Rattle.std.proofs.lemmas.Bool.{cases_eq}
 use Rattle.run_theory.specs.Links.{is_from, sent, taken}
 use Rattle.run_theory.specs.Runs.{AreLogs}
+use Rattle.sig_core.specs.declared.portion.TheConstants.{PORTION}
 use Rattle.sig_core.specs.declared.member.TxId.{TxId}
 use Rattle.sig_core.specs.declared.outs.Outgoing.{Outgoing}
 use Rattle.sig_core.specs.declared.place.Place.{Place}
@@ -11,16 +12,17 @@ use Rattle.world_core.specs.Hosts.{home, host_for, hosts}
 use Rattle.world_core.specs.Machine.{machine, step_after}
 use Rattle.world_core.specs.Start.{Start}
 use Rattle.world_core.specs.Steps.{HostStep}
-use Rattle.host_laws.specs.Counts.{one_if}
+use Rattle.run_theory.specs.Counts.{one_if}
 use Rattle.host_laws.proofs.LinkCounts.{sent_signals, signals, taken_signals}
 use Rattle.host_laws.proofs.PartCounts.{IsPart, is_cont}
 use Rattle.host_laws.proofs.Sums.{total_le, total_same}
-use Rattle.host_laws.proofs.Tally.{and_few}
+use Rattle.run_theory.proofs.Tally.{and_few}
 use Rattle.host_laws.proofs.Wishes.{sends_of}
 use Rattle.run_laws.proofs.AlongSteps.{Goes, few_taken}
 use Rattle.answer_laws.proofs.AbortCounts.{conts_few}
 use Rattle.answer_laws.proofs.Totals.{Grown, sent_all, sent_more, taken_all, taken_more}
 use Rattle.answer_laws.specs.Answered.{AreQuiet}
+use Rattle.tc_block.specs.declared.sends.TheConstants.{SENDS}
 
 -- of the signals that pass the test
 module _ (start : Start) (tx : TxId) (test : Place → Body → Bool) where
@@ -41,7 +43,7 @@ module _ (start : Start) (tx : TxId) (test : Place → Body → Bool) where
   -- the rest of the list, of this length, is sent when the coordinator goes on
   pub record IsLeft (logs : ℕ → List HostStep) (length more awaited : ℕ) : Type 0 where
     pub place : ℕ
-    pub low : place < 512
+    pub low : place < SENDS
     pub coming : conts_taken place logs + 1 ≤ conts_sent place logs
     pub owed : taken_so_far logs + awaited + place ≤ sent_so_far logs + length + more
 
@@ -57,7 +59,7 @@ module _ (start : Start) (tx : TxId) (test : Place → Body → Bool) where
   -- where nothing goes on, what was owed stays owed
   pub stays_owed : (logs now : ℕ → List HostStep) (l a k : ℕ)
       → taken_so_far now + sent_so_far logs ≤ taken_so_far logs + sent_so_far now
-      → ((b : ℕ) → b < 512 → conts_taken b now + conts_sent b logs ≤ conts_taken b logs + conts_sent b now)
+      → ((b : ℕ) → b < SENDS → conts_taken b now + conts_sent b logs ≤ conts_taken b logs + conts_sent b now)
       → IsOwed logs l a k → IsOwed now l a k
   stays_owed logs now l a k more conts (inl enough) = inl (omega (arith, enough, more))
   stays_owed logs now l a k more conts (inr left) = inr (record {
@@ -80,8 +82,11 @@ module _ (start : Start) (tx : TxId) (test : Place → Body → Bool) where
       by : IsOwed logs l 0 k → ⊥
       by (inl enough) = omega (arith, enough, some, all_taken)
       by (inr left) =
-          omega
-          (arith, left.coming, ap (signals (is_cont tx left.place)) (quiet.quiet (home start tx) (home start tx) low low))
+          omega (
+            arith,
+            left.coming,
+            ap (signals (is_cont tx left.place)) (quiet.quiet (home start tx) (home start tx) low low),
+          )
 
   module _ (low_of : (to : Place) (body : Body) → test to body ≡ true → host_for start to < hosts start)
       (logs now : ℕ → List HostStep) (h : ℕ) (e : HostStep) (g : Goes start logs now h e) where
@@ -106,7 +111,8 @@ module _ (start : Start) (tx : TxId) (test : Place → Body → Bool) where
   pub home_step : ((to : Place) (body : Body) → test to body ≡ true → host_for start to < hosts start)
       → (logs now : ℕ → List HostStep) (e : HostStep)
       → Goes start logs now (home start tx) e
-      → HomeStep logs now (step_after start (home start tx) (logs (home start tx)) e).effects.sends e.step.taken.to e.step.taken.body
+      → HomeStep logs now (step_after start (home start tx)
+      (logs (home start tx)) e).effects.sends e.step.taken.to e.step.taken.body
   home_step low_of logs now e g =
       let at = home start tx in
       record {
@@ -131,41 +137,54 @@ module _ (start : Start) (tx : TxId) (test : Place → Body → Bool) where
   module _ (logs now : ℕ → List HostStep) (sends : List Outgoing) (to : Place) (body : Body)
       (f : HomeStep logs now sends to body) where
     -- the list is begun
-    pub begun_owed : (l a k : ℕ) → one_if (test to body) ≡ 0 → is_cont tx 8 to body ≡ false → k ≡ l + a
+    pub begun_owed : (l a k : ℕ) → one_if (test to body) ≡ 0 → is_cont tx PORTION to body ≡ false → k ≡ l + a
         → IsPart test tx l 0 sends → IsOwed now l a k
     begun_owed l a k none off k_is (inl p) = inr (record {
-      place = 8;
+      place = PORTION;
       low = omega arith;
-      coming = omega (arith, p.2, f.c_sent 8, f.c_taken 8, f.c_few 8, ap one_if off);
+      coming = omega (arith, p.2, f.c_sent PORTION, f.c_taken PORTION, f.c_few PORTION, ap one_if off);
       owed = omega (arith, p.1, k_is, f.s_more, f.t_more, f.t_few, none);
     })
     begun_owed l a k none off k_is (inr p) = inl (omega (arith, p, k_is, f.s_more, f.t_more, f.t_few, none))
 
     -- the list doesn't go on: no fewer are awaited than came, but for what is sent now
     pub waits_owed : (l a m b k : ℕ) → k + one_if (test to body) + a ≤ m + b + sends_of test sends
-        → ((place : ℕ) → place < 512 → is_cont tx place to body ≡ false)
+        → ((place : ℕ) → place < SENDS → is_cont tx place to body ≡ false)
         → IsOwed logs l a m → IsOwed now l b k
     waits_owed l a m b k le off (inl enough) = inl (omega (arith, enough, le, f.s_more, f.t_more))
     waits_owed l a m b k le off (inr left) = inr (record {
       place = left.place;
       low = left.low;
-      coming = omega (arith, left.coming, f.c_sent left.place, f.c_taken left.place, ap one_if (off left.place left.low));
+      coming = omega (
+        arith,
+        left.coming,
+        f.c_sent left.place,
+        f.c_taken left.place,
+        ap one_if (off left.place left.low),
+      );
       owed = omega (arith, left.owed, le, f.s_more, f.t_more);
     })
 
     -- the list goes on at a place
-    pub continued_owed : (l a k place : ℕ) → l ≤ 512 → one_if (test to body) ≡ 0
+    pub continued_owed : (l a k place : ℕ) → l ≤ SENDS → one_if (test to body) ≡ 0
         → ((b : ℕ) → b ≢ place → is_cont tx b to body ≡ false)
-        → (512 ≤ place) ⊎ IsPart test tx l place sends → IsOwed logs l a k → IsOwed now l a k
+        → (SENDS ≤ place) ⊎ IsPart test tx l place sends → IsOwed logs l a k → IsOwed now l a k
     continued_owed l a k place few none off part (inl enough) = inl (omega (arith, enough, f.s_more, f.t_more, none))
     continued_owed l a k place few none off part (inr left) = by (cases_eq left.place place)
       where
-        here : left.place ≡ place → (512 ≤ place) ⊎ IsPart test tx l place sends → IsOwed now l a k
+        here : left.place ≡ place → (SENDS ≤ place) ⊎ IsPart test tx l place sends → IsOwed now l a k
         here is (inl far) = absurd (omega (arith, far, left.low, is))
         here is (inr (inl p)) = inr (record {
-          place = place + 8;
+          place = place + PORTION;
           low = omega (arith, p.0, few);
-          coming = omega (arith, p.2, f.c_sent (place + 8), f.c_taken (place + 8), f.c_few (place + 8), ap one_if (off (place + 8) (λ same. absurd (omega (arith, same)))));
+          coming = omega (
+            arith,
+            p.2,
+            f.c_sent (place + PORTION),
+            f.c_taken (place + PORTION),
+            f.c_few (place + PORTION),
+            ap one_if (off (place + PORTION) (λ same. absurd (omega (arith, same)))),
+          );
           owed = omega (arith, left.owed, p.1, is, f.s_more, f.t_more, none);
         })
         here is (inr (inr p)) = inl (omega (arith, left.owed, p, is, f.s_more, f.t_more, none))
@@ -175,6 +194,12 @@ module _ (start : Start) (tx : TxId) (test : Place → Body → Bool) where
         by (inr differs) = inr (record {
           place = left.place;
           low = left.low;
-          coming = omega (arith, left.coming, f.c_sent left.place, f.c_taken left.place, ap one_if (off left.place differs));
+          coming = omega (
+            arith,
+            left.coming,
+            f.c_sent left.place,
+            f.c_taken left.place,
+            ap one_if (off left.place differs),
+          );
           owed = omega (arith, left.owed, f.s_more, f.t_more, none);
         })

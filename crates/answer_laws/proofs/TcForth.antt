@@ -32,7 +32,7 @@ use Rattle.host_laws.proofs.LqhWaits.{hops, is_hop}
 use Rattle.host_laws.proofs.PartKinds.{IsPartKind, entering_of, parts_of}
 use Rattle.host_laws.proofs.PhaseSends.{part_of}
 use Rattle.host_laws.proofs.SendKinds.{are_of, none_of, of_append, of_flat, of_kind, of_map}
-use Rattle.host_laws.specs.Counts.{one_if}
+use Rattle.run_theory.specs.Counts.{one_if}
 use Rattle.host_laws.proofs.TcOps.{asks_key}
 use Rattle.host_laws.proofs.TcTurns.{abort_ends, aborted, aborts, all_completed, answers, asked_to, asks, commits, committed, completed, completes, decides, ends, entered_phase, gives_up, GivesUp, goes_on, is_wait_kind, keeps, late, over_not, refused, TurnMove}
 use Rattle.tc_block.specs.Phases.{is_aborting}

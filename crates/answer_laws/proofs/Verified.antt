@@ -29,8 +29,8 @@ use Rattle.world_core.specs.Machine.{after, machine, step_after}
 use Rattle.world_core.specs.Start.{Start}
 use Rattle.world_core.specs.Steps.{HostStep}
 use Rattle.sig_core.proofs.Keys.{same_tx-self}
-use Rattle.host_laws.proofs.Tally.{none_if}
-use Rattle.host_laws.specs.Counts.{one_if}
+use Rattle.run_theory.proofs.Tally.{none_if}
+use Rattle.run_theory.specs.Counts.{one_if}
 use Rattle.run_laws.proofs.AlongSteps.{Goes, along, at_home, at_tc, few_taken, first_none, is_dih, live_tx, no_transaction, the_transaction, turn_at, tx_at}
 use Rattle.answer_laws.proofs.EpochCounts.{AreFew, is_epochless}
 use Rattle.answer_laws.proofs.EpochFlow.{at_place, is_conf, is_req}

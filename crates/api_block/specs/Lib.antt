@@ -9,4 +9,5 @@ pub mod Operate
 pub mod Outcome
 pub mod Requests
 pub mod State
+pub mod Views
 pub mod Wait

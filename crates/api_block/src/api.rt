@@ -108,7 +108,7 @@ impl Api {
     }
 
     /// Where the transaction stands that the last command is about.
-    pub(crate) fn own_place(&self) -> Option<usize>
+    pub fn own_place(&self) -> Option<usize>
         ensures value { result ≡ own_place self.now }
         ensures inside { IfSome result (λ at. at < length self.now.opened) }
     {
@@ -133,7 +133,7 @@ impl Api {
     ///
     /// # Errors
     /// `NoMemory`, and then nothing has happened.
-    pub(crate) fn reply(&mut self, reply: ApiReply) -> Result<(), NoMemory>
+    pub fn reply(&mut self, reply: ApiReply) -> Result<(), NoMemory>
         ensures ok { OnOk result (self.new ≡ replied self.old (reply ∷ [])) }
         ensures err { OnErr result (self.new ≡ self.old) }
     {
@@ -147,7 +147,7 @@ impl Api {
     ///
     /// # Errors
     /// `NoMemory`, and then nothing has happened.
-    pub(crate) fn refuse(&mut self, name: Option<u16>, refusal: Refusal) -> Result<(), NoMemory>
+    pub fn refuse(&mut self, name: Option<u16>, refusal: Refusal) -> Result<(), NoMemory>
         ensures ok { OnOk result (self.new ≡ (refused self.old name refusal).state) }
         ensures err { OnErr result (self.new ≡ self.old) }
     {

@@ -46,7 +46,7 @@ impl Api {
     ///
     /// # Errors
     /// `NoMemory`, and then nothing has happened.
-    pub(crate) fn ask_begin(
+    pub fn ask_begin(
         &mut self,
         name: Option<u16>,
         node: u8,

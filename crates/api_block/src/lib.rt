@@ -11,9 +11,13 @@ mod members;
 mod opened;
 mod operate;
 mod outcome;
+mod views;
 mod wait;
 
 pub use api::Api;
+pub use opened::{
+    Doing, OpenTransaction, is_beginning, is_unanswered, place_beginning_at, place_named,
+};
 
 #[cfg(test)]
 mod tests;

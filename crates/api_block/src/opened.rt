@@ -179,7 +179,8 @@ pub fn is_unanswered(doing: &Doing) -> bool
     }
 }
 
-fn is_beginning(doing: &Doing) -> bool
+/// Whether its coordinator hasn't answered yet whether it begins.
+pub fn is_beginning(doing: &Doing) -> bool
     ensures { result ≡ is_beginning doing.now }
 {
     match doing {

@@ -28,8 +28,11 @@ impl Api {
         }
     }
 
-    // The transaction at a place is over.
-    fn end(&mut self, at: usize, reply: ApiReply) -> Result<(), NoMemory>
+    /// The transaction at a place is over, and the client is told so by this reply.
+    ///
+    /// # Errors
+    /// `NoMemory`, and then nothing has happened.
+    pub fn end(&mut self, at: usize, reply: ApiReply) -> Result<(), NoMemory>
         requires { at < length self.old.opened }
         ensures ok { OnOk result (self.new ≡ over self.old at reply) }
         ensures err { OnErr result (self.new ≡ self.old) }
@@ -39,8 +42,11 @@ impl Api {
         Ok(())
     }
 
-    // The transaction at a place has this outcome.
-    fn report(
+    /// The transaction at a place, of this name, has this outcome: the client is told.
+    ///
+    /// # Errors
+    /// `NoMemory`, and then nothing has happened.
+    pub fn report(
         &mut self,
         tx: TxId,
         outcome: Outcome,
@@ -63,12 +69,7 @@ impl Api {
     /// # Errors
     /// `NoMemory`, and then nothing has happened.
     #[tactic(auto, unfolding(crate::specs::Outcome::commit_report_row))]
-    pub(crate) fn report_commit(
-        &mut self,
-        tx: TxId,
-        epoch: u64,
-        out: &mut Outs,
-    ) -> Result<(), NoMemory>
+    pub fn report_commit(&mut self, tx: TxId, epoch: u64, out: &mut Outs) -> Result<(), NoMemory>
         requires { HasRoom out.old }
         ensures ok { OnOk result (IsTaken (commit_report_row self.old tx epoch) self.new out.old out.new) }
         ensures err { OnErr result (IsUntouched self.old self.new out.old out.new) }
@@ -109,7 +110,7 @@ impl Api {
     /// # Errors
     /// `NoMemory`, and then nothing has happened.
     #[tactic(auto, unfolding(crate::specs::Outcome::abort_report_row))]
-    pub(crate) fn report_abort(
+    pub fn report_abort(
         &mut self,
         tx: TxId,
         cause: AbortCause,

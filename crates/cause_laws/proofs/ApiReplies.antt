@@ -34,9 +34,9 @@ use Rattle.api_block.specs.Members.{everyone, telling, telling_all}
 use Rattle.api_block.specs.Opened.{is_named}
 use Rattle.api_block.specs.Outcome.{acknowledging}
 use Rattle.api_block.specs.State.{ApiState, about}
-use Rattle.host_laws.proofs.ApiTurns.{ApiRequestForms, ApiSignalForms, api_turns, is_own_refusal}
+use Rattle.api_block.proofs.ApiTurns.{ApiRequestForms, ApiSignalForms, api_turns, is_own_refusal}
 use Rattle.host_laws.proofs.ApiBegins.{same_name-is}
-use Rattle.host_laws.proofs.Focus.{IsFocus}
+use Rattle.run_theory.proofs.Focus.{IsFocus}
 use Rattle.cause_laws.specs.Causes.{IsEntered, IsWish}
 use Rattle.cause_laws.specs.TurnedAway.{AddsReplies, IsToldBy, RepliesAreTold}
 

@@ -4,7 +4,6 @@ use Rattle.std.proofs.Common.{◌≡◌, ◌≢◌, ◌⊎◌, ℕ, zero, suc, �
 use Rattle.std.proofs.Common.{subst, inl, inr}
 use Rattle.std.proofs.lemmas.Bool.{cases_eq, true≢false}
 use Rattle.std.specs.List.{list_any}
-use Rattle.std.specs.Prelude.{length, nat_lt}
 use Rattle.run_theory.proofs.Orders.{each_next}
 use Rattle.run_theory.proofs.Pasts.{each_append, each_from, each_in, each_map, past_self}
 use Rattle.run_theory.proofs.Runs.{log_of-other, log_of-own, log_of-past}
@@ -24,10 +23,9 @@ use Rattle.sig_core.specs.declared.reply.ApiReply.{ApiReply}
 use Rattle.sig_core.specs.declared.reply.ApiReply.TheVariants.{Ended, Refused}
 use Rattle.sig_core.specs.declared.reply.Refusal.TheVariants.{TooManyOpen}
 use Rattle.sig_core.specs.declared.signal.Body.{Body}
-use Rattle.sig_core.specs.declared.signal.Body.TheVariants.{Chain, Client, Epoch}
+use Rattle.sig_core.specs.declared.signal.Body.TheVariants.{Chain, Client}
 use Rattle.sig_core.specs.declared.signal.chain.ChainSignal.TheVariants.{LqhKeyRef}
 use Rattle.sig_core.specs.declared.signal.client.ClientSignal.TheVariants.{TcBeginRef, TcRollbackRep, TcRollbackReq}
-use Rattle.sig_core.specs.declared.signal.epoch.EpochSignal.TheVariants.{DiVerifyReq}
 use Rattle.sig_core.specs.declared.signal.Signal.{Signal}
 use Rattle.sig_core.specs.Place.{coordinator_of}
 use Rattle.sig_core.specs.Same.{same_tx}
@@ -46,7 +44,8 @@ use Rattle.node_core.proofs.HostCases.{BlockCase, IsApiStep, IsRowsStep, IsTcSte
 use Rattle.node_core.proofs.HostCases.{dih_takes, each_mark, none_takes, rows_take, tc_step, tc_takes}
 use Rattle.node_core.specs.Blocks.{api_of, dih_of, has_api, has_tc, lqh_of, tc_of}
 use Rattle.node_core.specs.declared.host.Host.{Host}
-use Rattle.node_core.specs.Dih.{DihState, decide_if, decide_row, dih_table}
+use Rattle.node_core.specs.Dih.{DihState, dih_table}
+use Rattle.node_core.proofs.DihForms.{dih_marks_each}
 use Rattle.node_core.specs.Fresh.{fresh_part, fresh_shell}
 use Rattle.node_core.specs.Requests.{is_request}
 use Rattle.node_core.specs.Row.{row}
@@ -132,16 +131,9 @@ module _ (start : Start) where
   dih_tells logs _ is = tt
 
   -- the block of epochs marks no report
-  decides_caused : (logs : ℕ → List HostStep) (before : List HostStep) (s : DihState) (tx : TxId) (b : Bool)
-      → Each (IsMarkCaused logs before) (decide_if s tx b).effects.marks
-  decides_caused logs before s tx true = (tt, tt)
-  decides_caused logs before s tx false = tt
-
   dih_caused : (logs : ℕ → List HostStep) (before : List HostStep) (s : DihState) (b : Body)
       → Each (IsMarkCaused logs before) (dih_table s b).effects.marks
-  unfolding decide_row
-  dih_caused logs before s (Epoch (DiVerifyReq tx ops)) = decides_caused logs before s tx (nat_lt (length s.counted) 64)
-  dih_caused logs before s _ = tt
+  dih_caused logs before s b = dih_marks_each (IsMarkCaused logs before) s b (λ tx ops is. tt)
 
   rows_caused : (logs : ℕ → List HostStep) (before : List HostStep) (g : Host) (b : Body)
       → Each (IsMarkCaused logs before) (lqh_table (lqh_of g) b).effects.marks

@@ -1,7 +1,7 @@
 -- Who waits has waited for the rounds that its queue counts, and who is over for eight of them.
-use Rattle.std.proofs.Common.{◌≡◌, ◌==◌, ℕ, ◌+◌, Bool, true, false, List, [], ◌∷◌, length, refl, sym, ap, subst, arith}
+use Rattle.std.proofs.Common.{◌≡◌, ◌==◌, ℕ, ◌+◌, Bool, true, false, List, [], ◌∷◌, refl, sym, ap, subst, arith}
 use Rattle.std.specs.FinMap as finite
-use Rattle.std.specs.Prelude.{Option, None, Some, if◌then◌else◌, nat_lt}
+use Rattle.std.specs.Prelude.{Option, None, Some, if◌then◌else◌}
 use Rattle.run_theory.proofs.Pasts.{each_in, each_map}
 use Rattle.run_theory.specs.Lists.{Each, IsIn}
 use Rattle.sig_core.specs.declared.mark.Mark.{Mark}
@@ -10,9 +10,8 @@ use Rattle.sig_core.specs.declared.member.TxId.{TxId}
 use Rattle.sig_core.specs.declared.place.BlockId.{BlockId}
 use Rattle.sig_core.specs.declared.place.BlockId.TheVariants as block
 use Rattle.sig_core.specs.declared.signal.Body.{Body}
-use Rattle.sig_core.specs.declared.signal.Body.TheVariants.{Chain, Epoch, Host}
+use Rattle.sig_core.specs.declared.signal.Body.TheVariants.{Chain, Host}
 use Rattle.sig_core.specs.declared.signal.chain.ChainSignal.TheVariants.{Abort, Commit, Complete, LqhKeyReq}
-use Rattle.sig_core.specs.declared.signal.epoch.EpochSignal.TheVariants.{DiVerifyReq}
 use Rattle.sig_core.specs.declared.signal.host.HostSignal.TheVariants.{Continue, Round}
 use Rattle.sig_core.specs.declared.signal.host.Work.TheVariants as work
 use Rattle.sig_core.specs.Firsts.{first}
@@ -37,7 +36,8 @@ use Rattle.node_core.proofs.HostCases.{each_mark}
 use Rattle.node_core.specs.Blocks.{api_of, dih_of, lqh_of, tc_of}
 use Rattle.node_core.specs.declared.host.Host.{Host as AnyHost}
 use Rattle.node_core.specs.declared.host.Host.TheVariants.{Ldm}
-use Rattle.node_core.specs.Dih.{DihState, decide_if, decide_row, dih_table}
+use Rattle.node_core.specs.Dih.{DihState, dih_table}
+use Rattle.node_core.proofs.DihForms.{dih_marks_each}
 use Rattle.world_core.specs.Machine.{after}
 use Rattle.world_core.specs.Start.{Start}
 use Rattle.world_core.specs.Steps.{HostStep}
@@ -47,7 +47,7 @@ use Rattle.key_laws.specs.Replica.{key_after, served_by, serves_if}
 use Rattle.key_laws.specs.Replica as at
 use Rattle.host_laws.proofs.Replicas.{logs_follow}
 use Rattle.host_laws.proofs.TcMarks.{tc_marks}
-use Rattle.host_laws.specs.Counts.{one_if}
+use Rattle.run_theory.specs.Counts.{one_if}
 use Rattle.host_laws.specs.ReplicaLaws.{event_for, event_in, key_in}
 use Rattle.run_laws.proofs.FreshHosts.{started_unasked}
 use Rattle.cause_laws.specs.Reasons.{HasStood, IsLongWait, locks_with}
@@ -231,14 +231,8 @@ module _ (start : Start) (h : ℕ) (log : List HostStep) (e : HostStep) where
   over_after (mark.Expired tx key) is = stood_waited tx key is
   over_after _ is = tt
 
-  decides_none : (s : DihState) (tx : TxId) (b : Bool) → Each (IsOverAfter (e ∷ log)) (decide_if s tx b).effects.marks
-  decides_none s tx true = (tt, tt)
-  decides_none s tx false = tt
-
   dih_none : (s : DihState) (b : Body) → Each (IsOverAfter (e ∷ log)) (dih_table s b).effects.marks
-  unfolding decide_row
-  dih_none s (Epoch (DiVerifyReq tx ops)) = decides_none s tx (nat_lt (length s.counted) 64)
-  dih_none s _ = tt
+  dih_none s b = dih_marks_each (IsOverAfter (e ∷ log)) s b (λ tx ops is. tt)
 
 pub take_eight_rounds : TimeOutsTakeEightRounds
 take_eight_rounds start h log e =

@@ -16,7 +16,7 @@ use Rattle.node_core.specs.Blocks.{lqh_of}
 use Rattle.world_core.specs.Machine.{after, step_after}
 use Rattle.world_core.specs.Start.{Start}
 use Rattle.world_core.specs.Steps.{HostStep}
-use Rattle.host_laws.specs.Counts.{one_if}
+use Rattle.run_theory.specs.Counts.{one_if}
 
 -- a round of time
 abbrev pub is_round : Body → Bool

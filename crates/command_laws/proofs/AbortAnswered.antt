@@ -27,7 +27,7 @@ use Rattle.world_core.specs.Hosts.{home, hosts}
 use Rattle.world_core.specs.Machine.{after, step_after}
 use Rattle.world_core.specs.Start.{Start}
 use Rattle.world_core.specs.Steps.{HostStep}
-use Rattle.host_laws.specs.Counts.{one_if}
+use Rattle.run_theory.specs.Counts.{one_if}
 use Rattle.run_laws.proofs.AlongSteps.{live_tx}
 use Rattle.host_laws.proofs.LinkCounts.{steps}
 use Rattle.answer_laws.proofs.Lives.{live_low}

@@ -19,7 +19,7 @@ use Rattle.api_block.specs.Opened.{if_there, where_at}
 use Rattle.api_block.specs.State.{ApiState, about, refused}
 use Rattle.world_core.specs.Hosts.{home}
 use Rattle.world_core.specs.Start.{Start}
-use Rattle.host_laws.specs.Counts.{one_if}
+use Rattle.run_theory.specs.Counts.{one_if}
 use Rattle.host_laws.proofs.ApiBegins.{in_middle}
 use Rattle.host_laws.proofs.LinkCounts.{to_host}
 use Rattle.host_laws.proofs.TcSends.{eqb-self}

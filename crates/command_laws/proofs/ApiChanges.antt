@@ -32,8 +32,8 @@ use Rattle.api_block.specs.Members.{everyone, telling_all}
 use Rattle.api_block.specs.Opened.{answered, behind, begins, begins_at, begun, begun_operating, has_tx}
 use Rattle.api_block.specs.State.{ApiState}
 use Rattle.node_core.specs.Requests.{is_request}
-use Rattle.host_laws.proofs.ApiTurns.{ApiSignalForms, signal_turns}
-use Rattle.host_laws.proofs.Focus.{IsFocus}
+use Rattle.api_block.proofs.ApiTurns.{ApiSignalForms, signal_turns}
+use Rattle.run_theory.proofs.Focus.{IsFocus}
 use Rattle.host_laws.proofs.SendKinds.{are_of}
 
 -- what is sent with no transaction in view

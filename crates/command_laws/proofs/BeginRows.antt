@@ -17,7 +17,7 @@ use Rattle.api_block.specs.Operate.{begun_by, begun_row}
 use Rattle.api_block.specs.Outcome.{over, refuse_row}
 use Rattle.api_block.specs.State.{ApiState, about, opening}
 use Rattle.host_laws.proofs.ApiBegins.{same_name-self}
-use Rattle.host_laws.proofs.Focus.{none_placed}
+use Rattle.run_theory.proofs.Focus.{none_placed}
 use Rattle.run_laws.proofs.Weighing.{none_passes}
 use Rattle.command_laws.proofs.Entries.{NoneBegins}
 use Rattle.command_laws.proofs.LastOne.{where_last}

@@ -36,10 +36,10 @@ use Rattle.lqh_block.specs.Work.{work_mode}
 use Rattle.key_laws.proofs.LocksAt.{lock-inserted, lock-kept}
 use Rattle.host_laws.proofs.LqhOps.{is_lqh}
 use Rattle.host_laws.proofs.QueueWaits.{R}
-use Rattle.host_laws.proofs.Tally.{tally_append}
+use Rattle.run_theory.proofs.Tally.{tally_append}
 use Rattle.host_laws.proofs.TcSends.{eqb-self}
 use Rattle.host_laws.proofs.Wishes.{sends_of}
-use Rattle.host_laws.specs.Counts.{one_if}
+use Rattle.run_theory.specs.Counts.{one_if}
 
 -- some wait of the queue is closed
 abbrev pub some_closed : List Wait → Bool

@@ -10,6 +10,7 @@ use Rattle.sig_core.specs.declared.signal.Body.{Body}
 use Rattle.sig_core.specs.declared.signal.Body.TheVariants.{Client}
 use Rattle.sig_core.specs.declared.signal.client.ClientSignal.TheVariants.{DumpConf}
 use Rattle.sig_core.specs.Step.{Step}
+use Rattle.api_block.specs.declared.operate.TheConstants.{OPERATIONS}
 use Rattle.api_block.specs.Api.{api_table, request_row}
 use Rattle.api_block.specs.Commands as commands
 use Rattle.api_block.specs.declared.dump.Dump.{Dump}
@@ -30,7 +31,7 @@ use Rattle.world_core.specs.Hosts.{started}
 use Rattle.world_core.specs.Machine.{after}
 use Rattle.world_core.specs.Start.{Start}
 use Rattle.world_core.specs.Steps.{HostStep}
-use Rattle.host_laws.proofs.ApiTurns.{signal_turns}
+use Rattle.api_block.proofs.ApiTurns.{signal_turns}
 use Rattle.command_laws.proofs.BlockSteps.{api_host}
 
 -- rows are told
@@ -89,7 +90,7 @@ module _ (s : ApiState) where
       few at t tx false = refl
 
       by : (at : ℕ) (t : OpenTransaction) (d : Doing) (o : Option TxId) → Keeps (operate.operate_by s name op at t d o)
-      by at t Ready (Some tx) = few at t tx (nat_lt t.operations 64)
+      by at t Ready (Some tx) = few at t tx (nat_lt t.operations OPERATIONS)
       by at t Ready None = refl
       by at t (Beginning first) o = refl
       by at t Operating o = refl

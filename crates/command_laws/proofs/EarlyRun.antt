@@ -30,8 +30,8 @@ use Rattle.world_core.specs.Hosts.{home, hosts}
 use Rattle.world_core.specs.Machine.{after, machine}
 use Rattle.world_core.specs.Start.{Start}
 use Rattle.world_core.specs.Steps.{Addressed, HostStep}
-use Rattle.host_laws.proofs.Tally.{tally_past}
-use Rattle.host_laws.specs.Counts.{one_if}
+use Rattle.run_theory.proofs.Tally.{tally_past}
+use Rattle.run_theory.specs.Counts.{one_if}
 use Rattle.host_laws.proofs.ApiBegins.{in_middle}
 use Rattle.host_laws.proofs.LinkCounts.{signals}
 use Rattle.host_laws.proofs.Wishes.{sends_of}

@@ -16,7 +16,7 @@ use Rattle.tc_block.specs.declared.transaction.Transaction.{Transaction}
 use Rattle.tc_block.specs.State.{TcState}
 use Rattle.tc_block.specs.Tc.{tc_table}
 use Rattle.tc_block.specs.Turn.{Turn}
-use Rattle.host_laws.specs.Counts.{one_if}
+use Rattle.run_theory.specs.Counts.{one_if}
 use Rattle.host_laws.proofs.ApiMoves.{is_api_kind}
 use Rattle.host_laws.proofs.SendKinds.{are_of, is_dih_kind, is_tc_kind, none_of}
 use Rattle.host_laws.proofs.TcSends.{tc_only}

@@ -1,13 +1,16 @@
 -- A transaction whose commit isn't asked for stays open, or is aborted for want of room or of time.
-use Rattle.std.proofs.Common.{◌≡◌, ◌⊎◌, ◌+◌, ℕ, Bool, true, false, List, [], ◌∷◌, ◌++◌, length, refl, sym, ap, ◌∙◌, inl, inr}
+use Rattle.std.proofs.Common.{◌≡◌, ◌⊎◌, ◌+◌, ℕ, Bool, true, false, List, [], ◌∷◌, ◌++◌, length, refl, sym, ap, ◌∙◌, inl}
+use Rattle.std.proofs.Common.{inr}
 use Rattle.std.specs.List.{flat_map}
 use Rattle.std.specs.Prelude.{if◌then◌else◌, None, drop, nat_lt, not, take}
+use Rattle.sig_core.specs.declared.portion.TheConstants.{PORTION}
 use Rattle.sig_core.specs.declared.member.TxId.{TxId}
 use Rattle.sig_core.specs.declared.outcome.AbortCause.{AbortCause}
 use Rattle.sig_core.specs.declared.outs.Outgoing.{Outgoing}
 use Rattle.sig_core.specs.declared.signal.Body.{Body}
 use Rattle.sig_core.specs.declared.signal.Body.TheVariants.{Host, Client}
-use Rattle.sig_core.specs.declared.signal.client.ClientSignal.TheVariants.{TcCommitConf, TcCommitReq, TcRollbackRep, TcRollbackReq}
+use Rattle.sig_core.specs.declared.signal.client.ClientSignal.TheVariants.{TcCommitConf, TcCommitReq, TcRollbackRep}
+use Rattle.sig_core.specs.declared.signal.client.ClientSignal.TheVariants.{TcRollbackReq}
 use Rattle.sig_core.specs.declared.signal.host.HostSignal.TheVariants.{Continue}
 use Rattle.sig_core.specs.declared.signal.host.Work.TheVariants as work
 use Rattle.frag_map.specs.Layout.{Layout}
@@ -65,7 +68,12 @@ abbrev pub EarlyTurn : TxId → Transaction → Turn → Type 0
 EarlyTurn tx t turn = StaysOpen tx t turn ⊎ IsLeaving turn
 
 chains : (tx : TxId) → HasChains tx is_no_end
-chains tx = record { commits = λ key epoch chain at. refl; completes = λ key chain at. refl; aborts = λ key. refl; goes_on = λ at. refl }
+chains tx = record {
+  commits = λ key epoch chain at. refl;
+  completes = λ key chain at. refl;
+  aborts = λ key. refl;
+  goes_on = λ at. refl;
+}
 
 front_past : (tx : TxId) (phase : Phase) → is_past phase ≡ true → are_of is_no_end (front_sends tx phase) ≡ true
 unfolding front_sends
@@ -81,17 +89,23 @@ unfolding key_sends
 none_open layout tx [] = refl
 none_open layout tx (t ∷ touched) = none_open layout tx touched
 
-phase_open : (layout : Layout) (tx : TxId) (phase : Phase) (touched : List Touched) → phase ≡ Open → phase_sends layout tx phase touched ≡ []
+phase_open : (layout : Layout) (tx : TxId) (phase : Phase) (touched : List Touched) → phase ≡ Open
+    → phase_sends layout tx phase touched ≡ []
 unfolding phase_sends front_sends
-phase_open layout tx phase touched is = ap (λ p. front_sends tx p ++ flat_map (key_sends layout tx p) touched) is ∙ none_open layout tx touched
+phase_open layout tx phase touched is =
+    ap (λ p. front_sends tx p ++ flat_map (key_sends layout tx p) touched) is ∙ none_open layout tx touched
 
-part_none : (kind : Body → Bool) (node : ℕ) (tx : TxId) (at : ℕ) → ((n : ℕ) → kind (Host (Continue (work.Transaction tx) n)) ≡ true) → (sends : List Outgoing) → sends ≡ [] → are_of kind (part_effects node tx sends at).sends ≡ true
+part_none : (kind : Body → Bool) (node : ℕ) (tx : TxId) (at : ℕ)
+    → ((n : ℕ) → kind (Host (Continue (work.Transaction tx) n)) ≡ true) → (sends : List Outgoing) → sends ≡ []
+    → are_of kind (part_effects node tx sends at).sends ≡ true
 unfolding part_effects
 part_none kind node tx at goes sends none =
-    of_append kind (take 8 (drop at sends)) (rest_if node tx at (nat_lt (at + 8) (length sends))) (of_take kind 8 (drop at sends) (of_drop kind at sends (ap (are_of kind) none))) (by (nat_lt (at + 8) (length sends)))
+    of_append kind (take PORTION (drop at sends)) (rest_if node tx at (nat_lt (at + PORTION) (length sends)))
+    (of_take kind PORTION (drop at sends) (of_drop kind at sends (ap (are_of kind) none)))
+    (by (nat_lt (at + PORTION) (length sends)))
   where
     by : (b : Bool) → are_of kind (rest_if node tx at b) ≡ true
-    by true = one_kind (kind (Host (Continue (work.Transaction tx) (at + 8)))) (goes (at + 8))
+    by true = one_kind (kind (Host (Continue (work.Transaction tx) (at + PORTION)))) (goes (at + PORTION))
     by false = refl
 
 fair_cause : (b same : Bool) → same ≡ true → (if b then true else not same) ≡ true → b ≡ true
@@ -107,7 +121,8 @@ is_open Open = true
 is_open phase = false
 
 module _ (node : ℕ) (layout : Layout) (tx : TxId) (t : Transaction) where
-  end_kind : (why : AbortCause) (verifying : Bool) → is_refusal why ≡ true → are_of is_no_end (abort.abort_end node tx why verifying) ≡ true
+  end_kind : (why : AbortCause) (verifying : Bool) → is_refusal why ≡ true
+      → are_of is_no_end (abort.abort_end node tx why verifying) ≡ true
   end_kind why true e = one_kind (is_refusal why) e
   end_kind why false e = one_kind (is_refusal why) e
 
@@ -116,29 +131,37 @@ module _ (node : ℕ) (layout : Layout) (tx : TxId) (t : Transaction) where
     not_open : (phase : Phase) → t.phase ≡ phase → is_open phase ≡ false → ⊥
     not_open phase is off = let both : true ≡ false = sym (ap is_open at) ∙ (ap is_open is ∙ off) in cc
 
-    leaves : (u : Transaction) (why : AbortCause) → is_refusal why ≡ true → AbortForms node layout tx u why (EarlyTurn tx t)
+    leaves : (u : Transaction) (why : AbortCause) → is_refusal why ≡ true
+        → AbortForms node layout tx u why (EarlyTurn tx t)
     unfolding entering
     leaves u why e = record {
       enters = λ some. inr (record {
         past = λ off. e;
-        ends = entering_of_kind is_no_end layout tx (chains tx) node u (Aborting why (abort.is_verifying u.phase) (abort.aborts_awaited layout u)) (front_past tx (Aborting why (abort.is_verifying u.phase) (abort.aborts_awaited layout u)) e);
+        ends = entering_of_kind is_no_end layout tx (chains tx) node u
+            (Aborting why (abort.is_verifying u.phase) (abort.aborts_awaited layout u))
+            (front_past tx (Aborting why (abort.is_verifying u.phase) (abort.aborts_awaited layout u)) e);
       });
       ends = λ none. inr (record { past = λ off. cc; ends = end_kind why (abort.is_verifying u.phase) e });
     }
 
-    turns_open : (body : Body) → is_wish body ≡ false → is_fair tx body ≡ true → TurnForms node layout tx t body (EarlyTurn tx t)
+    turns_open : (body : Body) → is_wish body ≡ false → is_fair tx body ≡ true
+        → TurnForms node layout tx t body (EarlyTurn tx t)
     turns_open body plain fair = record {
       stays = inl (record { goes = refl; was = at; now = at; ends = refl; fair = refl });
       goes_on = λ place. inl (record {
         goes = refl;
         was = at;
         now = at;
-        ends = part_none is_no_end node tx place (λ n. refl) (phase_sends layout tx t.phase t.touched) (phase_open layout tx t.phase t.touched at);
-        fair = part_none (is_fair tx) node tx place (λ n. refl) (phase_sends layout tx t.phase t.touched) (phase_open layout tx t.phase t.touched at);
+        ends = part_none is_no_end node tx place (λ n. refl) (phase_sends layout tx t.phase t.touched)
+            (phase_open layout tx t.phase t.touched at);
+        fair = part_none (is_fair tx) node tx place (λ n. refl) (phase_sends layout tx t.phase t.touched)
+            (phase_open layout tx t.phase t.touched at);
       });
       operates = λ op is can. inl (record { goes = refl; was = at; now = at; ends = refl; fair = refl });
-      answers = λ key answer asked is on opened. inl (record { goes = refl; was = at; now = at; ends = refl; fair = refl });
-      late = λ key asked why verifying awaited on aborting. absurd (not_open (Aborting why verifying awaited) aborting refl);
+      answers = λ key answer asked is on opened. inl
+          (record { goes = refl; was = at; now = at; ends = refl; fair = refl });
+      late = λ key asked why verifying awaited on aborting. absurd
+          (not_open (Aborting why verifying awaited) aborting refl);
       waits = λ asked on. inl (record {
         goes = refl;
         was = at;
@@ -154,9 +177,11 @@ module _ (node : ℕ) (layout : Layout) (tx : TxId) (t : Transaction) where
       completed = λ epoch awaited completing more. absurd (not_open (Completing epoch awaited) completing refl);
       completed_all = λ epoch awaited completing last. absurd (not_open (Completing epoch awaited) completing refl);
       rolls_back = λ is undecided unaborted. absurd (not_wished body (Client (TcRollbackReq tx)) plain is refl);
-      refuses = λ key why asked is on opened. leaves (asking t None) why (fair_cause (is_refusal why) (same_tx tx tx) (same_tx-self tx) (ap (is_fair tx) (sym is) ∙ fair));
+      refuses = λ key why asked is on opened. leaves (asking t None) why
+          (fair_cause (is_refusal why) (same_tx tx tx) (same_tx-self tx) (ap (is_fair tx) (sym is) ∙ fair));
       aborted = λ why verifying awaited aborting more. absurd (not_open (Aborting why verifying awaited) aborting refl);
-      aborted_all = λ why verifying awaited aborting last. absurd (not_open (Aborting why verifying awaited) aborting refl);
+      aborted_all = λ why verifying awaited aborting last. absurd
+          (not_open (Aborting why verifying awaited) aborting refl);
     }
 
   -- one that is aborted so
@@ -167,11 +192,21 @@ module _ (node : ℕ) (layout : Layout) (tx : TxId) (t : Transaction) where
     turns_past : (body : Body) → is_wish body ≡ false → TurnForms node layout tx t body IsLeaving
     turns_past body plain = record {
       stays = record { past = λ off. past; ends = refl };
-      goes_on = λ place. record { past = λ off. past; ends = rest_of_kind is_no_end layout tx (chains tx) node t place (front_past tx t.phase past) };
+      goes_on = λ place. record {
+        past = λ off. past;
+        ends = rest_of_kind is_no_end layout tx (chains tx) node t place (front_past tx t.phase past);
+      };
       operates = λ op is can. record { past = λ off. past; ends = refl };
       answers = λ key answer asked is on opened. absurd (not_past Open opened refl);
-      late = λ key asked why verifying awaited on aborting. record { past = λ off. past; ends = aborts_of_kind is_no_end layout tx (chains tx) key (chain_of layout key) };
-      waits = λ asked on. record { past = λ off. past; ends = of_map is_no_end (wait_of tx (key_of asked.op)) asked.chain (λ m. refl) };
+      late = λ key asked why verifying awaited on aborting. record {
+        past = λ off. past;
+        ends =
+            aborts_of_kind is_no_end layout tx (chains tx) key (chain_of layout key);
+      };
+      waits = λ asked on. record {
+        past = λ off. past;
+        ends = of_map is_no_end (wait_of tx (key_of asked.op)) asked.chain (λ m. refl);
+      };
       decides = λ is ready. absurd (not_wished body (Client (TcCommitReq tx)) plain is refl);
       commits = λ epoch is verifying some. absurd (not_past Verifying verifying refl);
       commits_none = λ epoch is verifying. absurd (not_past Verifying verifying refl);
@@ -181,13 +216,24 @@ module _ (node : ℕ) (layout : Layout) (tx : TxId) (t : Transaction) where
       completed_all = λ epoch awaited completing last. absurd (not_past (Completing epoch awaited) completing refl);
       rolls_back = λ is undecided unaborted. absurd (not_wished body (Client (TcRollbackReq tx)) plain is refl);
       refuses = λ key why asked is on opened. absurd (not_past Open opened refl);
-      aborted = λ why verifying awaited aborting more. record { past = λ off. ap is_past (sym aborting) ∙ past; ends = refl };
-      aborted_all = λ why verifying awaited aborting last. record { past = λ off. cc; ends = end_kind why verifying (ap is_past (sym aborting) ∙ past) };
+      aborted = λ why verifying awaited aborting more. record {
+        past = λ off. ap is_past (sym aborting) ∙ past;
+        ends =
+            refl;
+      };
+      aborted_all = λ why verifying awaited aborting last. record {
+        past = λ off. cc;
+        ends = end_kind why verifying (ap is_past (sym aborting) ∙ past);
+      };
     }
 
 -- an open one, where no refusal for another cause comes
-pub open_turn : (s : TcState) (tx : TxId) (body : Body) (t : Transaction) → is_wish body ≡ false → tx_in body ≡ tx → is_fair tx body ≡ true → t.phase ≡ Open → EarlyTurn tx t (turn_row s body t)
-open_turn s tx body t wish same fair at = turn_at s tx body t (EarlyTurn tx t) same (turns_open s.node s.layout tx t at body wish fair)
+pub open_turn : (s : TcState) (tx : TxId) (body : Body) (t : Transaction) → is_wish body ≡ false → tx_in body ≡ tx
+    → is_fair tx body ≡ true → t.phase ≡ Open → EarlyTurn tx t (turn_row s body t)
+open_turn s tx body t wish same fair at =
+    turn_at s tx body t (EarlyTurn tx t) same (turns_open s.node s.layout tx t at body wish fair)
 
-pub past_turn : (s : TcState) (tx : TxId) (body : Body) (t : Transaction) → is_wish body ≡ false → tx_in body ≡ tx → is_past t.phase ≡ true → IsLeaving (turn_row s body t)
-past_turn s tx body t wish same past = turn_at s tx body t IsLeaving same (turns_past s.node s.layout tx t past body wish)
+pub past_turn : (s : TcState) (tx : TxId) (body : Body) (t : Transaction) → is_wish body ≡ false → tx_in body ≡ tx
+    → is_past t.phase ≡ true → IsLeaving (turn_row s body t)
+past_turn s tx body t wish same past =
+    turn_at s tx body t IsLeaving same (turns_past s.node s.layout tx t past body wish)

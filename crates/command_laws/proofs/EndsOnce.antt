@@ -36,8 +36,8 @@ use Rattle.host_laws.proofs.ApiBegins.{each_at, each_changed, each_less, in_midd
 use Rattle.host_laws.proofs.BlocksAlong.{replies_are}
 use Rattle.host_laws.proofs.LqhOps.{left_of, right_of}
 use Rattle.host_laws.proofs.ShellHost.{IsShell, shell_after}
-use Rattle.host_laws.proofs.Tally.{only_one, tally_append, tally_between, tally_in, tally_none}
-use Rattle.host_laws.specs.Counts.{one_if, tally}
+use Rattle.run_theory.proofs.Tally.{only_one, tally_append, tally_between, tally_in, tally_none}
+use Rattle.run_theory.specs.Counts.{one_if, tally}
 use Rattle.host_laws.specs.OpenedAfter.{opened_after}
 use Rattle.command_laws.proofs.AbortFirst.{abort_found}
 use Rattle.command_laws.proofs.ApiChanges.{ApiChange, BecomesIn, GoesOnAs, IsOneOf, alone, answers, api_changes, commits, ends, idle, is_row_reply, refuses, rests, starts, told, waits}

@@ -9,7 +9,7 @@ use Rattle.api_block.specs.declared.opened.Doing.{Doing}
 use Rattle.api_block.specs.declared.opened.OpenTransaction.{OpenTransaction}
 use Rattle.api_block.specs.Opened.{has_tx, if_there, where_at, is_beginning, is_named, is_tx}
 use Rattle.host_laws.proofs.ApiBegins.{same_name-is}
-use Rattle.host_laws.proofs.Focus.{IsFocus, found}
+use Rattle.run_theory.proofs.Focus.{IsFocus, found}
 use Rattle.host_laws.proofs.TcMoves.{same_tx-is}
 use Rattle.command_laws.proofs.ApiChanges.{IsOneOf}
 use Rattle.command_laws.specs.Served.{named_in}

@@ -12,8 +12,8 @@ use Rattle.world_core.specs.Hosts.{home, hosts}
 use Rattle.world_core.specs.Machine.{after}
 use Rattle.world_core.specs.Start.{Start}
 use Rattle.world_core.specs.Steps.{HostStep}
-use Rattle.host_laws.proofs.Tally.{only_one}
-use Rattle.host_laws.specs.Counts.{tally}
+use Rattle.run_theory.proofs.Tally.{only_one}
+use Rattle.run_theory.specs.Counts.{tally}
 use Rattle.run_laws.proofs.AlongSteps.{live_tx}
 use Rattle.host_laws.proofs.TcLives.{is_keyed}
 use Rattle.host_laws.proofs.TcMoves.{same_tx-is}

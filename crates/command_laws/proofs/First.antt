@@ -30,7 +30,7 @@ use Rattle.world_core.specs.Machine.{IsAsked, after, asked_rightly, last_stamp, 
 use Rattle.world_core.specs.Requests.{request_in, requests}
 use Rattle.world_core.specs.Start.{Start}
 use Rattle.world_core.specs.Steps.{Addressed, HostStep}
-use Rattle.host_laws.proofs.Tally.{tally_past}
+use Rattle.run_theory.proofs.Tally.{tally_past}
 use Rattle.host_laws.proofs.LinkCounts.{signals}
 use Rattle.command_laws.proofs.BlockSteps.{api_seen, request_step}
 use Rattle.command_laws.proofs.Since.{all_taken}

@@ -31,8 +31,8 @@ use Rattle.world_core.specs.Machine.{after, machine}
 use Rattle.world_core.specs.Start.{Start}
 use Rattle.world_core.specs.Steps.{HostStep}
 use Rattle.host_laws.proofs.Sums.{total_at}
-use Rattle.host_laws.proofs.Tally.{only_one, tally_in}
-use Rattle.host_laws.specs.Counts.{one_if, total}
+use Rattle.run_theory.proofs.Tally.{only_one, tally_in}
+use Rattle.run_theory.specs.Counts.{one_if, total}
 use Rattle.answer_laws.proofs.Aborts.{no_abort}
 use Rattle.answer_laws.proofs.Answers.{only_open}
 use Rattle.answer_laws.proofs.Heeded.{asked_where_operating}

@@ -31,8 +31,8 @@ use Rattle.world_core.specs.Machine.{after, machine, step_after}
 use Rattle.world_core.specs.Requests.{request_in, requests}
 use Rattle.world_core.specs.Start.{Start}
 use Rattle.world_core.specs.Steps.{HostStep}
-use Rattle.host_laws.proofs.Tally.{Counted, counted, tally_append, tally_between}
-use Rattle.host_laws.specs.Counts.{one_if, tally}
+use Rattle.run_theory.proofs.Tally.{Counted, counted, tally_append, tally_between}
+use Rattle.run_theory.specs.Counts.{one_if, tally}
 use Rattle.run_laws.proofs.AlongSteps.{live_tx}
 use Rattle.host_laws.proofs.ApiBegins.{in_middle}
 use Rattle.host_laws.proofs.BlocksAlong.{no_live, replies_are}

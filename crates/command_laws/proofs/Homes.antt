@@ -13,7 +13,7 @@ use Rattle.world_core.specs.Hosts.{home, hosts, rows_host}
 use Rattle.world_core.specs.Machine.{after, machine}
 use Rattle.world_core.specs.Start.{Start}
 use Rattle.world_core.specs.Steps.{HostStep}
-use Rattle.host_laws.specs.Counts.{tally}
+use Rattle.run_theory.specs.Counts.{tally}
 use Rattle.run_laws.proofs.AlongSteps.{at_home, at_tc}
 use Rattle.host_laws.proofs.LinkCounts.{signals, steps, taken_steps}
 use Rattle.run_laws.proofs.Begun.{keeps}

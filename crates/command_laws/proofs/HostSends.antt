@@ -18,7 +18,7 @@ use Rattle.world_core.proofs.HostNumbers.{api_runs}
 use Rattle.world_core.specs.Machine.{after}
 use Rattle.world_core.specs.Start.{Start}
 use Rattle.world_core.specs.Steps.{HostStep}
-use Rattle.host_laws.proofs.Tally.{tally_none}
+use Rattle.run_theory.proofs.Tally.{tally_none}
 use Rattle.host_laws.proofs.ApiMoves.{is_api_kind}
 use Rattle.host_laws.proofs.SendKinds.{is_dih_kind, is_lqh_kind}
 use Rattle.host_laws.proofs.Wishes.{sends_of}

@@ -6,9 +6,10 @@ use Rattle.std.specs.Prelude.{position, remove, slice_set}
 use Rattle.run_theory.specs.Lists.{Each}
 use Rattle.api_block.specs.declared.opened.OpenTransaction.{OpenTransaction}
 use Rattle.api_block.specs.Opened.{where_at}
-use Rattle.host_laws.proofs.Focus.{IsFocus, where_found}
-use Rattle.host_laws.proofs.Tally.{tally_append}
-use Rattle.host_laws.specs.Counts.{one_if}
+use Rattle.run_theory.proofs.Focus.{IsFocus}
+use Rattle.api_block.proofs.WhereFound.{where_found}
+use Rattle.run_theory.proofs.Tally.{tally_append}
+use Rattle.run_theory.specs.Counts.{one_if}
 
 -- what passes is the last
 record IsLast {A : Type 0} (xs : List A) (t : A) (front : List A) (item : A) (back : List A) : Type 0 where

@@ -21,7 +21,7 @@ use Rattle.api_block.specs.Dump.{dump_replies, row_reply}
 use Rattle.api_block.specs.Gathered.{gathered}
 use Rattle.api_block.specs.Members.{everyone, telling_all}
 use Rattle.api_block.specs.State.{ApiState, about}
-use Rattle.host_laws.proofs.ApiTurns.{ApiRequestForms, ApiSignalForms, api_turns, is_own_refusal}
+use Rattle.api_block.proofs.ApiTurns.{ApiRequestForms, ApiSignalForms, api_turns, is_own_refusal}
 use Rattle.command_laws.proofs.LivingTurns.{is_sound}
 use Rattle.command_laws.specs.Living.{is_of_living}
 

@@ -18,8 +18,8 @@ use Rattle.world_core.specs.Hosts.{home}
 use Rattle.world_core.specs.Machine.{after, step_after}
 use Rattle.world_core.specs.Start.{Start}
 use Rattle.world_core.specs.Steps.{HostStep}
-use Rattle.host_laws.proofs.Tally.{tally_append}
-use Rattle.host_laws.specs.Counts.{one_if}
+use Rattle.run_theory.proofs.Tally.{tally_append}
+use Rattle.run_theory.specs.Counts.{one_if}
 use Rattle.answer_laws.proofs.Begins.{no_begin}
 use Rattle.host_laws.proofs.ShellHost.{shell_after}
 use Rattle.host_laws.proofs.LinkCounts.{steps}

@@ -37,12 +37,13 @@ use Rattle.world_core.specs.Machine.{after}
 use Rattle.world_core.specs.Start.{Start}
 use Rattle.world_core.specs.Steps.{HostStep}
 use Rattle.host_laws.proofs.ApiBegins.{in_middle, same_name-is}
-use Rattle.host_laws.proofs.Focus.{IsFocus, where_found}
+use Rattle.run_theory.proofs.Focus.{IsFocus}
+use Rattle.api_block.proofs.WhereFound.{where_found}
 use Rattle.host_laws.proofs.LqhOps.{left_of, right_of}
-use Rattle.host_laws.proofs.Tally.{only_one, tally_append, tally_between, tally_none}
+use Rattle.run_theory.proofs.Tally.{only_one, tally_append, tally_between, tally_none}
 use Rattle.host_laws.proofs.TcLives.{is_start, start_of}
 use Rattle.host_laws.proofs.Wishes.{is_api, sends_of}
-use Rattle.host_laws.specs.Counts.{one_if, tally}
+use Rattle.run_theory.specs.Counts.{one_if, tally}
 use Rattle.host_laws.specs.OpenedAfter.{opened_in}
 use Rattle.command_laws.proofs.ApiChanges.{ApiChange, IsOneOf, answers, api_changes, commits, ends, refuses, rests, starts, waits}
 use Rattle.command_laws.proofs.EarlySteps.{is_wish_to}

@@ -34,11 +34,11 @@ use Rattle.world_core.specs.Steps.{HostStep}
 use Rattle.host_laws.proofs.ApiBegins.{in_middle}
 use Rattle.host_laws.proofs.LinkCounts.{all_three, steps, at_shell, steps_from}
 use Rattle.host_laws.proofs.LqhOps.{right_of}
-use Rattle.host_laws.proofs.Tally.{tally_append, tally_in}
+use Rattle.run_theory.proofs.Tally.{tally_append, tally_in}
 use Rattle.host_laws.proofs.TcKeys.{answer_of, is_asked, is_key, key_of_tx}
 use Rattle.host_laws.proofs.TcLives.{is_keyed, is_start}
 use Rattle.host_laws.proofs.Wishes.{is_api, is_tc}
-use Rattle.host_laws.specs.Counts.{one_if, tally}
+use Rattle.run_theory.specs.Counts.{one_if, tally}
 use Rattle.host_laws.specs.OpenedAfter.{opened_after, opened_in}
 use Rattle.answer_laws.proofs.Lives.{once_started}
 use Rattle.answer_laws.specs.Answered.{EachIsAnswered, is_answered_by}

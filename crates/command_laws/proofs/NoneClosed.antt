@@ -31,7 +31,7 @@ use Rattle.host_laws.proofs.LinkCounts.{sent_signals, signals, taken_signals, to
 use Rattle.host_laws.proofs.LqhNode.{lqh_node}
 use Rattle.host_laws.proofs.LqhOps.{is_lqh, left_of, right_of, true_and}
 use Rattle.host_laws.proofs.Wishes.{sends_of}
-use Rattle.host_laws.specs.Counts.{one_if}
+use Rattle.run_theory.specs.Counts.{one_if}
 use Rattle.run_laws.proofs.AlongSteps.{Goes, along, few_taken, rows_place}
 use Rattle.answer_laws.proofs.Flows.{flow_grows}
 use Rattle.answer_laws.specs.Answered.{AreQuiet}

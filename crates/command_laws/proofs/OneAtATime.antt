@@ -20,8 +20,8 @@ use Rattle.world_core.specs.Machine.{addressed, all_addressed, last_stamp, machi
 use Rattle.world_core.specs.Quiet.{IsQuiet}
 use Rattle.world_core.specs.Start.{Start}
 use Rattle.world_core.specs.Steps.{Addressed, HostStep}
-use Rattle.host_laws.proofs.Tally.{tally_append, tally_none, tally_past}
-use Rattle.host_laws.specs.Counts.{one_if, tally}
+use Rattle.run_theory.proofs.Tally.{tally_append, tally_none, tally_past}
+use Rattle.run_theory.specs.Counts.{one_if, tally}
 use Rattle.command_laws.proofs.First.{IsFirst, fits_asked, with_first}
 use Rattle.command_laws.specs.Served.{IsServedBetween}
 

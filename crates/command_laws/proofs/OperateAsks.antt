@@ -1,5 +1,6 @@
 -- The step that asks for an operation, and that no commit or abort of its transaction is wished for then.
-use Rattle.std.proofs.Common.{◌≡◌, ◌<◌, ◌+◌, ℕ, Bool, true, false, List, [], ◌∷◌, ◌++◌, refl, sym, ap, ◌∙◌, subst, arith}
+use Rattle.std.proofs.Common.{◌≡◌, ◌<◌, ◌+◌, ℕ, Bool, true, false, List, [], ◌∷◌, ◌++◌, refl, sym, ap, ◌∙◌, subst}
+use Rattle.std.proofs.Common.{arith}
 use Rattle.std.proofs.lemmas.Bool.Decides.{nat_tests}
 use Rattle.std.specs.Prelude.{Some, is_some, nat_lt}
 use Rattle.run_theory.specs.Lists.{Each, IsIn}
@@ -15,6 +16,7 @@ use Rattle.sig_core.specs.declared.signal.client.ClientSignal.TheVariants.{TcCom
 use Rattle.sig_core.specs.declared.signal.Signal.{Signal}
 use Rattle.sig_core.specs.Same.{same_tx}
 use Rattle.sig_core.specs.Step.{Step}
+use Rattle.api_block.specs.declared.operate.TheConstants.{OPERATIONS}
 use Rattle.api_block.specs.Api.{api_row, request_row}
 use Rattle.api_block.specs.declared.opened.Doing.{Doing}
 use Rattle.api_block.specs.declared.opened.Doing.TheVariants.{Operating, Ready}
@@ -35,9 +37,10 @@ use Rattle.host_laws.proofs.LqhOps.{left_of}
 use Rattle.host_laws.proofs.SendKinds.{none_of}
 use Rattle.host_laws.proofs.TcMoves.{same_tx-is}
 use Rattle.host_laws.proofs.Wishes.{is_tc, sends_of}
-use Rattle.host_laws.specs.Counts.{one_if}
+use Rattle.run_theory.specs.Counts.{one_if}
 use Rattle.host_laws.specs.OpenedAfter.{opened_in}
-use Rattle.command_laws.proofs.ApiChanges.{ApiChange, IsOneOf, answers, api_changes, commits, ends, is_news_kind, refuses, rests, starts, waits}
+use Rattle.command_laws.proofs.ApiChanges.{ApiChange, IsOneOf, answers, api_changes, commits, ends, is_news_kind}
+use Rattle.command_laws.proofs.ApiChanges.{refuses, rests, starts, waits}
 use Rattle.command_laws.proofs.EarlySteps.{is_wish_to, wish_of}
 use Rattle.command_laws.proofs.Entries.{HasOne, IsNamed, NoneBegins, named_found}
 use Rattle.command_laws.proofs.BlockSteps.{api_host}
@@ -98,7 +101,9 @@ module _ (tx : TxId) where
 
         beginning : {A : Type 0} (at : IsOneOf s.opened) → is_beginning at.t.doing ≡ true → A
         beginning at begins_now =
-            absurd (let off : false ≡ true = sym (each_at (λ (t : OpenTransaction). is_beginning t.doing ≡ false) at.front at.t at.back s.opened at.is were.calm) ∙ begins_now in cc)
+            absurd (let off : false ≡ true =
+            sym (each_at (λ (t : OpenTransaction). is_beginning t.doing ≡ false) at.front at.t at.back s.opened at.is
+            were.calm) ∙ begins_now in cc)
 
         names : ApiChange s body step → Each HasName step.state.opened
         names (rests is adds kind) = subst (Each HasName) (sym is) were.named
@@ -135,33 +140,41 @@ module _ (tx : TxId) where
         wishes (refuses called at about passes is replies sends) =
             beginning at (left_of (is_beginning at.t.doing) (same_name at.t.name called) passes)
 
-  host_named : (g : host.Host) (x : Signal) → has_api g ≡ true → is_request x.body ≡ false → AreNamed (opened_in g) → KeepsNamed (opened_in (row g x).state) (row g x).effects.sends
+  host_named : (g : host.Host) (x : Signal) → has_api g ≡ true → is_request x.body ≡ false → AreNamed (opened_in g)
+      → KeepsNamed (opened_in (row g x).state) (row g x).effects.sends
   host_named g x has plain were =
       api_host (λ (step : Step ApiState). KeepsNamed step.state.opened step.effects.sends) g x has
       (λ at. change_named (api_of g) x.body were (api_row (api_of g) x) (api_changes (api_of g) x.body plain))
       (λ off. record { named = were; wishes = refl })
 
   -- along steps of the shell's host that aren't requests
-  pub named_since : (start : Start) (later log : List HostStep) → Each (λ (e : HostStep). is_request e.step.taken.body ≡ false) later → AreNamed (opened_in (after start 0 log))
+  pub named_since : (start : Start) (later log : List HostStep)
+      → Each (λ (e : HostStep). is_request e.step.taken.body ≡ false) later → AreNamed (opened_in (after start 0 log))
       → AreNamed (opened_in (after start 0 (later ++ log))) × (sent_since start (is_wish_to tx) 0 later log ≡ 0)
   named_since start [] log plain were = (were, refl)
   named_since start (e ∷ later) log plain were = next (named_since start later log plain.1 were)
     where
       next : AreNamed (opened_in (after start 0 (later ++ log))) × (sent_since start (is_wish_to tx) 0 later log ≡ 0)
-          → AreNamed (opened_in (after start 0 (e ∷ (later ++ log)))) × (sent_since start (is_wish_to tx) 0 (e ∷ later) log ≡ 0)
+          → AreNamed (opened_in (after start 0 (e ∷ (later ++ log))))
+          × (sent_since start (is_wish_to tx) 0 (e ∷ later) log ≡ 0)
       next before =
-          let kept = host_named (after start 0 (later ++ log)) e.step.taken (api_runs start (later ++ log)) plain.0 before.0 in
+          let kept =
+          host_named (after start 0 (later ++ log)) e.step.taken (api_runs start (later ++ log)) plain.0 before.0 in
           (kept.named, omega (arith, kept.wishes, before.1))
 
 -- the row where the name is found
-operate_found : (s : ApiState) (name : ℕ) (op : Op) (t : OpenTransaction) (tx : TxId) → t.doing ≡ Ready → t.tx ≡ Some tx → t.operations < 64 → (f : IsNamed s.opened name t)
+operate_found : (s : ApiState) (name : ℕ) (op : Op) (t : OpenTransaction) (tx : TxId) → t.doing ≡ Ready → t.tx ≡ Some tx
+    → t.operations < OPERATIONS → (f : IsNamed s.opened name t)
     → operate_row s name op ≡ key_request (about (changing s f.at (operating t)) (Some (Some name))) tx op
 unfolding operate_row
 operate_found s name op t tx ready own few f =
-    ap (where_at s.opened (refused s (Some name) NotOpen) (λ at (u : OpenTransaction). operate_by s name op at u u.doing u.tx)) f.place
-    ∙ ap (if_there (refused s (Some name) NotOpen) (λ (u : OpenTransaction). operate_by s name op f.at u u.doing u.tx)) f.get
+    ap (where_at s.opened (refused s (Some name) NotOpen)
+    (λ at (u : OpenTransaction). operate_by s name op at u u.doing u.tx)) f.place
+    ∙ ap (if_there (refused s (Some name) NotOpen) (λ (u : OpenTransaction). operate_by s name op f.at u u.doing u.tx))
+    f.get
     ∙ ap (λ (d : Doing). operate_by s name op f.at t d t.tx) ready ∙ ap (operate_by s name op f.at t Ready) own
-    ∙ (let low : nat_lt t.operations 64 ≡ true = grind (arith, nat_tests, few) in ap (operate_if s name op f.at t tx) low)
+    ∙ (let low : nat_lt t.operations OPERATIONS ≡ true = grind (arith, nat_tests, few) in
+    ap (operate_if s name op f.at t tx) low)
 
 -- after it the transaction is operating, and its commit or abort isn't wished for
 pub record IsAskedFor (tx : TxId) (name : ℕ) (step : Step ApiState) : Type 0 where
@@ -169,7 +182,9 @@ pub record IsAskedFor (tx : TxId) (name : ℕ) (step : Step ApiState) : Type 0 w
   pub named : AreNamed tx step.state.opened
   pub wishes : sends_of (is_wish_to tx) step.effects.sends ≡ 0
 
-pub operate_first : (s : ApiState) (name : ℕ) (op : Op) (t : OpenTransaction) (tx : TxId) → named_in s.opened name ≡ Some t → t.doing ≡ Ready → t.tx ≡ Some tx → t.operations < 64 → AreNamed tx s.opened
+pub operate_first : (s : ApiState) (name : ℕ) (op : Op) (t : OpenTransaction) (tx : TxId)
+    → named_in s.opened name ≡ Some t → t.doing ≡ Ready → t.tx ≡ Some tx → t.operations < OPERATIONS
+    → AreNamed tx s.opened
     → IsAskedFor tx name (request_row s (request.Operate (Some name) op))
 unfolding request_row
 operate_first s name op t tx is ready own few were = record {
@@ -181,9 +196,12 @@ operate_first s name op t tx is ready own few were = record {
     does = refl;
   };
   named = record {
-    calm = subst NoneBegins (sym opened) (each_changed (λ (u : OpenTransaction). is_beginning u.doing ≡ false) f.focus.front f.focus.item (operating t) f.focus.back s.opened f.focus.is were.calm (λ before. refl));
+    calm = subst NoneBegins (sym opened)
+        (each_changed (λ (u : OpenTransaction). is_beginning u.doing ≡ false) f.focus.front f.focus.item
+        (operating t) f.focus.back s.opened f.focus.is were.calm (λ before. refl));
     named = subst (Each (λ (u : OpenTransaction). has_tx tx u ≡ true → is_some u.name ≡ true)) (sym opened)
-        (each_changed (λ (u : OpenTransaction). has_tx tx u ≡ true → is_some u.name ≡ true) f.focus.front f.focus.item (operating t) f.focus.back s.opened f.focus.is were.named (λ before on. ap is_some f.called));
+        (each_changed (λ (u : OpenTransaction). has_tx tx u ≡ true → is_some u.name ≡ true) f.focus.front f.focus.item
+        (operating t) f.focus.back s.opened f.focus.is were.named (λ before on. ap is_some f.called));
   };
   wishes = ap (λ (step : Step ApiState). sends_of (is_wish_to tx) step.effects.sends) now;
 }

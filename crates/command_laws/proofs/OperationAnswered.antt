@@ -1,10 +1,12 @@
--- An operation of a transaction that takes commands is answered, or refused for want of room or of time, or waits for a lock.
+-- An operation of a transaction that takes commands is answered, or refused for want of room or of time, or waits for a
+-- lock.
 use Rattle.std.proofs.Common.{◌≡◌, ◌⊎◌, ◌<◌, ℕ, List, [], ◌∷◌, ◌++◌, sym, subst, inl, inr, arith}
 use Rattle.std.specs.Prelude.{Option, Some}
 use Rattle.sig_core.specs.declared.member.TxId.{TxId}
 use Rattle.sig_core.specs.declared.op.Op.{Op}
 use Rattle.sig_core.specs.declared.reply.ApiReply.TheVariants.{Answered}
 use Rattle.sig_core.specs.declared.request.ApiReq.TheVariants.{Operate}
+use Rattle.api_block.specs.declared.operate.TheConstants.{OPERATIONS}
 use Rattle.api_block.specs.declared.opened.Doing.{Doing}
 use Rattle.api_block.specs.declared.opened.Doing.TheVariants.{Operating, Ready}
 use Rattle.api_block.specs.declared.opened.OpenTransaction.{OpenTransaction}
@@ -27,10 +29,13 @@ use Rattle.command_laws.proofs.OperateAsks.{AreNamed, IsAskedFor, named_since, o
 use Rattle.command_laws.proofs.ReadyAtQuiet.{named_at, ready_open}
 use Rattle.command_laws.proofs.Since.{sent_since}
 use Rattle.command_laws.proofs.TellsSince.{OnTc}
-use Rattle.command_laws.specs.Served.{IsAnsweredAs, IsRefusedAs, IsServedBetween, OperationsAreAnswered, StillWaits, named_in}
+use Rattle.command_laws.specs.Served.{IsAnsweredAs, IsRefusedAs, IsServedBetween, OperationsAreAnswered, StillWaits}
+use Rattle.command_laws.specs.Served.{named_in}
 
-module _ (answered : EachIsAnswered) (start : Start) (was now : ℕ → List HostStep) (name : ℕ) (op : Op) (t : OpenTransaction) (tx : TxId) (served : IsServedBetween start was now (Operate (Some name) op))
-    (named : named_in (opened_after start was) name ≡ Some t) (ready : t.doing ≡ Ready) (own : t.tx ≡ Some tx) (few : t.operations < 64) where
+module _ (answered : EachIsAnswered) (start : Start) (was now : ℕ → List HostStep) (name : ℕ) (op : Op)
+    (t : OpenTransaction) (tx : TxId) (served : IsServedBetween start was now (Operate (Some name) op))
+    (named : named_in (opened_after start was) name ≡ Some t) (ready : t.doing ≡ Ready) (own : t.tx ≡ Some tx)
+    (few : t.operations < OPERATIONS) where
   f : IsFirst start was now (Operate (Some name) op)
   f = request_first start was now (Operate (Some name) op) served
 
@@ -51,7 +56,12 @@ module _ (answered : EachIsAnswered) (start : Start) (was now : ℕ → List Hos
 
   -- nobody wishes for its commit or abort
   no_wishes : sent_since start (is_wish_to tx) 0 (f.later ++ f.first ∷ []) (was 0) ≡ 0
-  no_wishes = omega (arith, sent_append start (is_wish_to tx) 0 f.later (f.first ∷ []) (was 0), (named_since tx start f.later (f.first ∷ was 0) f.plain asked.named).1, asked.wishes)
+  no_wishes = omega (
+    arith,
+    sent_append start (is_wish_to tx) 0 f.later (f.first ∷ []) (was 0),
+    (named_since tx start f.later (f.first ∷ was 0) f.plain asked.named).1,
+    asked.wishes,
+  )
 
   still_waits : HasOne tx (Some name) Operating (opened_after start now) → StillWaits start now name tx
   still_waits has = record {
@@ -63,8 +73,10 @@ module _ (answered : EachIsAnswered) (start : Start) (was now : ℕ → List Hos
     waits = by has.item.doing has.item.tx has.does has.own (answered start now has.item served.since has.inside);
   }
     where
-      by : (doing : Doing) (o : Option TxId) → doing ≡ Operating → o ≡ Some tx → is_answered_by start now doing o → WaitsForLock start now tx
-      by doing o is some all = subst (λ p. is_answered_by start now Operating p) some (subst (λ d. is_answered_by start now d o) is all)
+      by : (doing : Doing) (o : Option TxId) → doing ≡ Operating → o ≡ Some tx → is_answered_by start now doing o
+          → WaitsForLock start now tx
+      by doing o is some all =
+          subst (λ p. is_answered_by start now Operating p) some (subst (λ d. is_answered_by start now d o) is all)
 
   refused : HasEnded tx (Some name) start f.later (f.first ∷ was 0) → IsRefusedAs start was now name
   refused ended =
@@ -74,12 +86,20 @@ module _ (answered : EachIsAnswered) (start : Start) (was now : ℕ → List Hos
   operation_answered : IsAnsweredAs start was now name ⊎ (IsRefusedAs start was now name ⊎ StillWaits start now name tx)
   operation_answered = by (operate_goes tx (Some name) start f.later (f.first ∷ was 0) f.plain asked.has)
     where
-      by : HasOne tx (Some name) Operating (opened_in (after start 0 (f.later ++ f.first ∷ was 0))) ⊎ (HasAnswered (Some name) start f.later (f.first ∷ was 0) ⊎ HasEnded tx (Some name) start f.later (f.first ∷ was 0))
+      by : HasOne tx (Some name) Operating (opened_in (after start 0 (f.later ++ f.first ∷ was 0)))
+          ⊎ (HasAnswered (Some name) start f.later (f.first ∷ was 0) ⊎ HasEnded tx (Some name) start f.later
+          (f.first ∷ was 0))
           → IsAnsweredAs start was now name ⊎ (IsRefusedAs start was now name ⊎ StillWaits start now name tx)
-      by (inl has) = inr (inr (still_waits (subst (λ log. HasOne tx (Some name) Operating (opened_in (after start 0 log))) (sym f.is) has)))
-      by (inr (inl a)) = inl (record { answer = a.answering.answer; told = replied start was now (Operate (Some name) op) served f a.newer a.step a.older (Answered (Some name) a.answering.answer) a.is a.answering.told })
+      by (inl has) = inr (inr
+          (still_waits (subst (λ log. HasOne tx (Some name) Operating (opened_in (after start 0 log))) (sym f.is) has)))
+      by (inr (inl a)) = inl (record {
+        answer = a.answering.answer;
+        told = replied start was now (Operate (Some name) op) served f a.newer a.step a.older
+            (Answered (Some name) a.answering.answer) a.is a.answering.told;
+      })
       by (inr (inr ended)) = inr (inl (refused ended))
 
 -- so it is where each command is answered
 pub operations_answered : EachIsAnswered → OperationsAreAnswered
-operations_answered answered start was now name op t tx served named ready own few = operation_answered answered start was now name op t tx served named ready own few
+operations_answered answered start was now name op t tx served named ready own few =
+    operation_answered answered start was now name op t tx served named ready own few

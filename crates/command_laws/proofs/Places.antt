@@ -1,7 +1,7 @@
 -- The first item of a list that passes a test, with none in front of it that does.
 use Rattle.std.proofs.Common.{◌≡◌, ℕ, suc, Bool, true, false, List, [], ◌∷◌, ◌++◌, length, refl, sym, ap, ◌∙◌, arith}
 use Rattle.std.specs.Prelude.{Option, None, Some, position, slice_get, slice_set}
-use Rattle.host_laws.specs.Counts.{one_if, tally}
+use Rattle.run_theory.specs.Counts.{one_if, tally}
 use Rattle.sig_core.proofs.Firsts.{place_by, position-cons}
 
 module _ {X : Type 0} where

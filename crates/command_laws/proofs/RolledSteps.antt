@@ -26,7 +26,7 @@ use Rattle.tc_block.specs.Tc.{tc_table}
 use Rattle.world_core.specs.Machine.{after, step_after}
 use Rattle.world_core.specs.Start.{Start}
 use Rattle.world_core.specs.Steps.{HostStep}
-use Rattle.host_laws.specs.Counts.{one_if}
+use Rattle.run_theory.specs.Counts.{one_if}
 use Rattle.host_laws.specs.Live.{of_live}
 use Rattle.host_laws.proofs.BlocksAlong.{no_live}
 use Rattle.host_laws.proofs.SendKinds.{none_of}

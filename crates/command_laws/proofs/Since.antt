@@ -16,9 +16,9 @@ use Rattle.world_core.specs.Machine.{machine, step_after}
 use Rattle.world_core.specs.Start.{Start}
 use Rattle.world_core.specs.Steps.{Addressed, HostStep}
 use Rattle.host_laws.proofs.LinkCounts.{sent_signals, signals, taken_signals, to_host, few_sends, steps, taken_steps}
-use Rattle.host_laws.proofs.Tally.{tally_past}
+use Rattle.run_theory.proofs.Tally.{tally_past}
 use Rattle.host_laws.proofs.Wishes.{sends_of}
-use Rattle.host_laws.specs.Counts.{tally}
+use Rattle.run_theory.specs.Counts.{tally}
 use Rattle.run_laws.proofs.Weighing.{none_passes}
 use Rattle.answer_laws.specs.Answered.{AreQuiet}
 

@@ -14,7 +14,7 @@ use Rattle.tc_block.specs.declared.transaction.Transaction.{Transaction}
 use Rattle.tc_block.specs.Operate.{fresh}
 use Rattle.tc_block.specs.State.{TcState}
 use Rattle.tc_block.specs.Tc.{tc_table}
-use Rattle.host_laws.specs.Counts.{tally}
+use Rattle.run_theory.specs.Counts.{tally}
 use Rattle.host_laws.proofs.SendKinds.{none_of}
 use Rattle.host_laws.proofs.TcLives.{IsOwn, is_keyed}
 use Rattle.host_laws.proofs.TcSteps.{TxStep, born, elsewhere, is_apart, left_of_turn, next_grows, turned, tx_step}

@@ -18,7 +18,7 @@ use Rattle.tc_block.specs.declared.transaction.Transaction.{Transaction}
 use Rattle.tc_block.specs.State.{TcState}
 use Rattle.tc_block.specs.Tc.{tc_row, tc_table}
 use Rattle.tc_block.specs.Turn.{Turn}
-use Rattle.host_laws.specs.Counts.{one_if, tally}
+use Rattle.run_theory.specs.Counts.{one_if, tally}
 use Rattle.host_laws.proofs.SendKinds.{none_of}
 use Rattle.host_laws.proofs.TcKeys.{answer_of, is_asked, key_of_tx, tc_fair, is_key}
 use Rattle.host_laws.proofs.Wishes.{is_api, is_tc, sends_of}

@@ -10,7 +10,7 @@ use Rattle.world_core.specs.Hosts.{home, hosts}
 use Rattle.world_core.specs.Machine.{after, step_after}
 use Rattle.world_core.specs.Start.{Start}
 use Rattle.world_core.specs.Steps.{HostStep}
-use Rattle.host_laws.specs.Counts.{one_if}
+use Rattle.run_theory.specs.Counts.{one_if}
 use Rattle.host_laws.proofs.LinkCounts.{steps}
 use Rattle.host_laws.proofs.TcKeys.{is_key}
 use Rattle.host_laws.proofs.Wishes.{sends_of}

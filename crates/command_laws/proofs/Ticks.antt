@@ -1,5 +1,6 @@
 -- Rounds of time: the rows of each node have one at a command's request, and the last one is replied.
-use Rattle.std.proofs.Common.{◌≡◌, ◌≢◌, ◌⊎◌, ◌+◌, ◌-◌, ◌<◌, ◌≤◌, ◌==◌, ◌&&◌, ℕ, zero, suc, Bool, true, false, List, [], ◌∷◌, ◌++◌, take, filter, length, refl, sym, ap, ◌∙◌, inl, inr, eq-eqb, ne_eqb, arith}
+use Rattle.std.proofs.Common.{◌≡◌, ◌≢◌, ◌⊎◌, ◌+◌, ◌-◌, ◌<◌, ◌≤◌, ◌==◌, ◌&&◌, ℕ, zero, suc, Bool, true, false, List, []}
+use Rattle.std.proofs.Common.{◌∷◌, ◌++◌, take, filter, length, refl, sym, ap, ◌∙◌, inl, inr, eq-eqb, ne_eqb, arith}
 use Rattle.std.proofs.lemmas.Bool.{cases_eq}
 use Rattle.std.proofs.lemmas.List.{append-nil}
 use Rattle.std.proofs.lemmas.List.Elements.{filter-append}
@@ -22,6 +23,7 @@ use Rattle.sig_core.specs.Place.{rows_of}
 use Rattle.sig_core.specs.Step.{Step}
 use Rattle.frag_map.specs.Layout.{first_view, members}
 use Rattle.frag_map.specs.Replicas.{first_start}
+use Rattle.api_block.specs.declared.members.TheConstants.{TOLD}
 use Rattle.api_block.specs.Api.{api_table, request_row}
 use Rattle.api_block.specs.Commands.{tick_row, ticked_if}
 use Rattle.api_block.specs.declared.members.News.{News}
@@ -39,19 +41,21 @@ use Rattle.world_core.specs.Machine.{after, machine, step_after}
 use Rattle.world_core.specs.Start.{Start}
 use Rattle.world_core.specs.Steps.{HostStep}
 use Rattle.host_laws.proofs.BlocksAlong.{replies_are}
-use Rattle.host_laws.proofs.ApiTurns.{signal_turns}
+use Rattle.api_block.proofs.ApiTurns.{signal_turns}
 use Rattle.host_laws.proofs.LinkCounts.{few_sends, signals, steps, steps_from, to_host}
-use Rattle.host_laws.proofs.Tally.{tally_append}
+use Rattle.run_theory.proofs.Tally.{tally_append}
 use Rattle.host_laws.proofs.Wishes.{sends_of}
-use Rattle.host_laws.specs.Counts.{one_if}
-use Rattle.command_laws.proofs.ApiChanges.{ApiChange, alone, answers, api_changes, commits, ends, idle, is_row_reply, refuses, rests, starts, told, waits}
+use Rattle.run_theory.specs.Counts.{one_if}
+use Rattle.command_laws.proofs.ApiChanges.{ApiChange, alone, answers, api_changes, commits, ends, idle, is_row_reply}
+use Rattle.command_laws.proofs.ApiChanges.{refuses, rests, starts, told, waits}
 use Rattle.command_laws.proofs.BlockSteps.{api_host, api_seen}
 use Rattle.command_laws.proofs.Committed.{cut_at_first}
 use Rattle.command_laws.proofs.First.{IsFirst, first_step, request_first}
 use Rattle.command_laws.proofs.HoldersTold.{sent_to_append}
 use Rattle.command_laws.proofs.LoneAnswered.{shell_view}
 use Rattle.command_laws.proofs.RowAsks.{is_no_ask, none_asked}
-use Rattle.command_laws.proofs.Since.{few_taken, link_sent_to, link_taken, sent_since_to, taken_few, taken_is, taken_since}
+use Rattle.command_laws.proofs.Since.{few_taken, link_sent_to, link_taken, sent_since_to, taken_few, taken_is}
+use Rattle.command_laws.proofs.Since.{taken_since}
 use Rattle.command_laws.specs.Served.{IsServedBetween, replies_since}
 use Rattle.command_laws.specs.Ticked.{IsTicked, is_lqh, is_round, is_round_to, is_ticked, rounds_of, ticked_at}
 
@@ -211,7 +215,7 @@ module _ (start : Start) where
     unfolding everyone
     sent_all =
         ap (λ (xs : List Member). sends_of for_node (telling_all news.Round (members start.shape.nodes ++ xs)))
-        (take_none (12 - length (members start.shape.nodes)))
+        (take_none (TOLD - length (members start.shape.nodes)))
         ∙ ap (λ (xs : List Member). sends_of for_node (telling_all news.Round xs))
         (append-nil (members start.shape.nodes))
         ∙ one_for start.shape.nodes low (omega arith)

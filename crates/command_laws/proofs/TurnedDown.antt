@@ -1,5 +1,6 @@
 -- A request is turned down at once where it is to be, or the transaction of its name takes it.
-use Rattle.std.proofs.Common.{◌≡◌, ◌⊎◌, ◌<◌, ℕ, Bool, true, false, List, [], ◌∷◌, ◌++◌, refl, sym, ap, ◌∙◌, subst, inl, inr, arith}
+use Rattle.std.proofs.Common.{◌≡◌, ◌⊎◌, ◌<◌, ℕ, Bool, true, false, List, [], ◌∷◌, ◌++◌, refl, sym, ap, ◌∙◌, subst, inl}
+use Rattle.std.proofs.Common.{inr, arith}
 use Rattle.std.proofs.lemmas.Bool.Decides.{nat_tests}
 use Rattle.std.specs.Prelude.{if◌then◌else◌, drop, is_some, length, nat_lt, position, slice_get, Option, None, Some}
 use Rattle.run_theory.proofs.Pasts.{past_self}
@@ -12,8 +13,10 @@ use Rattle.sig_core.specs.declared.reply.Refusal.TheVariants.{IsOpen, NotOpen}
 use Rattle.sig_core.specs.declared.request.ApiReq.{ApiReq}
 use Rattle.sig_core.specs.declared.request.ApiReq.TheVariants as request
 use Rattle.sig_core.specs.Step.{Step}
+use Rattle.api_block.specs.declared.operate.TheConstants.{OPERATIONS}
 use Rattle.api_block.specs.Api.{request_row}
-use Rattle.api_block.specs.Commands.{abort_by, abort_row, begin_at, begin_if, begin_row, commit_by, commit_row, dump_if, dump_row, node_for}
+use Rattle.api_block.specs.Commands.{abort_by, abort_row, begin_at, begin_if, begin_row, commit_by, commit_row, dump_if}
+use Rattle.api_block.specs.Commands.{dump_row, node_for}
 use Rattle.api_block.specs.declared.opened.Doing.{Doing}
 use Rattle.api_block.specs.declared.opened.Doing.TheVariants.{Beginning, Committing, Operating, Ready}
 use Rattle.api_block.specs.declared.opened.OpenTransaction.{OpenTransaction}
@@ -31,7 +34,9 @@ use Rattle.command_laws.proofs.First.{IsFirst, first_step, request_first}
 use Rattle.host_laws.proofs.BlocksAlong.{replies_are}
 use Rattle.command_laws.proofs.Told.{told_since}
 use Rattle.command_laws.specs.Served.{IsServedBetween, named_in}
-use Rattle.command_laws.specs.TurnedDown.{IsRefusedWhereDue, IsTurnedDown, abort_refused, busy_or, commit_refused, full_at, name_of_request, no_member_at, none_to_serve, operation_refused, turned_down_for}
+use Rattle.command_laws.specs.TurnedDown.{IsRefusedWhereDue, IsTurnedDown, abort_refused, busy_or, commit_refused}
+use Rattle.command_laws.specs.TurnedDown.{full_at, name_of_request, no_member_at, none_to_serve, operation_refused}
+use Rattle.command_laws.specs.TurnedDown.{turned_down_for}
 
 -- the first transaction of the name takes commands
 pub record TakesCommands (opened : List OpenTransaction) (name : ℕ) : Type 0 where
@@ -44,7 +49,7 @@ pub record TakesCommands (opened : List OpenTransaction) (name : ℕ) : Type 0 w
 -- and operations
 pub record TakesOperations (opened : List OpenTransaction) (name : ℕ) : Type 0 where
   pub takes : TakesCommands opened name
-  pub few : takes.item.operations < 64
+  pub few : takes.item.operations < OPERATIONS
 
 module _ (s : ApiState) where
   -- the refusal is all that a step replies
@@ -81,7 +86,8 @@ module _ (s : ApiState) where
   begin_due name at r = by (is_some (place_named s (Some name)))
     where
       by : (taken : Bool)
-          → (if taken then Some IsOpen else no_member_at (node_for s.view at) (is_full s.view (node_for s.view at))) ≡ Some r
+          → (if taken then Some IsOpen else no_member_at (node_for s.view at)
+          (is_full s.view (node_for s.view at))) ≡ Some r
           → Refuses (begin_if s name at taken) (Some name) r
       by true due = cc
       by false due = begin_at_due name (node_for s.view at) r (is_full s.view (node_for s.view at)) due
@@ -98,9 +104,9 @@ module _ (s : ApiState) where
       few at t tx false due = cc
 
       by : (at : ℕ) (t : OpenTransaction) (d : Doing) (o : Option TxId)
-          → busy_or (full_at (nat_lt t.operations 64)) d o ≡ Some r
+          → busy_or (full_at (nat_lt t.operations OPERATIONS)) d o ≡ Some r
           → Refuses (operate_by s name op at t d o) (Some name) r
-      by at t Ready (Some tx) due = few at t tx (nat_lt t.operations 64) due
+      by at t Ready (Some tx) due = few at t tx (nat_lt t.operations OPERATIONS) due
       by at t Ready None due = cc
       by at t (Beginning first) o due = cc
       by at t Operating o due = cc
@@ -194,10 +200,10 @@ module _ (s : ApiState) where
       let t = named_taken name commit_refused free in
       (taken_by name t.item None t.named t.free).0
 
-  few_of : (n : ℕ) → full_at (nat_lt n 64) ≡ None → n < 64
-  few_of n = by (nat_lt n 64) refl
+  few_of : (n : ℕ) → full_at (nat_lt n OPERATIONS) ≡ None → n < OPERATIONS
+  few_of n = by (nat_lt n OPERATIONS) refl
     where
-      by : (b : Bool) → nat_lt n 64 ≡ b → full_at b ≡ None → n < 64
+      by : (b : Bool) → nat_lt n OPERATIONS ≡ b → full_at b ≡ None → n < OPERATIONS
       by true is free = grind (arith, nat_tests, is)
       by false is free = absurd cc
 
@@ -205,22 +211,28 @@ module _ (s : ApiState) where
       → TakesOperations s.opened name
   operate_takes name op free =
       let t = named_taken name operation_refused free in
-      let taken = taken_by name t.item (full_at (nat_lt t.item.operations 64)) t.named t.free in
-      record { takes = taken.0; few = subst (λ (u : OpenTransaction). u.operations < 64) (sym taken.1) (few_of t.item.operations taken.2) }
+      let taken = taken_by name t.item (full_at (nat_lt t.item.operations OPERATIONS)) t.named t.free in
+      record {
+        takes = taken.0;
+        few =
+            subst (λ (u : OpenTransaction). u.operations < OPERATIONS) (sym taken.1) (few_of t.item.operations taken.2);
+      }
 
 -- what the first step replies is told since then
 module _ (start : Start) (was now : ℕ → List HostStep) (q : ApiReq) (served : IsServedBetween start was now q) where
   pub refused_where_due : IsRefusedWhereDue start was now q
   refused_where_due r due =
       subst
-      (λ log. IsIn (Refused (name_of_request q) r) (drop (length (replies_of (after start 0 (was 0)))) (replies_of (after start 0 log))))
+      (λ log. IsIn (Refused (name_of_request q) r)
+      (drop (length (replies_of (after start 0 (was 0)))) (replies_of (after start 0 log))))
       (sym f.is)
       (told_since start (was 0) (was 0) f.later f.first (Refused (name_of_request q) r) (past_self (was 0)) replied)
     where
       f : IsFirst start was now q
       f = request_first start was now q served
 
-      replied : replies_of (after start 0 (f.first ∷ was 0)) ≡ replies_of (after start 0 (was 0)) ++ Refused (name_of_request q) r ∷ []
+      replied : replies_of (after start 0 (f.first ∷ was 0)) ≡ replies_of (after start 0 (was 0)) ++ Refused
+          (name_of_request q) r ∷ []
       replied =
           replies_are (after start 0 (f.first ∷ was 0)) ∙ ap (λ (step : Step ApiState). step.state.replies)
           (first_step start was now q f) ∙ request_due (api_of (after start 0 (was 0))) q r due
@@ -243,7 +255,8 @@ commit_taken start was now name served =
 
 pub operation_taken : (start : Start) (was now : ℕ → List HostStep) (name : ℕ) (op : Op)
     → IsServedBetween start was now (request.Operate (Some name) op)
-    → IsTurnedDown start was now (request.Operate (Some name) op) ⊎ TakesOperations (opened_in (after start 0 (was 0))) name
+    → IsTurnedDown start was now (request.Operate (Some name) op) ⊎ TakesOperations
+    (opened_in (after start 0 (was 0))) name
 operation_taken start was now name op served =
     turned_or start was now (request.Operate (Some name) op) served
     (operate_takes (api_of (after start 0 (was 0))) name op)

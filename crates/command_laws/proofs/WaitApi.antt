@@ -26,7 +26,7 @@ use Rattle.node_core.specs.declared.host.Host.{Host}
 use Rattle.node_core.specs.Row.{row}
 use Rattle.world_core.specs.Hosts.{home}
 use Rattle.world_core.specs.Start.{Start}
-use Rattle.host_laws.specs.Counts.{one_if, tally}
+use Rattle.run_theory.specs.Counts.{one_if, tally}
 use Rattle.host_laws.proofs.LinkCounts.{to_host}
 use Rattle.host_laws.proofs.LqhOps.{true_and}
 use Rattle.host_laws.proofs.TcMoves.{same_tx-is}

@@ -19,7 +19,7 @@ use Rattle.world_core.specs.Hosts.{home, rows_host}
 use Rattle.world_core.specs.Machine.{after}
 use Rattle.world_core.specs.Start.{Start}
 use Rattle.world_core.specs.Steps.{HostStep}
-use Rattle.host_laws.specs.Counts.{one_if, tally}
+use Rattle.run_theory.specs.Counts.{one_if, tally}
 use Rattle.host_laws.proofs.LinkCounts.{steps, to_host}
 use Rattle.host_laws.proofs.Wishes.{sends_of}
 use Rattle.host_laws.specs.Live.{of_live}

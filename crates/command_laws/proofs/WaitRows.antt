@@ -51,11 +51,11 @@ use Rattle.host_laws.proofs.BlocksAlong.{no_live}
 use Rattle.host_laws.proofs.LinkCounts.{to_host}
 use Rattle.host_laws.proofs.LqhOps.{is_lqh, true_and, left_of, right_of}
 use Rattle.host_laws.proofs.SendKinds.{are_of, none_of, of_map, one_kind}
-use Rattle.host_laws.proofs.Tally.{tally_in}
+use Rattle.run_theory.proofs.Tally.{tally_in}
 use Rattle.host_laws.proofs.TcMoves.{same_tx-is}
 use Rattle.host_laws.proofs.TcSends.{eqb-self}
 use Rattle.host_laws.proofs.Wishes.{is_api, is_tc, sends_of}
-use Rattle.host_laws.specs.Counts.{one_if}
+use Rattle.run_theory.specs.Counts.{one_if}
 use Rattle.host_laws.specs.Live.{of_live}
 use Rattle.command_laws.proofs.HostKinds.{no_rows, runs_rows}
 use Rattle.command_laws.proofs.BlockSteps.{tc_host}

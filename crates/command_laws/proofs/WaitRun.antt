@@ -30,9 +30,9 @@ use Rattle.world_core.specs.Requests.{request_in, requests}
 use Rattle.world_core.specs.Start.{Start}
 use Rattle.world_core.specs.Steps.{Addressed, HostStep}
 use Rattle.host_laws.proofs.LinkCounts.{sent_signals, signals, few_sends}
-use Rattle.host_laws.proofs.Tally.{tally_past}
+use Rattle.run_theory.proofs.Tally.{tally_past}
 use Rattle.host_laws.proofs.Wishes.{sends_of}
-use Rattle.host_laws.specs.Counts.{one_if, tally}
+use Rattle.run_theory.specs.Counts.{one_if, tally}
 use Rattle.host_laws.specs.Live.{of_live}
 use Rattle.answer_laws.specs.Answered.{AreQuiet}
 use Rattle.command_laws.proofs.First.{fits_asked, requests_append, with_first}

@@ -36,8 +36,8 @@ use Rattle.tc_block.specs.Tc.{pass_if, pass_row, tc_table}
 use Rattle.world_core.specs.Machine.{machine, step_after}
 use Rattle.world_core.specs.Start.{Start}
 use Rattle.world_core.specs.Steps.{HostStep}
-use Rattle.host_laws.proofs.Tally.{tally_in}
-use Rattle.host_laws.specs.Counts.{one_if}
+use Rattle.run_theory.proofs.Tally.{tally_in}
+use Rattle.run_theory.specs.Counts.{one_if}
 use Rattle.host_laws.proofs.ApiMoves.{is_api_kind}
 use Rattle.host_laws.proofs.DihSends.{dih_kinds}
 use Rattle.host_laws.proofs.LinkCounts.{all_three}

@@ -5,7 +5,7 @@ use Rattle.sig_core.specs.declared.reply.ApiReply.{ApiReply}
 use Rattle.sig_core.specs.declared.reply.ApiReply.TheVariants.{Answered, Begun, Ended, Pending, Refused}
 use Rattle.api_block.specs.Opened.{same_name}
 use Rattle.world_core.specs.Start.{Start}
-use Rattle.host_laws.specs.Counts.{tally}
+use Rattle.run_theory.specs.Counts.{tally}
 use Rattle.command_laws.specs.Served.{replies_since}
 
 -- the reply has this name

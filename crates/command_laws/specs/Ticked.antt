@@ -11,7 +11,7 @@ use Rattle.sig_core.specs.declared.signal.host.HostSignal.TheVariants.{Round}
 use Rattle.world_core.specs.Hosts.{rows_host}
 use Rattle.world_core.specs.Start.{Start}
 use Rattle.world_core.specs.Steps.{HostStep}
-use Rattle.host_laws.specs.Counts.{tally}
+use Rattle.run_theory.specs.Counts.{tally}
 use Rattle.command_laws.specs.Served.{replies_since}
 
 -- the reply to a command for rounds of time

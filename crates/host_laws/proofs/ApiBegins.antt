@@ -21,10 +21,10 @@ use Rattle.api_block.specs.Requests.{is_request}
 use Rattle.api_block.specs.State.{ApiState}
 use Rattle.host_laws.proofs.LqhOps.{left_of, right_of}
 use Rattle.host_laws.proofs.ApiMoves.{ApiMove, GoesOn, HasBegun, begun_as, ended, ends, goes, is_api_kind, opens, refuses, rests}
-use Rattle.host_laws.proofs.ApiTurns.{IsNew, IsVoid}
+use Rattle.api_block.proofs.ApiTurns.{IsNew, IsVoid}
 use Rattle.host_laws.proofs.SendKinds.{are_of, none_of}
-use Rattle.host_laws.proofs.Tally.{Counted, counted, only_one, tally_append, tally_between}
-use Rattle.host_laws.specs.Counts.{one_if, tally}
+use Rattle.run_theory.proofs.Tally.{Counted, counted, only_one, tally_append, tally_between}
+use Rattle.run_theory.specs.Counts.{one_if, tally}
 use Rattle.host_laws.proofs.Wishes.{and_false, is_tc, is_wish, reply_of, sends_of, to_node, wish_of}
 
 -- a beginning transaction isn't one that a coordinator has, and is asked for at a full member; one without a name at the least

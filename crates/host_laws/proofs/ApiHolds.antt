@@ -22,11 +22,11 @@ use Rattle.world_core.specs.Start.{Start}
 use Rattle.host_laws.proofs.LqhOps.{left_of}
 use Rattle.host_laws.proofs.ApiBegins.{AreGood, IsGood, each_at}
 use Rattle.host_laws.proofs.ApiMoves.{ApiMove, api_moves, begun_as, ended, ends, goes, opens, refuses, rests}
-use Rattle.host_laws.proofs.ApiTurns.{IsVoid}
+use Rattle.api_block.proofs.ApiTurns.{IsVoid}
 use Rattle.host_laws.proofs.ShellHost.{opened_first, opened_next, shell_after}
 use Rattle.host_laws.proofs.LinkCounts.{steps}
-use Rattle.host_laws.proofs.Tally.{tally_append, tally_between}
-use Rattle.host_laws.specs.Counts.{one_if, tally}
+use Rattle.run_theory.proofs.Tally.{tally_append, tally_between}
+use Rattle.run_theory.specs.Counts.{one_if, tally}
 use Rattle.host_laws.proofs.TcLives.{is_start, start_of}
 use Rattle.host_laws.proofs.TcMoves.{end_of, is_end, same_tx-is}
 use Rattle.host_laws.proofs.Wishes.{is_api}

@@ -23,7 +23,7 @@ use Rattle.api_block.specs.Members.{everyone, telling_all}
 use Rattle.api_block.specs.Opened.{asked_for, begins, begins_at, has_tx, is_beginning}
 use Rattle.api_block.specs.Requests.{is_request}
 use Rattle.api_block.specs.State.{ApiState, about}
-use Rattle.host_laws.proofs.ApiTurns.{IsNew, IsVoid, ApiRequestForms, ApiSignalForms, api_turns}
+use Rattle.api_block.proofs.ApiTurns.{IsNew, IsVoid, ApiRequestForms, ApiSignalForms, api_turns}
 use Rattle.host_laws.proofs.SendKinds.{are_of}
 
 -- what the API sends, but for the wish for a transaction

@@ -31,7 +31,7 @@ use Rattle.world_core.specs.Steps.{HostStep}
 use Rattle.host_laws.proofs.LinkCounts.{at_shell, to_host}
 use Rattle.host_laws.proofs.TcMoves.{tc_moves, tc_node, tc_view}
 use Rattle.host_laws.proofs.Wishes.{sends_of, to_node}
-use Rattle.host_laws.specs.Counts.{one_if}
+use Rattle.run_theory.specs.Counts.{one_if}
 
 -- a host that doesn't run a coordinator has no transactions
 pub no_live : (s : host.Host) → has_tc s ≡ false → (tc_of s).live ≡ []

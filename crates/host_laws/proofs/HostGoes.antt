@@ -1,7 +1,6 @@
 -- What a host says and marks of how transactions come to be decided.
 use Rattle.std.proofs.Common.{◌≡◌, ◌⊎◌, inl, inr, ℕ, Bool, true, false, List, [], ◌∷◌, ◌||◌, refl, sym, ap, ◌∙◌, subst}
 use Rattle.std.specs.List.{list_any}
-use Rattle.std.specs.Prelude.{nat_lt, length}
 use Rattle.run_theory.specs.Lists.{Each}
 use Rattle.run_theory.proofs.Pasts.{each_map}
 use Rattle.sig_core.specs.declared.mark.Mark.{Mark}
@@ -10,9 +9,7 @@ use Rattle.sig_core.specs.declared.member.TxId.{TxId}
 use Rattle.sig_core.specs.declared.outs.Outgoing.{Outgoing}
 use Rattle.sig_core.specs.declared.place.BlockId.TheVariants as block
 use Rattle.sig_core.specs.declared.signal.Body.{Body}
-use Rattle.sig_core.specs.declared.signal.Body.TheVariants.{Epoch}
 use Rattle.sig_core.specs.declared.signal.Signal.{Signal}
-use Rattle.sig_core.specs.declared.signal.epoch.EpochSignal.TheVariants.{DiVerifyReq}
 use Rattle.sig_core.specs.Place.{epochs}
 use Rattle.sig_core.specs.Same.{same_tx}
 use Rattle.sig_core.specs.Step.{Effects, Step, stay}
@@ -24,9 +21,11 @@ use Rattle.tc_block.specs.Tc.{tc_table}
 use Rattle.node_core.specs.declared.host.Host.{Host}
 use Rattle.node_core.specs.declared.host.Host.TheVariants.{Shell, Main, Tc, Ldm}
 use Rattle.node_core.specs.Blocks.{api_of, dih_of, has_api, has_lqh, has_tc, lqh_of, tc_of}
-use Rattle.node_core.specs.Dih.{DihState, decide_if, decide_row, dih_table}
+use Rattle.node_core.specs.Dih.{DihState, dih_table}
 use Rattle.node_core.specs.Row.{row}
-use Rattle.node_core.proofs.HostCases.{BlockCase, IsApiStep, IsDihStep, IsRowsStep, IsTcStep, api_takes, block_case, dih_takes, none_takes, rows_take, tc_takes}
+use Rattle.node_core.proofs.DihForms.{dih_forms}
+use Rattle.node_core.proofs.HostCases.{BlockCase, IsApiStep, IsDihStep, IsRowsStep, IsTcStep, api_takes, block_case}
+use Rattle.node_core.proofs.HostCases.{dih_takes, none_takes, rows_take, tc_takes}
 use Rattle.host_laws.specs.Causes.{is_decision}
 use Rattle.host_laws.specs.Kinds.{Kind, kind_of}
 use Rattle.host_laws.specs.Kinds as kind
@@ -37,7 +36,8 @@ use Rattle.host_laws.proofs.LqhMarks.{lqh_marks}
 use Rattle.host_laws.proofs.LqhOther.{RowsSay, lqh_says}
 use Rattle.host_laws.proofs.PlainMarks.{ArePlain, is_plain}
 use Rattle.host_laws.proofs.TcMarks.{tc_marks}
-use Rattle.host_laws.proofs.TcNumbers.{AllSayAt, IsNumbered, SaysAt, Tells, begun_by, put_kinds, tc_numbered, verified_by}
+use Rattle.host_laws.proofs.TcNumbers.{AllSayAt, IsNumbered, SaysAt, Tells, begun_by, put_kinds, tc_numbered}
+use Rattle.host_laws.proofs.TcNumbers.{verified_by}
 
 -- what a signal of a host says, of a step that took this and has these marks
 abbrev pub HostSays : (Own T D : TxId → Type 0) → Kind → List Mark → Outgoing → Kind → Type 0
@@ -54,7 +54,8 @@ abbrev pub Decides : Kind → Mark → Type 0
 Decides taken (mark.Decided tx epoch) = taken ≡ kind.verified tx
 Decides taken m = Unit {0}
 
--- what is true of a host with the coordinator of this node, which said these to have begun and asked for an epoch for those
+-- what is true of a host with the coordinator of this node, which said these to have begun and asked for an epoch for
+-- those
 pub record HostKnows (node : ℕ) (T D : TxId → Type 0) (s : Host) (begun_yet verified : List TxId) : Type 0 where
   pub told : AreTold T (api_of s).opened
   pub numbered : IsNumbered node D (tc_of s) begun_yet verified
@@ -84,10 +85,13 @@ plain_decides taken marks plain = each_map (λ m. is_plain m ≡ true) (Decides 
     by m is = tt
 
 -- the rows of a node add to neither list
-rows_none : (f : Kind → List TxId → List TxId) → ((before : List TxId) → f kind.other before ≡ before) → ((tx : TxId) (before : List TxId) → f (kind.committing tx) before ≡ before)
-    → (taken : Kind) (sends : List Outgoing) (before : List TxId) → Each (λ (o : Outgoing). RowsSay taken (kind_of o.body)) sends → put_kinds f sends before ≡ before
+rows_none : (f : Kind → List TxId → List TxId) → ((before : List TxId) → f kind.other before ≡ before)
+    → ((tx : TxId) (before : List TxId) → f (kind.committing tx) before ≡ before)
+    → (taken : Kind) (sends : List Outgoing) (before : List TxId)
+    → Each (λ (o : Outgoing). RowsSay taken (kind_of o.body)) sends → put_kinds f sends before ≡ before
 rows_none f none committing taken [] before all = refl
-rows_none f none committing taken (o ∷ more) before all = ap (put_kinds f more) (by (kind_of o.body) all.0) ∙ rows_none f none committing taken more before all.1
+rows_none f none committing taken (o ∷ more) before all =
+    ap (put_kinds f more) (by (kind_of o.body) all.0) ∙ rows_none f none committing taken more before all.1
   where
     by : (k : Kind) → RowsSay taken k → f k before ≡ before
     by (kind.begun tx) says = absurd says
@@ -99,7 +103,8 @@ rows_none f none committing taken (o ∷ more) before all = ap (put_kinds f more
     by kind.other says = none before
 
 module _ (node : ℕ) (Own T D : TxId → Type 0) where
-  rows_say : (taken : Kind) → Tells D taken → (marks : List Mark) (sends : List Outgoing) → Each (λ (o : Outgoing). RowsSay taken (kind_of o.body)) sends
+  rows_say : (taken : Kind) → Tells D taken → (marks : List Mark) (sends : List Outgoing)
+      → Each (λ (o : Outgoing). RowsSay taken (kind_of o.body)) sends
       → Each (λ (o : Outgoing). HostSays Own T D taken marks o (kind_of o.body)) sends
   rows_say taken tells marks sends all =
       each_map (λ (o : Outgoing). RowsSay taken (kind_of o.body))
@@ -130,7 +135,8 @@ module _ (node : ℕ) (Own T D : TxId → Type 0) where
       by o (kind.ended tx) says = says
       by o kind.other says = tt
 
-  api_says : (taken : Kind) (marks : List Mark) (sends : List Outgoing) → Each (λ (o : Outgoing). ApiSays T (kind_of o.body)) sends
+  api_says : (taken : Kind) (marks : List Mark) (sends : List Outgoing)
+      → Each (λ (o : Outgoing). ApiSays T (kind_of o.body)) sends
       → Each (λ (o : Outgoing). HostSays Own T D taken marks o (kind_of o.body)) sends
   api_says taken marks sends all =
       each_map (λ (o : Outgoing). ApiSays T (kind_of o.body))
@@ -145,10 +151,13 @@ module _ (node : ℕ) (Own T D : TxId → Type 0) where
       by o (kind.ended tx) says = absurd says
       by o kind.other says = tt
 
-  api_none : (f : Kind → List TxId → List TxId) → ((before : List TxId) → f kind.other before ≡ before) → ((tx : TxId) (before : List TxId) → f (kind.wanted tx) before ≡ before)
-      → (sends : List Outgoing) (before : List TxId) → Each (λ (o : Outgoing). ApiSays T (kind_of o.body)) sends → put_kinds f sends before ≡ before
+  api_none : (f : Kind → List TxId → List TxId) → ((before : List TxId) → f kind.other before ≡ before)
+      → ((tx : TxId) (before : List TxId) → f (kind.wanted tx) before ≡ before)
+      → (sends : List Outgoing) (before : List TxId) → Each (λ (o : Outgoing). ApiSays T (kind_of o.body)) sends
+      → put_kinds f sends before ≡ before
   api_none f none wanted [] before all = refl
-  api_none f none wanted (o ∷ more) before all = ap (put_kinds f more) (by (kind_of o.body) all.0) ∙ api_none f none wanted more before all.1
+  api_none f none wanted (o ∷ more) before all =
+      ap (put_kinds f more) (by (kind_of o.body) all.0) ∙ api_none f none wanted more before all.1
     where
       by : (k : Kind) → ApiSays T k → f k before ≡ before
       by (kind.begun tx) says = absurd says
@@ -166,21 +175,28 @@ module _ (node : ℕ) (Own T D : TxId → Type 0) where
     verified_same : (before : List TxId) → put_kinds verified_by step.effects.sends before ≡ before
     decides : Each (Decides taken) step.effects.marks
 
-  decide_goes : (s : DihState) (tx : TxId) (b : Bool) → DihGoes (kind.verified tx) (decide_if s tx b)
-  decide_goes s tx true = record { says = (decided_here (same_tx tx tx) (same_tx-self tx), tt); begun_same = λ before. refl; verified_same = λ before. refl; decides = (refl, tt) }
+  silent_goes : (taken : Kind) (s : DihState) → DihGoes taken (stay s)
+  silent_goes taken s =
+      record { says = tt; begun_same = λ before. refl; verified_same = λ before. refl; decides = tt }
+
+  dih_goes : (s : DihState) (body : Body) → DihGoes (kind_of body) (dih_table s body)
+  dih_goes s =
+      dih_forms (λ body step. DihGoes (kind_of body) step) s (record {
+        decides = λ tx ops low. record {
+          says = (decided_here (same_tx tx tx) (same_tx-self tx), tt);
+          begun_same = λ before. refl;
+          verified_same = λ before. refl;
+          decides = (refl, tt);
+        };
+        is_full = λ tx ops high. silent_goes (kind.verified tx) s;
+        ends = λ tx at there. silent_goes kind.other _;
+        misses = λ tx none. silent_goes kind.other s;
+        rests = λ body off. silent_goes (kind_of body) s;
+      })
     where
       decided_here : (b : Bool) → b ≡ true → (b || false) ≡ true
       decided_here true is = refl
       decided_here false is = is
-  decide_goes s tx false = record { says = tt; begun_same = λ before. refl; verified_same = λ before. refl; decides = tt }
-
-  verify_goes : (s : DihState) (tx : TxId) → DihGoes (kind.verified tx) (decide_row s tx)
-  unfolding decide_row
-  verify_goes s tx = decide_goes s tx (nat_lt (length s.counted) 64)
-
-  dih_goes : (s : DihState) (body : Body) → DihGoes (kind_of body) (dih_table s body)
-  dih_goes s (Epoch (DiVerifyReq tx ops)) = verify_goes s tx
-  dih_goes s _ = record { says = tt; begun_same = λ before. refl; verified_same = λ before. refl; decides = tt }
 
   -- the step of each block
   module _ (s : Host) (x : Signal) (begun_yet verified : List TxId) (knows : HostKnows node T D s begun_yet verified)

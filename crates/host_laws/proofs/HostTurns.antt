@@ -39,7 +39,7 @@ use Rattle.host_laws.proofs.TcSteps.{TxStep, born, elsewhere, is_apart, left_of_
 use Rattle.tc_block.proofs.TurnRows.{tx_in, is_turn, turn_row}
 use Rattle.host_laws.proofs.TcTurns.{TurnMove}
 use Rattle.host_laws.proofs.Wishes.{is_tc}
-use Rattle.host_laws.specs.Counts.{tally}
+use Rattle.run_theory.specs.Counts.{tally}
 
 -- the transaction at a host's coordinator
 abbrev pub tx_at : TxId → Host → Option Transaction

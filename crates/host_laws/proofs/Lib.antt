@@ -3,10 +3,8 @@ pub mod ApiHolds
 pub mod ApiMarks
 pub mod ApiMoves
 pub mod ApiTold
-pub mod ApiTurns
 pub mod BlocksAlong
 pub mod DihSends
-pub mod Focus
 pub mod HostGoes
 pub mod HostMarks
 pub mod HostTurns
@@ -32,7 +30,6 @@ pub mod SendKinds
 pub mod ShellHost
 pub mod StartedHosts
 pub mod Sums
-pub mod Tally
 pub mod TcCommits
 pub mod TcGoes
 pub mod TcKeyless

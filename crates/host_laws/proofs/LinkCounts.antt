@@ -18,8 +18,8 @@ use Rattle.frag_map.specs.Replicas.{is_member}
 use Rattle.sig_core.specs.Part.{part_of}
 use Rattle.world_core.specs.Hosts.{first_membership, host_at, host_by, host_for, member_of, receiver}
 use Rattle.world_core.specs.Start.{Start, made}
-use Rattle.host_laws.proofs.Tally.{and_few}
-use Rattle.host_laws.specs.Counts.{one_if, tally}
+use Rattle.run_theory.proofs.Tally.{and_few}
+use Rattle.run_theory.specs.Counts.{one_if, tally}
 use Rattle.host_laws.proofs.Wishes.{sends_of, to_node}
 
 -- what a link gave, which is no request, and passes a test

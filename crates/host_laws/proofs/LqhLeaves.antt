@@ -26,13 +26,13 @@ use Rattle.lqh_block.specs.Lqh.{lqh_table}
 use Rattle.lqh_block.specs.State.{LqhState, freed_lock, go_on_if, serve_granted, with_lock}
 use Rattle.lqh_block.specs.Work.{is_for}
 use Rattle.key_laws.proofs.LocksAt.{lock-aged, lock-kept}
-use Rattle.host_laws.proofs.Focus.{none_placed, taken_at, tally_taken}
+use Rattle.run_theory.proofs.Focus.{none_placed, taken_at, tally_taken}
 use Rattle.host_laws.proofs.LqhOps.{left_of, right_of, true_and}
 use Rattle.host_laws.proofs.LqhWaits.{HasAsked, IsServed, Stays, few_hops, came_to, goes_on, granted_stays, hops}
 use Rattle.host_laws.proofs.LqhWaits.{is_forth, is_more, is_more_body, more_one, own, queued, request_stays, waiting}
 use Rattle.host_laws.proofs.QueueWaits.{LeftWaits, released_waits, unwaited_waits, waits_aged}
-use Rattle.host_laws.proofs.Tally.{tally_append}
-use Rattle.host_laws.specs.Counts.{one_if, tally}
+use Rattle.run_theory.proofs.Tally.{tally_append}
+use Rattle.run_theory.specs.Counts.{one_if, tally}
 use Rattle.host_laws.proofs.TcMoves.{same_tx-is}
 
 module _ (tx : TxId) (key : List ℕ) where

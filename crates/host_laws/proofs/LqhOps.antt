@@ -28,7 +28,7 @@ use Rattle.host_laws.proofs.RequestCounts.{CountStep, asked_by, count_step, ends
 use Rattle.host_laws.proofs.TcMoves.{same_tx-is}
 use Rattle.host_laws.proofs.TcSends.{eqb-self}
 use Rattle.host_laws.proofs.Wishes.{is_tc, sends_of}
-use Rattle.host_laws.specs.Counts.{one_if, tally}
+use Rattle.run_theory.specs.Counts.{one_if, tally}
 
 abbrev pub is_lqh : BlockId → Bool
 is_lqh block.Lqh = true

@@ -31,12 +31,12 @@ use Rattle.lqh_block.specs.Work.{is_for, work_mode}
 use Rattle.lqh_block.proofs.IndexLemmas.{same as same_key-is}
 use Rattle.lqh_block.proofs.LqhForms.{GrantedForms, RequestForms, perform_forms}
 use Rattle.key_laws.proofs.LocksAt.{lock-inserted}
-use Rattle.host_laws.proofs.Focus.{IsTakenAt, none_placed, taken_at, tally_taken}
+use Rattle.run_theory.proofs.Focus.{IsTakenAt, none_placed, taken_at, tally_taken}
 use Rattle.host_laws.proofs.LqhOps.{is_lqh, left_of, right_of, true_and}
 use Rattle.host_laws.proofs.QueueWaits.{AskedWaits, asked_waits}
 use Rattle.host_laws.proofs.RequestCounts.{CountStep, asked_by, count_step, ends, is_work, performs, refuses, rests}
-use Rattle.host_laws.proofs.Tally.{Counted, counted, tally_append, tally_in}
-use Rattle.host_laws.specs.Counts.{one_if, tally}
+use Rattle.run_theory.proofs.Tally.{Counted, counted, tally_append, tally_in}
+use Rattle.run_theory.specs.Counts.{one_if, tally}
 use Rattle.host_laws.proofs.TcMoves.{same_tx-is}
 use Rattle.host_laws.proofs.TcSends.{eqb-self}
 use Rattle.host_laws.proofs.Wishes.{is_tc, sends_of}

@@ -21,8 +21,8 @@ use Rattle.tc_block.proofs.LiveSplit.{AreOthers}
 use Rattle.tc_block.proofs.TurnRows.{TcStep, begins, is_turn, misses, passes, refuses, rests, takes, tc_step, turn_by, turn_row, tx_in, left_if}
 use Rattle.host_laws.proofs.ApiBegins.{each_at, each_changed, each_less}
 use Rattle.host_laws.proofs.LqhOps.{ops}
-use Rattle.host_laws.proofs.Tally.{tally_append, tally_between, tally_none}
-use Rattle.host_laws.specs.Counts.{one_if, tally}
+use Rattle.run_theory.proofs.Tally.{tally_append, tally_between, tally_none}
+use Rattle.run_theory.specs.Counts.{one_if, tally}
 use Rattle.host_laws.proofs.TcLives.{IsOwn, insert_new, is_keyed}
 use Rattle.host_laws.proofs.TcMoves.{same_tx-is}
 use Rattle.host_laws.proofs.TcOps.{Asks, IsGoodLayout, TurnAsks, answers_of, asks_forms, asks_key, is_right}

@@ -15,8 +15,8 @@ use Rattle.sig_core.specs.Same.{same_tx}
 use Rattle.tc_block.specs.Part.{part_effects, rest_if}
 use Rattle.sig_core.proofs.Keys.{same_tx-self}
 use Rattle.host_laws.proofs.LqhOps.{true_and}
-use Rattle.host_laws.proofs.Tally.{tally_append}
-use Rattle.host_laws.specs.Counts.{one_if, tally}
+use Rattle.run_theory.proofs.Tally.{tally_append}
+use Rattle.run_theory.specs.Counts.{one_if, tally}
 use Rattle.host_laws.proofs.TcSends.{eqb-self}
 use Rattle.host_laws.proofs.Wishes.{is_tc, sends_of}
 use Rattle.sig_core.specs.declared.portion.TheConstants.{PORTION}

@@ -35,10 +35,10 @@ use Rattle.lqh_block.specs.Work.{is_for}
 use Rattle.lqh_block.proofs.LqhForms.{AbortForms, CommitForms, CompleteForms, ExpireForms, GrantedForms, RequestForms}
 use Rattle.lqh_block.proofs.LqhForms.{is_for_rows, lqh_forms}
 use Rattle.key_laws.proofs.LocksAt.{lock-aged}
-use Rattle.host_laws.proofs.Focus.{taken_at, tally_taken}
+use Rattle.run_theory.proofs.Focus.{taken_at, tally_taken}
 use Rattle.host_laws.proofs.QueueWaits.{expired_queued, waits_aged}
-use Rattle.host_laws.proofs.Tally.{tally_append}
-use Rattle.host_laws.specs.Counts.{one_if, tally}
+use Rattle.run_theory.proofs.Tally.{tally_append}
+use Rattle.run_theory.specs.Counts.{one_if, tally}
 
 -- a request, or what answers it
 abbrev pub is_work : Body → Bool

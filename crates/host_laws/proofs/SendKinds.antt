@@ -17,7 +17,7 @@ use Rattle.sig_core.specs.declared.signal.host.HostSignal.TheVariants.{Continue}
 use Rattle.sig_core.specs.declared.signal.host.Work.TheVariants.{Granted, Expired, Transaction}
 use Rattle.sig_core.specs.Same.{same_tx}
 use Rattle.sig_core.specs.Step.{Step}
-use Rattle.host_laws.specs.Counts.{tally}
+use Rattle.run_theory.specs.Counts.{tally}
 
 -- what a coordinator sends of a transaction. Of no other one it reports the end
 abbrev pub is_tc_kind : TxId → Body → Bool

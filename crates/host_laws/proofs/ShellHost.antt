@@ -46,8 +46,8 @@ use Rattle.tc_block.proofs.TurnRows.{TcStep, tc_step, tx_in}
 use Rattle.host_laws.proofs.TcSends.{turn_sends}
 use Rattle.host_laws.proofs.Wishes.{and_false, dih_replies, dih_wishes, is_api, is_reply, is_tc, is_wish, lqh_replies, lqh_wishes, reply_of, sends_of, tc_replies, tc_wishes, to_node, wish_of}
 use Rattle.host_laws.specs.OpenedAfter.{opened_in}
-use Rattle.host_laws.proofs.Tally.{none_if}
-use Rattle.host_laws.specs.Counts.{one_if, tally}
+use Rattle.run_theory.proofs.Tally.{none_if}
+use Rattle.run_theory.specs.Counts.{one_if, tally}
 
 move_view : (s : ApiState) (body : Body) (after : View × List OpenTransaction) (sends : List Outgoing) → ApiMove s body after sends → after.0 ≡ s.view
 move_view s body after sends (rests is kind void) = ap (λ (a : View × List OpenTransaction). a.0) is

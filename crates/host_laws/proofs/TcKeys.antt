@@ -24,8 +24,8 @@ use Rattle.sig_core.proofs.Keys.{same_tx-self}
 use Rattle.tc_block.proofs.EachTurn.{AbortForms, CommittedForms, TurnForms, TurnFormsAt, rows_at}
 use Rattle.tc_block.proofs.TurnRows.{TcStep, begins, left_in, misses, passes, refuses, rests, takes, tc_step, turn_by, turn_row, tx_in, left_step}
 use Rattle.host_laws.proofs.SendKinds.{are_of, is_keyless, is_tc_kind, none_of}
-use Rattle.host_laws.proofs.Tally.{tally_between}
-use Rattle.host_laws.specs.Counts.{one_if, tally}
+use Rattle.run_theory.proofs.Tally.{tally_between}
+use Rattle.run_theory.specs.Counts.{one_if, tally}
 use Rattle.host_laws.proofs.TcKeyless.{is_answered, keyless_forms, late_keyless}
 use Rattle.host_laws.proofs.TcLives.{apart}
 use Rattle.host_laws.proofs.TcMoves.{same_tx-is}

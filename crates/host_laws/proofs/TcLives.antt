@@ -18,8 +18,8 @@ use Rattle.tc_block.specs.State.{TcState}
 use Rattle.tc_block.specs.Tc.{next_tx}
 use Rattle.host_laws.proofs.ApiBegins.{each_changed, each_less}
 use Rattle.host_laws.proofs.SendKinds.{are_of, is_tc_kind, none_of}
-use Rattle.host_laws.proofs.Tally.{tally_append, tally_between}
-use Rattle.host_laws.specs.Counts.{one_if, tally}
+use Rattle.run_theory.proofs.Tally.{tally_append, tally_between}
+use Rattle.run_theory.specs.Counts.{one_if, tally}
 use Rattle.host_laws.proofs.TcMoves.{TcMove, end_of, ends_in, forgets, is_end, is_still_kind, same_tx-is, starts, stays, turns}
 use Rattle.host_laws.proofs.Wishes.{and_false, is_api, sends_of, to_node}
 use Rattle.tc_block.specs.Phases.{is_completing}

@@ -22,7 +22,7 @@ use Rattle.tc_block.specs.Turn.{Turn, going}
 use Rattle.sig_core.proofs.Keys.{same_tx-self}
 use Rattle.tc_block.proofs.EachTurn.{CommittedForms, IsMissed, TurnFormsAt, may_ask, ready_is}
 use Rattle.host_laws.proofs.LqhOps.{is_good, is_node, left_of, ops, true_and}
-use Rattle.host_laws.specs.Counts.{one_if}
+use Rattle.run_theory.specs.Counts.{one_if}
 
 -- the unanswered operation is on the key
 abbrev pub asks_key : List ℕ → Option Asked → Bool

@@ -39,7 +39,7 @@ use Rattle.tc_block.specs.Turn.{Turn, asking, at_phase, going}
 use Rattle.sig_core.proofs.Keys.{same_tx-self}
 use Rattle.tc_block.proofs.EachTurn.{CommittedForms, IsMissed, TurnFormsAt, is_onward, ready_is}
 use Rattle.host_laws.proofs.LqhOps.{is_good, is_node, left_of, true_and}
-use Rattle.host_laws.specs.Counts.{one_if}
+use Rattle.run_theory.specs.Counts.{one_if}
 use Rattle.sig_core.specs.declared.portion.TheConstants.{PORTION}
 use Rattle.tc_block.specs.declared.sends.TheConstants.{SENDS}
 use Rattle.tc_block.specs.declared.touched.TheConstants.{KEYS}

@@ -20,7 +20,7 @@ use Rattle.tc_block.specs.Operate.{fresh}
 use Rattle.tc_block.specs.State.{TcState}
 use Rattle.sig_core.proofs.Keys.{same_tx-self}
 use Rattle.host_laws.proofs.SendKinds.{are_of, of_kind}
-use Rattle.host_laws.specs.Counts.{one_if, tally}
+use Rattle.run_theory.specs.Counts.{one_if, tally}
 use Rattle.host_laws.proofs.TcLives.{IsOwn, apart, insert_new, is_keyed}
 use Rattle.host_laws.proofs.TcTurns.{TurnMove, turn_at, turn_moves}
 use Rattle.host_laws.proofs.TurnKinds.{OwnKinds, TurnOnly, own_forms}
@@ -30,7 +30,7 @@ use Rattle.tc_block.specs.Turn.{Turn}
 use Rattle.tc_block.proofs.LiveSplit.{AreOthers}
 use Rattle.tc_block.proofs.TurnRows.{TcStep, begins, is_turn, left_in, misses, passes, refuses, rests, takes, tc_step, turn_row, tx_in}
 use Rattle.host_laws.proofs.OfLive.{each_found, of_here, of_other}
-use Rattle.host_laws.proofs.Tally.{tally_append, tally_between, tally_in, tally_none}
+use Rattle.run_theory.proofs.Tally.{tally_append, tally_between, tally_in, tally_none}
 use Rattle.host_laws.proofs.TcMoves.{same_tx-is}
 use Rattle.host_laws.specs.Live.{of_live}
 

@@ -18,7 +18,7 @@ use Rattle.tc_block.specs.Tc.{begin_if, begin_row, is_full, tc_table}
 use Rattle.host_laws.proofs.DihSends.{dih_kinds}
 use Rattle.host_laws.proofs.LqhSends.{lqh_kinds}
 use Rattle.host_laws.proofs.SendKinds.{is_dih_kind, is_lqh_kind, is_tc_kind, none_of}
-use Rattle.host_laws.specs.Counts.{one_if, tally}
+use Rattle.run_theory.specs.Counts.{one_if, tally}
 use Rattle.tc_block.proofs.TurnRows.{tx_in}
 use Rattle.host_laws.proofs.TcSends.{tc_kinds}
 use Rattle.sig_core.specs.Step.{Step}

@@ -1,5 +1,4 @@
 pub mod Causes
-pub mod Counts
 pub mod Kinds
 pub mod Live
 pub mod OpenedAfter

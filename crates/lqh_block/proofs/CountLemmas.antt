@@ -5,7 +5,7 @@ use Rattle.std.specs.Prelude.{Option, None, Some, is_some, remove, slice_get, sl
 use Rattle.std.specs.List.{count_by, list_any}
 use Rattle.std.proofs.lemmas.Bool.{and_parts}
 use Rattle.std.proofs.lemmas.Bool.Decides.{nat_tests}
-use Rattle.std.proofs.lemmas.List.Sums.{sum_by-cons, sum_by_push}
+use Rattle.std.proofs.lemmas.List.Sums.{sum_by-cons}
 use Rattle.sig_core.specs.declared.member.TxId.{TxId}
 use Rattle.sig_core.specs.declared.rows.PendingRecord.{PendingRecord}
 use Rattle.sig_core.specs.Rows.{committed}
@@ -20,11 +20,6 @@ use Rattle.lqh_block.proofs.IndexLemmas.{same}
 count-cons : (q : List ℕ) (r : PendingRecord) (pending : List PendingRecord)
     → count_by (is_on q) (r ∷ pending) ≡ cond (is_on q r) 1 0 + count_by (is_on q) pending
 count-cons q r pending = sum_by-cons (λ x. cond (is_on q x) 1 0) r pending
-
--- one more record
-pub count-push : (q : List ℕ) (r : PendingRecord) (pending : List PendingRecord)
-    → count_by (is_on q) (pending ++ r ∷ []) ≡ count_by (is_on q) pending + cond (same_key r.key q) 1 0
-count-push q r pending = sum_by_push (λ x. cond (is_on q x) 1 0) pending r
 
 -- no record is on a key exactly where their number is 0
 pub idle_count : (pending : List PendingRecord) (q : List ℕ) → is_idle pending q ≡ nat_eq (count_by (is_on q) pending) 0

@@ -295,12 +295,4 @@ module _ {S : Type 0} (index after : HashMap (List ℕ) KeyEntry S) (key : List 
           omega (arith, had, fewer)
       by false e = omega arith
 
--- a place with a record on its key isn't freed
-pub freed_busy : (places : List (Option Slot)) (at : ℕ) → freed_by places false (Some at) ≡ places
-freed_busy places at = by (row_in (slice_index_or places at None))
-  where
-    by : (row : Option (List ℕ)) → freed_if places at row false ≡ places
-    by None = refl
-    by (Some row) = refl
-
 pub ruleset places = (index_finds, index_counts)

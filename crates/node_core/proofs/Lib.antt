@@ -1,4 +1,5 @@
 pub mod DihAsks
+pub mod DihForms
 pub mod HostCases
 pub mod HostLemmas
 pub mod LqhAsks

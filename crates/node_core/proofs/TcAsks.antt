@@ -1,10 +1,11 @@
 -- The coordinator sends no request of the shell.
-use Rattle.std.proofs.Common.{◌≡◌, ℕ, List, [], ◌∷◌, ◌++◌, take, drop, length, Bool, true, false, refl}
+use Rattle.std.proofs.Common.{ℕ, List, take, drop, length, Bool, true, false, refl}
 use Rattle.std.specs.Prelude.{◌+◌, nat_lt}
 use Rattle.std.specs.List.{flat_map}
 use Rattle.run_theory.specs.Lists.{Each}
 use Rattle.run_theory.proofs.EachSent.{each_drop, each_flat, each_mapped, each_take}
 use Rattle.run_theory.proofs.Pasts.{each_append}
+use Rattle.sig_core.specs.declared.portion.TheConstants.{PORTION}
 use Rattle.sig_core.specs.declared.member.TxId.{TxId}
 use Rattle.sig_core.specs.declared.outcome.AbortCause.{AbortCause}
 use Rattle.sig_core.specs.declared.outs.Outgoing.{Outgoing}
@@ -35,11 +36,13 @@ module _ (node : ℕ) (layout : Layout) (tx : TxId) where
   rest_asks at true = (refl, tt)
   rest_asks at false = tt
 
-  part_asks : (sends : List Outgoing) (at : ℕ) → Each AsksNone sends → Each AsksNone (part_effects node tx sends at).sends
+  part_asks : (sends : List Outgoing) (at : ℕ) → Each AsksNone sends
+      → Each AsksNone (part_effects node tx sends at).sends
   unfolding part_effects
   part_asks sends at all =
-      each_append AsksNone (take 8 (drop at sends)) (rest_if node tx at (nat_lt (at + 8) (length sends)))
-      (each_take AsksNone 8 (drop at sends) (each_drop AsksNone at sends all)) (rest_asks at (nat_lt (at + 8) (length sends)))
+      each_append AsksNone (take PORTION (drop at sends)) (rest_if node tx at (nat_lt (at + PORTION) (length sends)))
+      (each_take AsksNone PORTION (drop at sends) (each_drop AsksNone at sends all))
+      (rest_asks at (nat_lt (at + PORTION) (length sends)))
 
   front_asks : (phase : Phase) → Each AsksNone (front_sends tx phase)
   unfolding front_sends
@@ -59,7 +62,8 @@ module _ (node : ℕ) (layout : Layout) (tx : TxId) where
   key_asks Verifying t = tt
   key_asks (Committing epoch awaited) t = (refl, tt)
   key_asks (Completing epoch awaited) t = complete_asks t t.written
-  key_asks (Aborting why verifying awaited) t = each_mapped AsksNone (abort_of tx t.key) (chain_of layout t.key) (λ r. refl)
+  key_asks (Aborting why verifying awaited) t =
+      each_mapped AsksNone (abort_of tx t.key) (chain_of layout t.key) (λ r. refl)
 
   phase_asks : (phase : Phase) (touched : List Touched) → Each AsksNone (phase_sends layout tx phase touched)
   unfolding phase_sends
@@ -87,7 +91,8 @@ module _ (node : ℕ) (layout : Layout) (tx : TxId) where
     goes_on = λ at. part_asks (phase_sends layout tx t.phase t.touched) at (phase_asks t.phase t.touched);
     operates = λ op is can. (refl, tt);
     answers = λ key answer asked is on at. (refl, tt);
-    late = λ key asked why verifying awaited on at. each_mapped AsksNone (abort_of tx key) (chain_of layout key) (λ r. refl);
+    late = λ key asked why verifying awaited on at. each_mapped AsksNone (abort_of tx key) (chain_of layout key)
+        (λ r. refl);
     waits = λ asked on. each_mapped AsksNone (wait_of tx (key_of asked.op)) asked.chain (λ r. refl);
     decides = λ is ready. (refl, tt);
     commits = λ epoch is at some. enters t _;

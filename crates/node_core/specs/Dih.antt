@@ -1,6 +1,5 @@
 -- Epochs, signal by signal.
 use Rattle.std.specs.Prelude.{ℕ, Bool, true, false, nat_lt, List, [], ◌∷◌, ◌++◌, length, position, remove, Option, None, Some}
-use Rattle.node_core.specs.declared.dih.TheConstants.{TRANSACTIONS}
 use Rattle.sig_core.specs.declared.mark.Mark.TheVariants.{Decided}
 use Rattle.sig_core.specs.declared.member.TxId.{TxId}
 use Rattle.sig_core.specs.declared.signal.Body.{Body}
@@ -10,6 +9,7 @@ use Rattle.sig_core.specs.declared.signal.epoch.EpochSignal.TheVariants.{DiVerif
 use Rattle.sig_core.specs.Place.{coordinator}
 use Rattle.sig_core.specs.Same.{same_tx}
 use Rattle.sig_core.specs.Step.{Step, nothing, and_send, and_mark, stay}
+use Rattle.tc_block.specs.declared.tc.TheConstants.{TRANSACTIONS}
 
 -- the block of a node, with the current epoch, and the transactions that have an epoch and haven't ended
 pub record DihState : Type 0 where
@@ -21,7 +21,7 @@ pub record DihState : Type 0 where
 abbrev pub fresh_dih : ℕ → ℕ → DihState
 fresh_dih node epoch = record { node = node; epoch = epoch; counted = [] }
 
--- a transaction is decided, in the current epoch, unless 64 are counted
+-- a transaction is decided, in the current epoch, unless as many are counted as a coordinator keeps
 abbrev pub decide_if : DihState → TxId → Bool → Step DihState
 decide_if s tx true =
     record {

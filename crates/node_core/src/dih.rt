@@ -7,9 +7,7 @@ ghost use Rattle.node_core.specs.Dih.{decide_row, end_row, fresh_dih};
 use sig_core::{Actor, Body, EpochSignal, Mark, NoMemory, Outs, Signal, TxId, View, coordinator};
 use std::alloc::Global;
 use std::marker::Model;
-
-/// How many transactions are counted at most: as many as a coordinator keeps.
-const TRANSACTIONS: usize = 64;
+use tc_block::TRANSACTIONS;
 
 /// The block of a node that gives epochs (DBDIH).
 #[derive(Drop)]
@@ -17,7 +15,7 @@ pub struct Dih {
     node: u8,
     /// The current epoch.
     epoch: u64,
-    /// The transactions that have an epoch and haven't ended.
+    /// The transactions that have an epoch and haven't ended: at most as many as a coordinator keeps.
     counted: Vec<TxId>,
 }
 
@@ -25,7 +23,7 @@ impl Model for Dih {
     ghost use Rattle.std.specs.Prelude.{◌≤◌, length};
     ghost use Rattle.std.specs.Vec.{vec_capacity};
     ghost use Rattle.node_core.specs.Dih.{DihState};
-    ghost use Rattle.node_core.specs.declared.dih.TheConstants.{TRANSACTIONS};
+    ghost use Rattle.tc_block.specs.declared.tc.TheConstants.{TRANSACTIONS};
 
     ghost Value = { DihState };
 

@@ -1,25 +1,6 @@
 -- Lists of members that are made member by member.
-use Rattle.std.proofs.Common.{◌≡◌, ◌≤◌, ◌<◌, ◌+◌, ℕ, zero, suc, Bool, true, false, List, [], ◌∷◌, ◌++◌, take, drop, length, get_or, refl, ap, sym, ◌∙◌, append_assoc, arith}
-use Rattle.std.specs.Prelude.{filter}
-use Rattle.std.proofs.lemmas.List.{append-nil, drop_all, drop_more, length-take, take_all, take-append-le}
-
--- of the items that pass the test one more moves from what is left to what is there
-pub filter_passed : {X : Type 0} (p : X → Bool) (now items : List X) (at : ℕ) (d : X) → at < length items
-    → p (get_or items at d) ≡ true
-    → (now ++ get_or items at d ∷ []) ++ filter p (drop (at + 1) items) ≡ now ++ filter p (drop at items)
-filter_passed p now items at d inside is =
-    rw (drop_more items at d inside)
-    (rw is (append_assoc now (get_or items at d ∷ []) (filter p (drop (at + 1) items))))
-
--- one that doesn't pass is left out
-pub filter_left : {X : Type 0} (p : X → Bool) (items : List X) (at : ℕ) (d : X) → at < length items
-    → p (get_or items at d) ≡ false → filter p (drop (at + 1) items) ≡ filter p (drop at items)
-filter_left p items at d inside is = rw (drop_more items at d inside) (rw is refl)
-
--- at the end of the items all are there
-pub filter_over : {X : Type 0} (p : X → Bool) (now items : List X) (at : ℕ) → length items ≤ at
-    → now ≡ now ++ filter p (drop at items)
-filter_over p now items at past = rw (drop_all at items past, append-nil now) refl
+use Rattle.std.proofs.Common.{◌≡◌, ◌≤◌, ℕ, zero, suc, List, [], ◌∷◌, ◌++◌, take, length, refl, ap, ◌∙◌, append_assoc, arith}
+use Rattle.std.proofs.lemmas.List.{append-nil, length-take, take_all, take-append-le}
 
 pub ruleset filters = (append_assoc, append-nil)
 

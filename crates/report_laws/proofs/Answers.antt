@@ -1,5 +1,6 @@
 -- The answers that the client was given for a transaction are those of its entry.
-use Rattle.std.proofs.Common.{◌≡◌, ◌≤◌, ℕ, Bool, true, false, ◌||◌, List, [], ◌∷◌, ◌++◌, length, map, reverse, refl, sym, ap, ◌∙◌, subst, inl, inr, arith}
+use Rattle.std.proofs.Common.{◌≡◌, ◌≤◌, ℕ, Bool, true, false, ◌||◌, List, [], ◌∷◌, ◌++◌, length, map, reverse, refl}
+use Rattle.std.proofs.Common.{sym, ap, ◌∙◌, subst, inl, inr, arith}
 use Rattle.std.specs.List.{list_any}
 use Rattle.std.specs.Prelude.{if◌then◌else◌}
 use Rattle.run_theory.specs.Links.{sent}
@@ -30,7 +31,8 @@ use Rattle.lqh_block.specs.Lqh.{lqh_table}
 use Rattle.lqh_block.specs.State.{LqhState}
 use Rattle.node_core.proofs.HostCases.{each_mark}
 use Rattle.node_core.specs.Blocks.{api_of, dih_of, has_api, lqh_of, tc_of}
-use Rattle.node_core.specs.Dih.{DihState, decide_if, decide_row, dih_table}
+use Rattle.node_core.specs.Dih.{DihState, dih_table}
+use Rattle.node_core.proofs.DihForms.{dih_marks_each}
 use Rattle.node_core.specs.declared.host.Host as host
 use Rattle.node_core.specs.Row.{row}
 use Rattle.tc_block.specs.State.{TcState}
@@ -45,7 +47,7 @@ use Rattle.world_core.specs.Steps.{Addressed, HostStep}
 use Rattle.host_laws.proofs.HostMarks.{AreMarks, decides, plain}
 use Rattle.host_laws.proofs.TcMarks.{tc_marks}
 use Rattle.host_laws.specs.Causes.{is_decision}
-use Rattle.host_laws.specs.Counts.{tally}
+use Rattle.run_theory.specs.Counts.{tally}
 use Rattle.host_laws.specs.Kinds.{kind_of}
 use Rattle.host_laws.specs.Kinds as kind
 use Rattle.host_laws.specs.OpenedAfter.{opened_in}
@@ -58,7 +60,8 @@ use Rattle.run_laws.proofs.EachEntry.{each_entry}
 use Rattle.run_laws.proofs.Epochs.{plain_entries, step_marks}
 use Rattle.run_laws.proofs.Transit.{along_transit}
 use Rattle.run_laws.proofs.TransitRuns.{runs_have_transit}
-use Rattle.report_laws.specs.Answered.{GivenAreOfEntries, ReportedAreGiven, answers_among, answers_of, given, is_answered, new_replies}
+use Rattle.report_laws.specs.Answered.{GivenAreOfEntries, ReportedAreGiven, answers_among, answers_of, given}
+use Rattle.report_laws.specs.Answered.{is_answered, new_replies}
 use Rattle.report_laws.specs.Reported.{is_ended}
 use Rattle.report_laws.proofs.Committed.{all_told}
 use Rattle.report_laws.proofs.Confs.{conf_counts, heard, heard_past, newest, newest_is, said}
@@ -216,17 +219,9 @@ module _ (tx : TxId) (s : host.Host) where
   none_there : (m : Mark) → is_ended tx m ≡ false → IsThere m
   none_there m off own = absurd (let both : true ≡ false = sym own ∙ off in cc)
 
-  decide_there : (d : DihState) (one : TxId) → Each IsThere (decide_row d one).effects.marks
-  unfolding decide_row
-  decide_there d one = by _
-    where
-      by : (b : Bool) → Each IsThere (decide_if d one b).effects.marks
-      by true = (none_there (mark.Decided one d.epoch) refl, tt)
-      by false = tt
-
   dih_there : (d : DihState) (body : Body) → Each IsThere (dih_table d body).effects.marks
-  dih_there d (Epoch (DiVerifyReq one ops)) = decide_there d one
-  dih_there d _ = tt
+  dih_there d body =
+      dih_marks_each IsThere d body (λ one ops is. none_there (mark.Decided one d.epoch) refl)
 
   tc_there : (t : TcState) (body : Body) → Each IsThere (tc_table t body).effects.marks
   tc_there t body = subst (Each IsThere) (sym (tc_marks t body)) tt

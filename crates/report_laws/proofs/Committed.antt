@@ -1,8 +1,9 @@
 -- What is reported committed was decided in that epoch, and applied where it writes; so the history has it.
-use Rattle.std.proofs.Common.{◌≡◌, ◌≢◌, ◌⊎◌, ◌<◌, ℕ, Bool, true, false, ◌||◌, List, [], ◌∷◌, length, refl, sym, ap, ◌∙◌, subst, inl, inr, arith}
+use Rattle.std.proofs.Common.{◌≡◌, ◌≢◌, ◌⊎◌, ◌<◌, ℕ, Bool, true, false, ◌||◌, List, [], ◌∷◌, refl, sym, ap, ◌∙◌, subst}
+use Rattle.std.proofs.Common.{inl, inr, arith}
 use Rattle.std.proofs.lemmas.Bool.{cases_eq}
 use Rattle.std.specs.List.{list_any}
-use Rattle.std.specs.Prelude.{nat_lt, None, Some}
+use Rattle.std.specs.Prelude.{None, Some}
 use Rattle.run_theory.specs.Lists.{Each, IsIn}
 use Rattle.run_theory.proofs.Orders.{each_next}
 use Rattle.run_theory.proofs.Pasts.{each_in, each_map}
@@ -21,9 +22,11 @@ use Rattle.sig_core.specs.Same.{same_tx}
 use Rattle.sig_core.specs.Step.{Effects, Step}
 use Rattle.sig_core.proofs.Keys.{same_tx-self}
 use Rattle.sig_core.proofs.TxLemmas.{same_tx-is}
-use Rattle.node_core.proofs.HostCases.{BlockCase, IsDihStep, IsTcStep, api_takes, block_case, dih_takes, none_takes, rows_take, tc_takes}
+use Rattle.node_core.proofs.HostCases.{BlockCase, IsDihStep, IsTcStep, api_takes, block_case, dih_takes, none_takes}
+use Rattle.node_core.proofs.HostCases.{rows_take, tc_takes}
 use Rattle.node_core.specs.Blocks.{api_of, dih_of, lqh_of, tc_of}
-use Rattle.node_core.specs.Dih.{DihState, decide_if, decide_row, dih_table}
+use Rattle.node_core.specs.Dih.{DihState, dih_table}
+use Rattle.node_core.proofs.DihForms.{dih_forms}
 use Rattle.node_core.specs.declared.host.Host.{Host}
 use Rattle.node_core.specs.Row.{row}
 use Rattle.tc_block.specs.declared.transaction.Transaction.{Transaction}
@@ -50,7 +53,7 @@ use Rattle.run_laws.proofs.Transit.{along_transit}
 use Rattle.run_laws.proofs.TxSteps.{next_number, number_rises}
 use Rattle.tc_block.proofs.TurnRows.{turn_for}
 use Rattle.host_laws.proofs.TcSteps.{left_of_turn}
-use Rattle.run_laws.proofs.TxTurns.{TcTurn, is_for, tc_turn}
+use Rattle.run_laws.proofs.TxTurns.{TcTurn, tc_turn}
 use Rattle.run_laws.proofs.TxTurns as turn
 use Rattle.run_laws.proofs.Weighing.{each_between, each_joins}
 use Rattle.report_laws.proofs.Facts.{AllTold, IsGranted, IsShut, LiveTells, MarkTells, Tells, mute_tells}
@@ -176,23 +179,19 @@ module _ (start : Start) (tx : TxId) where
             (ap (list_any (is_decision tx)) own ∙ itself (same_tx tx tx) (same_tx-self tx))
 
     module _ (shut : (os : List (Op × Answer)) → IsShut start tx old os → IsShut start tx now os) where
-      decide_tells : (s : DihState) (one : TxId) (ops : List (Op × Answer)) (b : Bool)
-          → e.step.taken.body ≡ Epoch (DiVerifyReq one ops) → e.step.marks ≡ (decide_if s one b).effects.marks
-          → Each (λ (o : Outgoing). Tells start tx now o.body) (decide_if s one b).effects.sends
-      decide_tells s one ops true is marks = ((λ same. decides one ops s.epoch is marks shut same), tt)
-      decide_tells s one ops false is marks = tt
-
-      row_tells : (s : DihState) (one : TxId) (ops : List (Op × Answer)) → e.step.taken.body ≡ Epoch
-          (DiVerifyReq one ops) → e.step.marks ≡ (decide_row s one).effects.marks
-          → Each (λ (o : Outgoing). Tells start tx now o.body) (decide_row s one).effects.sends
-      unfolding decide_row
-      row_tells s one ops is marks = decide_tells s one ops (nat_lt (length s.counted) 64) is marks
-
       dih_tells : (s : DihState) (body : Body) → e.step.taken.body ≡ body
-          → e.step.marks ≡ (dih_table s body).effects.marks → Each (λ (o : Outgoing). Tells start tx now o.body)
-          (dih_table s body).effects.sends
-      dih_tells s (Epoch (DiVerifyReq one ops)) is marks = row_tells s one ops is marks
-      dih_tells s _ is marks = tt
+          → e.step.marks ≡ (dih_table s body).effects.marks
+          → Each (λ (o : Outgoing). Tells start tx now o.body) (dih_table s body).effects.sends
+      dih_tells s =
+          dih_forms (λ body step. e.step.taken.body ≡ body → e.step.marks ≡ step.effects.marks
+          → Each (λ (o : Outgoing). Tells start tx now o.body) step.effects.sends) s
+          (record {
+            decides = λ one ops low is marks. ((λ same. decides one ops s.epoch is marks shut same), tt);
+            is_full = λ one ops high is marks. tt;
+            ends = λ one at there is marks. tt;
+            misses = λ one none is marks. tt;
+            rests = λ body off is marks. tt;
+          })
 
     of_dih : IsDihStep g e.step.taken then_is → Leaves
     of_dih step =
@@ -263,7 +262,8 @@ module _ (start : Start) (tx : TxId) where
             live_was : live_at start old tx ≡ Some t
             live_was = ap (of_host tx) (here_was start es e come tx same) ∙ was
 
-            left_now : live_at start now tx ≡ left_of_turn (turn_for (tc_of g).node (tc_of g).layout tx e.step.taken.body t)
+            left_now : live_at start now tx ≡ left_of_turn
+                (turn_for (tc_of g).node (tc_of g).layout tx e.step.taken.body t)
             left_now = ap (of_host tx) (here_now start es e come tx same) ∙ (live_is ∙ left)
 
             keyed : IsTouchedRightly t

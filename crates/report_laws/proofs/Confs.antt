@@ -23,7 +23,7 @@ use Rattle.world_core.specs.Steps.{Addressed, HostStep}
 use Rattle.host_laws.proofs.LinkCounts.{at_shell, signals}
 use Rattle.host_laws.proofs.TcKeys.{is_answer}
 use Rattle.host_laws.proofs.Wishes.{is_api}
-use Rattle.host_laws.specs.Counts.{one_if}
+use Rattle.run_theory.specs.Counts.{one_if}
 use Rattle.run_laws.proofs.AlongSteps.{link}
 
 -- the answer of the transaction that the signal tells the client

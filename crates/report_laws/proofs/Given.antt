@@ -39,7 +39,7 @@ use Rattle.host_laws.proofs.ShellHost.{opened_next, shell_after, shell_sends}
 use Rattle.host_laws.proofs.TcKeys.{answer_of, is_answer, is_key}
 use Rattle.host_laws.proofs.TcLives.{is_start, start_of}
 use Rattle.host_laws.proofs.Wishes.{is_api, sends_of}
-use Rattle.host_laws.specs.Counts.{one_if, tally}
+use Rattle.run_theory.specs.Counts.{one_if, tally}
 use Rattle.host_laws.specs.OpenedAfter.{opened_in}
 use Rattle.answer_laws.specs.Answered.{is_operating}
 use Rattle.answer_laws.proofs.ApiEntries.{is_commit_req, of_opened, opened_at}

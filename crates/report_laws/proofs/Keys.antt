@@ -36,7 +36,7 @@ use Rattle.host_laws.proofs.LinkCounts.{signals}
 use Rattle.host_laws.proofs.ShellHost.{shell_after, shell_sends}
 use Rattle.host_laws.proofs.TcKeys.{is_key}
 use Rattle.host_laws.proofs.Wishes.{is_tc}
-use Rattle.host_laws.specs.Counts.{one_if}
+use Rattle.run_theory.specs.Counts.{one_if}
 use Rattle.run_laws.proofs.AlongSteps.{link}
 use Rattle.report_laws.specs.Asked.{asked, asked_by, asked_in}
 

@@ -1,5 +1,6 @@
 -- The end of a transaction is reported once: by then the API has it no more, and it begins but once.
-use Rattle.std.proofs.Common.{◌≡◌, ◌≢◌, ◌⊎◌, ◌≤◌, ◌+◌, ℕ, zero, suc, Bool, true, false, List, [], ◌∷◌, refl, sym, ap, ◌∙◌, subst, inl, inr, arith}
+use Rattle.std.proofs.Common.{◌≡◌, ◌≢◌, ◌⊎◌, ◌≤◌, ◌+◌, ℕ, zero, suc, Bool, true, false, List, [], ◌∷◌, refl, sym, ap}
+use Rattle.std.proofs.Common.{◌∙◌, subst, inl, inr, arith}
 use Rattle.std.specs.Prelude.{◌&&◌, remove}
 use Rattle.std.proofs.lemmas.Bool.{false≢true}
 use Rattle.run_theory.specs.Lists.{Each}
@@ -10,9 +11,8 @@ use Rattle.sig_core.specs.declared.place.BlockId.{BlockId}
 use Rattle.sig_core.specs.declared.place.BlockId.TheVariants as block
 use Rattle.sig_core.specs.declared.request.ApiReq.{ApiReq}
 use Rattle.sig_core.specs.declared.signal.Body.{Body}
-use Rattle.sig_core.specs.declared.signal.Body.TheVariants.{Host, Epoch}
+use Rattle.sig_core.specs.declared.signal.Body.TheVariants.{Host}
 use Rattle.sig_core.specs.declared.signal.Signal.{Signal}
-use Rattle.sig_core.specs.declared.signal.epoch.EpochSignal.TheVariants.{DiVerifyReq}
 use Rattle.sig_core.specs.declared.signal.host.HostSignal.TheVariants.{Continue}
 use Rattle.sig_core.specs.declared.signal.host.Work.TheVariants as work
 use Rattle.sig_core.specs.Same.{same_tx}
@@ -26,22 +26,23 @@ use Rattle.lqh_block.specs.Lqh.{lqh_table}
 use Rattle.lqh_block.specs.State.{LqhState}
 use Rattle.node_core.proofs.HostCases.{each_mark}
 use Rattle.node_core.specs.Blocks.{dih_of, has_api, lqh_of, tc_of}
-use Rattle.node_core.specs.Dih.{DihState, decide_if, decide_row, dih_table}
+use Rattle.node_core.specs.Dih.{DihState, dih_table}
+use Rattle.node_core.proofs.DihForms.{dih_marks_each}
 use Rattle.node_core.specs.declared.host.Host as host
 use Rattle.node_core.specs.Row.{row, shell_row}
 use Rattle.tc_block.specs.State.{TcState}
 use Rattle.tc_block.specs.Tc.{tc_table}
-use Rattle.host_laws.proofs.ApiTurns.{ApiRequestForms, ApiSignalForms, api_turns}
+use Rattle.api_block.proofs.ApiTurns.{ApiRequestForms, ApiSignalForms, api_turns}
 use Rattle.host_laws.proofs.ApiHolds.{shell_holds}
 use Rattle.host_laws.proofs.BlocksAlong.{no_api}
-use Rattle.host_laws.proofs.Focus.{IsFocus}
+use Rattle.run_theory.proofs.Focus.{IsFocus}
 use Rattle.host_laws.proofs.LinkCounts.{steps}
 use Rattle.host_laws.proofs.ShellHost.{opened_first, opened_next, shell_after}
-use Rattle.host_laws.proofs.Tally.{tally_between, tally_none}
+use Rattle.run_theory.proofs.Tally.{tally_between, tally_none}
 use Rattle.host_laws.proofs.TcLives.{is_start, start_of}
 use Rattle.host_laws.proofs.TcMarks.{tc_marks}
 use Rattle.host_laws.proofs.Wishes.{is_api}
-use Rattle.host_laws.specs.Counts.{one_if, tally, total}
+use Rattle.run_theory.specs.Counts.{one_if, tally, total}
 use Rattle.host_laws.specs.OpenedAfter.{opened_in}
 use Rattle.world_core.specs.Hosts.{hosts}
 use Rattle.world_core.specs.Machine.{after, machine, step_after}
@@ -156,19 +157,9 @@ module _ (tx : TxId) where
         by grows (inr spends) held = omega (arith, spends, held, was, now, marks)
 
     -- no other host reports
-    decide_none : (s : DihState) (one : TxId) → Each (λ (m : Mark). is_ended tx m ≡ false)
-        (decide_row s one).effects.marks
-    unfolding decide_row
-    decide_none s one = by _
-      where
-        by : (b : Bool) → Each (λ (m : Mark). is_ended tx m ≡ false) (decide_if s one b).effects.marks
-        by true = (refl, tt)
-        by false = tt
-
-    dih_none : (s : DihState) (body : Body) → Each (λ (m : Mark). is_ended tx m ≡ false)
-        (dih_table s body).effects.marks
-    dih_none s (Epoch (DiVerifyReq one ops)) = decide_none s one
-    dih_none s _ = tt
+    dih_none : (s : DihState) (body : Body)
+        → Each (λ (m : Mark). is_ended tx m ≡ false) (dih_table s body).effects.marks
+    dih_none s body = dih_marks_each (λ (m : Mark). is_ended tx m ≡ false) s body (λ one ops is. refl)
 
     tc_none : (s : TcState) (body : Body) → Each (λ (m : Mark). is_ended tx m ≡ false) (tc_table s body).effects.marks
     tc_none s body = subst (Each (λ (m : Mark). is_ended tx m ≡ false)) (sym (tc_marks s body)) tt

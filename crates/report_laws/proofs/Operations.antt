@@ -59,7 +59,7 @@ use Rattle.host_laws.proofs.TcKeys.{is_answer, is_key, key_of_tx}
 use Rattle.host_laws.proofs.TcLives.{IsOwn, is_start}
 use Rattle.host_laws.proofs.TcWays.{not_both}
 use Rattle.host_laws.proofs.Wishes.{is_tc, sends_of, to_node}
-use Rattle.host_laws.specs.Counts.{one_if}
+use Rattle.run_theory.specs.Counts.{one_if}
 use Rattle.answer_laws.proofs.Asks.{host_silent, plain_key}
 use Rattle.answer_laws.proofs.Heard.{IsHeard, all_heard}
 use Rattle.answer_laws.proofs.Strangers.{keys_few, starts_few}

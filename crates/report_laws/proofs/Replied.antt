@@ -22,11 +22,11 @@ use Rattle.api_block.specs.declared.opened.Doing.TheVariants.{Beginning, Committ
 use Rattle.api_block.specs.declared.opened.OpenTransaction.{OpenTransaction}
 use Rattle.api_block.specs.Opened.{has_tx}
 use Rattle.api_block.specs.State.{ApiState}
-use Rattle.host_laws.proofs.ApiTurns.{ApiRequestForms, ApiSignalForms, IsStray, api_turns}
-use Rattle.host_laws.proofs.Focus.{IsFocus}
-use Rattle.host_laws.proofs.Tally.{tally_between}
+use Rattle.api_block.proofs.ApiTurns.{ApiRequestForms, ApiSignalForms, IsStray, api_turns}
+use Rattle.run_theory.proofs.Focus.{IsFocus}
+use Rattle.run_theory.proofs.Tally.{tally_between}
 use Rattle.host_laws.proofs.TcKeys.{answer_of}
-use Rattle.host_laws.specs.Counts.{one_if, tally}
+use Rattle.run_theory.specs.Counts.{one_if, tally}
 use Rattle.answer_laws.specs.Answered.{is_operating}
 use Rattle.report_laws.specs.Reported.{is_ended}
 

@@ -1,24 +1,22 @@
 -- Who marks what as reported: the API, at the signal that tells it so.
-use Rattle.std.proofs.Common.{◌≡◌, ◌⊎◌, ℕ, zero, suc, Bool, true, false, List, [], ◌∷◌, sym, subst, inl, inr}
+use Rattle.std.proofs.Common.{◌≡◌, ◌⊎◌, ℕ, zero, suc, Bool, true, List, [], ◌∷◌, sym, subst, inl, inr}
 use Rattle.std.proofs.lemmas.Bool.{or_cases}
 use Rattle.std.specs.List.{list_any}
-use Rattle.std.specs.Prelude.{length, nat_lt}
 use Rattle.run_theory.specs.Lists.{Each}
 use Rattle.sig_core.specs.declared.mark.Mark.{Mark}
 use Rattle.sig_core.specs.declared.mark.Mark.TheVariants.{Reported}
-use Rattle.sig_core.specs.declared.member.TxId.{TxId}
 use Rattle.sig_core.specs.declared.outcome.Outcome.TheVariants as outcome
 use Rattle.sig_core.specs.declared.signal.Body.{Body}
-use Rattle.sig_core.specs.declared.signal.Body.TheVariants.{Client, Epoch}
+use Rattle.sig_core.specs.declared.signal.Body.TheVariants.{Client}
 use Rattle.sig_core.specs.declared.signal.Signal.{Signal}
 use Rattle.sig_core.specs.declared.signal.client.ClientSignal.TheVariants.{TcCommitConf, TcRollbackRep}
-use Rattle.sig_core.specs.declared.signal.epoch.EpochSignal.TheVariants.{DiVerifyReq}
 use Rattle.api_block.specs.Api.{api_table}
 use Rattle.api_block.specs.State.{ApiState}
 use Rattle.lqh_block.specs.Lqh.{lqh_table}
 use Rattle.lqh_block.specs.State.{LqhState}
 use Rattle.node_core.specs.Blocks.{api_of, dih_of, lqh_of, tc_of}
-use Rattle.node_core.specs.Dih.{DihState, decide_if, decide_row, dih_table}
+use Rattle.node_core.specs.Dih.{DihState, dih_table}
+use Rattle.node_core.proofs.DihForms.{dih_marks_each}
 use Rattle.node_core.specs.declared.host.Host.{Host}
 use Rattle.node_core.specs.Row.{row}
 use Rattle.tc_block.specs.State.{TcState}
@@ -52,17 +50,8 @@ rows_report s body =
       expired = λ tx key. tt;
     })
 
-decide_reports : (body : Body) (s : DihState) (tx : TxId) → Each (IsReportOf body) (decide_row s tx).effects.marks
-unfolding decide_row
-decide_reports body s tx = by (nat_lt (length s.counted) 64)
-  where
-    by : (b : Bool) → Each (IsReportOf body) (decide_if s tx b).effects.marks
-    by true = (tt, tt)
-    by false = tt
-
 dih_reports : (s : DihState) (body : Body) → Each (IsReportOf body) (dih_table s body).effects.marks
-dih_reports s (Epoch (DiVerifyReq tx ops)) = decide_reports (Epoch (DiVerifyReq tx ops)) s tx
-dih_reports s _ = tt
+dih_reports s body = dih_marks_each (IsReportOf body) s body (λ tx ops is. tt)
 
 pub step_reports : (s : Host) (x : Signal) → Each (IsReportOf x.body) (row s x).effects.marks
 step_reports s x =

@@ -19,8 +19,10 @@ use Rattle.sig_core.specs.declared.signal.client.ClientSignal.TheVariants.{TcKey
 use Rattle.sig_core.specs.declared.signal.host.HostSignal.TheVariants.{Continue}
 use Rattle.sig_core.specs.declared.signal.host.Work.TheVariants as work
 use Rattle.sig_core.specs.Step.{Step}
+use Rattle.api_block.specs.declared.operate.TheConstants.{OPERATIONS}
 use Rattle.api_block.specs.Api.{api_table, request_row}
-use Rattle.api_block.specs.Commands.{abort_by, abort_row, begin_at, begin_if, begin_row, commit_by, commit_row, dump_if, dump_row, node_for, tick_row, ticked_if}
+use Rattle.api_block.specs.Commands.{abort_by, abort_row, begin_at, begin_if, begin_row, commit_by, commit_row, dump_if}
+use Rattle.api_block.specs.Commands.{dump_row, node_for, tick_row, ticked_if}
 use Rattle.api_block.specs.declared.members.News.TheVariants as news
 use Rattle.api_block.specs.declared.opened.Doing.{Doing}
 use Rattle.api_block.specs.declared.opened.Doing.TheVariants.{Beginning, Committing, Operating, Ready}
@@ -36,7 +38,7 @@ use Rattle.world_core.specs.Requests.{request_in}
 use Rattle.world_core.specs.Start.{Start}
 use Rattle.world_core.specs.Steps.{HostStep}
 use Rattle.host_laws.proofs.ApiBegins.{each_at, each_changed, each_less}
-use Rattle.host_laws.proofs.ApiTurns.{ApiSignalForms, signal_turns}
+use Rattle.api_block.proofs.ApiTurns.{ApiSignalForms, signal_turns}
 use Rattle.host_laws.proofs.ShellHost.{opened_first, opened_next, shell_after, shell_sends}
 use Rattle.host_laws.specs.OpenedAfter.{opened_in}
 use Rattle.report_laws.specs.Requested.{AskedAreRequested, AsksAsRequested, IsRequested, alone, by_name}
@@ -105,7 +107,8 @@ module _ (Q : Op → Type 0) where
 
     operate_by_fine : (name : ℕ) (op : Op) (at : ℕ) (t : OpenTransaction) → P op → (doing : Doing) (tx : Option TxId)
         → Fine P (operate_by s name op at t doing tx)
-    operate_by_fine name op at t own Ready (Some tx) = operate_if_fine name op at t tx own (nat_lt t.operations 64)
+    operate_by_fine name op at t own Ready (Some tx) =
+        operate_if_fine name op at t tx own (nat_lt t.operations OPERATIONS)
     operate_by_fine name op at t own Ready None = still _ refl tt
     operate_by_fine name op at t own (Beginning with) tx = still _ refl tt
     operate_by_fine name op at t own Operating tx = still _ refl tt

@@ -67,7 +67,7 @@ use Rattle.host_laws.proofs.TcLives.{IsOwn, apart}
 use Rattle.host_laws.proofs.TcWays.{not_both}
 use Rattle.host_laws.proofs.TurnKinds.{OwnKinds, TurnOnly, own_kinds}
 use Rattle.host_laws.proofs.Wishes.{is_api, is_tc}
-use Rattle.host_laws.specs.Counts.{one_if}
+use Rattle.run_theory.specs.Counts.{one_if}
 use Rattle.answer_laws.proofs.ApiEntries.{is_commit_req}
 use Rattle.host_laws.specs.Live.{of_live}
 use Rattle.run_laws.specs.Live.{live_at, of_host}

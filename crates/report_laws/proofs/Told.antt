@@ -23,7 +23,7 @@ use Rattle.node_core.specs.Row.{row, shell_row}
 use Rattle.world_core.specs.Machine.{machine, step_after}
 use Rattle.world_core.specs.Start.{Start}
 use Rattle.world_core.specs.Steps.{HostStep}
-use Rattle.host_laws.proofs.ApiTurns.{ApiRequestForms, ApiSignalForms, api_turns}
+use Rattle.api_block.proofs.ApiTurns.{ApiRequestForms, ApiSignalForms, api_turns}
 use Rattle.host_laws.proofs.ShellHost.{shell_after}
 use Rattle.report_laws.specs.Answered.{answers_among, new_replies}
 use Rattle.report_laws.specs.Told.{AnswersAreHeard, OutcomesAreMarked, answer_in, outcomes_marked, outcomes_told}

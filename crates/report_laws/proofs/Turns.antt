@@ -42,7 +42,7 @@ use Rattle.world_core.specs.Steps.{Addressed, HostStep}
 use Rattle.host_laws.proofs.PhaseSends.{HasChains, entering_of_kind, rest_of_kind}
 use Rattle.host_laws.proofs.SendKinds.{are_of, each_of, one_kind}
 use Rattle.host_laws.proofs.TcWays.{not_both}
-use Rattle.host_laws.specs.Counts.{one_if}
+use Rattle.run_theory.specs.Counts.{one_if}
 use Rattle.serial_laws.proofs.Parts.{mark_all}
 use Rattle.serial_laws.proofs.ReplicaHosts.{primary_is}
 use Rattle.run_laws.specs.Circle.{IsSettled, at_host, at_primary}

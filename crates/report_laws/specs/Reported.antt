@@ -16,7 +16,7 @@ use Rattle.world_core.specs.Machine.{machine}
 use Rattle.world_core.specs.Marks.{have_mark}
 use Rattle.world_core.specs.Start.{Start}
 use Rattle.world_core.specs.Steps.{HostStep}
-use Rattle.host_laws.specs.Counts.{tally, total}
+use Rattle.run_theory.specs.Counts.{tally, total}
 
 -- the end of the transaction was reported, whichever it is
 abbrev pub is_ended : TxId → Mark → Bool

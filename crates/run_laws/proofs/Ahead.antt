@@ -14,6 +14,7 @@ use Rattle.sig_core.specs.declared.signal.host.HostSignal.TheVariants.{Continue}
 use Rattle.sig_core.specs.declared.signal.host.Work.TheVariants as work
 use Rattle.frag_map.specs.Layout.{Layout}
 use Rattle.sig_core.specs.Op.{key_of}
+use Rattle.tc_block.specs.declared.sends.TheConstants.{SENDS}
 use Rattle.tc_block.specs.declared.phase.Asked.{Asked}
 use Rattle.tc_block.specs.declared.phase.Phase.{Phase}
 use Rattle.tc_block.specs.declared.phase.Phase.TheVariants.{Open, Verifying, Committing, Completing}
@@ -37,7 +38,7 @@ pub data FromCommitting (node : ℕ) (layout : Layout) (tx : TxId) (t : Transact
   rests : turn.over ≡ false → turn.step.state ≡ t → AreSilent tx turn.step.effects.sends → is_next tx body ≡ false
       → FromCommitting node layout tx t awaited body turn
   -- no list is so long
-  stops : (one : TxId) (at : ℕ) → body ≡ Host (Continue (work.Transaction one) at) → 512 ≤ at → turn.over ≡ false
+  stops : (one : TxId) (at : ℕ) → body ≡ Host (Continue (work.Transaction one) at) → SENDS ≤ at → turn.over ≡ false
       → turn.step.state ≡ t → turn.step.effects.sends ≡ []
       → FromCommitting node layout tx t awaited body turn
   goes_on : (one : TxId) (at : ℕ) → body ≡ Host (Continue (work.Transaction one) at)

@@ -36,8 +36,8 @@ use Rattle.host_laws.proofs.TcMoves.{ends_in, host_moves}
 use Rattle.host_laws.specs.Live.{of_live}
 use Rattle.host_laws.proofs.TcSteps.{live_home, live_in}
 use Rattle.host_laws.proofs.Wishes.{is_tc}
-use Rattle.host_laws.proofs.Tally.{tally_past}
-use Rattle.host_laws.specs.Counts.{tally}
+use Rattle.run_theory.proofs.Tally.{tally_past}
+use Rattle.run_theory.specs.Counts.{tally}
 
 abbrev pub is_dih : BlockId → Bool
 is_dih block.Dih = true

@@ -23,8 +23,8 @@ use Rattle.run_laws.proofs.AlongSteps.{none_kept}
 use Rattle.host_laws.proofs.ShellHost.{TellsHome, told}
 use Rattle.host_laws.proofs.BlocksAlong.{first_live}
 use Rattle.host_laws.proofs.LinkCounts.{sent_to_shell, shell_signals, signals, to_host}
-use Rattle.host_laws.proofs.Tally.{tally_none}
-use Rattle.host_laws.specs.Counts.{one_if}
+use Rattle.run_theory.proofs.Tally.{tally_none}
+use Rattle.run_theory.specs.Counts.{one_if}
 use Rattle.host_laws.proofs.TcLives.{IsKept, due_move, is_start, kept_move, start_of, starts_in}
 use Rattle.host_laws.proofs.TcMoves.{TcMove, end_of, host_moves, is_end, same_tx-is}
 use Rattle.host_laws.proofs.Wishes.{is_api, sends_of}

@@ -1,8 +1,10 @@
 -- Turns of a transaction before anything of it is committed: the first commits are sent where its epoch comes.
-use Rattle.std.proofs.Common.{◌≡◌, ℕ, suc, ◌+◌, List, [], ◌∷◌, ◌++◌, length, take, Bool, true, false, refl, ap, sym, ◌∙◌, subst, arith}
-use Rattle.std.specs.Prelude.{◌==◌, nat_lt, None}
+use Rattle.std.proofs.Common.{◌≡◌, ℕ, suc, ◌+◌, List, [], ◌∷◌, ◌++◌, length, take, Bool, true, false, refl, ap, sym}
+use Rattle.std.proofs.Common.{◌∙◌, subst, arith}
+use Rattle.std.specs.Prelude.{◌-◌, ◌==◌, nat_lt, None}
 use Rattle.std.proofs.lemmas.Bool.{eqb-true}
 use Rattle.run_theory.specs.Lists.{Each}
+use Rattle.sig_core.specs.declared.portion.TheConstants.{PORTION}
 use Rattle.sig_core.specs.declared.member.TxId.{TxId}
 use Rattle.sig_core.specs.declared.outcome.AbortCause.{AbortCause}
 use Rattle.sig_core.specs.declared.outs.Outgoing.{Outgoing}
@@ -71,7 +73,7 @@ module _ (node : ℕ) (layout : Layout) (tx : TxId) where
   part_back t turn (x ∷ xs) all is =
       backs (record {
         first = x;
-        more = take 7 xs ++ rest_if node tx 0 (nat_lt (0 + 8) (length (x ∷ xs)));
+        more = take (PORTION - 1) xs ++ rest_if node tx 0 (nat_lt (0 + PORTION) (length (x ∷ xs)));
         is = is;
         aborts = all.0;
       })
@@ -114,7 +116,8 @@ module _ (node : ℕ) (layout : Layout) (tx : TxId) where
       goes_on = λ at is low. is_one (ap (is_part tx) is ∙ same_tx-self tx);
       operates = λ op is can. silent (refl, tt);
       answers = λ key answer asked is on at. silent (refl, tt);
-      late = λ key asked why verifying awaited is on at. silent (each_mapped (λ (o : Outgoing). is_sign tx o.body ≡ false)
+      late =
+          λ key asked why verifying awaited is on at. silent (each_mapped (λ (o : Outgoing). is_sign tx o.body ≡ false)
           (abort_of tx key) (chain_of layout key) (λ r. refl));
       waits = λ asked is on. silent (each_mapped (λ (o : Outgoing). is_sign tx o.body ≡ false)
           (wait_of tx (key_of asked.op)) asked.chain (λ r. refl));

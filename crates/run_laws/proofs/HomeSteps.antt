@@ -13,7 +13,7 @@ use Rattle.world_core.specs.Hosts.{home, hosts, tc_host}
 use Rattle.world_core.specs.Machine.{after, machine}
 use Rattle.world_core.specs.Start.{Start}
 use Rattle.world_core.specs.Steps.{HostStep}
-use Rattle.host_laws.specs.Counts.{tally}
+use Rattle.run_theory.specs.Counts.{tally}
 use Rattle.host_laws.proofs.BlocksAlong.{at_own_node, no_live}
 use Rattle.run_laws.proofs.Begun.{keeps}
 use Rattle.host_laws.proofs.TcLives.{IsOwn, is_keyed}

@@ -1,6 +1,6 @@
 -- What a step of a host does to one transaction as to its epoch.
-use Rattle.std.proofs.Common.{◌≡◌, ◌≤◌, List, [], Bool, true, false, refl, sym, ap, ◌∙◌, subst, arith}
-use Rattle.std.specs.Prelude.{length, nat_lt, Some}
+use Rattle.std.proofs.Common.{◌≡◌, ◌≤◌, List, [], true, false, refl, sym, ap, ◌∙◌, subst, arith}
+use Rattle.std.specs.Prelude.{Some}
 use Rattle.run_theory.specs.Lists.{Each}
 use Rattle.run_theory.proofs.Pasts.{each_map}
 use Rattle.sig_core.specs.declared.member.TxId.{TxId}
@@ -9,7 +9,7 @@ use Rattle.sig_core.specs.declared.op.Op.{Op}
 use Rattle.sig_core.specs.declared.outs.Outgoing.{Outgoing}
 use Rattle.sig_core.specs.declared.signal.Body.{Body}
 use Rattle.sig_core.specs.declared.signal.Body.TheVariants.{Epoch}
-use Rattle.sig_core.specs.declared.signal.epoch.EpochSignal.TheVariants.{DiVerifyReq, DiVerifyConf}
+use Rattle.sig_core.specs.declared.signal.epoch.EpochSignal.TheVariants.{DiVerifyReq, DiVerifyConf, DiVerifyEnd}
 use Rattle.sig_core.specs.declared.signal.Signal.{Signal}
 use Rattle.sig_core.specs.Same.{same_tx}
 use Rattle.sig_core.specs.Step.{Effects, Step, nothing}
@@ -23,20 +23,23 @@ use Rattle.tc_block.specs.State.{TcState}
 use Rattle.tc_block.specs.Tc.{next_tx, tc_row}
 use Rattle.tc_block.specs.Turn.{Turn}
 use Rattle.node_core.specs.declared.host.Host.{Host}
-use Rattle.node_core.proofs.HostCases.{BlockCase, IsTcStep, api_takes, block_case, dih_takes, none_takes, rows_take, tc_takes}
+use Rattle.node_core.proofs.HostCases.{BlockCase, IsTcStep, api_takes, block_case, dih_takes, none_takes, rows_take}
+use Rattle.node_core.proofs.HostCases.{tc_takes}
 use Rattle.node_core.specs.Blocks.{api_of, dih_of, has_tc, lqh_of, tc_of}
-use Rattle.node_core.specs.Dih.{DihState, decide_if, decide_row, dih_table}
+use Rattle.node_core.specs.Dih.{DihState, dih_table}
 use Rattle.node_core.specs.Row.{row}
+use Rattle.node_core.proofs.DihForms.{dih_forms}
 use Rattle.host_laws.specs.Ways.{tc_sends}
 use Rattle.host_laws.proofs.LqhSends.{lqh_kinds}
 use Rattle.host_laws.proofs.SendKinds.{each_of, is_lqh_kind}
 use Rattle.host_laws.proofs.ApiMoves.{is_api_kind}
-use Rattle.host_laws.specs.Counts.{one_if}
+use Rattle.run_theory.specs.Counts.{one_if}
 use Rattle.host_laws.specs.Live.{of_live}
 use Rattle.run_laws.specs.Live.{of_host}
 use Rattle.run_laws.proofs.HomeSteps.{IsHome, IsUnborn}
 use Rattle.run_laws.proofs.TxSteps.{next_number, number_rises}
-use Rattle.run_laws.proofs.TcAsks.{AreMute, AskTurn, ask, beside_mute, is_ask, is_mute, mute_none, others_mute, turn_asks, unasked_none}
+use Rattle.run_laws.proofs.TcAsks.{AreMute, AskTurn, ask, beside_mute, is_ask, is_mute, mute_none, others_mute}
+use Rattle.run_laws.proofs.TcAsks.{turn_asks, unasked_none}
 use Rattle.run_laws.proofs.TcCircle.{GoesOn, turn_going}
 use Rattle.tc_block.proofs.TurnRows.{turn_for}
 use Rattle.host_laws.proofs.TcSteps.{left_of_turn}
@@ -92,19 +95,15 @@ module _ (tx : TxId) where
       plain (Epoch (DiVerifyConf other epoch)) is = absurd cc
       plain _ is = refl
 
-  decide_pass : (s : DihState) (one : TxId) (ops : List (Op × Answer)) (b : Bool)
-      → PassesOn (Epoch (DiVerifyReq one ops)) (decide_if s one b).effects.sends
-  decide_pass s one ops true = record { few = omega arith; ops = λ other. (tt, tt) }
-  decide_pass s one ops false = none_pass (Epoch (DiVerifyReq one ops)) [] refl
-
-  verify_pass : (s : DihState) (one : TxId) (ops : List (Op × Answer)) → PassesOn (Epoch (DiVerifyReq one ops))
-      (decide_row s one).effects.sends
-  unfolding decide_row
-  verify_pass s one ops = decide_pass s one ops (nat_lt (length s.counted) 64)
-
   dih_pass : (s : DihState) (body : Body) → PassesOn body (dih_table s body).effects.sends
-  dih_pass s (Epoch (DiVerifyReq one ops)) = verify_pass s one ops
-  dih_pass s _ = none_pass _ [] refl
+  dih_pass s =
+      dih_forms (λ body step. PassesOn body step.effects.sends) s (record {
+        decides = λ one ops low. record { few = omega arith; ops = λ other. (tt, tt) };
+        is_full = λ one ops high. none_pass (Epoch (DiVerifyReq one ops)) [] refl;
+        ends = λ one at there. none_pass (Epoch (DiVerifyEnd one)) [] refl;
+        misses = λ one none. none_pass (Epoch (DiVerifyEnd one)) [] refl;
+        rests = λ body off. none_pass body [] refl;
+      })
 
   -- a step leaves the transaction as it is
   pub record Leaves (s : Host) (body : Body) (after : Host) (sends : List Outgoing) : Type 0 where
@@ -115,7 +114,8 @@ module _ (tx : TxId) where
   -- or gives it a turn, or begins it
   pub data HostAsks (s : Host) (x : Signal) (after : Host) (sends : List Outgoing) : Type 0 where
     leaves : Leaves s x.body after sends → HostAsks s x after sends
-    turned : has_tc s ≡ true → (t : Transaction) (turn : Turn) → of_host tx s ≡ Some t → of_host tx after ≡ left_of_turn turn
+    turned : has_tc s ≡ true → (t : Transaction) (turn : Turn) → of_host tx s ≡ Some t
+        → of_host tx after ≡ left_of_turn turn
         → sends ≡ turn.step.effects.sends
         → tc_sends s x ≡ turn.step.effects.sends → (IsUnborn tx after → IsUnborn tx s) → AskTurn tx x.body t turn
         → GoesOn tx x.body t turn → HostAsks s x after sends

@@ -16,7 +16,7 @@ use Rattle.node_core.specs.declared.host.Host.{Host}
 use Rattle.node_core.specs.Dih.{dih_table}
 use Rattle.node_core.specs.Row.{row}
 use Rattle.host_laws.specs.Ways.{back_by, put_ways, tc_sends}
-use Rattle.host_laws.specs.Counts.{one_if, tally}
+use Rattle.run_theory.specs.Counts.{one_if, tally}
 use Rattle.host_laws.specs.Live.{of_live}
 use Rattle.run_laws.specs.Live.{of_host}
 use Rattle.run_laws.specs.Tokens.{budget_by, is_token, waiting_in}

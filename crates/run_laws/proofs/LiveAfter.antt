@@ -6,8 +6,8 @@ use Rattle.run_theory.proofs.Pasts.{each_map}
 use Rattle.sig_core.specs.declared.member.TxId.{TxId}
 use Rattle.sig_core.specs.Same.{same_tx}
 use Rattle.tc_block.specs.declared.transaction.Transaction.{Transaction}
-use Rattle.host_laws.specs.Counts.{tally}
-use Rattle.host_laws.proofs.Tally.{tally_none}
+use Rattle.run_theory.specs.Counts.{tally}
+use Rattle.run_theory.proofs.Tally.{tally_none}
 use Rattle.host_laws.proofs.TcLives.{IsOwn, is_keyed}
 use Rattle.host_laws.proofs.TcMoves.{same_tx-is}
 use Rattle.host_laws.specs.Live.{of_live}

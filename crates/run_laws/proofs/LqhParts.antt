@@ -26,7 +26,7 @@ use Rattle.sig_core.specs.Step.{to_place}
 use Rattle.sig_core.specs.Same.{same_key, same_tx}
 use Rattle.host_laws.proofs.SendKinds.{are_of, each_of}
 use Rattle.host_laws.proofs.LqhOps.{is_lqh}
-use Rattle.host_laws.specs.Counts.{one_if}
+use Rattle.run_theory.specs.Counts.{one_if}
 use Rattle.host_laws.proofs.Wishes.{is_tc}
 use Rattle.run_laws.proofs.TcOwn.{AreSilent}
 use Rattle.run_laws.proofs.TxSignals.{Tells, cover, is_part, is_sign, part_cover, part_tells, part_weight, sign_part}

@@ -18,7 +18,7 @@ use Rattle.key_laws.specs.Replica.{asks_for}
 use Rattle.host_laws.specs.ReplicaLaws.{key_in}
 use Rattle.run_laws.proofs.EachEntry.{each_filter}
 use Rattle.sig_core.proofs.Keys.{same_tx-self}
-use Rattle.host_laws.specs.Counts.{one_if, tally}
+use Rattle.run_theory.specs.Counts.{one_if, tally}
 use Rattle.host_laws.proofs.Sums.{total_at}
 use Rattle.run_laws.specs.Beside.{ComersAreUndecided, NoneWaitBeside, NoneWaitWhereCarriedOut}
 use Rattle.run_laws.specs.Circle.{at_host}

@@ -18,7 +18,7 @@ use Rattle.world_core.specs.Machine.{after, machine, signals_of, step_after}
 use Rattle.world_core.specs.Start.{Start}
 use Rattle.host_laws.specs.Ways.{back_by, sent_ways}
 use Rattle.host_laws.proofs.BlocksAlong.{first_waiting}
-use Rattle.host_laws.specs.Counts.{one_if, tally, total}
+use Rattle.run_theory.specs.Counts.{one_if, tally, total}
 use Rattle.host_laws.proofs.Sums.{total_at, total_one}
 use Rattle.run_laws.specs.Live.{of_host}
 use Rattle.run_laws.specs.Tokens.{OneAtATime, budget, budget_by, is_token, tokens, tokens_in, waiting_all, waiting_in}

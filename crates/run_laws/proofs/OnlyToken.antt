@@ -18,7 +18,7 @@ use Rattle.world_core.specs.Start.{Start}
 use Rattle.key_laws.specs.Replica.{asks_for, is_by}
 use Rattle.host_laws.specs.ReplicaLaws.{key_in}
 use Rattle.tc_block.specs.Phases.{is_aborting}
-use Rattle.host_laws.specs.Counts.{one_if, tally}
+use Rattle.run_theory.specs.Counts.{one_if, tally}
 use Rattle.host_laws.proofs.Sums.{total_at}
 use Rattle.host_laws.proofs.BlocksAlong.{first_waiting}
 use Rattle.run_laws.specs.GivenUp.{is_given_up}

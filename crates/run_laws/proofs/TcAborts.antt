@@ -1,9 +1,11 @@
 -- Who comes to be aborted is given up in the same turn.
-use Rattle.std.proofs.Common.{◌≡◌, ◌⊎◌, ℕ, List, [], ◌++◌, take, Bool, true, false, ap, sym, ◌∙◌, subst, arith, inl, inr}
-use Rattle.std.specs.Prelude.{◌==◌, None}
+use Rattle.std.proofs.Common.{◌≡◌, ◌⊎◌, ℕ, List, [], ◌++◌, take, Bool, true, false, ap, sym, ◌∙◌, subst, arith, inl}
+use Rattle.std.proofs.Common.{inr}
+use Rattle.std.specs.Prelude.{◌-◌, ◌==◌, None}
 use Rattle.std.specs.List.{list_any}
 use Rattle.std.proofs.lemmas.Bool.{or_left}
 use Rattle.std.proofs.lemmas.Bool.Decides.{nat_tests}
+use Rattle.sig_core.specs.declared.portion.TheConstants.{PORTION}
 use Rattle.sig_core.specs.declared.member.TxId.{TxId}
 use Rattle.sig_core.specs.declared.outcome.AbortCause.{AbortCause}
 use Rattle.sig_core.specs.declared.outs.Outgoing.{Outgoing}
@@ -30,36 +32,49 @@ use Rattle.run_laws.proofs.TouchedLists.{touch_own}
 -- a turn after which it is aborted: it was so, or it is given up
 pub record TurnAborts (tx : TxId) (t : Transaction) (turn : Turn) : Type 0 where
   pub touched : HasTouchedAsked turn.step.state.touched turn.step.state.asked
-  pub aborts : is_aborting turn.step.state.phase ≡ true → (is_aborting t.phase ≡ true) ⊎ (gives_up tx turn.step.effects.sends ≡ true)
+  pub aborts : is_aborting turn.step.state.phase ≡ true
+      → (is_aborting t.phase ≡ true) ⊎ (gives_up tx turn.step.effects.sends ≡ true)
 
 -- an abort that has something to wait for
 pub enters_told : (tx : TxId) (node : ℕ) (layout : Layout) (t : Transaction) (why : AbortCause) (verifying : Bool)
     (awaited : ℕ) → HasTouchedAsked t.touched t.asked
-    → (abort.aborts_awaited layout t == 0) ≡ false → gives_up tx (entering node layout tx t (Aborting why verifying awaited)).effects.sends ≡ true
+    → (abort.aborts_awaited layout t == 0) ≡ false
+    → gives_up tx (entering node layout tx t (Aborting why verifying awaited)).effects.sends ≡ true
 unfolding entering part_effects phase_sends front_sends
 enters_told tx node layout t why verifying awaited has waits =
-    told _ (aborts_first layout tx why verifying awaited t.touched (λ none. absurd (grind (arith, nat_tests, waits, none, asked_count_few layout t.touched t.asked has))))
+    told _ (aborts_first layout tx why verifying awaited t.touched
+    (λ none. absurd (grind (arith, nat_tests, waits, none, asked_count_few layout t.touched t.asked has))))
   where
-    told : {sends : List Outgoing} (behind : List Outgoing) → IsBackFirst tx sends → gives_up tx (take 8 sends ++ behind) ≡ true
+    told : {sends : List Outgoing} (behind : List Outgoing) → IsBackFirst tx sends
+        → gives_up tx (take PORTION sends ++ behind) ≡ true
     told {sends} behind f =
-        subst (λ all. gives_up tx (take 8 all ++ behind) ≡ true) (sym f.is)
-        (back_more (same_tx tx) (take 7 f.more ++ behind) (back_by (way_of f.first.body) [])
+        subst (λ all. gives_up tx (take PORTION all ++ behind) ≡ true) (sym f.is)
+        (back_more (same_tx tx) (take (PORTION - 1) f.more ++ behind) (back_by (way_of f.first.body) [])
         (ap (λ w. list_any (same_tx tx) (back_by w [])) f.goes ∙ or_left (same_tx tx tx) false (same_tx-self tx)))
 
 module _ (node : ℕ) (layout : Layout) (tx : TxId) (t : Transaction) (has : HasTouchedAsked t.touched t.asked) where
   -- a turn that leaves the phase, or comes to one in which it isn't aborted
-  goes_on : (turn : Turn) → HasTouchedAsked turn.step.state.touched turn.step.state.asked → (is_aborting turn.step.state.phase ≡ true → is_aborting t.phase ≡ true) → TurnAborts tx t turn
+  goes_on : (turn : Turn) → HasTouchedAsked turn.step.state.touched turn.step.state.asked
+      → (is_aborting turn.step.state.phase ≡ true → is_aborting t.phase ≡ true) → TurnAborts tx t turn
   goes_on turn touched stays = record { touched = touched; aborts = λ is. inl (stays is) }
 
   committed_aborts : (epoch : ℕ) → CommittedForms node layout tx t epoch (λ turn. TurnAborts tx t turn)
   unfolding entering
-  committed_aborts epoch = record { enters = λ some. goes_on _ has (λ is. absurd cc); ends = λ none. goes_on _ has (λ is. is) }
+  committed_aborts epoch = record {
+    enters = λ some. goes_on _ has (λ is. absurd cc);
+    ends = λ none. goes_on _ has (λ is. is);
+  }
 
   -- an abort of one that isn't aborted
-  begins_abort : (u : Transaction) → HasTouchedAsked u.touched u.asked → is_aborting u.phase ≡ false → (why : AbortCause) → AbortForms node layout tx u why (λ turn. TurnAborts tx t turn)
+  begins_abort : (u : Transaction) → HasTouchedAsked u.touched u.asked → is_aborting u.phase ≡ false
+      → (why : AbortCause) → AbortForms node layout tx u why (λ turn. TurnAborts tx t turn)
   unfolding entering
   begins_abort u touched off why = record {
-    enters = λ some. record { touched = touched; aborts = λ is. inr (enters_told tx node layout u why (abort.is_verifying u.phase) (abort.aborts_awaited layout u) touched some) };
+    enters = λ some. record {
+      touched = touched;
+      aborts = λ is. inr
+          (enters_told tx node layout u why (abort.is_verifying u.phase) (abort.aborts_awaited layout u) touched some);
+    };
     ends = λ none. record { touched = touched; aborts = λ is. absurd (let both : true ≡ false = sym is ∙ off in cc) };
   }
 

@@ -28,7 +28,7 @@ use Rattle.sig_core.proofs.Keys.{same_tx-self}
 use Rattle.tc_block.specs.State.{TcState}
 use Rattle.tc_block.proofs.EachTurn.{CommittedForms, ready_is, rows_of, TurnForms}
 use Rattle.tc_block.proofs.LiveKeeps.{SendsBeside}
-use Rattle.host_laws.specs.Counts.{one_if}
+use Rattle.run_theory.specs.Counts.{one_if}
 use Rattle.host_laws.proofs.TcGoes.{AllSay, SaysOf, turn_goes}
 use Rattle.run_laws.specs.Keyed.{HasTouchedAsked}
 use Rattle.run_laws.proofs.TcAborts.{enters_told}

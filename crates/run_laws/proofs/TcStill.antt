@@ -24,7 +24,7 @@ use Rattle.api_block.specs.State.{ApiState}
 use Rattle.node_core.specs.Dih.{DihState, dih_table}
 use Rattle.tc_block.proofs.EachTurn.{TurnForms, rows_of}
 use Rattle.tc_block.proofs.LiveKeeps.{SendsBeside, TurnKeeps, TurnsKeep, is_chain, turn_keeps}
-use Rattle.host_laws.proofs.Tally.{tally_none}
+use Rattle.run_theory.proofs.Tally.{tally_none}
 use Rattle.host_laws.proofs.ApiMoves.{is_api_kind}
 use Rattle.host_laws.proofs.DihSends.{dih_kinds}
 use Rattle.host_laws.proofs.SendKinds.{each_of, is_dih_kind}

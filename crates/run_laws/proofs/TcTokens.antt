@@ -20,8 +20,8 @@ use Rattle.host_laws.specs.Ways.{Way, back, back_by, closes, forth, neither, put
 use Rattle.tc_block.proofs.EachTurn.{rows_of}
 use Rattle.tc_block.proofs.LiveSplit.{KeysOnce, Live}
 use Rattle.host_laws.proofs.OneWay.{back_more}
-use Rattle.host_laws.specs.Counts.{one_if, tally}
-use Rattle.host_laws.proofs.Tally.{tally_none}
+use Rattle.run_theory.specs.Counts.{one_if, tally}
+use Rattle.run_theory.proofs.Tally.{tally_none}
 use Rattle.host_laws.proofs.TcLives.{IsOwn, is_keyed}
 use Rattle.sig_core.proofs.Keys.{same_tx-self}
 use Rattle.host_laws.proofs.TcOps.{is_right}

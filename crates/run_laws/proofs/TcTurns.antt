@@ -28,7 +28,7 @@ use Rattle.tc_block.specs.Phases.{is_aborting}
 use Rattle.tc_block.proofs.EachTurn.{AbortForms, CommittedForms, may_ask, ready_is, TurnForms}
 use Rattle.host_laws.specs.Ways.{back_by, put_ways}
 use Rattle.sig_core.proofs.Keys.{same_tx-self}
-use Rattle.host_laws.specs.Counts.{one_if}
+use Rattle.run_theory.specs.Counts.{one_if}
 use Rattle.host_laws.proofs.TcOps.{is_right}
 use Rattle.run_laws.specs.Tokens.{budget_of}
 use Rattle.run_laws.proofs.LqhTokens.{tokens_out}

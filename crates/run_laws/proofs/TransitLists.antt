@@ -16,7 +16,7 @@ use Rattle.sig_core.specs.Work.{work_key}
 use Rattle.node_core.specs.Requests.{is_request}
 use Rattle.world_core.specs.Hosts.{Membership, receiver}
 use Rattle.world_core.specs.Machine.{all_addressed, counted}
-use Rattle.host_laws.specs.Counts.{one_if, tally}
+use Rattle.run_theory.specs.Counts.{one_if, tally}
 use Rattle.run_laws.specs.Tokens.{is_token}
 use Rattle.run_laws.specs.Transit.{Takes, joined, taken_by}
 use Rattle.run_laws.proofs.KeyTokens.{Token, answers, is_home, is_rows, performs, put, refuses, token_of, tokens_of}

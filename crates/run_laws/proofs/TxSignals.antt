@@ -15,7 +15,7 @@ use Rattle.sig_core.specs.Same.{same_key, same_tx}
 use Rattle.node_core.specs.Requests.{is_request}
 use Rattle.host_laws.proofs.TcWays.{not_both}
 use Rattle.host_laws.proofs.LqhOps.{is_lqh}
-use Rattle.host_laws.specs.Counts.{one_if}
+use Rattle.run_theory.specs.Counts.{one_if}
 use Rattle.host_laws.proofs.Wishes.{is_tc}
 
 -- it commits or completes a row of the transaction, or its coordinator goes on with that

@@ -22,10 +22,10 @@ use Rattle.tc_block.proofs.EachTurn.{RowsAre}
 use Rattle.tc_block.proofs.LiveKeeps.{SendsBeside}
 use Rattle.tc_block.proofs.LiveSplit.{AreOthers}
 use Rattle.tc_block.proofs.TurnRows.{TcStep, begins as begins_one, is_turn, misses, passes, refuses, rests, takes, tc_step, turn_for, turn_row, turn_with, tx_in, left_step}
-use Rattle.host_laws.specs.Counts.{one_if, tally}
+use Rattle.run_theory.specs.Counts.{one_if, tally}
 use Rattle.host_laws.specs.Live.{of_live}
 use Rattle.host_laws.proofs.OfLive.{of_here, of_other}
-use Rattle.host_laws.proofs.Tally.{tally_append, tally_between, tally_none}
+use Rattle.run_theory.proofs.Tally.{tally_append, tally_between, tally_none}
 use Rattle.host_laws.proofs.TcLives.{IsOwn, insert_new, is_keyed}
 use Rattle.host_laws.proofs.TcSteps.{left_of_turn, live_none}
 use Rattle.run_laws.proofs.LiveAfter.{live_end, unborn_none}

@@ -1,25 +1,23 @@
--- Whose marks the steps of a host have: a row is applied, or a commit reported, of the transaction that the signal takes forth.
-use Rattle.std.proofs.Common.{◌≡◌, Bool, true, false, sym, ap, subst}
-use Rattle.std.specs.Prelude.{length, nat_lt}
-use Rattle.sig_core.specs.declared.member.TxId.{TxId}
+-- Whose marks the steps of a host have: a row is applied, or a commit reported, of the transaction that the signal
+-- takes forth.
+use Rattle.std.proofs.Common.{◌≡◌, sym, ap, subst}
 use Rattle.sig_core.specs.declared.signal.Body.{Body}
-use Rattle.sig_core.specs.declared.signal.Body.TheVariants.{Epoch}
 use Rattle.lqh_block.specs.Lqh.{lqh_table}
 use Rattle.lqh_block.specs.State.{LqhState}
 use Rattle.sig_core.specs.declared.mark.Mark.{Mark}
 use Rattle.sig_core.specs.declared.mark.Mark.TheVariants.{Applied, Reported}
 use Rattle.sig_core.specs.declared.outcome.Outcome.TheVariants as outcome
-use Rattle.sig_core.specs.declared.signal.epoch.EpochSignal.TheVariants.{DiVerifyReq}
 use Rattle.sig_core.specs.Step.{Step}
 use Rattle.api_block.specs.Api.{api_table}
 use Rattle.api_block.specs.State.{ApiState}
 use Rattle.tc_block.specs.State.{TcState}
 use Rattle.tc_block.specs.Tc.{tc_table}
-use Rattle.node_core.specs.Dih.{DihState, decide_if, decide_row, dih_table}
+use Rattle.node_core.specs.Dih.{DihState, dih_table}
+use Rattle.node_core.proofs.DihForms.{dih_marks_each}
 use Rattle.run_theory.specs.Lists.{Each}
 use Rattle.api_block.proofs.EachApi.{api_marks_each}
 use Rattle.lqh_block.proofs.EachLqh.{lqh_marks_each}
-use Rattle.host_laws.specs.Ways.{Way, forth, neither, way_of}
+use Rattle.host_laws.specs.Ways.{Way, forth, way_of}
 use Rattle.host_laws.proofs.TcMarks.{tc_marks}
 
 -- a row that was applied, or a commit that was reported, is of the transaction that the signal takes forth
@@ -41,17 +39,8 @@ lqh_marked s body =
       expired = λ tx key. tt;
     })
 
-decide_marks : (taken : Way) (s : DihState) (tx : TxId) (b : Bool) → AreMarked taken (decide_if s tx b)
-decide_marks taken s tx true = (tt, tt)
-decide_marks taken s tx false = tt
-
-verify_marks : (taken : Way) (s : DihState) (tx : TxId) → AreMarked taken (decide_row s tx)
-unfolding decide_row
-verify_marks taken s tx = decide_marks taken s tx (nat_lt (length s.counted) 64)
-
 pub dih_marked : (s : DihState) (body : Body) → AreMarked (way_of body) (dih_table s body)
-dih_marked s (Epoch (DiVerifyReq tx ops)) = verify_marks neither s tx
-dih_marked s _ = tt
+dih_marked s body = dih_marks_each (IsMarked (way_of body)) s body (λ tx ops is. tt)
 
 pub tc_marked : (s : TcState) (body : Body) → AreMarked (way_of body) (tc_table s body)
 tc_marked s body = subst (Each (IsMarked (way_of body))) (sym (tc_marks s body)) tt

@@ -10,7 +10,7 @@ use Rattle.node_core.specs.Requests.{is_request}
 use Rattle.world_core.specs.Hosts.{Membership, first_membership, receiver}
 use Rattle.world_core.specs.Machine.{all_addressed, counted, sent_count, signals_of, step_after}
 use Rattle.world_core.specs.Start.{Start}
-use Rattle.host_laws.specs.Counts.{one_if, tally}
+use Rattle.run_theory.specs.Counts.{one_if, tally}
 use Rattle.run_laws.specs.Transit.{IsTaken, Takes, joined, taken_by}
 
 -- the sum of f over a list

@@ -32,7 +32,7 @@ use Rattle.world_core.specs.Start.{Start}
 use Rattle.host_laws.specs.Ways.{back_by, sent_ways, tc_sends}
 use Rattle.sig_core.proofs.Keys.{same_tx-self}
 use Rattle.host_laws.proofs.BlocksAlong.{first_live}
-use Rattle.host_laws.specs.Counts.{one_if}
+use Rattle.run_theory.specs.Counts.{one_if}
 use Rattle.run_laws.specs.Circle.{IsOfWaiting, WaitsWith, WhoAsksWaits}
 use Rattle.run_laws.specs.GivenUp.{is_given_up}
 use Rattle.run_laws.specs.Live.{live_at, of_host}

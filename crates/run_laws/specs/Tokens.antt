@@ -14,7 +14,7 @@ use Rattle.world_core.specs.Hosts.{hosts}
 use Rattle.world_core.specs.Machine.{after}
 use Rattle.world_core.specs.Start.{Start}
 use Rattle.tc_block.specs.Phases.{is_aborting}
-use Rattle.host_laws.specs.Counts.{one_if, tally, total}
+use Rattle.run_theory.specs.Counts.{one_if, tally, total}
 use Rattle.run_laws.specs.GivenUp.{is_given_up}
 use Rattle.run_laws.specs.Live.{live_at}
 use Rattle.run_laws.specs.Transit.{AreInTransit, IsRun, logs_of}

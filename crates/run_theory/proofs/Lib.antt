@@ -12,3 +12,5 @@ pub mod Channels
 pub mod Drops
 pub mod Sorting
 pub mod EachSent
+pub mod Tally
+pub mod Focus

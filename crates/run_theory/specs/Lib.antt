@@ -15,3 +15,4 @@ pub mod Hosts
 pub mod HostLaws
 pub mod Literal
 pub mod LiteralLaws
+pub mod Counts

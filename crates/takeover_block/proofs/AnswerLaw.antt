@@ -150,14 +150,6 @@ aborted_keys : (f : Followed) (own : Bool) → f.keys ≡ (aborted_if f own).key
 aborted_keys f true = refl
 aborted_keys f false = refl
 
-committed_awaited : (f : Followed) (own : Bool) → (committed_if f own).awaited ≡ f.awaited
-committed_awaited f true = refl
-committed_awaited f false = refl
-
-aborted_awaited : (f : Followed) (own : Bool) → (aborted_if f own).awaited ≡ f.awaited
-aborted_awaited f true = refl
-aborted_awaited f false = refl
-
 still_followed : (tx : TxId) (members : ℕ) (s : TakeoverState) (f : Followed) (body : Body) → is_heard body ≡ false
     → IsFollowed tx s f → IsFollowed tx s (follow tx members f body)
 still_followed tx members s f (Takeover TakeoverOrd) heard is = absurd cc

@@ -1,3 +1,4 @@
+pub mod CountLemmas
 pub mod EachTc
 pub mod EachTurn
 pub mod LiveKeeps

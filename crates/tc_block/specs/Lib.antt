@@ -1,10 +1,12 @@
 pub mod Abort
 pub mod Commit
 pub mod Complete
+pub mod Doom
 pub mod Live
 pub mod Operate
 pub mod Part
 pub mod Phases
+pub mod Resume
 pub mod Sends
 pub mod State
 pub mod Tc

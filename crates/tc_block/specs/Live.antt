@@ -1,5 +1,5 @@
 -- Steps of one of the coordinator's transactions.
-use Rattle.std.specs.Prelude.{ℕ, Bool, true, false, List, remove, position, slice_get, Option, None, Some}
+use Rattle.std.specs.Prelude.{ℕ, Bool, true, false, List, is_some, remove, position, slice_get, Option, None, Some}
 use Rattle.std.specs.Map.{keys_of, values_of}
 use Rattle.indexmap.specs.IndexMap.{set_value_at}
 use Rattle.sig_core.specs.declared.member.TxId.{TxId}
@@ -12,6 +12,10 @@ use Rattle.tc_block.specs.Turn.{Turn}
 -- where the transaction stands among those that aren't forgotten
 abbrev pub place_in : TcState → TxId → Option ℕ
 place_in s tx = position (same_tx tx) (keys_of s.live)
+
+-- the transaction isn't forgotten
+abbrev pub is_live : TcState → TxId → Bool
+is_live s tx = is_some (place_in s tx)
 
 -- the transaction at a place takes a step
 abbrev pub stepped : TcState → ℕ → Step Transaction → Step TcState

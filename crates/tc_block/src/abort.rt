@@ -67,9 +67,10 @@ impl Transaction {
         }
     }
 
-    // Begins to abort, or ends at once where there is nothing to wait for.
+    /// Begins to abort, or ends at once where there is nothing to wait for. Answers whether the
+    /// transaction is over then.
     #[tactic(auto, unfolding(crate::specs::Abort::aborted_for))]
-    fn abort(
+    pub fn abort(
         &mut self,
         node: u8,
         layout: &Layout,
@@ -135,8 +136,8 @@ impl Transaction {
     }
 }
 
-// The transaction leaves the count of its epoch, if it asked for one, and the client is told.
-fn end_abort(node: u8, tx: TxId, cause: AbortCause, verifying: bool, out: &mut Outs)
+/// The transaction leaves the count of its epoch, if it asked for one, and the client is told.
+pub fn end_abort(node: u8, tx: TxId, cause: AbortCause, verifying: bool, out: &mut Outs)
     requires { HasRoom out.old }
     ensures { out.new ≡ joined out.old (sends_only (abort_end node tx cause verifying)) }
 {
@@ -158,8 +159,8 @@ fn is_verifying(phase: Phase) -> bool
     }
 }
 
-// How many replicas the keys have in a layout, all together.
-fn replica_count(layout: &Layout, touched: &[Touched]) -> usize
+/// How many replicas the keys have in a layout, all together.
+pub fn replica_count(layout: &Layout, touched: &[Touched]) -> usize
     requires { length touched.now ≤ 64 }
     ensures count { result ≡ replica_count layout.now touched.now }
     ensures few { result ≤ 512 }

@@ -26,13 +26,13 @@ pub const TRANSACTIONS: usize = 64;
 /// The transaction coordinator of one start of a node.
 #[derive(Drop)]
 pub struct Tc {
-    node: u8,
+    pub(crate) node: u8,
     start: u32,
     /// The number of the next transaction, from 1.
     next_seq: u64,
-    layout: Layout,
+    pub(crate) layout: Layout,
     /// The transactions that aren't forgotten, in the order in which they began.
-    live: IndexMap<TxId, Transaction>,
+    pub(crate) live: IndexMap<TxId, Transaction>,
 }
 
 impl Model for Tc {
@@ -253,7 +253,7 @@ impl Tc {
 
     // Forgets the transaction at a place.
     #[tactic(auto, unfolding(crate::specs::Live::without))]
-    fn forget(&mut self, at: usize)
+    pub(crate) fn forget(&mut self, at: usize)
         ensures { self.new ≡ with_live self.old (without self.old.live at) }
     {
         self.live.shift_remove_index(at);

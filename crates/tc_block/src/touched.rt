@@ -1,8 +1,10 @@
 //! The keys that a transaction has touched.
-ghost use Rattle.std.specs.Prelude.{◌≡◌, ◌≤◌, [], length, is_some, IsTrue, OnOk, OnErr};
+ghost use Rattle.std.specs.Prelude.{◌≡◌, ◌≤◌, [], length, is_some, map, IsTrue, OnOk, OnErr};
 ghost use Rattle.sig_core.specs.Same.{same_key};
+ghost use Rattle.tc_block.specs.Resume.{rechained};
 ghost use Rattle.tc_block.specs.Touched.{fits, is_on, place_of, touch, write};
 
+use frag_map::Layout;
 use sig_core::{Key, Members, NoMemory, primary_of};
 use std::alloc::Global;
 use std::marker::Model;
@@ -97,6 +99,28 @@ impl TouchedKeys {
                 written: true,
             };
         }
+    }
+
+    /// Each key has the chain of a layout. One that was only read has the primary alone.
+    pub fn rechain(&mut self, layout: &Layout)
+        ensures { self.new ≡ map (rechained layout.now) self.old }
+    {
+        for t in self.keys.iter_mut() {
+            *t = rechained(layout, t);
+        }
+    }
+}
+
+// A key along the chain of a layout.
+#[tactic(auto, unfolding(crate::specs::Resume::rechained))]
+fn rechained(layout: &Layout, t: &Touched) -> Touched
+    ensures { result ≡ rechained layout.now t.now }
+{
+    let chain = layout.chain_of(&t.key);
+    Touched {
+        key: t.key,
+        chain: if t.written { chain } else { primary_of(&chain) },
+        written: t.written,
     }
 }
 

@@ -1,8 +1,9 @@
 -- How many items of a list pass a test.
-use Rattle.std.proofs.Common.{◌≡◌, ◌+◌, ◌≤◌, List, [], ◌∷◌, ◌++◌, Bool, true, false, cond, refl, ap, sym, ◌∙◌, arith, inl, inr}
+use Rattle.std.proofs.Common.{◌≡◌, ◌+◌, ◌≤◌, List, [], ◌∷◌, ◌++◌, Bool, true, false, cond, refl, ap, sym, ◌∙◌, arith}
+use Rattle.std.proofs.Common.{inl, inr}
 use Rattle.std.specs.Prelude.{◌&&◌}
 use Rattle.run_theory.specs.Lists.{Each, IsIn, IsPast}
-use Rattle.host_laws.specs.Counts.{one_if, tally}
+use Rattle.run_theory.specs.Counts.{one_if, tally}
 
 pub and_few : (a b : Bool) → one_if (a && b) ≤ one_if b
 and_few true b = omega arith
@@ -15,7 +16,8 @@ tally_append p (x ∷ xs) ys = omega (arith, tally_append p xs ys)
 -- an item between others
 pub tally_between : {A : Type 0} (p : A → Bool) (front : List A) (x : A) (back all : List A) → all ≡ front ++ x ∷ back
     → tally p all ≡ tally p (front ++ back) + one_if (p x)
-tally_between p front x back all is = omega (arith, ap (tally p) is, tally_append p front (x ∷ back), tally_append p front back)
+tally_between p front x back all is =
+    omega (arith, ap (tally p) is, tally_append p front (x ∷ back), tally_append p front back)
 
 -- an older part has no more
 pub tally_past : {A : Type 0} (p : A → Bool) {xs ys : List A} → IsPast xs ys → tally p xs ≤ tally p ys
@@ -44,7 +46,8 @@ counted p (x ∷ xs) some = go (p x) refl some (counted p xs)
         record { item = r.item; inside = inr r.inside; passes = r.passes }
 
 -- of two that pass, where there is no more than one, both are the same
-pub only_one : {A : Type 0} (p : A → Bool) (xs : List A) (x y : A) → tally p xs ≤ 1 → IsIn x xs → IsIn y xs → p x ≡ true → p y ≡ true → x ≡ y
+pub only_one : {A : Type 0} (p : A → Bool) (xs : List A) (x y : A) → tally p xs ≤ 1 → IsIn x xs → IsIn y xs → p x ≡ true
+    → p y ≡ true → x ≡ y
 only_one p [] x y few i j e f = absurd i
 only_one p (z ∷ zs) x y few (inl a) (inl b) e f = a ∙ sym b
 only_one p (z ∷ zs) x y few (inl a) (inr j) e f =

@@ -5,10 +5,8 @@ use Rattle.std.specs.Prelude.{Option, None, Some, nat_lt, not, position, remove,
 use Rattle.std.specs.List.{prefix_len}
 use Rattle.std.proofs.Math.Numerals.{one-add}
 use Rattle.std.proofs.lemmas.Bool.Decides.{nat_tests}
-use Rattle.api_block.specs.declared.opened.OpenTransaction.{OpenTransaction}
-use Rattle.api_block.specs.Opened.{if_there, where_at}
-use Rattle.host_laws.proofs.Tally.{tally_between}
-use Rattle.host_laws.specs.Counts.{one_if, tally}
+use Rattle.run_theory.specs.Counts.{one_if, tally}
+use Rattle.run_theory.proofs.Tally.{tally_between}
 
 -- at this place of a list an item passes a test
 pub record IsFocus {A : Type 0} (p : A → Bool) (xs : List A) (at : ℕ) : Type 0 where
@@ -67,21 +65,6 @@ absent p (x ∷ xs) past = go (p x) past (absent p xs)
     go false past rest =
         let none : tally p xs ≡ 0 = rest (omega (arith, past)) in
         omega (arith, none)
-
--- what is so of what is said where there is none, and of what is said of each that is found, is so of what is said
-pub where_found : {A : Type 0} (p : OpenTransaction → Bool) (xs : List OpenTransaction) (none : A)
-    (some : ℕ → OpenTransaction → A) (P : A → Type 0)
-    → (tally p xs ≡ 0 → P none) → ((at : ℕ) (f : IsFocus p xs at) → P (some at f.item))
-    → P (where_at xs none some (position p xs))
-where_found {A} p xs none some P missing present = go (nat_lt (prefix_len (λ x. not (p x)) xs) (length xs)) refl
-  where
-    go : (b : Bool) → nat_lt (prefix_len (λ x. not (p x)) xs) (length xs) ≡ b
-        → P (where_at xs none some (cond b (Some (prefix_len (λ x. not (p x)) xs)) None))
-    go true e =
-        let f = found p xs (grind (arith, nat_tests, e)) in
-        subst (λ o. P (if_there none (some (prefix_len (λ x. not (p x)) xs)) o)) (sym f.get)
-        (present (prefix_len (λ x. not (p x)) xs) f)
-    go false e = missing (absent p xs (grind (arith, nat_tests, e)))
 
 -- where no place is found none passes
 pub none_placed : {A : Type 0} (p : A → Bool) (xs : List A) → position p xs ≡ None → tally p xs ≡ 0

@@ -1,6 +1,8 @@
 -- What the API does at each request and signal: what is so of each form of its steps is so of each of its steps.
 use Rattle.std.proofs.Common.{◌≡◌, ℕ, List, [], ◌∷◌, Bool, true, false, refl, subst, sym}
 use Rattle.std.specs.Prelude.{◌==◌, Option, None, Some, is_some, nat_lt}
+use Rattle.run_theory.specs.Counts.{tally}
+use Rattle.run_theory.proofs.Focus.{IsFocus, none_placed}
 use Rattle.sig_core.specs.declared.member.TxId.{TxId}
 use Rattle.sig_core.specs.declared.op.Answer.{Answer}
 use Rattle.sig_core.specs.declared.op.Op.{Op}
@@ -14,7 +16,10 @@ use Rattle.sig_core.specs.declared.request.ApiReq.{ApiReq}
 use Rattle.sig_core.specs.declared.request.ApiReq.TheVariants as request
 use Rattle.sig_core.specs.declared.signal.Body.{Body}
 use Rattle.sig_core.specs.declared.signal.Body.TheVariants.{Host, Client}
-use Rattle.sig_core.specs.declared.signal.client.ClientSignal.TheVariants.{TcBeginConf, TcBeginRef, TcKeyConf, TcCommitReq, TcCommitConf, TcRollbackReq, TcRollbackRep, TcWaitReq, TcWaitConf, DumpReq, DumpConf}
+use Rattle.sig_core.specs.declared.signal.client.ClientSignal.TheVariants.{TcBeginConf, TcBeginRef, TcKeyConf}
+use Rattle.sig_core.specs.declared.signal.client.ClientSignal.TheVariants.{TcCommitReq, TcCommitConf, TcRollbackReq}
+use Rattle.sig_core.specs.declared.signal.client.ClientSignal.TheVariants.{TcRollbackRep, TcWaitReq, TcWaitConf}
+use Rattle.sig_core.specs.declared.signal.client.ClientSignal.TheVariants.{DumpReq, DumpConf}
 use Rattle.sig_core.specs.declared.signal.host.HostSignal.TheVariants.{Continue}
 use Rattle.sig_core.specs.declared.signal.host.Work.TheVariants as work
 use Rattle.sig_core.specs.Place.{coordinator_of, rows_of}
@@ -25,19 +30,22 @@ use Rattle.api_block.specs.declared.opened.Doing.{Doing}
 use Rattle.api_block.specs.declared.opened.Doing.TheVariants.{Beginning, Ready, Operating, Committing}
 use Rattle.api_block.specs.declared.opened.OpenTransaction.{OpenTransaction}
 use Rattle.api_block.specs.Api.{api_table, request_row}
-use Rattle.api_block.specs.Commands.{abort_by, abort_row, begin_at, begin_if, begin_row, beginning, commit_by, commit_row, dump_if, dump_row, node_for, tick_row, ticked_if}
+use Rattle.api_block.specs.Commands.{abort_by, abort_row, begin_at, begin_if, begin_row, beginning, commit_by}
+use Rattle.api_block.specs.Commands.{commit_row, dump_if, dump_row, node_for, tick_row, ticked_if}
 use Rattle.api_block.specs.Dump.{begun_dump, dump_replies, dumped_by, dumped_next, dumped_row}
 use Rattle.api_block.specs.Gathered.{gathered}
 use Rattle.api_block.specs.Members.{everyone, is_full, least_node, telling_all}
-use Rattle.api_block.specs.Opened.{answered, behind, begins, begins_at, begun, begun_operating, committing, has_tx, is_named, is_unanswered, operating, own_place_by, place_named, where_at}
-use Rattle.api_block.specs.Operate.{answer_by, answer_row, begun_by, begun_row, key_request, lone_by, lone_row, operate_by, operate_if, operate_row}
-use Rattle.api_block.specs.Outcome.{abort_report_row, acknowledging, commit_report_row, ending, over, refuse_row, unknown}
+use Rattle.api_block.specs.Opened.{answered, behind, begins, begins_at, begun, begun_operating, committing, has_tx}
+use Rattle.api_block.specs.Opened.{is_named, is_unanswered, operating, own_place_by, place_named, where_at}
+use Rattle.api_block.specs.Operate.{answer_by, answer_row, begun_by, begun_row, key_request, lone_by, lone_row}
+use Rattle.api_block.specs.Operate.{operate_by, operate_if, operate_row}
+use Rattle.api_block.specs.Outcome.{abort_report_row, acknowledging, commit_report_row, ending, over, refuse_row}
+use Rattle.api_block.specs.Outcome.{unknown}
 use Rattle.api_block.specs.Requests.{is_request}
 use Rattle.api_block.specs.State.{ApiState, about, changing, refused, replied, with_dump}
 use Rattle.api_block.specs.Wait.{behind_row, name_of, pending_by, pending_if, pending_row, waits_if, waits_row}
-use Rattle.host_laws.proofs.Focus.{IsFocus, none_placed, where_found}
-use Rattle.host_laws.specs.Counts.{tally}
 use Rattle.api_block.specs.declared.operate.TheConstants.{OPERATIONS}
+use Rattle.api_block.proofs.WhereFound.{where_found}
 
 -- nothing that was opened is what the signal tells of
 abbrev pub IsVoid : List OpenTransaction → Body → Type 0
@@ -64,7 +72,8 @@ NamedAt s name at = IsFocus (is_named (Some name)) s.opened at
 abbrev OwnAt : ApiState → TxId → ℕ → Type 0
 OwnAt s tx at = IsFocus (has_tx tx) s.opened at
 
--- a refusal that the API gives by itself: neither is the cluster down, nor does a coordinator have too many transactions
+-- a refusal that the API gives by itself: neither is the cluster down, nor does a coordinator have too many
+-- transactions
 abbrev pub is_own_refusal : Refusal → Bool
 is_own_refusal refusal.Down = false
 is_own_refusal refusal.TooManyOpen = false
@@ -79,11 +88,16 @@ pub record ApiRequestForms (s : ApiState) (asked : ApiReq) (R : Step ApiState �
       → nat_lt f.item.operations OPERATIONS ≡ true
       → R (key_request (about (changing s at (operating f.item)) (Some (Some name))) tx op)
   pub commits : (name at : ℕ) (f : NamedAt s name at) (tx : TxId) → f.item.doing ≡ Ready → f.item.tx ≡ Some tx
-      → R (sending (about (changing s at (committing f.item)) (Some (Some name))) (coordinator_of tx) (Client (TcCommitReq tx)))
+      → R (sending (about (changing s at (committing f.item)) (Some (Some name))) (coordinator_of tx)
+      (Client (TcCommitReq tx)))
   pub aborts : (name at : ℕ) (f : NamedAt s name at) (tx : TxId) → asked ≡ request.Abort name → f.item.tx ≡ Some tx
       → R (sending (about s (Some (Some name))) (coordinator_of tx) (Client (TcRollbackReq tx)))
   pub ticks : (of : ℕ) (last : Bool)
-      → R (record { state = about (ticked_if s of last) None; effects = record { sends = telling_all news.Round (everyone s.view); marks = [] } })
+      → R (record {
+        state = about (ticked_if s of last) None;
+        effects =
+            record { sends = telling_all news.Round (everyone s.view); marks = [] };
+      })
   pub dumps : (node : ℕ) (digest : Bool)
       → R (sending (with_dump (about s None) (Some (begun_dump node digest))) (rows_of node) (Client (DumpReq 0)))
   pub waits : (p : OpenTransaction → Bool) (at : ℕ) (f : IsFocus p s.opened at) (tx : TxId) → f.item.tx ≡ Some tx
@@ -97,7 +111,8 @@ pub record ApiRequestForms (s : ApiState) (asked : ApiReq) (R : Step ApiState �
 
 -- and at a signal
 pub record ApiSignalForms (s : ApiState) (body : Body) (R : Step ApiState → Type 0) : Type 0 where
-  pub begins_named : (name : Option ℕ) (tx : TxId) (at : ℕ) (f : IsFocus (begins_at name tx.tc) s.opened at) (called : ℕ)
+  pub begins_named : (name : Option ℕ) (tx : TxId) (at : ℕ) (f : IsFocus (begins_at name tx.tc) s.opened at)
+      (called : ℕ)
       → body ≡ Client (TcBeginConf name tx) → f.item.name ≡ Some called
       → R (stay (replied (changing s at (begun f.item tx)) (Begun called tx.tc ∷ [])))
   pub begins_alone : (name : Option ℕ) (tx : TxId) (at : ℕ) (f : IsFocus (begins_at name tx.tc) s.opened at) (op : Op)
@@ -113,7 +128,8 @@ pub record ApiSignalForms (s : ApiState) (body : Body) (R : Step ApiState → Ty
       → R (stay (replied (changing s at (answered f.item Ready)) (Answered (Some name) answer ∷ [])))
   pub answers_last : (tx : TxId) (answer : Answer) (at : ℕ) (f : OwnAt s tx at) → body ≡ Client (TcKeyConf tx answer)
       → f.item.doing ≡ Operating → f.item.name ≡ None
-      → R (sending (replied (changing s at (answered f.item Committing)) (Answered None answer ∷ [])) (coordinator_of tx) (Client (TcCommitReq tx)))
+      → R (sending (replied (changing s at (answered f.item Committing)) (Answered None answer ∷ []))
+      (coordinator_of tx) (Client (TcCommitReq tx)))
   pub answers_none : (tx : TxId) (answer : Answer) (at : ℕ) (f : OwnAt s tx at) → body ≡ Client (TcKeyConf tx answer)
       → (f.item.doing ≡ Operating → ⊥) → R (stay s)
   pub commits : (tx : TxId) (epoch at : ℕ) (f : OwnAt s tx at) → body ≡ Client (TcCommitConf tx epoch)
@@ -125,7 +141,8 @@ pub record ApiSignalForms (s : ApiState) (body : Body) (R : Step ApiState → Ty
   pub waits : (tx ahead : TxId) (at : ℕ) (f : OwnAt s tx at) → body ≡ Client (TcWaitConf tx ahead)
       → R (stay (changing s at (behind f.item (Some ahead))))
   pub dumps : (d : Dump) (rows : List (List ℕ × List ℕ)) (next : Option ℕ) (at : ℕ) → body ≡ Client (DumpConf rows next)
-      → R (sending (with_dump s (Some (record { node = d.node; digest = d.digest; rows = gathered d.rows rows }))) (rows_of d.node) (Client (DumpReq at)))
+      → R (sending (with_dump s (Some (record { node = d.node; digest = d.digest; rows = gathered d.rows rows })))
+      (rows_of d.node) (Client (DumpReq at)))
   pub dumped : (d : Dump) (rows : List (List ℕ × List ℕ)) (next : Option ℕ) → body ≡ Client (DumpConf rows next)
       → R (stay (replied (with_dump s None) (dump_replies d.node d.digest (gathered d.rows rows))))
   pub rests : IsVoid s.opened body → IsStray s.opened body → R (stay s)
@@ -165,7 +182,8 @@ module _ (s : ApiState) (asked : ApiReq) (R : Step ApiState → Type 0) (forms :
       named_turns name (λ at t. commit_by s name at t t.doing t.tx)
       (λ at f. commit_by_turns name at f f.item.doing f.item.tx refl refl)
 
-  abort_by_turns : (name at : ℕ) (f : NamedAt s name at) (tx : Option TxId) → asked ≡ request.Abort name → f.item.tx ≡ tx
+  abort_by_turns : (name at : ℕ) (f : NamedAt s name at) (tx : Option TxId) → asked ≡ request.Abort name
+      → f.item.tx ≡ tx
       → R (abort_by s name tx)
   abort_by_turns name at f None is d = forms.refuses (Some name) refusal.Busy refl
   abort_by_turns name at f (Some tx) is d = forms.aborts name at f tx is d
@@ -312,18 +330,21 @@ module _ (s : ApiState) (body : Body) (R : Step ApiState → Type 0) (forms : Ap
       → R (commit_report_row s tx epoch)
   unfolding commit_report_row
   commit_report_turns tx epoch is =
-      where_found (has_tx tx) s.opened _ _ R (λ none. forms.acknowledges tx epoch is none) (λ at f. forms.commits tx epoch at f is)
+      where_found (has_tx tx) s.opened _ _ R (λ none. forms.acknowledges tx epoch is none)
+      (λ at f. forms.commits tx epoch at f is)
 
   abort_report_turns : (tx : TxId) (cause : AbortCause) → body ≡ Client (TcRollbackRep tx cause)
       → R (abort_report_row s tx cause)
   unfolding abort_report_row
   abort_report_turns tx cause is =
-      where_found (has_tx tx) s.opened _ _ R (λ none. nothing (Client (TcRollbackRep tx cause)) is none tt) (λ at f. forms.aborts tx cause at f is)
+      where_found (has_tx tx) s.opened _ _ R (λ none. nothing (Client (TcRollbackRep tx cause)) is none tt)
+      (λ at f. forms.aborts tx cause at f is)
 
   behind_turns : (tx ahead : TxId) → body ≡ Client (TcWaitConf tx ahead) → R (stay (behind_row s tx ahead))
   unfolding behind_row
   behind_turns tx ahead is =
-      where_found (has_tx tx) s.opened s _ (λ after. R (stay after)) (λ none. nothing (Client (TcWaitConf tx ahead)) is tt tt) (λ at f. forms.waits tx ahead at f is)
+      where_found (has_tx tx) s.opened s _ (λ after. R (stay after))
+      (λ none. nothing (Client (TcWaitConf tx ahead)) is tt tt) (λ at f. forms.waits tx ahead at f is)
 
   dumped_turns : (rows : List (List ℕ × List ℕ)) (next : Option ℕ) → body ≡ Client (DumpConf rows next)
       → R (dumped_row s rows next)

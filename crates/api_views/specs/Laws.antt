@@ -1,0 +1,76 @@
+-- What is true of the client's side under views.
+use Rattle.std.specs.Prelude.{◌≡◌, ℕ, Bool, true, false, nat_lt, [], Option, None}
+use Rattle.sig_core.specs.declared.request.ApiReq.{ApiReq}
+use Rattle.sig_core.specs.declared.request.ApiReq.TheVariants as request
+use Rattle.sig_core.specs.declared.signal.Body.{Body}
+use Rattle.sig_core.specs.declared.signal.Body.TheVariants.{Host, Client}
+use Rattle.sig_core.specs.declared.signal.Signal.{Signal}
+use Rattle.sig_core.specs.declared.signal.client.ClientSignal.TheVariants.{TcBeginConf, TcBeginRef, TcKeyConf, TcCommitConf, TcRollbackRep, TcKeyFailConf, TcKeyFailRef, NfCompleteRep, TcWaitConf, DumpConf}
+use Rattle.sig_core.specs.declared.signal.host.HostSignal.TheVariants.{Continue}
+use Rattle.sig_core.specs.declared.signal.host.Work.TheVariants.{Request}
+use Rattle.sig_core.specs.declared.view.View.{View}
+use Rattle.sig_core.specs.Step.{stay}
+use Rattle.api_block.specs.Api.{api_row}
+use Rattle.api_block.specs.State.{ApiState}
+use Rattle.api_views.specs.Client.{client_row, is_known}
+use Rattle.api_views.specs.Members.{noted}
+use Rattle.api_views.specs.State.{ClientState, within}
+use Rattle.api_views.specs.Stops.{is_down}
+
+-- no host stopped, no node was cut, and no closing of an epoch is asked for
+abbrev pub calm_state : ApiState → ℕ → Option View → ClientState
+calm_state a nodes over =
+    record { api = a; nodes = nodes; stops = []; cuts = []; taken_over = over; closing = None; own = false }
+
+-- a signal of a member of the greatest view, which has a full member, that brings no greater one
+pub record IsCalmSignal (s : ClientState) (x : Signal) : Type 0 where
+  pub view : nat_lt s.api.view.number x.view.number ≡ false
+  pub known : is_known s x ≡ true
+  pub up : is_down s ≡ false
+
+-- a request that a calm cluster serves
+abbrev pub is_served : ApiReq → Bool
+is_served (request.Begin name at) = true
+is_served (request.Operate name op) = true
+is_served (request.Commit name) = true
+is_served (request.Abort name) = true
+is_served (request.Tick round of) = true
+is_served (request.Rows at) = true
+is_served (request.Digest at) = true
+is_served request.Waits = true
+is_served request.Pending = true
+is_served _ = false
+
+-- a signal that a calm cluster sends to the client
+abbrev pub is_calm_body : Body → Bool
+is_calm_body (Host (Continue (Request r) at)) = is_served r
+is_calm_body (Client (TcBeginConf name tx)) = true
+is_calm_body (Client (TcBeginRef name)) = true
+is_calm_body (Client (TcKeyConf tx answer)) = true
+is_calm_body (Client (TcCommitConf tx epoch)) = true
+is_calm_body (Client (TcRollbackRep tx cause)) = true
+is_calm_body (Client (TcWaitConf tx ahead)) = true
+is_calm_body (Client (DumpConf rows next)) = true
+is_calm_body _ = false
+
+-- in a calm cluster a step is the API's
+abbrev pub CalmSteps : Type 0
+CalmSteps =
+    (a : ApiState) (nodes : ℕ) (over : Option View) (x : Signal)
+    → IsCalmSignal (calm_state a nodes over) x → is_calm_body x.body ≡ true
+    → client_row (calm_state a nodes over) x ≡ within (calm_state a nodes over) (api_row a x)
+
+-- a signal that tells how a transaction ended
+abbrev pub is_report : Body → Bool
+is_report (Client (TcCommitConf tx epoch)) = true
+is_report (Client (TcRollbackRep tx cause)) = true
+is_report (Client (TcKeyFailConf tx epoch)) = true
+is_report (Client (TcKeyFailRef tx)) = true
+is_report (Client NfCompleteRep) = true
+is_report _ = false
+
+-- of a member that isn't in the greatest view it changes nothing, but that its view was seen
+abbrev pub DroppedChangesNothing : Type 0
+DroppedChangesNothing =
+    (s : ClientState) (x : Signal) → is_report x.body ≡ true → is_known (noted s x.view) x ≡ false
+    → client_row s x ≡ stay (noted s x.view)

@@ -1,0 +1,9 @@
+pub mod Client
+pub mod Closings
+pub mod Commands
+pub mod Laws
+pub mod Members
+pub mod Pending
+pub mod Reports
+pub mod State
+pub mod Stops

@@ -1,0 +1,14 @@
+//! What is true of the client's side under views.
+ghost use Rattle.api_views.specs.Laws.{CalmSteps, DroppedChangesNothing};
+
+/// Where no host stopped, no node was cut and no closing of an epoch is asked for, a step at a
+/// signal of a member of the greatest view, which has a full member, is that of the API.
+pub fn calm_steps()
+    ensures { CalmSteps }
+{}
+
+/// A signal that tells how a transaction ended, from a member that isn't in the greatest view,
+/// changes nothing but that its view was seen.
+pub fn dropped_changes_nothing()
+    ensures { DroppedChangesNothing }
+{}

@@ -1,0 +1,15 @@
+pub mod Askers
+pub mod Attended
+pub mod Behind
+pub mod Carried
+pub mod Completed
+pub mod Ending
+pub mod Ends
+pub mod Gone
+pub mod Later
+pub mod LetGo
+pub mod Lines
+pub mod Over
+pub mod Passed
+pub mod Performs
+pub mod Sources

@@ -1,0 +1,40 @@
+//! Whom a transaction waits for at a replica behind the primary.
+ghost use Rattle.order_laws.specs.Carried.{CarriedOutStayOut};
+ghost use Rattle.order_laws.specs.Gone.{WhoHasGoneIsOut};
+ghost use Rattle.order_laws.specs.LetGo.{HoldersAreEnding, HoldersHaveLetGo, LaterHoldersAreGivenUp, WhoLetsGoIsOver};
+
+/// After every run: whom a transaction waits for at a place of a key's chain behind the first has let
+/// go of the key at the place in front, by an abort, by a completion, or by its commit at the primary.
+#[tactic(auto, using(crate::proofs::LetGo::holders_have_let_go))]
+pub fn holders_have_let_go()
+    ensures { HoldersHaveLetGo }
+{}
+
+/// So where its coordinator hasn't forgotten it, it is decided there or being aborted: nobody waits at
+/// a backup for a transaction that takes operations or waits for its epoch.
+pub fn holders_are_ending()
+    ensures { HoldersAreEnding }
+{}
+
+/// Who has let go of a key at a host is given up or carried out by its coordinator.
+#[tactic(auto, using(crate::proofs::Over::who_lets_go_is_over))]
+pub fn who_lets_go_is_over()
+    ensures { WhoLetsGoIsOver }
+{}
+
+/// Who has let go of a key at a host, and hasn't asked for it there since, neither holds its lock nor
+/// waits for it: no request of another, no serving of the queue and no round brings it back.
+pub fn who_has_gone_is_out()
+    ensures { WhoHasGoneIsOut }
+{}
+
+/// A transaction that is carried out neither holds nor waits for a lock that it has let go of.
+pub fn carried_out_stay_out()
+    ensures { CarriedOutStayOut }
+{}
+
+/// Whom a transaction waits for at a place of a key's chain behind the second is given up by its
+/// coordinator: a row is completed at each place behind the place after it.
+pub fn later_holders_are_given_up()
+    ensures { LaterHoldersAreGivenUp }
+{}

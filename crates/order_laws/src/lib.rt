@@ -1,0 +1,9 @@
+//! The replicas of a key lock it in one order.
+#![tactic(auto)]
+
+mod laws;
+
+pub use laws::{
+    holders_are_ending, holders_have_let_go, later_holders_are_given_up, who_has_gone_is_out,
+    who_lets_go_is_over,
+};

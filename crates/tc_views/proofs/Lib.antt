@@ -1,0 +1,3 @@
+pub mod CalmLemmas
+pub mod DoomLemmas
+pub mod LeftLemmas

@@ -1,0 +1,4 @@
+pub mod Coordinator
+pub mod Laws
+pub mod State
+pub mod Views

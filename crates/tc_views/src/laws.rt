@@ -1,0 +1,24 @@
+//! What is true of a coordinator under views, whatever comes.
+ghost use Rattle.tc_views.specs.Laws.{CalmSteps, DoomedAreNotDecided, FailedAreToldTheView, NoneIsLeftTwice};
+
+/// Where nothing is doomed and nothing is left to do, a coordinator steps as it does within its
+/// view, but at the promise of a view and where it goes on with an installation or a list of an
+/// older view.
+pub fn calm_steps()
+    ensures { CalmSteps }
+{}
+
+/// A doomed transaction that isn't decided is decided by no step.
+pub fn doomed_are_not_decided()
+    ensures { DoomedAreNotDecided }
+{}
+
+/// What an installation leaves to do has no transaction twice.
+pub fn none_is_left_twice()
+    ensures { NoneIsLeftTwice }
+{}
+
+/// A transaction that an installation leaves to be aborted is aborted with the number of the view.
+pub fn failed_are_told_the_view()
+    ensures { FailedAreToldTheView }
+{}

@@ -1,0 +1,13 @@
+//! The transaction coordinator of a node, under views: what fences and installations make of its
+//! transactions.
+#![tactic(auto)]
+
+mod coordinator;
+mod laws;
+mod views;
+
+pub use coordinator::Coordinator;
+pub use laws::{calm_steps, doomed_are_not_decided, failed_are_told_the_view, none_is_left_twice};
+
+#[cfg(test)]
+mod tests;
