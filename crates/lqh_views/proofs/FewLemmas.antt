@@ -1,6 +1,7 @@
 -- A step of the rows sends at most four signals.
-use Rattle.std.proofs.Common.{◌≡◌, ◌==◌, ℕ, ◌+◌, ◌≤◌, Bool, true, false, List, [], ◌∷◌, ◌++◌, length, ap, sym, subst, arith}
-use Rattle.std.specs.Prelude.{is_some, nat_lt, remove, Option, None, Some, slice_get}
+use Rattle.std.proofs.Common.{◌≡◌, ◌==◌, ℕ, suc, ◌+◌, ◌≤◌, Bool, true, false, List, [], ◌∷◌, ◌++◌, length, arith}
+use Rattle.std.proofs.lemmas.List.{length-append}
+use Rattle.std.specs.Prelude.{is_some, nat_lt, remove, Option}
 use Rattle.sig_core.specs.declared.member.Member.{Member}
 use Rattle.sig_core.specs.declared.member.TxId.{TxId}
 use Rattle.sig_core.specs.declared.outs.Outgoing.{Outgoing}
@@ -8,24 +9,31 @@ use Rattle.sig_core.specs.declared.signal.Body.{Body}
 use Rattle.sig_core.specs.declared.signal.Signal.{Signal}
 use Rattle.sig_core.specs.declared.signal.host.Work.{Work}
 use Rattle.sig_core.specs.declared.signal.host.Work.TheVariants as work
-use Rattle.sig_core.specs.Step.{Step}
+use Rattle.sig_core.specs.declared.outcome.AbortCause.TheVariants as cause
+use Rattle.sig_core.specs.declared.signal.Body.TheVariants.{Chain}
+use Rattle.sig_core.specs.declared.signal.chain.ChainSignal.TheVariants.{Aborted}
+use Rattle.sig_core.specs.Place.{coordinator_of}
+use Rattle.sig_core.specs.Step.{Step, to_place}
 use Rattle.row_locks.specs.Rounds.{expired}
 use Rattle.row_locks.specs.Rows.{Served}
+use Rattle.row_locks.specs.Tables.{unwaited_at}
 use Rattle.lqh_block.specs.declared.request.Request.{Request}
 use Rattle.lqh_block.specs.Expire as expire
 use Rattle.lqh_block.specs.Lqh.{lqh_row, lqh_table}
 use Rattle.lqh_block.specs.Operate as operate
 use Rattle.lqh_block.specs.State.{LqhState, freed_lock, go_on_if, serve_granted, storage_of, with_lock, with_waiting}
 use Rattle.lqh_block.specs.Storage as storage
-use Rattle.lqh_block.specs.Storage.{StorageState}
+use Rattle.lqh_block.specs.Storage.{StorageState, refusal}
 use Rattle.lqh_block.proofs.LqhForms.{ExpireForms, LqhForms, aborting, completing, expiring, lqh_forms, perform_forms}
 
+-- one signal, and some behind it
+one_more : (xs : List Outgoing) (n : ℕ) → length xs ≤ n → suc (length xs) ≤ suc n
+one_more xs n few = omega (arith, few)
+
 append_few : (xs ys : List Outgoing) (m n : ℕ) → length xs ≤ m → length ys ≤ n → length (xs ++ ys) ≤ m + n
-append_few [] ys m n few more = omega (arith, few, more)
-append_few (x ∷ xs) ys m n few more =
-    let rest = append_few xs ys (length xs) n (omega arith) more in
-    let head : 1 + length xs ≤ m = few in
-    omega (arith, rest, head)
+append_few xs ys m n few more =
+    let all = length-append xs ys in
+    omega (arith, few, more, all)
 
 goes_on : (node : ℕ) (what : Work) (b : Bool) → length (go_on_if node what b) ≤ 1
 goes_on node what true = omega arith
@@ -44,68 +52,69 @@ abbrev Few : {S : Type 0} → Step S → Type 0
 Few step = length step.effects.sends ≤ 4
 
 -- one signal, and the one to go on with granted waits
-one_more : (s : LqhState) (served : Served) → 1 + length (serve_granted s.node served) ≤ 4
-one_more s served =
-    let more = goes_on s.node work.Granted (nat_lt 0 served.granted) in
-    omega (arith, more)
+granted_few : (node : ℕ) (served : Served) → suc (length (serve_granted node served)) ≤ 2
+granted_few node served = one_more (serve_granted node served) 1 (goes_on node work.Granted (nat_lt 0 served.granted))
+
+wider : (n m : ℕ) → n ≤ m → m ≤ 4 → n ≤ 4
+wider n m few more = omega (arith, few, more)
+
+serves_few : (node : ℕ) (served : Served) → suc (length (serve_granted node served)) ≤ 4
+serves_few node served = wider _ 2 (granted_few node served) (omega arith)
 
 aborts_few : (s : LqhState) (tx : TxId) (key : List ℕ) (waiting : List Request) (st : StorageState)
     (had : Option Bool) (refused : List Outgoing) → length refused ≤ 1 → Few (aborting s tx key waiting st had refused)
 aborts_few s tx key waiting st had refused few =
-    let more = goes_on s.node work.Granted (nat_lt 0 (freed_lock s tx key).granted) in
-    let two : 1 + length (serve_granted s.node (freed_lock s tx key)) ≤ 2 = omega (arith, more) in
-    let all = append_few refused _ 1 2 few two in
-    omega (arith, all)
+    let served = freed_lock s tx key in
+    let told = to_place (coordinator_of tx) (Chain (Aborted tx key)) ∷ serve_granted s.node served in
+    wider _ 3 (append_few refused told 1 2 few (granted_few s.node served)) (omega arith)
 
 expires_few : (s : LqhState) → ExpireForms (λ step. Few step) s
 expires_few s = record {
   rests = λ is. omega arith;
-  none = λ tx key is none. one tx key _ _;
-  some = λ tx key is at r there here. one tx key _ _;
+  none = λ tx key is none. one tx key (unwaited_at s.locks key tx) s.waiting;
+  some = λ tx key is at r there here. one tx key (unwaited_at s.locks key tx) (remove s.waiting at);
 }
   where
     one : (tx : TxId) (key : List ℕ) (served : Served) (waiting : List Request)
         → Few (expiring s tx key served waiting)
     one tx key served waiting =
-        let all = append_few (serve_granted s.node served) (expire.more_expired (with_lock s key served)) 1 1
-        (goes_on s.node work.Granted (nat_lt 0 served.granted))
-        (goes_on s.node work.Expired (is_some (expired (with_lock s key served).locks))) in
-        let three : 1 + length (serve_granted s.node served ++ expire.more_expired (with_lock s key served)) ≤ 3 =
-        omega (arith, all) in
-        omega (arith, three)
+        let granted = serve_granted s.node served in
+        let more = expire.more_expired (with_lock s key served) in
+        let two = append_few granted more 1 1 (goes_on s.node work.Granted (nat_lt 0 served.granted))
+            (goes_on s.node work.Expired (is_some (expired (with_lock s key served).locks))) in
+        wider _ 3 (one_more (granted ++ more) 2 two) (omega arith)
 
 grants_few : (s : LqhState) (r : Request) → Few (operate.granted_on s r)
 grants_few s r =
-    let all = append_few (operate.performed s r).effects.sends (operate.more_granted s) 1 1
-    (performs (storage_of s) r) (goes_on s.node work.Granted (is_some (operate.first_granted s.locks s.waiting))) in
-    omega (arith, all)
+    let all = append_few (operate.performed s r).effects.sends (operate.more_granted s) 1 1 (performs (storage_of s) r)
+        (goes_on s.node work.Granted (is_some (operate.first_granted s.locks s.waiting))) in
+    wider _ 2 all (omega arith)
 
 asks_few : (s : LqhState) (r : Request) → Few (operate.performed s r)
 asks_few s r =
-    let one = performs (storage_of s) r in
-    omega (arith, one)
+    wider _ 1 (performs (storage_of s) r) (omega arith)
 
 forms : (s : LqhState) → LqhForms (λ body step. Few step) s
 forms s = record {
   asks = λ r. record {
-    granted = λ is. asks_few _ r;
+    granted = λ is. asks_few (operate.asked_for s r) r;
     queued = λ ahead is. omega arith;
   };
   grants = λ at. record {
     none = λ is. omega arith;
-    some = λ place r is here. grants_few _ r;
+    some = λ place r is here. grants_few (with_waiting s (remove s.waiting place)) r;
   };
   commits = λ tx key epoch chain at. record {
-    last = λ had st markers applies first. one_more s (freed_lock s tx key);
+    last = λ had st markers applies first. serves_few s.node (freed_lock s tx key);
     passes = λ had st markers applies first. omega arith;
   };
   completes = λ tx key chain at. record {
-    last = λ first. one_more s (freed_lock s tx key);
-    passes = λ first. one_more s (freed_lock s tx key);
+    last = λ first. serves_few s.node (freed_lock s tx key);
+    passes = λ first. serves_few s.node (freed_lock s tx key);
   };
   aborts = λ tx key. record {
-    none = λ had st gives none. aborts_few s tx key _ _ _ [] (omega arith);
-    some = λ had st gives at r there here. aborts_few s tx key _ _ _ _ (omega arith);
+    none = λ had st gives none. aborts_few s tx key s.waiting st had [] (omega arith);
+    some = λ had st gives at r there here. aborts_few s tx key (remove s.waiting at) st had (refusal tx key cause.Request ∷ []) (omega arith);
   };
   acknowledges = λ tx markers. omega arith;
   waits = λ tx key. record {
@@ -125,7 +134,8 @@ few_sends s x = lqh_forms (λ body step. Few step) s (forms s) x.body
 pub room-for : (s : LqhState) (x : Signal) (before : List Outgoing) → length before + 12 ≤ 16
     → length (before ++ (lqh_row s x).effects.sends) ≤ 16
 room-for s x before room =
-    let all = append_few before (lqh_row s x).effects.sends 4 4 (omega (arith, room)) (few_sends s x) in
-    omega (arith, all)
+    let few = few_sends s x in
+    let all = length-append before (lqh_row s x).effects.sends in
+    omega (arith, room, few, all)
 
 pub ruleset few = (room-for)
