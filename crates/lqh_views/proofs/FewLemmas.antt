@@ -81,13 +81,13 @@ expires_few s = record {
         let granted = serve_granted s.node served in
         let more = expire.more_expired (with_lock s key served) in
         let two = append_few granted more 1 1 (goes_on s.node work.Granted (nat_lt 0 served.granted))
-            (goes_on s.node work.Expired (is_some (expired (with_lock s key served).locks))) in
+        (goes_on s.node work.Expired (is_some (expired (with_lock s key served).locks))) in
         wider _ 3 (one_more (granted ++ more) 2 two) (omega arith)
 
 grants_few : (s : LqhState) (r : Request) → Few (operate.granted_on s r)
 grants_few s r =
     let all = append_few (operate.performed s r).effects.sends (operate.more_granted s) 1 1 (performs (storage_of s) r)
-        (goes_on s.node work.Granted (is_some (operate.first_granted s.locks s.waiting))) in
+    (goes_on s.node work.Granted (is_some (operate.first_granted s.locks s.waiting))) in
     wider _ 2 all (omega arith)
 
 asks_few : (s : LqhState) (r : Request) → Few (operate.performed s r)
