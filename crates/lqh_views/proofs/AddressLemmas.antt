@@ -1,5 +1,6 @@
 -- Signals that are addressed in a view.
-use Rattle.std.proofs.Common.{◌≡◌, ℕ, zero, suc, ◌+◌, ◌-◌, Bool, true, false, List, [], ◌∷◌, ◌++◌, length, map, refl, ap, arith}
+use Rattle.std.proofs.Common.{◌≡◌, ℕ, zero, suc, ◌+◌, ◌-◌, Bool, true, false, List, [], ◌∷◌, ◌++◌, length, map, refl, ap, sym, ◌∙◌, arith}
+use Rattle.std.proofs.lemmas.List.{append_assoc}
 use Rattle.std.specs.Prelude.{Option, None, Some}
 use Rattle.sig_core.specs.declared.member.Member.{Member}
 use Rattle.sig_core.specs.declared.member.TxId.{TxId}
@@ -21,6 +22,14 @@ behind-next view zero send sends = refl
 behind-next view (suc n) send sends =
     let same : suc n - 1 ≡ n = omega arith in
     rw same refl
+
+-- so it goes from those that are left to those that were moved
+pub one-moved : (view : View) (passed : ℕ) (send : Outgoing) (moved left : List Outgoing)
+    → (moved ++ (next_of view passed send ∷ [])) ++ addressed_behind view (passed - 1) left
+    ≡ moved ++ addressed_behind view passed (send ∷ left)
+one-moved view passed send moved left =
+    append_assoc moved (next_of view passed send ∷ []) (addressed_behind view (passed - 1) left)
+    ∙ ap (λ rest. moved ++ rest) (sym (behind-next view passed send left))
 
 pub behind-none : (view : View) (passed : ℕ) → addressed_behind view passed [] ≡ []
 behind-none view zero = refl

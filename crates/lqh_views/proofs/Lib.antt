@@ -1,3 +1,4 @@
 pub mod AddressLemmas
+pub mod FewLemmas
 pub mod LastLemmas
 pub mod LawLemmas

@@ -47,7 +47,8 @@ fn to_takeover(full: &[Member], send: Outgoing) -> Outgoing
 
 /// How many signals there are to send. The other effects are empty, before and after.
 pub fn count_sends(out: &mut Outs, aside: &mut Outs) -> usize
-    requires { aside.old ≡ nothing }
+    requires few { length out.old.sends ≤ 16 }
+    requires empty { aside.old ≡ nothing }
     ensures count { result ≡ length out.old.sends }
     ensures same { out.new ≡ out.old }
     ensures empty { aside.new ≡ nothing }
@@ -77,7 +78,8 @@ fn move_sends(from: &mut Outs, to: &mut Outs) -> usize
 /// Addresses the signals behind the first `before` ones in a view. The other effects are empty,
 /// before and after.
 pub fn address_behind(view: &View, before: usize, out: &mut Outs, aside: &mut Outs)
-    requires { aside.old ≡ nothing }
+    requires few { length out.old.sends ≤ 16 }
+    requires empty { aside.old ≡ nothing }
     ensures sends { out.new.sends ≡ addressed_behind view.now before out.old.sends }
     ensures marks { out.new.marks ≡ out.old.marks }
     ensures empty { aside.new ≡ nothing }
@@ -89,7 +91,8 @@ pub fn address_behind(view: &View, before: usize, out: &mut Outs, aside: &mut Ou
 // Moves all signals, those behind the first ones addressed in a view.
 #[tactic(auto, using(crate::proofs::AddressLemmas::addresses))]
 fn move_addressed(view: &View, before: usize, from: &mut Outs, to: &mut Outs)
-    requires { to.old ≡ nothing }
+    requires few { length from.old.sends ≤ 16 }
+    requires empty { to.old ≡ nothing }
     ensures sends { to.new.sends ≡ addressed_behind view.now before from.old.sends }
     ensures count { length to.new.sends ≡ length from.old.sends }
     ensures none { from.new.sends ≡ [] }

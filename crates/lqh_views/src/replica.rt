@@ -90,7 +90,7 @@ impl<R: Rows, J: Journal> Replica<R, J> {
 
 impl<R: Rows, J: Journal> Replica<R, J> {
     // A signal goes on to the rows.
-    #[tactic(auto, using(crate::proofs::AddressLemmas::addresses))]
+    #[tactic(auto, using(crate::proofs::AddressLemmas::addresses, crate::proofs::FewLemmas::few))]
     fn pass(&mut self, alloc: Global, signal: &Signal, out: &mut Outs) -> Result<(), NoMemory>
         requires { HasRoom out.old }
         ensures ok { OnOk result (IsTaken (passed self.old signal.now) self.new out.old out.new) }
