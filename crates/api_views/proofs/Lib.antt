@@ -1,2 +1,3 @@
 pub mod CalmLemmas
 pub mod DropLemmas
+pub mod OnceLemmas

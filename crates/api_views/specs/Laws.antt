@@ -1,5 +1,8 @@
 -- What is true of the client's side under views.
-use Rattle.std.specs.Prelude.{◌≡◌, ℕ, Bool, true, false, nat_lt, [], Option, None}
+use Rattle.std.specs.Prelude.{◌≡◌, ℕ, Bool, true, false, nat_lt, List, [], ◌∷◌, remove, slice_get, Option, None, Some}
+use Rattle.sig_core.specs.declared.mark.Mark.{Mark}
+use Rattle.sig_core.specs.declared.mark.Mark.TheVariants.{Reported}
+use Rattle.sig_core.specs.declared.member.TxId.{TxId}
 use Rattle.sig_core.specs.declared.request.ApiReq.{ApiReq}
 use Rattle.sig_core.specs.declared.request.ApiReq.TheVariants as request
 use Rattle.sig_core.specs.declared.signal.Body.{Body}
@@ -10,6 +13,7 @@ use Rattle.sig_core.specs.declared.signal.host.HostSignal.TheVariants.{Continue}
 use Rattle.sig_core.specs.declared.signal.host.Work.TheVariants.{Request}
 use Rattle.sig_core.specs.declared.view.View.{View}
 use Rattle.sig_core.specs.Step.{stay}
+use Rattle.api_block.specs.declared.opened.OpenTransaction.{OpenTransaction}
 use Rattle.api_block.specs.Api.{api_row}
 use Rattle.api_block.specs.State.{ApiState}
 use Rattle.api_views.specs.Client.{client_row, is_known}
@@ -74,3 +78,23 @@ abbrev pub DroppedChangesNothing : Type 0
 DroppedChangesNothing =
     (s : ClientState) (x : Signal) → is_report x.body ≡ true → is_known (noted s x.view) x ≡ false
     → client_row s x ≡ stay (noted s x.view)
+
+-- an open transaction of this number is taken out, and the others stay
+pub record IsTakenOut (tx : TxId) (before after : List OpenTransaction) : Type 0 where
+  pub at : ℕ
+  pub t : OpenTransaction
+  pub there : slice_get before at ≡ Some t
+  pub own : t.tx ≡ Some tx
+  pub gone : after ≡ remove before at
+
+-- these marks tell of no end, or of that of one transaction, which is taken out
+abbrev pub AreToldOnce : List OpenTransaction → List OpenTransaction → List Mark → Type 0
+AreToldOnce before after [] = Unit {0}
+AreToldOnce before after (Reported tx outcome ∷ []) = IsTakenOut tx before after
+AreToldOnce before after _ = ⊥
+
+-- a step tells of one end at most, and takes the transaction out that it tells of
+abbrev pub EndsAreToldOnce : Type 0
+EndsAreToldOnce =
+    (s : ClientState) (x : Signal)
+    → AreToldOnce s.api.opened (client_row s x).state.api.opened (client_row s x).effects.marks

@@ -15,7 +15,7 @@ mod stops;
 pub use client::Client;
 pub use closings::Closing;
 pub use cuts::CutPair;
-pub use laws::{calm_steps, dropped_changes_nothing};
+pub use laws::{calm_steps, dropped_changes_nothing, ends_are_told_once};
 pub use reports::Verdict;
 pub use stops::HostStop;
 
