@@ -21,6 +21,7 @@ use Rattle.sig_core.specs.Rows.{prepared}
 use Rattle.sig_core.specs.Same.{same_tx}
 use Rattle.row_locks.specs.declared.mode.Lock.{Lock}
 use Rattle.row_locks.specs.declared.mode.Lock.TheVariants.{Granted, Queued}
+use Rattle.row_locks.specs.Holders.{holds}
 use Rattle.row_locks.specs.Rows.{RowLock, asked}
 use Rattle.lqh_block.specs.declared.request.Request.{Request}
 use Rattle.lqh_block.specs.Work.{work_mode}
@@ -44,7 +45,8 @@ use Rattle.run_laws.proofs.KeyMoves.{replica_along}
 use Rattle.run_laws.proofs.KeyTokens.{asked_tokens, event_tokens, operated_token, performed_token, refuses}
 use Rattle.run_laws.proofs.KeyTokens.{served_tokens, stored_token, work_token}
 use Rattle.run_laws.proofs.RoutedEvents.{placed_runs}
-use Rattle.order_laws.specs.Records.{HoldersHaveRecords}
+use Rattle.order_laws.specs.LetGo.{has_let_go, lock_at_place}
+use Rattle.order_laws.specs.Records.{HoldersHaveRecords, has_record}
 use Rattle.order_laws.proofs.Askers.{asker, came, lined_along}
 use Rattle.order_laws.proofs.Attended.{first_idle}
 use Rattle.order_laws.proofs.Behind.{is_among}
@@ -273,35 +275,41 @@ module _ (start : Start) (key : List ℕ) (j h : ℕ)
   known_along [] = record { among = λ u is. absurd cc }
   known_along (e ∷ log) = step_known e log (known_along log)
 
+module _ (start : Start) (es : List HostStep) (key : List ℕ) (at : ℕ) (tx : TxId) (run : IsRun start es)
+    (inside : at + 1 < length (replicas start key)) where
+  abbrev front : ℕ
+  front = replica_host start key at
+
+  abbrev here : ℕ
+  here = replica_host start key (at + 1)
+
+  -- the replica in front passed it on
+  abbrev pub IsPassed : Type 0
+  IsPassed = is_among tx (passed start key here front (logs_of start es front)) ≡ true
+
+  pub holders_passed : holds tx (lock_at_place start (logs_of start es) key (at + 1)).holders ≡ true → IsPassed
+  holders_passed holding =
+      let line = lined_along key start here (first_idle start key (at + 1) run.shape inside) (logs_of start es here) in
+      let past = came_past start es key at run inside in
+      subst (λ xs. is_among tx xs ≡ true) (sym past.is)
+      (among_past tx past.newer (came key (logs_of start es here)) (line.holders tx holding))
+
+  pub passed_known : IsPassed → (has_record start (logs_of start es) key front tx ≡ true)
+      ⊎ (has_let_go start (logs_of start es) key front tx ≡ true)
+  passed_known is =
+      by
+      ((known_along start key here front
+      (λ log. placed_runs start front key at log run.shape
+      (record { inside = omega (arith, inside); host_is = refl }))
+      (logs_of start es front)).among tx is)
+    where
+      by : IsKnown (primary_along start front key (logs_of start es front)).ended
+          (key_in key (after start front (logs_of start es front))).cell.pending tx
+          → (has_record start (logs_of start es) key front tx ≡ true)
+          ⊎ (has_let_go start (logs_of start es) key front tx ≡ true)
+      by (inl gone) = inr gone
+      by (inr there) = inl there
+
 pub holders_have_records : HoldersHaveRecords
-holders_have_records start es key at tx run is = by (among came_there)
-  where
-    front : ℕ
-    front = replica_host start key at
-
-    here : ℕ
-    here = replica_host start key (at + 1)
-
-    came_there : is_among tx (came key (logs_of start es here)) ≡ true
-    came_there =
-        (lined_along key start here (first_idle start key (at + 1) run.shape is.inside)
-        (logs_of start es here)).holders tx is.holding
-
-    among : is_among tx (came key (logs_of start es here)) ≡ true
-        → IsKnown (primary_along start front key (logs_of start es front)).ended
-        (key_in key (after start front (logs_of start es front))).cell.pending tx
-    among there =
-        let past = came_past start es key at run is.inside in
-        (known_along start key here front
-        (λ log. placed_runs start front key at log run.shape
-        (record { inside = omega (arith, is.inside); host_is = refl }))
-        (logs_of start es front)).among tx
-        (subst (λ xs. is_among tx xs ≡ true) (sym past.is)
-        (among_past tx past.newer (came key (logs_of start es here)) there))
-
-    by : IsKnown (primary_along start front key (logs_of start es front)).ended
-        (key_in key (after start front (logs_of start es front))).cell.pending tx
-        → (is_recorded tx (key_in key (after start front (logs_of start es front))).cell.pending ≡ true)
-        ⊎ ((primary_along start front key (logs_of start es front)).ended tx ≡ true)
-    by (inl gone) = inr gone
-    by (inr there) = inl there
+holders_have_records start es key at tx run is =
+    passed_known start es key at tx run is.inside (holders_passed start es key at tx run is.inside is.holding)

@@ -1,12 +1,13 @@
 -- Who holds a lock behind the first place of a chain has a record of the key at the place in front.
-use Rattle.std.specs.Prelude.{◌≡◌, ◌⊎◌, ◌<◌, ◌+◌, ℕ, Bool, true, false, is_some, List, length, Some}
+use Rattle.std.specs.Prelude.{◌≡◌, ◌⊎◌, ◌<◌, ◌+◌, ◌||◌, ℕ, Bool, true, false, is_some, List, length, Some}
 use Rattle.std.specs.List.{list_any}
 use Rattle.sig_core.specs.declared.member.TxId.{TxId}
 use Rattle.sig_core.specs.declared.op.Answer.{Answer}
 use Rattle.sig_core.specs.declared.op.Op.{Op}
 use Rattle.row_locks.specs.Holders.{holds}
-use Rattle.tc_block.specs.declared.phase.Phase.TheVariants.{Verifying}
 use Rattle.tc_block.specs.declared.transaction.Transaction.{Transaction}
+use Rattle.tc_block.specs.Abort.{is_verifying}
+use Rattle.tc_block.specs.Phases.{is_decided}
 use Rattle.world_core.specs.History.{is_done}
 use Rattle.world_core.specs.Start.{Start}
 use Rattle.world_core.specs.Steps.{HostStep}
@@ -36,11 +37,11 @@ HoldersHaveRecords =
     → (has_record start (logs_of start es) key (replica_host start key at) tx ≡ true)
     ⊎ (has_let_go start (logs_of start es) key (replica_host start key at) tx ≡ true)
 
--- a transaction that waits for its epoch, and isn't given up, has written each key whose lock it holds behind the first
--- place
-abbrev pub WhoWaitsHasWritten : Type 0
-WhoWaitsHasWritten =
+-- a transaction whose commit was asked for, and that isn't given up, has written each key whose lock it holds behind the
+-- first place
+abbrev pub WhoCommitsHasWritten : Type 0
+WhoCommitsHasWritten =
     (start : Start) (es : List HostStep) (key : List ℕ) (at : ℕ) (tx : TxId) (t : Transaction) → IsRun start es
     → is_given_up start (logs_of start es) tx ≡ false → live_at start (logs_of start es) tx ≡ Some t
-    → t.phase ≡ Verifying → HoldsBehind start (logs_of start es) key at tx
+    → (is_verifying t.phase || is_decided t.phase) ≡ true → HoldsBehind start (logs_of start es) key at tx
     → list_any (λ (op : Op × Answer). is_done op.1) (ops_on key t.ops) ≡ true

@@ -2,7 +2,7 @@
 ghost use Rattle.order_laws.specs.Carried.{CarriedOutStayOut};
 ghost use Rattle.order_laws.specs.Gone.{WhoHasGoneIsOut};
 ghost use Rattle.order_laws.specs.LetGo.{HoldersAreEnding, HoldersHaveLetGo, LaterHoldersAreGivenUp, WhoLetsGoIsOver};
-ghost use Rattle.order_laws.specs.Records.{HoldersHaveRecords, WhoWaitsHasWritten};
+ghost use Rattle.order_laws.specs.Records.{HoldersHaveRecords, WhoCommitsHasWritten};
 
 /// After every run: whom a transaction waits for at a place of a key's chain behind the first has let
 /// go of the key at the place in front, by an abort, by a completion, or by its commit at the primary.
@@ -47,9 +47,9 @@ pub fn holders_have_records()
     ensures { HoldersHaveRecords }
 {}
 
-/// A transaction that waits for its epoch, and isn't given up, has written each key whose lock it
-/// holds at a backup.
-#[tactic(auto, using(crate::proofs::Written::who_waits_has_written))]
-pub fn who_waits_has_written()
-    ensures { WhoWaitsHasWritten }
+/// A transaction whose commit was asked for, and that isn't given up, has written each key whose lock
+/// it holds at a backup.
+#[tactic(auto, using(crate::proofs::Written::who_commits_has_written))]
+pub fn who_commits_has_written()
+    ensures { WhoCommitsHasWritten }
 {}
