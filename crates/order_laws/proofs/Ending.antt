@@ -24,7 +24,7 @@ use Rattle.order_laws.proofs.LetGo.{holders_have_let_go}
 use Rattle.order_laws.proofs.Over.{who_lets_go_is_over}
 
 -- one that is given up or carried out, and that its coordinator has
-ending : (start : Start) (logs : ℕ → List HostStep) (tx : TxId) (t : Transaction)
+pub ending : (start : Start) (logs : ℕ → List HostStep) (tx : TxId) (t : Transaction)
     → live_at start logs tx ≡ Some t
     → (is_given_up start logs tx ≡ true) ⊎ (is_carried_out start logs tx ≡ true)
     → (is_decided t.phase || is_aborting t.phase) ≡ true

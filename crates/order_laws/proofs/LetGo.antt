@@ -36,7 +36,7 @@ module _ (start : Start) (es : List HostStep) (key : List ℕ) (at : ℕ) (run :
   here = replica_host start key (at + 1)
 
   -- those that came are an older part of those that were passed on
-  came_past : IsPast (came key (logs_of start es here)) (passed start key here front (logs_of start es front))
+  pub came_past : IsPast (came key (logs_of start es here)) (passed start key here front (logs_of start es front))
   came_past =
       subst (λ xs. IsPast xs (passed start key here front (logs_of start es front)))
       (sym (came_from start key at inside es run))

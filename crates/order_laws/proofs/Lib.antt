@@ -12,4 +12,6 @@ pub mod Lines
 pub mod Over
 pub mod Passed
 pub mod Performs
+pub mod Records
 pub mod Sources
+pub mod Written

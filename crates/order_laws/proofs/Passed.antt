@@ -154,7 +154,7 @@ module _ (start : Start) (key : List ℕ) (j : ℕ) where
   passed h log = filter_map (λ (x : Addressed). asker key x.signal.body) (sent (machine start) h j log)
 
   -- what a step adds
-  abbrev passed_in : List Outgoing → List TxId → List TxId
+  abbrev pub passed_in : List Outgoing → List TxId → List TxId
   passed_in [] before = before
   passed_in (o ∷ more) before =
       passed_in more (if host_for start o.to == j then cons_option (asker key o.body) before else before)
@@ -179,25 +179,26 @@ module _ (start : Start) (key : List ℕ) (j : ℕ) where
       by true = refl
       by false = refl
 
-  passed_step : (h : ℕ) (e : HostStep) (log : List HostStep)
+  pub passed_step : (h : ℕ) (e : HostStep) (log : List HostStep)
       → passed h (e ∷ log) ≡ passed_in (step_after start h log e).effects.sends (passed h log)
   passed_step h e log =
       put_passed h e.step.stamp (sent_count start h log) (step_after start h log e).effects.sends
       (sent (machine start) h j log)
 
-  -- where each holds the lock then
-  passed_all : (ended : TxId → Bool) (hs : List Holder) → are_agreed hs ≡ true → (sends : List Outgoing)
-      → ((tx : TxId) → Each (λ (o : Outgoing). asker key o.body ≡ Some tx → holds_enough tx Exclusive hs ≡ true) sends)
-      → (before : List TxId) → ArePassed ended hs before → ArePassed ended hs (passed_in sends before)
-  passed_all ended hs agreed [] held before was = was
-  passed_all ended hs agreed (o ∷ more) held before was =
-      passed_all ended hs agreed more (λ tx. (held tx).1) _ (by (host_for start o.to == j))
+  -- what goes on with each that is so
+  pub passed_all : (X : TxId → Type 0) (All : List TxId → Type 0)
+      → ((tx : TxId) (xs : List TxId) → X tx → All xs → All (tx ∷ xs)) → (sends : List Outgoing)
+      → ((tx : TxId) → Each (λ (o : Outgoing). asker key o.body ≡ Some tx → X tx) sends)
+      → (before : List TxId) → All before → All (passed_in sends before)
+  passed_all X All more [] told before was = was
+  passed_all X All more (o ∷ sends) told before was =
+      passed_all X All more sends (λ tx. (told tx).1) _ (by (host_for start o.to == j))
     where
-      put_one : (a : Option TxId) → asker key o.body ≡ a → ArePassed ended hs (cons_option a before)
+      put_one : (a : Option TxId) → asker key o.body ≡ a → All (cons_option a before)
       put_one None is = was
-      put_one (Some tx) is = passed_more ended hs before tx agreed ((held tx).0 is) was
+      put_one (Some tx) is = more tx before ((told tx).0 is) was
 
-      by : (b : Bool) → ArePassed ended hs (if b then cons_option (asker key o.body) before else before)
+      by : (b : Bool) → All (if b then cons_option (asker key o.body) before else before)
       by true = put_one (asker key o.body) refl
       by false = was
 
@@ -243,7 +244,8 @@ module _ (start : Start) (key : List ℕ) (j : ℕ) where
       here is was =
           subst (ArePassed (ended_after event p) (key_in key (after start h (e ∷ log))).lock.holders)
           (sym (passed_step h e log))
-          (passed_all (ended_after event p) (key_in key (after start h (e ∷ log))).lock.holders agreed
+          (passed_all (λ tx. holds_enough tx Exclusive hs ≡ true) (ArePassed (ended_after event p) hs)
+          (λ tx xs held was. passed_more (ended_after event p) hs xs tx agreed held was)
           (step_after start h log e).effects.sends (λ tx. step_holds tx key start h log e runs serving) (passed h log)
           (subst (λ (r : Replica). ArePassed (ended_after event p) r.lock.holders (passed h log))
           (replica_along start h key (e ∷ log))
@@ -251,7 +253,10 @@ module _ (start : Start) (key : List ℕ) (j : ℕ) where
           (subst (λ (r : Replica). IsOrderly r.lock) (sym r_is) serving.orderly)
           (subst (λ (r : Replica). ArePassed p.ended r.lock.holders (passed h log)) (sym r_is) was))))
         where
-          agreed : are_agreed (key_in key (after start h (e ∷ log))).lock.holders ≡ true
+          hs : List Holder
+          hs = (key_in key (after start h (e ∷ log))).lock.holders
+
+          agreed : are_agreed hs ≡ true
           agreed =
               subst (λ log. are_agreed (key_in key (after start h log)).lock.holders ≡ true)
               (log_of-own (machine start) e es h is) serving_now.orderly.agreed

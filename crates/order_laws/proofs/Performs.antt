@@ -1,4 +1,4 @@
--- What a replica passes on is of a transaction that holds the key's lock exclusive then.
+-- What a replica passes on is some work of the event, and of a transaction that holds the key's lock exclusive then.
 use Rattle.std.proofs.Common.{◌≡◌, ℕ, Bool, true, false, List, [], ◌∷◌, refl, sym, ap, ◌∙◌, subst}
 use Rattle.std.proofs.lemmas.Bool.{false≢true, not-true}
 use Rattle.std.specs.Prelude.{◌&&◌, if◌then◌else◌, Option, None, Some}
@@ -53,7 +53,7 @@ use Rattle.key_laws.specs.Replica.{event_at, expires, is_let_in, key_after, rest
 use Rattle.key_laws.proofs.LockHolding.{grants_hold}
 use Rattle.key_laws.proofs.LockWaiting.{attended_hold}
 use Rattle.key_laws.proofs.Waiting.{each-first_item}
-use Rattle.host_laws.specs.ReplicaLaws.{key_in}
+use Rattle.host_laws.specs.ReplicaLaws.{event_in, key_in}
 use Rattle.host_laws.proofs.Replicas.{logs_follow}
 use Rattle.run_laws.proofs.KeySends.{is_abort, lqh_tokens}
 use Rattle.run_laws.proofs.KeyTokens.{Token, answers, asked_tokens, event_tokens, if_by, is_rows, operated_token}
@@ -64,7 +64,7 @@ use Rattle.order_laws.proofs.Askers.{asker}
 use Rattle.order_laws.proofs.Attended.{IsServing}
 
 -- the signal asks the next replica for its part
-abbrev is_work : Token → Bool
+abbrev pub is_work : Token → Bool
 is_work (performs what at) = true
 is_work token = false
 
@@ -84,27 +84,29 @@ work_exclusive c q refused = by q.work
     by (Operate op) is = operated_mode op q.chain q.at refused (seen_by c.row (found q.tx c.pending)) is
     by (Store key image) is = refl
 
-module _ (tx : TxId) where
-  -- where it does, the transaction holds the lock exclusive
-  abbrev Holds : List Holder → Token → Type 0
-  Holds hs token = is_work token ≡ true → holds_enough tx Exclusive hs ≡ true
+-- where the signal does, this is so
+abbrev pub Works : Type 0 → Token → Type 0
+Works X token = is_work token ≡ true → X
 
-  one_holds : (hs : List Holder) (v : TxId) (token : Token)
-      → (is_work token ≡ true → holds_enough v Exclusive hs ≡ true) → Each (Holds hs) (if_by tx v token)
-  one_holds hs v token own = by (same_tx v tx) refl
+module _ (tx : TxId) where
+  pub one_works : (X : TxId → Type 0) (v : TxId) (token : Token) → (is_work token ≡ true → X v)
+      → Each (Works (X tx)) (if_by tx v token)
+  one_works X v token own = by (same_tx v tx) refl
     where
-      by : (b : Bool) → same_tx v tx ≡ b → Each (Holds hs) (if b then token ∷ [] else [])
-      by true e = (λ is. subst (λ u. holds_enough u Exclusive hs ≡ true) (same_tx-is v tx e) (own is), tt)
+      by : (b : Bool) → same_tx v tx ≡ b → Each (Works (X tx)) (if b then token ∷ [] else [])
+      by true e = (λ is. subst X (same_tx-is v tx e) (own is), tt)
       by false e = tt
 
+  -- the transaction holds the lock exclusive then
   performed_holds : (hs : List Holder) (c : Cell) (q : Request) (refused : Bool)
-      → holds_enough q.tx (work_mode q.work) hs ≡ true → Each (Holds hs) (if_by tx q.tx (performed_token c q refused))
+      → holds_enough q.tx (work_mode q.work) hs ≡ true
+      → Each (Works (holds_enough tx Exclusive hs ≡ true)) (if_by tx q.tx (performed_token c q refused))
   performed_holds hs c q refused held =
-      one_holds hs q.tx (performed_token c q refused)
+      one_works (λ u. holds_enough u Exclusive hs ≡ true) q.tx (performed_token c q refused)
       (λ is. subst (λ m. holds_enough q.tx m hs ≡ true) (work_exclusive c q refused is) held)
 
   event_holds : (event : Event) (r : Replica) → IsServing r
-      → Each (Holds (key_after event r).lock.holders) (event_tokens tx event r)
+      → Each (Works (holds_enough tx Exclusive (key_after event r).lock.holders ≡ true)) (event_tokens tx event r)
   event_holds rests r was = tt
   event_holds (asks q refused) r was = by (asked r.lock q.tx (work_mode q.work)).answer refl
     where
@@ -112,14 +114,16 @@ module _ (tx : TxId) where
       now = (asked r.lock q.tx (work_mode q.work)).lock
 
       by : (a : Lock) → (asked r.lock q.tx (work_mode q.work)).answer ≡ a
-          → Each (Holds (asked_by r now q refused a).lock.holders) (asked_tokens tx r q refused a)
+          → Each (Works (holds_enough tx Exclusive (asked_by r now q refused a).lock.holders ≡ true))
+          (asked_tokens tx r q refused a)
       by Granted e =
           performed_holds now.holders r.cell q refused (grants_hold r.lock q.tx (work_mode q.work) was.orderly e)
       by (Queued ahead) e = tt
   event_holds (serves refused) r was = by (first (is_let_in r.lock) r.waiting) refl
     where
       by : (o : Option Request) → first (is_let_in r.lock) r.waiting ≡ o
-          → Each (Holds (served_by r refused o).lock.holders) (served_tokens tx r refused o)
+          → Each (Works (holds_enough tx Exclusive (served_by r refused o).lock.holders ≡ true))
+          (served_tokens tx r refused o)
       by None is = tt
       by (Some q) is =
           performed_holds r.lock.holders r.cell q refused
@@ -130,9 +134,13 @@ module _ (tx : TxId) where
   event_holds (commits v last) r was = tt
   event_holds (completes v) r was = tt
   event_holds (aborts v) r was = tt
-  event_holds (expires v) r was = one_holds _ v refuses (λ is. absurd (false≢true is))
+  event_holds (expires v) r was =
+      one_works (λ u. holds_enough u Exclusive (key_after (expires v) r).lock.holders ≡ true) v refuses
+      (λ is. absurd (false≢true is))
   event_holds (ages None) r was = tt
-  event_holds (ages (Some v)) r was = one_holds _ v refuses (λ is. absurd (false≢true is))
+  event_holds (ages (Some v)) r was =
+      one_works (λ u. holds_enough u Exclusive (key_after (ages (Some v)) r).lock.holders ≡ true) v refuses
+      (λ is. absurd (false≢true is))
 
   module _ (key : List ℕ) where
     -- a signal that asks the rows of a node for something on the key is such a one
@@ -160,27 +168,26 @@ module _ (tx : TxId) where
     work_for to _ rows asks_is = absurd cc
 
     -- whatever is sent
-    sends_hold : (hs : List Holder) (sends : List Outgoing)
+    sends_work : (X : Type 0) (sends : List Outgoing)
         → Each (λ (o : Outgoing). (v : TxId) → asker key o.body ≡ Some v → is_rows o.to.block ≡ true) sends
-        → Each (Holds hs) (tokens_of tx key sends)
-        → Each (λ (o : Outgoing). asker key o.body ≡ Some tx → holds_enough tx Exclusive hs ≡ true) sends
-    sends_hold hs [] rows held = tt
-    sends_hold hs (o ∷ more) rows held =
-        (own, sends_hold hs more rows.1 (rest (token_of tx key o.to o.body) held))
+        → Each (Works X) (tokens_of tx key sends)
+        → Each (λ (o : Outgoing). asker key o.body ≡ Some tx → X) sends
+    sends_work X [] rows told = tt
+    sends_work X (o ∷ more) rows told =
+        (own, sends_work X more rows.1 (rest (token_of tx key o.to o.body) told))
       where
-        rest : (t : Option Token) → Each (Holds hs) (put t (tokens_of tx key more))
-            → Each (Holds hs) (tokens_of tx key more)
-        rest None held = held
-        rest (Some t) held = held.1
+        rest : (t : Option Token) → Each (Works X) (put t (tokens_of tx key more))
+            → Each (Works X) (tokens_of tx key more)
+        rest None told = told
+        rest (Some t) told = told.1
 
-        newest : (t : Token) → is_work t ≡ true → Each (Holds hs) (t ∷ tokens_of tx key more)
-            → holds_enough tx Exclusive hs ≡ true
-        newest t works held = held.0 works
+        newest : (t : Token) → is_work t ≡ true → Each (Works X) (t ∷ tokens_of tx key more) → X
+        newest t works told = told.0 works
 
-        own : asker key o.body ≡ Some tx → holds_enough tx Exclusive hs ≡ true
+        own : asker key o.body ≡ Some tx → X
         own is =
             let w = work_for o.to o.body (rows.0 tx is) is in
-            newest w.token w.works (subst (λ t. Each (Holds hs) (put t (tokens_of tx key more))) w.is held)
+            newest w.token w.works (subst (λ t. Each (Works X) (put t (tokens_of tx key more))) w.is told)
 
 -- only the rows of nodes are asked
 rows_asked : (key : List ℕ) (s : LqhState) (body : Body)
@@ -238,26 +245,20 @@ none_some : (o : Option TxId) (tx : TxId) → o ≡ None → o ≡ Some tx → �
 none_some o tx none some = cc
 
 module _ (tx : TxId) (key : List ℕ) where
-  rows_hold : (s : LqhState) (body : Body) → IsServing (at_key key s)
-      → Each (λ (o : Outgoing). asker key o.body ≡ Some tx → holds_enough tx Exclusive (key_after (event_at key s body)
-      (at_key key s)).lock.holders ≡ true) (lqh_table s body).effects.sends
-  rows_hold s body was = by (is_abort tx body) refl
+  rows_work : (X : Type 0) (s : LqhState) (body : Body)
+      → Each (Works X) (event_tokens tx (event_at key s body) (at_key key s))
+      → Each (λ (o : Outgoing). asker key o.body ≡ Some tx → X) (lqh_table s body).effects.sends
+  rows_work X s body told = by (is_abort tx body) refl
     where
-      hs : List Holder
-      hs = (key_after (event_at key s body) (at_key key s)).lock.holders
-
       by : (b : Bool) → is_abort tx body ≡ b
-          → Each (λ (o : Outgoing). asker key o.body ≡ Some tx → holds_enough tx Exclusive hs ≡ true)
-          (lqh_table s body).effects.sends
+          → Each (λ (o : Outgoing). asker key o.body ≡ Some tx → X) (lqh_table s body).effects.sends
       by true e =
-          each_map (λ (o : Outgoing). asker key o.body ≡ None)
-          (λ (o : Outgoing). asker key o.body ≡ Some tx → holds_enough tx Exclusive hs ≡ true)
+          each_map (λ (o : Outgoing). asker key o.body ≡ None) (λ (o : Outgoing). asker key o.body ≡ Some tx → X)
           (lqh_table s body).effects.sends (λ o none some. absurd (none_some (asker key o.body) tx none some))
           (abort_silent tx key s body e)
       by false e =
-          sends_hold tx key hs (lqh_table s body).effects.sends (rows_asked key s body)
-          (subst (Each (Holds tx hs)) (sym (lqh_tokens tx key s body e))
-          (event_holds tx (event_at key s body) (at_key key s) was))
+          sends_work tx key X (lqh_table s body).effects.sends (rows_asked key s body)
+          (subst (Each (Works X)) (sym (lqh_tokens tx key s body e)) told)
 
   no_api : (s : Host) → has_lqh s ≡ true → has_api s ≡ true → ⊥
   no_api (Ldm l) rows api = false≢true api
@@ -267,31 +268,39 @@ module _ (tx : TxId) (key : List ℕ) where
   no_tc (Ldm l) rows tc = false≢true tc
   no_tc _ rows tc = false≢true rows
 
-  -- so it is of a host that runs rows
-  pub step_holds : (start : Start) (h : ℕ) (log : List HostStep) (e : HostStep)
-      → has_lqh (after start h log) ≡ true → IsServing (key_in key (after start h log))
-      → Each (λ (o : Outgoing). asker key o.body ≡ Some tx → holds_enough tx Exclusive
-      (key_in key (after start h (e ∷ log))).lock.holders ≡ true) (step_after start h log e).effects.sends
-  step_holds start h log e runs was = by (block_case s e.step.taken)
-    where
-      s : Host
-      s = after start h log
+  module _ (start : Start) (h : ℕ) (log : List HostStep) (e : HostStep)
+      (runs : has_lqh (after start h log) ≡ true) where
+    abbrev event : Event
+    event = event_in key (after start h log) e.step.taken
 
-      hs : List Holder
-      hs = (key_in key (after start h (e ∷ log))).lock.holders
+    -- what is so of each such signal of the event is so wherever a host that runs rows asks the next one
+    pub step_works : (X : Type 0) → Each (Works X) (event_tokens tx event (key_in key (after start h log)))
+        → Each (λ (o : Outgoing). asker key o.body ≡ Some tx → X) (step_after start h log e).effects.sends
+    step_works X told = by (block_case s e.step.taken)
+      where
+        s : Host
+        s = after start h log
 
-      All : List Outgoing → Type 0
-      All sends = Each (λ (o : Outgoing). asker key o.body ≡ Some tx → holds_enough tx Exclusive hs ≡ true) sends
+        All : List Outgoing → Type 0
+        All sends = Each (λ (o : Outgoing). asker key o.body ≡ Some tx → X) sends
 
-      by : BlockCase s e.step.taken (row s e.step.taken) → All (row s e.step.taken).effects.sends
-      by (api_takes step) = absurd (no_api s runs step.runs)
-      by (tc_takes step) = absurd (no_tc s runs step.runs)
-      by (dih_takes step) = absurd (no_tc s runs step.runs)
-      by (none_takes step) = subst All (sym (ap (λ (u : Step Host). u.effects.sends) step.is)) tt
-      by (rows_take step) =
-          subst All (sym (ap (λ (f : Effects). f.sends) step.effects))
-          (subst (λ (r : Replica). Each (λ (o : Outgoing). asker key o.body ≡ Some tx → holds_enough tx Exclusive
-          r.lock.holders ≡ true) (lqh_table (lqh_of s) e.step.taken.body).effects.sends)
-          (sym (logs_follow start h log e key
-          ∙ ap (λ event. key_after event (key_in key s)) (event_rows key s e.step.taken step.runs step.at)))
-          (rows_hold (lqh_of s) e.step.taken.body was))
+        by : BlockCase s e.step.taken (row s e.step.taken) → All (row s e.step.taken).effects.sends
+        by (api_takes step) = absurd (no_api s runs step.runs)
+        by (tc_takes step) = absurd (no_tc s runs step.runs)
+        by (dih_takes step) = absurd (no_tc s runs step.runs)
+        by (none_takes step) = subst All (sym (ap (λ (u : Step Host). u.effects.sends) step.is)) tt
+        by (rows_take step) =
+            subst All (sym (ap (λ (f : Effects). f.sends) step.effects))
+            (rows_work X (lqh_of s) e.step.taken.body
+            (subst (λ event. Each (Works X) (event_tokens tx event (key_in key s)))
+            (event_rows key s e.step.taken step.runs step.at) told))
+
+    -- so it is of a transaction that holds the lock exclusive
+    pub step_holds : IsServing (key_in key (after start h log))
+        → Each (λ (o : Outgoing). asker key o.body ≡ Some tx → holds_enough tx Exclusive
+        (key_in key (after start h (e ∷ log))).lock.holders ≡ true) (step_after start h log e).effects.sends
+    step_holds was =
+        step_works (holds_enough tx Exclusive (key_in key (after start h (e ∷ log))).lock.holders ≡ true)
+        (subst (λ (r : Replica). Each (Works (holds_enough tx Exclusive r.lock.holders ≡ true))
+        (event_tokens tx event (key_in key (after start h log)))) (sym (logs_follow start h log e key))
+        (event_holds tx event (key_in key (after start h log)) was))

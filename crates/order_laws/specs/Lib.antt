@@ -1,3 +1,4 @@
 pub mod Carried
 pub mod Gone
 pub mod LetGo
+pub mod Records

@@ -2,6 +2,7 @@
 ghost use Rattle.order_laws.specs.Carried.{CarriedOutStayOut};
 ghost use Rattle.order_laws.specs.Gone.{WhoHasGoneIsOut};
 ghost use Rattle.order_laws.specs.LetGo.{HoldersAreEnding, HoldersHaveLetGo, LaterHoldersAreGivenUp, WhoLetsGoIsOver};
+ghost use Rattle.order_laws.specs.Records.{HoldersHaveRecords, WhoCommitsHasWritten};
 
 /// After every run: whom a transaction waits for at a place of a key's chain behind the first has let
 /// go of the key at the place in front, by an abort, by a completion, or by its commit at the primary.
@@ -37,4 +38,18 @@ pub fn carried_out_stay_out()
 /// coordinator: a row is completed at each place behind the place after it.
 pub fn later_holders_are_given_up()
     ensures { LaterHoldersAreGivenUp }
+{}
+
+/// Who holds a key's lock at a place of its chain behind the first has a record of the key at the
+/// place in front, or has let go of the key there: a backup locks nothing that isn't stored before it.
+#[tactic(auto, using(crate::proofs::Records::holders_have_records))]
+pub fn holders_have_records()
+    ensures { HoldersHaveRecords }
+{}
+
+/// A transaction whose commit was asked for, and that isn't given up, has written each key whose lock
+/// it holds at a backup.
+#[tactic(auto, using(crate::proofs::Written::who_commits_has_written))]
+pub fn who_commits_has_written()
+    ensures { WhoCommitsHasWritten }
 {}
