@@ -26,22 +26,29 @@ fn tx(seq: u64) -> TxId {
 }
 
 #[test]
-fn one_goes_on_holding(rt: HostRuntime) -> Result<(), Fail> {
+fn one_of_two_goes_on_holding(rt: HostRuntime) -> Result<(), Fail> {
     let mut table = LockTable::new(rt.alloc())?;
     let a = Key::new(b"a")?;
-    let b = Key::new(b"b")?;
     assert_eq!(rt; table.request(tx(1), &a, Mode::Shared)?, Lock::Granted);
     assert_eq!(rt; table.request(tx(2), &a, Mode::Shared)?, Lock::Granted);
-    assert_eq!(rt; table.request(tx(2), &b, Mode::Exclusive)?, Lock::Granted);
-    let ahead = tx(1);
-    assert_eq!(rt;
-        table.request(tx(3), &a, Mode::Exclusive)?,
-        Lock::Queued { ahead }
-    );
     table.keep(&Only(1));
     assert_eq!(rt; table.holder(&a, 0), Some(tx(1)));
     assert_eq!(rt; table.holder(&a, 1), None);
-    assert_eq!(rt; table.holder(&b, 0), None);
-    assert_eq!(rt; table.ahead(tx(3), &a), None);
+    Ok(())
+}
+
+#[test]
+fn nobody_goes_on_waiting(rt: HostRuntime) -> Result<(), Fail> {
+    let mut table = LockTable::new(rt.alloc())?;
+    let a = Key::new(b"a")?;
+    assert_eq!(rt; table.request(tx(1), &a, Mode::Exclusive)?, Lock::Granted);
+    let ahead = tx(1);
+    assert_eq!(rt;
+        table.request(tx(2), &a, Mode::Exclusive)?,
+        Lock::Queued { ahead }
+    );
+    table.keep(&Only(2));
+    assert_eq!(rt; table.holder(&a, 0), None);
+    assert_eq!(rt; table.ahead(tx(2), &a), None);
     Ok(())
 }
