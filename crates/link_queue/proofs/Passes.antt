@@ -25,16 +25,16 @@ pub set_knows : (f : LinkFacts) (views : List PassView) (pass : ℕ) (w : PassVi
     → AllKnow f (set views pass w)
 set_knows f views pass w mine others other v at =
     ⊎_elim (λ (h : (other ≡ pass) × (w ≡ v)). as_other f other pass v w h.0 h.1 mine)
-        (λ (h : (other ≢ pass) × (get_elem? views other ≡ some v)). others other v h.0 h.1)
-        (at_set views pass other w v at)
+    (λ (h : (other ≢ pass) × (get_elem? views other ≡ some v)). others other v h.0 h.1)
+    (at_set views pass other w v at)
 
 -- one more pass
 pub snoc_knows : (f : LinkFacts) (views : List PassView) (w : PassView) → AllKnow f views → Knows f (length views) w
     → AllKnow f (views ++ w ∷ [])
 snoc_knows f views w known mine pass v at =
     ⊎_elim (λ (h : get_elem? views pass ≡ some v). known pass v h)
-        (λ (h : (pass ≡ length views) × (w ≡ v)). as_other f pass (length views) v w h.0 h.1 mine)
-        (at_snoc views w v pass at)
+    (λ (h : (pass ≡ length views) × (w ≡ v)). as_other f pass (length views) v w h.0 h.1 mine)
+    (at_snoc views w v pass at)
 
 -- a pass that may do nothing needs to know nothing
 pub knows_nothing : (f : LinkFacts) (pass : ℕ) (v : PassView) → v.sends ≢ true → v.takes ≢ true → Knows f pass v

@@ -121,8 +121,8 @@ sends room pass v x may idle few route held views _ h at =
           knows = set_knows g views pass w
               (record { sends = λ _. (mine.0, ap (λ (xs : List Signal). xs ++ x ∷ []) mine.1, mine.2, mine.3); takes = λ may'. absurd (never may') })
               (λ other u apart at'.
-                  let known = h.1.knows other u at' in
-                  record { sends = λ may'. absurd (not_sender f pass other u mine.0 apart known may'); takes = known.takes });
+              let known = h.1.knows other u at' in
+              record { sends = λ may'. absurd (not_sender f pass other u mine.0 apart known may'); takes = known.takes });
         },
       ),
       refl,
@@ -150,8 +150,8 @@ takes pass v may idle x held views h at =
           knows = set_knows g views pass w
               (record { sends = λ may'. absurd (never may'); takes = λ _. (mine.0, ap (λ (xs : List Signal). xs ++ x ∷ []) mine.1, mine.2, mine.3) })
               (λ other u apart at'.
-                  let known = h.1.knows other u at' in
-                  record { sends = known.sends; takes = λ may'. absurd (not_taker f pass other u mine.0 apart known may') });
+              let known = h.1.knows other u at' in
+              record { sends = known.sends; takes = λ may'. absurd (not_taker f pass other u mine.0 apart known may') });
         },
       ),
       (
@@ -172,9 +172,9 @@ merges pass v other u may_send may_take held views h at apart at' =
     let takes = (h.1.knows other u was).takes may_take in
     let g : LinkFacts = record { from = f.from; to = f.to; sender = pass; taker = pass; sent = f.sent; taken = f.taken } in
     let others : (third : ℕ) (w : PassView) → third ≢ other → get_elem? (set views pass both) third ≡ some w → Knows g third w = λ third w aside at''.
-        ⊎_elim (λ (x : (third ≡ pass) × (both ≡ w)).
-            as_other g third pass w both x.0 x.1 (record { sends = λ _. (refl, sends.1, sends.2, sends.3); takes = λ _. (refl, takes.1, sends.2, sends.3) })) (λ (x : (third ≢ pass) × (get_elem? views third ≡ some w)).
-            let known = h.1.knows third w x.1 in knows_nothing g third w (not_sender f pass third w sends.0 x.0 known) (not_taker f other third w takes.0 aside known)) (at_set views pass third both w at'') in (
+    ⊎_elim (λ (x : (third ≡ pass) × (both ≡ w)).
+    as_other g third pass w both x.0 x.1 (record { sends = λ _. (refl, sends.1, sends.2, sends.3); takes = λ _. (refl, takes.1, sends.2, sends.3) })) (λ (x : (third ≢ pass) × (get_elem? views third ≡ some w)).
+    let known = h.1.knows third w x.1 in knows_nothing g third w (not_sender f pass third w sends.0 x.0 known) (not_taker f other third w takes.0 aside known)) (at_set views pass third both w at'') in (
       g,
       record {
         splits = h.1.splits;

@@ -4,7 +4,7 @@ ghost use mathlib.Core.List.{IsPrefix};
 ghost use Rattle.crossbeam_queue.specs.Passes.{view, IsPassOf, IsSamePass};
 ghost use Rattle.link_queue.specs.Rule.{pass_view};
 
-use crate::rule::{Aside, Both, Ends, Line, LINK_SIGNALS, LinkPass, Route};
+use crate::rule::{Aside, Both, Ends, LINK_SIGNALS, Line, LinkPass, Route};
 use crate::sender::LinkTx;
 use crate::taker::LinkRx;
 use sig_core::NoMemory;

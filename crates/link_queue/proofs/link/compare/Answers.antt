@@ -10,7 +10,7 @@ another-aside-requires-clause-rule c = asides _ _
 pub absorb-requires-clause-rule : goal.absorb-requires-clause-rule
 absorb-requires-clause-rule c =
     merges _ _ _ _ (ap (λ (v : PassView). v.sends) (c.another-aside.ensures.rule.0 ∙ c.tx.invariant.1))
-        (ap (λ (v : PassView). v.takes) (ap (λ p. view {V = PassView} p) c.replace-theirs.ensures.value ∙ c.rx.invariant.1))
+    (ap (λ (v : PassView). v.takes) (ap (λ p. view {V = PassView} p) c.replace-theirs.ensures.value ∙ c.rx.invariant.1))
 
 pub learn_as-requires-clause-rule : goal.learn_as-requires-clause-rule
 learn_as-requires-clause-rule c = whole _ _ (ap (λ (v : PassView). v.sends) c.absorb.ensures.rule) (ap (λ (v : PassView). v.takes) c.absorb.ensures.rule)
