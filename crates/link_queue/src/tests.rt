@@ -3,7 +3,7 @@
 ghost use Rattle.std.specs.Prelude.{◌≡◌, IfOk};
 ghost use Rattle.link_queue.specs.End.{IsSentBy};
 
-use crate::{LinkRx, LinkTx, compare, join, make};
+use crate::{LinkRx, LinkTx, make};
 use sig_core::{
     Body, Boxed, CLIENT, Held, HostId, HostSignal, Member, Members, NoMemory, Signal, View, Work,
 };
@@ -115,13 +115,10 @@ fn a_signal_that_stands_alone_is_taken(rt: HostRuntime) -> Result<(), Fail> {
     let alloc = rt.alloc();
     let (mut tx, mut rx) = make(alloc, 1, 2)?;
     assert_eq!(rt; offers_all(&rt, alloc, &mut tx, 7, 8)?, 1);
-    compare(&mut tx, &mut rx);
     assert_eq!(rt; takes(&rt, &mut rx), Some(7));
     assert_eq!(rt; takes(&rt, &mut rx), None);
-    compare(&mut tx, &mut rx);
     assert_eq!(rt; tx.sent(), 1);
     assert_eq!(rt; rx.taken(), 1);
-    join(tx, rx);
     Ok(())
 }
 
