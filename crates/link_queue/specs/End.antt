@@ -5,7 +5,8 @@ use Rattle.crossbeam_queue.specs.Fifo.{Held}
 use Rattle.sig_core.specs.declared.signal.Signal.{Signal}
 use Rattle.link_queue.specs.declared.rule.TheConstants.{LINK_SIGNALS}
 
--- an end of a link: of which link, from which host to which, and the signals that went through this end, the first one first
+-- an end of a link: of which link, from which host to which, and the signals that went through this end, the first one
+-- first
 pub record End : Type 0 where
   pub link : TableId
   pub from : ℕ

@@ -1,4 +1,4 @@
-use Rattle.link_queue.proofs.Steps.{ends}
+use Rattle.link_queue.proofs.Ends.{ends}
 use Rattle.link_queue.proofs.link.taker_of.Goals as goal
 
 pub another-requires-clause-rule : goal.another-requires-clause-rule

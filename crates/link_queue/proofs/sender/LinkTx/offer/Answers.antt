@@ -6,10 +6,8 @@ use Rattle.link_queue.proofs.sender.LinkTx.offer.Goals as goal
 
 pub push_as-requires-clause-rule : goal.push_as-requires-clause-rule
 push_as-requires-clause-rule g c =
-    let is = c.self.invariant.1 in
-    let may = ap (λ (v : PassView). v.sends) is in (
-      sends _ _ _ _ may (ap (λ (v : PassView). v.takes) is)
-          (subst (λ (e : End). length e.signals < 2 ^ 64 - 1) (sym c.self.view_is) c.requires.room)
+    let may = ap (λ (v : PassView). v.sends) c.self.invariant.1 in (
+      sends _ _ _ _ may (subst (λ (e : End). length e.signals < 2 ^ 64 - 1) (sym c.self.view_is) c.requires.room)
           (subst (λ (e : End). IsSentBy e.from c.args.signal) (sym c.self.view_is) c.requires.route),
       newest _ _ may,
     )

@@ -5,5 +5,4 @@ use Rattle.link_queue.proofs.taker.LinkRx.take.Goals as goal
 
 pub pop_as-requires-clause-rule : goal.pop_as-requires-clause-rule
 pop_as-requires-clause-rule g c =
-    let is = c.self.invariant.1 in
-    (takes _ _ (ap (λ (v : PassView). v.takes) is) (ap (λ (v : PassView). v.sends) is), λ held views kept at. tt)
+    (takes _ _ (ap (λ (v : PassView). v.takes) c.self.invariant.1), λ held views kept at. tt)
