@@ -3,7 +3,7 @@
 ghost use Rattle.std.specs.Prelude.{◌≡◌, IfOk};
 ghost use Rattle.link_queue.specs.End.{IsSentBy};
 
-use crate::{LinkRx, LinkTx, make};
+use crate::{LinkRx, LinkTx, compare, make};
 use sig_core::{
     Body, Boxed, CLIENT, Held, HostId, HostSignal, Member, Members, NoMemory, Signal, View, Work,
 };
@@ -119,6 +119,15 @@ fn a_signal_that_stands_alone_is_taken(rt: HostRuntime) -> Result<(), Fail> {
     assert_eq!(rt; takes(&rt, &mut rx), None);
     assert_eq!(rt; tx.sent(), 1);
     assert_eq!(rt; rx.taken(), 1);
+    Ok(())
+}
+
+#[test]
+fn both_ends_go_on_after_they_are_compared(rt: HostRuntime) -> Result<(), Fail> {
+    let (mut tx, mut rx) = make(rt.alloc(), 1, 2)?;
+    compare(&mut tx, &mut rx);
+    assert_eq!(rt; takes(&rt, &mut rx), None);
+    assert_eq!(rt; tx.sent(), rx.taken());
     Ok(())
 }
 
