@@ -1,6 +1,5 @@
 -- What a log is seen as.
 use Rattle.std.specs.Prelude.{◌≡◌, ℕ, ◌+◌, ◌-◌, ◌^◌, ◌≤◌, ◌<◌, min, List, [], ◌++◌, length, take, drop, Option, None, Some}
-use Rattle.std.specs.Vec.{Vec, vec_items}
 use Rattle.sig_core.specs.declared.journal.TheConstants.{JOURNAL_BYTES}
 use Rattle.sig_core.specs.declared.redo.Redo.{Redo}
 use Rattle.sig_core.specs.Journal.{JournalState}
@@ -83,11 +82,11 @@ GivesOut s (Some piece) t = (0 < length s.left) × (laid_by piece ≡ next_piece
 abbrev pub room_of : ℕ → ℕ → ℕ → ℕ → ℕ
 room_of capacity len end reserved = min (capacity - len - reserved) (2 ^ 64 - 1 - end - reserved)
 
--- Why the numbers of a log fit: of so many bytes so many were given out, all that is used and kept free is in the ring,
+-- Why the numbers of a log fit: there are two parities, of so many bytes so many were given out, all that is used and kept free is in the ring,
 -- and the bytes that are kept free have memory and positions.
 pub record IsLog (parity start flushed given len capacity reserved : ℕ) : Type 0 where
-  pub parity : parity ≤ 1
-  pub given : given ≤ len
+  pub two : parity ≤ 1
+  pub part : given ≤ len
   pub started : start ≤ flushed
   pub within : flushed + (len - given) + reserved ≤ start + JOURNAL_BYTES
   pub room : len + reserved ≤ capacity

@@ -1,9 +1,9 @@
 //! The log of redo records.
-ghost use Rattle.std.specs.Prelude.{◌≡◌, ◌≢◌, ◌≤◌, ◌<◌, ◌+◌, ◌-◌, ◌^◌, Ok, Err, IfOk, OnOk, OnErr};
+ghost use Rattle.std.specs.Prelude.{◌≡◌, ◌≢◌, ◌≤◌, ◌<◌, ◌+◌, ◌-◌, ◌^◌, Ok, Err, IfOk, IsOk, OnOk, OnErr};
 ghost use Rattle.sig_core.specs.declared.journal.JournalFault.TheVariants as fault;
 ghost use Rattle.sig_core.specs.Journal.{Reserves, appending, unreserving};
 ghost use Rattle.sig_core.specs.Redo.{size_of};
-ghost use Rattle.redo_log.specs.LogState.{GivesOut, appended, cut_to, end_of, fresh_log, journal_of, next_len, with_reserved};
+ghost use Rattle.redo_log.specs.LogState.{GivesOut, LogView, appended, cut_to, end_of, fresh_log, journal_of, next_len, with_reserved};
 
 use crate::piece::{PIECE_BYTES, Piece};
 use crate::ring::{LOG_FILE_BYTES, file_of, place_of};
@@ -79,7 +79,8 @@ impl Log {
 
     /// The position behind its last record.
     pub fn end(&self) -> u64
-        ensures { result ≡ end_of self.now.log }
+        ensures value { result ≡ end_of self.now.log }
+        ensures order { self.now.log.start ≤ self.now.log.flushed }
     {
         self.flushed + (self.bytes.len() - self.given) as u64
     }
@@ -139,11 +140,6 @@ impl Log {
     {
         self.start = at;
     }
-
-    // Whether there are positions for so many bytes more.
-    fn has_positions(&self, need: u64) -> bool {
-        need <= u64::MAX - self.end() - self.reserved
-    }
 }
 
 impl Journal for Log {
@@ -159,8 +155,10 @@ impl Journal for Log {
         ensures ok { OnOk result (need ≤ self.new.room) }
         ensures same { journal_of self.new.log ≡ journal_of self.old.log }
         ensures log { self.new.log ≡ self.old.log }
+        ensures succeeds { need ≤ self.old.room → IsOk result }
     {
-        if !self.has_positions(need) {
+        let left = self.bytes.len() - self.given;
+        if need > u64::MAX - self.flushed - left as u64 - self.reserved {
             return Err(NoMemory);
         }
         self.bytes.reserve((self.reserved + need) as usize)?;
@@ -201,7 +199,7 @@ impl Journal for Log {
         requires { size_of redo.now ≤ (journal_of self.old.log).reserved }
         ensures journal { journal_of self.new.log ≡ appending (journal_of self.old.log) (size_of redo.now) }
         ensures log { self.new.log ≡ appended self.old.log redo.now }
-        ensures room { self.new.room ≡ self.old.room }
+        ensures room { self.old.room ≤ self.new.room }
     {
         let size = redo.size();
         match encode(redo, &mut self.bytes) {

@@ -1,6 +1,5 @@
-use crate::{LOG_FILE_BYTES, Log, PIECE_BYTES, Piece, file_of, place_of};
-use sig_core::{Journal, Key, NoMemory, Redo, TxId, Value};
-use std::alloc::Global;
+use crate::Log;
+use sig_core::{Journal, Key, Redo, TxId, Value};
 use std::test::Fail;
 
 // A prepare of transaction (1, 0, 1) of this key and value, and its commit in epoch 1.
@@ -51,5 +50,45 @@ fn a_pair_is_given_out_at_its_place(rt: HostRuntime) -> Result<(), Fail> {
     assert_eq!(rt; log.used(), 26);
     assert_eq!(rt; log.generation(), 3);
     assert_eq!(rt; log.parity(), 1);
+    Ok(())
+}
+
+// Appends 10,000 pairs, takes all pieces, and cuts the log at its end.
+fn round(log: &mut Log, prepare: &Redo, commit: &Redo) -> bool {
+    for _ in 0..10_000 {
+        if !put(log, prepare, commit) {
+            return false;
+        }
+    }
+    for _ in 0..1_000 {
+        match log.flush_step() {
+            Ok(Some(_)) => {}
+            Ok(None) => {
+                let end = log.end();
+                log.cut_to(end);
+                return true;
+            }
+            Err(_) => return false,
+        }
+    }
+    false
+}
+
+#[test]
+fn seven_rounds_go_round_the_ring(rt: HostRuntime) -> Result<(), Fail> {
+    let mut log = Log::new(rt.alloc(), 1, 0)?;
+    let (prepare, commit) = pair(Key::new(&[b'k'; 32])?, Value::new(&[b'v'; 200])?);
+    for _ in 0..7 {
+        assert!(rt; round(&mut log, &prepare, &commit));
+    }
+    assert_eq!(rt; log.end(), 21_630_000);
+    assert_eq!(rt; log.used(), 0);
+    assert!(rt; put(&mut log, &prepare, &commit));
+    let Some(piece) = log.flush_step()? else {
+        return Err(Fail::from("a piece is left"));
+    };
+    assert_eq!(rt; piece.file, 5);
+    assert_eq!(rt; piece.at, 658_480);
+    assert_eq!(rt; piece.bytes.len(), 309);
     Ok(())
 }
