@@ -1,7 +1,7 @@
 -- Replaying record by record.
 use Rattle.std.proofs.Common.{◌≡◌, ◌≤◌, ◌<◌, ◌+◌, ◌-◌, ℕ, Bool, cond, List, [], ◌∷◌, ◌++◌, length, take, drop, refl, sym, ap, subst, ◌∙◌, append_assoc, arith}
 use Rattle.std.specs.Prelude.{Option, None, Some, Result, Ok, Err}
-use Rattle.std.proofs.lemmas.List.{length-append, length-take, take-append-drop}
+use Rattle.std.proofs.lemmas.List.{length-append, length-drop, length-take, take-append-drop}
 use Rattle.sig_core.specs.declared.redo.Redo.{Redo}
 use Rattle.sig_core.specs.declared.redo.Redo.TheVariants.{Prepare, Commit, Abort}
 use Rattle.sig_core.specs.Table.{Rows}
@@ -30,6 +30,14 @@ front_some bytes found is = omega (arith, is.len, some_bytes found.0)
 pub front_split : (bytes : List ℕ) (found : Redo × ℕ) → IsDecoded bytes found → bytes ≡ bytes_of found.0 ++ drop found.1 bytes
 front_split bytes found is =
     sym (take-append-drop found.1 bytes) ∙ ap (λ (w : List ℕ). w ++ drop found.1 bytes) is.front
+
+pub front_fewer : (bytes : List ℕ) (found : Redo × ℕ) → IsDecoded bytes found → (rest : List ℕ)
+    → rest ≡ take (length bytes - found.1) (drop found.1 bytes) → length rest < length bytes
+front_fewer bytes found is rest same =
+    let some : 1 ≤ found.1 = front_some bytes found is in
+    let fits : found.1 ≤ length bytes = front_fits bytes found is in
+    let len : length rest ≡ length (take (length bytes - found.1) (drop found.1 bytes)) = ap length same in
+    omega (arith, some, fits, len, length-take (length bytes - found.1) (drop found.1 bytes), length-drop found.1 bytes)
 
 fault_by : (bytes : List ℕ) (read : Result (Redo × List ℕ) ℕ) (at : ℕ) → Err (NotRecord at) ≡ from_read bytes read → at ≤ length bytes
 fault_by bytes (Ok x) at e = absurd cc
