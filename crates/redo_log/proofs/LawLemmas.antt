@@ -1,15 +1,12 @@
 -- The pieces that calls give out lie one behind the other, and are the bytes of the records.
-use Rattle.std.proofs.Common.{◌≡◌, ◌≤◌, ◌<◌, ◌+◌, ℕ, Bool, true, false, List, [], ◌∷◌, ◌++◌, length, take, drop, refl, sym, ap, subst, ◌∙◌, append_assoc, append-nil, arith}
+use Rattle.std.proofs.Common.{◌≡◌, ◌<◌, ◌+◌, ℕ, Bool, true, false, List, [], ◌∷◌, ◌++◌, length, take, refl, sym, ap, subst, ◌∙◌, append_assoc, append-nil, arith}
 use Rattle.std.specs.Prelude.{nat_eq, if◌then◌else◌}
 use Rattle.std.specs.List.{flat_map}
 use Rattle.std.proofs.lemmas.Bool.Decides.{nat_tests}
 use Rattle.std.proofs.lemmas.List.{length-take-le, take-append-drop}
 use Rattle.redo_format.specs.Records.{bytes_of}
-use Rattle.redo_log.specs.declared.piece.TheConstants.{PIECE_BYTES}
-use Rattle.redo_log.specs.declared.ring.TheConstants.{LOG_FILE_BYTES}
-use Rattle.redo_log.specs.Laws.{LogCall, Keep, Append, GiveOut, Cut, IsLaidAt, AreLaidFrom, after, after_all, records_of, pieces_of, piece_of, bytes_in}
+use Rattle.redo_log.specs.Laws.{LogCall, Keep, Append, GiveOut, Cut, IsLaidAt, AreLaidFrom, after_all, records_of, pieces_of, bytes_in}
 use Rattle.redo_log.specs.LogState.{LogState, Laid, appended, cut_to, given_out, next_len, next_piece, with_reserved}
-use Rattle.redo_log.specs.Places.{file_of, place_of}
 
 piece_len : (s : LogState) → length (take (next_len s) s.left) ≡ next_len s
 piece_len s = length-take-le (next_len s) s.left (omega arith)

@@ -1,6 +1,6 @@
 -- Replaying record by record.
-use Rattle.std.proofs.Common.{◌≡◌, ◌≤◌, ◌<◌, ◌+◌, ◌-◌, ℕ, Bool, cond, List, [], ◌∷◌, ◌++◌, length, take, drop, refl, sym, ap, subst, ◌∙◌, append_assoc, arith}
-use Rattle.std.specs.Prelude.{Option, None, Some, Result, Ok, Err}
+use Rattle.std.proofs.Common.{◌≡◌, ◌≤◌, ◌<◌, ◌+◌, ◌-◌, ℕ, cond, List, [], ◌∷◌, ◌++◌, length, take, drop, refl, sym, ap, subst, ◌∙◌, append_assoc, arith}
+use Rattle.std.specs.Prelude.{Option, Result, Ok, Err}
 use Rattle.std.proofs.lemmas.List.{length-append, length-drop, length-take, take-append-drop}
 use Rattle.sig_core.specs.declared.redo.Redo.{Redo}
 use Rattle.sig_core.specs.declared.redo.Redo.TheVariants.{Prepare, Commit, Abort}
@@ -11,7 +11,7 @@ use Rattle.redo_format.specs.Decoding.{IsDecoded, decoded, from_read}
 use Rattle.redo_format.specs.Reading.{record_at}
 use Rattle.redo_log.specs.declared.fault.ReadFault.{ReadFault}
 use Rattle.redo_log.specs.declared.image_id.ImageId.{ImageId}
-use Rattle.redo_log.specs.Replay.{AreRecords, Images, IsDamaged, IsReplayed, Replays, applied, damage, id_of, image_at, image_of, log_bytes, prepared_by, replayed, same_id}
+use Rattle.redo_log.specs.Replay.{Images, IsReplayed, Replays, applied, damage, id_of, image_at, image_of, log_bytes, prepared_by, same_id}
 
 some_bytes : (redo : Redo) → 1 ≤ length (bytes_of redo)
 unfolding bytes_of
