@@ -92,11 +92,13 @@ ends epoch before parity from bytes rows images (byte ∷ rest) way none = absur
 
 pub stops : (epoch : ℕ) (before : Rows) (parity from : ℕ) (bytes : List ℕ) (rows : Rows) (images : Images) (rest : List ℕ) (at : ℕ)
     (fault : ReadFault)
-    → IsOnTheWay epoch before bytes rows images rest → decoded rest ≡ Err (NotRecord at)
+    → IsOnTheWay epoch before bytes rows images rest → 0 < length rest → decoded rest ≡ Err (NotRecord at)
     → fault ≡ damage parity from bytes (length bytes - length rest + at) → Replays epoch before parity from bytes rows (Err fault)
-stops epoch before parity from bytes rows images rest at fault way none named =
+stops epoch before parity from bytes rows images rest at fault way some none named =
     let place : ℕ = length bytes - length rest + at in
     subst (λ (f : ReadFault). Replays epoch before parity from bytes rows (Err f)) (sym named)
-    (way.newest, (rest, (at, (way.done, record { none = none; named = refl }))))
+    (way.newest, (rest, (at, (way.done, record { some = some; none = none; named = refl }))))
+
+pub ruleset replays = (stops, ends)
 
 pub ruleset fronts = (front_fits, front_some, front_split, fault_within)

@@ -1,5 +1,5 @@
 -- What the records of a log make of rows.
-use Rattle.std.specs.Prelude.{◌≡◌, ℕ, ◌+◌, ◌-◌, ◌&&◌, Bool, cond, nat_le, if◌then◌else◌, List, [], ◌∷◌, ◌++◌, length, slice_index, Option, None, Some, Result, Ok, Err}
+use Rattle.std.specs.Prelude.{◌≡◌, ◌<◌, ℕ, ◌+◌, ◌-◌, ◌&&◌, Bool, cond, nat_le, if◌then◌else◌, List, [], ◌∷◌, ◌++◌, length, slice_index, Option, None, Some, Result, Ok, Err}
 use Rattle.std.specs.FinMap as map
 use Rattle.std.specs.Map.{lookup}
 use Rattle.sig_core.specs.declared.redo.Redo.{Redo}
@@ -82,8 +82,9 @@ abbrev pub damage : ℕ → ℕ → List ℕ → ℕ → ReadFault
 damage parity from bytes behind =
     Damaged (file_of parity (from + behind)) (place_of (from + behind)) (slice_index bytes behind)
 
--- what stands behind some records doesn't begin with one, and the fault names the first byte of it that fits none
+-- something stands behind some records that doesn't begin with one, and the fault names the first byte of it that fits none
 pub record IsDamaged (parity from : ℕ) (bytes rest : List ℕ) (at : ℕ) (fault : ReadFault) : Type 0 where
+  pub some : 0 < length rest
   pub none : decoded rest ≡ Err (NotRecord at)
   pub named : fault ≡ damage parity from bytes (length bytes - length rest + at)
 

@@ -21,6 +21,7 @@ use std::alloc::Global;
 /// # Errors
 /// `Damaged` exactly where the bytes aren't records, at the first that fits none; then the records
 /// before it have been replayed. `NoMemory`.
+#[tactic(auto, using(crate::proofs::ReplayLemmas::replays))]
 pub fn replay_bytes(
     alloc: Global,
     rows: &mut Table,
