@@ -13,7 +13,7 @@ use Rattle.redo_log.specs.declared.fault.ReadFault.{ReadFault}
 use Rattle.redo_log.specs.declared.image_id.ImageId.{ImageId}
 use Rattle.redo_log.specs.Replay.{Images, IsReplayed, Replays, applied, damage, id_of, image_at, image_of, log_bytes, prepared_by, same_id}
 
-some_bytes : (redo : Redo) → 1 ≤ length (bytes_of redo)
+pub some_bytes : (redo : Redo) → 1 ≤ length (bytes_of redo)
 unfolding bytes_of
 some_bytes (Prepare tx fragment key image) = omega arith
 some_bytes (Commit tx epoch key) = omega arith

@@ -98,3 +98,9 @@ Replays epoch before parity from bytes rows (Err (DiskFault count)) = ⊥
 Replays epoch before parity from bytes rows (Err (Damaged file at byte)) =
     (newest : List Redo) × ((rest : List ℕ) × ((place : ℕ)
     × (IsReplayed epoch before bytes rows newest rest × IsDamaged parity from bytes rest place (Damaged file at byte))))
+
+-- bytes that are those of records aren't damaged
+abbrev pub RecordsAreNotDamaged : Type 0
+RecordsAreNotDamaged =
+    (epoch parity from : ℕ) (before rows : Rows) (bytes : List ℕ) (newest : List Redo) (file at byte : ℕ)
+    → AreRecords newest → bytes ≡ log_bytes newest → Replays epoch before parity from bytes rows (Err (Damaged file at byte)) → ⊥

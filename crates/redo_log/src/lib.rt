@@ -11,7 +11,7 @@ mod replay;
 mod ring;
 
 pub use fault::ReadFault;
-pub use laws::pieces_are_the_records;
+pub use laws::{pieces_are_the_records, records_are_not_damaged};
 pub use log::Log;
 pub use piece::{PIECE_BYTES, Piece};
 pub use replay::replay_bytes;
