@@ -30,12 +30,6 @@ IsRecord (Prepare tx fragment key image) = IsTransaction tx × (fragment < 32) �
 IsRecord (Commit tx epoch key) = IsTransaction tx × (epoch < 2 ^ 64) × IsKey key
 IsRecord (Abort tx key) = IsTransaction tx × IsKey key
 
--- what its writer has to see to: the types keep the rest
-abbrev pub IsNumbered : Redo → Type 0
-IsNumbered (Prepare tx fragment key image) = (1 ≤ tx.tc) × (tx.tc ≤ 8) × (fragment < 32)
-IsNumbered (Commit tx epoch key) = (1 ≤ tx.tc) × (tx.tc ≤ 8)
-IsNumbered (Abort tx key) = (1 ≤ tx.tc) × (tx.tc ≤ 8)
-
 -- a word behind its length
 abbrev pub word : List ℕ → List ℕ
 word bytes = length bytes ∷ bytes

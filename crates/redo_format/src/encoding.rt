@@ -1,7 +1,7 @@
 //! Records as bytes.
 ghost use Rattle.std.specs.Prelude.{◌≡◌, ◌+◌, ◌<◌, ◌≤◌, ◌++◌, take, length, OnOk, OnErr, vec_len, vec_capacity};
 ghost use Rattle.sig_core.specs.Redo.{image_size, size_of};
-ghost use Rattle.redo_format.specs.Records.{IsNumbered, bytes_of, head, word, flag, image_bytes};
+ghost use Rattle.redo_format.specs.Records.{bytes_of, head, word, flag, image_bytes};
 
 use sig_core::{Key, NoMemory, Redo, TxId, Value};
 
@@ -16,15 +16,17 @@ pub fn size_of(rec: &Redo) -> u64
     rec.size()
 }
 
-/// Puts the bytes of a record behind those of `out`.
+/// Puts the bytes of a record behind those of `out`. Only a record in the grammar is read back: its
+/// coordinator is a node from 1 to 8, and the fragment of a `Prepare` is below 32.
 ///
 /// # Errors
 /// `NoMemory`, only where `out` has no room for them without more; then it is as it was.
 pub fn encode(rec: &Redo, out: &mut Vec<u8>) -> Result<(), NoMemory>
-    requires { IsNumbered rec.now }
     ensures appended { OnOk result (out.new.items ≡ out.old.items ++ bytes_of rec.now) }
     ensures err { OnErr result (out.new.items ≡ out.old.items) }
     ensures full { OnErr result (vec_capacity out.old < vec_len out.old + size_of rec.now) }
+    ensures capacity { vec_capacity out.old ≤ vec_capacity out.new }
+    ensures len { length (bytes_of rec.now) ≡ size_of rec.now }
 {
     let mut record = Record::new();
     record.put(rec);
@@ -51,7 +53,8 @@ impl Record {
 
     fn bytes(&self) -> &[u8]
         requires { self.now.len ≤ RECORD_BYTES }
-        ensures { result.now ≡ take self.now.len self.now.room }
+        ensures value { result.now ≡ take self.now.len self.now.room }
+        ensures len { length result.now ≡ self.now.len }
     {
         &self.room[..self.len]
     }

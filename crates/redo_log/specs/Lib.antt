@@ -1,0 +1,4 @@
+pub mod Places
+pub mod LogState
+pub mod Laws
+pub mod Replay

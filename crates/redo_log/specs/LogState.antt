@@ -1,0 +1,93 @@
+-- What a log is seen as.
+use Rattle.std.specs.Prelude.{◌≡◌, ℕ, ◌+◌, ◌-◌, ◌^◌, ◌≤◌, ◌<◌, min, List, [], ◌++◌, length, take, drop, Option, None, Some}
+use Rattle.sig_core.specs.declared.journal.TheConstants.{JOURNAL_BYTES}
+use Rattle.sig_core.specs.declared.redo.Redo.{Redo}
+use Rattle.sig_core.specs.Journal.{JournalState}
+use Rattle.sig_core.specs.Redo.{size_of}
+use Rattle.redo_format.specs.Records.{bytes_of}
+use Rattle.redo_log.specs.declared.piece.Piece.{Piece}
+use Rattle.redo_log.specs.declared.piece.TheConstants.{PIECE_BYTES}
+use Rattle.redo_log.specs.declared.ring.TheConstants.{LOG_FILE_BYTES}
+use Rattle.redo_log.specs.Places.{file_of, place_of}
+
+-- The log of a generation in the files of a parity: the position that what is used counts from, the position up to which
+-- all bytes were given out, the bytes from there on, and how many bytes are kept free.
+pub record LogState : Type 0 where
+  pub generation : ℕ
+  pub parity : ℕ
+  pub start : ℕ
+  pub flushed : ℕ
+  pub left : List ℕ
+  pub reserved : ℕ
+
+-- a log, and how many bytes can be kept free before memory is wanted
+pub record LogView : Type 0 where
+  pub log : LogState
+  pub room : ℕ
+
+-- one without records
+abbrev pub fresh_log : ℕ → ℕ → LogState
+fresh_log generation parity =
+    record { generation = generation; parity = parity; start = 0; flushed = 0; left = []; reserved = 0 }
+
+-- the position behind the last byte
+abbrev pub end_of : LogState → ℕ
+end_of s = s.flushed + length s.left
+
+-- the bytes that are used and kept free
+abbrev pub journal_of : LogState → JournalState
+journal_of s = record { used = end_of s - s.start; reserved = s.reserved }
+
+-- so many bytes are kept free
+abbrev pub with_reserved : LogState → ℕ → LogState
+with_reserved s bytes = record s { reserved = bytes }
+
+-- a record stands behind the others, in bytes that were kept free
+abbrev pub appended : LogState → Redo → LogState
+appended s redo = record s { left = s.left ++ bytes_of redo; reserved = s.reserved - size_of redo }
+
+-- what is used counts from a later position
+abbrev pub cut_to : LogState → ℕ → LogState
+cut_to s at = record s { start = at }
+
+-- bytes at a place of a file
+pub record Laid : Type 0 where
+  pub file : ℕ
+  pub at : ℕ
+  pub bytes : List ℕ
+
+-- what a piece is to lay down
+abbrev pub laid_by : Piece → Laid
+laid_by piece = record { file = piece.file; at = piece.at; bytes = piece.bytes.items }
+
+-- the bytes of the next piece: those that are left, up to a piece's and up to the end of the file
+abbrev pub next_len : LogState → ℕ
+next_len s = min (min (length s.left) PIECE_BYTES) (LOG_FILE_BYTES - place_of s.flushed)
+
+-- the next bytes of the log, at their place
+abbrev pub next_piece : LogState → Laid
+next_piece s =
+    record { file = file_of s.parity s.flushed; at = place_of s.flushed; bytes = take (next_len s) s.left }
+
+-- the next piece is given out
+abbrev pub given_out : LogState → LogState
+given_out s = record s { flushed = s.flushed + next_len s; left = drop (next_len s) s.left }
+
+-- what a step gives out of a log, and what it leaves: nothing exactly where all is given out
+abbrev pub GivesOut : LogState → Option Piece → LogState → Type 0
+GivesOut s None t = (s.left ≡ []) × (t ≡ s)
+GivesOut s (Some piece) t = (0 < length s.left) × (laid_by piece ≡ next_piece s) × (t ≡ given_out s)
+
+-- how many bytes can be kept free more, by memory for so many bytes, of which so many are taken, and by positions
+abbrev pub room_of : ℕ → ℕ → ℕ → ℕ → ℕ
+room_of capacity len end reserved = min (capacity - len - reserved) (2 ^ 64 - 1 - end - reserved)
+
+-- Why the numbers of a log fit: there are two parities, of so many bytes so many were given out, all that is used and kept free is in the ring,
+-- and the bytes that are kept free have memory and positions.
+pub record IsLog (parity start flushed given len capacity reserved : ℕ) : Type 0 where
+  pub two : parity ≤ 1
+  pub part : given ≤ len
+  pub started : start ≤ flushed
+  pub within : flushed + (len - given) + reserved ≤ start + JOURNAL_BYTES
+  pub room : len + reserved ≤ capacity
+  pub positions : flushed + (len - given) + reserved < 2 ^ 64

@@ -1,0 +1,21 @@
+//! The log of redo records: a journal whose bytes are given out in pieces, for a ring of files.
+#![tactic(auto)]
+
+mod fault;
+mod image_id;
+mod laws;
+mod log;
+mod piece;
+mod prepared;
+mod replay;
+mod ring;
+
+pub use fault::ReadFault;
+pub use laws::{pieces_are_the_records, records_are_not_damaged};
+pub use log::Log;
+pub use piece::{PIECE_BYTES, Piece};
+pub use replay::replay_bytes;
+pub use ring::{FIRST_FILE, LOG_FILE_BYTES, LOG_FILES, file_of, place_of};
+
+#[cfg(test)]
+mod tests;
