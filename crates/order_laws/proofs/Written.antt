@@ -1,9 +1,9 @@
 -- A transaction whose commit was asked for has written each key whose lock it holds at a backup.
 use Rattle.std.proofs.Common.{◌≡◌, ◌≢◌, ◌⊎◌, ◌<◌, ◌+◌, ℕ, Bool, true, false, ◌||◌, List, [], ◌∷◌, length, refl, sym, ap}
-use Rattle.std.proofs.Common.{◌∙◌, subst, arith, inl, inr}
+use Rattle.std.proofs.Common.{◌∙◌, cond, subst, arith, inl, inr}
 use Rattle.std.proofs.lemmas.Bool.{and_parts, cases_eq, false≢true, or_cases, or_left, or_right, true≢false}
 use Rattle.std.specs.List.{list_any}
-use Rattle.std.specs.Prelude.{◌==◌, if◌then◌else◌, is_some, Option, None, Some}
+use Rattle.std.specs.Prelude.{◌&&◌, if◌then◌else◌, is_some, Option, None, Some}
 use Rattle.run_theory.proofs.Pasts.{each_map}
 use Rattle.run_theory.proofs.Runs.{log_of-other, log_of-own, log_of-past}
 use Rattle.run_theory.specs.Counts.{one_if}
@@ -27,16 +27,18 @@ use Rattle.frag_map.specs.Layout.{Layout}
 use Rattle.tc_block.specs.Abort.{is_verifying}
 use Rattle.tc_block.specs.declared.phase.Phase.{Phase}
 use Rattle.tc_block.specs.declared.phase.Phase.TheVariants.{Open, Verifying, Committing, Completing, Aborting}
+use Rattle.tc_block.specs.declared.touched.Touched.{Touched}
 use Rattle.tc_block.specs.declared.transaction.Transaction.{Transaction}
 use Rattle.tc_block.specs.Operate.{fresh, is_ready}
 use Rattle.tc_block.specs.Phases.{is_aborting, is_decided}
 use Rattle.tc_block.specs.Sends.{entering}
 use Rattle.tc_block.specs.State.{TcState}
 use Rattle.tc_block.specs.Tc.{tc_row}
-use Rattle.tc_block.specs.Touched.{fits}
+use Rattle.tc_block.specs.Touched.{fits, is_on}
 use Rattle.tc_block.specs.Turn.{Turn, asking}
 use Rattle.tc_block.proofs.EachTurn.{AbortForms, TurnForms, may_ask, ready_is, rows_of}
 use Rattle.tc_block.proofs.TurnRows.{turn_for}
+use Rattle.lqh_block.proofs.IndexLemmas as keys
 use Rattle.node_core.proofs.HostCases.{IsTcStep, tc_step}
 use Rattle.node_core.specs.Blocks.{tc_of}
 use Rattle.node_core.specs.declared.host.Host.{Host}
@@ -55,11 +57,13 @@ use Rattle.host_laws.specs.Live.{of_live}
 use Rattle.host_laws.specs.Ways.{back_by, sent_ways}
 use Rattle.run_laws.specs.Circle.{Agree, IsSettledFor, at_host, at_primary}
 use Rattle.run_laws.specs.GivenUp.{is_given_up}
+use Rattle.run_laws.specs.Keyed.{HasTouched, IsTouchedRightly, IsWrittenRightly}
 use Rattle.run_laws.specs.Live.{live_at, of_host}
 use Rattle.run_laws.specs.Routes.{replica_host, replicas}
 use Rattle.run_laws.specs.Tokens.{budget_by, is_token, tokens_in}
 use Rattle.run_laws.specs.Transit.{AreInTransit, Comes, IsRun, Passes, logs_of}
 use Rattle.run_laws.proofs.HomeSteps.{IsHome, all_home, away, here_now, here_was}
+use Rattle.run_laws.proofs.Keyed.{transactions_are_keyed}
 use Rattle.run_laws.proofs.OneAtATime.{one_at_a_time}
 use Rattle.run_laws.proofs.TcOwn.{beside_silent, others_silent}
 use Rattle.run_laws.proofs.TcSound.{log_sound}
@@ -426,16 +430,59 @@ module _ (start : Start) (tx : TxId) where
             passed_then
         by more (inr is_so) = more is_so passed_then
 
+-- a key with an operation that was answered by `Done` was touched, and is known to be written
+abbrev any_done : List ℕ → List (Op × Answer) → Bool
+any_done key ops = list_any (λ (op : Op × Answer). is_done op.1) (ops_on key ops)
+
+done_touched : (key : List ℕ) (touched : List Touched) (ops : List (Op × Answer))
+    → Each (λ (op : Op × Answer). HasTouched touched (key_of op.0)) ops → any_done key ops ≡ true
+    → HasTouched touched key
+done_touched key touched [] all is = absurd (false≢true is)
+done_touched key touched (o ∷ ops) all is =
+    by (same_key (key_of o.0) key) refl is (done_touched key touched ops all.1)
+  where
+    by : (b : Bool) → same_key (key_of o.0) key ≡ b
+        → list_any (λ (op : Op × Answer). is_done op.1) (cond b (o ∷ ops_on key ops) (ops_on key ops)) ≡ true
+        → (any_done key ops ≡ true → HasTouched touched key) → HasTouched touched key
+    by true e is more = subst (HasTouched touched) (keys.same (key_of o.0) key e) all.0
+    by false e is more = more is
+
+touched_written : (key : List ℕ) (ops : List (Op × Answer)) (touched : List Touched)
+    → Each (IsWrittenRightly ops) touched → any_done key ops ≡ true → HasTouched touched key
+    → list_any (λ (u : Touched). is_on key u && u.written) touched ≡ true
+touched_written key ops [] all done is = absurd (false≢true is)
+touched_written key ops (u ∷ rest) all done is =
+    by (same_key u.key key) refl is (touched_written key ops rest all.1 done)
+  where
+    by : (b : Bool) → same_key u.key key ≡ b → (b || list_any (is_on key) rest) ≡ true
+        → (HasTouched rest key → list_any (λ (u : Touched). is_on key u && u.written) rest ≡ true)
+        → ((b && u.written) || list_any (λ (u : Touched). is_on key u && u.written) rest) ≡ true
+    by true e here more =
+        or_left u.written (list_any (λ (u : Touched). is_on key u && u.written) rest)
+        (all.0 ∙ (ap (λ k. any_done k ops) (keys.same u.key key e) ∙ done))
+    by false e here more = more here
+
 pub who_commits_has_written : WhoCommitsHasWritten
 who_commits_has_written start es key at tx t run kept live asked is =
-    by (or_cases (is_verifying t.phase) (is_decided t.phase) asked)
+    let answered : any_done key t.ops ≡ true = by (or_cases (is_verifying t.phase) (is_decided t.phase) asked) in
+    record {
+      answered = answered;
+      touched = touched_written key t.ops t.touched keyed.written answered
+          (done_touched key t.touched t.ops keyed.answered answered);
+    }
   where
+    keyed : IsTouchedRightly t
+    keyed =
+        each_found (λ (x : TxId × Transaction). IsTouchedRightly x.1)
+        (tc_of (after start (home start tx) (logs_of start es (home start tx)))).live tx t
+        (transactions_are_keyed start es (home start tx) run) live
+
     there : is_among tx (passed start key (replica_host start key (at + 1)) (replica_host start key at)
         (logs_of start es (replica_host start key at))) ≡ true
     there = holders_passed start es key at tx run is.inside is.holding
 
     by : (is_verifying t.phase ≡ true) ⊎ (is_decided t.phase ≡ true)
-        → list_any (λ (op : Op × Answer). is_done op.1) (ops_on key t.ops) ≡ true
+        → any_done key t.ops ≡ true
     by (inl waits) =
         verified_written start tx key at is.inside es t run kept live (verifying_is t.phase waits) there
     by (inr decided) = decided_written start tx key at is.inside es t run kept live decided there

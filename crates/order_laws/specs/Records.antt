@@ -1,13 +1,15 @@
 -- Who holds a lock behind the first place of a chain has a record of the key at the place in front.
-use Rattle.std.specs.Prelude.{◌≡◌, ◌⊎◌, ◌<◌, ◌+◌, ◌||◌, ℕ, Bool, true, false, is_some, List, length, Some}
+use Rattle.std.specs.Prelude.{◌≡◌, ◌⊎◌, ◌<◌, ◌+◌, ◌&&◌, ◌||◌, ℕ, Bool, true, false, is_some, List, length, Some}
 use Rattle.std.specs.List.{list_any}
 use Rattle.sig_core.specs.declared.member.TxId.{TxId}
 use Rattle.sig_core.specs.declared.op.Answer.{Answer}
 use Rattle.sig_core.specs.declared.op.Op.{Op}
 use Rattle.row_locks.specs.Holders.{holds}
+use Rattle.tc_block.specs.declared.touched.Touched.{Touched}
 use Rattle.tc_block.specs.declared.transaction.Transaction.{Transaction}
 use Rattle.tc_block.specs.Abort.{is_verifying}
 use Rattle.tc_block.specs.Phases.{is_decided}
+use Rattle.tc_block.specs.Touched.{is_on}
 use Rattle.world_core.specs.History.{is_done}
 use Rattle.world_core.specs.Start.{Start}
 use Rattle.world_core.specs.Steps.{HostStep}
@@ -37,6 +39,12 @@ HoldersHaveRecords =
     → (has_record start (logs_of start es) key (replica_host start key at) tx ≡ true)
     ⊎ (has_let_go start (logs_of start es) key (replica_host start key at) tx ≡ true)
 
+-- the transaction has written the key: one of its operations there was answered by `Done`, and it is one of the keys
+-- that its coordinator completes
+pub record HasWritten (key : List ℕ) (t : Transaction) : Type 0 where
+  pub answered : list_any (λ (op : Op × Answer). is_done op.1) (ops_on key t.ops) ≡ true
+  pub touched : list_any (λ (u : Touched). is_on key u && u.written) t.touched ≡ true
+
 -- a transaction whose commit was asked for, and that isn't given up, has written each key whose lock it holds behind the
 -- first place
 abbrev pub WhoCommitsHasWritten : Type 0
@@ -44,4 +52,4 @@ WhoCommitsHasWritten =
     (start : Start) (es : List HostStep) (key : List ℕ) (at : ℕ) (tx : TxId) (t : Transaction) → IsRun start es
     → is_given_up start (logs_of start es) tx ≡ false → live_at start (logs_of start es) tx ≡ Some t
     → (is_verifying t.phase || is_decided t.phase) ≡ true → HoldsBehind start (logs_of start es) key at tx
-    → list_any (λ (op : Op × Answer). is_done op.1) (ops_on key t.ops) ≡ true
+    → HasWritten key t

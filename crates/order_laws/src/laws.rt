@@ -49,7 +49,6 @@ pub fn holders_have_records()
 
 /// A transaction whose commit was asked for, and that isn't given up, has written each key whose lock
 /// it holds at a backup.
-#[tactic(auto, using(crate::proofs::Written::who_commits_has_written))]
 pub fn who_commits_has_written()
     ensures { WhoCommitsHasWritten }
 {}
