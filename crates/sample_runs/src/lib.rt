@@ -3,4 +3,4 @@
 
 mod samples;
 
-pub use samples::puts_are_told;
+pub use samples::{puts_are_told, waits_are_granted};
