@@ -1,0 +1,12 @@
+pub mod Locking
+pub mod PutChain
+pub mod PutCoordinator
+pub mod PutRows
+pub mod PutShell
+pub mod SamplePut
+pub mod SampleWait
+pub mod Settled
+pub mod Traces
+pub mod WaitCoordinator
+pub mod WaitRows
+pub mod WaitShell
