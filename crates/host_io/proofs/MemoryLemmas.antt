@@ -1,17 +1,18 @@
 -- What a disk in memory keeps between its journal and its files.
-use Rattle.std.proofs.Common.{◌≡◌, ◌∙◌, ◌⊎◌, ℕ, zero, suc, ◌+◌, ◌-◌, ◌≤◌, ◌<◌, Bool, true, false, nat_eq, ◌==◌, List, [], ◌∷◌, ◌++◌, length, take, drop, set, map, replicate, get_or, if◌then◌else◌, refl, ap, sym, subst, arith, inl, inr, append_assoc}
-use Rattle.std.proofs.lemmas.Bool.{cases_eq, ne_eqb}
-use Rattle.std.proofs.lemmas.List.{drop-set-lt, drop_more, ext_get_or, get_or-map, get_or-set_other, get_or-set_same, length-map, length-set, take_more_set}
-use Rattle.std.proofs.lemmas.List.Elements.{All-from_get_or}
+use Rattle.std.proofs.Common.{◌≡◌, ◌∙◌, ◌⊎◌, Option, Some, ℕ, zero, suc, ◌+◌, ◌-◌, ◌≤◌, ◌<◌, Bool, true, false, nat_eq, ◌==◌, List, [], ◌∷◌, ◌++◌, length, take, drop, set, map, replicate, get_or, if◌then◌else◌, refl, ap, sym, subst, arith, inl, inr, append_assoc}
+use Rattle.std.proofs.lemmas.Bool.{cases_eq, ne_eqb, true≢false}
+use Rattle.std.proofs.lemmas.List.{drop-set-lt, drop_more, ext_get_or, get_or-map, get_or-set_other, get_or-set_same, length-map, length-set, length-take, set-get_or, take_more_set}
+use Rattle.std.proofs.lemmas.List.Elements.{All-from_get_or, All-take}
 use Rattle.std.proofs.lemmas.List.FromFn.{get_or-map-range_with_len}
 use Rattle.std.specs.List.{All, range_with_len}
 use Rattle.host_io.specs.declared.journal.Entry.{Entry}
 use Rattle.host_io.specs.declared.limits.TheConstants.{FILES}
 use Rattle.host_io.specs.Call.{Call, Wrote, Tore, Synced, Lost}
+use Rattle.host_io.specs.Disk.{IsAdded, IsCut, IsWritten, ends_cut}
 use Rattle.host_io.specs.DiskState.{FileState, file_after, fresh_file, settled, state_of, states, written}
-use Rattle.host_io.specs.Image.{AreBytes, IsImage, IsRecord, MayFollow}
-use Rattle.host_io.specs.Memory.{call_of, told_behind}
-use Rattle.host_io.specs.Outcome.{crash, crashed}
+use Rattle.host_io.specs.Image.{AreBytes, IsImage, IsPlace, IsRecord, MayFollow}
+use Rattle.host_io.specs.Memory.{IsTorn, Memory, call_of, told_behind}
+use Rattle.host_io.specs.Outcome.{crash, crashed, next_pick, share}
 use Rattle.host_io.proofs.OutcomeLemmas.{crash_images, crash_length}
 use Rattle.host_io.proofs.StateLemmas.{IsSound, same_number, sound_of}
 
@@ -195,10 +196,63 @@ pub no_files : (files : List FileState) → files ≡ replicate FILES fresh_file
 unfolding states
 no_files files e = e
 
-pub ruleset writing = (written_states, state_at)
+-- a share of a piece may follow too, and what a failed write leaves
+pub tear_follows : (calls : List Call) (file at n : ℕ) (asked : List ℕ) → IsPlace file (at + length asked)
+    → AreBytes asked → MayFollow calls (Tore file at asked (take n asked))
+tear_follows calls file at n asked place are =
+    (place, omega (arith, length-take n asked), All-take (λ byte. byte < 256) n asked are)
 
-pub ruleset tearing = (torn_states, state_at)
+pub torn_written : (old new : Memory) (file at : ℕ) (asked : List ℕ) → IsTorn old new file at asked
+    → IsWritten old.told (Some new.told) file at asked false
+torn_written old new file at asked (inl none) = inl (ap (λ (s : Memory). Some s.told) none)
+torn_written old new file at asked (inr some) =
+    inr
+      (
+        take (share (length asked) (next_pick old.picks)) asked,
+        record { grown = ap (λ (s : Memory). Some s.told) some.0; allowed = some.1 },
+      )
+
+-- what a cut of power adds to the record, and that the files are those of the record then
+pub crash_added : (calls before now : List Call) (picks : List ℕ) → calls ≡ before → IsRecord calls → AreBytes picks
+    → now ≡ Lost (crash (states calls) picks).files ∷ calls → IsCut before (Some now) false
+crash_added calls before now picks same kept from noted =
+    subst
+      (λ (earlier : List Call). IsCut earlier (Some now) false)
+      same
+      (
+        (crash (states calls) picks).files,
+        record {
+          grown = ap (λ (told : List Call). Some told) noted;
+          allowed = crash_follows calls picks kept from;
+        },
+      )
+
+pub crash_kept : (calls now : List Call) (picks : List ℕ) (files : List FileState) (spare : ℕ) → IsRecord calls
+    → AreBytes picks → files ≡ map settled (crash (states calls) picks).files
+    → now ≡ Lost (crash (states calls) picks).files ∷ calls
+    → (length files ≡ FILES) × (files ≡ states now) × IsRecord now × (ends_cut now ≡ false → 0 < spare)
+crash_kept calls now picks files spare kept from left noted =
+    subst
+      (λ (told : List Call).
+        (length files ≡ FILES) × (files ≡ states told) × IsRecord told × (ends_cut told ≡ false → 0 < spare))
+      (sym noted)
+      (
+        ap length left ∙ length-map (crash (states calls) picks).files settled ∙ crash_size calls picks,
+        left ∙ lost_states calls (crash (states calls) picks).files (crash_size calls picks),
+        (crash_follows calls picks kept from, kept),
+        λ uncut. absurd (true≢false uncut),
+      )
+
+-- a part of bytes are bytes
+pub part_are_bytes : (n : ℕ) (asked : List ℕ) → AreBytes asked → AreBytes (take n asked)
+part_are_bytes n asked are = All-take (λ byte. byte < 256) n asked are
+
+pub ruleset failing = (torn_written)
+
+pub ruleset writing = (written_states, state_at, set-get_or)
+
+pub ruleset tearing = (torn_states, state_at, set-get_or, part_are_bytes, length-take)
 
 pub ruleset settling = (synced_states, state_at)
 
-pub ruleset losing = (lost_states, crash_size, crash_follows)
+pub ruleset losing = (lost_states, crash_size)

@@ -42,7 +42,7 @@ is_burnt None call = false
 is_burnt (Some pass) call = nat_le pass call
 
 -- its next call is to fail
-abbrev pub is_planned : Memory → Bool
+unfoldable pub is_planned : Memory → Bool
 is_planned s = list_any (λ call. call == s.calls) s.fails || is_burnt s.fuse s.calls
 
 abbrev pub one_more : ℕ → ℕ

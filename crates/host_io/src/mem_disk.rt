@@ -32,7 +32,8 @@ pub struct MemDisk {
 }
 
 impl Model for MemDisk {
-    ghost use Rattle.std.specs.Prelude.{◌≡◌, ◌<◌, false};
+    ghost use Rattle.std.specs.Prelude.{◌≡◌, ◌<◌, false, length};
+    ghost use Rattle.host_io.specs.declared.limits.TheConstants.{FILES};
     ghost use Rattle.host_io.specs.Disk.{ends_cut};
     ghost use Rattle.host_io.specs.DiskState.{states};
     ghost use Rattle.host_io.specs.Image.{IsRecord};
@@ -42,7 +43,7 @@ impl Model for MemDisk {
 
     ghost view = { λ d. record { told = d.journal.told; picks = d.journal.picks; fails = d.fails.items; fuse = d.fuse; calls = d.calls; faults = d.faults } };
 
-    ghost invariant = { λ d. (d.files.items ≡ states d.journal.told) × IsRecord d.journal.told × (ends_cut d.journal.told ≡ false → 0 < d.journal.spare) };
+    ghost invariant = { λ d. (length d.files.items ≡ FILES) × (d.files.items ≡ states d.journal.told) × IsRecord d.journal.told × (ends_cut d.journal.told ≡ false → 0 < d.journal.spare) };
 }
 
 impl MemDisk {
@@ -97,6 +98,7 @@ impl MemDisk {
     }
 
     // Counts a call, and says whether it is to fail.
+    #[tactic(auto, unfolding(crate::specs::Memory::is_planned))]
     fn begin(&mut self) -> bool
         ensures planned { result ≡ is_planned self.old }
         ensures called { self.new ≡ called self.old }
@@ -159,13 +161,39 @@ impl MemDisk {
     }
 
     // Fails at a write, and lays down what is to be laid down, if there is memory for that.
+    #[tactic(auto, using(crate::proofs::MemoryLemmas::failing))]
     fn fail_to_write(&mut self, file: u8, at: usize, asked: &[u8]) -> Failed
         requires { IsPlace file (at + length asked.now) }
-        ensures { IsTorn self.old self.new file at asked.now }
+        ensures torn { IsTorn self.old self.new file at asked.now }
+        ensures written { IsWritten self.old.told (Some self.new.told) file at asked.now false }
     {
         match self.tear(file, at, asked) {
             Ok(()) => self.fail(),
             Err(_) => self.fail(),
+        }
+    }
+
+    // Writes where a disk has such a place, or fails.
+    fn write_there(
+        &mut self,
+        planned: bool,
+        file: u8,
+        at: usize,
+        bytes: &[u8],
+    ) -> Result<(), Failed>
+        requires { IsPlace file (at + length bytes.now) }
+        ensures planned { OnOk result (planned ≡ false) }
+        ensures written { IsWritten self.old.told (Some self.new.told) file at bytes.now (is_ok result) }
+        ensures ok { OnOk result (self.new ≡ recorded self.old (Wrote file at bytes.now)) }
+        ensures err { OnErr result ((self.new ≡ faulted self.old) ⊎ (self.new ≡ faulted (torn self.old file at bytes.now))) }
+        ensures untorn { OnErr result (planned ≡ false → self.new ≡ faulted self.old) }
+    {
+        if planned {
+            return Err(self.fail_to_write(file, at, bytes));
+        }
+        match self.lay(file, at, bytes) {
+            Ok(()) => Ok(()),
+            Err(_) => Err(self.fail()),
         }
     }
 
@@ -187,7 +215,7 @@ impl MemDisk {
     fn crash(&mut self)
         requires { ends_cut self.old.told ≡ false }
         ensures crashed { self.new ≡ record (cut_by self.old false) { fuse = self.old.fuse } }
-        ensures may { MayFollow self.old.told (lost_call self.old) }
+        ensures cut { IsCut self.old.told (Some self.new.told) false }
     {
         self.journal.crash(&mut self.files);
     }
@@ -230,13 +258,7 @@ impl Disk for MemDisk {
         if !has_place(file, at.saturating_add(bytes.len() as u64)) {
             return Err(self.fail());
         }
-        if planned {
-            return Err(self.fail_to_write(file, at as usize, bytes));
-        }
-        match self.lay(file, at as usize, bytes) {
-            Ok(()) => Ok(()),
-            Err(_) => Err(self.fail()),
-        }
+        self.write_there(planned, file, at as usize, bytes)
     }
 
     fn sync(&mut self, file: u8) -> Result<(), Failed>
@@ -296,7 +318,8 @@ impl Disk for MemDisk {
 // As many files as a disk has, none of them written.
 #[tactic(auto, using(crate::proofs::MemoryLemmas::no_files))]
 fn fresh_files(alloc: Global) -> Result<Vec<MemFile>, AllocError>
-    ensures { IfOk result (λ files. files.items ≡ states []) }
+    ensures fresh { IfOk result (λ files. files.items ≡ states []) }
+    ensures size { IfOk result (λ files. length files.items ≡ FILES) }
 {
     let mut files = Vec::with_capacity(alloc, FILES as usize)?;
     for _ in 0..FILES {

@@ -1,4 +1,4 @@
-use Rattle.std.proofs.Common.{◌≡◌, ◌≤◌, ◌-◌, length, replicate}
+use Rattle.std.proofs.Common.{◌≡◌, ◌≤◌, replicate}
 use Rattle.std.specs.Vec.{vec_capacity}
 use Rattle.host_io.specs.declared.limits.TheConstants.{FILES}
 use Rattle.host_io.specs.DiskState.{fresh_file}
@@ -9,5 +9,5 @@ abbrev pub invariant-loop : goal.invariant-loop
 invariant-loop l =
     record {
       room : FILES ≤ vec_capacity l.files;
-      fresh : l.files.items ≡ replicate (length l.yielded) fresh_file;
+      fresh : l.files.items ≡ replicate l.counter fresh_file;
     }
