@@ -1,4 +1,4 @@
-use Rattle.std.proofs.Common.{◌≡◌, ◌∙◌, ◌×◌, ◌<◌, false, ℕ, List, ◌++◌, length, take, drop, ap, sym, subst}
+use Rattle.std.proofs.Common.{◌≡◌, ◌∙◌, ◌<◌, false, ℕ, List, ◌++◌, length, take, drop, ap, sym, subst}
 use Rattle.std.proofs.lemmas.List.{take_at}
 use Rattle.host_io.specs.declared.limits.TheConstants.{FILES}
 use Rattle.host_io.specs.Disk.{ends_cut}
