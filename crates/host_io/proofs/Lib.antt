@@ -1,1 +1,4 @@
 pub mod SourceLemmas
+pub mod StateLemmas
+pub mod OutcomeLemmas
+pub mod MemoryLemmas

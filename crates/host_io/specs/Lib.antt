@@ -1,3 +1,10 @@
 pub mod Fault
 pub mod Source
 pub mod Sink
+pub mod Call
+pub mod DiskState
+pub mod Image
+pub mod Disk
+pub mod Outcome
+pub mod Memory
+pub mod Laws
