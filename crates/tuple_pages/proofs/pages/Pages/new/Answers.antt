@@ -1,0 +1,16 @@
+use Rattle.std.proofs.Common.{◌≡◌, ◌≤◌, ◌<◌, ◌+◌, ◌*◌, ◌∙◌, ap, sym, arith, refl, subst, length, get_or, set, List, [], true}
+use Rattle.std.specs.Prelude.{Option, None, Some, is_some, slice_get}
+use Rattle.sig_core.specs.declared.rows.Slot.{Slot}
+use Rattle.tuple_pages.specs.declared.page.TheConstants.{PAGE_SLOTS}
+use Rattle.tuple_pages.specs.Free.{first_free}
+use Rattle.tuple_pages.specs.Places.{ArePages, PagesState, place_at, places_in, rewritten, written}
+use Rattle.tuple_pages.proofs.PageLemmas.{no_places, none_are}
+use Rattle.tuple_pages.proofs.pages.Pages.new.Goals as goal
+
+pub invariant_of-result : goal.invariant_of-result
+invariant_of-result c =
+    none_are c.new.result.items c.new-2.result c.new.ensures.items c.new-2.ensures.items c.new-2.ensures.len
+    c.new-2.ensures.heap_order
+
+pub returns : goal.returns
+returns c = no_places c.new.result.items
