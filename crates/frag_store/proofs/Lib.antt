@@ -1,4 +1,5 @@
 pub mod CountLemmas
+pub mod NumberLemmas
 pub mod PlaceLemmas
 pub mod RecordLemmas
 pub mod RowLemmas

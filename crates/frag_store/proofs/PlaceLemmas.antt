@@ -272,3 +272,15 @@ pub itself-inserted : (index : linear_hash.PlaceMap) (key : List ℕ) (at : ℕ)
 itself-inserted index key at =
     map.get-insert nat_list_cmp_total index key at key
     ∙ ap (λ b. cond b (Some at) (map.get index key)) (tied-same_key key key ∙ same_key-self key)
+
+pub ruleset founds = (found_there, found_elsewhere, found_nowhere)
+
+pub ruleset claims = (placed-new, placed-old)
+
+pub ruleset indexes = (kept_indexed, placed_indexed, freed_indexed, is_taken, placed-new)
+
+pub ruleset writes = (rewritten_indexed, row_written, is_taken, is_there)
+
+pub ruleset frees = (freed-free, freed-row, freed-busy, freed-none)
+
+pub ruleset leads = (others-removed, others-inserted, itself-removed, itself-inserted)

@@ -57,6 +57,7 @@ impl Counts {
     }
 
     /// One more on the key. Takes no memory.
+    #[tactic(auto, using(crate::proofs::NumberLemmas::numbers))]
     pub fn add(&mut self, key: &Key)
         requires room { self.old.roomy ≡ true }
         requires few { count_on self.old.on key.now + 1 < 2 ^ 64 }
@@ -69,6 +70,7 @@ impl Counts {
     }
 
     // The first on a key that has none.
+    #[tactic(auto, using(crate::proofs::NumberLemmas::numbers))]
     fn begin(&mut self, key: &Key)
         requires room { self.old.roomy ≡ true }
         requires none { count_on self.old.on key.now ≡ 0 }
@@ -92,6 +94,7 @@ impl Counts {
     }
 
     // Counts one less.
+    #[tactic(auto, using(crate::proofs::NumberLemmas::numbers))]
     fn lower(&mut self, key: &Key)
         requires { 0 < count_on self.old.on key.now }
         ensures { (q : List ℕ) → count_on self.new.on q + cond (same_key key.now q) 1 0 ≡ count_on self.old.on q }
@@ -103,6 +106,7 @@ impl Counts {
     }
 
     // Keeps no number of a key that has none.
+    #[tactic(auto, using(crate::proofs::NumberLemmas::numbers))]
     fn forget(&mut self, key: &Key)
         requires { count_on self.old.on key.now ≡ 0 }
         ensures { (q : List ℕ) → count_on self.new.on q ≡ count_on self.old.on q }

@@ -70,6 +70,7 @@ impl Places {
     }
 
     /// The place of the key, if it has one.
+    #[tactic(auto, using(crate::proofs::PlaceLemmas::founds))]
     pub fn place_of(&self, key: &Key) -> Option<u64>
         ensures { result ≡ place_of self.now.slots key.now }
     {
@@ -116,6 +117,7 @@ impl Places {
     }
 
     // Takes the spare key out of the index, unless it has a place.
+    #[tactic(auto, using(crate::proofs::PlaceLemmas::indexes))]
     fn forget(&mut self)
         ensures slots { self.new.slots ≡ self.old.slots }
         ensures roomy { self.new.roomy ≡ self.old.roomy }
@@ -129,6 +131,7 @@ impl Places {
     }
 
     // Leads a key without a place to the least free one.
+    #[tactic(auto, using(crate::proofs::PlaceLemmas::indexes))]
     fn lead(&mut self, key: &Key) -> Result<(), NoMemory>
         requires { place_of self.old.slots key.now ≡ None }
         ensures ok { OnOk result (IsAhead self.new key.now) }
@@ -142,6 +145,7 @@ impl Places {
     }
 
     /// Gives the key the least free place, unless it has one. Takes no memory.
+    #[tactic(auto, using(crate::proofs::PlaceLemmas::claims))]
     pub fn claim(&mut self, key: &Key)
         requires { IsReady self.old key.now }
         ensures { self.new.slots ≡ with_place self.old.slots key.now }
@@ -152,6 +156,7 @@ impl Places {
     }
 
     // Gives a key without a place the one that the index leads it to.
+    #[tactic(auto, using(crate::proofs::PlaceLemmas::indexes))]
     fn add(&mut self, key: &Key)
         requires new { place_of self.old.slots key.now ≡ None }
         requires ready { IsReady self.old key.now }
@@ -165,6 +170,7 @@ impl Places {
 
     /// Makes this the committed row of the key, of this epoch, or none. A key without a place changes
     /// nothing.
+    #[tactic(auto, using(crate::proofs::PlaceLemmas::writes))]
     pub fn set_row(&mut self, key: &Key, row: &Option<Value>, epoch: u64)
         ensures { self.new.slots ≡ set_row self.old.slots key.now row.now epoch }
     {
@@ -174,6 +180,7 @@ impl Places {
     }
 
     /// Frees the place of a key without a row, if no record is on it.
+    #[tactic(auto, using(crate::proofs::PlaceLemmas::frees))]
     pub fn let_go(&mut self, key: &Key, idle: bool)
         ensures { self.new.slots ≡ freed_by self.old.slots idle (place_of self.old.slots key.now) }
     {
@@ -196,6 +203,7 @@ impl Places {
     }
 
     // Frees the place of the key.
+    #[tactic(auto, using(crate::proofs::PlaceLemmas::indexes))]
     fn vacate(&mut self, key: &Key, at: u64)
         requires { place_of self.old.slots key.now ≡ Some at }
         ensures { self.new.slots ≡ slice_set self.old.slots at None }
@@ -206,6 +214,7 @@ impl Places {
 }
 
 // Leads a key nowhere.
+#[tactic(auto, unfolding(linear_hash::specs::Places::removed), using(crate::proofs::PlaceLemmas::leads))]
 fn leave(index: &mut Index, key: &Key)
     ensures { (q : List ℕ) → same_key key.now q ≡ false → map.get index.new.at q ≡ map.get index.old.at q }
 {
@@ -213,6 +222,7 @@ fn leave(index: &mut Index, key: &Key)
 }
 
 // Leads a key there, wherever it was led.
+#[tactic(auto, unfolding(linear_hash::specs::Places::removed, linear_hash::specs::Places::inserted), using(crate::proofs::PlaceLemmas::leads))]
 fn lead(index: &mut Index, key: &Key, at: u64) -> Result<(), NoMemory>
     ensures ok { OnOk result (map.get index.new.at key.now ≡ Some at) }
     ensures others { (q : List ℕ) → same_key key.now q ≡ false → map.get index.new.at q ≡ map.get index.old.at q }

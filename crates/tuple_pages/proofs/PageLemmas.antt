@@ -1,5 +1,5 @@
 -- What a call on one slot does to the places that pages hold.
-use Rattle.std.proofs.Common.{◌≡◌, ◌≢◌, ◌≤◌, ◌<◌, ◌⊎◌, inl, inr, ℕ, ◌+◌, ◌-◌, ◌*◌, ◌/◌, ◌%◌, Bool, true, false, cond, nat_eq}
+use Rattle.std.proofs.Common.{◌≡◌, ◌≢◌, ◌≤◌, ◌<◌, ◌⊎◌, inl, inr, ℕ, zero, suc, ◌+◌, ◌-◌, ◌*◌, ◌/◌, ◌%◌, Bool, true, false, cond, nat_eq, nat_lt}
 use Rattle.std.proofs.Common.{List, [], ◌∷◌, ◌++◌, map, length, get_or, set, refl, ap, sym, ◌∙◌, arith, subst, length-append}
 use Rattle.std.specs.Prelude.{Option, Some, None, is_some, slice_get}
 use Rattle.std.specs.List.{range_with_len}
@@ -7,17 +7,17 @@ use Rattle.std.specs.BinaryHeap.{HeapUnchanged, IsHeap, IsUpperBound, heap_capac
 use Rattle.std.specs.Ordering.{nat_cmp}
 use Rattle.std.specs.declared.cmp.Reverse.{Reverse}
 use Rattle.std.specs.declared.collections.BinaryHeap.{BinaryHeap}
-use Rattle.std.proofs.lemmas.Bool.{cases_eq, cases_lt, ne_eqb}
+use Rattle.std.proofs.lemmas.Bool.{cases_eq, cases_lt, false≢true, ne_eqb, true≢false}
 use Rattle.std.proofs.lemmas.Bool.Decides.{nat_tests}
 use Rattle.std.proofs.lemmas.List.{ext_get_or, get_or-set_same, get_or-set_other, get_or_append_left, get_or_push, length-set}
 use Rattle.std.proofs.lemmas.List.FromFn.{get_or-map-range_with_len, length-map-range_with_len, map-range_with_len_more}
 use Rattle.std.proofs.Math.ListN.{get_or-eq_default}
 use Rattle.std.proofs.lemmas.Nat.{div-add-mod', mod_below}
 use Rattle.sig_core.specs.declared.rows.Slot.{Slot}
-use Rattle.sig_core.specs.Rows.{placed, taken}
+use Rattle.sig_core.specs.Rows.{has_row, next_by, placed, taken, with_row}
 use Rattle.tuple_pages.specs.declared.page.TheConstants.{PAGE_SLOTS}
 use Rattle.tuple_pages.specs.Free.{HoldsFree, first_free, listed}
-use Rattle.tuple_pages.specs.Places.{ArePages, place_at, places_in, written}
+use Rattle.tuple_pages.specs.Places.{ArePages, AreWhole, place_at, places_in, rewritten, written}
 use Rattle.tuple_pages.proofs.FreeLemmas.{IsTaken, Popped, empty_behind, freed_holds, grown_holds, is_taken, peek_least, placed-behind, placed-within}
 use Rattle.tuple_pages.proofs.FreeLemmas.{popped_holds, set_holds, top_least, top_within}
 
@@ -26,10 +26,6 @@ Slots = List (Option Slot)
 
 pub itself : (n : ℕ) → nat_eq n n ≡ true
 itself n = grind (arith, nat_tests)
-
--- pages are whole
-abbrev pub AreWhole : List Slots → Type 0
-AreWhole pages = (page : ℕ) → page < length pages → length (get_or pages page []) ≡ PAGE_SLOTS
 
 -- the page of a place, and its slot there
 pub page_below : (pages : List Slots) (at : ℕ) → at < PAGE_SLOTS * length pages → at / PAGE_SLOTS < length pages
@@ -44,7 +40,7 @@ slot_below pages at whole within =
 -- one slot is written, and the others are as they were
 module _ (pages : List Slots) (at : ℕ) (slot : Option Slot) (page : at / PAGE_SLOTS < length pages)
     (within : at % PAGE_SLOTS < length (get_or pages (at / PAGE_SLOTS) [])) where
-  home : Slots
+  abbrev home : Slots
   home = get_or pages (at / PAGE_SLOTS) []
 
   place-written : (q : ℕ) → place_at (written pages at slot) q ≡ cond (nat_eq at q) slot (place_at pages q)
@@ -81,12 +77,16 @@ module _ (pages : List Slots) (at : ℕ) (slot : Option Slot) (page : at / PAGE_
           (get_or-set_other pages (at / PAGE_SLOTS) (q / PAGE_SLOTS) (set home (at % PAGE_SLOTS) slot) [] p)
           ∙ apart (ne_eqb at q (λ e. p (ap (λ n. n / PAGE_SLOTS) (sym e))))
 
+  pub length-written : length (written pages at slot) ≡ length pages
+  unfolding written
+  length-written = length-set pages (at / PAGE_SLOTS) (set home (at % PAGE_SLOTS) slot)
+
   pub whole-written : AreWhole pages → AreWhole (written pages at slot)
   unfolding written
   whole-written whole p inside = by (cases_eq p (at / PAGE_SLOTS))
     where
       there : p < length pages
-      there = omega (arith, inside, length-set pages (at / PAGE_SLOTS) (set home (at % PAGE_SLOTS) slot))
+      there = let P : ℕ → Type 0 = λ n. p < n in subst P length-written inside
 
       by : (p ≡ at / PAGE_SLOTS) ⊎ (p ≢ at / PAGE_SLOTS)
           → length (get_or (set pages (at / PAGE_SLOTS) (set home (at % PAGE_SLOTS) slot)) p []) ≡ PAGE_SLOTS
@@ -96,10 +96,6 @@ module _ (pages : List Slots) (at : ℕ) (slot : Option Slot) (page : at / PAGE_
           ∙ length-set home (at % PAGE_SLOTS) slot ∙ whole (at / PAGE_SLOTS) page
       by (inr e) =
           ap length (get_or-set_other pages (at / PAGE_SLOTS) p (set home (at % PAGE_SLOTS) slot) [] e) ∙ whole p there
-
-  pub length-written : length (written pages at slot) ≡ length pages
-  unfolding written
-  length-written = length-set pages (at / PAGE_SLOTS) (set home (at % PAGE_SLOTS) slot)
 
   -- a place among the others
   pub places-written : (len : ℕ) → at < len → places_in (written pages at slot) len ≡ set (places_in pages len) at slot
@@ -190,6 +186,14 @@ module _ {A : Type 0} (pages : List Slots) (len : ℕ) (free : BinaryHeap (Rever
 
 pub ruleset counts = (free_fewer, taken_rest)
 
+pub none_left : (n : ℕ) → (0 < n → false ≡ true) → n ≡ 0
+none_left zero never = refl
+none_left (suc n) never = absurd (false≢true (never (omega arith)))
+
+pub first_item : {X : Type 0} (xs : List X) (x : X) → true ≡ nat_lt 0 (length xs) → x ≡ get_or xs 0 x → slice_get xs 0 ≡ Some x
+first_item [] x some is = absurd (false≢true (sym some))
+first_item (y ∷ xs) x some is = ap (λ z. Some z) (sym is)
+
 -- no places
 pub no_places : (pages : List Slots) → places_in pages 0 ≡ []
 unfolding places_in
@@ -270,6 +274,32 @@ module _ {A : Type 0} (pages : List Slots) (len : ℕ) (free : BinaryHeap (Rever
       (subst P (sym (places_set now free at (Some slot) page within written_is inside))
       (set_holds (places_in pages len) free free is.holds at slot (taken_there at there)))
 
+  -- the row of a place that is taken
+  module _ (now : List Slots) (at : ℕ) (slot : Option Slot) (row : Option (List ℕ)) (epoch : ℕ)
+      (written_is : now ≡ written pages at slot) (slot_is : slot ≡ rewritten (place_at pages at) row epoch)
+      (there : is_some (get_or (places_in pages len) at None) ≡ true) where
+    pub row_are : ArePages now len free
+    row_are = by (place_at pages at) refl
+      where
+        by : (o : Option Slot) → place_at pages at ≡ o → ArePages now len free
+        by None e =
+            let none : is_some (get_or (places_in pages len) at None) ≡ false = ap is_some (read at (taken_inside at there) ∙ e) in
+            absurd (true≢false (sym there ∙ none))
+        by (Some s) e =
+            set_are now at (with_row s.key row epoch)
+            (written_is ∙ ap (written pages at) (slot_is ∙ ap (λ o. rewritten o row epoch) e)) there
+
+    pub row_places : places_in now len ≡ set (places_in pages len) at (rewritten (get_or (places_in pages len) at None) row epoch)
+    row_places =
+        let inside = taken_inside at there in
+        places_set now free at slot (there_page at inside) (there_slot at inside) written_is inside
+        ∙ ap (set (places_in pages len) at) (slot_is ∙ ap (λ o. rewritten o row epoch) (sym (read at inside)))
+
+    pub row_length : length now ≡ length pages
+    row_length =
+        let inside = taken_inside at there in
+        ap length written_is ∙ length-written pages at slot (there_page at inside) (there_slot at inside)
+
   -- a place is freed
   pub freed_are : (now : List Slots) (after : BinaryHeap (Reverse ℕ) A) (at : ℕ) → now ≡ written pages at None
       → is_some (get_or (places_in pages len) at None) ≡ true
@@ -321,39 +351,45 @@ module _ {A : Type 0} (pages : List Slots) (len : ℕ) (free : BinaryHeap (Rever
         (grown_holds (places_in pages len) free after is.holds slot none same room_same
         (omega (arith, more, places-length pages len))))
 
-  -- a page more
-  pub page_are : (now : List Slots) (after : BinaryHeap (Reverse ℕ) A) (page : Slots) → now ≡ pages ++ page ∷ []
-      → length page ≡ PAGE_SLOTS → ArePages now len free
-  page_are now after page more long =
-      let P : Slots → Type 0 = λ places. HoldsFree places free in
-      let longer : length now ≡ length pages + 1 = ap length more ∙ length-append pages (page ∷ []) in
-      record {
-        whole = λ p inside. by p (omega (arith, inside, longer)) (cases_lt p (length pages));
-        within = omega (arith, is.within, longer);
-        holds = subst P (sym (ap (λ ps. places_in ps len) more ∙ places-grown pages page len is.within)) is.holds;
-      }
-    where
-      by : (p : ℕ) → p < length pages + 1 → (p < length pages) ⊎ (length pages ≤ p) → length (get_or now p []) ≡ PAGE_SLOTS
-      by p inside (inl low) =
-          ap (λ ps. length (get_or ps p [])) more ∙ ap length (get_or_append_left pages (page ∷ []) [] p low)
-          ∙ is.whole p low
-      by p inside (inr high) =
-          let last : p ≡ length pages = omega (arith, inside, high) in
-          ap (λ ps. length (get_or ps p [])) more ∙ ap (λ n. length (get_or (pages ++ page ∷ []) n [])) last
-          ∙ ap length (get_or_push pages page []) ∙ long
-
   -- room among the free places
-  pub room_are : (after : BinaryHeap (Reverse ℕ) A) → heap_items after ≡ heap_items free → heap_len after ≡ heap_len free
-      → heap_capacity free ≤ heap_capacity after → ArePages pages len after
-  room_are after items count room =
+  pub room_are : (now : List Slots) (after : BinaryHeap (Reverse ℕ) A) → AreWhole now → len ≤ PAGE_SLOTS * length now
+      → places_in now len ≡ places_in pages len → heap_items after ≡ heap_items free → heap_len after ≡ heap_len free
+      → heap_capacity free ≤ heap_capacity after → ArePages now len after
+  room_are now after whole within same items count room =
+      let P : Slots → Type 0 = λ places. HoldsFree places after in
       record {
-        whole = is.whole;
-        within = is.within;
-        holds =
-            record {
+        whole = whole;
+        within = within;
+        holds = subst P (sym same)
+            (record {
               each = λ at. ap (λ xs. listed xs at) items ∙ is.holds.each at;
               many = omega (arith, is.holds.many, count);
               ordered = subst (IsHeap (λ one other. nat_cmp other.0 one.0)) (sym items) is.holds.ordered;
               room = omega (arith, is.holds.room, room);
-            };
+            });
       }
+
+-- one page more
+pub whole_more : (pages now : List Slots) (page : Slots) → AreWhole pages → now ≡ pages ++ page ∷ []
+    → length page ≡ PAGE_SLOTS → AreWhole now
+whole_more pages now page whole more long =
+    let longer : length now ≡ length pages + 1 = ap length more ∙ length-append pages (page ∷ []) in
+    λ p inside. by p (omega (arith, inside, longer)) (cases_lt p (length pages))
+  where
+    by : (p : ℕ) → p < length pages + 1 → (p < length pages) ⊎ (length pages ≤ p) → length (get_or now p []) ≡ PAGE_SLOTS
+    by p inside (inl low) =
+        ap (λ ps. length (get_or ps p [])) more ∙ ap length (get_or_append_left pages (page ∷ []) [] p low) ∙ whole p low
+    by p inside (inr high) =
+        let last : length pages ≡ p = omega (arith, inside, high) in
+        ap (λ ps. length (get_or ps p [])) more ∙ ap length (get_or_push pages page [] p last) ∙ long
+
+pub same_more : (pages now : List Slots) (page : Slots) (len : ℕ) → now ≡ pages ++ page ∷ [] → len ≤ PAGE_SLOTS * length pages
+    → places_in now len ≡ places_in pages len
+same_more pages now page len more within = ap (λ ps. places_in ps len) more ∙ places-grown pages page len within
+
+pub longer : (pages now : List Slots) (page : Slots) → now ≡ pages ++ page ∷ [] → length now ≡ length pages + 1
+longer pages now page more = ap length more ∙ length-append pages (page ∷ [])
+
+pub ruleset reads = (read, read-past, there_page, there_slot)
+
+pub ruleset more = (whole_more, same_more, longer, room_are)

@@ -1,10 +1,10 @@
 //! Pages.
-ghost use Rattle.std.specs.Prelude.{◌≡◌, ◌<◌, ◌+◌, ◌*◌, ◌/◌, ◌%◌, ◌^◌, IfOk, IfSome, IsOk, MatchOption, OnErr, OnOk, None, Some, [], drop, is_some, length, position, slice_index_or, slice_set, true};
+ghost use Rattle.std.specs.Prelude.{◌≡◌, ◌≤◌, ◌<◌, ◌+◌, ◌*◌, ◌/◌, ◌%◌, ◌^◌, IfOk, IfSome, IsOk, MatchOption, OnErr, OnOk, None, Some, [], drop, is_some, length, position, slice_index_or, slice_set, true};
 ghost use Rattle.std.specs.BinaryHeap.{heap_capacity};
 ghost use Rattle.sig_core.specs.Rows.{has_row, next_by, no_row, placed, taken};
 ghost use Rattle.tuple_pages.specs.declared.page.TheConstants.{PAGE_SLOTS};
 ghost use Rattle.tuple_pages.specs.Free.{first_free};
-ghost use Rattle.tuple_pages.specs.Places.{ArePages, place_at, places_in, rewritten, written};
+ghost use Rattle.tuple_pages.specs.Places.{ArePages, AreWhole, has_spare, place_at, places_in, rewritten, written};
 
 use crate::page::{PAGE_SLOTS, Page, rewritten};
 use sig_core::{Key, NoMemory, Slot, Value};
@@ -69,14 +69,17 @@ impl Pages {
     }
 
     /// What is at a place: none where it is free.
+    #[tactic(auto, using(crate::proofs::PageLemmas::reads))]
     pub fn get(&self, at: u64) -> Option<&Slot>
         ensures { MatchOption result (slice_index_or self.now.slots at None ≡ None) (λ slot. slice_index_or self.now.slots at None ≡ Some slot.now) }
     {
         let at = at as usize;
-        if at < self.len {
-            place_at(&self.pages, at).as_ref()
-        } else {
-            None
+        if at >= self.len {
+            return None;
+        }
+        match place_at(&self.pages, at) {
+            Some(slot) => Some(slot),
+            None => None,
         }
     }
 
@@ -89,13 +92,7 @@ impl Pages {
         ensures same { self.new.slots ≡ self.old.slots }
         ensures succeeds { self.old.roomy ≡ true → IsOk result }
     {
-        if self.len / PAGE_SLOTS >= self.pages.len() {
-            let page = Page::new(self.alloc)?;
-            self.pages.push(page)?;
-        }
-        let more = self.taken() + 1;
-        self.free.reserve(more)?;
-        Ok(())
+        reserve(self.alloc, &mut self.pages, self.len, &mut self.free)
     }
 
     /// Gives the key the least free place, and answers which that is. It has no row there yet.
@@ -138,6 +135,7 @@ impl Pages {
     }
 
     /// The least place at or above this one that has a row. Goes over those between that have none.
+    #[tactic(auto, using(crate::proofs::PageLemmas::reads))]
     pub fn next_row(&self, at: u64) -> Option<u64>
         ensures { result ≡ next_by at (position has_row (drop at self.now.slots)) }
     {
@@ -150,6 +148,48 @@ impl Pages {
         }
         None
     }
+}
+
+// Makes the memory for one more place that is taken.
+#[tactic(auto, using(crate::proofs::PageLemmas::more))]
+fn reserve(
+    alloc: Global,
+    pages: &mut Vec<Page>,
+    len: usize,
+    free: &mut BinaryHeap<Reverse<usize>>,
+) -> Result<(), NoMemory>
+    requires { ArePages pages.old.items len free.old }
+    ensures ok { OnOk result (has_spare pages.new.items len free.new ≡ true) }
+    ensures same { places_in pages.new.items len ≡ places_in pages.old.items len }
+    ensures are { ArePages pages.new.items len free.new }
+    ensures succeeds { has_spare pages.old.items len free.old ≡ true → IsOk result }
+{
+    match add_page(alloc, pages, len) {
+        Ok(()) => {}
+        Err(NoMemory) => return Err(NoMemory),
+    }
+    let more = len - free.len() + 1;
+    free.reserve(more)?;
+    Ok(())
+}
+
+// Adds a page where the places take all slots of those that there are.
+#[tactic(auto, using(crate::proofs::PageLemmas::more))]
+fn add_page(alloc: Global, pages: &mut Vec<Page>, len: usize) -> Result<(), NoMemory>
+    requires whole { AreWhole pages.old.items }
+    requires within { len ≤ PAGE_SLOTS * length pages.old.items }
+    ensures ok { OnOk result (len < PAGE_SLOTS * length pages.new.items) }
+    ensures same { places_in pages.new.items len ≡ places_in pages.old.items len }
+    ensures whole { AreWhole pages.new.items }
+    ensures longer { length pages.old.items ≤ length pages.new.items }
+    ensures succeeds { len < PAGE_SLOTS * length pages.old.items → IsOk result }
+{
+    if len / PAGE_SLOTS < pages.len() {
+        return Ok(());
+    }
+    let page = Page::new(alloc)?;
+    pages.push(page)?;
+    Ok(())
 }
 
 // Whether the slot has a row.

@@ -62,11 +62,11 @@ returns-in-Some-clause-are c =
     pop_are c.args.pages.now.items c.args.len.now c.args.free.now c.requires.are c.write.new.pages.items c.pop.new.self c.in-Some.field-0 popped
     c.args.slot c.write.ensures
 
-pub write-in-None-requires-clause-page : goal.write-in-None-requires-clause-page
-write-in-None-requires-clause-page c = page_below c.args.pages.now.items c.args.len.now c.requires.room
+pub write-requires-in-None-clause-page : goal.write-requires-in-None-clause-page
+write-requires-in-None-clause-page c = page_below c.args.pages.now.items c.args.len.now c.requires.room
 
-pub write-in-None-requires-clause-slot : goal.write-in-None-requires-clause-slot
-write-in-None-requires-clause-slot c = slot_below c.args.pages.now.items c.args.len.now c.requires.are.whole c.requires.room
+pub write-requires-in-None-clause-slot : goal.write-requires-in-None-clause-slot
+write-requires-in-None-clause-slot c = slot_below c.args.pages.now.items c.args.len.now c.requires.are.whole c.requires.room
 
 pub returns-in-None-clause-place : goal.returns-in-None-clause-place
 returns-in-None-clause-place c =

@@ -4,9 +4,8 @@ use Rattle.sig_core.specs.declared.rows.Slot.{Slot}
 use Rattle.tuple_pages.specs.declared.page.TheConstants.{PAGE_SLOTS}
 use Rattle.tuple_pages.specs.Free.{first_free}
 use Rattle.tuple_pages.specs.Places.{ArePages, PagesState, place_at, places_in, rewritten, written}
-use Rattle.std.proofs.lemmas.Option.{slice_get_read}
-use Rattle.std.specs.BinaryHeap.{heap_items}
-use Rattle.tuple_pages.proofs.PageLemmas.{none_first, top_first}
+use Rattle.std.specs.BinaryHeap.{heap_items, heap_len}
+use Rattle.tuple_pages.proofs.PageLemmas.{first_item, none_first, none_left, top_first}
 use Rattle.tuple_pages.proofs.pages.Pages.next.Goals as goal
 
 pub returns-in-Some : goal.returns-in-Some
@@ -15,12 +14,12 @@ returns-in-Some c =
     ap (λ (p : PagesState). p.slots) c.self.view_is in
     let free = c.self.inside.free in
     top_first c.self.inside.pages.items c.self.inside.len free c.self.invariant c.in-Some.field-0.now
-    (slice_get_read (heap_items free) (length (heap_items free)) 0 c.in-Some.field-0.now refl
-    c.in-Some.ensures.item.0 c.in-Some.ensures.lookup) (c.in-Some.ensures.greatest c.self.invariant.holds.ordered)
+    (first_item (heap_items free) c.in-Some.field-0.now c.in-Some.ensures.item.0 c.in-Some.ensures.lookup) (c.in-Some.ensures.greatest c.self.invariant.holds.ordered)
     ∙ ap first_free slots
 
 pub returns-in-None : goal.returns-in-None
 returns-in-None c =
     let slots : places_in c.self.inside.pages.items c.self.inside.len ≡ c.args.self.now.slots =
     ap (λ (p : PagesState). p.slots) c.self.view_is in
-    none_first c.self.inside.pages.items c.self.inside.len c.self.inside.free c.self.invariant ? ∙ ap first_free slots
+    none_first c.self.inside.pages.items c.self.inside.len c.self.inside.free c.self.invariant
+    (none_left (heap_len c.self.inside.free) (λ some. c.in-None.ensures.variant.1 some)) ∙ ap first_free slots

@@ -1,4 +1,4 @@
-use Rattle.std.proofs.Common.{◌≡◌, ◌≤◌, ◌<◌, ◌+◌, ◌*◌, ◌∙◌, ap, sym, arith, refl, subst, length, get_or, set, List, [], true}
+use Rattle.std.proofs.Common.{◌-◌, ◌≡◌, ◌≤◌, ◌<◌, ◌+◌, ◌*◌, ◌∙◌, ap, sym, arith, refl, subst, length, get_or, set, List, [], true}
 use Rattle.std.specs.Prelude.{Option, None, Some, is_some, slice_get}
 use Rattle.sig_core.specs.declared.rows.Slot.{Slot}
 use Rattle.tuple_pages.specs.declared.page.TheConstants.{PAGE_SLOTS}
@@ -12,3 +12,6 @@ use Rattle.tuple_pages.proofs.pages.Pages.next_row.Given as goal
 abbrev pub invariant-loop-place : goal.invariant-loop-place
 invariant-loop-place l =
     next_by l.place (position has_row (drop l.place l.self.slots)) ≡ next_by l.at (position has_row (drop l.at l.self.slots))
+
+abbrev pub decreases-loop-place : goal.decreases-loop-place
+decreases-loop-place l = l.self-inside.len - l.place
