@@ -8,10 +8,7 @@ use crate::dump::Dump;
 use crate::lists::push;
 use crate::members::{News, is_full, least_node, tell_everyone};
 use crate::opened::{Doing, OpenTransaction, place_named};
-use sig_core::{
-    ApiReply, Body, ClientSignal, Held, NoMemory, Op, Outs, Refusal, TxId, View, coordinator,
-    coordinator_of, rows_of,
-};
+use sig_core::{ApiReply, Body, ClientSignal, HeldOp, NoMemory, Outs, Refusal, TxId, View, coordinator, coordinator_of, rows_of};
 use std::alloc::Global;
 
 impl Api {
@@ -50,7 +47,7 @@ impl Api {
         &mut self,
         name: Option<u16>,
         node: u8,
-        op: Option<Held<Op>>,
+        op: Option<HeldOp>,
         out: &mut Outs,
     ) -> Result<(), NoMemory>
         requires { HasRoom out.old }

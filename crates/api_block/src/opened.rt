@@ -3,13 +3,13 @@ ghost use Rattle.std.specs.Prelude.{◌≡◌, ◌<◌, position, length, IfOk, 
 ghost use Rattle.api_block.specs.declared.opened.Doing.TheVariants.{Ready, Committing};
 ghost use Rattle.api_block.specs.Opened.{answered, begins, begins_at, begun, begun_operating, behind, committing, has_tx, is_beginning, is_named, is_tx, is_unanswered, operating, same_name};
 
-use sig_core::{Held, NoMemory, Op, TxId};
+use sig_core::{HeldOp, NoMemory, TxId};
 
 /// How far a transaction is.
 #[derive(Drop)]
 pub enum Doing {
     /// Its coordinator was asked to begin it, to perform this operation where it has no name.
-    Beginning(Option<Held<Op>>),
+    Beginning(Option<HeldOp>),
     /// It takes commands.
     Ready,
     /// An operation was sent.

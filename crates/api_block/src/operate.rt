@@ -9,10 +9,7 @@ ghost use Rattle.api_block.specs.Operate.{answer_by, answer_row, begun_by, begun
 use crate::api::Api;
 use crate::members::least_node;
 use crate::opened::{Doing, OpenTransaction, place_beginning_at, place_named, place_of};
-use sig_core::{
-    ApiReply, Body, ClientSignal, Held, HeldAnswer, NoMemory, Op, Outs, Refusal, TxId,
-    coordinator_of,
-};
+use sig_core::{ApiReply, Body, ClientSignal, HeldAnswer, HeldOp, NoMemory, Outs, Refusal, TxId, coordinator_of};
 
 /// How many operations a transaction has at most.
 pub const OPERATIONS: usize = 64;
@@ -23,7 +20,7 @@ impl Api {
     /// # Errors
     /// `NoMemory`, and then nothing has happened.
     #[tactic(auto, unfolding(crate::specs::Operate::lone_row))]
-    pub(crate) fn operate_alone(&mut self, op: &Held<Op>, out: &mut Outs) -> Result<(), NoMemory>
+    pub(crate) fn operate_alone(&mut self, op: &HeldOp, out: &mut Outs) -> Result<(), NoMemory>
         requires { HasRoom out.old }
         ensures ok { OnOk result (IsTaken (lone_row self.old op.now) self.new out.old out.new) }
         ensures err { OnErr result (IsUntouched self.old self.new out.old out.new) }
@@ -42,7 +39,7 @@ impl Api {
     pub(crate) fn operate(
         &mut self,
         name: u16,
-        op: &Held<Op>,
+        op: &HeldOp,
         out: &mut Outs,
     ) -> Result<(), NoMemory>
         requires { HasRoom out.old }
@@ -62,7 +59,7 @@ impl Api {
     fn operate_at(
         &mut self,
         name: u16,
-        op: &Held<Op>,
+        op: &HeldOp,
         at: usize,
         t: OpenTransaction,
         out: &mut Outs,
@@ -203,7 +200,7 @@ impl Api {
 }
 
 // An operation goes to the coordinator of its transaction.
-fn send_operation(tx: TxId, op: Held<Op>, out: &mut Outs)
+fn send_operation(tx: TxId, op: HeldOp, out: &mut Outs)
     requires { length out.old.sends < 16 }
     ensures { out.new ≡ and_send out.old (coordinator_of tx) (Client (TcKeyReq tx op)) }
 {

@@ -10,10 +10,7 @@ use crate::client::Client;
 use crate::cuts::CutPair;
 use crate::stops::{HostStop, still_runs};
 use api_block::place_named;
-use sig_core::{
-    ApiReply, ApiReq, Body, Held, HostId, HostSignal, Member, NoMemory, Op, Outs, Refusal,
-    coordinator, membership, rows_of,
-};
+use sig_core::{ApiReply, ApiReq, Body, HeldOp, HostId, HostSignal, Member, NoMemory, Outs, Refusal, coordinator, membership, rows_of};
 use std::alloc::Global;
 
 fn serves_at(stops: &[HostStop], node: u8, member: &Member) -> bool
@@ -123,7 +120,7 @@ impl Client {
 
     // An operation alone.
     #[tactic(auto, unfolding(crate::specs::Commands::lone_row))]
-    pub(crate) fn operate_alone(&mut self, op: &Held<Op>, out: &mut Outs) -> Result<(), NoMemory>
+    pub(crate) fn operate_alone(&mut self, op: &HeldOp, out: &mut Outs) -> Result<(), NoMemory>
         requires { HasRoom out.old }
         ensures ok { OnOk result (IsTaken (lone_row self.old op.now) self.new out.old out.new) }
         ensures err { OnErr result (IsUntouched self.old self.new out.old out.new) }

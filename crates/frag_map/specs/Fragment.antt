@@ -1,17 +1,12 @@
 -- Fragments: which one a key is in, and which group has it.
-use Rattle.std.specs.Prelude.{ℕ, ◌+◌, ◌*◌, ◌%◌, List, [], ◌∷◌, take}
-use Rattle.md5.specs.Md5.{md5}
+use Rattle.std.specs.Prelude.{ℕ, ◌%◌, List}
+use Rattle.sig_core.specs.Digest.{digest_word}
 use Rattle.sig_core.specs.declared.view.Shape.{Shape}
 use Rattle.frag_map.specs.Shape.{groups}
 
--- the number that bytes are, the highest first
-abbrev pub number_from : ℕ → List ℕ → ℕ
-number_from above [] = above
-number_from above (byte ∷ bytes) = number_from (above * 256 + byte) bytes
-
 -- the fragment of a key, from 0: the first four bytes of its digest, as a number, modulo the number of fragments
 unfoldable pub frag_of : Shape → List ℕ → ℕ
-frag_of shape key = number_from 0 (take 4 (md5 key)) % shape.fragments
+frag_of shape key = digest_word key % shape.fragments
 
 -- the group of nodes that has a fragment
 abbrev pub group_of_fragment : Shape → ℕ → ℕ

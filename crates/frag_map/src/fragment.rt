@@ -1,12 +1,11 @@
 //! Fragments: which one a key is in, and which group has it.
-ghost use Rattle.std.specs.Prelude.{◌≡◌, ◌<◌};
+ghost use Rattle.std.specs.Prelude.{◌≡◌, ◌<◌, ◌%◌};
 ghost use Rattle.frag_map.specs.Fragment.{frag_of, group_of_fragment};
 ghost use Rattle.frag_map.specs.Layout.{holds};
 ghost use Rattle.frag_map.specs.Shape.{IsShape};
 
 use crate::shape::{group_of, groups};
-use md5::{Digest, Md5};
-use sig_core::{Key, Shape};
+use sig_core::{Key, Shape, digest_word};
 
 /// The fragment of a key, from 0: the first four bytes of its MD5 digest, as a number with the
 /// highest byte first, modulo the number of fragments.
@@ -16,9 +15,16 @@ pub fn frag_of(key: &Key, shape: &Shape) -> u8
     ensures value { result ≡ frag_of shape.now key.now }
     ensures below { result < shape.now.fragments }
 {
-    let digest = Md5::digest(key.bytes());
-    let number = u32::from_be_bytes([digest[0], digest[1], digest[2], digest[3]]);
-    (number % shape.fragments as u32) as u8
+    frag_by(digest_word(key), shape)
+}
+
+/// The fragment of a key whose digest has this first word.
+pub(crate) fn frag_by(word: u32, shape: &Shape) -> u8
+    requires { IsShape shape.now }
+    ensures value { result ≡ word % shape.now.fragments }
+    ensures below { result < shape.now.fragments }
+{
+    (word % shape.fragments as u32) as u8
 }
 
 /// The group that has a fragment, from 0.

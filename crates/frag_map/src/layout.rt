@@ -1,10 +1,13 @@
 //! Where the rows are.
 ghost use Rattle.std.specs.Prelude.{◌≡◌, ◌≤◌};
+ghost use Rattle.frag_map.specs.Fragment.{frag_of};
 ghost use Rattle.frag_map.specs.Layout.{first_view};
+ghost use Rattle.sig_core.specs.Op.{key_of};
+ghost use Rattle.sig_core.specs.Work.{work_key};
 
-use crate::fragment::frag_of;
+use crate::fragment::{frag_by, frag_of};
 use crate::replicas::replicas_of;
-use sig_core::{Key, Member, Members, Shape, View};
+use sig_core::{HeldOp, HeldWork, Key, Member, Members, Shape, View};
 use std::marker::Model;
 
 /// Where the rows are: the shape of a cluster, and the view in force.
@@ -76,6 +79,23 @@ impl Layout {
         ensures { result ≡ chain_of self.now key.now }
     {
         replicas_of(&self.view, frag_of(key, &self.shape), &self.shape)
+    }
+
+    /// The replicas of the key of an operation, the primary first. No digest is computed.
+    #[tactic(auto, unfolding(crate::specs::Layout::chain_of, crate::specs::Fragment::frag_of))]
+    pub fn chain_for(&self, op: &HeldOp) -> Members
+        ensures { result ≡ chain_of self.now (key_of op.now) }
+    {
+        let fragment = frag_by(op.digest_word(), &self.shape);
+        replicas_of(&self.view, fragment, &self.shape)
+    }
+
+    /// The fragment of the key that work is on. No digest is computed.
+    #[tactic(auto, unfolding(crate::specs::Fragment::frag_of))]
+    pub fn frag_for(&self, work: &HeldWork) -> u8
+        ensures { result ≡ frag_of self.now.shape (work_key work.now) }
+    {
+        frag_by(work.digest_word(), &self.shape)
     }
 }
 

@@ -1,12 +1,8 @@
 -- How many buckets there are, and which one a key is in.
 use Rattle.std.specs.Prelude.{◌≤◌, ◌<◌, ℕ, ◌+◌, ◌*◌, ◌%◌, ◌^◌, nat_lt, if◌then◌else◌, List, [], ◌∷◌, take, drop}
 use Rattle.md5.specs.Md5.{md5}
+use Rattle.sig_core.specs.Digest.{number_from}
 use Rattle.linear_hash.specs.declared.growth.Growth.{Growth}
-
--- the number that bytes are, the highest first
-abbrev pub number_from : ℕ → List ℕ → ℕ
-number_from above [] = above
-number_from above (byte ∷ bytes) = number_from (above * 256 + byte) bytes
 
 -- the number of a key: bytes 4 to 7 of its digest, counted from 0
 unfoldable pub hash_of : List ℕ → ℕ

@@ -9,7 +9,6 @@ use crate::lqh::Lqh;
 use crate::ready::Ready;
 use crate::request::Request;
 use crate::work::work_mode;
-use frag_map::frag_of;
 use row_locks::{Lock, LockTable};
 use sig_core::{Body, HostSignal, Journal, NoMemory, Outs, Rows, Work, rows_of};
 use std::alloc::Global;
@@ -36,7 +35,7 @@ impl<R: Rows, J: Journal> Lqh<R, J> {
         let ready = Ready::new(alloc, &self.storage.rows, &request)?;
         let key = request.work.key();
         let mode = work_mode(&request.work);
-        let fragment = frag_of(key, &self.layout.shape());
+        let fragment = self.layout.frag_for(&request.work);
         match self.locks.request(request.tx, key, mode)? {
             Lock::Granted => self.storage.perform(&request, ready, fragment, out),
             Lock::Queued { ahead: _ } => self.waiting.push_reserved(request),
@@ -91,7 +90,7 @@ impl<R: Rows, J: Journal> Lqh<R, J> {
         self.storage.make_room(request)?;
         let ready = Ready::new(alloc, &self.storage.rows, request)?;
         self.waiting.remove(at);
-        let fragment = frag_of(request.work.key(), &self.layout.shape());
+        let fragment = self.layout.frag_for(&request.work);
         self.storage.perform(request, ready, fragment, out);
         self.go_on_granted(out);
         Ok(())

@@ -53,6 +53,19 @@ impl Records {
         ensures place { option_map (λ p. p.0) result ≡ record_at self.now.pending tx key.now }
         ensures record { IfSome result (λ p. slice_get self.now.pending p.0 ≡ Some (record_by tx key.now p.1.now)) }
     {
+        // Most often there are none, and then no hash is worth its while.
+        if self.entries.is_empty() {
+            None
+        } else {
+            self.look_up(tx, key)
+        }
+    }
+
+    // The same by the hash of the two.
+    fn look_up(&self, tx: TxId, key: &Key) -> Option<(usize, &Version)>
+        ensures place { option_map (λ p. p.0) result ≡ record_at self.now.pending tx key.now }
+        ensures record { IfSome result (λ p. slice_get self.now.pending p.0 ≡ Some (record_by tx key.now p.1.now)) }
+    {
         match self.entries.get_full(&RecordId { tx, key: *key }) {
             Some((at, _, version)) => Some((at, version)),
             None => None,

@@ -9,7 +9,7 @@ ghost use Rattle.world_core.specs.World.{is_left_open};
 ghost use Rattle.world_core.specs.WorldOf.{whole_of};
 
 use script_lang::Command;
-use sig_core::{ApiReq, Held, NoMemory};
+use sig_core::{ApiReq, HeldOp, NoMemory};
 use std::alloc::Global;
 use std::sync::Wait;
 use world_core::World;
@@ -92,7 +92,7 @@ pub fn ask_own<R: Wait>(
         Command::Operate { name, op } => {
             let request = ApiReq::Operate {
                 name: *name,
-                op: Held::new(alloc, *op)?,
+                op: HeldOp::new(alloc, *op)?,
             };
             ask(rt, alloc, world, request)
         }

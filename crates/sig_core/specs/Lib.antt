@@ -1,4 +1,5 @@
 pub mod Chain
+pub mod Digest
 pub mod Filled
 pub mod Firsts
 pub mod HeldAnswer

@@ -1,10 +1,11 @@
 //! The work of a request, as signals carry it.
 ghost use Rattle.std.specs.Prelude.{◌≡◌, None, IfOk, IfSome};
 ghost use Rattle.sig_core.specs.declared.signal.chain.RowWork.TheVariants.{Operate, Store};
+ghost use Rattle.sig_core.specs.Digest.{digest_word};
 ghost use Rattle.sig_core.specs.Op.{image_of, key_of};
 ghost use Rattle.sig_core.specs.Work.{work_image, work_key};
 
-use crate::held::Held;
+use crate::held_op::HeldOp;
 use crate::key::Key;
 use crate::no_memory::NoMemory;
 use crate::op::Op;
@@ -15,7 +16,7 @@ use std::marker::Model;
 /// that carry it. Contracts see the work.
 #[derive(Drop)]
 pub struct HeldWork {
-    op: Held<Op>,
+    op: HeldOp,
     /// The image that the operation makes is stored.
     stores: bool,
 }
@@ -31,14 +32,14 @@ impl Model for HeldWork {
 
 impl HeldWork {
     /// The work of an operation, at the primary.
-    pub fn operate(op: Held<Op>) -> HeldWork
+    pub fn operate(op: HeldOp) -> HeldWork
         ensures { result ≡ Operate op }
     {
         HeldWork { op, stores: false }
     }
 
     /// The work of storing the image that an operation makes, at a backup.
-    pub fn store(op: Held<Op>) -> HeldWork
+    pub fn store(op: HeldOp) -> HeldWork
         ensures { result ≡ Store (key_of op) (image_of op) }
     {
         HeldWork { op, stores: true }
@@ -87,6 +88,14 @@ impl HeldWork {
         ensures { result.now ≡ work_key self.now }
     {
         self.op.get().key()
+    }
+
+    /// The first four bytes of the MD5 digest of the key, as a number with the highest byte first.
+    #[tactic(auto, using(crate::proofs::WorkLemmas::works))]
+    pub fn digest_word(&self) -> u32
+        ensures { result ≡ digest_word (work_key self.now) }
+    {
+        self.op.digest_word()
     }
 
     /// The image that is stored, where the work takes effect as a write. None is a deletion.

@@ -1,5 +1,5 @@
 //! What the shell asks of the API.
-use crate::held::Held;
+use crate::held_op::HeldOp;
 use crate::op::Op;
 use crate::seq::Seq;
 
@@ -21,7 +21,7 @@ pub enum BatchLine {
 pub enum ApiReq {
     Begin { name: u16, node: Option<u8> },
     /// Without a name the operation is a transaction of its own, committed at once.
-    Operate { name: Option<u16>, op: Held<Op> },
+    Operate { name: Option<u16>, op: HeldOp },
     Commit { name: u16 },
     Abort { name: u16 },
     Batch { lines: Seq<BatchLine> },

@@ -1,5 +1,5 @@
 use crate::{
-    Answer, BlockId, Body, ClientSignal, Held, HeldAnswer, HeldWork, Key, Mark, Member, Members,
+    Answer, BlockId, Body, ClientSignal, HeldAnswer, HeldOp, HeldWork, Key, Mark, Member, Members,
     Op, Outs, Place, Redo, Seq, Table, TxId, Value, WordFault, last_place, node_at, primary_of,
 };
 use std::test::Fail;
@@ -90,7 +90,7 @@ fn what_is_held_is_held_once_more(rt: HostRuntime) -> Result<(), Fail> {
     assert_eq!(rt; held.share()?.get(), found);
     assert_eq!(rt; HeldAnswer::done().share()?.get(), Answer::Done);
     let (key, value) = (Key::new(b"k")?, Value::new(b"v")?);
-    let work = HeldWork::operate(Held::new(rt.alloc(), Op::Put(key, value))?);
+    let work = HeldWork::operate(HeldOp::new(rt.alloc(), Op::Put(key, value))?);
     assert!(rt; work.share()?.operation().is_some());
     let stored = work.stored()?;
     assert!(rt; stored.operation().is_none());

@@ -178,7 +178,7 @@ fn asked_count(layout: &Layout, asked: &Option<Asked>) -> usize
     ensures few { result ≤ 8 }
 {
     match asked {
-        Some(asked) => layout.chain_of(asked.op.get().key()).as_slice().len(),
+        Some(asked) => layout.chain_for(&asked.op).as_slice().len(),
         None => 0,
     }
 }

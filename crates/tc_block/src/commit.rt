@@ -6,7 +6,7 @@ ghost use Rattle.tc_block.specs.Commit.{commit_if, commit_row, committed_row, ve
 use crate::phase::Phase;
 use crate::transaction::Transaction;
 use frag_map::Layout;
-use sig_core::{Body, EpochSignal, Held, HeldAnswer, NoMemory, Op, Outs, Seq, TxId, epochs};
+use sig_core::{Body, EpochSignal, HeldAnswer, HeldOp, NoMemory, Outs, Seq, TxId, epochs};
 use std::alloc::Global;
 
 impl Transaction {
@@ -109,8 +109,8 @@ impl Transaction {
 // Operations and their answers, held once more.
 fn shared(
     alloc: Global,
-    ops: &[(Held<Op>, HeldAnswer)],
-) -> Result<Seq<(Held<Op>, HeldAnswer)>, NoMemory>
+    ops: &[(HeldOp, HeldAnswer)],
+) -> Result<Seq<(HeldOp, HeldAnswer)>, NoMemory>
     ensures { IfOk result (λ shared. shared ≡ ops.now) }
 {
     let mut shared = Vec::with_capacity(alloc, ops.len())?;

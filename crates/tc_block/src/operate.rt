@@ -9,10 +9,7 @@ use crate::sends::{send_aborts, send_waits};
 use crate::touched::same_key;
 use crate::transaction::Transaction;
 use frag_map::Layout;
-use sig_core::{
-    Answer, Body, CLIENT, Chain, ChainSignal, ClientSignal, Held, HeldAnswer, HeldWork, Key,
-    NoMemory, Op, Outs, TxId, node_at, rows_of,
-};
+use sig_core::{Answer, Body, Chain, ChainSignal, ClientSignal, HeldAnswer, HeldOp, HeldWork, Key, NoMemory, Op, Outs, TxId, node_at, rows_of, CLIENT};
 
 impl Transaction {
     /// Whether it takes operations, and none is unanswered.
@@ -41,7 +38,7 @@ impl Transaction {
         &mut self,
         layout: &Layout,
         tx: TxId,
-        op: &Held<Op>,
+        op: &HeldOp,
         out: &mut Outs,
     ) -> Result<(), NoMemory>
         requires { HasRoom out.old }
@@ -49,7 +46,7 @@ impl Transaction {
         ensures err { OnErr result (IsUntouched self.old self.new out.old out.new) }
     {
         if self.can_operate(op.get()) {
-            let chain = &layout.chain_of(op.get().key());
+            let chain = &layout.chain_for(op);
             let asked = op.share()?;
             let work = HeldWork::operate(op.share()?);
             self.touched.touch(op.get().key(), chain)?;

@@ -1,10 +1,10 @@
 //! How far transactions have come.
-use sig_core::{AbortCause, Held, Members, Op};
+use sig_core::{AbortCause, HeldOp, Members};
 
 /// An operation that was sent to the replicas and isn't answered.
 #[derive(Drop)]
 pub struct Asked {
-    pub op: Held<Op>,
+    pub op: HeldOp,
     /// The replicas that it was sent along.
     pub chain: Members,
 }

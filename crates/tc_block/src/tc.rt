@@ -13,10 +13,7 @@ ghost use Rattle.tc_block.specs.Tc.{tc_table};
 use crate::transaction::Transaction;
 use frag_map::Layout;
 use indexmap::IndexMap;
-use sig_core::{
-    AbortCause, Actor, Body, CLIENT, ChainSignal, ClientSignal, EpochSignal, Held, HeldAnswer,
-    HostSignal, Key, NoMemory, Op, Outs, Signal, TxId, View, Work,
-};
+use sig_core::{AbortCause, Actor, Body, ChainSignal, ClientSignal, EpochSignal, HeldAnswer, HeldOp, HostSignal, Key, NoMemory, Outs, Signal, TxId, View, Work, CLIENT};
 use std::alloc::Global;
 use std::marker::Model;
 
@@ -93,7 +90,7 @@ impl Tc {
     }
 
     #[tactic(auto, using(crate::proofs::LiveLemmas::live))]
-    fn operate(&mut self, tx: TxId, op: &Held<Op>, out: &mut Outs) -> Result<(), NoMemory>
+    fn operate(&mut self, tx: TxId, op: &HeldOp, out: &mut Outs) -> Result<(), NoMemory>
         requires { HasRoom out.old }
         ensures ok { OnOk result (IsTaken (step_of self.old tx (λ t. operate_row self.old.layout tx t op.now)) self.new out.old out.new) }
         ensures err { OnErr result (IsUntouched self.old self.new out.old out.new) }

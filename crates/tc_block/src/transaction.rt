@@ -6,14 +6,14 @@ use crate::phase::{Asked, Phase};
 use crate::sends::{SENDS, send_part};
 use crate::touched::TouchedKeys;
 use frag_map::Layout;
-use sig_core::{Held, HeldAnswer, Op, Outs, Seq, TxId};
+use sig_core::{HeldAnswer, HeldOp, Outs, Seq, TxId};
 use std::alloc::Global;
 
 /// A transaction that has begun and isn't forgotten.
 #[derive(Drop)]
 pub struct Transaction {
     /// The answered operations, in order.
-    pub ops: Seq<(Held<Op>, HeldAnswer)>,
+    pub ops: Seq<(HeldOp, HeldAnswer)>,
     /// The keys that its operations are on.
     pub touched: TouchedKeys,
     /// The operation that isn't answered.

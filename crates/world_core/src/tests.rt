@@ -1,6 +1,6 @@
 //! A world at work.
 use crate::{Pick, ScheduleFault, World};
-use sig_core::{Answer, ApiReply, ApiReq, Held, HostId, Key, NoMemory, Op, Shape, Value};
+use sig_core::{Answer, ApiReply, ApiReq, HeldOp, HostId, Key, NoMemory, Op, Shape, Value};
 use std::alloc::Global;
 use std::sync::Wait;
 use std::test::Fail;
@@ -31,7 +31,7 @@ fn picked(alloc: Global, host: u32, from: u32) -> Result<Result<(), ScheduleFaul
 
 #[test]
 fn a_step_that_was_asked_for_is_in_the_log(rt: HostRuntime) -> Result<(), Fail> {
-    let op = Held::new(rt.alloc(), Op::Put(Key::new(b"a")?, Value::new(b"v")?))?;
+    let op = HeldOp::new(rt.alloc(), Op::Put(Key::new(b"a")?, Value::new(b"v")?))?;
     let request = ApiReq::Operate { name: None, op };
     let mut world = served(&rt, rt.alloc(), request)?;
     assert!(rt; !world.is_left_open());

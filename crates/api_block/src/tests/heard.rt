@@ -1,8 +1,5 @@
 //! What an API hears, in short.
-use sig_core::{
-    AbortCause, ApiReq, Body, ClientSignal, Held, HeldAnswer, HostSignal, Key, Op, Seq, TxId,
-    Value, Work,
-};
+use sig_core::{AbortCause, ApiReq, Body, ClientSignal, HeldAnswer, HeldOp, HostSignal, Key, Op, Seq, TxId, Value, Work};
 use std::alloc::Global;
 use std::test::Fail;
 
@@ -33,9 +30,9 @@ fn tx_of(tc: u8, seq: u64) -> TxId {
     TxId { tc, start: 0, seq }
 }
 
-fn put(alloc: Global, letter: u8) -> Result<Held<Op>, Fail> {
+fn put(alloc: Global, letter: u8) -> Result<HeldOp, Fail> {
     let op = Op::Put(Key::new(&[letter])?, Value::new(b"v")?);
-    Ok(Held::new(alloc, op)?)
+    Ok(HeldOp::new(alloc, op)?)
 }
 
 fn request(request: ApiReq) -> Body {

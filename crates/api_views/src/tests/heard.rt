@@ -1,8 +1,5 @@
 //! What a client hears, in short.
-use sig_core::{
-    ApiReq, Body, ClientSignal, EpochSignal, Held, HostSignal, Key, Op, StopCause, TxId, Value,
-    Work,
-};
+use sig_core::{ApiReq, Body, ClientSignal, EpochSignal, HeldOp, HostSignal, Key, Op, StopCause, TxId, Value, Work};
 use std::alloc::Global;
 use std::test::Fail;
 
@@ -47,7 +44,7 @@ pub fn body_of(alloc: Global, heard: Heard) -> Result<Body, Fail> {
     match heard {
         Heard::Alone => {
             let op = Op::Put(Key::new(b"a")?, Value::new(b"v")?);
-            let op = Held::new(alloc, op)?;
+            let op = HeldOp::new(alloc, op)?;
             Ok(request(ApiReq::Operate { name: None, op }))
         }
         heard => Ok(short_body(heard)),

@@ -1,8 +1,5 @@
 //! What the rows of a node hear, in short.
-use sig_core::{
-    Body, Chain, ChainSignal, ClientSignal, Held, HeldWork, HostSignal, Key, Member, Members, Op,
-    TxId, Value, Work,
-};
+use sig_core::{Body, Chain, ChainSignal, ClientSignal, HeldOp, HeldWork, HostSignal, Key, Member, Members, Op, TxId, Value, Work};
 use std::alloc::Global;
 use std::test::Fail;
 
@@ -48,7 +45,7 @@ pub fn tx_of(seq: u64) -> TxId {
 fn operate(alloc: Global, seq: u64, op: Op) -> Result<Body, Fail> {
     Ok(Body::Chain(ChainSignal::LqhKeyReq {
         tx: tx_of(seq),
-        work: HeldWork::operate(Held::new(alloc, op)?),
+        work: HeldWork::operate(HeldOp::new(alloc, op)?),
         chain: Chain::of(&both()),
         at: 0,
     }))
@@ -96,7 +93,7 @@ fn store(alloc: Global, seq: u64, letter: u8, value: u8) -> Result<Body, Fail> {
     let op = Op::Put(Key::new(&[letter])?, Value::new(&[value])?);
     Ok(Body::Chain(ChainSignal::LqhKeyReq {
         tx: tx_of(seq),
-        work: HeldWork::store(Held::new(alloc, op)?),
+        work: HeldWork::store(HeldOp::new(alloc, op)?),
         chain: Chain::of(&both()),
         at: 1,
     }))

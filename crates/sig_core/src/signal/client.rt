@@ -1,9 +1,8 @@
 //! Signals between the API and the blocks that serve it.
-use crate::held::Held;
 use crate::held_answer::HeldAnswer;
+use crate::held_op::HeldOp;
 use crate::key::Key;
 use crate::member::TxId;
-use crate::op::Op;
 use crate::outcome::AbortCause;
 use crate::seq::Seq;
 use crate::value::Value;
@@ -24,7 +23,7 @@ pub enum ClientSignal {
     },
     TcKeyReq {
         tx: TxId,
-        op: Held<Op>,
+        op: HeldOp,
     },
     TcKeyConf {
         tx: TxId,

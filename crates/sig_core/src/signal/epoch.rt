@@ -1,8 +1,7 @@
 //! Signals of epochs and global checkpoints.
-use crate::held::Held;
 use crate::held_answer::HeldAnswer;
+use crate::held_op::HeldOp;
 use crate::member::TxId;
-use crate::op::Op;
 use crate::seq::Seq;
 
 /// Signals of epochs and global checkpoints.
@@ -10,7 +9,7 @@ use crate::seq::Seq;
 pub enum EpochSignal {
     DiVerifyReq {
         tx: TxId,
-        ops: Seq<(Held<Op>, HeldAnswer)>,
+        ops: Seq<(HeldOp, HeldAnswer)>,
     },
     DiVerifyConf {
         tx: TxId,

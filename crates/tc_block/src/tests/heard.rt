@@ -1,8 +1,5 @@
 //! What a coordinator hears, in short.
-use sig_core::{
-    AbortCause, Answer, Body, ChainSignal, ClientSignal, EpochSignal, Held, HeldAnswer, HostSignal,
-    Key, Op, TxId, Value, Work,
-};
+use sig_core::{AbortCause, Answer, Body, ChainSignal, ClientSignal, EpochSignal, HeldAnswer, HeldOp, HostSignal, Key, Op, TxId, Value, Work};
 use std::alloc::Global;
 use std::test::Fail;
 
@@ -37,7 +34,7 @@ fn tx_of(seq: u64) -> TxId {
 }
 
 fn operate(alloc: Global, seq: u64, op: Op) -> Result<Body, Fail> {
-    let op = Held::new(alloc, op)?;
+    let op = HeldOp::new(alloc, op)?;
     Ok(Body::Client(ClientSignal::TcKeyReq { tx: tx_of(seq), op }))
 }
 

@@ -3,7 +3,7 @@ use Rattle.std.specs.Prelude.{slice_get}
 use Rattle.sig_core.specs.Rows.{record_at}
 use Rattle.lqh_block.specs.Records.{record_in}
 use Rattle.lqh_block.proofs.RecordLemmas.{entry_record, lookup_key-is, position-ids}
-use Rattle.lqh_block.proofs.records.Records.find.Goals as goal
+use Rattle.lqh_block.proofs.records.Records.look_up.Goals as goal
 
 pub returns-in-Some-clause-place : goal.returns-in-Some-clause-place
 returns-in-Some-clause-place c =

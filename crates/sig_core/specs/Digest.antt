@@ -1,0 +1,12 @@
+-- The digest of a key.
+use Rattle.std.specs.Prelude.{ℕ, ◌+◌, ◌*◌, List, [], ◌∷◌, take}
+use Rattle.md5.specs.Md5.{md5}
+
+-- the number that bytes are, the highest first
+abbrev pub number_from : ℕ → List ℕ → ℕ
+number_from above [] = above
+number_from above (byte ∷ bytes) = number_from (above * 256 + byte) bytes
+
+-- the first four bytes of the key's digest, as a number
+abbrev pub digest_word : List ℕ → ℕ
+digest_word key = number_from 0 (take 4 (md5 key))
