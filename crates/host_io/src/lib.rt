@@ -1,13 +1,21 @@
 //! The outside of the kernel: where it reads, where it writes, its disks, and what may watch it.
 #![tactic(auto)]
 
+mod dirty;
 mod disk;
 mod gate;
+mod laws;
+mod limits;
+mod place;
 mod sink;
 mod source;
 
+pub use dirty::DirtyRange;
 pub use disk::Disk;
 pub use gate::{Gate, NoGate};
+pub use laws::{a_disk_reads_as_an_image, what_is_synced_is_kept};
+pub use limits::{FILE_SIZE, FILES};
+pub use place::has_place;
 pub use sink::{MemSink, Sink};
 pub use source::{MemSource, Source};
 
