@@ -58,15 +58,16 @@ taken_out tx opened at f =
 
 asked_forms : (a : ApiState) (r : ApiReq) → ApiRequestForms a r (IsTold a)
 asked_forms a r = record {
-  opens = λ name node op fits. tt;
-  refuses = λ name why is. tt;
-  operates = λ name op at f tx ready is low. tt;
-  commits = λ name at f tx ready is. tt;
+  opens = λ name node at is fits. tt;
+  opens_alone = λ op node is fits. tt;
+  refuses = λ name why is own. tt;
+  operates = λ name op at f tx is ready own low. tt;
+  commits = λ name at f tx is ready own. tt;
   aborts = λ name at f tx is own. tt;
-  ticks = λ of last. tt;
-  dumps = λ node digest. tt;
-  waits = λ p at f tx is. tt;
-  pends = λ name holder. tt;
+  ticks = λ number of is. tt;
+  dumps = λ node digest is. tt;
+  waits = λ p at f tx is own. tt;
+  pends = λ name holder is. tt;
   gives_up = λ p at f holder tx is alone own. tt;
   is_about_none = tt;
   rests = tt;
