@@ -84,13 +84,12 @@ use Rattle.order_laws.specs.Awaited.{IsAwaited, awaited_in, due, due_in, list_le
 use Rattle.order_laws.specs.Completing.{CompletedLetGo}
 use Rattle.order_laws.specs.LetGo.{has_let_go, lock_at_place}
 use Rattle.order_laws.proofs.Awaited as awaited
-use Rattle.order_laws.proofs.Awaited as fare
 use Rattle.order_laws.proofs.Awaited.{Fares, all_is_awaited, fares}
 use Rattle.order_laws.proofs.AwaitedSends.{phase_long}
 use Rattle.order_laws.proofs.Behind.{is_among}
 use Rattle.order_laws.proofs.Carried.{carried_out_stay_out}
 use Rattle.order_laws.proofs.Completed.{TellsBehind, let_go_more, tells_along}
-use Rattle.order_laws.proofs.CompletingTurns.{Completes, begins, ends, goes, has_written, is_completion, other}
+use Rattle.order_laws.proofs.CompletingTurns.{Completes, begins, elsewhere, ends, goes, has_written, is_completion}
 use Rattle.order_laws.proofs.CompletingTurns.{turn_completes, undecided, written_few}
 use Rattle.order_laws.proofs.Leads.{any_sent, lead}
 use Rattle.order_laws.proofs.Passed.{passed}
@@ -441,7 +440,7 @@ module _ (start : Start) (tx : TxId) (key : List ℕ) (inside : 0 + 1 < length (
           → Claim (logs_of start es) before (Some u)
           → Completes node layout tx key number u e.step.taken.to e.step.taken.body turn
           → Claim (logs_of start (e ∷ es)) later (left_of_turn turn)
-      turned turn sent carried claim (other over off) =
+      turned turn sent carried claim (elsewhere over off) =
           subst (λ b. Claim (logs_of start (e ∷ es)) later (if b then None else Some turn.step.state)) (sym over)
           (λ on. absurd (false≢true (sym off ∙ on)))
       turned turn sent carried claim (begins over some) =
@@ -538,12 +537,12 @@ module _ (start : Start) (tx : TxId) (key : List ℕ) (inside : 0 + 1 < length (
 
             fresh_claims : Fares tx g e.step.taken (row g e.step.taken)
                 → Claim (logs_of start (e ∷ es)) later (live_at start (logs_of start (e ∷ es)) tx)
-            fresh_claims (fare.aside same_host off) = same same_host
-            fresh_claims (fare.rows step) = same (ap (λ (c : TcState). of_live tx c.live) step.tc)
-            fresh_claims (fare.begins step is left off) =
+            fresh_claims (awaited.aside same_host off) = same same_host
+            fresh_claims (awaited.rows step) = same (ap (λ (c : TcState). of_live tx c.live) step.tc)
+            fresh_claims (awaited.begins step is left off) =
                 subst (Claim (logs_of start (e ∷ es)) later)
                 (sym (ap (of_host tx) (here_now start es e come tx own) ∙ left)) (λ on. absurd (false≢true on))
-            fresh_claims (fare.turns u step there own_body sent left) =
+            fresh_claims (awaited.turns u step there own_body sent left) =
                 absurd (let both : None ≡ Some u = sym none ∙ there in cc)
         by (turns u step there own_body sent left) =
             subst (Claim (logs_of start (e ∷ es)) later)

@@ -144,7 +144,7 @@ module _ (node : ℕ) (layout : Layout) (tx : TxId) (key : List ℕ) (home : nod
   -- A turn leaves the transaction in another phase; it begins to complete what it has written, or goes on with that;
   -- the last answer comes; or it is over before it was decided.
   pub data Completes (t : Transaction) (to : Place) (body : Body) (turn : Turn) : Type 0 where
-    other : turn.over ≡ false → is_completing turn.step.state.phase ≡ false → Completes t to body turn
+    elsewhere : turn.over ≡ false → is_completing turn.step.state.phase ≡ false → Completes t to body turn
     begins : turn.over ≡ false → 1 ≤ in_sends (completes (list_of turn.step.state)) turn.step.effects.sends
         → Completes t to body turn
     goes : turn.over ≡ false → is_completing t.phase ≡ true → list_of turn.step.state ≡ list_of t
@@ -184,7 +184,7 @@ module _ (node : ℕ) (layout : Layout) (tx : TxId) (key : List ℕ) (home : nod
       where
         by : (b : Bool) → is_completing t.phase ≡ b → R turn
         by true on = goes over on (ap list_of is) (less on)
-        by false off = other over (ap (λ (u : Transaction). is_completing u.phase) is ∙ off)
+        by false off = elsewhere over (ap (λ (u : Transaction). is_completing u.phase) is ∙ off)
 
     stops : (at : ℕ) → body ≡ Host (Continue (work.Transaction tx) at) → SENDS ≤ at → R (going (stay t))
     stops at is high =
@@ -208,7 +208,7 @@ module _ (node : ℕ) (layout : Layout) (tx : TxId) (key : List ℕ) (home : nod
     aborts : (u : Transaction) (why : AbortCause) → is_decided t.phase ≡ false → AbortForms node layout tx u why R
     unfolding entering
     aborts u why off = record {
-      enters = λ some. other refl refl;
+      enters = λ some. elsewhere refl refl;
       ends = λ none. undecided refl off (end_silent why (abort.is_verifying u.phase));
     }
 
@@ -234,23 +234,23 @@ module _ (node : ℕ) (layout : Layout) (tx : TxId) (key : List ℕ) (home : nod
       stops = λ at is high. stops at is high;
       goes_on = λ at is low. goes_on at is;
       operates = λ op is can.
-          other refl
+          elsewhere refl
           (ap is_completing (ready_is t.phase t.asked (and_parts (is_ready t.phase t.asked)
           (fits t.touched (key_of op)) can).0).0);
-      answers = λ key answer asked is on at. other refl (ap is_completing at);
-      late = λ key asked why verifying awaited is on at. other refl (ap is_completing at);
+      answers = λ key answer asked is on at. elsewhere refl (ap is_completing at);
+      late = λ key asked why verifying awaited is on at. elsewhere refl (ap is_completing at);
       waits = λ asked is on.
           same_state (going (wait_by tx t (Some asked))) refl refl
           (λ on. omega (arith, turn_none (list_of t) to body a_turn (ap is_onward is)));
-      decides = λ is ready. other refl refl;
-      commits = λ epoch is at some. other refl refl;
+      decides = λ is ready. elsewhere refl refl;
+      commits = λ epoch is at some. elsewhere refl refl;
       commits_none = λ epoch is at none.
           absurd (omega (
             arith,
             eqb-true (length t.touched) 0 none,
             touched_some key t.touched (written (ap (λ p. is_verifying p || is_decided p) at)),
           ));
-      committed = λ key epoch awaited is at more. other refl refl;
+      committed = λ key epoch awaited is at more. elsewhere refl refl;
       committed_all = λ key epoch awaited is at last.
           all_committed epoch (written (ap (λ p. is_verifying p || is_decided p) at));
       completed = λ key epoch awaited is at more.
@@ -270,7 +270,7 @@ module _ (node : ℕ) (layout : Layout) (tx : TxId) (key : List ℕ) (home : nod
           (ap (completes (list_of t) to) is);
       rolls_back = λ is off unaborted. aborts t _ off;
       refuses = λ key why asked is on at. aborts (asking t None) why (ap is_decided at);
-      aborted = λ key why verifying awaited is at more. other refl refl;
+      aborted = λ key why verifying awaited is at more. elsewhere refl refl;
       aborted_all = λ key why verifying awaited is at last.
           undecided refl (ap is_decided at) (end_silent why verifying);
     }
