@@ -20,4 +20,6 @@ pub mod Passed
 pub mod Performs
 pub mod Records
 pub mod Sources
+pub mod Unanswered
+pub mod UnansweredTurns
 pub mod Written

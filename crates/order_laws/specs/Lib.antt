@@ -4,3 +4,4 @@ pub mod Completing
 pub mod Gone
 pub mod LetGo
 pub mod Records
+pub mod Unanswered

@@ -5,6 +5,7 @@ ghost use Rattle.order_laws.specs.Completing.{CompletedLetGo};
 ghost use Rattle.order_laws.specs.Gone.{WhoHasGoneIsOut};
 ghost use Rattle.order_laws.specs.LetGo.{HoldersAreEnding, HoldersHaveLetGo, LaterHoldersAreGivenUp, WhoLetsGoIsOver};
 ghost use Rattle.order_laws.specs.Records.{HoldersHaveRecords, WhoCommitsHasWritten};
+ghost use Rattle.order_laws.specs.Unanswered.{PartsAreUnanswered};
 
 /// After every run: whom a transaction waits for at a place of a key's chain behind the first has let
 /// go of the key at the place in front, by an abort, by a completion, or by its commit at the primary.
@@ -67,4 +68,10 @@ pub fn all_is_awaited()
 #[tactic(auto, using(crate::proofs::Completing::completed_let_go))]
 pub fn completed_let_go()
     ensures { CompletedLetGo }
+{}
+
+/// What is under way of operations is of those that coordinators have unanswered, on their keys.
+#[tactic(auto, using(crate::proofs::Unanswered::parts_are_unanswered))]
+pub fn parts_are_unanswered()
+    ensures { PartsAreUnanswered }
 {}

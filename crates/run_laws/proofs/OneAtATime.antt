@@ -96,7 +96,7 @@ module _ (start : Start) (tx : TxId) where
     abbrev waits_now : ℕ
     waits_now = waiting_in tx (step_after start h (was h) e).state
 
-    pub waiting_now : waiting_all start now tx + waits_was ≡ waiting_all start was tx + waits_now
+    waiting_now : waiting_all start now tx + waits_was ≡ waiting_all start was tx + waits_now
     waiting_now =
         omega (
           arith,
