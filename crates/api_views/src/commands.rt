@@ -10,7 +10,10 @@ use crate::client::Client;
 use crate::cuts::CutPair;
 use crate::stops::{HostStop, still_runs};
 use api_block::place_named;
-use sig_core::{ApiReply, ApiReq, Body, HeldOp, HostId, HostSignal, Member, NoMemory, Outs, Refusal, coordinator, membership, rows_of};
+use sig_core::{
+    ApiReply, ApiReq, Body, HeldOp, HostId, HostSignal, Member, NoMemory, Outs, Refusal,
+    coordinator, membership, rows_of,
+};
 use std::alloc::Global;
 
 fn serves_at(stops: &[HostStop], node: u8, member: &Member) -> bool

@@ -1,5 +1,8 @@
 //! What a client hears, in short.
-use sig_core::{ApiReq, Body, ClientSignal, EpochSignal, HeldOp, HostSignal, Key, Op, StopCause, TxId, Value, Work};
+use sig_core::{
+    ApiReq, Body, ClientSignal, EpochSignal, HeldOp, HostSignal, Key, Op, StopCause, TxId, Value,
+    Work,
+};
 use std::alloc::Global;
 use std::test::Fail;
 

@@ -1,7 +1,7 @@
 //! What the rows of a node hear, in short.
 use sig_core::{
-    Body, Chain, ChainSignal, ClientSignal, EpochSignal, Held, HeldWork, HostSignal, Key, Member,
-    Members, MembershipSignal, Op, TakeoverSignal, TxId, Value, View, Work,
+    Body, Chain, ChainSignal, ClientSignal, EpochSignal, Held, HeldOp, HeldWork, HostSignal, Key,
+    Member, Members, MembershipSignal, Op, TakeoverSignal, TxId, Value, View, Work,
 };
 use std::alloc::Global;
 use std::test::Fail;
@@ -82,7 +82,7 @@ pub fn number_of(heard: Heard, number: u64) -> u64 {
 fn operate(alloc: Global, seq: u64, op: Op) -> Result<Body, Fail> {
     Ok(Body::Chain(ChainSignal::LqhKeyReq {
         tx: tx_of(seq),
-        work: HeldWork::operate(Held::new(alloc, op)?),
+        work: HeldWork::operate(HeldOp::new(alloc, op)?),
         chain: Chain::of(&view(1, 1, 2).full),
         at: 0,
     }))
