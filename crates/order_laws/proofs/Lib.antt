@@ -1,3 +1,4 @@
+pub mod AbortingTurns
 pub mod Askers
 pub mod Attended
 pub mod Awaited
