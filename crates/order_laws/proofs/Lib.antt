@@ -21,6 +21,7 @@ pub mod Passed
 pub mod Performs
 pub mod Records
 pub mod Sources
+pub mod Standing
 pub mod Unanswered
 pub mod UnansweredTurns
 pub mod Written

@@ -4,4 +4,5 @@ pub mod Completing
 pub mod Gone
 pub mod LetGo
 pub mod Records
+pub mod Standing
 pub mod Unanswered

@@ -5,6 +5,7 @@ ghost use Rattle.order_laws.specs.Completing.{CompletedLetGo};
 ghost use Rattle.order_laws.specs.Gone.{WhoHasGoneIsOut};
 ghost use Rattle.order_laws.specs.LetGo.{HoldersAreEnding, HoldersHaveLetGo, LaterHoldersAreGivenUp, WhoLetsGoIsOver};
 ghost use Rattle.order_laws.specs.Records.{HoldersHaveRecords, WhoCommitsHasWritten};
+ghost use Rattle.order_laws.specs.Standing.{WhoIsAwayIsOut};
 ghost use Rattle.order_laws.specs.Unanswered.{PartsAreUnanswered};
 
 /// After every run: whom a transaction waits for at a place of a key's chain behind the first has let
@@ -74,4 +75,10 @@ pub fn completed_let_go()
 #[tactic(auto, using(crate::proofs::Unanswered::parts_are_unanswered))]
 pub fn parts_are_unanswered()
     ensures { PartsAreUnanswered }
+{}
+
+/// Who never asked for a key at a place of its chain, or has let go of it there since, neither holds its
+/// lock nor waits for it.
+pub fn who_is_away_is_out()
+    ensures { WhoIsAwayIsOut }
 {}
