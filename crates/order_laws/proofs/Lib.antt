@@ -1,3 +1,4 @@
+pub mod Aborting
 pub mod AbortingTurns
 pub mod Askers
 pub mod Attended
@@ -11,6 +12,7 @@ pub mod Completing
 pub mod CompletingTurns
 pub mod Ending
 pub mod Ends
+pub mod Further
 pub mod Gone
 pub mod Later
 pub mod Leads

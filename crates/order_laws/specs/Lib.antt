@@ -1,3 +1,4 @@
+pub mod Aborting
 pub mod Awaited
 pub mod Carried
 pub mod Completing

@@ -1,4 +1,5 @@
 //! Whom a transaction waits for at a replica behind the primary.
+ghost use Rattle.order_laws.specs.Aborting.{GivenUpHoldersWait};
 ghost use Rattle.order_laws.specs.Awaited.{AllIsAwaited};
 ghost use Rattle.order_laws.specs.Carried.{CarriedOutStayOut};
 ghost use Rattle.order_laws.specs.Completing.{CompletedLetGo};
@@ -81,4 +82,11 @@ pub fn parts_are_unanswered()
 /// lock nor waits for it.
 pub fn who_is_away_is_out()
     ensures { WhoIsAwayIsOut }
+{}
+
+/// Where nothing is under way, a transaction that is given up and holds the lock at a place of a chain
+/// waits itself for that place or one behind it.
+#[tactic(auto, using(crate::proofs::Aborting::given_up_holders_wait))]
+pub fn given_up_holders_wait()
+    ensures { GivenUpHoldersWait }
 {}
