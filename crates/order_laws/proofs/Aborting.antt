@@ -786,7 +786,7 @@ module _ (start : Start) (tx : TxId) (key : List ℕ) (at : ℕ) (inside : at < 
           → Now (left_of_turn turn)
       turned turn sent same given stands (back.unbacked off none) =
           absurd (true≢false (sym (given_aborting (sym (same (subst (AreUnbacked tx) (sym sent) none)) ∙ given)) ∙ off))
-      turned turn sent same given stands (back.begins off over some) =
+      turned turn sent same given stands (back.begins off over some still) =
           subst (λ b. Now (if b then None else Some turn.step.state)) (sym over)
           (inl (omega (
             arith,
@@ -794,7 +794,7 @@ module _ (start : Start) (tx : TxId) (key : List ℕ) (at : ℕ) (inside : at < 
             into (list_at (Some turn.step.state)),
             ap (in_sends (wanted (list_at (Some turn.step.state)))) sent,
           )))
-      turned turn sent same given stands (back.late on over some) =
+      turned turn sent same given stands (back.late on over some still) =
           subst (λ b. Now (if b then None else Some turn.step.state)) (sym over)
           (inl (omega (
             arith,
@@ -802,7 +802,7 @@ module _ (start : Start) (tx : TxId) (key : List ℕ) (at : ℕ) (inside : at < 
             into (list_at (Some turn.step.state)),
             ap (in_sends (wanted (list_at (Some turn.step.state)))) sent,
           )))
-      turned turn sent same given stands (back.keeps on over alike less off) =
+      turned turn sent same given stands (back.keeps on over alike less off still) =
           subst (λ b. Now (if b then None else Some turn.step.state)) (sym over)
           (by (subst (IsEnding (logs_of start es) before) live_was (was (aborting_given on) stands)))
         where
@@ -819,7 +819,7 @@ module _ (start : Start) (tx : TxId) (key : List ℕ) (at : ℕ) (inside : at < 
                 ap (in_sends (wanted (list_at (Some u)))) sent,
               )))
           by (inr some) = inr (omega (arith, some, off_part off, balance, waits_as rows))
-      turned turn sent same given stands (back.ends on over last none off) =
+      turned turn sent same given stands (back.ends on over last none off still) =
           subst (λ b. Now (if b then None else Some turn.step.state)) (sym over)
           (by (subst (IsEnding (logs_of start es) before) live_was (was (aborting_given on) stands)))
         where

@@ -40,7 +40,7 @@ use Rattle.tc_block.specs.Operate.{asked_if, asked_on, is_ready, late_answer, wa
 use Rattle.tc_block.specs.Part.{part_effects, rest_if}
 use Rattle.tc_block.specs.Phases.{is_aborting}
 use Rattle.tc_block.specs.Sends.{abort_of, aborts_of, complete_if, entering, front_sends, go_on_if, key_sends, phase_sends}
-use Rattle.tc_block.specs.Sends.{wait_of}
+use Rattle.tc_block.specs.Sends.{wait_of, waits_of}
 use Rattle.tc_block.specs.Touched.{fits, is_on}
 use Rattle.tc_block.specs.Turn.{Turn, asking, at_phase, going}
 use Rattle.tc_block.proofs.EachTurn.{AbortForms, CommittedForms, IsAnswered, IsMissed, IsRowAnswer, TurnFormsAt, by_conf}
@@ -53,6 +53,9 @@ use Rattle.run_laws.proofs.Weighing.{in_sends}
 use Rattle.order_laws.specs.Awaited.{awaited_in, due, list_length}
 use Rattle.order_laws.specs.Unanswered.{is_on_key, is_part_on}
 use Rattle.order_laws.proofs.AwaitedTurns.{last_is}
+use Rattle.order_laws.proofs.UnansweredTurns.{end_none, enters_none, front_plain, is_plain, parts_out, plain_chains, plain_out}
+use Rattle.host_laws.proofs.PhaseSends.{aborts_of_kind, rest_of_kind}
+use Rattle.host_laws.proofs.SendKinds.{of_map}
 use Rattle.order_laws.proofs.Leads.{any_sent, late_leads, lead, next_leads, part_leads, sent_leads}
 
 -- the signal has a replica, at this node, abort the transaction's row
@@ -233,15 +236,18 @@ module _ (node : ℕ) (layout : Layout) (tx : TxId) (key : List ℕ) (replica : 
   pub data Aborts (t : Transaction) (to : Place) (body : Body) (turn : Turn) : Type 0 where
     unbacked : is_aborting t.phase ≡ false → AreUnbacked tx turn.step.effects.sends → Aborts t to body turn
     begins : is_aborting t.phase ≡ false → turn.over ≡ false
-        → 1 ≤ in_sends (backs (list_of turn.step.state)) turn.step.effects.sends → Aborts t to body turn
+        → 1 ≤ in_sends (backs (list_of turn.step.state)) turn.step.effects.sends
+        → parts_out tx key turn.step.effects.sends ≡ 0 → Aborts t to body turn
     keeps : is_aborting t.phase ≡ true → turn.over ≡ false → list_of turn.step.state ≡ list_of t
         → backs (list_of t) to body ≤ in_sends (backs (list_of t)) turn.step.effects.sends
-        → is_part_on tx key body ≡ false → Aborts t to body turn
+        → is_part_on tx key body ≡ false → parts_out tx key turn.step.effects.sends ≡ 0 → Aborts t to body turn
     late : is_aborting t.phase ≡ true → turn.over ≡ false
-        → 1 ≤ in_sends (backs (list_of turn.step.state)) turn.step.effects.sends → Aborts t to body turn
+        → 1 ≤ in_sends (backs (list_of turn.step.state)) turn.step.effects.sends
+        → parts_out tx key turn.step.effects.sends ≡ 0 → Aborts t to body turn
     ends : is_aborting t.phase ≡ true → turn.over ≡ true
         → awaited_in t.phase ≤ due tx (list_length layout t.phase t.touched) body
-        → backs (list_of t) to body ≡ 0 → is_part_on tx key body ≡ false → Aborts t to body turn
+        → backs (list_of t) to body ≡ 0 → is_part_on tx key body ≡ false
+        → parts_out tx key turn.step.effects.sends ≡ 0 → Aborts t to body turn
 
   turn_none : (list : List Outgoing) (to : Place) (body : Body) → is_turn body ≡ true → is_onward body ≡ false
       → backs list to body ≡ 0
@@ -264,11 +270,11 @@ module _ (node : ℕ) (layout : Layout) (tx : TxId) (key : List ℕ) (replica : 
         → (is_aborting t.phase ≡ false → AreUnbacked tx turn.step.effects.sends)
         → (is_aborting t.phase ≡ true
         → (backs (list_of t) to body ≤ in_sends (backs (list_of t)) turn.step.effects.sends)
-        × (is_part_on tx key body ≡ false)) → R turn
-    same_state turn over is none on = by (is_aborting t.phase) refl
+        × (is_part_on tx key body ≡ false)) → parts_out tx key turn.step.effects.sends ≡ 0 → R turn
+    same_state turn over is none on still = by (is_aborting t.phase) refl
       where
         by : (b : Bool) → is_aborting t.phase ≡ b → R turn
-        by true aborting = keeps aborting over (ap list_of is) (on aborting).0 (on aborting).1
+        by true aborting = keeps aborting over (ap list_of is) (on aborting).0 (on aborting).1 still
         by false off = unbacked off (none off)
 
     -- no part of an operation on the key is missed by an abort
@@ -316,7 +322,8 @@ module _ (node : ℕ) (layout : Layout) (tx : TxId) (key : List ℕ) (replica : 
           (phase_sends layout tx (Aborting why (abort.is_verifying u.phase) (abort.aborts_awaited layout u)) u.touched) 0
           home
           (any_aborted layout tx key replica there why (abort.is_verifying u.phase) (abort.aborts_awaited layout u)
-          u.touched (ap (has_touched key) same ∙ touched off)));
+          u.touched (ap (has_touched key) same ∙ touched off)))
+          (enters_none tx key node layout u _);
       ends = λ none.
           absurd (omega (
             arith,
@@ -341,7 +348,7 @@ module _ (node : ℕ) (layout : Layout) (tx : TxId) (key : List ℕ) (replica : 
         keeps (ap is_aborting at) refl
         (aborts_same layout tx why verifying (awaited - 1) awaited t.touched
         ∙ sym (ap (λ p. phase_sends layout tx p t.touched) at))
-        (omega (arith, none)) off
+        (omega (arith, none)) off refl
 
     -- an answer of the operation: it is on the key, or on another one
     late_forms : (at : List ℕ) (asked : Asked) (why : AbortCause) (verifying : Bool) (awaited : ℕ)
@@ -367,23 +374,28 @@ module _ (node : ℕ) (layout : Layout) (tx : TxId) (key : List ℕ) (replica : 
         off true = refl
         off false = refl
 
+        late_none : parts_out tx key (aborts_of tx at (chain_of layout at)) ≡ 0
+        late_none =
+            plain_out tx key (aborts_of tx at (chain_of layout at))
+            (aborts_of_kind (is_plain tx key) layout tx (plain_chains tx key) at (chain_of layout at))
+
         by : (b : Bool) → same_key at key ≡ b → R (going (late_answer layout tx t at))
         by true same =
             late (ap is_aborting phase) refl
             (sent_leads tx (is_abort_to tx key replica) (onward_none tx key replica) (list_of t)
             (aborts_of tx at (chain_of layout at))
             (any_replica layout tx key replica at same (chain_of layout at)
-            (subst (λ k. has_node replica (chain_of layout k) ≡ true) (sym (keys.same at key same)) there)))
+            (subst (λ k. has_node replica (chain_of layout k) ≡ true) (sym (keys.same at key same)) there))) late_none
         by false differs =
             keeps (ap is_aborting phase) refl refl (omega (arith, none))
-            (part_is ∙ ap (λ b. same_tx tx tx && b) differs ∙ off (same_tx tx tx))
+            (part_is ∙ ap (λ b. same_tx tx tx && b) differs ∙ off (same_tx tx tx)) late_none
 
     aborts_forms : TurnFormsAt node layout tx t body R
     unfolding entering
     aborts_forms = record {
       stays = λ off missed.
           same_state (going (stay t)) refl refl (λ un. tt)
-          (λ on. (omega (arith, turn_none (list_of t) to body a_turn off), missed_apart on missed));
+          (λ on. (omega (arith, turn_none (list_of t) to body a_turn off), missed_apart on missed)) refl;
       stops = λ at is high.
           same_state (going (stay t)) refl refl (λ un. tt)
           (λ on. (
@@ -394,7 +406,7 @@ module _ (node : ℕ) (layout : Layout) (tx : TxId) (key : List ℕ) (replica : 
                   (omega (arith, short on, high)),
             ),
             ap (is_part_on tx key) is,
-          ));
+          )) refl;
       goes_on = λ at is low.
           same_state (going (go_on_if node layout tx t at true)) refl refl
           (λ un. part_unbacked layout tx node t.phase t.touched at un)
@@ -405,7 +417,10 @@ module _ (node : ℕ) (layout : Layout) (tx : TxId) (key : List ℕ) (replica : 
               next_leads tx (is_abort_to tx key replica) (onward_none tx key replica) node (list_of t) at to home,
             ),
             ap (is_part_on tx key) is,
-          ));
+          ))
+          (plain_out tx key (go_on_if node layout tx t at true).effects.sends
+          (rest_of_kind (is_plain tx key) layout tx (plain_chains tx key) node t at
+          (front_plain tx key node layout t.phase)));
       operates = λ op is can.
           unbacked
           (ap is_aborting (ready_is t.phase t.asked (and_parts (is_ready t.phase t.asked)
@@ -419,7 +434,9 @@ module _ (node : ℕ) (layout : Layout) (tx : TxId) (key : List ℕ) (replica : 
           (λ aborting. (
             omega (arith, turn_none (list_of t) to body a_turn (ap is_onward is)),
             ap (is_part_on tx key) is,
-          ));
+          ))
+          (plain_out tx key (waits_of tx (key_of asked.op) asked.chain)
+          (of_map (is_plain tx key) (wait_of tx (key_of asked.op)) asked.chain (λ r. refl)));
       decides = λ is ready. unbacked (ap is_aborting (ready_is t.phase t.asked ready).0) (refl, tt);
       commits = λ epoch is at some.
           unbacked (ap is_aborting at)
@@ -442,7 +459,7 @@ module _ (node : ℕ) (layout : Layout) (tx : TxId) (key : List ℕ) (replica : 
             ap (due tx (list_length layout t.phase t.touched)) is,
             ap one_if (same_tx-self tx),
           ))
-          (ap (backs (list_of t) to) is) (ap (is_part_on tx key) is);
+          (ap (backs (list_of t) to) is) (ap (is_part_on tx key) is) (end_none tx key node layout why verifying);
     }
 
     pub turn_aborts : Aborts t to body (turn_for node layout tx body t)

@@ -65,7 +65,7 @@ module _ (tx : TxId) (key : List ℕ) where
   apart_out sends all = tally_none (λ (o : Outgoing). is_part_on tx key o.body) sends all
 
   -- no part of an operation
-  abbrev is_plain : Body → Bool
+  abbrev pub is_plain : Body → Bool
   is_plain (Chain (LqhKeyReq other work chain at)) = false
   is_plain (Chain (LqhKeyConf other own answer)) = false
   is_plain (Chain (LqhKeyRef other own cause)) = false
@@ -77,12 +77,12 @@ module _ (tx : TxId) (key : List ℕ) where
   plain_apart (Chain (LqhKeyRef other own cause)) is = absurd (false≢true is)
   plain_apart _ is = refl
 
-  plain_out : (sends : List Outgoing) → are_of is_plain sends ≡ true → parts_out sends ≡ 0
+  pub plain_out : (sends : List Outgoing) → are_of is_plain sends ≡ true → parts_out sends ≡ 0
   plain_out sends all =
       apart_out sends
       (each_of is_plain (λ (o : Outgoing). is_part_on tx key o.body ≡ false) (λ o is. plain_apart o.body is) sends all)
 
-  plain_chains : HasChains tx is_plain
+  pub plain_chains : HasChains tx is_plain
   plain_chains = record {
     commits = λ own epoch chain at. refl;
     completes = λ own chain at. refl;
@@ -162,11 +162,11 @@ module _ (tx : TxId) (key : List ℕ) where
     shut_none None phase right shut = refl
     shut_none (Some asked) phase right shut = absurd (false≢true (sym shut ∙ right))
 
-    end_none : (why : AbortCause) (b : Bool) → parts_out (abort.abort_end node tx why b) ≡ 0
+    pub end_none : (why : AbortCause) (b : Bool) → parts_out (abort.abort_end node tx why b) ≡ 0
     end_none why true = refl
     end_none why false = refl
 
-    front_plain : (phase : Phase) → are_of is_plain (front_sends tx phase) ≡ true
+    pub front_plain : (phase : Phase) → are_of is_plain (front_sends tx phase) ≡ true
     unfolding front_sends
     front_plain (Completing epoch awaited) = refl
     front_plain (Committing epoch awaited) = refl
@@ -174,7 +174,7 @@ module _ (tx : TxId) (key : List ℕ) where
     front_plain Open = refl
     front_plain Verifying = refl
 
-    enters_none : (t : Transaction) (phase : Phase)
+    pub enters_none : (t : Transaction) (phase : Phase)
         → parts_out (entering node layout tx t phase).effects.sends ≡ 0
     enters_none t phase =
         plain_out (entering node layout tx t phase).effects.sends
