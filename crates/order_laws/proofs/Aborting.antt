@@ -106,7 +106,7 @@ use Rattle.order_laws.specs.LetGo.{lock_at_place}
 use Rattle.order_laws.specs.Standing.{is_away}
 use Rattle.order_laws.specs.Unanswered.{asks_on, is_on_key, is_part_on}
 use Rattle.order_laws.proofs.AbortingTurns as back
-use Rattle.order_laws.proofs.AbortingTurns.{Aborts, AreUnbacked, has_node, has_touched, is_abort_to, is_backing, onward_none}
+use Rattle.order_laws.proofs.AbortingTurns.{Aborts, is_abort_to}
 use Rattle.order_laws.proofs.AbortingTurns.{place_there, turn_aborts}
 use Rattle.order_laws.proofs.Awaited as awaited
 use Rattle.order_laws.proofs.Awaited.{all_is_awaited}
@@ -115,6 +115,7 @@ use Rattle.order_laws.proofs.Further.{further_out, further_part, is_from, is_fur
 use Rattle.order_laws.proofs.Leads.{any_sent, lead}
 use Rattle.order_laws.proofs.Standing.{IsKnown, came_back, standers_known, who_is_away_is_out}
 use Rattle.order_laws.proofs.Unanswered.{parts_are_unanswered}
+use Rattle.order_laws.proofs.UnansweredTurns.{AreUnbacked, is_backing}
 
 -- what takes no other transaction back
 abbrev is_own : TxId → Body → Bool
@@ -145,7 +146,7 @@ own tx body = record {
   rolled_back = λ why. same_tx-self tx;
 }
 
-others_unbacked : (tx : TxId) (s : TcState) (body : Body)
+pub others_unbacked : (tx : TxId) (s : TcState) (body : Body)
     → OthersSend (λ (o : Outgoing). is_backing tx o.body ≡ false) tx s body
 others_unbacked tx s body one off its t =
     each_of (is_own one) (λ o. is_backing tx o.body ≡ false) (λ o e. own_unbacked one tx off o.body e)
@@ -153,7 +154,7 @@ others_unbacked tx s body one off its t =
     (turn_each s.node s.layout one body t (TurnOnly (is_own one))
     (own_kinds (is_own one) one body (own one body) s.node s.layout t) its)
 
-beside_unbacked : (tx : TxId) (s : TcState) → SendsBeside (λ (o : Outgoing). is_backing tx o.body ≡ false) s
+pub beside_unbacked : (tx : TxId) (s : TcState) → SendsBeside (λ (o : Outgoing). is_backing tx o.body ≡ false) s
 beside_unbacked tx s =
     record { full = λ name. (refl, tt); begins = λ name. (refl, tt); passes = λ one ahead. (refl, tt) }
 
@@ -296,7 +297,7 @@ module _ (start : Start) (tx : TxId) (key : List ℕ) (at : ℕ) (inside : at < 
       by false false c = omega arith
   wanted_due list count to _ = omega arith
 
-  fewer : (list : List Outgoing) (count : ℕ) (xs : List Addressed)
+  pub fewer : (list : List Outgoing) (count : ℕ) (xs : List Addressed)
       → in_transit (wanted list) xs ≤ due_in tx count xs
   fewer list count [] = omega arith
   fewer list count (x ∷ xs) = omega (arith, wanted_due list count x.signal.to x.signal.body, fewer list count xs)
@@ -449,7 +450,7 @@ module _ (start : Start) (tx : TxId) (key : List ℕ) (at : ℕ) (inside : at < 
               ap (λ o. one_if (asks_on key o)) gone,
             )))
 
-    part_asked : (t : Transaction) → live_at start (logs_of start es) tx ≡ Some t
+    pub part_asked : (t : Transaction) → live_at start (logs_of start es) tx ≡ Some t
         → is_part_on tx key e.step.taken.body ≡ true → is_on_key key t.asked ≡ true
     part_asked t there part = by (is_on_key key t.asked) refl
       where
@@ -731,7 +732,7 @@ module _ (start : Start) (tx : TxId) (key : List ℕ) (at : ℕ) (inside : at < 
       abbrev layout : Layout
       layout = first_layout start.shape
 
-      aborting_given : is_aborting u.phase ≡ true → is_given_up start (logs_of start es) tx ≡ true
+      pub aborting_given : is_aborting u.phase ≡ true → is_given_up start (logs_of start es) tx ≡ true
       aborting_given on =
           (each_found
           (IsOwned s.node s.next_seq (sent_ways start back_by (home start tx) (logs_of start es (home start tx))))
@@ -740,14 +741,14 @@ module _ (start : Start) (tx : TxId) (key : List ℕ) (at : ℕ) (inside : at < 
           s : TcState
           s = tc_of (after start (home start tx) (logs_of start es (home start tx)))
 
-      given_aborting : is_given_up start (logs_of start es) tx ≡ true → is_aborting u.phase ≡ true
+      pub given_aborting : is_given_up start (logs_of start es) tx ≡ true → is_aborting u.phase ≡ true
       given_aborting given =
           each_found (λ (x : TxId × Transaction). list_any (same_tx x.0) (sent_ways start back_by (home start tx)
           (logs_of start es (home start tx))) ≡ true → is_aborting x.1.phase ≡ true)
           (tc_of (after start (home start tx) (logs_of start es (home start tx)))).live tx u
           (back_aborting start (home start tx) (logs_of start es (home start tx))) live_was given
 
-      short : is_aborting u.phase ≡ true → length (list_at (Some u)) ≤ SENDS
+      pub short : is_aborting u.phase ≡ true → length (list_at (Some u)) ≤ SENDS
       short on =
           omega (
             arith,

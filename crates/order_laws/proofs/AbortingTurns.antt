@@ -54,6 +54,7 @@ use Rattle.order_laws.specs.Awaited.{awaited_in, due, list_length}
 use Rattle.order_laws.specs.Unanswered.{is_on_key, is_part_on}
 use Rattle.order_laws.proofs.AwaitedTurns.{last_is}
 use Rattle.order_laws.proofs.UnansweredTurns.{end_none, enters_none, front_plain, is_plain, parts_out, plain_chains, plain_out}
+use Rattle.order_laws.proofs.UnansweredTurns.{AreUnbacked, is_backing}
 use Rattle.host_laws.proofs.PhaseSends.{aborts_of_kind, rest_of_kind}
 use Rattle.host_laws.proofs.SendKinds.{of_map}
 use Rattle.order_laws.proofs.Leads.{any_sent, late_leads, lead, next_leads, part_leads, sent_leads}
@@ -68,15 +69,6 @@ pub onward_none : (tx : TxId) (key : List ℕ) (node : ℕ) (to : Place) (body :
     → is_abort_to tx key node to body ≡ false
 onward_none tx key node to (Chain c) is = absurd (false≢true is)
 onward_none tx key node to _ is = refl
-
--- the signal takes the transaction back
-abbrev pub is_backing : TxId → Body → Bool
-is_backing tx (Chain (Abort other own)) = same_tx other tx
-is_backing tx (Client (TcRollbackRep other cause)) = same_tx other tx
-is_backing tx body = false
-
-abbrev pub AreUnbacked : TxId → List Outgoing → Type 0
-AreUnbacked tx sends = Each (λ (o : Outgoing). is_backing tx o.body ≡ false) sends
 
 -- the key was touched
 abbrev pub has_touched : List ℕ → List Touched → Bool

@@ -12,6 +12,9 @@ pub mod Completing
 pub mod CompletingTurns
 pub mod Ending
 pub mod Ends
+pub mod First
+pub mod FirstSources
+pub mod FirstTaken
 pub mod Further
 pub mod Gone
 pub mod Later

@@ -227,81 +227,69 @@ module _ (tx : TxId) (key : List ℕ) where
     pub old : tx.seq < next_number (after start (home start tx) (logs (home start tx)))
     pub touched : (t : Transaction) → live_at start logs tx ≡ Some t → HasTouched t.touched key
 
+  -- one that has an operation on the key unanswered is known
+  pub asks_known : (start : Start) (es : List HostStep) → asks_on key (live_at start (logs_of start es) tx) ≡ true
+      → IsKnown start (logs_of start es)
+  asks_known start es one = by (live_at start (logs_of start es) tx) refl
+    where
+      by : (o : Option Transaction) → live_at start (logs_of start es) tx ≡ o → IsKnown start (logs_of start es)
+      by None none = absurd (false≢true (ap (asks_on key) (sym none) ∙ one))
+      by (Some t) there = record {
+        old = owned.below;
+        touched = λ u live.
+            let same : t ≡ u = some_same (sym there ∙ live) in
+            subst (λ (u : Transaction). HasTouched u.touched key) same (which t.asked refl);
+      }
+        where
+          some_same : {u : Transaction} → Some t ≡ Some u → t ≡ u
+          some_same both = cc
+
+          at_home : ℕ
+          at_home = home start tx
+
+          s : TcState
+          s = tc_of (after start at_home (logs_of start es at_home))
+
+          owned : IsOwned s.node s.next_seq (sent_ways start back_by at_home (logs_of start es at_home)) (tx, t)
+          owned =
+              each_found (IsOwned s.node s.next_seq (sent_ways start back_by at_home (logs_of start es at_home)))
+              s.live tx t (log_sound start at_home (logs_of start es at_home)).tc.live there
+
+          on_key : is_on_key key t.asked ≡ true
+          on_key = sym (ap (asks_on key) there) ∙ one
+
+          which : (asked : Option Asked) → t.asked ≡ asked → HasTouched t.touched key
+          which None none = absurd (false≢true (sym (ap (is_on_key key) none) ∙ on_key))
+          which (Some a) is_asked =
+              subst (HasTouched t.touched)
+              (keys.same (key_of a.op) key (sym (ap (is_on_key key) is_asked) ∙ on_key))
+              (subst (HasTouchedAsked t.touched) is_asked owned.touched)
+
   module _ (start : Start) (es : List HostStep) (e : HostStep) (come : Comes start es e) where
     abbrev g : host.Host
     g = after start e.host (logs_of start es e.host)
 
     -- a part of an operation comes of a transaction that is known
     pub part_known : is_part_on tx key e.step.taken.body ≡ true → IsKnown start (logs_of start es)
-    part_known is = by (live_at start (logs_of start es) tx) refl
+    part_known is = asks_known start es (which (asks_on key (live_at start (logs_of start es) tx)) refl)
       where
         plain : (body : Body) → is_part_on tx key body ≡ true → is_request body ≡ false
         plain (Chain c) is = refl
         plain _ is = absurd cc
 
-        one : 1 ≤ one_if (asks_on key (live_at start (logs_of start es) tx))
-        one = which (asks_on key (live_at start (logs_of start es) tx)) refl
-          where
-            which : (b : Bool) → asks_on key (live_at start (logs_of start es) tx) ≡ b
-                → 1 ≤ one_if (asks_on key (live_at start (logs_of start es) tx))
-            which true on = omega (arith, ap one_if on)
-            which false off =
-                let t = taking start es e come in
-                let none : tally (λ (x : Addressed). is_part_on tx key x.signal.body) t.before ≡ 0 =
-                omega (arith, parts_are_unanswered start es t.before tx key come.before t.transit, ap one_if off) in
-                absurd (true≢false (sym is
-                ∙ each_taken (λ (x : Addressed). is_part_on tx key x.signal.body ≡ false) e t.before t.between
-                (plain e.step.taken.body is) t.takes
-                (none_passes (λ (x : Addressed). is_part_on tx key x.signal.body) t.before none)))
-
-        by : (o : Option Transaction) → live_at start (logs_of start es) tx ≡ o → IsKnown start (logs_of start es)
-        by None none = absurd (omega (arith, one, ap (λ o. one_if (asks_on key o)) none))
-        by (Some t) there = record {
-          old = owned.below;
-          touched = λ u live.
-              let same : t ≡ u = some_same (sym there ∙ live) in
-              subst (λ (u : Transaction). HasTouched u.touched key) same (which t.asked refl);
-        }
-          where
-            some_same : {u : Transaction} → Some t ≡ Some u → t ≡ u
-            some_same both = cc
-
-            at_home : ℕ
-            at_home = home start tx
-
-            s : TcState
-            s = tc_of (after start at_home (logs_of start es at_home))
-
-            owned : IsOwned s.node s.next_seq (sent_ways start back_by at_home (logs_of start es at_home)) (tx, t)
-            owned =
-                each_found (IsOwned s.node s.next_seq (sent_ways start back_by at_home (logs_of start es at_home)))
-                s.live tx t (log_sound start at_home (logs_of start es at_home)).tc.live there
-
-            which : (asked : Option Asked) → t.asked ≡ asked → HasTouched t.touched key
-            which None none =
-                absurd (omega (
-                  arith,
-                  one,
-                  ap (λ o. one_if (asks_on key o)) there,
-                  ap (λ o. one_if (is_on_key key o)) none,
-                ))
-            which (Some a) is_asked = on (same_key (key_of a.op) key) refl
-              where
-                on : (b : Bool) → same_key (key_of a.op) key ≡ b → HasTouched t.touched key
-                on true same =
-                    subst (HasTouched t.touched) (keys.same (key_of a.op) key same)
-                    (subst (HasTouchedAsked t.touched) is_asked owned.touched)
-                on false differs =
-                    absurd (omega (
-                      arith,
-                      one,
-                      ap (λ o. one_if (asks_on key o)) there,
-                      ap (λ o. one_if (is_on_key key o)) is_asked,
-                      ap one_if differs,
-                    ))
+        which : (b : Bool) → asks_on key (live_at start (logs_of start es) tx) ≡ b → b ≡ true
+        which true on = refl
+        which false off =
+            let t = taking start es e come in
+            let none : tally (λ (x : Addressed). is_part_on tx key x.signal.body) t.before ≡ 0 =
+            omega (arith, parts_are_unanswered start es t.before tx key come.before t.transit, ap one_if off) in
+            absurd (true≢false (sym is
+            ∙ each_taken (λ (x : Addressed). is_part_on tx key x.signal.body ≡ false) e t.before t.between
+            (plain e.step.taken.body is) t.takes
+            (none_passes (λ (x : Addressed). is_part_on tx key x.signal.body) t.before none)))
 
     -- who is known stays so
-    known_next : IsKnown start (logs_of start es) → IsKnown start (logs_of start (e ∷ es))
+    pub known_next : IsKnown start (logs_of start es) → IsKnown start (logs_of start (e ∷ es))
     known_next k = by (fares tx g e.step.taken facts)
       where
         facts : IsHome tx (tc_of g)

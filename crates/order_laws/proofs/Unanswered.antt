@@ -107,7 +107,7 @@ own tx body = record {
   rolled_back = λ why. refl;
 }
 
-others_apart : (tx : TxId) (key : List ℕ) (s : TcState) (body : Body)
+pub others_apart : (tx : TxId) (key : List ℕ) (s : TcState) (body : Body)
     → OthersSend (λ (o : Outgoing). is_part_on tx key o.body ≡ false) tx s body
 others_apart tx key s body one off its t =
     each_of (is_own one) (λ o. is_part_on tx key o.body ≡ false) (λ o e. own_apart one tx key off o.body e)
@@ -115,17 +115,17 @@ others_apart tx key s body one off its t =
     (turn_each s.node s.layout one body t (TurnOnly (is_own one))
     (own_kinds (is_own one) one body (own one body) s.node s.layout t) its)
 
-beside_apart : (tx : TxId) (key : List ℕ) (s : TcState)
+pub beside_apart : (tx : TxId) (key : List ℕ) (s : TcState)
     → SendsBeside (λ (o : Outgoing). is_part_on tx key o.body ≡ false) s
 beside_apart tx key s =
     record { full = λ name. (refl, tt); begins = λ name. (refl, tt); passes = λ one ahead. (refl, tt) }
 
-api_apart : (tx : TxId) (key : List ℕ) (body : Body) → is_api_kind body ≡ true → is_part_on tx key body ≡ false
+pub api_apart : (tx : TxId) (key : List ℕ) (body : Body) → is_api_kind body ≡ true → is_part_on tx key body ≡ false
 api_apart tx key (Client c) is = refl
 api_apart tx key (Host Round) is = refl
 api_apart tx key _ is = absurd cc
 
-dih_apart : (tx : TxId) (key : List ℕ) (body : Body) → is_dih_kind body ≡ true → is_part_on tx key body ≡ false
+pub dih_apart : (tx : TxId) (key : List ℕ) (body : Body) → is_dih_kind body ≡ true → is_part_on tx key body ≡ false
 dih_apart tx key (Epoch x) is = refl
 dih_apart tx key _ is = absurd cc
 
@@ -142,11 +142,11 @@ module _ (start : Start) (tx : TxId) (key : List ℕ) where
   abbrev Few : List HostStep → List Addressed → Type 0
   Few es xs = parts_on start (logs_of start es) xs tx key ≤ one_if (asks_on key (live_at start (logs_of start es) tx))
 
-  tally_is : (xs : List Addressed) → parts_in xs ≡ in_transit (λ to body. one_if (is_part_on tx key body)) xs
+  pub tally_is : (xs : List Addressed) → parts_in xs ≡ in_transit (λ to body. one_if (is_part_on tx key body)) xs
   tally_is [] = refl
   tally_is (x ∷ xs) = ap (λ n. one_if (is_part_on tx key x.signal.body) + n) (tally_is xs)
 
-  sends_is : (sends : List Outgoing)
+  pub sends_is : (sends : List Outgoing)
       → parts_out tx key sends ≡ weigh (λ (o : Outgoing). one_if (is_part_on tx key o.body)) sends
   sends_is [] = refl
   sends_is (o ∷ sends) = ap (λ n. one_if (is_part_on tx key o.body) + n) (sends_is sends)
@@ -241,7 +241,7 @@ module _ (start : Start) (tx : TxId) (key : List ℕ) where
           ap (λ o. one_if (asks_on key o)) there,
           ap (λ o. one_if (is_on_key key o)) alike,
         ))
-    turned node t turn there rows sent (asks over nothing less) =
+    turned node t turn there rows sent (asks over nothing less unaborted unbacked) =
         subst (λ b. Goal (if b then None else Some turn.step.state)) (sym over)
         (omega (
           arith,

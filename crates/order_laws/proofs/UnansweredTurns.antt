@@ -12,8 +12,9 @@ use Rattle.sig_core.specs.declared.op.Op.{Op}
 use Rattle.sig_core.specs.declared.outcome.AbortCause.{AbortCause}
 use Rattle.sig_core.specs.declared.outs.Outgoing.{Outgoing}
 use Rattle.sig_core.specs.declared.signal.Body.{Body}
-use Rattle.sig_core.specs.declared.signal.Body.TheVariants.{Chain}
-use Rattle.sig_core.specs.declared.signal.chain.ChainSignal.TheVariants.{LqhKeyConf, LqhKeyRef, LqhKeyReq}
+use Rattle.sig_core.specs.declared.signal.Body.TheVariants.{Chain, Client}
+use Rattle.sig_core.specs.declared.signal.chain.ChainSignal.TheVariants.{Abort, LqhKeyConf, LqhKeyRef, LqhKeyReq}
+use Rattle.sig_core.specs.declared.signal.client.ClientSignal.TheVariants.{TcRollbackRep}
 use Rattle.sig_core.specs.Op.{key_of}
 use Rattle.sig_core.specs.Same.{same_key, same_tx}
 use Rattle.sig_core.specs.Step.{stay}
@@ -52,6 +53,15 @@ use Rattle.order_laws.specs.Awaited.{awaited_in, due, list_length}
 use Rattle.order_laws.specs.Unanswered.{is_on_key, is_part_on}
 use Rattle.order_laws.proofs.AwaitedTurns.{last_is}
 use Rattle.run_theory.proofs.Focus.{none_placed}
+
+-- the signal takes the transaction back
+abbrev pub is_backing : TxId → Body → Bool
+is_backing tx (Chain (Abort other own)) = same_tx other tx
+is_backing tx (Client (TcRollbackRep other cause)) = same_tx other tx
+is_backing tx body = false
+
+abbrev pub AreUnbacked : TxId → List Outgoing → Type 0
+AreUnbacked tx sends = Each (λ (o : Outgoing). is_backing tx o.body ≡ false) sends
 
 module _ (tx : TxId) (key : List ℕ) where
   -- how many of these signals are parts of an operation on the key
@@ -150,7 +160,8 @@ module _ (tx : TxId) (key : List ℕ) where
       same : turn.over ≡ false → turn.step.state.asked ≡ t.asked → parts_out turn.step.effects.sends ≡ 0
           → Parts t body turn
       asks : turn.over ≡ false → t.asked ≡ None
-          → parts_out turn.step.effects.sends ≤ one_if (is_on_key key turn.step.state.asked) → Parts t body turn
+          → parts_out turn.step.effects.sends ≤ one_if (is_on_key key turn.step.state.asked)
+          → is_aborting t.phase ≡ false → AreUnbacked tx turn.step.effects.sends → Parts t body turn
       answered : one_if (is_on_key key t.asked) ≤ one_if (is_part_on tx key body)
           → parts_out turn.step.effects.sends ≡ 0 → Parts t body turn
       free : t.asked ≡ None → parts_out turn.step.effects.sends ≡ 0 → Parts t body turn
@@ -222,8 +233,10 @@ module _ (tx : TxId) (key : List ℕ) where
             (plain_out (go_on_if node layout tx t at true).effects.sends
             (rest_of_kind is_plain layout tx plain_chains node t at (front_plain t.phase)));
         operates = λ op is can.
-            asks refl (ready_is t.phase t.asked (and_parts (is_ready t.phase t.asked) (fits t.touched (key_of op)) can).0).1
-            (omega (arith, ap (λ b. one_if (b && same_key (key_of op) key)) (same_tx-self tx)));
+            let opened = ready_is t.phase t.asked (and_parts (is_ready t.phase t.asked) (fits t.touched (key_of op)) can).0
+            in
+            asks refl opened.1 (omega (arith, ap (λ b. one_if (b && same_key (key_of op) key)) (same_tx-self tx)))
+            (ap is_aborting opened.0) (refl, tt);
         answers = λ own answer asked is on at. answered (own_answer own asked on (ap (is_part_on tx key) is)) refl;
         late = λ own asked why verifying awaited is on at.
             answered (own_answer own asked on (row_answer own is))

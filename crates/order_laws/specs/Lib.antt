@@ -2,6 +2,7 @@ pub mod Aborting
 pub mod Awaited
 pub mod Carried
 pub mod Completing
+pub mod First
 pub mod Gone
 pub mod LetGo
 pub mod Records

@@ -3,6 +3,7 @@ ghost use Rattle.order_laws.specs.Aborting.{GivenUpHoldersWait};
 ghost use Rattle.order_laws.specs.Awaited.{AllIsAwaited};
 ghost use Rattle.order_laws.specs.Carried.{CarriedOutStayOut};
 ghost use Rattle.order_laws.specs.Completing.{CompletedLetGo};
+ghost use Rattle.order_laws.specs.First.{GivenUpAreOutAtFirst};
 ghost use Rattle.order_laws.specs.Gone.{WhoHasGoneIsOut};
 ghost use Rattle.order_laws.specs.LetGo.{HoldersAreEnding, HoldersHaveLetGo, LaterHoldersAreGivenUp, WhoLetsGoIsOver};
 ghost use Rattle.order_laws.specs.Records.{HoldersHaveRecords, WhoCommitsHasWritten};
@@ -89,4 +90,10 @@ pub fn who_is_away_is_out()
 #[tactic(auto, using(crate::proofs::Aborting::given_up_holders_wait))]
 pub fn given_up_holders_wait()
     ensures { GivenUpHoldersWait }
+{}
+
+/// Where nothing is under way, a transaction that is given up neither holds the lock of a key at its
+/// primary nor waits for it.
+pub fn given_up_are_out_at_first()
+    ensures { GivenUpAreOutAtFirst }
 {}
