@@ -29,4 +29,5 @@ pub mod Sources
 pub mod Standing
 pub mod Unanswered
 pub mod UnansweredTurns
+pub mod Writers
 pub mod Written

@@ -8,3 +8,4 @@ pub mod LetGo
 pub mod Records
 pub mod Standing
 pub mod Unanswered
+pub mod Writers

@@ -9,6 +9,7 @@ ghost use Rattle.order_laws.specs.LetGo.{HoldersAreEnding, HoldersHaveLetGo, Lat
 ghost use Rattle.order_laws.specs.Records.{HoldersHaveRecords, WhoCommitsHasWritten};
 ghost use Rattle.order_laws.specs.Standing.{WhoIsAwayIsOut};
 ghost use Rattle.order_laws.specs.Unanswered.{PartsAreUnanswered};
+ghost use Rattle.order_laws.specs.Writers.{HoldersBehindDontWait};
 
 /// After every run: whom a transaction waits for at a place of a key's chain behind the first has let
 /// go of the key at the place in front, by an abort, by a completion, or by its commit at the primary.
@@ -96,4 +97,10 @@ pub fn given_up_holders_wait()
 /// primary nor waits for it.
 pub fn given_up_are_out_at_first()
     ensures { GivenUpAreOutAtFirst }
+{}
+
+/// Who holds the lock of a key at a place of its chain behind the first doesn't wait for it there.
+#[tactic(auto, using(crate::proofs::Writers::holders_behind_dont_wait))]
+pub fn holders_behind_dont_wait()
+    ensures { HoldersBehindDontWait }
 {}
