@@ -7,10 +7,9 @@ use Rattle.std.proofs.lemmas.Bool.Decides.{nat_tests}
 use Rattle.std.specs.List.{list_any}
 use Rattle.std.specs.Prelude.{◌-◌, ◌==◌, ◌&&◌, ◌||◌, if◌then◌else◌, nat_le, nat_lt, Option, None, Some}
 use Rattle.run_theory.proofs.Runs.{log_of-other, log_of-own}
-use Rattle.run_theory.proofs.Tally.{Counted, counted}
+use Rattle.run_theory.proofs.Tally.{counted}
 use Rattle.run_theory.specs.Counts.{one_if, tally, total}
-use Rattle.run_theory.specs.Lists.{Each}
-use Rattle.sig_core.proofs.Keys.{same_key-self, same_tx-self}
+use Rattle.sig_core.proofs.Keys.{same_tx-self}
 use Rattle.sig_core.proofs.TxLemmas.{same_tx-is, same_tx-swap}
 use Rattle.sig_core.specs.declared.member.Member.{Member}
 use Rattle.sig_core.specs.declared.member.TxId.{TxId}
@@ -31,11 +30,8 @@ use Rattle.sig_core.specs.Same.{same_key, same_tx}
 use Rattle.sig_core.specs.Step.{Effects, Step}
 use Rattle.sig_core.specs.Work.{work_key}
 use Rattle.frag_map.proofs.FirstReplicas.{few_replicas}
-use Rattle.frag_map.specs.Layout.{Layout, chain_of, first_layout}
-use Rattle.row_locks.specs.Holders.{holds}
+use Rattle.frag_map.specs.Layout.{Layout, first_layout}
 use Rattle.lqh_block.proofs.IndexLemmas as keys
-use Rattle.lqh_block.specs.declared.request.Request.{Request}
-use Rattle.lqh_block.specs.Lqh.{lqh_table}
 use Rattle.lqh_block.specs.State.{LqhState}
 use Rattle.lqh_block.specs.Work.{is_for}
 use Rattle.tc_block.proofs.LiveKeeps.{SendsBeside}
@@ -44,27 +40,25 @@ use Rattle.tc_block.specs.Abort.{replica_count}
 use Rattle.tc_block.specs.declared.phase.Phase.{Phase}
 use Rattle.tc_block.specs.declared.phase.Phase.TheVariants.{Open, Verifying, Committing, Completing, Aborting}
 use Rattle.tc_block.specs.declared.sends.TheConstants.{SENDS}
-use Rattle.tc_block.specs.declared.touched.TheConstants.{KEYS}
 use Rattle.tc_block.specs.declared.touched.Touched.{Touched}
 use Rattle.tc_block.specs.declared.transaction.Transaction.{Transaction}
-use Rattle.tc_block.specs.Operate.{fresh}
 use Rattle.tc_block.specs.Phases.{is_aborting}
 use Rattle.tc_block.specs.Sends.{phase_sends}
 use Rattle.tc_block.specs.State.{TcState}
-use Rattle.tc_block.specs.Tc.{next_tx, tc_row}
+use Rattle.tc_block.specs.Tc.{tc_row}
 use Rattle.tc_block.specs.Turn.{Turn}
 use Rattle.node_core.proofs.HostCases.{BlockCase, IsRowsStep, IsTcStep, api_takes, block_case, dih_takes, none_takes, rows_take}
-use Rattle.node_core.proofs.HostCases.{runs, tc_takes}
-use Rattle.node_core.specs.Blocks.{api_of, dih_of, has_lqh, lqh_of, tc_of}
+use Rattle.node_core.proofs.HostCases.{tc_takes}
+use Rattle.node_core.specs.Blocks.{has_lqh, lqh_of, tc_of}
 use Rattle.node_core.specs.declared.host.Host as host
 use Rattle.node_core.specs.Requests.{is_request}
 use Rattle.node_core.specs.Row.{row}
-use Rattle.world_core.specs.Hosts.{home, hosts, rows_host, tc_host}
+use Rattle.world_core.specs.Hosts.{home, host_for, hosts, rows_host, tc_host}
 use Rattle.world_core.specs.Machine.{after, machine, signals_of, step_after}
 use Rattle.world_core.specs.Start.{Start}
 use Rattle.world_core.specs.Steps.{Addressed, HostStep}
 use Rattle.key_laws.specs.Replica.{aborts, event_at, rests}
-use Rattle.host_laws.proofs.BlocksAlong.{first_live, tc_layout}
+use Rattle.host_laws.proofs.BlocksAlong.{tc_layout}
 use Rattle.run_laws.proofs.KeyTokens.{is_rows}
 use Rattle.host_laws.proofs.LqhOps.{is_lqh, true_and}
 use Rattle.host_laws.proofs.OfLive.{each_found}
@@ -78,7 +72,7 @@ use Rattle.host_laws.proofs.TurnKinds.{OwnKinds, TurnOnly, own_kinds}
 use Rattle.host_laws.proofs.Wishes.{is_tc}
 use Rattle.host_laws.specs.Live.{of_live}
 use Rattle.host_laws.specs.ReplicaLaws.{event_in}
-use Rattle.host_laws.specs.Ways.{Way, back_by, put_ways, sent_ways, tc_sends, way_of}
+use Rattle.host_laws.specs.Ways.{back_by, put_ways, sent_ways, tc_sends, way_of}
 use Rattle.run_laws.specs.GivenUp.{is_given_up}
 use Rattle.run_laws.specs.Live.{live_at, of_host}
 use Rattle.run_laws.specs.Routes.{IsForBlock, IsRequestRouted, IsRouted, replica_host, replicas}
@@ -88,7 +82,7 @@ use Rattle.run_laws.proofs.Always.{few_touched}
 use Rattle.run_laws.proofs.HomeSteps.{IsHome, all_home, away, here_now, here_was, own_home}
 use Rattle.run_laws.proofs.LiveOf.{of_each}
 use Rattle.run_laws.proofs.RoutedEvents.{IsPlaced, coming_are_routed, placed, placed_runs}
-use Rattle.run_laws.proofs.RoutesChain.{hosts_are_apart, replicas_some}
+use Rattle.run_laws.proofs.RoutesChain.{hosts_are_apart}
 use Rattle.run_laws.proofs.RowsEvents.{event_missed, event_off, event_rows}
 use Rattle.run_laws.proofs.StepFades.{now_other, now_own}
 use Rattle.run_laws.proofs.TcSaid.{idle_silent, tc_silent, tc_speaks}
@@ -100,9 +94,8 @@ use Rattle.run_laws.proofs.TxTurns as turn
 use Rattle.run_laws.proofs.TxTurns.{OthersSend, TcTurn, is_for as is_for_tx, tc_turn, turn_each}
 use Rattle.run_laws.proofs.Weighing.{each_taken, in_sends, in_transit, joins_weigh, none_passes, takes_weigh, weigh}
 use Rattle.order_laws.specs.Aborting.{GivenUpHoldersWait, WaitsFrom}
-use Rattle.order_laws.specs.Awaited.{IsAwaited, awaited_in, due, due_in, list_length}
+use Rattle.order_laws.specs.Awaited.{IsAwaited, due, due_in, list_length}
 use Rattle.order_laws.specs.Gone.{gone_by}
-use Rattle.order_laws.specs.LetGo.{lock_at_place}
 use Rattle.order_laws.specs.Standing.{is_away}
 use Rattle.order_laws.specs.Unanswered.{asks_on, is_on_key, is_part_on}
 use Rattle.order_laws.proofs.AbortingTurns as back
@@ -113,7 +106,8 @@ use Rattle.order_laws.proofs.Awaited.{all_is_awaited}
 use Rattle.order_laws.proofs.AwaitedSends.{phase_long}
 use Rattle.order_laws.proofs.Further.{further_out, further_part, is_from, is_further, lqh_further}
 use Rattle.order_laws.proofs.Leads.{any_sent, lead}
-use Rattle.order_laws.proofs.Standing.{IsKnown, came_back, standers_known, who_is_away_is_out}
+use Rattle.order_laws.proofs.Standing.{came_back, standers_known, who_is_away_is_out}
+use Rattle.order_laws.proofs.Still.{IsZero, coordinator_low, home_for, home_low, none_weigh, replica_low}
 use Rattle.order_laws.proofs.Unanswered.{parts_are_unanswered}
 use Rattle.order_laws.proofs.UnansweredTurns.{AreUnbacked, is_backing}
 
@@ -957,8 +951,8 @@ some_counted (suc n) f some = by (f n) refl (some_counted n f)
     by zero is more = let rest = more (omega (arith, some, is)) in record { at = rest.at; some = rest.some }
 
 pub given_up_holders_wait : GivenUpHoldersWait
-given_up_holders_wait start es key at tx run transit inside given holding =
-    by (ending_along start tx key at inside es [] run transit given stands)
+given_up_holders_wait start es xs key at tx run still inside given holding =
+    by (ending_along start tx key at inside es xs run still.transit given stands)
   where
     hp : ℕ
     hp = replica_host start key at
@@ -971,11 +965,71 @@ given_up_holders_wait start es key at tx run transit inside given holding =
         which true is =
             absurd (true≢false (sym holding ∙ (who_is_away_is_out start es key at tx run inside is).unheld))
 
-    by : IsEnding start tx key at inside (logs_of start es) [] (live_at start (logs_of start es) tx)
+    low : home start tx < hosts start
+    low = home_low start es tx run (inl given)
+
+    none_wanted : (list : List Outgoing) → in_transit (wanted start tx key at inside list) xs ≡ 0
+    none_wanted list = none_weigh start es xs run still (wanted start tx key at inside list) at_place
+      where
+        by_home : (other : TxId) (place : ℕ) (to : Place) → hosts start ≤ host_for start to → (b : Bool)
+            → (is_tc to.block && (to.node == tx.tc)) ≡ b
+            → one_if (b && (same_tx other tx
+            && any_sent (is_abort_to tx key (node_at (replicas start key) at)) (drop place list))) ≡ 0
+        by_home other place to high false is = refl
+        by_home other place to high true is = absurd (omega (arith, high, home_for start tx low to is))
+
+        by_node : (to : Place) (c : Bool) → hosts start ≤ host_for start to → (a b : Bool)
+            → (to.node == node_at (replicas start key) at) ≡ b → one_if ((a && b) && c) ≡ 0
+        by_node to c high true true is =
+            absurd (omega (
+              arith,
+              high,
+              replica_low start es xs run still key at inside to (eqb-true to.node (node_at (replicas start key) at) is),
+            ))
+        by_node to c high true false is = refl
+        by_node to c high false b is = refl
+
+        at_place : IsZero start es xs run still (wanted start tx key at inside list)
+        at_place to (Chain (Abort other own)) routed home high =
+            by_node to (same_tx other tx && same_key own key) high (is_lqh to.block)
+            (to.node == node_at (replicas start key) at) refl
+        at_place to (Host (Continue (work.Transaction other) place)) routed home high =
+            by_home other place to high (is_tc to.block && (to.node == tx.tc)) refl
+        at_place to _ routed home high = refl
+
+    none_further_on : tally (λ (x : Addressed). is_further tx key at x.signal.body) xs ≡ 0
+    none_further_on =
+        tally_is start tx key at inside xs
+        ∙ none_weigh start es xs run still (λ to body. one_if (is_further tx key at body)) at_place
+      where
+        answer : (v : TxId) (own : List ℕ) (to : Place) → hosts start ≤ host_for start to → to ≡ coordinator_of v
+            → (b : Bool) → same_tx v tx ≡ b → one_if (b && same_key own key) ≡ 0
+        answer v own to high is true same =
+            absurd (omega (
+              arith,
+              high,
+              coordinator_low start tx low to (is ∙ ap coordinator_of (same_tx-is v tx same)),
+            ))
+        answer v own to high is false same = refl
+
+        at_place : IsZero start es xs run still (λ to body. one_if (is_further tx key at body))
+        at_place to (Chain (LqhKeyReq v work chain place)) routed home high =
+            absurd (omega (
+              arith,
+              high,
+              replica_low start es xs run still (work_key work) place
+                  (subst (λ (c : List Member). place < length c) routed.chain routed.sent.inside) to
+                  (routed.sent.node_is ∙ ap (λ c. node_at c place) routed.chain),
+            ))
+        at_place to (Chain (LqhKeyConf v own a)) routed home high = answer v own to high home (same_tx v tx) refl
+        at_place to (Chain (LqhKeyRef v own why)) routed home high = answer v own to high home (same_tx v tx) refl
+        at_place to _ routed home high = refl
+
+    by : IsEnding start tx key at inside (logs_of start es) xs (live_at start (logs_of start es) tx)
         → WaitsFrom start (logs_of start es) tx key at
-    by (inl some) = absurd (omega (arith, some))
+    by (inl some) = absurd (omega (arith, some, none_wanted (list_at start tx key at inside (live_at start (logs_of start es) tx))))
     by (inr some) = waits (some_counted (hosts start)
-        (λ k. tally (is_from tx key at) (lqh_of (after start k (logs_of start es k))).waiting) (omega (arith, some)))
+        (λ k. tally (is_from tx key at) (lqh_of (after start k (logs_of start es k))).waiting) (omega (arith, some, none_further_on)))
       where
         waits : CountedAt (hosts start)
             (λ k. tally (is_from tx key at) (lqh_of (after start k (logs_of start es k))).waiting)

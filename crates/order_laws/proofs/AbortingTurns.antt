@@ -8,8 +8,7 @@ use Rattle.std.specs.Prelude.{◌==◌, ◌&&◌, ◌||◌, nat_lt, Option, None
 use Rattle.run_theory.proofs.EachSent.{each_drop, each_flat, each_mapped, each_take}
 use Rattle.run_theory.proofs.Pasts.{each_append}
 use Rattle.run_theory.specs.Counts.{one_if}
-use Rattle.run_theory.specs.Lists.{Each}
-use Rattle.sig_core.proofs.Keys.{same_key-self, same_tx-self}
+use Rattle.sig_core.proofs.Keys.{same_tx-self}
 use Rattle.sig_core.specs.declared.member.Member.{Member}
 use Rattle.sig_core.specs.declared.member.TxId.{TxId}
 use Rattle.sig_core.specs.declared.outcome.AbortCause.{AbortCause}
@@ -17,9 +16,8 @@ use Rattle.sig_core.specs.declared.outs.Outgoing.{Outgoing}
 use Rattle.sig_core.specs.declared.place.Place.{Place}
 use Rattle.sig_core.specs.declared.portion.TheConstants.{PORTION}
 use Rattle.sig_core.specs.declared.signal.Body.{Body}
-use Rattle.sig_core.specs.declared.signal.Body.TheVariants.{Chain, Client, Host}
+use Rattle.sig_core.specs.declared.signal.Body.TheVariants.{Chain, Host}
 use Rattle.sig_core.specs.declared.signal.chain.ChainSignal.TheVariants.{Abort, LqhKeyConf, LqhKeyRef, LqhKeyReq}
-use Rattle.sig_core.specs.declared.signal.client.ClientSignal.TheVariants.{TcRollbackRep}
 use Rattle.sig_core.specs.declared.signal.host.HostSignal.TheVariants.{Continue}
 use Rattle.sig_core.specs.declared.signal.host.Work.TheVariants as work
 use Rattle.sig_core.specs.Chain.{node_at}
@@ -39,11 +37,11 @@ use Rattle.tc_block.specs.declared.transaction.Transaction.{Transaction}
 use Rattle.tc_block.specs.Operate.{asked_if, asked_on, is_ready, late_answer, wait_by}
 use Rattle.tc_block.specs.Part.{part_effects, rest_if}
 use Rattle.tc_block.specs.Phases.{is_aborting}
-use Rattle.tc_block.specs.Sends.{abort_of, aborts_of, complete_if, entering, front_sends, go_on_if, key_sends, phase_sends}
+use Rattle.tc_block.specs.Sends.{aborts_of, complete_if, entering, front_sends, go_on_if, key_sends, phase_sends}
 use Rattle.tc_block.specs.Sends.{wait_of, waits_of}
 use Rattle.tc_block.specs.Touched.{fits, is_on}
 use Rattle.tc_block.specs.Turn.{Turn, asking, at_phase, going}
-use Rattle.tc_block.proofs.EachTurn.{AbortForms, CommittedForms, IsAnswered, IsMissed, IsRowAnswer, TurnFormsAt, by_conf}
+use Rattle.tc_block.proofs.EachTurn.{AbortForms, CommittedForms, IsMissed, IsRowAnswer, TurnFormsAt, by_conf}
 use Rattle.tc_block.proofs.EachTurn.{by_ref, is_onward, may_ask, ready_is, rows_at}
 use Rattle.tc_block.proofs.TurnRows.{is_turn, tx_in, turn_for}
 use Rattle.host_laws.proofs.LqhOps.{is_lqh, true_and}

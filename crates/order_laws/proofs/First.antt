@@ -2,11 +2,11 @@
 -- comes behind the last request.
 use Rattle.std.proofs.Common.{◌≡◌, ◌≢◌, ◌⊎◌, ◌≤◌, ◌<◌, ◌+◌, ℕ, zero, suc, Bool, true, false, List, [], ◌∷◌, drop, length, refl, sym}
 use Rattle.std.proofs.Common.{ap, ◌∙◌, subst, arith, inl, inr, eq-eqb}
-use Rattle.std.proofs.lemmas.Bool.{and_parts, cases_eq, eqb-true, false≢true, true≢false}
+use Rattle.std.proofs.lemmas.Bool.{cases_eq, eqb-true, false≢true, true≢false}
 use Rattle.std.specs.List.{list_any}
-use Rattle.std.specs.Prelude.{◌==◌, ◌&&◌, ◌||◌, if◌then◌else◌, Option, None, Some}
+use Rattle.std.specs.Prelude.{◌==◌, ◌&&◌, if◌then◌else◌, Option, None, Some}
 use Rattle.run_theory.proofs.Runs.{log_of-other, log_of-own}
-use Rattle.run_theory.specs.Counts.{one_if, tally}
+use Rattle.run_theory.specs.Counts.{one_if}
 use Rattle.run_theory.specs.Links.{put, sent, taken}
 use Rattle.run_theory.specs.Lists.{Each}
 use Rattle.run_theory.proofs.Pasts.{each_map}
@@ -26,18 +26,17 @@ use Rattle.sig_core.specs.Place.{coordinator_of, rows_of}
 use Rattle.sig_core.specs.Same.{same_key, same_tx}
 use Rattle.sig_core.specs.Step.{Effects, Step}
 use Rattle.sig_core.specs.Work.{work_key}
-use Rattle.frag_map.specs.Layout.{Layout, chain_of, first_layout}
+use Rattle.frag_map.specs.Layout.{Layout, first_layout}
 use Rattle.tc_block.proofs.EachTurn.{is_onward}
 use Rattle.tc_block.proofs.LiveKeeps.{SendsBeside}
 use Rattle.tc_block.proofs.TurnRows.{turn_for}
-use Rattle.tc_block.specs.declared.sends.TheConstants.{SENDS}
 use Rattle.tc_block.specs.declared.transaction.Transaction.{Transaction}
 use Rattle.tc_block.specs.Phases.{is_aborting}
 use Rattle.tc_block.specs.Sends.{phase_sends}
 use Rattle.tc_block.specs.State.{TcState}
-use Rattle.tc_block.specs.Tc.{next_tx, tc_row}
+use Rattle.tc_block.specs.Tc.{tc_row}
 use Rattle.tc_block.specs.Turn.{Turn}
-use Rattle.node_core.proofs.HostCases.{BlockCase, IsRowsStep, IsTcStep, api_takes, block_case, dih_takes, none_takes, rows_take}
+use Rattle.node_core.proofs.HostCases.{BlockCase, IsTcStep, api_takes, block_case, dih_takes, none_takes, rows_take}
 use Rattle.node_core.proofs.HostCases.{tc_takes}
 use Rattle.node_core.specs.Blocks.{api_of, dih_of, has_lqh, has_tc, lqh_of, tc_of}
 use Rattle.node_core.specs.declared.host.Host as host
@@ -66,7 +65,7 @@ use Rattle.run_laws.specs.Live.{live_at, of_host}
 use Rattle.run_laws.specs.Routes.{replica_host, replicas}
 use Rattle.run_laws.specs.Transit.{AreInTransit, Comes, IsRun, Takes, joined, logs_of}
 use Rattle.run_laws.proofs.Addressed.{tc_addressed}
-use Rattle.run_laws.proofs.HomeSteps.{IsHome, all_home, away, here_now, here_was, own_home}
+use Rattle.run_laws.proofs.HomeSteps.{IsHome, all_home, away, here_now, here_was}
 use Rattle.run_laws.proofs.LiveOf.{of_each}
 use Rattle.run_laws.proofs.RoutesChain.{replicas_are_nodes, replicas_some}
 use Rattle.run_laws.proofs.TcSaid.{idle_silent, tc_silent, tc_speaks}
@@ -78,11 +77,11 @@ use Rattle.run_laws.proofs.TxSteps.{next_number, none_of}
 use Rattle.run_laws.proofs.TxTurns as turn
 use Rattle.run_laws.proofs.TxTurns.{OthersSend, TcTurn, is_for as is_for_tx, tc_turn}
 use Rattle.run_laws.proofs.WaysPassed.{api_each}
-use Rattle.run_laws.proofs.Weighing.{in_sends, in_transit, joins_weigh, none_passes, takes_weigh, weigh, weigh_less}
+use Rattle.run_laws.proofs.Weighing.{in_sends, in_transit, joins_weigh, none_passes, takes_weigh, weigh_less}
 use Rattle.order_laws.specs.Awaited.{IsAwaited, list_length}
 use Rattle.order_laws.specs.First.{GivenUpAreOutAtFirst}
 use Rattle.order_laws.specs.Standing.{is_away}
-use Rattle.order_laws.specs.Unanswered.{asks_on, is_part_on, parts_on}
+use Rattle.order_laws.specs.Unanswered.{asks_on, is_part_on}
 use Rattle.order_laws.proofs.Aborting as goes
 use Rattle.order_laws.proofs.Aborting.{beside_unbacked, given_same, others_unbacked}
 use Rattle.order_laws.proofs.AbortingTurns as back
@@ -90,8 +89,10 @@ use Rattle.order_laws.proofs.AbortingTurns.{Aborts, is_abort_to, place_there, tu
 use Rattle.order_laws.proofs.Awaited as awaited
 use Rattle.order_laws.proofs.Awaited.{all_is_awaited}
 use Rattle.order_laws.proofs.FirstTaken.{asks_last, last_by, taken_asks}
-use Rattle.order_laws.proofs.Leads.{any_sent, lead, leads}
+use Rattle.order_laws.proofs.Leads.{any_sent, lead}
 use Rattle.order_laws.proofs.Standing.{IsKnown, asks_known, known_next, who_is_away_is_out}
+use Rattle.order_laws.specs.Still.{IsStill}
+use Rattle.order_laws.proofs.Still.{IsZero, home_for, home_low, none_weigh, still_at_quiet}
 use Rattle.order_laws.proofs.Unanswered as part
 use Rattle.order_laws.proofs.Unanswered.{beside_apart, others_apart, parts_are_unanswered}
 use Rattle.order_laws.proofs.UnansweredTurns as parts
@@ -257,8 +258,11 @@ module _ (start : Start) (tx : TxId) (key : List ℕ) where
           none false c off = refl
       by true p false q c r is = (
         plain (host_for start to == replica_host start key 0) is,
-        omega (arith, ap (λ b. one_if ((is_lqh to.block && b) && (same_tx other tx && same_key own key))) q,
-            gone (is_lqh to.block)),
+        omega (
+          arith,
+          ap (λ b. one_if ((is_lqh to.block && b) && (same_tx other tx && same_key own key))) q,
+          gone (is_lqh to.block),
+        ),
       )
         where
           gone : (a : Bool) → one_if ((a && false) && (same_tx other tx && same_key own key)) ≡ 0
@@ -271,8 +275,11 @@ module _ (start : Start) (tx : TxId) (key : List ℕ) where
           plain false q = q
       by false p b q c r is = (
         plain (host_for start to == replica_host start key 0) is,
-        omega (arith, ap (λ a. one_if ((a && (to.node == node_at (replicas start key) 0))
-            && (same_tx other tx && same_key own key))) p),
+        omega (
+          arith,
+          ap (λ a. one_if ((a && (to.node == node_at (replicas start key) 0))
+              && (same_tx other tx && same_key own key))) p,
+        ),
       )
         where
           plain : (b : Bool) → (if b then (if same_tx other tx && same_key own key then false else was) else was) ≡ true
@@ -766,7 +773,7 @@ module _ (start : Start) (tx : TxId) (key : List ℕ) where
         (λ es e before between come transit was takes. holds_next es e come before between transit takes was)
 
 pub given_up_are_out_at_first : GivenUpAreOutAtFirst
-given_up_are_out_at_first start es key tx run transit quiet some low given =
+given_up_are_out_at_first start es key tx run quiet some low given =
     who_is_away_is_out start es key 0 tx run inside (by (is_away start key tx first (logs_of start es first)) refl)
   where
     inside : 0 < length (replicas start key)
@@ -782,12 +789,40 @@ given_up_are_out_at_first start es key tx run transit quiet some low given =
         quiet (home start tx) first (host_below start (coordinator_of tx) some low)
         (host_below start (rows_of (node_at (replicas start key) 0)) node.from node.to)
 
+    still : (xs : List Addressed) × IsStill start es xs
+    still = still_at_quiet start es run quiet
+
+    none_onward : in_transit (onward start tx key (list_at start tx key some low (live_at start (logs_of start es) tx))) still.0
+        ≡ 0
+    none_onward =
+        none_weigh start es still.0 run still.1
+        (onward start tx key (list_at start tx key some low (live_at start (logs_of start es) tx))) at_place
+      where
+        list : List Outgoing
+        list = list_at start tx key some low (live_at start (logs_of start es) tx)
+
+        by_home : (other : TxId) (place : ℕ) (to : Place) → hosts start ≤ host_for start to → (b : Bool)
+            → (is_tc to.block && (to.node == tx.tc)) ≡ b
+            → one_if (b && (same_tx other tx
+            && any_sent (is_abort_to tx key (node_at (replicas start key) 0)) (drop place
+            (list_at start tx key some low (live_at start (logs_of start es) tx))))) ≡ 0
+        by_home other place to high false is = refl
+        by_home other place to high true is =
+            absurd (omega (arith, high, home_for start tx (home_low start es tx run (inl given)) to is))
+
+        at_place : IsZero start es still.0 run still.1
+            (onward start tx key (list_at start tx key some low (live_at start (logs_of start es) tx)))
+        at_place to (Host (Continue (work.Transaction other) place)) routed home high =
+            by_home other place to high (is_tc to.block && (to.node == tx.tc)) refl
+        at_place to _ routed home high = refl
+
     by : (b : Bool) → is_away start key tx first (logs_of start es first) ≡ b
         → is_away start key tx first (logs_of start es first) ≡ true
     by true is = is
     by false is =
         absurd (omega (
           arith,
-          holds_along start tx key some low es [] run transit given
+          none_onward,
+          holds_along start tx key some low es still.0 run still.1.transit given
               (ap (asks_last tx key) (sym all_taken) ∙ taken_asks start tx key some low es run is),
         ))

@@ -1,91 +1,47 @@
 -- Who isn't away from the first place of a chain was last heard of there with a request.
-use Rattle.std.proofs.Common.{◌≡◌, ◌≢◌, ◌⊎◌, ◌≤◌, ◌<◌, ◌+◌, ℕ, zero, suc, Bool, true, false, List, [], ◌∷◌, drop, length, refl, sym}
-use Rattle.std.proofs.Common.{ap, ◌∙◌, subst, arith, inl, inr, eq-eqb, not}
-use Rattle.std.proofs.lemmas.Bool.{and_parts, cases_eq, eqb-true, false≢true, true≢false}
-use Rattle.std.specs.List.{list_any}
-use Rattle.std.specs.Prelude.{◌==◌, ◌&&◌, ◌||◌, if◌then◌else◌, Option, None, Some}
+use Rattle.std.proofs.Common.{◌≡◌, ◌≢◌, ◌⊎◌, ◌≤◌, ◌<◌, ℕ, Bool, true, false, List, [], ◌∷◌, length, refl, sym}
+use Rattle.std.proofs.Common.{ap, ◌∙◌, subst, inl, inr, eq-eqb, not}
+use Rattle.std.proofs.lemmas.Bool.{and_parts, cases_eq, false≢true, true≢false}
+use Rattle.std.specs.Prelude.{◌==◌, ◌&&◌, ◌||◌, if◌then◌else◌}
 use Rattle.run_theory.proofs.Runs.{log_of-other, log_of-own}
-use Rattle.run_theory.specs.Counts.{one_if, tally}
-use Rattle.run_theory.specs.Links.{put, sent, taken}
-use Rattle.run_theory.specs.Lists.{Each}
-use Rattle.sig_core.proofs.Keys.{same_key-self, same_tx-self}
+use Rattle.run_theory.specs.Links.{taken}
+use Rattle.sig_core.proofs.Keys.{same_tx-self}
 use Rattle.sig_core.proofs.TxLemmas.{same_tx-is}
 use Rattle.sig_core.specs.declared.member.TxId.{TxId}
-use Rattle.sig_core.specs.declared.outs.Outgoing.{Outgoing}
 use Rattle.sig_core.specs.declared.place.BlockId.{BlockId}
 use Rattle.sig_core.specs.declared.place.BlockId.TheVariants as block
 use Rattle.sig_core.specs.declared.place.Place.{Place}
 use Rattle.sig_core.specs.declared.signal.Body.{Body}
-use Rattle.sig_core.specs.declared.signal.Body.TheVariants.{Chain, Client, Epoch, Host}
+use Rattle.sig_core.specs.declared.signal.Body.TheVariants.{Chain}
 use Rattle.sig_core.specs.declared.signal.chain.ChainSignal.TheVariants.{Abort, LqhKeyConf, LqhKeyRef, LqhKeyReq}
-use Rattle.sig_core.specs.declared.signal.chain.RowWork.{RowWork}
-use Rattle.sig_core.specs.declared.signal.host.HostSignal.TheVariants.{Continue}
-use Rattle.sig_core.specs.declared.signal.host.Work.TheVariants as work
-use Rattle.sig_core.specs.Chain.{node_at}
 use Rattle.sig_core.specs.Place.{coordinator_of}
 use Rattle.sig_core.specs.Same.{same_key, same_tx}
-use Rattle.sig_core.specs.Step.{Effects, Step}
 use Rattle.sig_core.specs.Work.{work_key}
-use Rattle.frag_map.specs.Layout.{Layout, first_layout}
 use Rattle.lqh_block.proofs.IndexLemmas as keys
-use Rattle.tc_block.proofs.EachTurn.{is_onward}
-use Rattle.tc_block.proofs.LiveKeeps.{SendsBeside}
-use Rattle.tc_block.proofs.TurnRows.{turn_for}
-use Rattle.tc_block.specs.declared.transaction.Transaction.{Transaction}
-use Rattle.tc_block.specs.Phases.{is_aborting}
-use Rattle.tc_block.specs.Sends.{phase_sends}
-use Rattle.tc_block.specs.State.{TcState}
-use Rattle.tc_block.specs.Tc.{next_tx, tc_row}
-use Rattle.tc_block.specs.Turn.{Turn}
-use Rattle.node_core.proofs.HostCases.{BlockCase, IsRowsStep, IsTcStep, api_takes, block_case, dih_takes, none_takes, rows_take}
-use Rattle.node_core.proofs.HostCases.{tc_takes}
-use Rattle.node_core.specs.Blocks.{api_of, dih_of, has_lqh, has_tc, lqh_of, tc_of}
+use Rattle.node_core.specs.Blocks.{lqh_of}
 use Rattle.node_core.specs.declared.host.Host as host
-use Rattle.node_core.specs.declared.host.Host.TheVariants.{Ldm, Main, Shell, Tc}
 use Rattle.node_core.specs.Requests.{is_request}
-use Rattle.node_core.specs.Row.{row}
-use Rattle.world_core.proofs.HostNumbers.{tc_runs}
-use Rattle.world_core.specs.Hosts.{first_membership, home, host_for, hosts, rows_host, tc_host}
-use Rattle.world_core.specs.Machine.{addressed, after, all_addressed, counted, machine, sent_count, signals_of, step_after}
-use Rattle.world_core.specs.Quiet.{IsQuiet}
+use Rattle.world_core.specs.Hosts.{home}
+use Rattle.world_core.specs.Machine.{after, machine}
 use Rattle.world_core.specs.Start.{Start}
 use Rattle.world_core.specs.Steps.{Addressed, HostStep}
 use Rattle.key_laws.specs.Replica.{aborts, event_at, rests}
-use Rattle.host_laws.proofs.ApiMoves.{is_api_kind}
-use Rattle.host_laws.proofs.BlocksAlong.{tc_layout}
-use Rattle.host_laws.proofs.DihSends.{dih_kinds}
-use Rattle.host_laws.proofs.LqhOps.{is_lqh}
-use Rattle.host_laws.proofs.SendKinds.{each_of, is_dih_kind}
-use Rattle.host_laws.proofs.TcLives.{IsOwn}
-use Rattle.host_laws.proofs.TcSteps.{left_of_turn}
-use Rattle.host_laws.proofs.Wishes.{is_tc}
-use Rattle.host_laws.specs.Live.{of_live}
 use Rattle.host_laws.specs.ReplicaLaws.{event_in}
-use Rattle.run_laws.specs.GivenUp.{is_given_up}
-use Rattle.run_laws.specs.Live.{live_at, of_host}
-use Rattle.run_laws.specs.Routes.{IsForBlock, IsRequestRouted, IsRouted, primary_host, replica_host, replicas}
-use Rattle.run_laws.specs.Transit.{AreInTransit, Comes, IsRun, Takes, joined, logs_of}
-use Rattle.run_laws.proofs.Addressed.{comes_below, rows_addressed, tc_addressed}
-use Rattle.run_laws.proofs.HomeSteps.{IsHome, all_home, away, here_now, here_was, own_home}
+use Rattle.run_laws.specs.Routes.{IsForBlock, IsRequestRouted, IsRouted, replica_host, replicas}
+use Rattle.run_laws.specs.Transit.{Comes, IsRun, logs_of}
+use Rattle.run_laws.proofs.Addressed.{rows_addressed}
 use Rattle.run_laws.proofs.KeyTokens.{is_rows}
-use Rattle.run_laws.proofs.LiveOf.{of_each}
 use Rattle.run_laws.proofs.RoutedEvents.{coming_are_routed, placed, placed_runs}
 use Rattle.run_laws.proofs.RoutesChain.{hosts_are_apart, replicas_some}
-use Rattle.run_laws.proofs.RowsEvents.{event_missed, event_off, event_rows}
-use Rattle.run_laws.proofs.Transit.{along_transit, comes, earlier}
-use Rattle.run_laws.proofs.TransitRuns.{runs_have_transit, taking}
-use Rattle.run_laws.proofs.TxSteps.{next_number, none_of}
-use Rattle.run_laws.proofs.TxTurns as turn
-use Rattle.run_laws.proofs.TxTurns.{OthersSend, TcTurn, is_for as is_for_tx, tc_turn}
-use Rattle.run_laws.proofs.WaysPassed.{api_each}
-use Rattle.run_laws.proofs.Weighing.{each_taken, in_sends, in_transit, joins_weigh, takes_weigh, weigh}
+use Rattle.run_laws.proofs.RowsEvents.{event_off, event_rows}
+use Rattle.run_laws.proofs.Transit.{comes, earlier}
+use Rattle.run_laws.proofs.TransitRuns.{taking}
+use Rattle.run_laws.proofs.Weighing.{each_taken}
 use Rattle.order_laws.specs.Gone.{gone_by}
 use Rattle.order_laws.specs.Standing.{is_away}
-use Rattle.order_laws.specs.Unanswered.{asks_on, is_part_on}
-use Rattle.order_laws.proofs.AbortingTurns.{is_abort_to}
+use Rattle.order_laws.specs.Unanswered.{is_part_on}
 use Rattle.order_laws.proofs.FirstSources.{IsFromHome, homes_along}
-use Rattle.order_laws.proofs.Leads.{any_sent, lead, leads}
-use Rattle.order_laws.proofs.Standing.{came_back, who_is_away_is_out}
+use Rattle.order_laws.proofs.Standing.{came_back}
 
 rows_is : (b : BlockId) → is_rows b ≡ true → b ≡ block.Lqh
 rows_is block.Lqh is = refl

@@ -27,6 +27,7 @@ pub mod Performs
 pub mod Records
 pub mod Sources
 pub mod Standing
+pub mod Still
 pub mod Unanswered
 pub mod UnansweredTurns
 pub mod Writers

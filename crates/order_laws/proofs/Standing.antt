@@ -1,16 +1,13 @@
 -- Who has come to a key and not let go of it since has touched the key at its coordinator.
-use Rattle.std.proofs.Common.{◌≡◌, ◌≢◌, ◌⊎◌, ◌≤◌, ◌<◌, ◌+◌, ℕ, Bool, true, false, List, [], ◌∷◌, length, refl, sym, ap, ◌∙◌}
+use Rattle.std.proofs.Common.{◌≡◌, ◌≢◌, ◌⊎◌, ◌<◌, ℕ, Bool, true, false, List, [], ◌∷◌, refl, sym, ap, ◌∙◌}
 use Rattle.std.proofs.Common.{subst, arith, inl, inr}
-use Rattle.std.proofs.lemmas.Bool.{and_parts, cases_eq, false≢true, or_right, true≢false}
-use Rattle.std.specs.List.{list_any}
-use Rattle.std.specs.Prelude.{◌==◌, ◌&&◌, ◌||◌, if◌then◌else◌, Option, None, Some}
+use Rattle.std.proofs.lemmas.Bool.{cases_eq, false≢true, or_right, true≢false}
+use Rattle.std.specs.Prelude.{◌==◌, ◌&&◌, if◌then◌else◌, Option, None, Some}
 use Rattle.run_theory.proofs.Runs.{log_of-other, log_of-own}
 use Rattle.run_theory.specs.Counts.{one_if, tally}
-use Rattle.run_theory.specs.Lists.{Each}
 use Rattle.sig_core.specs.declared.member.TxId.{TxId}
 use Rattle.sig_core.specs.declared.op.Answer.{Answer}
 use Rattle.sig_core.specs.declared.op.Answer.TheVariants as answer
-use Rattle.sig_core.specs.declared.op.Op.{Op}
 use Rattle.sig_core.specs.declared.outcome.AbortCause.{AbortCause}
 use Rattle.sig_core.specs.declared.signal.Body.{Body}
 use Rattle.sig_core.specs.declared.signal.Body.TheVariants.{Host, Chain}
@@ -30,13 +27,11 @@ use Rattle.lqh_block.specs.State.{LqhState, storage_of}
 use Rattle.tc_block.proofs.EachTurn.{AbortForms, CommittedForms, TurnForms, rows_of}
 use Rattle.tc_block.proofs.TurnRows.{turn_for}
 use Rattle.tc_block.specs.declared.phase.Asked.{Asked}
-use Rattle.tc_block.specs.declared.touched.Touched.{Touched}
 use Rattle.tc_block.specs.declared.transaction.Transaction.{Transaction}
 use Rattle.tc_block.specs.Operate.{touched_after}
 use Rattle.tc_block.specs.Sends.{entering}
 use Rattle.tc_block.specs.State.{TcState}
 use Rattle.tc_block.specs.Turn.{Turn, asking}
-use Rattle.node_core.proofs.HostCases.{IsTcStep}
 use Rattle.node_core.specs.Blocks.{lqh_of, tc_of}
 use Rattle.node_core.specs.declared.host.Host as host
 use Rattle.node_core.specs.Requests.{is_request}
@@ -56,8 +51,8 @@ use Rattle.host_laws.specs.ReplicaLaws.{event_in, key_in}
 use Rattle.host_laws.specs.Ways.{back_by, sent_ways}
 use Rattle.run_laws.specs.Keyed.{HasTouched, HasTouchedAsked}
 use Rattle.run_laws.specs.Live.{live_at, of_host}
-use Rattle.run_laws.specs.Routes.{replica_host, replicas}
-use Rattle.run_laws.specs.Transit.{AreInTransit, Comes, IsRun, Takes, logs_of}
+use Rattle.run_laws.specs.Routes.{replica_host}
+use Rattle.run_laws.specs.Transit.{Comes, IsRun, logs_of}
 use Rattle.run_laws.proofs.HomeSteps.{IsHome, all_home, away, here_now, here_was, own_home}
 use Rattle.run_laws.proofs.LiveOf.{of_each}
 use Rattle.run_laws.proofs.RowsEvents.{EventCase, event_case, no_event, of_rows}
@@ -68,15 +63,15 @@ use Rattle.run_laws.proofs.Transit.{comes, earlier}
 use Rattle.run_laws.proofs.TransitRuns.{taking}
 use Rattle.run_laws.proofs.TxSteps.{next_number, number_rises}
 use Rattle.run_laws.proofs.TxTurns.{is_for as is_for_tx, turn_each}
-use Rattle.run_laws.proofs.Weighing.{each_taken, in_transit, none_passes}
-use Rattle.order_laws.specs.Gone.{IsOut, gone_by}
+use Rattle.run_laws.proofs.Weighing.{each_taken, none_passes}
+use Rattle.order_laws.specs.Gone.{gone_by}
 use Rattle.order_laws.specs.Standing.{WhoIsAwayIsOut, is_away}
-use Rattle.order_laws.specs.Unanswered.{asks_on, is_on_key, is_part_on, parts_on}
+use Rattle.order_laws.specs.Unanswered.{asks_on, is_on_key, is_part_on}
 use Rattle.order_laws.proofs.Attended.{first_idle}
 use Rattle.order_laws.proofs.Awaited as fare
 use Rattle.order_laws.proofs.Awaited.{Fares, fares}
 use Rattle.order_laws.proofs.Carried.{is_asked_by}
-use Rattle.order_laws.proofs.Gone.{IsAway, IsAwayFrom, away_after, not_true}
+use Rattle.order_laws.proofs.Gone.{IsAwayFrom, away_after, not_true}
 use Rattle.order_laws.proofs.Unanswered.{parts_are_unanswered}
 
 -- who is away at a place of a chain is out of its lock

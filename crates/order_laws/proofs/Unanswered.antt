@@ -5,7 +5,6 @@ use Rattle.std.proofs.lemmas.Bool.{cases_eq, false≢true}
 use Rattle.std.specs.Prelude.{◌&&◌, if◌then◌else◌, Option, None, Some}
 use Rattle.run_theory.proofs.Runs.{log_of-other, log_of-own}
 use Rattle.run_theory.specs.Counts.{one_if, tally, total}
-use Rattle.run_theory.specs.Lists.{Each}
 use Rattle.sig_core.proofs.Keys.{same_tx-self}
 use Rattle.sig_core.specs.declared.member.TxId.{TxId}
 use Rattle.sig_core.specs.declared.outs.Outgoing.{Outgoing}
@@ -17,9 +16,7 @@ use Rattle.sig_core.specs.Op.{key_of}
 use Rattle.sig_core.specs.Same.{same_key, same_tx}
 use Rattle.sig_core.specs.Step.{Effects, Step}
 use Rattle.sig_core.specs.Work.{work_key}
-use Rattle.frag_map.specs.Layout.{Layout, chain_of, first_layout}
-use Rattle.frag_map.specs.Shape.{IsShape}
-use Rattle.lqh_block.specs.declared.request.Request.{Request}
+use Rattle.frag_map.specs.Layout.{Layout, first_layout}
 use Rattle.lqh_block.specs.State.{LqhState}
 use Rattle.lqh_block.specs.Work.{is_for}
 use Rattle.tc_block.proofs.LiveKeeps.{SendsBeside}
@@ -29,10 +26,9 @@ use Rattle.tc_block.specs.declared.phase.Asked.{Asked}
 use Rattle.tc_block.specs.declared.phase.Phase.{Phase}
 use Rattle.tc_block.specs.declared.phase.Phase.TheVariants.{Open, Verifying, Committing, Completing, Aborting}
 use Rattle.tc_block.specs.declared.transaction.Transaction.{Transaction}
-use Rattle.tc_block.specs.Operate.{fresh}
 use Rattle.tc_block.specs.Phases.{is_aborting}
 use Rattle.tc_block.specs.State.{TcState}
-use Rattle.tc_block.specs.Tc.{next_tx, tc_row}
+use Rattle.tc_block.specs.Tc.{tc_row}
 use Rattle.tc_block.specs.Turn.{Turn}
 use Rattle.node_core.proofs.HostCases.{BlockCase, IsTcStep, api_takes, block_case, dih_takes, none_takes, rows_take, tc_takes}
 use Rattle.node_core.specs.Blocks.{api_of, dih_of, lqh_of, tc_of}
@@ -44,19 +40,18 @@ use Rattle.world_core.specs.Machine.{after, machine, signals_of, step_after}
 use Rattle.world_core.specs.Start.{Start}
 use Rattle.world_core.specs.Steps.{Addressed, HostStep}
 use Rattle.host_laws.proofs.ApiMoves.{is_api_kind}
-use Rattle.host_laws.proofs.BlocksAlong.{first_live, first_waiting, tc_layout}
+use Rattle.host_laws.proofs.BlocksAlong.{first_waiting, tc_layout}
 use Rattle.host_laws.proofs.DihSends.{dih_kinds}
 use Rattle.host_laws.proofs.OfLive.{each_found}
 use Rattle.host_laws.proofs.SendKinds.{each_of, is_dih_kind}
-use Rattle.host_laws.proofs.Sums.{total_at, total_one}
+use Rattle.host_laws.proofs.Sums.{total_one}
 use Rattle.host_laws.proofs.TcLives.{IsOwn, apart}
 use Rattle.host_laws.proofs.TcSteps.{left_of_turn}
 use Rattle.host_laws.proofs.TurnKinds.{OwnKinds, TurnOnly, own_kinds}
 use Rattle.host_laws.specs.Live.{of_live}
 use Rattle.host_laws.specs.Ways.{back_by, sent_ways}
 use Rattle.run_laws.specs.Live.{live_at, of_host}
-use Rattle.run_laws.specs.Routes.{replicas}
-use Rattle.run_laws.specs.Transit.{AreInTransit, Comes, IsRun, Takes, joined, logs_of}
+use Rattle.run_laws.specs.Transit.{AreInTransit, Comes, Takes, joined, logs_of}
 use Rattle.run_laws.proofs.Addressed.{comes_below}
 use Rattle.run_laws.proofs.HomeSteps.{IsHome, all_home, away, here_now, here_was, own_home, unborn_absent}
 use Rattle.run_laws.proofs.LiveOf.{of_each}

@@ -1,14 +1,13 @@
 -- Turn by turn and row by row: parts of an operation on a key, and the operation that is unanswered.
-use Rattle.std.proofs.Common.{◌≡◌, ◌≤◌, ◌+◌, ℕ, Bool, true, false, List, [], ◌∷◌, length, refl, sym, ap, ◌∙◌, subst, arith}
-use Rattle.std.proofs.lemmas.Bool.{and_parts, eqb-true, false≢true, true≢false}
-use Rattle.std.specs.Prelude.{◌==◌, ◌&&◌, Option, None, Some}
+use Rattle.std.proofs.Common.{◌≡◌, ◌≤◌, ◌+◌, ℕ, Bool, true, false, List, [], ◌∷◌, length, refl, sym, ap, ◌∙◌, arith}
+use Rattle.std.proofs.lemmas.Bool.{and_parts, eqb-true, false≢true}
+use Rattle.std.specs.Prelude.{◌&&◌, Option, None, Some}
 use Rattle.run_theory.specs.Counts.{one_if, tally}
 use Rattle.run_theory.specs.Lists.{Each}
 use Rattle.run_theory.proofs.Tally.{tally_none}
 use Rattle.sig_core.proofs.Keys.{same_tx-self}
 use Rattle.sig_core.proofs.TxLemmas.{same_tx-is}
 use Rattle.sig_core.specs.declared.member.TxId.{TxId}
-use Rattle.sig_core.specs.declared.op.Op.{Op}
 use Rattle.sig_core.specs.declared.outcome.AbortCause.{AbortCause}
 use Rattle.sig_core.specs.declared.outs.Outgoing.{Outgoing}
 use Rattle.sig_core.specs.declared.signal.Body.{Body}
@@ -17,7 +16,6 @@ use Rattle.sig_core.specs.declared.signal.chain.ChainSignal.TheVariants.{Abort, 
 use Rattle.sig_core.specs.declared.signal.client.ClientSignal.TheVariants.{TcRollbackRep}
 use Rattle.sig_core.specs.Op.{key_of}
 use Rattle.sig_core.specs.Same.{same_key, same_tx}
-use Rattle.sig_core.specs.Step.{stay}
 use Rattle.sig_core.specs.Work.{work_key}
 use Rattle.frag_map.specs.Layout.{Layout, chain_of}
 use Rattle.lqh_block.proofs.IndexLemmas as keys
@@ -35,12 +33,11 @@ use Rattle.tc_block.specs.declared.phase.Phase.{Phase}
 use Rattle.tc_block.specs.declared.phase.Phase.TheVariants.{Open, Verifying, Committing, Completing, Aborting}
 use Rattle.tc_block.specs.declared.transaction.Transaction.{Transaction}
 use Rattle.tc_block.specs.Operate.{is_ready}
-use Rattle.tc_block.specs.Part.{part_effects}
 use Rattle.tc_block.specs.Phases.{is_aborting}
 use Rattle.tc_block.specs.Sends.{aborts_of, entering, front_sends, go_on_if, wait_of, waits_of}
 use Rattle.tc_block.specs.Touched.{fits}
-use Rattle.tc_block.specs.Turn.{Turn, asking, going}
-use Rattle.tc_block.proofs.EachTurn.{AbortForms, CommittedForms, IsAnswered, IsRowAnswer, TurnFormsAt, by_conf, by_ref, may_ask}
+use Rattle.tc_block.specs.Turn.{Turn, asking}
+use Rattle.tc_block.proofs.EachTurn.{CommittedForms, IsAnswered, IsRowAnswer, TurnFormsAt, by_conf, by_ref, may_ask}
 use Rattle.tc_block.proofs.EachTurn.{ready_is, rows_at}
 use Rattle.tc_block.proofs.TurnRows.{turn_for}
 use Rattle.host_laws.proofs.PhaseSends.{HasChains, aborts_of_kind, entering_of_kind, rest_of_kind}

@@ -1,10 +1,9 @@
 -- Behind the first place of a chain all that hold or wait for a lock do so to write; so nobody who holds it waits.
-use Rattle.std.proofs.Common.{◌≡◌, ◌≢◌, ◌⊎◌, ◌<◌, ◌+◌, ℕ, Bool, true, false, List, [], ◌∷◌, ◌++◌, length, map, refl, sym, ap, ◌∙◌}
+use Rattle.std.proofs.Common.{◌≡◌, ◌≢◌, ◌⊎◌, ◌<◌, ◌+◌, ℕ, Bool, true, false, List, [], ◌∷◌, ◌++◌, length, refl, sym, ap, ◌∙◌}
 use Rattle.std.proofs.Common.{subst, arith, inl, inr}
-use Rattle.std.proofs.lemmas.Bool.{and_parts, cases_eq, false≢true, or_cases, or_left, or_right, true≢false}
+use Rattle.std.proofs.lemmas.Bool.{and_parts, cases_eq, false≢true, or_cases, or_left, or_right}
 use Rattle.std.specs.Prelude.{◌&&◌, ◌||◌, not, Option, None, Some}
-use Rattle.run_theory.proofs.EachSent.{each_mapped}
-use Rattle.run_theory.proofs.Pasts.{each_append, each_map}
+use Rattle.run_theory.proofs.Pasts.{each_append}
 use Rattle.run_theory.proofs.Runs.{log_of-other, log_of-own}
 use Rattle.run_theory.specs.Lists.{Each}
 use Rattle.sig_core.specs.declared.member.TxId.{TxId}
@@ -21,17 +20,16 @@ use Rattle.row_locks.specs.declared.mode.Mode.TheVariants.{Exclusive, Shared}
 use Rattle.row_locks.specs.Holders.{agrees_with, hold, holder_of, holds, holds_enough, others, unless_gone}
 use Rattle.row_locks.specs.Modes.{is_enough, stronger}
 use Rattle.sig_core.proofs.TxLemmas.{same_tx-is}
-use Rattle.row_locks.specs.Orderly.{IsOrderly, none_has_enough}
-use Rattle.row_locks.specs.Queues.{aged, aged_all, raised, raised_if, wait_of, waits, without}
+use Rattle.row_locks.specs.Orderly.{none_has_enough}
+use Rattle.row_locks.specs.Queues.{aged_all, raised, raised_if, wait_of, waits, without}
 use Rattle.row_locks.specs.Rows.{RowLock, asked, asked_anew, asked_by, grown_old, is_quiet, may_hold, released, served, served_if}
-use Rattle.row_locks.specs.Rows.{unlocked, unwaited}
+use Rattle.row_locks.specs.Rows.{unwaited}
 use Rattle.lqh_block.specs.declared.request.Request.{Request}
 use Rattle.lqh_block.specs.Work.{work_mode}
-use Rattle.node_core.specs.Blocks.{lqh_of}
 use Rattle.world_core.specs.Machine.{after, machine}
 use Rattle.world_core.specs.Start.{Start}
 use Rattle.world_core.specs.Steps.{HostStep}
-use Rattle.key_laws.specs.BackupEvents.{IsImage, IsOfImage}
+use Rattle.key_laws.specs.BackupEvents.{IsOfImage}
 use Rattle.key_laws.specs.Replica as replica
 use Rattle.key_laws.specs.Replica.{Event, Replica, aborts, ages, asks, commits, completes, expires, is_let_in, key_after}
 use Rattle.key_laws.specs.Replica.{rests, served_by, serves}
@@ -213,8 +211,11 @@ module _ (start : Start) (key : List ℕ) (at : ℕ) (inside : at + 1 < length (
 
       behind : replica_host start key (at + 1) ≢ primary_host start key
       behind same =
-          absurd (omega (arith, hosts_are_apart start key (at + 1) 0 run.shape inside
-          (replicas_some start run.shape key) same))
+          absurd (omega (
+            arith,
+            hosts_are_apart start key (at + 1) 0 run.shape inside
+                (replicas_some start run.shape key) same,
+          ))
 
       by : (e.host ≡ h) ⊎ (e.host ≢ h) → Write (logs_of start es) → Write (logs_of start (e ∷ es))
       by (inr off) was =

@@ -7,5 +7,6 @@ pub mod Gone
 pub mod LetGo
 pub mod Records
 pub mod Standing
+pub mod Still
 pub mod Unanswered
 pub mod Writers
