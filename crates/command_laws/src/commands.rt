@@ -40,8 +40,7 @@ pub fn aborts_are_answered()
     ensures { ReadyAbortsAreAnswered }
 {}
 
-/// An abort of a transaction whose operation waits ends in its being aborted at the client's request, or
-/// its operation waits on, and its coordinator is aborting it so.
+/// An abort of a transaction whose operation waits ends in its being aborted at the client's request.
 pub fn waiting_aborts_are_heard()
     ensures { WaitingAbortsAreHeard }
 {}
