@@ -1,5 +1,4 @@
--- An operation alone that had to wait is given up: its transaction is aborted at the client's request, or is being
--- aborted so.
+-- An operation alone that had to wait is given up: its transaction is aborted at the client's request.
 use Rattle.std.proofs.Common.{◌≡◌, ℕ, true, List, [], ◌∷◌, refl, sym, ap, ◌∙◌, subst}
 use Rattle.std.specs.Prelude.{None, Some}
 use Rattle.run_theory.specs.Lists.{IsIn}
@@ -69,7 +68,7 @@ module _ (start : Start) (was mid now : ℕ → List HostStep) (t : OpenTransact
         ∙ ap (λ name. pending_by s (name_of s who) name t.tx) nameless
         ∙ ap (pending_by s (name_of s who) None) own_tx
 
-    given_up : IsAbortHeard start mid now None tx
+    given_up : IsAbortHeard start mid now None
     given_up =
         heard start mid now request.Pending None tx (behind t (Some who)) then_served in_mid nameless own_tx waiting.does
         (replied s (Pending None (HeldBy (name_of s who)) ∷ [])) refl row_is

@@ -55,7 +55,7 @@ use Rattle.run_laws.specs.Transit.{IsRun, logs_of}
 use Rattle.command_laws.specs.Served.{EachIsHeldUp, IsHeldUp, IsHeldUpAt}
 
 -- two of them are no more than all
-total_two : (n : ℕ) (f : ℕ → ℕ) (i j : ℕ) → i < n → j < n → i ≢ j → f i + f j ≤ total n f
+pub total_two : (n : ℕ) (f : ℕ → ℕ) (i j : ℕ) → i < n → j < n → i ≢ j → f i + f j ≤ total n f
 total_two zero f i j low under apart = absurd (omega (arith, low))
 total_two (suc n) f i j low under apart = by (cases_eq n i) (cases_eq n j) (total_two n f i j)
   where

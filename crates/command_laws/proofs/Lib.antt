@@ -43,6 +43,7 @@ pub mod LoneBegins
 pub mod LoneCommitted
 pub mod LoneWishes
 pub mod LqhFair
+pub mod NoAbortWaits
 pub mod NoDump
 pub mod NoneClosed
 pub mod OneAtATime

@@ -1,14 +1,14 @@
 -- An abort of a transaction whose operation waits: its coordinator takes the wish before anything else, so it is
--- aborted at the client's request or being aborted so, and is neither answered nor ended otherwise.
+-- being aborted at the client's request then, and is neither answered nor ended otherwise; and where nothing is under way
+-- no transaction that is being aborted has an operation unanswered, so it has ended.
 use Rattle.std.proofs.Common.{◌≡◌, ◌≢◌, ◌⊎◌, ◌<◌, ℕ, zero, suc, true, false, List, [], ◌∷◌, ◌++◌, refl, sym, ap, ◌∙◌, subst, inl, inr, append_assoc}
-use Rattle.std.proofs.lemmas.Bool.{cases_eq, false≢true}
+use Rattle.std.proofs.lemmas.Bool.{cases_eq, false≢true, true≢false}
 use Rattle.std.proofs.lemmas.List.{append_cancel_right}
 use Rattle.std.specs.Prelude.{Option, Some}
 use Rattle.run_theory.specs.Cuts.{IsCut}
 use Rattle.run_theory.specs.Lists.{Each, IsIn}
 use Rattle.sig_core.proofs.Keys.{same_tx-self}
 use Rattle.sig_core.specs.declared.member.TxId.{TxId}
-use Rattle.sig_core.specs.declared.outcome.AbortCause.{AbortCause}
 use Rattle.sig_core.specs.declared.outcome.AbortCause.TheVariants as cause
 use Rattle.sig_core.specs.declared.outcome.Outcome.TheVariants as outcome
 use Rattle.sig_core.specs.declared.outs.Outgoing.{Outgoing}
@@ -21,7 +21,6 @@ use Rattle.sig_core.specs.declared.signal.client.ClientSignal.TheVariants.{TcCom
 use Rattle.sig_core.specs.Place.{coordinator_of}
 use Rattle.sig_core.specs.Step.{Step, sending, to_place}
 use Rattle.api_block.specs.Api.{request_row}
-use Rattle.api_block.specs.declared.opened.Doing.{Doing}
 use Rattle.api_block.specs.declared.opened.Doing.TheVariants.{Operating}
 use Rattle.api_block.specs.declared.opened.OpenTransaction.{OpenTransaction}
 use Rattle.api_block.specs.State.{ApiState, about}
@@ -32,6 +31,7 @@ use Rattle.node_core.specs.Requests.{is_request}
 use Rattle.tc_block.specs.declared.phase.Phase.{Phase}
 use Rattle.tc_block.specs.declared.phase.Phase.TheVariants.{Open, Verifying, Committing, Completing, Aborting}
 use Rattle.tc_block.specs.declared.transaction.Transaction.{Transaction}
+use Rattle.tc_block.specs.Phases.{is_aborting}
 use Rattle.world_core.specs.Hosts.{home, hosts}
 use Rattle.world_core.specs.Machine.{after, step_after}
 use Rattle.world_core.specs.Start.{Start}
@@ -43,9 +43,7 @@ use Rattle.host_laws.proofs.TcSteps.{live_early}
 use Rattle.host_laws.specs.Live.{of_live}
 use Rattle.host_laws.specs.OpenedAfter.{opened_after, opened_in}
 use Rattle.run_laws.proofs.AlongSteps.{live_tx}
-use Rattle.answer_laws.proofs.Answers.{each_answered}
 use Rattle.answer_laws.proofs.Lives.{live_low}
-use Rattle.answer_laws.specs.Answered.{WaitsForLock, is_answered_by}
 use Rattle.command_laws.proofs.AbortAnswered.{ends_right}
 use Rattle.command_laws.proofs.AbortFirst.{abort_found}
 use Rattle.command_laws.proofs.AbortSteps.{is_roll_to, wrong_of}
@@ -59,11 +57,12 @@ use Rattle.command_laws.proofs.First.{IsFirst, first_step, request_first, with_f
 use Rattle.command_laws.proofs.FirstTaken.{IsTaken, first_taken}
 use Rattle.command_laws.proofs.HeldUp.{each_held_up}
 use Rattle.command_laws.proofs.Homes.{sound_at}
+use Rattle.command_laws.proofs.NoAbortWaits.{no_abort_waits}
 use Rattle.command_laws.proofs.RolledSteps.{IsRolledNow, RolledOption, WishedOption, is_stray, rolled_since, stray_none, stray_of, wished_after}
 use Rattle.command_laws.proofs.RolledTurns.{IsWished, is_wished}
 use Rattle.command_laws.proofs.Since.{none_taken, sent_since}
 use Rattle.command_laws.proofs.TellsSince.{OnTc, away_since}
-use Rattle.command_laws.specs.Aborts.{HasOperation, IsAbortHeard, IsBeingAborted, WaitingAbortsAreHeard, is_aborting_as_asked}
+use Rattle.command_laws.specs.Aborts.{HasOperation, IsAbortHeard, WaitingAbortsAreHeard}
 use Rattle.command_laws.specs.Served.{IsHeldUp, IsServedBetween, replies_since}
 
 stray_wrong : (tx : TxId) (body : Body) → stray_of tx body ≡ false → wrong_of tx body ≡ false
@@ -75,13 +74,8 @@ answer_stray : (tx : TxId) (body : Body) → answer_of tx body ≡ true → stra
 answer_stray tx (Client (TcKeyConf other answer)) e = e
 answer_stray tx _ e = absurd (false≢true e)
 
-as_asked : (phase : Phase) → is_loose true phase ≡ true → is_aborting_as_asked phase ≡ true
-as_asked (Aborting why verifying awaited) e = by why e
-  where
-    by : (why : AbortCause) → is_loose true (Aborting why verifying awaited) ≡ true
-        → is_aborting_as_asked (Aborting why verifying awaited) ≡ true
-    by cause.Request e = refl
-    by _ e = cc
+as_asked : (phase : Phase) → is_loose true phase ≡ true → is_aborting phase ≡ true
+as_asked (Aborting why verifying awaited) e = refl
 as_asked Open e = cc
 as_asked Verifying e = cc
 as_asked (Committing epoch awaited) e = cc
@@ -206,24 +200,14 @@ module _ (start : Start) (was now : ℕ → List HostStep) (request : ApiReq) (c
       (subst (IsIn a.answered.step) (sym a.answered.is) (in_middle a.answered.newer a.answered.step a.answered.older))
       f.plain none_stray) ∙ answer_stray tx a.answered.step.step.taken.body a.about)
 
-  being : HasOne tx called Operating (opened_after start now) → IsBeingAborted start now called tx
-  being one = record {
-    item = one.item;
-    inside = one.inside;
-    called = one.called;
-    own = one.own;
-    does = one.does;
-    waits = by one.item.doing one.item.tx one.does one.own (each_answered start now one.item served.since one.inside);
-    transaction = held_now.transaction;
-    live = held_now.live;
-    aborting = as_asked held_now.transaction.phase (subst (RolledOption true) live_now rolled_now.rolled);
-  }
+  -- its operation isn't unanswered any more, since at quiet that of no transaction that is being aborted is
+  none_waits : HasOne tx called Operating (opened_after start now) → ⊥
+  none_waits one =
+      true≢false (sym (as_asked held_now.transaction.phase (subst (RolledOption true) live_now rolled_now.rolled))
+      ∙ no_abort_waits start now (home start tx) tx held_now.transaction held_now.asked served.since
+      (live_low start now tx held_now.transaction served.since (home start tx) held_now.live) held_now.live
+      held_now.unanswered)
     where
-      by : (doing : Doing) (o : Option TxId) → doing ≡ Operating → o ≡ Some tx → is_answered_by start now doing o
-          → WaitsForLock start now tx
-      by doing o is some all =
-          subst (λ p. is_answered_by start now Operating p) some (subst (λ d. is_answered_by start now d o) is all)
-
       held_now : IsHeldUp start now tx
       held_now = each_held_up start now one.item served.since one.inside tx one.own one.does
 
@@ -233,22 +217,22 @@ module _ (start : Start) (was now : ℕ → List HostStep) (request : ApiReq) (c
       rolled_now : OnTc (IsRolledNow tx true) (after start (home start tx) (now (home start tx)))
       rolled_now = subst (λ log. OnTc (IsRolledNow tx true) (after start (home start tx) log)) (sym home_log) run.1
 
-  pub heard : IsAbortHeard start was now called tx
+  pub heard : IsAbortHeard start was now called
   heard = by (waiting_goes tx called start f.later (f.first ∷ was 0) f.plain has)
     where
       by : HasOne tx called Operating (opened_in (after start 0 (f.later ++ f.first ∷ was 0)))
           ⊎ (HasReplied tx called start f.later (f.first ∷ was 0)
           ⊎ HasEnded tx called start f.later (f.first ∷ was 0))
-          → IsAbortHeard start was now called tx
+          → IsAbortHeard start was now called
       by (inl one) =
-          inr (being (subst (λ log. HasOne tx called Operating (opened_in (after start 0 log))) (sym f.is) one))
+          absurd (none_waits (subst (λ log. HasOne tx called Operating (opened_in (after start 0 log))) (sym f.is) one))
       by (inr (inl a)) = absurd (not_replied a)
-      by (inr (inr ended)) = inl (ended_right ended)
+      by (inr (inr ended)) = ended_right ended
 
 -- so it is of an abort
 abort_heard : (start : Start) (was now : ℕ → List HostStep) (name : ℕ) (tx : TxId)
     → IsServedBetween start was now (Abort name) → HasOperation start was name tx
-    → IsAbortHeard start was now (Some name) tx
+    → IsAbortHeard start was now (Some name)
 unfolding request_row
 abort_heard start was now name tx served op =
     heard start was now (Abort name) (Some name) tx op.item served there n.called op.own op.operating

@@ -59,7 +59,7 @@ first_holds tx (h ∷ holders) apart = by (same_tx h.tx tx) apart (first_holds t
     by false off rest = or_front (same_tx h.tx h.tx) (holds h.tx holders) (same_tx-self h.tx)
 
 -- whom a transaction waits behind holds the lock, where no wait is closed, and is another one
-behind_locks : (locks : Locks) (key : List ℕ) (tx who : TxId) → AreOrderly locks
+pub behind_locks : (locks : Locks) (key : List ℕ) (tx who : TxId) → AreOrderly locks
     → is_closed key locks ≡ false → ahead_at locks key tx ≡ Some who → IsBehind tx who key locks
 behind_locks locks key tx who orderly none is = by (waits tx (lock_at locks key).queue) refl is
   where

@@ -97,7 +97,7 @@ AnswersRequest start was now (request.Commit name) =
 AnswersRequest start was now (request.Abort name) =
     ((tx : TxId) → TakesCommands start was name tx → IsAbortedAs start was now name × IsToldOnce start was now name)
     ×
-    ((tx : TxId) → HasOperation start was name tx → IsAbortHeard start was now (Some name) tx)
+    ((tx : TxId) → HasOperation start was name tx → IsAbortHeard start was now (Some name))
 AnswersRequest start was now request.Pending =
     (first : ℕ → List HostStep) → IsServedBetween start first was request.Waits → is_left_open
     (after start 0 (first 0)) ≡ true → IsToldHolder start first was now × IsGivenUp start first was now

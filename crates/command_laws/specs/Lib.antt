@@ -6,6 +6,7 @@ pub mod Between
 pub mod Dumped
 pub mod Living
 pub mod Once
+pub mod Quietly
 pub mod Sample
 pub mod Served
 pub mod Ticked

@@ -2,6 +2,7 @@
 ghost use Rattle.command_laws.specs.Aborts.{ReadyAbortsAreAnswered, WaitingAbortsAreHeard};
 ghost use Rattle.command_laws.specs.Alone.{LoneOperationsAreAnswered};
 ghost use Rattle.command_laws.specs.Living.{RepliesAreOfTheLiving};
+ghost use Rattle.command_laws.specs.Quietly.{NoAbortWaits};
 ghost use Rattle.command_laws.specs.Sample.{SampleIsServed};
 ghost use Rattle.command_laws.specs.Answers.{CommitsComeTo, OperationsComeTo, RequestsAreAnswered};
 ghost use Rattle.command_laws.specs.Served.{CommitsAreCommitted, EachIsHeldUp, HoldersAreTold, LoneAreCommitted, OperationsAreAnswered};
@@ -39,8 +40,7 @@ pub fn aborts_are_answered()
     ensures { ReadyAbortsAreAnswered }
 {}
 
-/// An abort of a transaction whose operation waits ends in its being aborted at the client's request, or
-/// its operation waits on, and its coordinator is aborting it so.
+/// An abort of a transaction whose operation waits ends in its being aborted at the client's request.
 pub fn waiting_aborts_are_heard()
     ensures { WaitingAbortsAreHeard }
 {}
@@ -61,6 +61,11 @@ pub fn holders_are_told()
 /// in the queue of its key, behind another transaction, at one of the nodes that it is sent along.
 pub fn each_operation_is_held_up()
     ensures { EachIsHeldUp }
+{}
+
+/// When nothing is under way, no transaction that is being aborted has an operation unanswered.
+pub fn no_abort_waits()
+    ensures { NoAbortWaits }
 {}
 
 /// As no host stops, no reply tells of one that did: no transaction ends for the failure of a node or

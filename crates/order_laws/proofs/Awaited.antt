@@ -16,7 +16,6 @@ use Rattle.sig_core.specs.declared.signal.Signal.{Signal}
 use Rattle.sig_core.specs.Same.{same_tx}
 use Rattle.sig_core.specs.Step.{Effects, Step}
 use Rattle.frag_map.specs.Layout.{Layout, first_layout}
-use Rattle.lqh_block.specs.Lqh.{lqh_table}
 use Rattle.tc_block.proofs.LiveKeeps.{SendsBeside}
 use Rattle.tc_block.proofs.TurnRows.{turn_for}
 use Rattle.tc_block.specs.declared.transaction.Transaction.{Transaction}
@@ -42,7 +41,7 @@ use Rattle.host_laws.proofs.TcSteps.{left_of_turn}
 use Rattle.host_laws.proofs.TurnKinds.{OwnKinds, TurnOnly, own_kinds}
 use Rattle.host_laws.specs.Live.{of_live}
 use Rattle.run_laws.specs.Live.{live_at, of_host}
-use Rattle.run_laws.specs.Transit.{AreInTransit, Comes, IsRun, Takes, joined, logs_of}
+use Rattle.run_laws.specs.Transit.{Comes, Takes, joined, logs_of}
 use Rattle.run_laws.proofs.HomeSteps.{IsHome, all_home, away, here_now, here_was, own_home, unborn_absent}
 use Rattle.run_laws.proofs.LiveOf.{of_each}
 use Rattle.run_laws.proofs.Transit.{along_transit}

@@ -1,13 +1,12 @@
 -- Turn by turn, what a coordinator awaits of a transaction against what is under way.
-use Rattle.std.proofs.Common.{◌≡◌, ◌≤◌, ◌<◌, ◌+◌, ◌-◌, ℕ, suc, Bool, true, false, List, [], ◌∷◌, length, refl, sym, ap, ◌∙◌, arith}
-use Rattle.std.proofs.lemmas.Bool.{false≢true, true≢false}
+use Rattle.std.proofs.Common.{◌≡◌, ◌≤◌, ◌<◌, ◌+◌, ◌-◌, ℕ, suc, Bool, true, false, List, length, refl, sym, ap, ◌∙◌, arith}
+use Rattle.std.proofs.lemmas.Bool.{true≢false}
 use Rattle.std.proofs.lemmas.Bool.Decides.{nat_tests}
 use Rattle.std.proofs.lemmas.List.{length-map}
-use Rattle.std.specs.Prelude.{◌==◌, ◌&&◌, if◌then◌else◌, nat_lt, None, Some}
+use Rattle.std.specs.Prelude.{if◌then◌else◌, nat_lt, None, Some}
 use Rattle.std.proofs.lemmas.Bool.{and_parts}
 use Rattle.run_theory.proofs.EachSent.{each_mapped}
 use Rattle.run_theory.specs.Counts.{one_if}
-use Rattle.run_theory.specs.Lists.{Each}
 use Rattle.sig_core.proofs.Keys.{same_tx-self}
 use Rattle.sig_core.specs.declared.member.TxId.{TxId}
 use Rattle.sig_core.specs.declared.outcome.AbortCause.{AbortCause}
@@ -40,7 +39,6 @@ use Rattle.tc_block.specs.Turn.{Turn, asking, at_phase, going}
 use Rattle.tc_block.proofs.EachTurn.{AbortForms, CommittedForms, IsAnswered, TurnFormsAt, ready_is, rows_at}
 use Rattle.tc_block.proofs.TurnRows.{turn_for}
 use Rattle.run_laws.proofs.TxTurns.{is_for, turn_each}
-use Rattle.run_laws.proofs.Weighing.{weigh, weigh_none}
 use Rattle.order_laws.specs.Awaited.{awaited_in, due, list_length, owed_in}
 use Rattle.order_laws.proofs.AwaitedSends.{aborts_one, completions_weigh, is_due, off_weighs, part_weighs, phase_long}
 use Rattle.order_laws.proofs.AwaitedSends.{phase_one, weigh_ones, weighs}

@@ -44,7 +44,7 @@ use Rattle.order_laws.proofs.Gone.{who_has_gone_is_out}
 use Rattle.order_laws.proofs.Over.{who_lets_go_is_over}
 
 -- the event is a request of the transaction
-abbrev is_asked_by : TxId → Event → Bool
+abbrev pub is_asked_by : TxId → Event → Bool
 is_asked_by tx (asks q refused) = same_tx q.tx tx
 is_asked_by tx event = false
 

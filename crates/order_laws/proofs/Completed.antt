@@ -17,7 +17,6 @@ use Rattle.sig_core.specs.declared.place.BlockId.TheVariants.{Lqh}
 use Rattle.sig_core.specs.declared.signal.Body.{Body}
 use Rattle.sig_core.specs.declared.signal.Body.TheVariants.{Chain}
 use Rattle.sig_core.specs.declared.signal.chain.ChainSignal.TheVariants.{Complete}
-use Rattle.sig_core.specs.declared.signal.host.Work.TheVariants as work
 use Rattle.sig_core.specs.Chain.{last_place, node_at}
 use Rattle.sig_core.specs.Same.{same_tx}
 use Rattle.frag_map.specs.Layout.{Layout, chain_of}

@@ -2,10 +2,9 @@
 -- or the backup has let go, where its coordinator doesn't commit it any more.
 use Rattle.std.proofs.Common.{◌≡◌, ◌≢◌, ◌⊎◌, ◌≤◌, ◌<◌, ◌+◌, ℕ, zero, suc, Bool, true, false, List, [], ◌∷◌, drop, length, refl, sym, ap}
 use Rattle.std.proofs.Common.{◌∙◌, subst, arith, inl, inr}
-use Rattle.std.proofs.lemmas.Bool.{and_parts, cases_eq, eqb-true, false≢true, true≢false}
+use Rattle.std.proofs.lemmas.Bool.{cases_eq, eqb-true, false≢true}
 use Rattle.std.specs.List.{list_any}
 use Rattle.std.specs.Prelude.{◌-◌, ◌==◌, ◌&&◌, ◌||◌, if◌then◌else◌, Option, None, Some}
-use Rattle.run_theory.proofs.Runs.{log_of-past}
 use Rattle.run_theory.specs.Counts.{one_if}
 use Rattle.run_theory.specs.Lists.{Each}
 use Rattle.sig_core.proofs.TxLemmas.{same_tx-is}
@@ -34,9 +33,7 @@ use Rattle.tc_block.specs.Complete.{written_count}
 use Rattle.tc_block.specs.declared.phase.Phase.{Phase}
 use Rattle.tc_block.specs.declared.phase.Phase.TheVariants.{Open, Verifying, Committing, Completing, Aborting}
 use Rattle.tc_block.specs.declared.sends.TheConstants.{SENDS}
-use Rattle.tc_block.specs.declared.touched.Touched.{Touched}
 use Rattle.tc_block.specs.declared.transaction.Transaction.{Transaction}
-use Rattle.tc_block.specs.Operate.{fresh}
 use Rattle.tc_block.specs.Phases.{is_aborting, is_committing, is_completing, is_decided}
 use Rattle.tc_block.specs.Sends.{phase_sends}
 use Rattle.tc_block.specs.State.{TcState}
@@ -47,11 +44,11 @@ use Rattle.node_core.specs.Blocks.{has_lqh, lqh_of, tc_of}
 use Rattle.node_core.specs.declared.host.Host as host
 use Rattle.node_core.specs.Requests.{is_request}
 use Rattle.node_core.specs.Row.{row}
-use Rattle.world_core.specs.Hosts.{home, rows_host, tc_host}
-use Rattle.world_core.specs.Machine.{after, machine, signals_of, step_after}
+use Rattle.world_core.specs.Hosts.{home, host_for, hosts, rows_host, tc_host}
+use Rattle.world_core.specs.Machine.{after, signals_of, step_after}
 use Rattle.world_core.specs.Start.{Start}
 use Rattle.world_core.specs.Steps.{Addressed, HostStep}
-use Rattle.host_laws.proofs.BlocksAlong.{first_live, tc_layout}
+use Rattle.host_laws.proofs.BlocksAlong.{tc_layout}
 use Rattle.host_laws.proofs.LqhOps.{is_lqh}
 use Rattle.host_laws.proofs.OfLive.{each_found}
 use Rattle.host_laws.proofs.OneWay.{back_aborting, forth_decided}
@@ -63,14 +60,14 @@ use Rattle.host_laws.specs.Ways.{back_by, forth_by, sent_ways}
 use Rattle.run_laws.specs.GivenUp.{is_carried_out, is_given_up}
 use Rattle.run_laws.specs.Live.{live_at, of_host}
 use Rattle.run_laws.specs.Routes.{IsCompletionRouted, IsForBlock, IsRouted, replica_host, replicas}
-use Rattle.run_laws.specs.Tokens.{is_token, tokens_in}
+use Rattle.run_laws.specs.Tokens.{is_token}
 use Rattle.run_laws.specs.Transit.{AreInTransit, Comes, IsRun, Takes, joined, logs_of}
 use Rattle.run_laws.proofs.Addressed.{rows_addressed, tc_addressed}
 use Rattle.run_laws.proofs.Always.{few_touched}
 use Rattle.run_laws.proofs.CarryBegins.{carried_silent, said_silent}
 use Rattle.run_laws.proofs.HomeSteps.{IsHome, all_home, away, here_now, here_was, own_home, unborn_absent}
 use Rattle.run_laws.proofs.LiveOf.{of_each}
-use Rattle.run_laws.proofs.RoutedEvents.{IsPlaced, coming_are_routed, placed, placed_runs}
+use Rattle.run_laws.proofs.RoutedEvents.{coming_are_routed, placed, placed_runs}
 use Rattle.run_laws.proofs.TcOwn.{AreSilent}
 use Rattle.run_laws.proofs.TcSaid.{tc_silent}
 use Rattle.run_laws.proofs.Transit.{along_transit}
@@ -79,7 +76,7 @@ use Rattle.run_laws.proofs.TxSteps as step
 use Rattle.run_laws.proofs.TxSteps.{IsMissed, TxStep, aside, rows, turns, tx_step}
 use Rattle.run_laws.proofs.TxTurns.{is_for}
 use Rattle.run_laws.proofs.Undecided.{carried_out_have_none}
-use Rattle.run_laws.proofs.Weighing.{each_taken, in_sends, in_transit, joins_weigh, takes_weigh, weigh, weigh_less}
+use Rattle.run_laws.proofs.Weighing.{each_taken, in_sends, in_transit, joins_weigh, takes_weigh}
 use Rattle.order_laws.specs.Awaited.{IsAwaited, awaited_in, due, due_in, list_length}
 use Rattle.order_laws.specs.Completing.{CompletedLetGo}
 use Rattle.order_laws.specs.LetGo.{has_let_go, lock_at_place}
@@ -94,6 +91,7 @@ use Rattle.order_laws.proofs.CompletingTurns.{turn_completes, undecided, written
 use Rattle.order_laws.proofs.Leads.{any_sent, lead}
 use Rattle.order_laws.proofs.Passed.{passed}
 use Rattle.order_laws.proofs.Records.{holders_passed}
+use Rattle.order_laws.proofs.Still.{IsZero, home_for, home_low, none_weigh, replica_low}
 use Rattle.order_laws.proofs.Written.{none_sent, none_sent_where, passed_before, passed_has_written}
 
 few : (b : Bool) → one_if b ≤ 1
@@ -603,7 +601,7 @@ module _ (start : Start) (tx : TxId) (key : List ℕ) (inside : 0 + 1 < length (
       (λ es e before between come transit was takes. next es e come before between transit takes was)
 
 pub completed_let_go : CompletedLetGo
-completed_let_go start es key tx run transit inside carried uncommitted =
+completed_let_go start es xs key tx run still inside carried uncommitted =
     by (holds tx (lock_at_place start (logs_of start es) key (0 + 1)).holders) refl
   where
     logs : ℕ → List HostStep
@@ -613,9 +611,33 @@ completed_let_go start es key tx run transit inside carried uncommitted =
         → holds tx (lock_at_place start (logs_of start es) key (0 + 1)).holders ≡ false
     out gone = (carried_out_stay_out start es key (replica_host start key (0 + 1)) tx run carried gone).unheld
 
-    way : (o : Option Transaction) → IsOnWay start tx key inside (logs_of start es) [] o
+    low : home start tx < hosts start
+    low = home_low start es tx run (inr carried)
+
+    none_wanted : (list : List Outgoing) → in_transit (wanted tx key list) xs ≡ 0
+    none_wanted list = none_weigh start es xs run still (wanted tx key list) at_place
+      where
+        by_home : (other : TxId) (at : ℕ) (to : Place) → hosts start ≤ host_for start to → (b : Bool)
+            → (is_tc to.block && (to.node == tx.tc)) ≡ b
+            → one_if (b && (same_tx other tx && any_sent (is_completion tx key) (drop at list))) ≡ 0
+        by_home other at to high false is = refl
+        by_home other at to high true is = absurd (omega (arith, high, home_for start tx low to is))
+
+        at_place : IsZero start es xs run still (wanted tx key list)
+        at_place to (Chain (Complete other own chain at)) routed home high =
+            absurd (omega (
+              arith,
+              high,
+              replica_low start es xs run still own at (subst (λ (c : List Member). at < length c) routed.along routed.sent.inside) to
+                  (routed.sent.node_is ∙ ap (λ c. node_at c at) routed.along),
+            ))
+        at_place to (Host (Continue (work.Transaction other) at)) routed home high =
+            by_home other at to high (is_tc to.block && (to.node == tx.tc)) refl
+        at_place to _ routed home high = refl
+
+    way : (o : Option Transaction) → IsOnWay start tx key inside (logs_of start es) xs o
         → holds tx (lock_at_place start (logs_of start es) key (0 + 1)).holders ≡ false
-    way o (inl some) = absurd (omega (arith, some))
+    way o (inl some) = absurd (omega (arith, some, none_wanted (list_at start tx key inside o)))
     way o (inr gone) = out gone
 
     completing : (phase : Phase) → is_decided phase ≡ true → is_committing phase ≡ false → is_completing phase ≡ true
@@ -626,7 +648,7 @@ completed_let_go start es key tx run transit inside carried uncommitted =
     completing (Aborting why verifying awaited) is off = absurd (false≢true is)
 
     claim : (o : Option Transaction) → live_at start (logs_of start es) tx ≡ o
-        → Claim start tx key inside (logs_of start es) [] o
+        → Claim start tx key inside (logs_of start es) xs o
         → holds tx (lock_at_place start (logs_of start es) key (0 + 1)).holders ≡ false
     claim None is told = way None (told carried)
     claim (Some t) is told =
@@ -643,4 +665,4 @@ completed_let_go start es key tx run transit inside carried uncommitted =
     by false is = is
     by true is =
         claim (live_at start (logs_of start es) tx) refl
-        (completing_along start tx key inside es [] run transit (holders_passed start es key 0 tx run inside is))
+        (completing_along start tx key inside es xs run still.transit (holders_passed start es key 0 tx run inside is))

@@ -1,16 +1,13 @@
 -- Turn by turn: a completion of each key that a transaction has written is sent, or still to be sent.
-use Rattle.std.proofs.Common.{◌≡◌, ◌⊎◌, ◌≤◌, ◌<◌, ◌+◌, ◌-◌, ℕ, zero, suc, Bool, true, false, List, [], ◌∷◌, ◌++◌, length, refl}
+use Rattle.std.proofs.Common.{◌≡◌, ◌⊎◌, ◌≤◌, ◌-◌, ℕ, Bool, true, false, List, [], ◌∷◌, ◌++◌, length, refl}
 use Rattle.std.proofs.Common.{sym, ap, ◌∙◌, arith, inl, inr}
 use Rattle.std.proofs.lemmas.Bool.{and_parts, eqb-true, false≢true, or_cases, or_left, or_right, true≢false}
-use Rattle.std.proofs.lemmas.Bool.Decides.{nat_tests}
 use Rattle.std.proofs.lemmas.List.Folds.{list_any-append}
 use Rattle.std.specs.List.{flat_map, list_any}
-use Rattle.std.specs.Prelude.{◌==◌, ◌&&◌, ◌||◌, nat_lt, None, Some}
+use Rattle.std.specs.Prelude.{◌&&◌, ◌||◌, None, Some}
 use Rattle.run_theory.specs.Counts.{one_if}
-use Rattle.run_theory.specs.Lists.{Each}
 use Rattle.sig_core.proofs.Keys.{same_tx-self}
 use Rattle.sig_core.specs.declared.member.TxId.{TxId}
-use Rattle.sig_core.specs.declared.op.Op.{Op}
 use Rattle.sig_core.specs.declared.outcome.AbortCause.{AbortCause}
 use Rattle.sig_core.specs.declared.outs.Outgoing.{Outgoing}
 use Rattle.sig_core.specs.declared.place.Place.{Place}
@@ -25,16 +22,15 @@ use Rattle.frag_map.specs.Layout.{Layout}
 use Rattle.tc_block.specs.Abort as abort
 use Rattle.tc_block.specs.Abort.{is_verifying}
 use Rattle.tc_block.specs.Complete as complete
-use Rattle.tc_block.specs.declared.phase.Phase.{Phase}
-use Rattle.tc_block.specs.declared.phase.Phase.TheVariants.{Open, Verifying, Committing, Completing, Aborting}
+use Rattle.tc_block.specs.declared.phase.Phase.TheVariants.{Completing}
 use Rattle.tc_block.specs.declared.sends.TheConstants.{SENDS}
 use Rattle.tc_block.specs.declared.touched.Touched.{Touched}
 use Rattle.tc_block.specs.declared.transaction.Transaction.{Transaction}
 use Rattle.tc_block.specs.Operate.{is_ready, wait_by}
-use Rattle.tc_block.specs.Phases.{is_aborting, is_completing, is_decided}
+use Rattle.tc_block.specs.Phases.{is_completing, is_decided}
 use Rattle.tc_block.specs.Sends.{complete_if, entering, front_sends, go_on_if, key_sends, phase_sends}
 use Rattle.tc_block.specs.Touched.{fits, is_on}
-use Rattle.tc_block.specs.Turn.{Turn, asking, at_phase, going}
+use Rattle.tc_block.specs.Turn.{Turn, asking, going}
 use Rattle.tc_block.proofs.EachTurn.{AbortForms, CommittedForms, TurnFormsAt, is_onward, ready_is, rows_at}
 use Rattle.tc_block.proofs.TurnRows.{is_turn, tx_in, turn_for}
 use Rattle.host_laws.proofs.LqhOps.{true_and}
@@ -43,7 +39,7 @@ use Rattle.run_laws.proofs.TxTurns.{is_for, turn_each}
 use Rattle.run_laws.proofs.Weighing.{in_sends}
 use Rattle.order_laws.specs.Awaited.{awaited_in, due, list_length}
 use Rattle.order_laws.proofs.AwaitedTurns.{last_is}
-use Rattle.order_laws.proofs.Leads.{any_sent, late_leads, lead, leads, next_leads, part_leads}
+use Rattle.order_laws.proofs.Leads.{any_sent, late_leads, lead, next_leads, part_leads}
 use Rattle.sig_core.specs.Op.{key_of}
 
 -- the signal has the transaction's row completed

@@ -31,16 +31,16 @@ use Rattle.host_laws.proofs.Replicas.{logs_follow}
 use Rattle.order_laws.specs.Gone.{WhoHasGoneIsOut, gone_by, has_gone}
 use Rattle.order_laws.proofs.Lines.{holds_hold, holds_others, waits_aged, waits_last, waits_raised, waits_without}
 
-not_true : (b : Bool) → (b ≡ true → ⊥) → b ≡ false
+pub not_true : (b : Bool) → (b ≡ true → ⊥) → b ≡ false
 not_true true never = absurd (never refl)
 not_true false never = refl
 
 module _ (tx : TxId) where
-  record IsAway (hs : List Holder) (ws : List Wait) : Type 0 where
-    unheld : holds tx hs ≡ true → ⊥
-    unwaited : waits tx ws ≡ true → ⊥
+  pub record IsAway (hs : List Holder) (ws : List Wait) : Type 0 where
+    pub unheld : holds tx hs ≡ true → ⊥
+    pub unwaited : waits tx ws ≡ true → ⊥
 
-  abbrev IsAwayFrom : RowLock → Type 0
+  abbrev pub IsAwayFrom : RowLock → Type 0
   IsAwayFrom lock = IsAway lock.holders lock.queue
 
   -- it isn't a holder once it was taken out
@@ -171,7 +171,7 @@ module _ (tx : TxId) where
       subst (λ t. IsAwayFrom (released lock t).lock) (sym (same_tx-is v tx own)) (own_away lock)
   gone_away lock v was before (inr is) = released_away lock v (before is)
 
-  away_after : (event : Event) (r : Replica) (was : Bool) → (was ≡ true → IsAwayFrom r.lock)
+  pub away_after : (event : Event) (r : Replica) (was : Bool) → (was ≡ true → IsAwayFrom r.lock)
       → gone_by tx event was ≡ true → IsAwayFrom (key_after event r).lock
   away_after rests r was before is = before is
   away_after (asks q refused) r was before is = by (same_tx q.tx tx) refl is

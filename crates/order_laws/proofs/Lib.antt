@@ -1,3 +1,5 @@
+pub mod Aborting
+pub mod AbortingTurns
 pub mod Askers
 pub mod Attended
 pub mod Awaited
@@ -10,6 +12,10 @@ pub mod Completing
 pub mod CompletingTurns
 pub mod Ending
 pub mod Ends
+pub mod First
+pub mod FirstSources
+pub mod FirstTaken
+pub mod Further
 pub mod Gone
 pub mod Later
 pub mod Leads
@@ -20,6 +26,9 @@ pub mod Passed
 pub mod Performs
 pub mod Records
 pub mod Sources
+pub mod Standing
+pub mod Still
 pub mod Unanswered
 pub mod UnansweredTurns
+pub mod Writers
 pub mod Written

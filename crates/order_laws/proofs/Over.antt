@@ -6,7 +6,6 @@ use Rattle.sig_core.specs.declared.member.TxId.{TxId}
 use Rattle.sig_core.specs.declared.signal.Body.{Body}
 use Rattle.sig_core.specs.declared.signal.Body.TheVariants.{Chain}
 use Rattle.sig_core.specs.declared.signal.chain.ChainSignal.TheVariants.{Commit, Complete, Abort}
-use Rattle.sig_core.specs.declared.signal.host.Work.TheVariants as work
 use Rattle.node_core.specs.Blocks.{lqh_of}
 use Rattle.node_core.specs.Row.{row}
 use Rattle.world_core.specs.Machine.{after, machine}

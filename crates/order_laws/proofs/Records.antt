@@ -1,12 +1,11 @@
 -- Whom a replica passed on has a record there, until it lets go of the key.
 use Rattle.std.proofs.Common.{◌≡◌, ◌⊎◌, ◌<◌, ◌+◌, ℕ, Bool, true, false, List, [], ◌∷◌, ◌++◌, length, refl, sym, ap, ◌∙◌}
 use Rattle.std.proofs.Common.{subst, arith, inl, inr}
-use Rattle.std.proofs.lemmas.Bool.{false≢true, or_cases, or_left, or_right, true≢false}
+use Rattle.std.proofs.lemmas.Bool.{false≢true, or_cases, or_left, or_right}
 use Rattle.std.specs.Prelude.{if◌then◌else◌, is_some, Option, None, Some}
 use Rattle.run_theory.specs.Lists.{Each}
 use Rattle.sig_core.proofs.Keys.{same_tx-self}
 use Rattle.sig_core.proofs.TxLemmas.{same_tx-is}
-use Rattle.sig_core.specs.declared.member.Member.{Member}
 use Rattle.sig_core.specs.declared.member.TxId.{TxId}
 use Rattle.sig_core.specs.declared.op.Answer.{Answer}
 use Rattle.sig_core.specs.declared.op.Answer.TheVariants.{Done, Found, Missing, E626, E630}
@@ -51,7 +50,7 @@ use Rattle.order_laws.proofs.Askers.{asker, came, lined_along}
 use Rattle.order_laws.proofs.Attended.{first_idle}
 use Rattle.order_laws.proofs.Behind.{is_among}
 use Rattle.order_laws.proofs.LetGo.{came_past}
-use Rattle.order_laws.proofs.Passed.{ended_stays, passed, passed_all, passed_step}
+use Rattle.order_laws.proofs.Passed.{passed, passed_all, passed_step}
 use Rattle.order_laws.proofs.Performs.{Works, is_work, one_works, step_works}
 
 -- the transaction has a record

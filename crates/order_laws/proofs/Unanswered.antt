@@ -5,7 +5,6 @@ use Rattle.std.proofs.lemmas.Bool.{cases_eq, false≢true}
 use Rattle.std.specs.Prelude.{◌&&◌, if◌then◌else◌, Option, None, Some}
 use Rattle.run_theory.proofs.Runs.{log_of-other, log_of-own}
 use Rattle.run_theory.specs.Counts.{one_if, tally, total}
-use Rattle.run_theory.specs.Lists.{Each}
 use Rattle.sig_core.proofs.Keys.{same_tx-self}
 use Rattle.sig_core.specs.declared.member.TxId.{TxId}
 use Rattle.sig_core.specs.declared.outs.Outgoing.{Outgoing}
@@ -17,9 +16,7 @@ use Rattle.sig_core.specs.Op.{key_of}
 use Rattle.sig_core.specs.Same.{same_key, same_tx}
 use Rattle.sig_core.specs.Step.{Effects, Step}
 use Rattle.sig_core.specs.Work.{work_key}
-use Rattle.frag_map.specs.Layout.{Layout, chain_of, first_layout}
-use Rattle.frag_map.specs.Shape.{IsShape}
-use Rattle.lqh_block.specs.declared.request.Request.{Request}
+use Rattle.frag_map.specs.Layout.{Layout, first_layout}
 use Rattle.lqh_block.specs.State.{LqhState}
 use Rattle.lqh_block.specs.Work.{is_for}
 use Rattle.tc_block.proofs.LiveKeeps.{SendsBeside}
@@ -29,10 +26,9 @@ use Rattle.tc_block.specs.declared.phase.Asked.{Asked}
 use Rattle.tc_block.specs.declared.phase.Phase.{Phase}
 use Rattle.tc_block.specs.declared.phase.Phase.TheVariants.{Open, Verifying, Committing, Completing, Aborting}
 use Rattle.tc_block.specs.declared.transaction.Transaction.{Transaction}
-use Rattle.tc_block.specs.Operate.{fresh}
 use Rattle.tc_block.specs.Phases.{is_aborting}
 use Rattle.tc_block.specs.State.{TcState}
-use Rattle.tc_block.specs.Tc.{next_tx, tc_row}
+use Rattle.tc_block.specs.Tc.{tc_row}
 use Rattle.tc_block.specs.Turn.{Turn}
 use Rattle.node_core.proofs.HostCases.{BlockCase, IsTcStep, api_takes, block_case, dih_takes, none_takes, rows_take, tc_takes}
 use Rattle.node_core.specs.Blocks.{api_of, dih_of, lqh_of, tc_of}
@@ -44,19 +40,18 @@ use Rattle.world_core.specs.Machine.{after, machine, signals_of, step_after}
 use Rattle.world_core.specs.Start.{Start}
 use Rattle.world_core.specs.Steps.{Addressed, HostStep}
 use Rattle.host_laws.proofs.ApiMoves.{is_api_kind}
-use Rattle.host_laws.proofs.BlocksAlong.{first_live, first_waiting, tc_layout}
+use Rattle.host_laws.proofs.BlocksAlong.{first_waiting, tc_layout}
 use Rattle.host_laws.proofs.DihSends.{dih_kinds}
 use Rattle.host_laws.proofs.OfLive.{each_found}
 use Rattle.host_laws.proofs.SendKinds.{each_of, is_dih_kind}
-use Rattle.host_laws.proofs.Sums.{total_at, total_one}
+use Rattle.host_laws.proofs.Sums.{total_one}
 use Rattle.host_laws.proofs.TcLives.{IsOwn, apart}
 use Rattle.host_laws.proofs.TcSteps.{left_of_turn}
 use Rattle.host_laws.proofs.TurnKinds.{OwnKinds, TurnOnly, own_kinds}
 use Rattle.host_laws.specs.Live.{of_live}
 use Rattle.host_laws.specs.Ways.{back_by, sent_ways}
 use Rattle.run_laws.specs.Live.{live_at, of_host}
-use Rattle.run_laws.specs.Routes.{replicas}
-use Rattle.run_laws.specs.Transit.{AreInTransit, Comes, IsRun, Takes, joined, logs_of}
+use Rattle.run_laws.specs.Transit.{AreInTransit, Comes, Takes, joined, logs_of}
 use Rattle.run_laws.proofs.Addressed.{comes_below}
 use Rattle.run_laws.proofs.HomeSteps.{IsHome, all_home, away, here_now, here_was, own_home, unborn_absent}
 use Rattle.run_laws.proofs.LiveOf.{of_each}
@@ -107,7 +102,7 @@ own tx body = record {
   rolled_back = λ why. refl;
 }
 
-others_apart : (tx : TxId) (key : List ℕ) (s : TcState) (body : Body)
+pub others_apart : (tx : TxId) (key : List ℕ) (s : TcState) (body : Body)
     → OthersSend (λ (o : Outgoing). is_part_on tx key o.body ≡ false) tx s body
 others_apart tx key s body one off its t =
     each_of (is_own one) (λ o. is_part_on tx key o.body ≡ false) (λ o e. own_apart one tx key off o.body e)
@@ -115,17 +110,17 @@ others_apart tx key s body one off its t =
     (turn_each s.node s.layout one body t (TurnOnly (is_own one))
     (own_kinds (is_own one) one body (own one body) s.node s.layout t) its)
 
-beside_apart : (tx : TxId) (key : List ℕ) (s : TcState)
+pub beside_apart : (tx : TxId) (key : List ℕ) (s : TcState)
     → SendsBeside (λ (o : Outgoing). is_part_on tx key o.body ≡ false) s
 beside_apart tx key s =
     record { full = λ name. (refl, tt); begins = λ name. (refl, tt); passes = λ one ahead. (refl, tt) }
 
-api_apart : (tx : TxId) (key : List ℕ) (body : Body) → is_api_kind body ≡ true → is_part_on tx key body ≡ false
+pub api_apart : (tx : TxId) (key : List ℕ) (body : Body) → is_api_kind body ≡ true → is_part_on tx key body ≡ false
 api_apart tx key (Client c) is = refl
 api_apart tx key (Host Round) is = refl
 api_apart tx key _ is = absurd cc
 
-dih_apart : (tx : TxId) (key : List ℕ) (body : Body) → is_dih_kind body ≡ true → is_part_on tx key body ≡ false
+pub dih_apart : (tx : TxId) (key : List ℕ) (body : Body) → is_dih_kind body ≡ true → is_part_on tx key body ≡ false
 dih_apart tx key (Epoch x) is = refl
 dih_apart tx key _ is = absurd cc
 
@@ -142,11 +137,11 @@ module _ (start : Start) (tx : TxId) (key : List ℕ) where
   abbrev Few : List HostStep → List Addressed → Type 0
   Few es xs = parts_on start (logs_of start es) xs tx key ≤ one_if (asks_on key (live_at start (logs_of start es) tx))
 
-  tally_is : (xs : List Addressed) → parts_in xs ≡ in_transit (λ to body. one_if (is_part_on tx key body)) xs
+  pub tally_is : (xs : List Addressed) → parts_in xs ≡ in_transit (λ to body. one_if (is_part_on tx key body)) xs
   tally_is [] = refl
   tally_is (x ∷ xs) = ap (λ n. one_if (is_part_on tx key x.signal.body) + n) (tally_is xs)
 
-  sends_is : (sends : List Outgoing)
+  pub sends_is : (sends : List Outgoing)
       → parts_out tx key sends ≡ weigh (λ (o : Outgoing). one_if (is_part_on tx key o.body)) sends
   sends_is [] = refl
   sends_is (o ∷ sends) = ap (λ n. one_if (is_part_on tx key o.body) + n) (sends_is sends)
@@ -241,7 +236,7 @@ module _ (start : Start) (tx : TxId) (key : List ℕ) where
           ap (λ o. one_if (asks_on key o)) there,
           ap (λ o. one_if (is_on_key key o)) alike,
         ))
-    turned node t turn there rows sent (asks over nothing less) =
+    turned node t turn there rows sent (asks over nothing less unaborted unbacked) =
         subst (λ b. Goal (if b then None else Some turn.step.state)) (sym over)
         (omega (
           arith,

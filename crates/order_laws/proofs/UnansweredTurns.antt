@@ -1,22 +1,21 @@
 -- Turn by turn and row by row: parts of an operation on a key, and the operation that is unanswered.
-use Rattle.std.proofs.Common.{◌≡◌, ◌≤◌, ◌+◌, ℕ, Bool, true, false, List, [], ◌∷◌, length, refl, sym, ap, ◌∙◌, subst, arith}
-use Rattle.std.proofs.lemmas.Bool.{and_parts, eqb-true, false≢true, true≢false}
-use Rattle.std.specs.Prelude.{◌==◌, ◌&&◌, Option, None, Some}
+use Rattle.std.proofs.Common.{◌≡◌, ◌≤◌, ◌+◌, ℕ, Bool, true, false, List, [], ◌∷◌, length, refl, sym, ap, ◌∙◌, arith}
+use Rattle.std.proofs.lemmas.Bool.{and_parts, eqb-true, false≢true}
+use Rattle.std.specs.Prelude.{◌&&◌, Option, None, Some}
 use Rattle.run_theory.specs.Counts.{one_if, tally}
 use Rattle.run_theory.specs.Lists.{Each}
 use Rattle.run_theory.proofs.Tally.{tally_none}
 use Rattle.sig_core.proofs.Keys.{same_tx-self}
 use Rattle.sig_core.proofs.TxLemmas.{same_tx-is}
 use Rattle.sig_core.specs.declared.member.TxId.{TxId}
-use Rattle.sig_core.specs.declared.op.Op.{Op}
 use Rattle.sig_core.specs.declared.outcome.AbortCause.{AbortCause}
 use Rattle.sig_core.specs.declared.outs.Outgoing.{Outgoing}
 use Rattle.sig_core.specs.declared.signal.Body.{Body}
-use Rattle.sig_core.specs.declared.signal.Body.TheVariants.{Chain}
-use Rattle.sig_core.specs.declared.signal.chain.ChainSignal.TheVariants.{LqhKeyConf, LqhKeyRef, LqhKeyReq}
+use Rattle.sig_core.specs.declared.signal.Body.TheVariants.{Chain, Client}
+use Rattle.sig_core.specs.declared.signal.chain.ChainSignal.TheVariants.{Abort, LqhKeyConf, LqhKeyRef, LqhKeyReq}
+use Rattle.sig_core.specs.declared.signal.client.ClientSignal.TheVariants.{TcRollbackRep}
 use Rattle.sig_core.specs.Op.{key_of}
 use Rattle.sig_core.specs.Same.{same_key, same_tx}
-use Rattle.sig_core.specs.Step.{stay}
 use Rattle.sig_core.specs.Work.{work_key}
 use Rattle.frag_map.specs.Layout.{Layout, chain_of}
 use Rattle.lqh_block.proofs.IndexLemmas as keys
@@ -34,12 +33,11 @@ use Rattle.tc_block.specs.declared.phase.Phase.{Phase}
 use Rattle.tc_block.specs.declared.phase.Phase.TheVariants.{Open, Verifying, Committing, Completing, Aborting}
 use Rattle.tc_block.specs.declared.transaction.Transaction.{Transaction}
 use Rattle.tc_block.specs.Operate.{is_ready}
-use Rattle.tc_block.specs.Part.{part_effects}
 use Rattle.tc_block.specs.Phases.{is_aborting}
 use Rattle.tc_block.specs.Sends.{aborts_of, entering, front_sends, go_on_if, wait_of, waits_of}
 use Rattle.tc_block.specs.Touched.{fits}
-use Rattle.tc_block.specs.Turn.{Turn, asking, going}
-use Rattle.tc_block.proofs.EachTurn.{AbortForms, CommittedForms, IsAnswered, IsRowAnswer, TurnFormsAt, by_conf, by_ref, may_ask}
+use Rattle.tc_block.specs.Turn.{Turn, asking}
+use Rattle.tc_block.proofs.EachTurn.{CommittedForms, IsAnswered, IsRowAnswer, TurnFormsAt, by_conf, by_ref, may_ask}
 use Rattle.tc_block.proofs.EachTurn.{ready_is, rows_at}
 use Rattle.tc_block.proofs.TurnRows.{turn_for}
 use Rattle.host_laws.proofs.PhaseSends.{HasChains, aborts_of_kind, entering_of_kind, rest_of_kind}
@@ -53,6 +51,15 @@ use Rattle.order_laws.specs.Unanswered.{is_on_key, is_part_on}
 use Rattle.order_laws.proofs.AwaitedTurns.{last_is}
 use Rattle.run_theory.proofs.Focus.{none_placed}
 
+-- the signal takes the transaction back
+abbrev pub is_backing : TxId → Body → Bool
+is_backing tx (Chain (Abort other own)) = same_tx other tx
+is_backing tx (Client (TcRollbackRep other cause)) = same_tx other tx
+is_backing tx body = false
+
+abbrev pub AreUnbacked : TxId → List Outgoing → Type 0
+AreUnbacked tx sends = Each (λ (o : Outgoing). is_backing tx o.body ≡ false) sends
+
 module _ (tx : TxId) (key : List ℕ) where
   -- how many of these signals are parts of an operation on the key
   abbrev pub parts_out : List Outgoing → ℕ
@@ -65,7 +72,7 @@ module _ (tx : TxId) (key : List ℕ) where
   apart_out sends all = tally_none (λ (o : Outgoing). is_part_on tx key o.body) sends all
 
   -- no part of an operation
-  abbrev is_plain : Body → Bool
+  abbrev pub is_plain : Body → Bool
   is_plain (Chain (LqhKeyReq other work chain at)) = false
   is_plain (Chain (LqhKeyConf other own answer)) = false
   is_plain (Chain (LqhKeyRef other own cause)) = false
@@ -77,12 +84,12 @@ module _ (tx : TxId) (key : List ℕ) where
   plain_apart (Chain (LqhKeyRef other own cause)) is = absurd (false≢true is)
   plain_apart _ is = refl
 
-  plain_out : (sends : List Outgoing) → are_of is_plain sends ≡ true → parts_out sends ≡ 0
+  pub plain_out : (sends : List Outgoing) → are_of is_plain sends ≡ true → parts_out sends ≡ 0
   plain_out sends all =
       apart_out sends
       (each_of is_plain (λ (o : Outgoing). is_part_on tx key o.body ≡ false) (λ o is. plain_apart o.body is) sends all)
 
-  plain_chains : HasChains tx is_plain
+  pub plain_chains : HasChains tx is_plain
   plain_chains = record {
     commits = λ own epoch chain at. refl;
     completes = λ own chain at. refl;
@@ -150,7 +157,8 @@ module _ (tx : TxId) (key : List ℕ) where
       same : turn.over ≡ false → turn.step.state.asked ≡ t.asked → parts_out turn.step.effects.sends ≡ 0
           → Parts t body turn
       asks : turn.over ≡ false → t.asked ≡ None
-          → parts_out turn.step.effects.sends ≤ one_if (is_on_key key turn.step.state.asked) → Parts t body turn
+          → parts_out turn.step.effects.sends ≤ one_if (is_on_key key turn.step.state.asked)
+          → is_aborting t.phase ≡ false → AreUnbacked tx turn.step.effects.sends → Parts t body turn
       answered : one_if (is_on_key key t.asked) ≤ one_if (is_part_on tx key body)
           → parts_out turn.step.effects.sends ≡ 0 → Parts t body turn
       free : t.asked ≡ None → parts_out turn.step.effects.sends ≡ 0 → Parts t body turn
@@ -162,11 +170,11 @@ module _ (tx : TxId) (key : List ℕ) where
     shut_none None phase right shut = refl
     shut_none (Some asked) phase right shut = absurd (false≢true (sym shut ∙ right))
 
-    end_none : (why : AbortCause) (b : Bool) → parts_out (abort.abort_end node tx why b) ≡ 0
+    pub end_none : (why : AbortCause) (b : Bool) → parts_out (abort.abort_end node tx why b) ≡ 0
     end_none why true = refl
     end_none why false = refl
 
-    front_plain : (phase : Phase) → are_of is_plain (front_sends tx phase) ≡ true
+    pub front_plain : (phase : Phase) → are_of is_plain (front_sends tx phase) ≡ true
     unfolding front_sends
     front_plain (Completing epoch awaited) = refl
     front_plain (Committing epoch awaited) = refl
@@ -174,7 +182,7 @@ module _ (tx : TxId) (key : List ℕ) where
     front_plain Open = refl
     front_plain Verifying = refl
 
-    enters_none : (t : Transaction) (phase : Phase)
+    pub enters_none : (t : Transaction) (phase : Phase)
         → parts_out (entering node layout tx t phase).effects.sends ≡ 0
     enters_none t phase =
         plain_out (entering node layout tx t phase).effects.sends
@@ -222,8 +230,10 @@ module _ (tx : TxId) (key : List ℕ) where
             (plain_out (go_on_if node layout tx t at true).effects.sends
             (rest_of_kind is_plain layout tx plain_chains node t at (front_plain t.phase)));
         operates = λ op is can.
-            asks refl (ready_is t.phase t.asked (and_parts (is_ready t.phase t.asked) (fits t.touched (key_of op)) can).0).1
-            (omega (arith, ap (λ b. one_if (b && same_key (key_of op) key)) (same_tx-self tx)));
+            let opened = ready_is t.phase t.asked (and_parts (is_ready t.phase t.asked) (fits t.touched (key_of op)) can).0
+            in
+            asks refl opened.1 (omega (arith, ap (λ b. one_if (b && same_key (key_of op) key)) (same_tx-self tx)))
+            (ap is_aborting opened.0) (refl, tt);
         answers = λ own answer asked is on at. answered (own_answer own asked on (ap (is_part_on tx key) is)) refl;
         late = λ own asked why verifying awaited is on at.
             answered (own_answer own asked on (row_answer own is))

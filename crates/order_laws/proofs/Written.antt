@@ -52,7 +52,6 @@ use Rattle.key_laws.specs.OneKey.{ops_on}
 use Rattle.key_laws.specs.Records.{found}
 use Rattle.host_laws.proofs.OfLive.{each_found}
 use Rattle.host_laws.proofs.TcSteps.{left_of_turn}
-use Rattle.host_laws.proofs.TcWays.{not_both}
 use Rattle.host_laws.specs.Live.{of_live}
 use Rattle.host_laws.specs.Ways.{back_by, sent_ways}
 use Rattle.run_laws.specs.Circle.{Agree, IsSettledFor, at_host, at_primary}
@@ -76,7 +75,7 @@ use Rattle.run_laws.proofs.TxTurns as turn
 use Rattle.run_laws.proofs.TxTurns.{TcTurn, is_for, tc_turn, turn_each}
 use Rattle.run_laws.proofs.VerifiedSettled.{verified_settled}
 use Rattle.run_laws.proofs.Ways.{given_more}
-use Rattle.run_laws.proofs.Weighing.{in_sends, in_transit, joins_weigh, none_passes, none_weighs, weigh_none}
+use Rattle.run_laws.proofs.Weighing.{in_transit, joins_weigh, none_passes, none_weighs, weigh_none}
 use Rattle.order_laws.specs.LetGo.{has_let_go}
 use Rattle.order_laws.specs.Records.{HasWritten, WhoCommitsHasWritten, has_record}
 use Rattle.order_laws.proofs.Askers.{asker}
@@ -84,7 +83,7 @@ use Rattle.order_laws.proofs.Behind.{is_among}
 use Rattle.order_laws.proofs.Ending.{ending}
 use Rattle.order_laws.proofs.Over.{who_lets_go_is_over}
 use Rattle.order_laws.proofs.Passed.{passed, passed_all, passed_step}
-use Rattle.order_laws.proofs.Records.{IsPassed, holders_passed, passed_known}
+use Rattle.order_laws.proofs.Records.{holders_passed, passed_known}
 
 -- where one replica has a record the other one has it
 agree_some : (a b : Option PendingRecord) → Agree a b → is_some b ≡ true → is_some a ≡ true

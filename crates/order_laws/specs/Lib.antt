@@ -1,7 +1,12 @@
+pub mod Aborting
 pub mod Awaited
 pub mod Carried
 pub mod Completing
+pub mod First
 pub mod Gone
 pub mod LetGo
 pub mod Records
+pub mod Standing
+pub mod Still
 pub mod Unanswered
+pub mod Writers

@@ -1,11 +1,15 @@
 //! Whom a transaction waits for at a replica behind the primary.
+ghost use Rattle.order_laws.specs.Aborting.{GivenUpHoldersWait};
 ghost use Rattle.order_laws.specs.Awaited.{AllIsAwaited};
 ghost use Rattle.order_laws.specs.Carried.{CarriedOutStayOut};
 ghost use Rattle.order_laws.specs.Completing.{CompletedLetGo};
+ghost use Rattle.order_laws.specs.First.{GivenUpAreOutAtFirst};
 ghost use Rattle.order_laws.specs.Gone.{WhoHasGoneIsOut};
 ghost use Rattle.order_laws.specs.LetGo.{HoldersAreEnding, HoldersHaveLetGo, LaterHoldersAreGivenUp, WhoLetsGoIsOver};
 ghost use Rattle.order_laws.specs.Records.{HoldersHaveRecords, WhoCommitsHasWritten};
+ghost use Rattle.order_laws.specs.Standing.{WhoIsAwayIsOut};
 ghost use Rattle.order_laws.specs.Unanswered.{PartsAreUnanswered};
+ghost use Rattle.order_laws.specs.Writers.{HoldersBehindDontWait};
 
 /// After every run: whom a transaction waits for at a place of a key's chain behind the first has let
 /// go of the key at the place in front, by an abort, by a completion, or by its commit at the primary.
@@ -74,4 +78,29 @@ pub fn completed_let_go()
 #[tactic(auto, using(crate::proofs::Unanswered::parts_are_unanswered))]
 pub fn parts_are_unanswered()
     ensures { PartsAreUnanswered }
+{}
+
+/// Who never asked for a key at a place of its chain, or has let go of it there since, neither holds its
+/// lock nor waits for it.
+pub fn who_is_away_is_out()
+    ensures { WhoIsAwayIsOut }
+{}
+
+/// Where nothing is under way, a transaction that is given up and holds the lock at a place of a chain
+/// waits itself for that place or one behind it.
+#[tactic(auto, using(crate::proofs::Aborting::given_up_holders_wait))]
+pub fn given_up_holders_wait()
+    ensures { GivenUpHoldersWait }
+{}
+
+/// Where nothing is under way, a transaction that is given up neither holds the lock of a key at its
+/// primary nor waits for it.
+pub fn given_up_are_out_at_first()
+    ensures { GivenUpAreOutAtFirst }
+{}
+
+/// Who holds the lock of a key at a place of its chain behind the first doesn't wait for it there.
+#[tactic(auto, using(crate::proofs::Writers::holders_behind_dont_wait))]
+pub fn holders_behind_dont_wait()
+    ensures { HoldersBehindDontWait }
 {}

@@ -201,10 +201,10 @@ module _ (start : Start) where
             ∙ ap (λ w. w ++ taken (machine start) i (now j)) (sym (joined_other h i j sends between off from_here)))
 
   -- some list that has the links in it
-  record HasTransit (es : List HostStep) : Type 0 where
-    xs : List Addressed
-    transit : AreInTransit start es xs
-    links : HaveLinks (logs_of start es) xs
+  pub record HasTransit (es : List HostStep) : Type 0 where
+    pub xs : List Addressed
+    pub transit : AreInTransit start es xs
+    pub links : HaveLinks (logs_of start es) xs
 
   passes : (es : List HostStep) (e : HostStep) → Comes start es e → (was : HasTransit es) → (between : List Addressed) → IsBetween es e was.xs between → HasTransit (e ∷ es)
   passes es e come was between is = record {
@@ -220,7 +220,7 @@ module _ (start : Start) where
       by true request = passes es e come was was.xs (asks es e come was.xs was.links request)
       by false signal = passes es e come was _ (gives es e come was.xs was.links signal)
 
-  has_transit : (es : List HostStep) → IsRun start es → HasTransit es
+  pub has_transit : (es : List HostStep) → IsRun start es → HasTransit es
   has_transit [] run = record { xs = []; transit = refl; links = record { links = λ i j. refl } }
   has_transit (e ∷ es) run = has_next es e (comes start es e run) (has_transit es (earlier start es e run))
 
