@@ -12,7 +12,7 @@ use Rattle.lqh_views.specs.declared.report.Report.{Report}
 use Rattle.lqh_views.specs.Replica.{replica_by, replica_row}
 use Rattle.lqh_views.specs.Report.{ending, found_at, found_if, go_on_by, is_orphaned_marker, is_orphaned_record, last_before, marker_by, record_by, reporting, telling, told_marker, told_record}
 use Rattle.lqh_views.specs.State.{ReplicaState, with_report}
-use Rattle.lqh_views.specs.Told.{IsOwn, ReportsTellEachOnce, from_the_last, left_to_tell, the_end, told_alone, whole}
+use Rattle.lqh_views.specs.WholeReports.{IsOwn, ReportsTellEachOnce, from_the_last, left_to_tell, the_end, told_alone, whole}
 
 -- the first entries, and the one behind them
 take_next : {X : Type 0} (xs : List X) (n : ℕ) (x : X) → slice_get xs n ≡ Some x → take (suc n) xs ≡ take n xs ++ x ∷ []

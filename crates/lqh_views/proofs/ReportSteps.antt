@@ -36,10 +36,10 @@ use Rattle.lqh_views.specs.Epochs.{epoch_table}
 use Rattle.lqh_views.specs.Replica.{is_stale, passed, replica_by, serve_if}
 use Rattle.lqh_views.specs.Report.{go_on_by, is_orphaned, is_orphaned_marker, is_orphaned_record, last_before, marker_by, record_by, reporting, told, told_marker, told_record, told_record_if}
 use Rattle.lqh_views.specs.State.{ReplicaState}
-use Rattle.lqh_views.specs.Told.{IsMarkerTold, IsRecordTold, asks, before_end, ends, has_marker, has_record, the_end}
+use Rattle.lqh_views.specs.WholeReports.{IsMarkerTold, IsRecordTold, asks, before_end, ends, has_marker, has_record, the_end}
 use Rattle.lqh_views.proofs.AddressLemmas.{same-body}
 use Rattle.lqh_views.proofs.Below.{Leaves, NoneFrom, last_leaves, none_any}
-use Rattle.lqh_views.proofs.Entries.{AreKept, both, lists_kept, same_lists}
+use Rattle.lqh_views.proofs.ListsKept.{AreKept, both, lists_kept, same_lists}
 use Rattle.sig_core.specs.declared.signal.takeover.RecordState.{RecordState}
 
 -- steps that aren't of the report

@@ -1,6 +1,6 @@
 //! What is true of the steps of a node's rows under views.
 ghost use Rattle.lqh_views.specs.Laws.{CalmSteps, InstallationsEndWaits, ReportsAreTrue};
-ghost use Rattle.lqh_views.specs.Told.{ReportsLeaveNothingOut, ReportsTellEachOnce};
+ghost use Rattle.lqh_views.specs.WholeReports.{ReportsLeaveNothingOut, ReportsTellEachOnce};
 
 /// Where all whom a step of the rows tells of the end of a transaction's part are coordinators that
 /// are full members, a step at a signal of the rows is that of `Lqh`, and all else stays.
