@@ -1,5 +1,5 @@
 use Rattle.std.proofs.Common.{◌≡◌}
-use Rattle.ndb_shell.proofs.standard.StdSourceSource.read.Given as goal
+use Rattle.host_real.proofs.standard.StdSinkSink.write.Given as goal
 
 -- no fault is counted before the last try
 abbrev pub invariant-loop : goal.invariant-loop
