@@ -1,2 +1,5 @@
 pub mod SourceLemmas
 pub mod StateLemmas
+pub mod FileLemmas
+pub mod OutcomeLemmas
+pub mod MemoryLemmas

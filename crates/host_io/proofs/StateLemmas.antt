@@ -4,16 +4,11 @@ use Rattle.std.proofs.lemmas.Bool.{eq-eqb}
 use Rattle.std.proofs.lemmas.List.{ext_get_or, length-drop, length-replicate, length-take-le}
 use Rattle.std.proofs.lemmas.List.Elements.{All-append, All-drop, All-nil, All-push, All-replicate, All-take, All-weaker}
 use Rattle.std.specs.List.{All}
-use Rattle.host_io.specs.declared.dirty.DirtyRange.{DirtyRange}
 use Rattle.host_io.specs.declared.limits.TheConstants.{FILES}
 use Rattle.host_io.specs.Call.{Call, Wrote, Tore, Synced, Lost}
-use Rattle.host_io.specs.DiskState.{FileState, dirtied, filled_up, fresh_file, laid, put_over, settled, state_of, written}
+use Rattle.host_io.specs.DiskState.{FileState, LiesWithin, dirtied, filled_up, fresh_file, laid, put_over, settled, state_of, written}
 use Rattle.host_io.specs.Image.{AreBytes, IsImage, IsRecord}
 use Rattle.host_io.specs.Laws.{ReadsAsAnImage, SyncedIsKept}
-
--- a range lies within so many bytes
-abbrev pub LiesWithin : ℕ → DirtyRange → Type 0
-LiesWithin size range = (range.from ≤ range.to) × (range.to ≤ size)
 
 pub record IsSound (s : FileState) : Type 0 where
   pub are_bytes : AreBytes s.bytes
@@ -63,26 +58,31 @@ laid_bytes at (byte ∷ piece) bytes new old =
 dirtied_within : (at asked before now : ℕ) → before ≤ now → LiesWithin now (dirtied at asked before now)
 dirtied_within at asked before now grows = (omega (arith, grows), omega (arith, grows))
 
+-- the dirty ranges after a write lie within the file
+pub ranges_grow : (s : FileState) (at asked : ℕ) (piece : List ℕ) → All (LiesWithin (length s.bytes)) s.dirty
+    → All (LiesWithin (length (laid at piece s.bytes))) (written s at asked piece).dirty
+ranges_grow s at asked piece ranges =
+    let now = length (laid at piece s.bytes) in
+    let grows = laid_grows at piece s.bytes in
+    All-push
+    (LiesWithin now)
+    s.dirty
+    (dirtied at asked (length s.bytes) now)
+    (All-weaker
+    (LiesWithin (length s.bytes))
+    (LiesWithin now)
+    (λ range within. (within.0, omega (arith, grows, within.1)))
+    s.dirty
+    ranges)
+    (dirtied_within at asked (length s.bytes) now grows)
+
 pub written_sound : (s : FileState) (at asked : ℕ) (piece : List ℕ) → IsSound s → AreBytes piece
     → IsSound (written s at asked piece)
 written_sound s at asked piece sound new =
-    let now = length (laid at piece s.bytes) in
-    let grows = laid_grows at piece s.bytes in
     record {
       are_bytes = laid_bytes at piece s.bytes new sound.are_bytes;
-      to_synced = omega (arith, grows, sound.to_synced);
-      ranges =
-          All-push
-          (LiesWithin now)
-          s.dirty
-          (dirtied at asked (length s.bytes) now)
-          (All-weaker
-          (LiesWithin (length s.bytes))
-          (LiesWithin now)
-          (λ range within. (within.0, omega (arith, grows, within.1)))
-          s.dirty
-          sound.ranges)
-          (dirtied_within at asked (length s.bytes) now grows);
+      to_synced = omega (arith, laid_grows at piece s.bytes, sound.to_synced);
+      ranges = ranges_grow s at asked piece sound.ranges;
     }
 
 pub settled_sound : (bytes : List ℕ) → AreBytes bytes → IsSound (settled bytes)

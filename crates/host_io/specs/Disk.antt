@@ -1,5 +1,5 @@
 -- What the calls on a disk that tells its record come to.
-use Rattle.std.specs.Prelude.{◌≡◌, ℕ, ◌+◌, ◌-◌, ◌⊎◌, Bool, true, false, min, Option, Some, List, ◌∷◌, ◌++◌, take, drop, length}
+use Rattle.std.specs.Prelude.{◌≡◌, ℕ, ◌-◌, ◌⊎◌, Bool, true, false, min, Option, Some, List, ◌∷◌, ◌++◌, take, drop, length}
 use Rattle.host_io.specs.Call.{Call, Wrote, Tore, Synced, Lost}
 use Rattle.host_io.specs.Image.{MayFollow}
 

@@ -1,5 +1,5 @@
 -- What a disk holds, as the record of its calls tells, newest first.
-use Rattle.std.specs.Prelude.{ℕ, ◌+◌, ◌-◌, ◌==◌, Bool, min, map, nat_le, nat_lt, ◌&&◌, List, [], ◌∷◌, ◌++◌, take, drop, length, replicate, get_or, if◌then◌else◌}
+use Rattle.std.specs.Prelude.{ℕ, ◌+◌, ◌-◌, ◌≤◌, ◌==◌, Bool, min, map, nat_le, nat_lt, ◌&&◌, List, [], ◌∷◌, ◌++◌, take, drop, length, replicate, get_or, if◌then◌else◌}
 use Rattle.std.specs.List.{list_any, range_with_len}
 use Rattle.host_io.specs.declared.dirty.DirtyRange.{DirtyRange}
 use Rattle.host_io.specs.declared.limits.TheConstants.{FILES}
@@ -14,6 +14,10 @@ pub record FileState : Type 0 where
 -- one that was never written
 abbrev pub fresh_file : FileState
 fresh_file = record { bytes = []; synced = 0; dirty = [] }
+
+-- a range lies within so many bytes
+abbrev pub LiesWithin : ℕ → DirtyRange → Type 0
+LiesWithin size range = (range.from ≤ range.to) × (range.to ≤ size)
 
 abbrev pub is_dirty : FileState → ℕ → Bool
 is_dirty s at = list_any (λ range. nat_le range.from at && nat_lt at range.to) s.dirty

@@ -5,4 +5,6 @@ pub mod Call
 pub mod DiskState
 pub mod Image
 pub mod Disk
+pub mod Outcome
+pub mod Memory
 pub mod Laws

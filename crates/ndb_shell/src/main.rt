@@ -2,11 +2,9 @@
 //! answers on standard output, and ends with the session's status.
 #![tactic(auto)]
 
-mod standard;
-
 use host_io::NoGate;
+use host_real::{StdSink, StdSource};
 use shell_top::run_shell;
-use standard::{StdSink, StdSource};
 use std::alloc::{AllocError, Global};
 use std::process::ExitCode;
 use std::{env, io, mem};

@@ -1,0 +1,77 @@
+//! A page.
+ghost use Rattle.std.specs.Prelude.{◌≡◌, ◌<◌, IfOk, None, length, slice_index_or, slice_set};
+ghost use Rattle.tuple_pages.specs.Places.{rewritten};
+ghost use Rattle.sig_core.specs.Rows.{kept_epoch};
+
+use sig_core::{NoMemory, Slot, Value};
+use std::alloc::Global;
+use std::marker::Model;
+
+/// The slots of a page.
+pub const PAGE_SLOTS: usize = 128;
+
+/// A page: so many slots, each free or taken. Contracts see their list.
+#[derive(Drop)]
+pub struct Page {
+    slots: Vec<Option<Slot>>,
+}
+
+impl Model for Page {
+    ghost use Rattle.std.specs.Prelude.{List, Option};
+    ghost use Rattle.sig_core.specs.declared.rows.Slot.{Slot};
+
+    ghost Value = { List (Option Slot) };
+
+    ghost view = { λ p. p.slots.items };
+}
+
+impl Page {
+    /// A page of free slots.
+    ///
+    /// # Errors
+    /// `NoMemory`.
+    pub fn new(alloc: Global) -> Result<Page, NoMemory>
+        ensures { IfOk result (λ page. length page ≡ PAGE_SLOTS) }
+    {
+        let mut slots = Vec::with_capacity(alloc, PAGE_SLOTS)?;
+        slots.resize(PAGE_SLOTS, None)?;
+        Ok(Page { slots })
+    }
+
+    /// A slot.
+    pub fn get(&self, at: usize) -> &Option<Slot>
+        requires { at < length self.now }
+        ensures { result.now ≡ slice_index_or self.now at None }
+    {
+        &self.slots[at]
+    }
+
+    /// Writes a slot.
+    pub fn set(&mut self, at: usize, slot: Option<Slot>)
+        requires { at < length self.old }
+        ensures { self.new ≡ slice_set self.old at slot }
+    {
+        self.slots[at] = slot;
+    }
+}
+
+/// What a slot is once its row is this, of this epoch.
+pub fn rewritten(slot: &Option<Slot>, row: &Option<Value>, epoch: u64) -> Option<Slot>
+    ensures { result ≡ rewritten slot.now row.now epoch }
+{
+    match slot {
+        Some(slot) => Some(Slot {
+            key: slot.key,
+            row: *row,
+            epoch: kept_epoch(row, epoch),
+        }),
+        None => None,
+    }
+}
+
+// The epoch that is kept of a row: 0 where it is none.
+fn kept_epoch(row: &Option<Value>, epoch: u64) -> u64
+    ensures { result ≡ kept_epoch row.now epoch }
+{
+    if row.is_some() { epoch } else { 0 }
+}
