@@ -169,9 +169,11 @@ module _ (start : Start) (es : List HostStep) (run : IsRun start es) (quiet : Ar
           behind : (o : Option TxId) → ahead_at s.locks key tx ≡ o → is_some o ≡ true
               → (who : TxId) × IsBehind tx who key s.locks
           behind None e some = absurd (false≢true some)
-          behind (Some who) e some =
-              (who, behind_locks s.locks key tx who (logs_keep_well start h (logs_of start es h)).orderly
-              (none_closed start key w.node w.from w.to (logs_of start es) quiet) e)
+          behind (Some who) e some = (
+            who,
+            behind_locks s.locks key tx who (logs_keep_well start h (logs_of start es h)).orderly
+                (none_closed start key w.node w.from w.to (logs_of start es) quiet) e,
+          )
 
           b : (who : TxId) × IsBehind tx who key s.locks
           b = behind (ahead_at s.locks key tx) refl ahead
