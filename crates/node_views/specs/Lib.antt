@@ -1,0 +1,5 @@
+pub mod Blocks
+pub mod Fence
+pub mod Parts
+pub mod Row
+pub mod WellFormed

@@ -1,0 +1,258 @@
+//! A host.
+ghost use Rattle.std.specs.Prelude.{◌≡◌, ◌≤◌, ◌+◌, ◌<◌, OnOk, length};
+ghost use Rattle.std.specs.List.{list_any};
+ghost use Rattle.sig_core.specs.declared.mark.Mark.TheVariants.{Stopped};
+ghost use Rattle.sig_core.specs.Step.{HasRoom, IsTaken, and_mark, nothing};
+ghost use Rattle.node_views.specs.Row.{blocks_row, counted_row, cut_row, entered, headed_row, host_row, host_table, is_barred, is_cut, is_excluded, is_stop, kill_row, passed_row, same_host, unless_stopped};
+
+use crate::fence::is_fenced;
+use crate::parts::Parts;
+use crate::standing::Standing;
+use crate::well_formed::is_well_formed;
+use api_views::is_member;
+use sig_core::{
+    Body, HostId, HostSignal, Mark, NoMemory, Outs, Signal, StopCause, View,
+};
+use std::alloc::Global;
+
+/// A unit that takes signals, one after the other: the shell's, or a part of a data node.
+#[derive(Drop)]
+pub struct Host {
+    pub standing: Standing,
+    pub parts: Parts,
+}
+
+impl Host {
+    /// Takes a signal. In this order: one that isn't well formed changes nothing; a host that is to be
+    /// killed counts it; a view of a greater number in its header is installed, or stops a host whose
+    /// member it leaves out; a fence stops it; the host or the block that it is for handles it, and a
+    /// view that the membership settles on is installed. A step that stops the host, which its last
+    /// mark tells, sends nothing.
+    ///
+    /// # Errors
+    /// `NoMemory`, and then the host is of no more use.
+    #[tactic(auto, unfolding(crate::specs::Row::host_row))]
+    pub fn step(
+        &mut self,
+        alloc: Global,
+        signal: &Signal,
+        out: &mut Outs,
+    ) -> Result<(), NoMemory>
+        requires { out.old ≡ nothing }
+        ensures { OnOk result (IsTaken (host_row self.old signal.now) self.new nothing out.new) }
+    {
+        if is_well_formed(&self.standing.shape, signal) {
+            self.count(alloc, signal, out)?;
+            hush(out);
+        }
+        Ok(())
+    }
+
+    // A host that is to be killed takes so many more signals.
+    fn count(
+        &mut self,
+        alloc: Global,
+        signal: &Signal,
+        out: &mut Outs,
+    ) -> Result<(), NoMemory>
+        requires { out.old ≡ nothing }
+        ensures { OnOk result (IsTaken (counted_row self.old signal.now self.old.standing.left) self.new nothing out.new) }
+    {
+        match self.standing.left {
+            None => self.head(alloc, signal, out),
+            Some(left) if left <= 1 => {
+                stop(StopCause::Killed, out);
+                Ok(())
+            }
+            Some(left) => {
+                self.standing.left = Some(left - 1);
+                self.head(alloc, signal, out)
+            }
+        }
+    }
+
+    // A view of a greater number is installed.
+    #[tactic(auto, unfolding(crate::specs::Row::headed_row))]
+    fn head(
+        &mut self,
+        alloc: Global,
+        signal: &Signal,
+        out: &mut Outs,
+    ) -> Result<(), NoMemory>
+        requires { out.old ≡ nothing }
+        ensures { OnOk result (IsTaken (headed_row self.old signal.now) self.new nothing out.new) }
+    {
+        let view = signal.view.get();
+        if self.standing.view.number < view.number {
+            if self.is_excluded(view) {
+                stop(StopCause::Excluded { view: view.number }, out);
+                return Ok(());
+            }
+            out.mark(Mark::Installed {
+                view: signal.view.share()?,
+            });
+            self.enter(view, out);
+        }
+        self.pass(alloc, signal, out)
+    }
+
+    // Whether a view stops the host.
+    fn is_excluded(&self, view: &View) -> bool
+        ensures { result ≡ is_excluded self.now.standing view.now }
+    {
+        self.standing.has_joined && !is_member(view, &self.standing.member)
+    }
+
+    // A view is installed.
+    #[tactic(auto, unfolding(crate::specs::Row::entered))]
+    fn enter(&mut self, view: &View, out: &mut Outs)
+        requires { length out.old.sends + 4 ≤ 16 }
+        ensures taken { IsTaken (entered self.old view.now) self.new out.old out.new }
+        ensures few { length out.new.sends ≤ length out.old.sends + 3 }
+    {
+        self.standing.view = *view;
+        if is_member(view, &self.standing.member) {
+            self.standing.has_joined = true;
+        }
+        self.parts.install(view, out);
+    }
+
+    // A fence stops the signal, or it is handled.
+    #[tactic(auto, unfolding(crate::specs::Row::passed_row))]
+    fn pass(
+        &mut self,
+        alloc: Global,
+        signal: &Signal,
+        out: &mut Outs,
+    ) -> Result<(), NoMemory>
+        requires { HasRoom out.old }
+        ensures { OnOk result (IsTaken (passed_row self.old signal.now) self.new out.old out.new) }
+    {
+        if self.is_barred(signal) {
+            Ok(())
+        } else {
+            self.take(alloc, signal, out)
+        }
+    }
+
+    // Whether a fence stops the signal.
+    fn is_barred(&self, signal: &Signal) -> bool
+        ensures { result ≡ is_barred self.now signal.now }
+    {
+        let number = self.standing.view.number;
+        is_fenced(signal)
+            && signal.view.get().number < self.parts.fence_at(signal.to.block, number)
+    }
+
+    // What the host does itself, and what it leaves to its blocks.
+    fn take(
+        &mut self,
+        alloc: Global,
+        signal: &Signal,
+        out: &mut Outs,
+    ) -> Result<(), NoMemory>
+        requires { HasRoom out.old }
+        ensures { OnOk result (IsTaken (host_table self.old signal.now signal.now.body) self.new out.old out.new) }
+    {
+        match &signal.body {
+            Body::Host(HostSignal::Kill { after }) => {
+                self.kill(*after, out);
+                Ok(())
+            }
+            Body::Host(HostSignal::Cut { node: _, first }) => self.cut(*first, out),
+            Body::Host(HostSignal::Closed { cause: _ })
+                if self.standing.member == signal.member =>
+            {
+                stop(StopCause::Sibling { host: signal.from }, out);
+                Ok(())
+            }
+            _ => self.handle(alloc, signal, out),
+        }
+    }
+
+    // The blocks handle a signal, and install a view that the membership settles on.
+    #[tactic(auto, unfolding(crate::specs::Row::blocks_row))]
+    fn handle(
+        &mut self,
+        alloc: Global,
+        signal: &Signal,
+        out: &mut Outs,
+    ) -> Result<(), NoMemory>
+        requires { HasRoom out.old }
+        ensures { OnOk result (IsTaken (blocks_row self.old signal.now) self.new out.old out.new) }
+    {
+        if let Some(view) = self.parts.handle(alloc, signal, out)? {
+            self.enter(&view, out);
+        }
+        Ok(())
+    }
+
+    // An order to stop: at once, or once so many more signals are taken.
+    fn kill(&mut self, after: u32, out: &mut Outs)
+        requires { HasRoom out.old }
+        ensures { IsTaken (kill_row self.old after) self.new out.old out.new }
+    {
+        if after == 0 {
+            stop(StopCause::Killed, out);
+        } else {
+            self.standing.left = Some(after);
+        }
+    }
+
+    // The hosts of a node are cut off, of which this is the first.
+    fn cut(&mut self, first: HostId, out: &mut Outs) -> Result<(), NoMemory>
+        requires room { HasRoom out.old }
+        requires first { first.0 + 2 < 4294967296 }
+        ensures { OnOk result (IsTaken (cut_row self.old first) self.new out.old out.new) }
+    {
+        if self.is_cut(first) {
+            return Ok(());
+        }
+        for host in [first, HostId(first.0 + 1), HostId(first.0 + 2)] {
+            self.standing.cut.push(host)?;
+            out.mark(Mark::CutOff { host });
+        }
+        Ok(())
+    }
+
+    // Whether the host has cut that one off.
+    fn is_cut(&self, host: HostId) -> bool
+        ensures { result ≡ is_cut self.now.standing host }
+    {
+        self.standing.cut.as_slice().iter().any(|other| same_host(host, other))
+    }
+}
+
+// Whether the two are one host.
+fn same_host(one: HostId, other: &HostId) -> bool
+    ensures { result ≡ same_host one other.now }
+{
+    one == *other
+}
+
+// The host stops.
+fn stop(cause: StopCause, out: &mut Outs)
+    requires { length out.old.marks < 16 }
+    ensures { out.new ≡ and_mark out.old (Stopped cause) }
+{
+    out.mark(Mark::Stopped { cause });
+}
+
+// A step that stops the host sends nothing.
+fn hush(out: &mut Outs)
+    ensures sends { out.new.sends ≡ unless_stopped out.old.sends (list_any is_stop out.old.marks) }
+    ensures marks { out.new.marks ≡ out.old.marks }
+{
+    if out.marks().iter().any(is_stop) {
+        while let Some(_) = out.take_send() {}
+    }
+}
+
+fn is_stop(mark: &Mark) -> bool
+    ensures { result ≡ is_stop mark.now }
+{
+    match mark {
+        Mark::Stopped { cause: _ } => true,
+        _ => false,
+    }
+}

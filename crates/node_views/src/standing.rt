@@ -1,0 +1,19 @@
+//! Where a host stands in its cluster, whichever blocks it has.
+use sig_core::{HostId, Member, Seq, Shape, View};
+
+/// What a host knows beside its blocks.
+#[derive(Drop)]
+pub struct Standing {
+    pub shape: Shape,
+    /// The member that it is a host of; node 0 with start 0 is the shell's.
+    pub member: Member,
+    /// The view that it has installed.
+    pub view: View,
+    /// It has installed a view that its member is in: from then on one without it stops the host.
+    pub has_joined: bool,
+    /// How many signals it still takes before it is killed, the last of them not handled; none where
+    /// it isn't to be.
+    pub left: Option<u32>,
+    /// The hosts that it has cut off.
+    pub cut: Seq<HostId>,
+}
