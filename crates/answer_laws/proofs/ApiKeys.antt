@@ -1,7 +1,7 @@
 -- The API sends an operation where a transaction begins to operate, and is answered once.
 use Rattle.std.proofs.Common.{◌≡◌, ℕ, ◌+◌, ◌≤◌, List, [], ◌∷◌, ◌++◌, Bool, true, false, refl, ap, sym, ◌∙◌, arith}
 use Rattle.std.proofs.lemmas.Bool.{and_parts}
-use Rattle.std.specs.Prelude.{◌&&◌, Option, None, Some, remove}
+use Rattle.std.specs.Prelude.{◌==◌, ◌&&◌, Option, None, Some, remove}
 use Rattle.sig_core.specs.declared.member.Member.{Member}
 use Rattle.sig_core.specs.declared.member.TxId.{TxId}
 use Rattle.sig_core.specs.declared.outs.Outgoing.{Outgoing}
@@ -104,9 +104,12 @@ module _ (tx : TxId) (s : ApiState) where
 
   asked : (r : ApiReq) (n : ℕ) → ApiRequestForms s r (FairStep tx s (Host (Continue (work.Request r) n)))
   asked r n = record {
-    opens = λ name node op new. omega (arith, tally_append (operates tx) s.opened (asked_for name node op ∷ []));
-    refuses = λ name why own. omega arith;
-    operates = λ name op at f one ready own low.
+    opens = λ name node at is new.
+        omega (arith, tally_append (operates tx) s.opened (asked_for (Some name) node None ∷ []));
+    opens_alone = λ op node is new.
+        omega (arith, tally_append (operates tx) s.opened (asked_for None node (Some op) ∷ []));
+    refuses = λ name why is own. omega arith;
+    operates = λ name op at f one is ready own low.
         changed (is_named (Some name)) at f _ _ _ _ (f.set _)
         (omega (
           arith,
@@ -114,14 +117,14 @@ module _ (tx : TxId) (s : ApiState) where
           ap (λ o. one_if (is_tx tx o && true)) own,
           more (same_tx one tx),
         ));
-    commits = λ name at f one ready own.
+    commits = λ name at f one is ready own.
         changed (is_named (Some name)) at f _ _ _ _ (f.set _)
         (omega (arith, not_operating f.item (ap is_operating ready)));
     aborts = λ name at f one is own. omega arith;
-    ticks = λ of last. omega (arith, ticked of last, telling_keys tx news.Round (everyone s.view));
-    dumps = λ node digest. omega arith;
-    waits = λ p at f one own. changed p at f _ _ _ _ (f.set _) (omega arith);
-    pends = λ name holder. omega arith;
+    ticks = λ number of is. omega (arith, ticked of (number == of), telling_keys tx news.Round (everyone s.view));
+    dumps = λ node digest is. omega arith;
+    waits = λ p at f one is own. changed p at f _ _ _ _ (f.set _) (omega arith);
+    pends = λ name holder is. omega arith;
     gives_up = λ p at f holder one is alone own. omega arith;
     is_about_none = omega arith;
     rests = omega arith;

@@ -1,6 +1,6 @@
 -- What a step of the API does to its transactions, case by case.
 use Rattle.std.proofs.Common.{◌≡◌, ℕ, ◌+◌, List, [], ◌∷◌, ◌++◌, Bool, true, false, refl, sym, subst}
-use Rattle.std.specs.Prelude.{◌&&◌, Option, None, Some, nat_lt}
+use Rattle.std.specs.Prelude.{◌==◌, ◌&&◌, Option, None, Some, nat_lt}
 use Rattle.sig_core.specs.declared.member.Member.{Member}
 use Rattle.sig_core.specs.declared.member.TxId.{TxId}
 use Rattle.sig_core.specs.declared.op.Answer.{Answer}
@@ -97,17 +97,18 @@ telling_calm (news.Committed one) (member ∷ members) = telling_calm (news.Comm
 
 at_request : (s : ApiState) (r : ApiReq) (n : ℕ) → ApiRequestForms s r (ApiStep s (Host (Continue (work.Request r) n)))
 at_request s r n = record {
-  opens = λ name node op new. opens name node op refl refl (λ tx. refl);
-  refuses = λ name why own. rests refl refl tt;
-  operates = λ name op at f one ready own low.
+  opens = λ name node at is new. opens (Some name) node None refl refl (λ tx. refl);
+  opens_alone = λ op node is new. opens None node (Some op) refl refl (λ tx. refl);
+  refuses = λ name why is own. rests refl refl tt;
+  operates = λ name op at f one is ready own low.
       changes f.front f.item _ f.back f.is (f.set _) (works one op (λ tx. refl) own ready low refl refl refl refl);
-  commits = λ name at f one ready own.
+  commits = λ name at f one is ready own.
       changes f.front f.item _ f.back f.is (f.set _) (commits one (λ tx. refl) own ready refl refl refl refl);
   aborts = λ name at f one is own. rests refl refl tt;
-  ticks = round;
-  dumps = λ node digest. rests refl refl tt;
-  waits = λ p at f one own. changes f.front f.item _ f.back f.is (f.set _) (notes (λ tx. refl) refl refl refl refl);
-  pends = λ name holder. rests refl refl tt;
+  ticks = λ number of is. round of (number == of);
+  dumps = λ node digest is. rests refl refl tt;
+  waits = λ p at f one is own. changes f.front f.item _ f.back f.is (f.set _) (notes (λ tx. refl) refl refl refl refl);
+  pends = λ name holder is. rests refl refl tt;
   gives_up = λ p at f holder one is alone own. rests refl refl tt;
   is_about_none = rests refl refl tt;
   rests = rests refl refl tt;

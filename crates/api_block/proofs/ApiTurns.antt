@@ -1,5 +1,5 @@
 -- What the API does at each request and signal: what is so of each form of its steps is so of each of its steps.
-use Rattle.std.proofs.Common.{◌≡◌, ℕ, List, [], ◌∷◌, Bool, true, false, refl, subst, sym}
+use Rattle.std.proofs.Common.{◌≡◌, ℕ, List, [], ◌∷◌, Bool, true, false, ap, refl, subst, sym}
 use Rattle.std.specs.Prelude.{◌==◌, Option, None, Some, is_some, nat_lt}
 use Rattle.run_theory.specs.Counts.{tally}
 use Rattle.run_theory.proofs.Focus.{IsFocus, none_placed}
@@ -79,30 +79,50 @@ is_own_refusal refusal.Down = false
 is_own_refusal refusal.TooManyOpen = false
 is_own_refusal why = true
 
+-- the name of the transaction that a request is about
+abbrev pub name_asked : ApiReq → Option ℕ
+name_asked (request.Begin name at) = Some name
+name_asked (request.Operate name op) = name
+name_asked (request.Commit name) = Some name
+name_asked (request.Abort name) = Some name
+name_asked _ = None
+
+-- the request for the rows of a node, or for their digest
+abbrev pub asking_rows : ℕ → Bool → ApiReq
+asking_rows node false = request.Rows node
+asking_rows node true = request.Digest node
+
 -- R is of each form of a step at a request
 pub record ApiRequestForms (s : ApiState) (asked : ApiReq) (R : Step ApiState → Type 0) : Type 0 where
-  pub opens : (name : Option ℕ) (node : ℕ) (op : Option Op) → IsNew s name node → R (beginning s name node op)
-  pub refuses : (name : Option ℕ) (why : Refusal) → is_own_refusal why ≡ true → R (refused s name why)
-  pub operates : (name : ℕ) (op : Op) (at : ℕ) (f : NamedAt s name at) (tx : TxId) → f.item.doing ≡ Ready
-      → f.item.tx ≡ Some tx
+  pub opens : (name node : ℕ) (at : Option ℕ) → asked ≡ request.Begin name at → IsNew s (Some name) node
+      → R (beginning s (Some name) node None)
+  pub opens_alone : (op : Op) (node : ℕ) → asked ≡ request.Operate None op → IsNew s None node
+      → R (beginning s None node (Some op))
+  pub refuses : (name : Option ℕ) (why : Refusal) → name_asked asked ≡ name → is_own_refusal why ≡ true
+      → R (refused s name why)
+  pub operates : (name : ℕ) (op : Op) (at : ℕ) (f : NamedAt s name at) (tx : TxId)
+      → asked ≡ request.Operate (Some name) op → f.item.doing ≡ Ready → f.item.tx ≡ Some tx
       → nat_lt f.item.operations OPERATIONS ≡ true
       → R (key_request (about (changing s at (operating f.item)) (Some (Some name))) tx op)
-  pub commits : (name at : ℕ) (f : NamedAt s name at) (tx : TxId) → f.item.doing ≡ Ready → f.item.tx ≡ Some tx
+  pub commits : (name at : ℕ) (f : NamedAt s name at) (tx : TxId) → asked ≡ request.Commit name
+      → f.item.doing ≡ Ready → f.item.tx ≡ Some tx
       → R (sending (about (changing s at (committing f.item)) (Some (Some name))) (coordinator_of tx)
       (Client (TcCommitReq tx)))
   pub aborts : (name at : ℕ) (f : NamedAt s name at) (tx : TxId) → asked ≡ request.Abort name → f.item.tx ≡ Some tx
       → R (sending (about s (Some (Some name))) (coordinator_of tx) (Client (TcRollbackReq tx)))
-  pub ticks : (of : ℕ) (last : Bool)
+  pub ticks : (round of : ℕ) → asked ≡ request.Tick round of
       → R (record {
-        state = about (ticked_if s of last) None;
+        state = about (ticked_if s of (round == of)) None;
         effects =
             record { sends = telling_all news.Round (everyone s.view); marks = [] };
       })
-  pub dumps : (node : ℕ) (digest : Bool)
+  pub dumps : (node : ℕ) (digest : Bool) → asked ≡ asking_rows node digest
       → R (sending (with_dump (about s None) (Some (begun_dump node digest))) (rows_of node) (Client (DumpReq 0)))
-  pub waits : (p : OpenTransaction → Bool) (at : ℕ) (f : IsFocus p s.opened at) (tx : TxId) → f.item.tx ≡ Some tx
+  pub waits : (p : OpenTransaction → Bool) (at : ℕ) (f : IsFocus p s.opened at) (tx : TxId) → asked ≡ request.Waits
+      → f.item.tx ≡ Some tx
       → R (sending (changing s at (behind f.item None)) (coordinator_of tx) (Client (TcWaitReq tx)))
-  pub pends : (name holder : Option ℕ) → R (stay (replied s (Pending name (HeldBy holder) ∷ [])))
+  pub pends : (name holder : Option ℕ) → asked ≡ request.Pending
+      → R (stay (replied s (Pending name (HeldBy holder) ∷ [])))
   pub gives_up : (p : OpenTransaction → Bool) (at : ℕ) (f : IsFocus p s.opened at) (holder : Option ℕ) (tx : TxId)
       → asked ≡ request.Pending → f.item.name ≡ None → f.item.tx ≡ Some tx
       → R (sending (replied s (Pending None (HeldBy holder) ∷ [])) (coordinator_of tx) (Client (TcRollbackReq tx)))
@@ -148,90 +168,94 @@ pub record ApiSignalForms (s : ApiState) (body : Body) (R : Step ApiState → Ty
   pub rests : IsVoid s.opened body → IsStray s.opened body → R (stay s)
 
 module _ (s : ApiState) (asked : ApiReq) (R : Step ApiState → Type 0) (forms : ApiRequestForms s asked R) where
-  begin_at_turns : (name node : ℕ) (b : Bool) → tally (is_named (Some name)) s.opened ≡ 0 → is_full s.view node ≡ b
-      → R (begin_at s name node b)
-  begin_at_turns name node true none full = forms.opens (Some name) node None (none, full)
-  begin_at_turns name node false none full = forms.refuses (Some name) (refusal.NoMember node) refl
+  begin_at_turns : (name node : ℕ) (at : Option ℕ) (b : Bool) → asked ≡ request.Begin name at
+      → tally (is_named (Some name)) s.opened ≡ 0 → is_full s.view node ≡ b → R (begin_at s name node b)
+  begin_at_turns name node at true is none full = forms.opens name node at is (none, full)
+  begin_at_turns name node at false is none full =
+      forms.refuses (Some name) (refusal.NoMember node) (ap name_asked is) refl
 
-  begin_turns : (name : ℕ) (at : Option ℕ) → R (begin_row s name at)
+  begin_turns : (name : ℕ) (at : Option ℕ) → asked ≡ request.Begin name at → R (begin_row s name at)
   unfolding begin_row
-  begin_turns name at = go (place_named s (Some name)) refl
+  begin_turns name at is = go (place_named s (Some name)) refl
     where
       go : (o : Option ℕ) → place_named s (Some name) ≡ o → R (begin_if s name at (is_some o))
-      go (Some place) e = forms.refuses (Some name) refusal.IsOpen refl
+      go (Some place) e = forms.refuses (Some name) refusal.IsOpen (ap name_asked is) refl
       go None e =
-          begin_at_turns name (node_for s.view at) (is_full s.view (node_for s.view at))
+          begin_at_turns name (node_for s.view at) at (is_full s.view (node_for s.view at)) is
           (none_placed (is_named (Some name)) s.opened e) refl
 
   -- what a command does to the transaction of its name
-  named_turns : (name : ℕ) (some : ℕ → OpenTransaction → Step ApiState)
+  named_turns : (name : ℕ) (some : ℕ → OpenTransaction → Step ApiState) → name_asked asked ≡ Some name
       → ((at : ℕ) (f : NamedAt s name at) → R (some at f.item))
       → R (where_at s.opened (refused s (Some name) refusal.NotOpen) some (place_named s (Some name)))
-  named_turns name some =
-      where_found (is_named (Some name)) s.opened _ some R (λ none. forms.refuses (Some name) refusal.NotOpen refl)
+  named_turns name some own =
+      where_found (is_named (Some name)) s.opened _ some R
+      (λ none. forms.refuses (Some name) refusal.NotOpen own refl)
 
-  commit_by_turns : (name at : ℕ) (f : NamedAt s name at) (doing : Doing) (tx : Option TxId) → f.item.doing ≡ doing
-      → f.item.tx ≡ tx
-      → R (commit_by s name at f.item doing tx)
-  commit_by_turns name at f Ready (Some tx) e d = forms.commits name at f tx e d
-  commit_by_turns name at f _ _ e d = forms.refuses (Some name) refusal.Busy refl
+  commit_by_turns : (name at : ℕ) (f : NamedAt s name at) (doing : Doing) (tx : Option TxId)
+      → asked ≡ request.Commit name → f.item.doing ≡ doing → f.item.tx ≡ tx → R (commit_by s name at f.item doing tx)
+  commit_by_turns name at f Ready (Some tx) is e d = forms.commits name at f tx is e d
+  commit_by_turns name at f _ _ is e d = forms.refuses (Some name) refusal.Busy (ap name_asked is) refl
 
-  commit_turns : (name : ℕ) → R (commit_row s name)
+  commit_turns : (name : ℕ) → asked ≡ request.Commit name → R (commit_row s name)
   unfolding commit_row
-  commit_turns name =
-      named_turns name (λ at t. commit_by s name at t t.doing t.tx)
-      (λ at f. commit_by_turns name at f f.item.doing f.item.tx refl refl)
+  commit_turns name is =
+      named_turns name (λ at t. commit_by s name at t t.doing t.tx) (ap name_asked is)
+      (λ at f. commit_by_turns name at f f.item.doing f.item.tx is refl refl)
 
   abort_by_turns : (name at : ℕ) (f : NamedAt s name at) (tx : Option TxId) → asked ≡ request.Abort name
       → f.item.tx ≡ tx
       → R (abort_by s name tx)
-  abort_by_turns name at f None is d = forms.refuses (Some name) refusal.Busy refl
+  abort_by_turns name at f None is d = forms.refuses (Some name) refusal.Busy (ap name_asked is) refl
   abort_by_turns name at f (Some tx) is d = forms.aborts name at f tx is d
 
   abort_turns : (name : ℕ) → asked ≡ request.Abort name → R (abort_row s name)
   unfolding abort_row
   abort_turns name is =
-      named_turns name (λ at t. abort_by s name t.tx) (λ at f. abort_by_turns name at f f.item.tx is refl)
+      named_turns name (λ at t. abort_by s name t.tx) (ap name_asked is)
+      (λ at f. abort_by_turns name at f f.item.tx is refl)
 
-  tick_turns : (round of : ℕ) → R (tick_row s round of)
+  tick_turns : (round of : ℕ) → asked ≡ request.Tick round of → R (tick_row s round of)
   unfolding tick_row
-  tick_turns round of = forms.ticks of (round == of)
+  tick_turns round of is = forms.ticks round of is
 
-  dump_turns : (node : ℕ) (digest : Bool) → R (dump_row s node digest)
+  dump_turns : (node : ℕ) (digest : Bool) → asked ≡ asking_rows node digest → name_asked asked ≡ None
+      → R (dump_row s node digest)
   unfolding dump_row
-  dump_turns node digest = by (is_full s.view node) (is_some s.dump)
+  dump_turns node digest is none = by (is_full s.view node) (is_some s.dump)
     where
       by : (full under_way : Bool) → R (dump_if s node digest full under_way)
-      by false under_way = forms.refuses None (refusal.NoMember node) refl
+      by false under_way = forms.refuses None (refusal.NoMember node) none refl
       by true true = forms.is_about_none
-      by true false = forms.dumps node digest
+      by true false = forms.dumps node digest is
 
-  lone_turns : (op : Op) → R (lone_row s op)
+  lone_turns : (op : Op) → asked ≡ request.Operate None op → R (lone_row s op)
   unfolding lone_row
-  lone_turns op = by (least_node s.view.full) refl
+  lone_turns op is = by (least_node s.view.full) refl
     where
       by : (node : Option ℕ) → least_node s.view.full ≡ node → R (lone_by s op node)
-      by None e = forms.refuses None (refusal.NoMember 0) refl
-      by (Some node) e = forms.opens None node (Some op) e
+      by None e = forms.refuses None (refusal.NoMember 0) (ap name_asked is) refl
+      by (Some node) e = forms.opens_alone op node is e
 
-  operate_if_turns : (name : ℕ) (op : Op) (at : ℕ) (f : NamedAt s name at) (tx : TxId) (b : Bool) → f.item.doing ≡ Ready
-      → f.item.tx ≡ Some tx
+  operate_if_turns : (name : ℕ) (op : Op) (at : ℕ) (f : NamedAt s name at) (tx : TxId) (b : Bool)
+      → asked ≡ request.Operate (Some name) op → f.item.doing ≡ Ready → f.item.tx ≡ Some tx
       → nat_lt f.item.operations OPERATIONS ≡ b → R (operate_if s name op at f.item tx b)
-  operate_if_turns name op at f tx true e d low = forms.operates name op at f tx e d low
-  operate_if_turns name op at f tx false e d low = forms.refuses (Some name) refusal.TooManyOperations refl
+  operate_if_turns name op at f tx true is e d low = forms.operates name op at f tx is e d low
+  operate_if_turns name op at f tx false is e d low =
+      forms.refuses (Some name) refusal.TooManyOperations (ap name_asked is) refl
 
   operate_by_turns : (name : ℕ) (op : Op) (at : ℕ) (f : NamedAt s name at) (doing : Doing) (tx : Option TxId)
-      → f.item.doing ≡ doing → f.item.tx ≡ tx
+      → asked ≡ request.Operate (Some name) op → f.item.doing ≡ doing → f.item.tx ≡ tx
       → R (operate_by s name op at f.item doing tx)
-  operate_by_turns name op at f Ready (Some tx) e d =
-      operate_if_turns name op at f tx (nat_lt f.item.operations OPERATIONS) e d refl
-  operate_by_turns name op at f _ _ e d = forms.refuses (Some name) refusal.Busy refl
+  operate_by_turns name op at f Ready (Some tx) is e d =
+      operate_if_turns name op at f tx (nat_lt f.item.operations OPERATIONS) is e d refl
+  operate_by_turns name op at f _ _ is e d = forms.refuses (Some name) refusal.Busy (ap name_asked is) refl
 
-  operate_turns : (name : ℕ) (op : Op) → R (operate_row s name op)
+  operate_turns : (name : ℕ) (op : Op) → asked ≡ request.Operate (Some name) op → R (operate_row s name op)
   unfolding operate_row
-  operate_turns name op =
-      named_turns name (λ at t. operate_by s name op at t t.doing t.tx)
-      (λ at f. operate_by_turns name op at f f.item.doing f.item.tx refl refl)
+  operate_turns name op is =
+      named_turns name (λ at t. operate_by s name op at t t.doing t.tx) (ap name_asked is)
+      (λ at f. operate_by_turns name op at f f.item.doing f.item.tx is refl refl)
 
   own_turns : (some : ℕ → OpenTransaction → Step ApiState) (o : Option (Option ℕ))
       → ((p : OpenTransaction → Bool) (at : ℕ) (f : IsFocus p s.opened at) → R (some at f.item))
@@ -240,23 +264,23 @@ module _ (s : ApiState) (asked : ApiReq) (R : Step ApiState → Type 0) (forms :
   own_turns some (Some name) present =
       where_found (is_named name) s.opened (stay s) some R (λ none. forms.rests) (λ at f. present (is_named name) at f)
 
-  waits_turns : R (waits_row s)
+  waits_turns : asked ≡ request.Waits → R (waits_row s)
   unfolding waits_row
-  waits_turns =
+  waits_turns asks =
       own_turns (λ at t. waits_if s at t (is_unanswered t.doing) t.tx) s.own
       (λ p at f. by p at f (is_unanswered f.item.doing) f.item.tx refl)
     where
       by : (p : OpenTransaction → Bool) (at : ℕ) (f : IsFocus p s.opened at) (b : Bool) (tx : Option TxId)
           → f.item.tx ≡ tx → R (waits_if s at f.item b tx)
-      by p at f true (Some tx) is = forms.waits p at f tx is
+      by p at f true (Some tx) is = forms.waits p at f tx asks is
       by p at f _ _ is = forms.rests
 
   pending_by_turns : asked ≡ request.Pending → (p : OpenTransaction → Bool) (at : ℕ) (f : IsFocus p s.opened at)
       → (holder name : Option ℕ) (tx : Option TxId) → f.item.name ≡ name → f.item.tx ≡ tx
       → R (pending_by s holder name tx)
   pending_by_turns is p at f holder None (Some tx) alone own = forms.gives_up p at f holder tx is alone own
-  pending_by_turns is p at f holder None None alone own = forms.pends None holder
-  pending_by_turns is p at f holder (Some name) tx alone own = forms.pends (Some name) holder
+  pending_by_turns is p at f holder None None alone own = forms.pends None holder is
+  pending_by_turns is p at f holder (Some name) tx alone own = forms.pends (Some name) holder is
 
   pending_turns : asked ≡ request.Pending → R (pending_row s)
   unfolding pending_row
@@ -274,15 +298,15 @@ module _ (s : ApiState) (asked : ApiReq) (R : Step ApiState → Type 0) (forms :
   request_turns = by asked refl
     where
       by : (r : ApiReq) → asked ≡ r → R (request_row s r)
-      by (request.Begin name node) is = begin_turns name node
-      by (request.Operate None op) is = lone_turns op
-      by (request.Operate (Some name) op) is = operate_turns name op
-      by (request.Commit name) is = commit_turns name
+      by (request.Begin name at) is = begin_turns name at is
+      by (request.Operate None op) is = lone_turns op is
+      by (request.Operate (Some name) op) is = operate_turns name op is
+      by (request.Commit name) is = commit_turns name is
       by (request.Abort name) is = abort_turns name is
-      by (request.Tick round of) is = tick_turns round of
-      by (request.Rows node) is = dump_turns node false
-      by (request.Digest node) is = dump_turns node true
-      by request.Waits is = waits_turns
+      by (request.Tick round of) is = tick_turns round of is
+      by (request.Rows node) is = dump_turns node false is (ap name_asked is)
+      by (request.Digest node) is = dump_turns node true is (ap name_asked is)
+      by request.Waits is = waits_turns is
       by request.Pending is = pending_turns is
       by _ is = forms.is_about_none
 

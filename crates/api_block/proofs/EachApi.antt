@@ -1,7 +1,7 @@
 -- What holds of each form of signal and mark of the API, and of each transaction that it has opened, holds of each of
 -- its steps.
 use Rattle.std.proofs.Common.{◌≡◌, ℕ, List, [], ◌∷◌, Bool, true, false, refl, ap}
-use Rattle.std.specs.Prelude.{Option, None, Some, remove, slice_set}
+use Rattle.std.specs.Prelude.{◌==◌, Option, None, Some, remove, slice_set}
 use Rattle.run_theory.specs.Lists.{Each}
 use Rattle.run_theory.proofs.EachSent.{each_get, each_mapped, each_removed, each_set}
 use Rattle.run_theory.proofs.Focus.{IsFocus}
@@ -25,7 +25,7 @@ use Rattle.sig_core.specs.Place.{coordinator, coordinator_of, rows_of}
 use Rattle.sig_core.specs.Step.{Step, stay, to_place}
 use Rattle.sig_core.proofs.TxLemmas.{same_tx-is}
 use Rattle.api_block.specs.Api.{api_table}
-use Rattle.api_block.specs.Commands.{ticked_if}
+use Rattle.api_block.specs.Commands.{beginning, ticked_if}
 use Rattle.api_block.specs.declared.members.News.TheVariants as news
 use Rattle.api_block.specs.declared.opened.Doing.TheVariants.{Ready, Committing}
 use Rattle.api_block.specs.declared.opened.OpenTransaction.{OpenTransaction}
@@ -102,20 +102,24 @@ module _ (K : OpenTransaction → Type 0) (P : Outgoing → Type 0) (M : Mark �
   ticked of true = all
   ticked of false = all
 
+  opening : (name : Option ℕ) (node : ℕ) (op : Option Op) → Fine (beginning s name node op)
+  opening name node op = record {
+    opened = each_append K s.opened (asked_for name node op ∷ []) all (forms.asked name node op, tt);
+    sends = (forms.begins name node, tt);
+    marks = tt;
+  }
+
   requested : (r : ApiReq) → ApiRequestForms s r Fine
   requested r = record {
-    opens = λ name node op new. record {
-      opened = each_append K s.opened (asked_for name node op ∷ []) all (forms.asked name node op, tt);
-      sends = (forms.begins name node, tt);
-      marks = tt;
-    };
-    refuses = λ name why kind. record { opened = all; sends = tt; marks = tt };
-    operates = λ name op at f tx ready is low. record {
+    opens = λ name node at asked new. opening (Some name) node None;
+    opens_alone = λ op node asked new. opening None node (Some op);
+    refuses = λ name why asked kind. record { opened = all; sends = tt; marks = tt };
+    operates = λ name op at f tx asked ready is low. record {
       opened = changed at f (operating f.item) refl;
       sends = (forms.operates f.item tx op (own at f) is, tt);
       marks = tt;
     };
-    commits = λ name at f tx ready is. record {
+    commits = λ name at f tx asked ready is. record {
       opened = changed at f (committing f.item) refl;
       sends = (forms.commits f.item tx (own at f) is, tt);
       marks = tt;
@@ -125,18 +129,18 @@ module _ (K : OpenTransaction → Type 0) (P : Outgoing → Type 0) (M : Mark �
       sends = (forms.rolls_back f.item tx (own at f) is, tt);
       marks = tt;
     };
-    ticks = λ of last. record {
-      opened = ticked of last;
+    ticks = λ round of asked. record {
+      opened = ticked of (round == of);
       sends = each_mapped P (telling news.Round) (everyone s.view) (λ m. forms.ticks m.node);
       marks = tt;
     };
-    dumps = λ node digest. record { opened = all; sends = (forms.dumps node 0, tt); marks = tt };
-    waits = λ p at f tx is. record {
+    dumps = λ node digest asked. record { opened = all; sends = (forms.dumps node 0, tt); marks = tt };
+    waits = λ p at f tx asked is. record {
       opened = changed at f (behind f.item None) refl;
       sends = (forms.waits f.item tx (own at f) is, tt);
       marks = tt;
     };
-    pends = λ name holder. record { opened = all; sends = tt; marks = tt };
+    pends = λ name holder asked. record { opened = all; sends = tt; marks = tt };
     gives_up = λ p at f holder tx asked alone is. record {
       opened = all;
       sends = (forms.rolls_back f.item tx (own at f) is, tt);

@@ -8,7 +8,10 @@ use crate::dump::Dump;
 use crate::lists::push;
 use crate::members::{News, is_full, least_node, tell_everyone};
 use crate::opened::{Doing, OpenTransaction, place_named};
-use sig_core::{ApiReply, Body, ClientSignal, HeldOp, NoMemory, Outs, Refusal, TxId, View, coordinator, coordinator_of, rows_of};
+use sig_core::{
+    ApiReply, Body, ClientSignal, HeldOp, NoMemory, Outs, Refusal, TxId, View, coordinator,
+    coordinator_of, rows_of,
+};
 use std::alloc::Global;
 
 impl Api {

@@ -9,7 +9,9 @@ ghost use Rattle.api_block.specs.Operate.{answer_by, answer_row, begun_by, begun
 use crate::api::Api;
 use crate::members::least_node;
 use crate::opened::{Doing, OpenTransaction, place_beginning_at, place_named, place_of};
-use sig_core::{ApiReply, Body, ClientSignal, HeldAnswer, HeldOp, NoMemory, Outs, Refusal, TxId, coordinator_of};
+use sig_core::{
+    ApiReply, Body, ClientSignal, HeldAnswer, HeldOp, NoMemory, Outs, Refusal, TxId, coordinator_of,
+};
 
 /// How many operations a transaction has at most.
 pub const OPERATIONS: usize = 64;
@@ -36,12 +38,7 @@ impl Api {
     /// # Errors
     /// `NoMemory`, and then nothing has happened.
     #[tactic(auto, unfolding(crate::specs::Operate::operate_row))]
-    pub(crate) fn operate(
-        &mut self,
-        name: u16,
-        op: &HeldOp,
-        out: &mut Outs,
-    ) -> Result<(), NoMemory>
+    pub(crate) fn operate(&mut self, name: u16, op: &HeldOp, out: &mut Outs) -> Result<(), NoMemory>
         requires { HasRoom out.old }
         ensures ok { OnOk result (IsTaken (operate_row self.old name op.now) self.new out.old out.new) }
         ensures err { OnErr result (IsUntouched self.old self.new out.old out.new) }

@@ -1,6 +1,6 @@
 -- In a calm cluster a step of the client's side is the API's.
 use Rattle.std.proofs.Common.{◌≡◌, ℕ, Bool, true, false, List, [], ◌∷◌, refl, ap}
-use Rattle.std.specs.Prelude.{◌||◌, is_some, nat_lt, Option, None, Some, slice_get}
+use Rattle.std.specs.Prelude.{◌==◌, ◌||◌, is_some, Option, None, Some, slice_get}
 use Rattle.sig_core.specs.declared.member.Member.{Member}
 use Rattle.sig_core.specs.declared.member.TxId.{TxId}
 use Rattle.sig_core.specs.declared.op.Op.{Op}
@@ -21,13 +21,14 @@ use Rattle.api_block.specs.Commands as api
 use Rattle.api_block.specs.Members.{is_full, least_from, least_node, lesser}
 use Rattle.api_block.specs.Opened.{is_unanswered, own_place, place_named}
 use Rattle.api_block.specs.Operate as api_operate
-use Rattle.api_block.specs.State.{ApiState, refused}
+use Rattle.api_block.specs.State.{ApiState, about, refused}
 use Rattle.api_block.specs.Wait.{pending_if, pending_row}
 use Rattle.api_views.specs.Client.{asked_row, client_row, client_table, command_row, is_known}
-use Rattle.api_views.specs.Commands.{begin_if, begin_row, lone_by, lone_row, lowest, lowest_from, node_for, rows_row, serves}
+use Rattle.api_views.specs.Commands.{begin_if, begin_row, lone_by, lone_row, lowest, lowest_from, rows_row, serves}
 use Rattle.api_views.specs.Laws.{IsCalmSignal, calm_state, is_calm_body, is_served}
 use Rattle.api_views.specs.Members.{noted}
 use Rattle.api_views.specs.Pending.{client_pending_row, obstacle, own_waits, waits_by}
+use Rattle.api_views.specs.Rounds.{tick_row, ticked, ticked_if, with_rounds}
 use Rattle.api_views.specs.State.{ClientState, within}
 use Rattle.api_views.specs.Stops.{has_stopped, is_down}
 
@@ -143,7 +144,6 @@ module _ (a : ApiState) (nodes : ℕ) (over : Option View) where
   up_calm (request.Operate (Some name) op) served up = rw (up) refl
   up_calm (request.Commit name) served up = rw (up) refl
   up_calm (request.Abort name) served up = rw (up) refl
-  up_calm (request.Tick round of) served up = rw (up) refl
   up_calm (request.Rows node) served up = rw (up) (rows_alike (request.Rows node) node false (is_full a.view node) refl (opened_rows node))
   up_calm (request.Digest node) served up = rw (up) (rows_alike (request.Digest node) node true (is_full a.view node) refl (opened_digest node))
   up_calm request.Waits served up = refl
@@ -166,3 +166,21 @@ module _ (a : ApiState) (nodes : ℕ) (over : Option View) where
   pub calm : (x : Signal) → IsCalmSignal s x → is_calm_body x.body ≡ true → client_row s x ≡ within s (api_row a x)
   unfolding noted
   calm x signal body = rw (signal.view) (body_calm x x.body refl body signal.up signal.known)
+
+  -- a round of time
+  pub ticked_calm : (round of : ℕ) → ticked s round of ≡ calm_state (request_row a (request.Tick round of)).state nodes over
+  unfolding request_row api.tick_row
+  ticked_calm round of = by (round == of)
+    where
+      by : (last : Bool) → ticked_if s of last ≡ calm_state (about (api.ticked_if a of last) None) nodes over
+      by true = refl
+      by false = refl
+
+  pub asked_tick : (round of : ℕ) → is_down s ≡ false → asked_row s (request.Tick round of) ≡ with_rounds (ticked s round of) 0
+  unfolding asked_row command_row tick_row
+  asked_tick round of up = rw (up) refl
+
+  pub calm_tick : (x : Signal) (at round of : ℕ) → IsCalmSignal s x → x.body ≡ Host (Continue (Request (request.Tick round of)) at)
+      → client_row s x ≡ with_rounds (calm_state (api_row a x).state nodes over) 0
+  unfolding noted
+  calm_tick x at round of signal is = rw (signal.view, is, asked_tick round of signal.up, ticked_calm round of) refl

@@ -1,3 +1,4 @@
 pub mod CalmLemmas
 pub mod DropLemmas
 pub mod OnceLemmas
+pub mod RoundLemmas

@@ -1,5 +1,5 @@
 -- What the client's side does under views, request by request and signal by signal.
-use Rattle.std.specs.Prelude.{ℕ, Bool, true, false, Option, None, Some, position, []}
+use Rattle.std.specs.Prelude.{ℕ, Bool, true, false, Option, None, position}
 use Rattle.sig_core.specs.declared.member.TxId.{TxId}
 use Rattle.sig_core.specs.declared.outcome.AbortCause.TheVariants.{NodeFail}
 use Rattle.sig_core.specs.declared.reply.ApiReply.TheVariants.{Refused}
@@ -12,7 +12,7 @@ use Rattle.sig_core.specs.declared.signal.Signal.{Signal}
 use Rattle.sig_core.specs.declared.signal.client.ClientSignal.TheVariants.{TcBeginConf, TcCommitConf, TcRollbackRep, TcKeyFailConf, TcKeyFailRef, NfCompleteRep, ViewRep}
 use Rattle.sig_core.specs.declared.signal.epoch.EpochSignal.TheVariants.{GcpRep, MicroRep}
 use Rattle.sig_core.specs.declared.signal.host.HostSignal.TheVariants.{Closed, Continue}
-use Rattle.sig_core.specs.declared.signal.host.Work.TheVariants.{Request, Report}
+use Rattle.sig_core.specs.declared.signal.host.Work.TheVariants.{Members, Request, Report}
 use Rattle.sig_core.specs.Step.{Step, stay}
 use Rattle.api_block.specs.Api.{api_row, request_row}
 use Rattle.api_block.specs.Opened.{begins_at, where_at}
@@ -23,6 +23,7 @@ use Rattle.api_views.specs.Commands.{begin_row, cut_row, kill_row, lone_row, on_
 use Rattle.api_views.specs.Members.{is_member, noted}
 use Rattle.api_views.specs.Pending.{client_pending_row}
 use Rattle.api_views.specs.Reports.{complete_row, report_row, stop_row}
+use Rattle.api_views.specs.Rounds.{rounds_row, tick_row}
 use Rattle.api_views.specs.State.{ClientState, turned_down, with_api, within}
 use Rattle.api_views.specs.Stops.{is_down}
 
@@ -30,6 +31,7 @@ use Rattle.api_views.specs.Stops.{is_down}
 abbrev pub up_row : ClientState → ApiReq → Step ClientState
 up_row s (request.Begin name node) = begin_row s name node
 up_row s (request.Operate None op) = lone_row s op
+up_row s (request.Tick round of) = tick_row s round of
 up_row s (request.Rows node) = rows_row s (request.Rows node) node
 up_row s (request.Digest node) = rows_row s (request.Digest node) node
 up_row s (request.Kill node) = kill_row s node
@@ -84,6 +86,7 @@ is_known s x = is_member s.api.view x.member
 abbrev pub client_table : ClientState → Signal → Body → Step ClientState
 client_table s x (Host (Continue (Request r) at)) = asked_row s r
 client_table s x (Host (Continue Report at)) = report_row s
+client_table s x (Host (Continue Members at)) = rounds_row s at
 client_table s x (Host (Closed cause)) = stop_row s x.member x.from cause
 client_table s x (Client ViewRep) = view_row s x.view
 client_table s x (Epoch (GcpRep epoch)) = closed_row s Gcp epoch

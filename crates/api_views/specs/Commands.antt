@@ -1,5 +1,5 @@
 -- The commands that look at which nodes run.
-use Rattle.std.specs.Prelude.{ℕ, ◌-◌, ◌*◌, ◌==◌, ◌&&◌, ◌||◌, ◌++◌, if◌then◌else◌, Bool, true, false, not, is_some, nat_lt, List, [], ◌∷◌, Option, None, Some}
+use Rattle.std.specs.Prelude.{ℕ, ◌-◌, ◌*◌, ◌==◌, ◌&&◌, ◌||◌, ◌++◌, Bool, true, false, not, is_some, List, [], ◌∷◌, Option, None, Some}
 use Rattle.std.specs.List.{list_any}
 use Rattle.sig_core.specs.declared.member.Member.{Member}
 use Rattle.sig_core.specs.declared.op.Op.{Op}
@@ -17,7 +17,6 @@ use Rattle.api_block.specs.Api.{request_row}
 use Rattle.api_block.specs.Commands.{beginning, or_none}
 use Rattle.api_block.specs.Members.{lesser}
 use Rattle.api_block.specs.Opened.{place_named}
-use Rattle.api_views.specs.declared.cuts.CutPair.{CutPair}
 use Rattle.api_views.specs.declared.stops.HostStop.{HostStop}
 use Rattle.api_views.specs.State.{ClientState, aside, left, telling, turned_down, within}
 use Rattle.api_views.specs.Stops.{runs, still_runs}

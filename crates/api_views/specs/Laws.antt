@@ -18,6 +18,7 @@ use Rattle.api_block.specs.Api.{api_row}
 use Rattle.api_block.specs.State.{ApiState}
 use Rattle.api_views.specs.Client.{client_row, is_known}
 use Rattle.api_views.specs.Members.{noted}
+use Rattle.api_views.specs.Rounds.{with_rounds}
 use Rattle.api_views.specs.State.{ClientState, within}
 use Rattle.api_views.specs.Stops.{is_down}
 
@@ -32,13 +33,12 @@ pub record IsCalmSignal (s : ClientState) (x : Signal) : Type 0 where
   pub known : is_known s x ≡ true
   pub up : is_down s ≡ false
 
--- a request that a calm cluster serves
+-- a request that a calm cluster serves as the API does; a round of time it has a law of its own for
 abbrev pub is_served : ApiReq → Bool
 is_served (request.Begin name at) = true
 is_served (request.Operate name op) = true
 is_served (request.Commit name) = true
 is_served (request.Abort name) = true
-is_served (request.Tick round of) = true
 is_served (request.Rows at) = true
 is_served (request.Digest at) = true
 is_served request.Waits = true
@@ -63,6 +63,13 @@ CalmSteps =
     (a : ApiState) (nodes : ℕ) (over : Option View) (x : Signal)
     → IsCalmSignal (calm_state a nodes over) x → is_calm_body x.body ≡ true
     → client_row (calm_state a nodes over) x ≡ within (calm_state a nodes over) (api_row a x)
+
+-- and so is the state after a round of time, which goes to each live node
+abbrev pub CalmTicks : Type 0
+CalmTicks =
+    (a : ApiState) (nodes : ℕ) (over : Option View) (x : Signal) (at round of : ℕ)
+    → IsCalmSignal (calm_state a nodes over) x → x.body ≡ Host (Continue (Request (request.Tick round of)) at)
+    → client_row (calm_state a nodes over) x ≡ with_rounds (calm_state (api_row a x).state nodes over) 0
 
 -- a signal that tells how a transaction ended
 abbrev pub is_report : Body → Bool

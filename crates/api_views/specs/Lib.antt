@@ -5,5 +5,6 @@ pub mod Laws
 pub mod Members
 pub mod Pending
 pub mod Reports
+pub mod Rounds
 pub mod State
 pub mod Stops

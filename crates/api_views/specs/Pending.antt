@@ -1,5 +1,5 @@
 -- What an unanswered command waits for.
-use Rattle.std.specs.Prelude.{ℕ, ◌==◌, ◌&&◌, ◌||◌, Bool, true, false, is_some, List, ◌++◌, Option, None, Some}
+use Rattle.std.specs.Prelude.{ℕ, ◌==◌, ◌&&◌, ◌||◌, Bool, true, false, is_some, Option, None, Some}
 use Rattle.std.specs.List.{list_any}
 use Rattle.sig_core.specs.declared.member.Member.{Member}
 use Rattle.sig_core.specs.declared.member.TxId.{TxId}
@@ -10,7 +10,6 @@ use Rattle.sig_core.specs.declared.request.ApiReq.TheVariants as request
 use Rattle.sig_core.specs.declared.view.View.{View}
 use Rattle.sig_core.specs.Firsts.{first}
 use Rattle.sig_core.specs.Step.{Step, stay}
-use Rattle.api_block.specs.declared.opened.OpenTransaction.{OpenTransaction}
 use Rattle.api_block.specs.Opened.{is_left_open, is_unanswered, own_place, where_at}
 use Rattle.api_block.specs.Api.{request_row}
 use Rattle.api_views.specs.declared.cuts.CutPair.{CutPair}

@@ -180,6 +180,7 @@ impl Client {
         match request {
             ApiReq::Begin { name, node } => self.begin(alloc, *name, *node, out),
             ApiReq::Operate { name: None, op } => self.operate_alone(op, out),
+            ApiReq::Tick { round, of } => self.tick(*round, *of, out),
             ApiReq::Rows { node } => self.dump(alloc, request, *node, out),
             ApiReq::Digest { node } => self.dump(alloc, request, *node, out),
             ApiReq::Kill { node } => self.kill(*node, out),
@@ -269,6 +270,15 @@ impl Client {
                     at: _,
                 },
             ) => self.tell_next(out),
+            Body::Host(
+                HostSignal::Continue {
+                    work: Work::Members,
+                    at,
+                },
+            ) => {
+                self.go_on_with_rounds(*at, out);
+                Ok(())
+            }
             Body::Host(HostSignal::Closed { cause }) => {
                 self.stop(&signal.member, signal.from, cause, out)
             }

@@ -10,7 +10,10 @@ use crate::client::Client;
 use crate::cuts::CutPair;
 use crate::stops::{HostStop, still_runs};
 use api_block::place_named;
-use sig_core::{ApiReply, ApiReq, Body, HeldOp, HostId, HostSignal, Member, NoMemory, Outs, Refusal, coordinator, membership, rows_of};
+use sig_core::{
+    ApiReply, ApiReq, Body, HeldOp, HostId, HostSignal, Member, NoMemory, Outs, Refusal,
+    coordinator, membership, rows_of,
+};
 use std::alloc::Global;
 
 fn serves_at(stops: &[HostStop], node: u8, member: &Member) -> bool
@@ -19,7 +22,8 @@ fn serves_at(stops: &[HostStop], node: u8, member: &Member) -> bool
     still_runs(stops, member) && member.node == node
 }
 
-fn some_serves(stops: &[HostStop], node: u8, members: &[Member]) -> bool
+/// Whether one of the members is at this node, and hasn't stopped.
+pub fn some_serves(stops: &[HostStop], node: u8, members: &[Member]) -> bool
     ensures { result ≡ list_any (serves_at stops.now node) members.now }
 {
     members.iter().any(|member| serves_at(stops, node, member))

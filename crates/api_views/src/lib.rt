@@ -10,6 +10,7 @@ mod laws;
 mod members;
 mod pending;
 mod reports;
+mod rounds;
 mod stops;
 
 pub use client::Client;

@@ -1,6 +1,6 @@
 -- What the API replies, sends and marks of ends and refusals is what it was told, and what it was asked.
 use Rattle.std.proofs.Common.{◌≡◌, ℕ, Bool, true, false, List, [], ◌∷◌, ◌++◌, refl, sym, ◌∙◌, subst, inl, append-nil}
-use Rattle.std.specs.Prelude.{Option, None, Some, map}
+use Rattle.std.specs.Prelude.{◌==◌, Option, None, Some, map}
 use Rattle.run_theory.specs.Lists.{Each, IsIn}
 use Rattle.run_theory.proofs.EachSent.{each_mapped}
 use Rattle.run_theory.proofs.Pasts.{each_append, in_append}
@@ -98,14 +98,15 @@ module _ (s : ApiState) where
   at_request : (r : ApiReq) (at : ℕ)
       → ApiRequestForms s r (ApiFine s (Host (Continue (work.Request r) at)))
   at_request r at = record {
-    opens = λ name node op new. record { replies = same body _ refl; sends = (tt, tt); marks = tt };
-    refuses = λ name why own. record {
+    opens = λ name node at is new. record { replies = same body _ refl; sends = (tt, tt); marks = tt };
+    opens_alone = λ op node is new. record { replies = same body _ refl; sends = (tt, tt); marks = tt };
+    refuses = λ name why is own. record {
       replies = one body _ _ refl (own_told body name why own);
       sends = tt;
       marks = tt;
     };
-    operates = λ name op at f tx ready own low. record { replies = same body _ refl; sends = (tt, tt); marks = tt };
-    commits = λ name at f tx ready own. record { replies = same body _ refl; sends = (tt, tt); marks = tt };
+    operates = λ name op at f tx is ready own low. record { replies = same body _ refl; sends = (tt, tt); marks = tt };
+    commits = λ name at f tx is ready own. record { replies = same body _ refl; sends = (tt, tt); marks = tt };
     aborts = λ name place f tx is own. record {
       replies = same body _ refl;
       sends = (
@@ -118,10 +119,10 @@ module _ (s : ApiState) where
       );
       marks = tt;
     };
-    ticks = λ of last. record { replies = round of last; sends = rounds; marks = tt };
-    dumps = λ node digest. record { replies = same body _ refl; sends = (tt, tt); marks = tt };
-    waits = λ p at f tx own. record { replies = same body _ refl; sends = (tt, tt); marks = tt };
-    pends = λ name holder. record { replies = one body _ _ refl tt; sends = tt; marks = tt };
+    ticks = λ number of is. record { replies = round of (number == of); sends = rounds; marks = tt };
+    dumps = λ node digest is. record { replies = same body _ refl; sends = (tt, tt); marks = tt };
+    waits = λ p at f tx is own. record { replies = same body _ refl; sends = (tt, tt); marks = tt };
+    pends = λ name holder is. record { replies = one body _ _ refl tt; sends = tt; marks = tt };
     gives_up = λ p place f holder tx is alone own. record {
       replies = one body _ _ refl tt;
       sends = ((refl, wish tx request.Pending is (entered p place f None tx alone own)), tt);

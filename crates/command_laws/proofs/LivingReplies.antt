@@ -1,6 +1,6 @@
 -- The API replies no loss of a node or of the cluster, where it is told of none.
 use Rattle.std.proofs.Common.{◌≡◌, ℕ, Bool, true, false, List, [], ◌∷◌, ◌++◌, refl, sym, ap, ◌∙◌}
-use Rattle.std.specs.Prelude.{Option, None, map}
+use Rattle.std.specs.Prelude.{◌==◌, Option, None, map}
 use Rattle.run_theory.specs.Lists.{Each}
 use Rattle.run_theory.proofs.EachSent.{each_mapped}
 use Rattle.run_theory.proofs.Pasts.{each_append}
@@ -50,15 +50,16 @@ module _ (s : ApiState) (all : AllLiving s.replies) where
 
   at_request : (r : ApiReq) (body : Body) → ApiRequestForms s r (Lives body)
   at_request r body = record {
-    opens = λ name node op new sound. all;
-    refuses = λ name why own sound. one_more _ (refusal_lives name why own);
-    operates = λ name op at f tx ready own low sound. all;
-    commits = λ name at f tx ready own sound. all;
+    opens = λ name node at is new sound. all;
+    opens_alone = λ op node is new sound. all;
+    refuses = λ name why is own sound. one_more _ (refusal_lives name why own);
+    operates = λ name op at f tx is ready own low sound. all;
+    commits = λ name at f tx is ready own sound. all;
     aborts = λ name at f tx is own sound. all;
-    ticks = round;
-    dumps = λ node digest sound. all;
-    waits = λ p at f tx own sound. all;
-    pends = λ name holder sound. one_more _ refl;
+    ticks = λ number of is. round of (number == of);
+    dumps = λ node digest is sound. all;
+    waits = λ p at f tx is own sound. all;
+    pends = λ name holder is sound. one_more _ refl;
     gives_up = λ p at f holder tx is alone own sound. one_more _ refl;
     is_about_none = λ sound. all;
     rests = λ sound. all;

@@ -1,6 +1,6 @@
 -- What each row of the API does to the transactions that it has opened, and what it sends.
 use Rattle.std.proofs.Common.{◌≡◌, ℕ, List, [], ◌∷◌, ◌++◌, Bool, true, false, refl, ap, subst, sym}
-use Rattle.std.specs.Prelude.{Option, None, Some}
+use Rattle.std.specs.Prelude.{◌==◌, Option, None, Some}
 use Rattle.sig_core.specs.declared.member.Member.{Member}
 use Rattle.sig_core.specs.declared.member.TxId.{TxId}
 use Rattle.sig_core.specs.declared.op.Op.{Op}
@@ -100,18 +100,19 @@ went_on name node tx begun = record { name = name; node = node; tx = tx; begun =
 
 at_request : (s : ApiState) (r : ApiReq) (n : ℕ) → ApiRequestForms s r (Moves s (asking r n))
 at_request s r n = record {
-  opens = λ name node op new. opens name node op new refl refl refl;
-  refuses = λ name why own. rests refl refl tt;
-  operates = λ name op at f tx ready own low.
+  opens = λ name node at is new. opens (Some name) node None new refl refl refl;
+  opens_alone = λ op node is new. opens None node (Some op) new refl refl refl;
+  refuses = λ name why is own. rests refl refl tt;
+  operates = λ name op at f tx is ready own low.
       goes f.front f.item _ f.back (went_on refl refl refl (ap is_beginning (sym ready))) tt f.is (ap (λ os. (s.view, os)) (f.set _)) refl;
-  commits = λ name at f tx ready own.
+  commits = λ name at f tx is ready own.
       goes f.front f.item _ f.back (went_on refl refl refl (ap is_beginning (sym ready))) tt f.is (ap (λ os. (s.view, os)) (f.set _)) refl;
   aborts = λ name at f tx is own. rests refl refl tt;
-  ticks = round;
-  dumps = λ node digest. rests refl refl tt;
-  waits = λ p at f tx own.
+  ticks = λ number of is. round of (number == of);
+  dumps = λ node digest is. rests refl refl tt;
+  waits = λ p at f tx is own.
       goes f.front f.item _ f.back (went_on refl refl refl refl) tt f.is (ap (λ os. (s.view, os)) (f.set _)) refl;
-  pends = λ name holder. rests refl refl tt;
+  pends = λ name holder is. rests refl refl tt;
   gives_up = λ p at f holder tx is alone own. rests refl refl tt;
   is_about_none = rests refl refl tt;
   rests = rests refl refl tt;

@@ -10,3 +10,6 @@ mod report;
 pub use laws::{calm_steps, installations_end_waits, reports_are_true};
 pub use replica::Replica;
 pub use report::Report;
+
+#[cfg(test)]
+mod tests;

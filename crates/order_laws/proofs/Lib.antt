@@ -1,12 +1,18 @@
 pub mod Askers
 pub mod Attended
+pub mod Awaited
+pub mod AwaitedSends
+pub mod AwaitedTurns
 pub mod Behind
 pub mod Carried
 pub mod Completed
+pub mod Completing
+pub mod CompletingTurns
 pub mod Ending
 pub mod Ends
 pub mod Gone
 pub mod Later
+pub mod Leads
 pub mod LetGo
 pub mod Lines
 pub mod Over
@@ -14,4 +20,6 @@ pub mod Passed
 pub mod Performs
 pub mod Records
 pub mod Sources
+pub mod Unanswered
+pub mod UnansweredTurns
 pub mod Written

@@ -78,7 +78,7 @@ use Rattle.run_laws.proofs.VerifiedSettled.{verified_settled}
 use Rattle.run_laws.proofs.Ways.{given_more}
 use Rattle.run_laws.proofs.Weighing.{in_sends, in_transit, joins_weigh, none_passes, none_weighs, weigh_none}
 use Rattle.order_laws.specs.LetGo.{has_let_go}
-use Rattle.order_laws.specs.Records.{WhoCommitsHasWritten, has_record}
+use Rattle.order_laws.specs.Records.{HasWritten, WhoCommitsHasWritten, has_record}
 use Rattle.order_laws.proofs.Askers.{asker}
 use Rattle.order_laws.proofs.Behind.{is_among}
 use Rattle.order_laws.proofs.Ending.{ending}
@@ -202,6 +202,39 @@ module _ (start : Start) (tx : TxId) where
     live : live_at start (logs_of start es) tx ≡ Some before
     from : IsFrom before t
 
+  -- where no part of an operation of it is in transit the step sent none
+  pub none_sent_where : (es : List HostStep) (e : HostStep) → Comes start es e
+      → ((xs : List Addressed) → AreInTransit start (e ∷ es) xs → tokens_in tx xs ≡ 0)
+      → Each (λ (o : Outgoing). is_token tx o.body ≡ false)
+      (step_after start e.host (logs_of start es e.host) e).effects.sends
+  none_sent_where es e come none_in =
+      each_map (λ (o : Outgoing). one_if (is_token tx o.body) ≡ 0) (λ (o : Outgoing). is_token tx o.body ≡ false)
+      sends (λ o none. off_token (is_token tx o.body) none)
+      (none_weighs (λ (o : Outgoing). one_if (is_token tx o.body)) sends
+      (omega (arith, light, ap (in_transit w) p.is, joins_weigh w start e.host (logs_of start es e.host) e p.between)))
+    where
+      sends : List Outgoing
+      sends = (step_after start e.host (logs_of start es e.host) e).effects.sends
+
+      w : Place → Body → ℕ
+      w to body = one_if (is_token tx body)
+
+      transit : (xs : List Addressed) × AreInTransit start (e ∷ es) xs
+      transit = runs_have_transit start (e ∷ es) come.now
+
+      xs : List Addressed
+      xs = transit.0
+
+      p : Passes start es e transit.1.0 xs
+      p = transit.1.1.1
+
+      light : in_transit w xs ≡ 0
+      light =
+          weigh_none (λ (x : Addressed). one_if (is_token tx x.signal.body)) xs
+          (each_map (λ (x : Addressed). is_token tx x.signal.body ≡ false)
+          (λ (x : Addressed). one_if (is_token tx x.signal.body) ≡ 0) xs (λ x off. ap one_if off)
+          (none_passes (λ (x : Addressed). is_token tx x.signal.body) xs (none_in xs transit.1)))
+
   module _ (es : List HostStep) (e : HostStep) (come : Comes start es e) (t : Transaction)
       (now : live_at start (logs_of start (e ∷ es)) tx ≡ Some t) (decided : is_decided t.phase ≡ true) where
     abbrev g : Host
@@ -254,34 +287,15 @@ module _ (start : Start) (tx : TxId) where
         by (inr differs) = same_was (ap (of_host tx) (away start es e come tx differs))
 
     -- the step sends no part of an operation of it
-    none_sent : Each (λ (o : Outgoing). is_token tx o.body ≡ false)
+    pub none_sent : Each (λ (o : Outgoing). is_token tx o.body ≡ false)
         (step_after start e.host (logs_of start es e.host) e).effects.sends
-    none_sent =
-        each_map (λ (o : Outgoing). one_if (is_token tx o.body) ≡ 0) (λ (o : Outgoing). is_token tx o.body ≡ false)
-        sends (λ o none. off_token (is_token tx o.body) none)
-        (none_weighs (λ (o : Outgoing). one_if (is_token tx o.body)) sends
-        (omega (arith, light, ap (in_transit w) p.is, joins_weigh w start e.host (logs_of start es e.host) e p.between)))
+    none_sent = none_sent_where es e come none_in
       where
-        sends : List Outgoing
-        sends = (step_after start e.host (logs_of start es e.host) e).effects.sends
-
-        w : Place → Body → ℕ
-        w to body = one_if (is_token tx body)
-
         at_home : ℕ
         at_home = home start tx
 
         s : TcState
         s = tc_of (after start at_home (logs_of start (e ∷ es) at_home))
-
-        transit : (xs : List Addressed) × AreInTransit start (e ∷ es) xs
-        transit = runs_have_transit start (e ∷ es) come.now
-
-        xs : List Addressed
-        xs = transit.0
-
-        p : Passes start es e transit.1.0 xs
-        p = transit.1.1.1
 
         owned : IsOwned s.node s.next_seq (sent_ways start back_by at_home (logs_of start (e ∷ es) at_home)) (tx, t)
         owned =
@@ -289,20 +303,13 @@ module _ (start : Start) (tx : TxId) where
             (IsOwned s.node s.next_seq (sent_ways start back_by at_home (logs_of start (e ∷ es) at_home)))
             s.live tx t (log_sound start at_home (logs_of start (e ∷ es) at_home)).tc.live now
 
-        none_in : tokens_in tx xs ≡ 0
-        none_in = omega (
+        none_in : (xs : List Addressed) → AreInTransit start (e ∷ es) xs → tokens_in tx xs ≡ 0
+        none_in xs transit = omega (
           arith,
-          one_at_a_time start (e ∷ es) xs tx come.now transit.1,
+          one_at_a_time start (e ∷ es) xs tx come.now transit,
           ap (budget_by (is_given_up start (logs_of start (e ∷ es)) tx)) now,
           idle t.phase t.asked owned.right (decided_not_asking t.phase decided),
         )
-
-        light : in_transit w xs ≡ 0
-        light =
-            weigh_none (λ (x : Addressed). one_if (is_token tx x.signal.body)) xs
-            (each_map (λ (x : Addressed). is_token tx x.signal.body ≡ false)
-            (λ (x : Addressed). one_if (is_token tx x.signal.body) ≡ 0) xs (λ x off. ap one_if off)
-            (none_passes (λ (x : Addressed). is_token tx x.signal.body) xs none_in))
 
   module _ (key : List ℕ) (at : ℕ) (inside : at + 1 < length (replicas start key)) where
     abbrev front : ℕ
@@ -315,7 +322,7 @@ module _ (start : Start) (tx : TxId) where
     IsWritten t = list_any (λ (op : Op × Answer). is_done op.1) (ops_on key t.ops) ≡ true
 
     -- so nobody passes anything of it on
-    passed_before : (es : List HostStep) (e : HostStep)
+    pub passed_before : (es : List HostStep) (e : HostStep)
         → Each (λ (o : Outgoing). is_token tx o.body ≡ false)
         (step_after start e.host (logs_of start es e.host) e).effects.sends
         → is_among tx (passed_on (logs_of start (e ∷ es) (replica_host start key at))) ≡ true
@@ -462,8 +469,14 @@ touched_written key ops (u ∷ rest) all done is =
         (all.0 ∙ (ap (λ k. any_done k ops) (keys.same u.key key e) ∙ done))
     by false e here more = more here
 
-pub who_commits_has_written : WhoCommitsHasWritten
-who_commits_has_written start es key at tx t run kept live asked is =
+-- one that was passed on, and whose commit was asked for, has written the key
+pub passed_has_written : (start : Start) (es : List HostStep) (key : List ℕ) (at : ℕ) (tx : TxId) (t : Transaction)
+    → IsRun start es → is_given_up start (logs_of start es) tx ≡ false → live_at start (logs_of start es) tx ≡ Some t
+    → (is_verifying t.phase || is_decided t.phase) ≡ true → at + 1 < length (replicas start key)
+    → is_among tx (passed start key (replica_host start key (at + 1)) (replica_host start key at)
+    (logs_of start es (replica_host start key at))) ≡ true
+    → HasWritten key t
+passed_has_written start es key at tx t run kept live asked inside there =
     let answered : any_done key t.ops ≡ true = by (or_cases (is_verifying t.phase) (is_decided t.phase) asked) in
     record {
       answered = answered;
@@ -477,12 +490,13 @@ who_commits_has_written start es key at tx t run kept live asked is =
         (tc_of (after start (home start tx) (logs_of start es (home start tx)))).live tx t
         (transactions_are_keyed start es (home start tx) run) live
 
-    there : is_among tx (passed start key (replica_host start key (at + 1)) (replica_host start key at)
-        (logs_of start es (replica_host start key at))) ≡ true
-    there = holders_passed start es key at tx run is.inside is.holding
-
     by : (is_verifying t.phase ≡ true) ⊎ (is_decided t.phase ≡ true)
         → any_done key t.ops ≡ true
     by (inl waits) =
-        verified_written start tx key at is.inside es t run kept live (verifying_is t.phase waits) there
-    by (inr decided) = decided_written start tx key at is.inside es t run kept live decided there
+        verified_written start tx key at inside es t run kept live (verifying_is t.phase waits) there
+    by (inr decided) = decided_written start tx key at inside es t run kept live decided there
+
+pub who_commits_has_written : WhoCommitsHasWritten
+who_commits_has_written start es key at tx t run kept live asked is =
+    passed_has_written start es key at tx t run kept live asked is.inside
+    (holders_passed start es key at tx run is.inside is.holding)

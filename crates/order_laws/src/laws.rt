@@ -1,8 +1,11 @@
 //! Whom a transaction waits for at a replica behind the primary.
+ghost use Rattle.order_laws.specs.Awaited.{AllIsAwaited};
 ghost use Rattle.order_laws.specs.Carried.{CarriedOutStayOut};
+ghost use Rattle.order_laws.specs.Completing.{CompletedLetGo};
 ghost use Rattle.order_laws.specs.Gone.{WhoHasGoneIsOut};
 ghost use Rattle.order_laws.specs.LetGo.{HoldersAreEnding, HoldersHaveLetGo, LaterHoldersAreGivenUp, WhoLetsGoIsOver};
 ghost use Rattle.order_laws.specs.Records.{HoldersHaveRecords, WhoCommitsHasWritten};
+ghost use Rattle.order_laws.specs.Unanswered.{PartsAreUnanswered};
 
 /// After every run: whom a transaction waits for at a place of a key's chain behind the first has let
 /// go of the key at the place in front, by an abort, by a completion, or by its commit at the primary.
@@ -51,4 +54,24 @@ pub fn holders_have_records()
 /// it holds at a backup.
 pub fn who_commits_has_written()
     ensures { WhoCommitsHasWritten }
+{}
+
+/// A coordinator awaits all that is under way by which rows of a transaction are committed, completed
+/// or aborted: where it has forgotten the transaction nothing is.
+#[tactic(auto, using(crate::proofs::Awaited::all_is_awaited))]
+pub fn all_is_awaited()
+    ensures { AllIsAwaited }
+{}
+
+/// Where nothing is under way, a transaction that is carried out and isn't committed any more holds no
+/// lock at the second place of a chain.
+#[tactic(auto, using(crate::proofs::Completing::completed_let_go))]
+pub fn completed_let_go()
+    ensures { CompletedLetGo }
+{}
+
+/// What is under way of operations is of those that coordinators have unanswered, on their keys.
+#[tactic(auto, using(crate::proofs::Unanswered::parts_are_unanswered))]
+pub fn parts_are_unanswered()
+    ensures { PartsAreUnanswered }
 {}

@@ -63,15 +63,16 @@ module _ (tx : TxId) where
 
     at_request : (r : ApiReq) (at : ℕ) → ApiRequestForms s r (SpendsAt (Host (Continue (work.Request r) at)))
     at_request r at = record {
-      opens = λ name node op new. inl refl;
-      refuses = λ name why living. inl refl;
-      operates = λ name op at f one ready own low. inl refl;
-      commits = λ name at f one ready own. inl refl;
+      opens = λ name node at is new. inl refl;
+      opens_alone = λ op node is new. inl refl;
+      refuses = λ name why is living. inl refl;
+      operates = λ name op at f one is ready own low. inl refl;
+      commits = λ name at f one is ready own. inl refl;
       aborts = λ name at f one is own. inl refl;
-      ticks = λ of last. inl refl;
-      dumps = λ node digest. inl refl;
-      waits = λ p at f one own. inl refl;
-      pends = λ name holder. inl refl;
+      ticks = λ number of is. inl refl;
+      dumps = λ node digest is. inl refl;
+      waits = λ p at f one is own. inl refl;
+      pends = λ name holder is. inl refl;
       gives_up = λ p at f holder one is alone own. inl refl;
       is_about_none = inl refl;
       rests = inl refl;

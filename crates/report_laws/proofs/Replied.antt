@@ -56,15 +56,16 @@ module _ (tx : TxId) (s : ApiState) where
 
   at_request : (r : ApiReq) (at : ℕ) → ApiRequestForms s r (RepliesAt (Host (Continue (work.Request r) at)))
   at_request r at = record {
-    opens = λ name node op new own. absurd (false≢true own);
-    refuses = λ name why living own. absurd (false≢true own);
-    operates = λ name op at f one ready of low own. absurd (false≢true own);
-    commits = λ name at f one ready of own. absurd (false≢true own);
+    opens = λ name node at is new own. absurd (false≢true own);
+    opens_alone = λ op node is new own. absurd (false≢true own);
+    refuses = λ name why is living own. absurd (false≢true own);
+    operates = λ name op at f one is ready of low own. absurd (false≢true own);
+    commits = λ name at f one is ready of own. absurd (false≢true own);
     aborts = λ name at f one is of own. absurd (false≢true own);
-    ticks = λ of last own. absurd (false≢true own);
-    dumps = λ node digest own. absurd (false≢true own);
-    waits = λ p at f one of own. absurd (false≢true own);
-    pends = λ name holder own. absurd (false≢true own);
+    ticks = λ number of is own. absurd (false≢true own);
+    dumps = λ node digest is own. absurd (false≢true own);
+    waits = λ p at f one is of own. absurd (false≢true own);
+    pends = λ name holder is own. absurd (false≢true own);
     gives_up = λ p at f holder one is alone of own. absurd (false≢true own);
     is_about_none = λ own. absurd (false≢true own);
     rests = λ own. absurd (false≢true own);
@@ -130,15 +131,16 @@ module _ (tx : TxId) (s : ApiState) where
 
   there_request : (r : ApiReq) (at : ℕ) → ApiRequestForms s r AreThere
   there_request r at = record {
-    opens = λ name node op new. tt;
-    refuses = λ name why living. tt;
-    operates = λ name op at f one ready of low. tt;
-    commits = λ name at f one ready of. tt;
+    opens = λ name node at is new. tt;
+    opens_alone = λ op node is new. tt;
+    refuses = λ name why is living. tt;
+    operates = λ name op at f one is ready of low. tt;
+    commits = λ name at f one is ready of. tt;
     aborts = λ name at f one is of. tt;
-    ticks = λ of last. tt;
-    dumps = λ node digest. tt;
-    waits = λ p at f one of. tt;
-    pends = λ name holder. tt;
+    ticks = λ number of is. tt;
+    dumps = λ node digest is. tt;
+    waits = λ p at f one is of. tt;
+    pends = λ name holder is. tt;
     gives_up = λ p at f holder one is alone of. tt;
     is_about_none = tt;
     rests = tt;

@@ -1,6 +1,6 @@
 -- The client is told the ends that are marked as reported, and the answers that are heard.
 use Rattle.std.proofs.Common.{◌≡◌, ◌⊎◌, ℕ, Bool, true, false, List, [], ◌∷◌, ◌++◌, drop, length, map, refl, sym, ap, ◌∙◌, subst, inl, inr}
-use Rattle.std.specs.Prelude.{None}
+use Rattle.std.specs.Prelude.{◌==◌, None}
 use Rattle.run_theory.specs.Logs.{IsLog}
 use Rattle.run_theory.proofs.Links.{log_after}
 use Rattle.sig_core.specs.declared.place.BlockId.{BlockId}
@@ -81,15 +81,16 @@ module _ (s : ApiState) (body : Body) where
 
   at_request : (r : ApiReq) → ApiRequestForms s r (TellsMarked s body)
   at_request r = record {
-    opens = λ name node op new. none _ refl refl;
-    refuses = λ name why living. some _ _ refl refl (inl refl);
-    operates = λ name op at f tx ready own low. none _ refl refl;
-    commits = λ name at f tx ready own. none _ refl refl;
+    opens = λ name node at is new. none _ refl refl;
+    opens_alone = λ op node is new. none _ refl refl;
+    refuses = λ name why is living. some _ _ refl refl (inl refl);
+    operates = λ name op at f tx is ready own low. none _ refl refl;
+    commits = λ name at f tx is ready own. none _ refl refl;
     aborts = λ name at f tx is own. none _ refl refl;
-    ticks = ticks;
-    dumps = λ node digest. none _ refl refl;
-    waits = λ p at f tx own. none _ refl refl;
-    pends = λ name holder. some _ _ refl refl (inl refl);
+    ticks = λ number of is. ticks of (number == of);
+    dumps = λ node digest is. none _ refl refl;
+    waits = λ p at f tx is own. none _ refl refl;
+    pends = λ name holder is. some _ _ refl refl (inl refl);
     gives_up = λ p at f holder tx is alone own. some _ _ refl refl (inl refl);
     is_about_none = none _ refl refl;
     rests = none _ refl refl;

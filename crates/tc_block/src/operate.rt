@@ -9,7 +9,10 @@ use crate::sends::{send_aborts, send_waits};
 use crate::touched::same_key;
 use crate::transaction::Transaction;
 use frag_map::Layout;
-use sig_core::{Answer, Body, Chain, ChainSignal, ClientSignal, HeldAnswer, HeldOp, HeldWork, Key, NoMemory, Op, Outs, TxId, node_at, rows_of, CLIENT};
+use sig_core::{
+    Answer, Body, CLIENT, Chain, ChainSignal, ClientSignal, HeldAnswer, HeldOp, HeldWork, Key,
+    NoMemory, Op, Outs, TxId, node_at, rows_of,
+};
 
 impl Transaction {
     /// Whether it takes operations, and none is unanswered.

@@ -13,7 +13,10 @@ ghost use Rattle.tc_block.specs.Tc.{tc_table};
 use crate::transaction::Transaction;
 use frag_map::Layout;
 use indexmap::IndexMap;
-use sig_core::{AbortCause, Actor, Body, ChainSignal, ClientSignal, EpochSignal, HeldAnswer, HeldOp, HostSignal, Key, NoMemory, Outs, Signal, TxId, View, Work, CLIENT};
+use sig_core::{
+    AbortCause, Actor, Body, CLIENT, ChainSignal, ClientSignal, EpochSignal, HeldAnswer, HeldOp,
+    HostSignal, Key, NoMemory, Outs, Signal, TxId, View, Work,
+};
 use std::alloc::Global;
 use std::marker::Model;
 

@@ -1,5 +1,8 @@
 //! What an API hears, in short.
-use sig_core::{AbortCause, ApiReq, Body, ClientSignal, HeldAnswer, HeldOp, HostSignal, Key, Op, Seq, TxId, Value, Work};
+use sig_core::{
+    AbortCause, ApiReq, Body, ClientSignal, HeldAnswer, HeldOp, HostSignal, Key, Op, Seq, TxId,
+    Value, Work,
+};
 use std::alloc::Global;
 use std::test::Fail;
 

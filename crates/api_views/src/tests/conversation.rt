@@ -67,14 +67,25 @@ fn done(
     Ok(shown(alloc, &mut outs, client)?)
 }
 
-// At each signal, of a host and with a view's number, the client does just this.
-fn talk(rt: &impl Abort, alloc: Global, lines: &[(u32, u64, Heard, &str)]) -> Result<(), Fail> {
-    let mut client = Client::new(alloc, 3, &view(1))?;
+// At each signal, of a host and with a view's number, the client of a cluster of so many nodes does
+// just this.
+fn talk_of(
+    rt: &impl Abort,
+    alloc: Global,
+    nodes: u8,
+    lines: &[(u32, u64, Heard, &str)],
+) -> Result<(), Fail> {
+    let mut client = Client::new(alloc, nodes, &view(1))?;
     for (host, number, heard, expected) in lines {
         let text = done(alloc, &mut client, *host, *number, *heard)?;
         assert_eq!(rt; text.as_str(), *expected);
     }
     Ok(())
+}
+
+// That of three nodes.
+fn talk(rt: &impl Abort, alloc: Global, lines: &[(u32, u64, Heard, &str)]) -> Result<(), Fail> {
+    talk_of(rt, alloc, 3, lines)
 }
 
 #[test]
@@ -202,4 +213,60 @@ fn cuts_and_views(rt: HostRuntime) -> Result<(), Fail> {
         (0, 2, Heard::GoOn, "no member 3"),
     ];
     talk(&rt, rt.alloc(), &lines)
+}
+
+// Also one that isn't in the greatest view any more.
+#[test]
+fn each_node_that_runs_has_its_rounds(rt: HostRuntime) -> Result<(), Fail> {
+    let lines = [
+        (
+            0,
+            1,
+            Heard::Tick(1, 2),
+            "main1 round, lqh1 round, main2 round, lqh2 round, main3 round, lqh3 round",
+        ),
+        (4, 2, Heard::Installed, ""),
+        (
+            0,
+            2,
+            Heard::Tick(2, 2),
+            "main1 round, lqh1 round, main2 round, lqh2 round, main3 round, lqh3 round, ticked 2",
+        ),
+        (1, 2, KILLED, "node 1 killed"),
+        (
+            0,
+            2,
+            Heard::Tick(1, 1),
+            "main2 round, lqh2 round, main3 round, lqh3 round, ticked 1",
+        ),
+    ];
+    talk(&rt, rt.alloc(), &lines)
+}
+
+// A stop between the parts of a round moves nobody's place.
+#[test]
+fn a_round_of_many_nodes_goes_on(rt: HostRuntime) -> Result<(), Fail> {
+    let lines = [
+        (
+            0,
+            1,
+            Heard::Tick(1, 1),
+            "main1 round, lqh1 round, main2 round, lqh2 round, main3 round, lqh3 round, main4 round, lqh4 round, api0 goes on, ticked 1",
+        ),
+        (4, 1, KILLED, "node 2 killed"),
+        (
+            0,
+            1,
+            Heard::Rounds(4),
+            "main5 round, lqh5 round, main6 round, lqh6 round",
+        ),
+        (0, 1, Heard::Rounds(8), ""),
+        (
+            0,
+            1,
+            Heard::Tick(1, 1),
+            "main1 round, lqh1 round, main3 round, lqh3 round, main4 round, lqh4 round, api0 goes on, ticked 1",
+        ),
+    ];
+    talk_of(&rt, rt.alloc(), 6, &lines)
 }

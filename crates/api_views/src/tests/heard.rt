@@ -1,5 +1,8 @@
 //! What a client hears, in short.
-use sig_core::{ApiReq, Body, ClientSignal, EpochSignal, HeldOp, HostSignal, Key, Op, StopCause, TxId, Value, Work};
+use sig_core::{
+    ApiReq, Body, ClientSignal, EpochSignal, HeldOp, HostSignal, Key, Op, StopCause, TxId, Value,
+    Work,
+};
 use std::alloc::Global;
 use std::test::Fail;
 
@@ -15,6 +18,10 @@ pub enum Heard {
     Micro,
     View,
     Rows(u8),
+    /// A round of so many.
+    Tick(u8, u8),
+    /// Its own signal to go on with a round.
+    Rounds(u64),
     Pending,
     GoOn,
     Begun(Option<u16>, u8, u64),
@@ -62,6 +69,11 @@ fn short_body(heard: Heard) -> Body {
         Heard::Micro => request(ApiReq::Micro),
         Heard::View => request(ApiReq::View),
         Heard::Rows(node) => request(ApiReq::Rows { node }),
+        Heard::Tick(round, of) => request(ApiReq::Tick { round, of }),
+        Heard::Rounds(at) => Body::Host(HostSignal::Continue {
+            work: Work::Members,
+            at,
+        }),
         Heard::Pending => request(ApiReq::Pending),
         Heard::GoOn => Body::Host(HostSignal::Continue {
             work: Work::Report,

@@ -83,6 +83,7 @@ fn show_host(text: &mut String, signal: &HostSignal) -> Result<(), AllocError> {
             put_number(text, " from ", u64::from(first.0))
         }
         HostSignal::Continue { .. } => text.push_str(" goes on"),
+        HostSignal::Round => text.push_str(" round"),
         _ => text.push_str(" another"),
     }
 }
@@ -108,6 +109,7 @@ fn show_reply(text: &mut String, reply: &ApiReply) -> Result<(), AllocError> {
             put_number(text, "cut ", u64::from(*one))?;
             put_number(text, " ", u64::from(*other))
         }
+        ApiReply::Ticked { rounds } => put_number(text, "ticked ", u64::from(*rounds)),
         ApiReply::Durable { epoch } => put_number(text, "durable ", *epoch),
         ApiReply::Closed { epoch } => put_number(text, "closed ", *epoch),
         ApiReply::View { view } => put_number(text, "view ", view.number),

@@ -1,5 +1,8 @@
 //! What the rows of a node hear, in short.
-use sig_core::{Body, Chain, ChainSignal, ClientSignal, HeldOp, HeldWork, HostSignal, Key, Member, Members, Op, TxId, Value, Work};
+use sig_core::{
+    Body, Chain, ChainSignal, ClientSignal, HeldOp, HeldWork, HostSignal, Key, Member, Members, Op,
+    TxId, Value, Work,
+};
 use std::alloc::Global;
 use std::test::Fail;
 

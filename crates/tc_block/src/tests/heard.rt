@@ -1,5 +1,8 @@
 //! What a coordinator hears, in short.
-use sig_core::{AbortCause, Answer, Body, ChainSignal, ClientSignal, EpochSignal, HeldAnswer, HeldOp, HostSignal, Key, Op, TxId, Value, Work};
+use sig_core::{
+    AbortCause, Answer, Body, ChainSignal, ClientSignal, EpochSignal, HeldAnswer, HeldOp,
+    HostSignal, Key, Op, TxId, Value, Work,
+};
 use std::alloc::Global;
 use std::test::Fail;
 

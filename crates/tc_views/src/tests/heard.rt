@@ -1,5 +1,8 @@
 //! What a coordinator under views hears, in short.
-use sig_core::{AbortCause, Answer, Body, ChainSignal, ClientSignal, EpochSignal, Held, HeldAnswer, HeldOp, HostSignal, Key, Member, Members, MembershipSignal, NoMemory, Op, TxId, Value, View, Work};
+use sig_core::{
+    AbortCause, Answer, Body, ChainSignal, ClientSignal, EpochSignal, Held, HeldAnswer, HeldOp,
+    HostSignal, Key, Member, Members, MembershipSignal, NoMemory, Op, TxId, Value, View, Work,
+};
 use std::alloc::Global;
 use std::test::Fail;
 

@@ -1,0 +1,14 @@
+-- Signals that are sent one after the other.
+use Rattle.std.proofs.Common.{◌≡◌, ◌++◌, List, [], append_assoc}
+use Rattle.std.proofs.lemmas.List.{append-nil}
+use Rattle.sig_core.specs.declared.outs.Outgoing.{Outgoing}
+use Rattle.sig_core.specs.Step.{Effects, joined, sends_only}
+
+-- two lists of signals behind effects are one list behind them
+pub joined_twice : (e : Effects) (first second : List Outgoing)
+    → joined (joined e (sends_only first)) (sends_only second) ≡ joined e (sends_only (first ++ second))
+joined_twice e first second =
+    λ i. record {
+      sends = append_assoc e.sends first second i;
+      marks = append-nil (e.marks ++ []) i;
+    }
