@@ -1,5 +1,6 @@
 pub mod Blocks
 pub mod Fence
+pub mod Fresh
 pub mod Parts
 pub mod Row
 pub mod WellFormed

@@ -1,18 +1,23 @@
 //! A host.
-ghost use Rattle.std.specs.Prelude.{◌≡◌, ◌≤◌, ◌+◌, ◌<◌, OnOk, length};
+ghost use Rattle.std.specs.Prelude.{◌≡◌, ◌≤◌, ◌+◌, ◌<◌, IfOk, OnOk, [], length};
 ghost use Rattle.std.specs.List.{list_any};
 ghost use Rattle.sig_core.specs.declared.mark.Mark.TheVariants.{Stopped};
 ghost use Rattle.sig_core.specs.Step.{HasRoom, IsTaken, and_mark, nothing};
+ghost use Rattle.node_views.specs.Fresh.{fresh_ldm, fresh_main, fresh_shell, fresh_tc};
 ghost use Rattle.node_views.specs.Row.{blocks_row, counted_row, cut_row, entered, headed_row, host_row, host_table, is_barred, is_cut, is_excluded, is_stop, kill_row, passed_row, same_host, unless_stopped};
 
 use crate::fence::is_fenced;
+use crate::ldm_part::LdmPart;
+use crate::main_part::MainPart;
 use crate::parts::Parts;
+use crate::shell_part::ShellPart;
 use crate::standing::Standing;
+use crate::tc_part::TcPart;
 use crate::well_formed::is_well_formed;
 use api_views::is_member;
-use sig_core::{
-    Body, HostId, HostSignal, Mark, NoMemory, Outs, Signal, StopCause, View,
-};
+use frag_map::Layout;
+use lqh_block::MapRows;
+use sig_core::{Body, HostId, HostSignal, Mark, Member, NoMemory, Outs, Signal, StopCause, View};
 use std::alloc::Global;
 
 /// A unit that takes signals, one after the other: the shell's, or a part of a data node.
@@ -23,6 +28,82 @@ pub struct Host {
 }
 
 impl Host {
+    /// The shell's host of a cluster that begins in this layout.
+    ///
+    /// # Errors
+    /// `NoMemory`.
+    pub fn shell(alloc: Global, layout: &Layout) -> Result<Host, NoMemory>
+        ensures { IfOk result (λ host. host ≡ fresh_shell layout.now) }
+    {
+        let member = Member { node: 0, start: 0 };
+        let part = ShellPart::new(alloc, layout.shape().nodes, layout.view())?;
+        Ok(Host {
+            standing: Standing::new(alloc, member, layout),
+            parts: Parts::Shell(part),
+        })
+    }
+
+    /// The main part of a member that begins in this layout, with this current epoch, which is 0 for
+    /// a later start of a node.
+    ///
+    /// # Errors
+    /// `NoMemory`.
+    pub fn main(
+        alloc: Global,
+        member: Member,
+        layout: &Layout,
+        epoch: u64,
+    ) -> Result<Host, NoMemory>
+        ensures { IfOk result (λ host. host ≡ fresh_main member layout.now epoch) }
+    {
+        let part = MainPart::new(alloc, member, layout, epoch)?;
+        Ok(Host {
+            standing: Standing::new(alloc, member, layout),
+            parts: Parts::Main(part),
+        })
+    }
+
+    /// Its coordinating part, in a life that starts from the epoch `start`.
+    ///
+    /// # Errors
+    /// `NoMemory`.
+    pub fn tc(
+        alloc: Global,
+        member: Member,
+        layout: &Layout,
+        epoch: u64,
+        start: u64,
+    ) -> Result<Host, NoMemory>
+        ensures { IfOk result (λ host. host ≡ fresh_tc member layout.now epoch start) }
+    {
+        let part = TcPart::new(alloc, member, layout, epoch, start)?;
+        Ok(Host {
+            standing: Standing::new(alloc, member, layout),
+            parts: Parts::Tc(part),
+        })
+    }
+
+    /// The part that has its rows, which are these, of which none is being changed.
+    ///
+    /// # Errors
+    /// `NoMemory`.
+    pub fn ldm(
+        alloc: Global,
+        member: Member,
+        layout: &Layout,
+        rows: MapRows,
+        start: u64,
+    ) -> Result<Host, NoMemory>
+        requires { rows.rows.pending ≡ [] }
+        ensures { IfOk result (λ host. host ≡ fresh_ldm member layout.now rows.rows start) }
+    {
+        let part = LdmPart::new(alloc, member, layout, rows, start)?;
+        Ok(Host {
+            standing: Standing::new(alloc, member, layout),
+            parts: Parts::Ldm(part),
+        })
+    }
+
     /// Takes a signal. In this order: one that isn't well formed changes nothing; a host that is to be
     /// killed counts it; a view of a greater number in its header is installed, or stops a host whose
     /// member it leaves out; a fence stops it; the host or the block that it is for handles it, and a
@@ -32,12 +113,7 @@ impl Host {
     /// # Errors
     /// `NoMemory`, and then the host is of no more use.
     #[tactic(auto, unfolding(crate::specs::Row::host_row))]
-    pub fn step(
-        &mut self,
-        alloc: Global,
-        signal: &Signal,
-        out: &mut Outs,
-    ) -> Result<(), NoMemory>
+    pub fn step(&mut self, alloc: Global, signal: &Signal, out: &mut Outs) -> Result<(), NoMemory>
         requires { out.old ≡ nothing }
         ensures { OnOk result (IsTaken (host_row self.old signal.now) self.new nothing out.new) }
     {
@@ -49,12 +125,7 @@ impl Host {
     }
 
     // A host that is to be killed takes so many more signals.
-    fn count(
-        &mut self,
-        alloc: Global,
-        signal: &Signal,
-        out: &mut Outs,
-    ) -> Result<(), NoMemory>
+    fn count(&mut self, alloc: Global, signal: &Signal, out: &mut Outs) -> Result<(), NoMemory>
         requires { out.old ≡ nothing }
         ensures { OnOk result (IsTaken (counted_row self.old signal.now self.old.standing.left) self.new nothing out.new) }
     {
@@ -73,12 +144,7 @@ impl Host {
 
     // A view of a greater number is installed.
     #[tactic(auto, unfolding(crate::specs::Row::headed_row))]
-    fn head(
-        &mut self,
-        alloc: Global,
-        signal: &Signal,
-        out: &mut Outs,
-    ) -> Result<(), NoMemory>
+    fn head(&mut self, alloc: Global, signal: &Signal, out: &mut Outs) -> Result<(), NoMemory>
         requires { out.old ≡ nothing }
         ensures { OnOk result (IsTaken (headed_row self.old signal.now) self.new nothing out.new) }
     {
@@ -119,12 +185,7 @@ impl Host {
 
     // A fence stops the signal, or it is handled.
     #[tactic(auto, unfolding(crate::specs::Row::passed_row))]
-    fn pass(
-        &mut self,
-        alloc: Global,
-        signal: &Signal,
-        out: &mut Outs,
-    ) -> Result<(), NoMemory>
+    fn pass(&mut self, alloc: Global, signal: &Signal, out: &mut Outs) -> Result<(), NoMemory>
         requires { HasRoom out.old }
         ensures { OnOk result (IsTaken (passed_row self.old signal.now) self.new out.old out.new) }
     {
@@ -140,17 +201,11 @@ impl Host {
         ensures { result ≡ is_barred self.now signal.now }
     {
         let number = self.standing.view.number;
-        is_fenced(signal)
-            && signal.view.get().number < self.parts.fence_at(signal.to.block, number)
+        is_fenced(signal) && signal.view.get().number < self.parts.fence_at(signal.to.block, number)
     }
 
     // What the host does itself, and what it leaves to its blocks.
-    fn take(
-        &mut self,
-        alloc: Global,
-        signal: &Signal,
-        out: &mut Outs,
-    ) -> Result<(), NoMemory>
+    fn take(&mut self, alloc: Global, signal: &Signal, out: &mut Outs) -> Result<(), NoMemory>
         requires { HasRoom out.old }
         ensures { OnOk result (IsTaken (host_table self.old signal.now signal.now.body) self.new out.old out.new) }
     {
@@ -160,24 +215,18 @@ impl Host {
                 Ok(())
             }
             Body::Host(HostSignal::Cut { node: _, first }) => self.cut(*first, out),
-            Body::Host(HostSignal::Closed { cause: _ })
-                if self.standing.member == signal.member =>
-            {
-                stop(StopCause::Sibling { host: signal.from }, out);
-                Ok(())
-            }
+            Body::Host(HostSignal::Closed { cause: _ }) if self.standing.member == signal.member =>
+                {
+                    stop(StopCause::Sibling { host: signal.from }, out);
+                    Ok(())
+                }
             _ => self.handle(alloc, signal, out),
         }
     }
 
     // The blocks handle a signal, and install a view that the membership settles on.
     #[tactic(auto, unfolding(crate::specs::Row::blocks_row))]
-    fn handle(
-        &mut self,
-        alloc: Global,
-        signal: &Signal,
-        out: &mut Outs,
-    ) -> Result<(), NoMemory>
+    fn handle(&mut self, alloc: Global, signal: &Signal, out: &mut Outs) -> Result<(), NoMemory>
         requires { HasRoom out.old }
         ensures { OnOk result (IsTaken (blocks_row self.old signal.now) self.new out.old out.new) }
     {
@@ -219,7 +268,11 @@ impl Host {
     fn is_cut(&self, host: HostId) -> bool
         ensures { result ≡ is_cut self.now.standing host }
     {
-        self.standing.cut.as_slice().iter().any(|other| same_host(host, other))
+        self.standing
+            .cut
+            .as_slice()
+            .iter()
+            .any(|other| same_host(host, other))
     }
 }
 

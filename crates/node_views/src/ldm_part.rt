@@ -1,5 +1,5 @@
 //! The blocks of the part of a node that has its rows.
-ghost use Rattle.std.specs.Prelude.{◌≡◌, ◌≤◌, ◌+◌, IfOk, OnOk, length};
+ghost use Rattle.std.specs.Prelude.{◌≡◌, ◌≤◌, ◌+◌, IfOk, OnOk, [], length};
 ghost use Rattle.sig_core.specs.Step.{HasRoom, IsTaken};
 ghost use Rattle.lqh_views.specs.Replica.{fresh_replica};
 ghost use Rattle.node_views.specs.Parts.{greater, ldm_entered, ldm_row, raised};
@@ -7,7 +7,7 @@ ghost use Rattle.node_views.specs.Parts.{greater, ldm_entered, ldm_row, raised};
 use frag_map::Layout;
 use lqh_block::{CountJournal, MapRows};
 use lqh_views::Replica;
-use sig_core::{Actor, BlockId, Body, MembershipSignal, NoMemory, Outs, Signal, View};
+use sig_core::{Actor, BlockId, Body, Member, MembershipSignal, NoMemory, Outs, Signal, View};
 use std::alloc::Global;
 
 /// The rows of a node, and the number below which they are fenced off.
@@ -18,17 +18,40 @@ pub struct LdmPart {
 }
 
 impl LdmPart {
+    /// The part of a member that begins in this layout with these rows, of which none is being
+    /// changed, in a life that starts from the epoch `start`.
+    ///
+    /// # Errors
+    /// `NoMemory`.
+    pub fn new(
+        alloc: Global,
+        member: Member,
+        layout: &Layout,
+        rows: MapRows,
+        start: u64,
+    ) -> Result<LdmPart, NoMemory>
+        requires { rows.rows.pending ≡ [] }
+        ensures replica { IfOk result (λ p. p.replica ≡ fresh_replica member.node layout.now rows.rows (record { used = 0; reserved = 0 }) start) }
+        ensures fence { IfOk result (λ p. p.fence ≡ layout.now.view.number) }
+    {
+        let fence = layout.view().number;
+        let replica = Replica::new(
+            alloc,
+            member.node,
+            *layout,
+            rows,
+            CountJournal::new(),
+            start,
+        )?;
+        Ok(LdmPart { replica, fence })
+    }
+
     /// The block that a signal is for handles it. A promise raises its fence.
     ///
     /// # Errors
     /// `NoMemory`.
     #[tactic(auto, unfolding(crate::specs::Parts::ldm_row))]
-    pub fn handle(
-        &mut self,
-        alloc: Global,
-        signal: &Signal,
-        out: &mut Outs,
-    ) -> Result<(), NoMemory>
+    pub fn handle(&mut self, alloc: Global, signal: &Signal, out: &mut Outs) -> Result<(), NoMemory>
         requires { HasRoom out.old }
         ensures { OnOk result (IsTaken (ldm_row self.old signal.now.to.block signal.now) self.new out.old out.new) }
     {

@@ -21,3 +21,5 @@ pub use standing::Standing;
 pub use tc_part::TcPart;
 pub use well_formed::is_well_formed;
 
+#[cfg(test)]
+mod tests;

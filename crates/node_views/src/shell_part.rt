@@ -36,12 +36,7 @@ impl ShellPart {
     /// # Errors
     /// `NoMemory`.
     #[tactic(auto, unfolding(crate::specs::Parts::shell_row))]
-    pub fn handle(
-        &mut self,
-        alloc: Global,
-        signal: &Signal,
-        out: &mut Outs,
-    ) -> Result<(), NoMemory>
+    pub fn handle(&mut self, alloc: Global, signal: &Signal, out: &mut Outs) -> Result<(), NoMemory>
         requires { HasRoom out.old }
         ensures { OnOk result (IsTaken (shell_row self.old signal.now.to.block signal.now) self.new out.old out.new) }
     {

@@ -1,5 +1,11 @@
 //! Where a host stands in its cluster, whichever blocks it has.
+ghost use Rattle.std.specs.Prelude.{◌≡◌};
+ghost use Rattle.node_views.specs.Fresh.{standing_in};
+
+use api_views::is_member;
+use frag_map::Layout;
 use sig_core::{HostId, Member, Seq, Shape, View};
+use std::alloc::Global;
 
 /// What a host knows beside its blocks.
 #[derive(Drop)]
@@ -16,4 +22,20 @@ pub struct Standing {
     pub left: Option<u32>,
     /// The hosts that it has cut off.
     pub cut: Seq<HostId>,
+}
+
+impl Standing {
+    /// A host of the member begins in this layout. Takes no memory.
+    pub fn new(alloc: Global, member: Member, layout: &Layout) -> Standing
+        ensures { result ≡ standing_in member layout.now }
+    {
+        Standing {
+            shape: layout.shape(),
+            member,
+            view: *layout.view(),
+            has_joined: is_member(layout.view(), &member),
+            left: None,
+            cut: Seq::new(alloc),
+        }
+    }
 }

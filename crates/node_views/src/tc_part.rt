@@ -53,12 +53,7 @@ impl TcPart {
     /// # Errors
     /// `NoMemory`.
     #[tactic(auto, unfolding(crate::specs::Parts::tc_row))]
-    pub fn handle(
-        &mut self,
-        alloc: Global,
-        signal: &Signal,
-        out: &mut Outs,
-    ) -> Result<(), NoMemory>
+    pub fn handle(&mut self, alloc: Global, signal: &Signal, out: &mut Outs) -> Result<(), NoMemory>
         requires { HasRoom out.old }
         ensures { OnOk result (IsTaken (tc_row self.old signal.now.to.block signal.now) self.new out.old out.new) }
     {
