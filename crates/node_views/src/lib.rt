@@ -4,6 +4,7 @@
 
 mod fence;
 mod host;
+mod laws;
 mod ldm_part;
 mod main_part;
 mod parts;
@@ -13,6 +14,9 @@ mod tc_part;
 mod well_formed;
 
 pub use host::Host;
+pub use laws::{
+    calm_hosts_leave_it_to_blocks, malformed_signals_change_nothing, stopping_hosts_are_silent,
+};
 pub use ldm_part::LdmPart;
 pub use main_part::MainPart;
 pub use parts::Parts;
