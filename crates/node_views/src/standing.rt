@@ -1,10 +1,10 @@
 //! Where a host stands in its cluster, whichever blocks it has.
-ghost use Rattle.std.specs.Prelude.{◌≡◌};
+ghost use Rattle.std.specs.Prelude.{◌≡◌, IfOk};
 ghost use Rattle.node_views.specs.Fresh.{standing_in};
 
 use api_views::is_member;
 use frag_map::Layout;
-use sig_core::{HostId, Member, Seq, Shape, View};
+use sig_core::{Held, HostId, Member, NoMemory, Seq, Shape, View};
 use std::alloc::Global;
 
 /// What a host knows beside its blocks.
@@ -14,7 +14,7 @@ pub struct Standing {
     /// The member that it is a host of; node 0 with start 0 is the shell's.
     pub member: Member,
     /// The view that it has installed.
-    pub view: View,
+    pub view: Held<View>,
     /// It has installed a view that its member is in: from then on one without it stops the host.
     pub has_joined: bool,
     /// How many signals it still takes before it is killed, the last of them not handled; none where
@@ -25,17 +25,21 @@ pub struct Standing {
 }
 
 impl Standing {
-    /// A host of the member begins in this layout. Takes no memory.
-    pub fn new(alloc: Global, member: Member, layout: &Layout) -> Standing
-        ensures { result ≡ standing_in member layout.now }
+    /// A host of the member begins in this layout.
+    ///
+    /// # Errors
+    /// `NoMemory`.
+    pub fn new(alloc: Global, member: Member, layout: &Layout) -> Result<Standing, NoMemory>
+        ensures { IfOk result (λ standing. standing ≡ standing_in member layout.now) }
     {
-        Standing {
+        let view = Held::new(alloc, *layout.view())?;
+        Ok(Standing {
             shape: layout.shape(),
             member,
-            view: *layout.view(),
+            view,
             has_joined: is_member(layout.view(), &member),
             left: None,
             cut: Seq::new(alloc),
-        }
+        })
     }
 }
