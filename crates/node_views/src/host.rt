@@ -17,7 +17,9 @@ use crate::well_formed::is_well_formed;
 use api_views::is_member;
 use frag_map::Layout;
 use lqh_block::MapRows;
-use sig_core::{Body, HostId, HostSignal, Mark, Member, NoMemory, Outs, Signal, StopCause, View};
+use sig_core::{
+    Body, Held, HostId, HostSignal, Mark, Member, NoMemory, Outs, Signal, StopCause, View,
+};
 use std::alloc::Global;
 
 /// A unit that takes signals, one after the other: the shell's, or a part of a data node.
@@ -38,7 +40,7 @@ impl Host {
         let member = Member { node: 0, start: 0 };
         let part = ShellPart::new(alloc, layout.shape().nodes, layout.view())?;
         Ok(Host {
-            standing: Standing::new(alloc, member, layout),
+            standing: Standing::new(alloc, member, layout)?,
             parts: Parts::Shell(part),
         })
     }
@@ -58,7 +60,7 @@ impl Host {
     {
         let part = MainPart::new(alloc, member, layout, epoch)?;
         Ok(Host {
-            standing: Standing::new(alloc, member, layout),
+            standing: Standing::new(alloc, member, layout)?,
             parts: Parts::Main(part),
         })
     }
@@ -78,7 +80,7 @@ impl Host {
     {
         let part = TcPart::new(alloc, member, layout, epoch, start)?;
         Ok(Host {
-            standing: Standing::new(alloc, member, layout),
+            standing: Standing::new(alloc, member, layout)?,
             parts: Parts::Tc(part),
         })
     }
@@ -99,7 +101,7 @@ impl Host {
     {
         let part = LdmPart::new(alloc, member, layout, rows, start)?;
         Ok(Host {
-            standing: Standing::new(alloc, member, layout),
+            standing: Standing::new(alloc, member, layout)?,
             parts: Parts::Ldm(part),
         })
     }
@@ -148,16 +150,16 @@ impl Host {
         requires { out.old ≡ nothing }
         ensures { OnOk result (IsTaken (headed_row self.old signal.now) self.new nothing out.new) }
     {
-        let view = signal.view.get();
-        if self.standing.view.number < view.number {
-            if self.is_excluded(view) {
-                stop(StopCause::Excluded { view: view.number }, out);
+        let view = &signal.view;
+        let number = view.get().number;
+        if self.standing.view.get().number < number {
+            if self.is_excluded(view.get()) {
+                stop(StopCause::Excluded { view: number }, out);
                 return Ok(());
             }
-            out.mark(Mark::Installed {
-                view: signal.view.share()?,
-            });
-            self.enter(view, out);
+            let installed = view.share()?;
+            out.mark(Mark::Installed { view: installed });
+            self.enter(view.share()?, out);
         }
         self.pass(alloc, signal, out)
     }
@@ -171,16 +173,16 @@ impl Host {
 
     // A view is installed.
     #[tactic(auto, unfolding(crate::specs::Row::entered))]
-    fn enter(&mut self, view: &View, out: &mut Outs)
+    fn enter(&mut self, view: Held<View>, out: &mut Outs)
         requires { length out.old.sends + 4 ≤ 16 }
-        ensures taken { IsTaken (entered self.old view.now) self.new out.old out.new }
+        ensures taken { IsTaken (entered self.old view) self.new out.old out.new }
         ensures few { length out.new.sends ≤ length out.old.sends + 3 }
     {
-        self.standing.view = *view;
-        if is_member(view, &self.standing.member) {
+        if is_member(view.get(), &self.standing.member) {
             self.standing.has_joined = true;
         }
-        self.parts.install(view, out);
+        self.parts.install(view.get(), out);
+        self.standing.view = view;
     }
 
     // A fence stops the signal, or it is handled.
@@ -200,7 +202,7 @@ impl Host {
     fn is_barred(&self, signal: &Signal) -> bool
         ensures { result ≡ is_barred self.now signal.now }
     {
-        let number = self.standing.view.number;
+        let number = self.standing.view.get().number;
         is_fenced(signal) && signal.view.get().number < self.parts.fence_at(signal.to.block, number)
     }
 
@@ -231,7 +233,7 @@ impl Host {
         ensures { OnOk result (IsTaken (blocks_row self.old signal.now) self.new out.old out.new) }
     {
         if let Some(view) = self.parts.handle(alloc, signal, out)? {
-            self.enter(&view, out);
+            self.enter(view, out);
         }
         Ok(())
     }

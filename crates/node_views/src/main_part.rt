@@ -9,7 +9,7 @@ use frag_map::Layout;
 use gcp_master::GcpMaster;
 use qmgr_block::Qmgr;
 use sig_core::{
-    Actor, BlockId, Body, Mark, Member, MembershipSignal, NoMemory, Outs, Signal, View,
+    Actor, BlockId, Body, Held, Mark, Member, MembershipSignal, NoMemory, Outs, Signal, View,
 };
 use std::alloc::Global;
 
@@ -50,7 +50,7 @@ impl MainPart {
         alloc: Global,
         signal: &Signal,
         out: &mut Outs,
-    ) -> Result<Option<View>, NoMemory>
+    ) -> Result<Option<Held<View>>, NoMemory>
         requires { HasRoom out.old }
         ensures taken { OnOk result (IsTaken (main_row self.old signal.now.to.block signal.now) self.new out.old out.new) }
         ensures settled { IfOk result (λ view. view ≡ main_settled self.old signal.now) }
@@ -62,13 +62,13 @@ impl MainPart {
             BlockId::GcpMaster => self.master.handle(alloc, signal, out)?,
             _ => {}
         }
-        Ok(match &signal.body {
+        match &signal.body {
             Body::Membership(
                 MembershipSignal::PrepFailConf { number: _ }
                 | MembershipSignal::ArbitConf { number: _ },
             ) => settled(&out.marks()[before..]),
-            _ => None,
-        })
+            _ => Ok(None),
+        }
     }
 
     /// A view is installed in each block.
@@ -83,11 +83,11 @@ impl MainPart {
 }
 
 // The view that a step's marks tell of, where they tell of nothing else.
-fn settled(marks: &[Mark]) -> Option<View>
-    ensures { result ≡ settled marks.now }
+fn settled(marks: &[Mark]) -> Result<Option<Held<View>>, NoMemory>
+    ensures { IfOk result (λ view. view ≡ settled marks.now) }
 {
     match marks {
-        [Mark::Installed { view }] => Some(*view.get()),
-        _ => None,
+        [Mark::Installed { view }] => Ok(Some(view.share()?)),
+        _ => Ok(None),
     }
 }

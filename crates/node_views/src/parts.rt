@@ -7,7 +7,7 @@ use crate::ldm_part::LdmPart;
 use crate::main_part::MainPart;
 use crate::shell_part::ShellPart;
 use crate::tc_part::TcPart;
-use sig_core::{BlockId, NoMemory, Outs, Signal, View};
+use sig_core::{BlockId, Held, NoMemory, Outs, Signal, View};
 use std::alloc::Global;
 
 /// The blocks of a host: those of the shell's, or of a part of a node.
@@ -30,7 +30,7 @@ impl Parts {
         alloc: Global,
         signal: &Signal,
         out: &mut Outs,
-    ) -> Result<Option<View>, NoMemory>
+    ) -> Result<Option<Held<View>>, NoMemory>
         requires { HasRoom out.old }
         ensures taken { OnOk result (IsTaken (parts_row self.old signal.now) self.new out.old out.new) }
         ensures settled { IfOk result (λ view. view ≡ settled_at self.old signal.now) }
