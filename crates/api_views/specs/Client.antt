@@ -12,6 +12,7 @@ use Rattle.sig_core.specs.declared.signal.Signal.{Signal}
 use Rattle.sig_core.specs.declared.signal.client.ClientSignal.TheVariants.{TcBeginConf, TcCommitConf, TcRollbackRep, TcKeyFailConf, TcKeyFailRef, NfCompleteRep, ViewRep}
 use Rattle.sig_core.specs.declared.signal.epoch.EpochSignal.TheVariants.{GcpRep, MicroRep}
 use Rattle.sig_core.specs.declared.signal.host.HostSignal.TheVariants.{Closed, Continue}
+use Rattle.sig_core.specs.declared.signal.host.Work.{Work}
 use Rattle.sig_core.specs.declared.signal.host.Work.TheVariants.{Members, Request, Report}
 use Rattle.sig_core.specs.Step.{Step, stay}
 use Rattle.api_block.specs.Api.{api_row, request_row}
@@ -82,11 +83,16 @@ vouched s x known = vouched_table s x x.body known
 abbrev pub is_known : ClientState → Signal → Bool
 is_known s x = is_member s.api.view x.member
 
+-- what it does at a signal to go on with some work, from a place
+abbrev pub work_table : ClientState → Signal → Work → ℕ → Step ClientState
+work_table s x (Request r) at = asked_row s r
+work_table s x Report at = report_row s
+work_table s x Members at = rounds_row s at
+work_table s x work at = within s (api_row s.api x)
+
 -- what it does at each signal
 abbrev pub client_table : ClientState → Signal → Body → Step ClientState
-client_table s x (Host (Continue (Request r) at)) = asked_row s r
-client_table s x (Host (Continue Report at)) = report_row s
-client_table s x (Host (Continue Members at)) = rounds_row s at
+client_table s x (Host (Continue work at)) = work_table s x work at
 client_table s x (Host (Closed cause)) = stop_row s x.member x.from cause
 client_table s x (Client ViewRep) = view_row s x.view
 client_table s x (Epoch (GcpRep epoch)) = closed_row s Gcp epoch

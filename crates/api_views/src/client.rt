@@ -1,7 +1,7 @@
 //! The client's side under views.
 ghost use Rattle.std.specs.Prelude.{◌≡◌, ◌∷◌, ◌++◌, [], None, IfOk, OnOk, OnErr, option_to_list};
 ghost use Rattle.sig_core.specs.Step.{HasRoom, IsTaken, IsUntouched};
-ghost use Rattle.api_views.specs.Client.{asked_row, client_row, seen_row, command_row, gone_row, up_row, vouched};
+ghost use Rattle.api_views.specs.Client.{asked_row, client_row, seen_row, command_row, gone_row, up_row, vouched, work_table};
 ghost use Rattle.api_views.specs.Commands.{on_api};
 ghost use Rattle.api_views.specs.Members.{noted};
 ghost use Rattle.api_views.specs.Pending.{closing_left, is_open};
@@ -251,6 +251,30 @@ impl Client {
         }
     }
 
+    // The client goes on with this work, from a place.
+    fn go_on_with(
+        &mut self,
+        alloc: Global,
+        signal: &Signal,
+        work: &Work,
+        at: u64,
+        out: &mut Outs,
+    ) -> Result<(), NoMemory>
+        requires { HasRoom out.old }
+        ensures ok { OnOk result (IsTaken (work_table self.old signal.now work.now at) self.new out.old out.new) }
+        ensures err { OnErr result (IsUntouched self.old self.new out.old out.new) }
+    {
+        match work {
+            Work::Request(request) => self.ask(alloc, request, out),
+            Work::Report => self.tell_next(out),
+            Work::Members => {
+                self.go_on_with_rounds(at, out);
+                Ok(())
+            }
+            _ => self.api.handle(alloc, signal, out),
+        }
+    }
+
     // Takes a signal, after its view was seen.
     fn take(&mut self, alloc: Global, signal: &Signal, out: &mut Outs) -> Result<(), NoMemory>
         requires { HasRoom out.old }
@@ -258,26 +282,8 @@ impl Client {
         ensures err { OnErr result (IsUntouched self.old self.new out.old out.new) }
     {
         match &signal.body {
-            Body::Host(
-                HostSignal::Continue {
-                    work: Work::Request(request),
-                    at: _,
-                },
-            ) => self.ask(alloc, request, out),
-            Body::Host(
-                HostSignal::Continue {
-                    work: Work::Report,
-                    at: _,
-                },
-            ) => self.tell_next(out),
-            Body::Host(
-                HostSignal::Continue {
-                    work: Work::Members,
-                    at,
-                },
-            ) => {
-                self.go_on_with_rounds(*at, out);
-                Ok(())
+            Body::Host(HostSignal::Continue { work, at }) => {
+                self.go_on_with(alloc, signal, work, *at, out)
             }
             Body::Host(HostSignal::Closed { cause }) => {
                 self.stop(&signal.member, signal.from, cause, out)

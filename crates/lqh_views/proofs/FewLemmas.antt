@@ -1,11 +1,9 @@
 -- A step of the rows sends at most four signals.
-use Rattle.std.proofs.Common.{◌≡◌, ◌==◌, ℕ, suc, ◌+◌, ◌≤◌, Bool, true, false, List, [], ◌∷◌, ◌++◌, length, arith}
+use Rattle.std.proofs.Common.{ℕ, suc, ◌+◌, ◌≤◌, Bool, true, false, List, [], ◌∷◌, ◌++◌, length, arith}
 use Rattle.std.proofs.lemmas.List.{length-append}
 use Rattle.std.specs.Prelude.{is_some, nat_lt, remove, Option}
-use Rattle.sig_core.specs.declared.member.Member.{Member}
 use Rattle.sig_core.specs.declared.member.TxId.{TxId}
 use Rattle.sig_core.specs.declared.outs.Outgoing.{Outgoing}
-use Rattle.sig_core.specs.declared.signal.Body.{Body}
 use Rattle.sig_core.specs.declared.signal.Signal.{Signal}
 use Rattle.sig_core.specs.declared.signal.host.Work.{Work}
 use Rattle.sig_core.specs.declared.signal.host.Work.TheVariants as work
@@ -19,12 +17,12 @@ use Rattle.row_locks.specs.Rows.{Served}
 use Rattle.row_locks.specs.Tables.{unwaited_at}
 use Rattle.lqh_block.specs.declared.request.Request.{Request}
 use Rattle.lqh_block.specs.Expire as expire
-use Rattle.lqh_block.specs.Lqh.{lqh_row, lqh_table}
+use Rattle.lqh_block.specs.Lqh.{lqh_row}
 use Rattle.lqh_block.specs.Operate as operate
 use Rattle.lqh_block.specs.State.{LqhState, freed_lock, go_on_if, serve_granted, storage_of, with_lock, with_waiting}
 use Rattle.lqh_block.specs.Storage as storage
 use Rattle.lqh_block.specs.Storage.{StorageState, refusal}
-use Rattle.lqh_block.proofs.LqhForms.{ExpireForms, LqhForms, aborting, completing, expiring, lqh_forms, perform_forms}
+use Rattle.lqh_block.proofs.LqhForms.{ExpireForms, LqhForms, aborting, expiring, lqh_forms, perform_forms}
 
 -- one signal, and some behind it
 one_more : (xs : List Outgoing) (n : ℕ) → length xs ≤ n → suc (length xs) ≤ suc n

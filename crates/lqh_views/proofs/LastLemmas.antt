@@ -1,5 +1,5 @@
 -- The last entry before a place that passes a test.
-use Rattle.std.proofs.Common.{◌≡◌, ℕ, zero, suc, ◌+◌, ◌-◌, ◌<◌, Bool, true, false, List, refl, arith}
+use Rattle.std.proofs.Common.{◌≡◌, ℕ, zero, suc, ◌-◌, ◌<◌, Bool, true, false, List, refl, arith}
 use Rattle.std.specs.Prelude.{IfSome, Option, None, Some, slice_get}
 use Rattle.lqh_views.specs.Report.{found_at, found_if, last_before}
 

@@ -1,9 +1,8 @@
 -- What is true of the steps of a node's rows under views.
-use Rattle.std.proofs.Common.{◌≡◌, ◌==◌, ℕ, Bool, true, false, not, cond, List, [], ◌∷◌, length, map, refl, ap, sym, ◌∙◌, subst}
+use Rattle.std.proofs.Common.{◌≡◌, ◌==◌, ℕ, Bool, true, false, not, cond, List, [], ◌∷◌, map, refl, ap, sym, ◌∙◌, subst}
 use Rattle.std.proofs.lemmas.Bool.{true≢false}
 use Rattle.std.specs.Prelude.{IfSome, Option, None, Some, filter}
 use Rattle.run_theory.specs.Lists.{Each}
-use Rattle.sig_core.specs.declared.member.Member.{Member}
 use Rattle.sig_core.specs.declared.member.TxId.{TxId}
 use Rattle.sig_core.specs.declared.outs.Outgoing.{Outgoing}
 use Rattle.sig_core.specs.declared.rows.PendingRecord.{PendingRecord}
@@ -24,15 +23,14 @@ use Rattle.row_locks.proofs.KeepingLemmas.{lock-left}
 use Rattle.lqh_block.specs.declared.request.Marker.{Marker}
 use Rattle.lqh_block.specs.declared.request.Request.{Request}
 use Rattle.lqh_block.specs.Lqh.{lqh_row, lqh_table}
-use Rattle.lqh_block.specs.State.{LqhState}
 use Rattle.lqh_block.specs.Views.{goes_on_holding, is_coordinated}
 use Rattle.lqh_block.proofs.EachLqh.{RequestSends, RowsSend, lqh_sends_each}
 use Rattle.lqh_views.specs.declared.report.Report.{Report}
 use Rattle.lqh_views.specs.Address.{about, addressed, owned_by, owned_if}
 use Rattle.lqh_views.specs.Epochs.{epoch_table}
-use Rattle.lqh_views.specs.Laws.{CalmSteps, HasMarker, HasRecord, InstallationsEndWaits, IsCalm, IsCoordinated, IsEntered, ReportsAreTrue, TellsTruly, beside, is_of_rows_by}
+use Rattle.lqh_views.specs.Laws.{CalmSteps, InstallationsEndWaits, IsCalm, IsCoordinated, ReportsAreTrue, TellsTruly, beside, is_of_rows_by}
 use Rattle.lqh_views.specs.Replica.{in_rows, installed, is_stale, passed, replica_by, serve_if}
-use Rattle.lqh_views.specs.Report.{go_on_by, is_orphaned_marker, is_orphaned_record, last_before, marker_by, next_marker, record_by, reporting, told_marker, told_record, told_record_if}
+use Rattle.lqh_views.specs.Report.{go_on_by, is_orphaned_marker, is_orphaned_record, last_before, marker_by, record_by, reporting, told_record_if}
 use Rattle.lqh_views.specs.State.{ReplicaState, with_lqh}
 use Rattle.lqh_views.proofs.AddressLemmas.{same-body}
 use Rattle.lqh_views.proofs.LastLemmas.{IsThere, last-there}

@@ -1,4 +1,9 @@
 pub mod AddressLemmas
+pub mod AloneLemmas
+pub mod Below
+pub mod ListsKept
 pub mod FewLemmas
 pub mod LastLemmas
 pub mod LawLemmas
+pub mod ReportSteps
+pub mod WholeLemmas

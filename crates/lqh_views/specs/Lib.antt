@@ -4,3 +4,4 @@ pub mod Laws
 pub mod Replica
 pub mod Report
 pub mod State
+pub mod WholeReports

@@ -1,5 +1,6 @@
 //! What is true of the steps of a node's rows under views.
 ghost use Rattle.lqh_views.specs.Laws.{CalmSteps, InstallationsEndWaits, ReportsAreTrue};
+ghost use Rattle.lqh_views.specs.WholeReports.{ReportsLeaveNothingOut, ReportsTellEachOnce};
 
 /// Where all whom a step of the rows tells of the end of a transaction's part are coordinators that
 /// are full members, a step at a signal of the rows is that of `Lqh`, and all else stays.
@@ -19,4 +20,18 @@ pub fn installations_end_waits()
 /// each of a transaction whose coordinator isn't a full member.
 pub fn reports_are_true()
     ensures { ReportsAreTrue }
+{}
+
+/// A takeover that asked for a report, and then was told its end, was told before of each record and
+/// of each marker of an orphaned transaction that stood all the while, whatever else the replica took
+/// in between.
+pub fn reports_leave_nothing_out()
+    ensures { ReportsLeaveNothingOut }
+{}
+
+/// Where a replica takes nothing in between but its own signals, a report tells of each record of an
+/// orphaned transaction, from the last to the first, then of each such marker likewise, and then the
+/// end: the first n + 1 of these in the step of the request and n steps behind it.
+pub fn reports_tell_each_once()
+    ensures { ReportsTellEachOnce }
 {}

@@ -201,6 +201,25 @@ fn all_is_reported(rt: HostRuntime) -> Result<(), Fail> {
     talk_afresh(&rt, rt.alloc(), &lines)
 }
 
+// A record in front is dropped, and what was told before moves back before the place.
+#[test]
+fn an_entry_may_be_told_twice(rt: HostRuntime) -> Result<(), Fail> {
+    let lines = [
+        (Heard::Put(1, b'a', b'x'), "lqh2 store 1, prepared 1 a"),
+        (Heard::Commit(1, b'a'), "tc1 committed 1 a, applied 1 a"),
+        (Heard::Put(11, b'b', b'x'), "lqh2 store 11, prepared 11 b"),
+        (Heard::Install(2, 1, 1), ""),
+        (Heard::Ask(1), "takeover1 has prepared 11 b in 0, lqh1 more"),
+        (Heard::Complete(1, b'a'), "tc1 completed 1 a, done 1 a"),
+        (
+            Heard::More(2),
+            "takeover1 has prepared 11 b in 0, lqh1 more",
+        ),
+        (Heard::More(2), "takeover1 end"),
+    ];
+    talk_afresh(&rt, rt.alloc(), &lines)
+}
+
 // A takeover that asks anew is told all, and an installation ends what is under way.
 #[test]
 fn reports_begin_anew_and_end(rt: HostRuntime) -> Result<(), Fail> {
