@@ -16,7 +16,7 @@ use Rattle.sig_core.specs.Step.{Effects, Step, joined, stay}
 use Rattle.api_views.specs.Members.{is_member, same_member}
 use Rattle.node_views.specs.Blocks.{fence_at, parts_entered, parts_row, settled_at}
 use Rattle.node_views.specs.Fence.{is_fenced}
-use Rattle.node_views.specs.WellFormed.{is_well_formed}
+use Rattle.node_views.specs.WellFormed.{is_first, is_well_formed}
 use Rattle.node_views.specs.declared.host.Host as hosts
 use Rattle.node_views.specs.declared.parts.Parts.{Parts}
 use Rattle.node_views.specs.declared.standing.Standing.{Standing}
@@ -65,6 +65,10 @@ abbrev pub kill_row : hosts.Host → ℕ → Step hosts.Host
 kill_row s zero = stopping s Killed
 kill_row s (suc after) = stay (standing_at s (killed_after s.standing (Some (suc after))))
 
+-- one more is cut off
+abbrev pub cut_from : hosts.Host → HostId → hosts.Host
+cut_from s host = standing_at s (record s.standing { cut = s.standing.cut ++ host ∷ [] })
+
 -- the hosts of a node, of which this is the first
 abbrev pub hosts_from : HostId → List HostId
 hosts_from first = first ∷ record { 0 = first.0 + 1 } ∷ record { 0 = first.0 + 2 } ∷ []
@@ -87,9 +91,9 @@ cut_if s first false =
       effects = marks_only (cut_marks first);
     }
 
--- the hosts of a node are cut off, unless they are already
+-- the hosts of a node are cut off, unless they are already, or have no number
 abbrev pub cut_row : hosts.Host → HostId → Step hosts.Host
-cut_row s first = cut_if s first (is_cut s.standing first)
+cut_row s first = cut_if s first (is_cut s.standing first || not (is_first first))
 
 -- a host has closed its links: one of the same member takes this host with it
 abbrev pub closed_if : hosts.Host → Signal → Bool → Step hosts.Host

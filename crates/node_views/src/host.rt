@@ -1,10 +1,11 @@
 //! A host.
 ghost use Rattle.std.specs.Prelude.{◌≡◌, ◌≤◌, ◌+◌, ◌<◌, IfOk, OnOk, [], length};
 ghost use Rattle.std.specs.List.{list_any};
-ghost use Rattle.sig_core.specs.declared.mark.Mark.TheVariants.{Stopped};
+ghost use Rattle.sig_core.specs.declared.mark.Mark.TheVariants.{CutOff, Stopped};
 ghost use Rattle.sig_core.specs.Step.{HasRoom, IsTaken, and_mark, nothing};
+ghost use Rattle.api_views.specs.Members.{same_member};
 ghost use Rattle.node_views.specs.Fresh.{fresh_ldm, fresh_main, fresh_shell, fresh_tc};
-ghost use Rattle.node_views.specs.Row.{blocks_row, counted_row, cut_row, entered, headed_row, host_row, host_table, is_barred, is_cut, is_excluded, is_stop, kill_row, passed_row, same_host, unless_stopped};
+ghost use Rattle.node_views.specs.Row.{blocks_row, closed_if, counted_row, cut_from, cut_row, entered, headed_row, host_row, host_table, is_barred, is_cut, is_excluded, is_stop, kill_row, passed_row, same_host, unless_stopped};
 
 use crate::fence::is_fenced;
 use crate::ldm_part::LdmPart;
@@ -177,6 +178,7 @@ impl Host {
         requires { length out.old.sends + 4 ≤ 16 }
         ensures taken { IsTaken (entered self.old view) self.new out.old out.new }
         ensures few { length out.new.sends ≤ length out.old.sends + 3 }
+        ensures unmarked { out.new.marks ≡ out.old.marks }
     {
         if is_member(view.get(), &self.standing.member) {
             self.standing.has_joined = true;
@@ -217,12 +219,21 @@ impl Host {
                 Ok(())
             }
             Body::Host(HostSignal::Cut { node: _, first }) => self.cut(*first, out),
-            Body::Host(HostSignal::Closed { cause: _ }) if self.standing.member == signal.member =>
-                {
-                    stop(StopCause::Sibling { host: signal.from }, out);
-                    Ok(())
-                }
+            Body::Host(HostSignal::Closed { cause: _ }) => self.closed(alloc, signal, out),
             _ => self.handle(alloc, signal, out),
+        }
+    }
+
+    // A host has closed its links: one of the same member takes this host with it.
+    fn closed(&mut self, alloc: Global, signal: &Signal, out: &mut Outs) -> Result<(), NoMemory>
+        requires { HasRoom out.old }
+        ensures { OnOk result (IsTaken (closed_if self.old signal.now (same_member self.old.standing.member signal.now.member)) self.new out.old out.new) }
+    {
+        if self.standing.member == signal.member {
+            stop(StopCause::Sibling { host: signal.from }, out);
+            Ok(())
+        } else {
+            self.handle(alloc, signal, out)
         }
     }
 
@@ -252,17 +263,24 @@ impl Host {
 
     // The hosts of a node are cut off, of which this is the first.
     fn cut(&mut self, first: HostId, out: &mut Outs) -> Result<(), NoMemory>
-        requires room { HasRoom out.old }
-        requires first { first.0 + 2 < 4294967296 }
+        requires { HasRoom out.old }
         ensures { OnOk result (IsTaken (cut_row self.old first) self.new out.old out.new) }
     {
-        if self.is_cut(first) {
+        if self.is_cut(first) || first.0 >= u32::MAX - 1 {
             return Ok(());
         }
-        for host in [first, HostId(first.0 + 1), HostId(first.0 + 2)] {
-            self.standing.cut.push(host)?;
-            out.mark(Mark::CutOff { host });
-        }
+        self.cut_one(first, out)?;
+        self.cut_one(HostId(first.0 + 1), out)?;
+        self.cut_one(HostId(first.0 + 2), out)
+    }
+
+    fn cut_one(&mut self, host: HostId, out: &mut Outs) -> Result<(), NoMemory>
+        requires { length out.old.marks < 16 }
+        ensures cut { OnOk result (self.new ≡ cut_from self.old host) }
+        ensures marked { OnOk result (out.new ≡ and_mark out.old (CutOff host)) }
+    {
+        self.standing.cut.push(host)?;
+        out.mark(Mark::CutOff { host });
         Ok(())
     }
 

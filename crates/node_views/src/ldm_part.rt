@@ -79,6 +79,7 @@ impl LdmPart {
         requires { length out.old.sends + 1 ≤ 16 }
         ensures taken { IsTaken (ldm_entered self.old view.now) self.new out.old out.new }
         ensures few { length out.new.sends ≤ length out.old.sends + 1 }
+        ensures unmarked { out.new.marks ≡ out.old.marks }
     {
         self.replica.install(view, out);
         self.fence = greater(self.fence, view.number);

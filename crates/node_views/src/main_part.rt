@@ -76,6 +76,7 @@ impl MainPart {
         requires { length out.old.sends + 2 ≤ 16 }
         ensures taken { IsTaken (main_entered self.old view.now) self.new out.old out.new }
         ensures few { length out.new.sends ≤ length out.old.sends + 1 }
+        ensures unmarked { out.new.marks ≡ out.old.marks }
     {
         self.qmgr.install(view, out);
         self.master.install(view, out);

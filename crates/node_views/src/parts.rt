@@ -50,6 +50,7 @@ impl Parts {
         requires { length out.old.sends + 4 ≤ 16 }
         ensures taken { IsTaken (parts_entered self.old view.now) self.new out.old out.new }
         ensures few { length out.new.sends ≤ length out.old.sends + 3 }
+        ensures unmarked { out.new.marks ≡ out.old.marks }
     {
         match self {
             Parts::Shell(part) => part.install(view, out),

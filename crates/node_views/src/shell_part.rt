@@ -1,5 +1,5 @@
 //! The blocks of the shell's host.
-ghost use Rattle.std.specs.Prelude.{◌≡◌, IfOk, OnOk};
+ghost use Rattle.std.specs.Prelude.{◌≡◌, ◌≤◌, ◌+◌, IfOk, OnOk, length};
 ghost use Rattle.sig_core.specs.Step.{HasRoom, IsTaken};
 ghost use Rattle.api_views.specs.State.{fresh_client};
 ghost use Rattle.arbiter_block.specs.Arbiter.{fresh_arbiter};
@@ -49,8 +49,10 @@ impl ShellPart {
 
     /// A view is installed in each block.
     pub fn install(&mut self, view: &View, out: &mut Outs)
-        requires { HasRoom out.old }
-        ensures { IsTaken (shell_entered self.old view.now) self.new out.old out.new }
+        requires { length out.old.sends + 2 ≤ 16 }
+        ensures taken { IsTaken (shell_entered self.old view.now) self.new out.old out.new }
+        ensures few { length out.new.sends ≤ length out.old.sends + 2 }
+        ensures unmarked { out.new.marks ≡ out.old.marks }
     {
         self.client.install(view, out);
         self.arbiter.install(view, out);

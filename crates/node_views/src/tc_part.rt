@@ -70,6 +70,7 @@ impl TcPart {
         requires { length out.old.sends + 3 ≤ 16 }
         ensures taken { IsTaken (tc_entered self.old view.now) self.new out.old out.new }
         ensures few { length out.new.sends ≤ length out.old.sends + 3 }
+        ensures unmarked { out.new.marks ≡ out.old.marks }
     {
         self.coordinator.install(view, out);
         self.takeover.install(view, out);
