@@ -1,10 +1,11 @@
 //! A host.
-ghost use Rattle.std.specs.Prelude.{◌≡◌, ◌≤◌, ◌+◌, ◌<◌, IfOk, OnOk, [], length};
+ghost use Rattle.std.specs.Prelude.{◌≡◌, ◌≤◌, ◌+◌, ◌<◌, ◌++◌, IfOk, None, OnOk, [], length, option_to_list};
 ghost use Rattle.std.specs.List.{list_any};
 ghost use Rattle.sig_core.specs.declared.mark.Mark.TheVariants.{CutOff, Stopped};
 ghost use Rattle.sig_core.specs.Step.{HasRoom, IsTaken, and_mark, nothing};
 ghost use Rattle.api_views.specs.Members.{same_member};
 ghost use Rattle.node_views.specs.Fresh.{fresh_ldm, fresh_main, fresh_shell, fresh_tc};
+ghost use Rattle.node_views.specs.Replies.{is_left_open, replies_of, with_replies};
 ghost use Rattle.node_views.specs.Row.{blocks_row, closed_if, counted_row, cut_from, cut_row, entered, headed_row, host_row, host_table, is_barred, is_cut, is_excluded, is_stop, kill_row, passed_row, same_host, unless_stopped};
 
 use crate::fence::is_fenced;
@@ -19,7 +20,7 @@ use api_views::is_member;
 use frag_map::Layout;
 use lqh_block::MapRows;
 use sig_core::{
-    Body, Held, HostId, HostSignal, Mark, Member, NoMemory, Outs, Signal, StopCause, View,
+    ApiReply, Body, Held, HostId, HostSignal, Mark, Member, NoMemory, Outs, Signal, StopCause, View,
 };
 use std::alloc::Global;
 
@@ -165,6 +166,28 @@ impl Host {
         self.pass(alloc, signal, out)
     }
 
+    /// The next reply for the shell, in order, each once; none where all were given. A part of a node
+    /// has none.
+    pub fn next_reply(&mut self) -> Option<ApiReply>
+        ensures some { self.old ≡ with_replies self.new (option_to_list result ++ replies_of self.new) }
+        ensures none { result ≡ None → replies_of self.old ≡ [] }
+    {
+        match &mut self.parts {
+            Parts::Shell(part) => part.client.next_reply(),
+            _ => None,
+        }
+    }
+
+    /// Whether the last command left something of its own unanswered.
+    pub fn is_left_open(&self) -> bool
+        ensures { result ≡ is_left_open self.now }
+    {
+        match &self.parts {
+            Parts::Shell(part) => part.client.is_left_open(),
+            _ => false,
+        }
+    }
+
     // Whether a view stops the host.
     fn is_excluded(&self, view: &View) -> bool
         ensures { result ≡ is_excluded self.now.standing view.now }
@@ -284,8 +307,8 @@ impl Host {
         Ok(())
     }
 
-    // Whether the host has cut that one off.
-    fn is_cut(&self, host: HostId) -> bool
+    /// Whether the host has cut that one off: it takes nothing from it, and sends it nothing.
+    pub fn is_cut(&self, host: HostId) -> bool
         ensures { result ≡ is_cut self.now.standing host }
     {
         self.standing
