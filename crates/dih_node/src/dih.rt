@@ -95,6 +95,14 @@ impl Dih {
         })
     }
 
+    /// The number below which it is fenced off: that of the greatest view that was promised or
+    /// installed.
+    pub fn fence(&self) -> u64
+        ensures { result ≡ self.now.fence }
+    {
+        self.fence
+    }
+
     // Handles a signal of epochs.
     fn handle_epoch(&mut self, from: u8, signal: &EpochSignal, out: &mut Outs)
         requires { HasRoom out.old }

@@ -70,6 +70,14 @@ impl Coordinator {
         })
     }
 
+    /// The number below which it is fenced off: that of the greatest view that was promised or
+    /// installed.
+    pub fn fence(&self) -> u64
+        ensures { result ≡ self.now.fence }
+    {
+        self.fence
+    }
+
     // Whether the transaction is doomed.
     fn is_doomed(&self, tx: &TxId) -> bool
         ensures { result ≡ is_among self.now.doomed tx.now }

@@ -1,0 +1,49 @@
+-- The steps of a host, test by test.
+use Rattle.std.proofs.Common.{◌≡◌, Bool, true, false, List, [], refl, ap, ◌∙◌}
+use Rattle.std.specs.List.{list_any}
+use Rattle.sig_core.specs.declared.outs.Outgoing.{Outgoing}
+use Rattle.sig_core.specs.declared.signal.Body.{Body}
+use Rattle.sig_core.specs.declared.signal.Body.TheVariants.{Host}
+use Rattle.sig_core.specs.declared.signal.Signal.{Signal}
+use Rattle.sig_core.specs.declared.signal.host.HostSignal.TheVariants.{Kill, Cut, Closed}
+use Rattle.sig_core.specs.Step.{Step, stay}
+use Rattle.node_views.specs.Laws.{CalmHostsLeaveItToBlocks, IsCalm, MalformedSignalsChangeNothing, StoppingHostsAreSilent, is_own}
+use Rattle.node_views.specs.Row.{blocks_row, counted_row, headed_if, headed_row, host_row, host_table, hushed, is_stop, passed_if, passed_row, taken_if, unless_stopped}
+use Rattle.node_views.specs.WellFormed.{is_well_formed}
+use Rattle.node_views.specs.declared.host.Host as hosts
+
+theirs : (s : hosts.Host) (x : Signal) (body : Body) → is_own body ≡ false → host_table s x body ≡ blocks_row s x
+theirs s x (Host (Kill after)) is = grind
+theirs s x (Host (Cut node first)) is = grind
+theirs s x (Host (Closed cause)) is = grind
+theirs s x body is = refl
+
+passes : (s : hosts.Host) (x : Signal) → IsCalm s x → passed_row s x ≡ blocks_row s x
+unfolding passed_row
+passes s x calm = ap (passed_if s x) calm.passes ∙ theirs s x x.body calm.theirs
+
+goes_on : (s : hosts.Host) (x : Signal) → IsCalm s x → headed_row s x ≡ blocks_row s x
+unfolding headed_row
+goes_on s x calm = ap (headed_if s x) calm.same ∙ passes s x calm
+
+pub calm_hosts_leave_it_to_blocks : CalmHostsLeaveItToBlocks
+unfolding host_row
+calm_hosts_leave_it_to_blocks s x calm =
+    ap (taken_if s x) calm.fine ∙ ap (λ left. hushed (counted_row s x left)) calm.lives ∙ ap hushed (goes_on s x calm)
+
+silent : (sends : List Outgoing) (stops : Bool) → stops ≡ true → unless_stopped sends stops ≡ []
+silent sends true is = refl
+silent sends false is = grind
+
+silent_if : (s : hosts.Host) (x : Signal) (fine : Bool) → list_any is_stop (taken_if s x fine).effects.marks ≡ true
+    → (taken_if s x fine).effects.sends ≡ []
+silent_if s x true stops = silent _ _ stops
+silent_if s x false is = grind
+
+pub stopping_hosts_are_silent : StoppingHostsAreSilent
+unfolding host_row
+stopping_hosts_are_silent s x stops = silent_if s x (is_well_formed s.standing.shape x) stops
+
+pub malformed_signals_change_nothing : MalformedSignalsChangeNothing
+unfolding host_row
+malformed_signals_change_nothing s x is = ap (taken_if s x) is

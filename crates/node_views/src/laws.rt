@@ -1,0 +1,18 @@
+//! What is true of the steps of a host, whatever comes.
+ghost use Rattle.node_views.specs.Laws.{CalmHostsLeaveItToBlocks, MalformedSignalsChangeNothing, StoppingHostsAreSilent};
+
+/// Where a host isn't to be killed, a signal from no greater view, which no fence stops and which isn't
+/// the host's own, is the blocks' alone.
+pub fn calm_hosts_leave_it_to_blocks()
+    ensures { CalmHostsLeaveItToBlocks }
+{}
+
+/// A step that stops its host sends nothing.
+pub fn stopping_hosts_are_silent()
+    ensures { StoppingHostsAreSilent }
+{}
+
+/// A signal that isn't well formed changes nothing, sends nothing and marks nothing.
+pub fn malformed_signals_change_nothing()
+    ensures { MalformedSignalsChangeNothing }
+{}

@@ -1,0 +1,94 @@
+//! The blocks of the part of a node that has its rows.
+ghost use Rattle.std.specs.Prelude.{◌≡◌, ◌≤◌, ◌+◌, IfOk, OnOk, [], length};
+ghost use Rattle.sig_core.specs.Step.{HasRoom, IsTaken};
+ghost use Rattle.lqh_views.specs.Replica.{fresh_replica};
+ghost use Rattle.node_views.specs.Parts.{greater, ldm_entered, ldm_row, raised};
+
+use frag_map::Layout;
+use lqh_block::{CountJournal, MapRows};
+use lqh_views::Replica;
+use sig_core::{Actor, BlockId, Body, Member, MembershipSignal, NoMemory, Outs, Signal, View};
+use std::alloc::Global;
+
+/// The rows of a node, and the number below which they are fenced off.
+#[derive(Drop)]
+pub struct LdmPart {
+    pub replica: Replica<MapRows, CountJournal>,
+    pub fence: u64,
+}
+
+impl LdmPart {
+    /// The part of a member that begins in this layout with these rows, of which none is being
+    /// changed, in a life that starts from the epoch `start`.
+    ///
+    /// # Errors
+    /// `NoMemory`.
+    pub fn new(
+        alloc: Global,
+        member: Member,
+        layout: &Layout,
+        rows: MapRows,
+        start: u64,
+    ) -> Result<LdmPart, NoMemory>
+        requires { rows.rows.pending ≡ [] }
+        ensures replica { IfOk result (λ p. p.replica ≡ fresh_replica member.node layout.now rows.rows (record { used = 0; reserved = 0 }) start) }
+        ensures fence { IfOk result (λ p. p.fence ≡ layout.now.view.number) }
+    {
+        let fence = layout.view().number;
+        let replica = Replica::new(
+            alloc,
+            member.node,
+            *layout,
+            rows,
+            CountJournal::new(),
+            start,
+        )?;
+        Ok(LdmPart { replica, fence })
+    }
+
+    /// The block that a signal is for handles it. A promise raises its fence.
+    ///
+    /// # Errors
+    /// `NoMemory`.
+    #[tactic(auto, unfolding(crate::specs::Parts::ldm_row))]
+    pub fn handle(&mut self, alloc: Global, signal: &Signal, out: &mut Outs) -> Result<(), NoMemory>
+        requires { HasRoom out.old }
+        ensures { OnOk result (IsTaken (ldm_row self.old signal.now.to.block signal.now) self.new out.old out.new) }
+    {
+        match signal.to.block {
+            BlockId::Lqh => {
+                self.replica.handle(alloc, signal, out)?;
+                self.raise(&signal.body);
+                Ok(())
+            }
+            _ => Ok(()),
+        }
+    }
+
+    // A view is promised: the fence is its number, if that is greater.
+    fn raise(&mut self, body: &Body)
+        ensures { self.new ≡ record { replica = self.old.replica; fence = raised self.old.fence body.now } }
+    {
+        if let Body::Membership(MembershipSignal::FenceReq { proposal }) = body {
+            self.fence = greater(self.fence, proposal.get().number);
+        }
+    }
+
+    /// A view is installed in each block.
+    pub fn install(&mut self, view: &View, out: &mut Outs)
+        requires { length out.old.sends + 1 ≤ 16 }
+        ensures taken { IsTaken (ldm_entered self.old view.now) self.new out.old out.new }
+        ensures few { length out.new.sends ≤ length out.old.sends + 1 }
+        ensures unmarked { out.new.marks ≡ out.old.marks }
+    {
+        self.replica.install(view, out);
+        self.fence = greater(self.fence, view.number);
+    }
+}
+
+// The greater of two numbers.
+fn greater(fence: u64, number: u64) -> u64
+    ensures { result ≡ greater fence number }
+{
+    if fence < number { number } else { fence }
+}

@@ -1,0 +1,29 @@
+//! The hosts of a cluster whose nodes may fail: what a host does at a signal before its blocks see it,
+//! and the parts of a node, each with its blocks.
+#![tactic(auto)]
+
+mod fence;
+mod host;
+mod laws;
+mod ldm_part;
+mod main_part;
+mod parts;
+mod shell_part;
+mod standing;
+mod tc_part;
+mod well_formed;
+
+pub use host::Host;
+pub use laws::{
+    calm_hosts_leave_it_to_blocks, malformed_signals_change_nothing, stopping_hosts_are_silent,
+};
+pub use ldm_part::LdmPart;
+pub use main_part::MainPart;
+pub use parts::Parts;
+pub use shell_part::ShellPart;
+pub use standing::Standing;
+pub use tc_part::TcPart;
+pub use well_formed::is_well_formed;
+
+#[cfg(test)]
+mod tests;

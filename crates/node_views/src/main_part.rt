@@ -1,0 +1,94 @@
+//! The blocks of a node's main part.
+ghost use Rattle.std.specs.Prelude.{◌≡◌, ◌≤◌, ◌+◌, IfOk, IfSome, OnOk, length};
+ghost use Rattle.sig_core.specs.Step.{HasRoom, IsTaken};
+ghost use Rattle.gcp_master.specs.Master.{fresh_master};
+ghost use Rattle.qmgr_block.specs.State.{fresh_qmgr};
+ghost use Rattle.node_views.specs.Parts.{main_entered, main_row, main_settled, settled};
+
+use frag_map::Layout;
+use gcp_master::GcpMaster;
+use qmgr_block::Qmgr;
+use sig_core::{
+    Actor, BlockId, Body, Held, Mark, Member, MembershipSignal, NoMemory, Outs, Signal, View,
+};
+use std::alloc::Global;
+
+/// The membership of a node, and the master of checkpoints.
+#[derive(Drop)]
+pub struct MainPart {
+    pub qmgr: Qmgr,
+    pub master: GcpMaster,
+}
+
+impl MainPart {
+    /// The part of a member that begins in this layout and with this current epoch.
+    ///
+    /// # Errors
+    /// `NoMemory`.
+    pub fn new(
+        alloc: Global,
+        member: Member,
+        layout: &Layout,
+        epoch: u64,
+    ) -> Result<MainPart, NoMemory>
+        ensures qmgr { IfOk result (λ p. p.qmgr ≡ fresh_qmgr member layout.now) }
+        ensures master { IfOk result (λ p. p.master ≡ fresh_master member layout.now.view epoch) }
+    {
+        let qmgr = Qmgr::new(alloc, member.node, member.start, *layout)?;
+        let master = GcpMaster::new(member, layout.view(), epoch);
+        Ok(MainPart { qmgr, master })
+    }
+
+    /// The block that a signal is for handles it. Answers the view that the membership settles on
+    /// with it, if it does: that is to be installed in the same event.
+    ///
+    /// # Errors
+    /// `NoMemory`.
+    #[tactic(auto, using(crate::proofs::SettleLemmas::settles), unfolding(crate::specs::Parts::main_row))]
+    pub fn handle(
+        &mut self,
+        alloc: Global,
+        signal: &Signal,
+        out: &mut Outs,
+    ) -> Result<Option<Held<View>>, NoMemory>
+        requires { HasRoom out.old }
+        ensures taken { OnOk result (IsTaken (main_row self.old signal.now.to.block signal.now) self.new out.old out.new) }
+        ensures settled { IfOk result (λ view. view ≡ main_settled self.old signal.now) }
+        ensures alone { IfOk result (λ view. IfSome view (λ v. out.new.sends ≡ out.old.sends)) }
+    {
+        let before = out.marks().len();
+        match signal.to.block {
+            BlockId::Qmgr => self.qmgr.handle(alloc, signal, out)?,
+            BlockId::GcpMaster => self.master.handle(alloc, signal, out)?,
+            _ => {}
+        }
+        match &signal.body {
+            Body::Membership(
+                MembershipSignal::PrepFailConf { number: _ }
+                | MembershipSignal::ArbitConf { number: _ },
+            ) => settled(&out.marks()[before..]),
+            _ => Ok(None),
+        }
+    }
+
+    /// A view is installed in each block.
+    pub fn install(&mut self, view: &View, out: &mut Outs)
+        requires { length out.old.sends + 2 ≤ 16 }
+        ensures taken { IsTaken (main_entered self.old view.now) self.new out.old out.new }
+        ensures few { length out.new.sends ≤ length out.old.sends + 1 }
+        ensures unmarked { out.new.marks ≡ out.old.marks }
+    {
+        self.qmgr.install(view, out);
+        self.master.install(view, out);
+    }
+}
+
+// The view that a step's marks tell of, where they tell of nothing else.
+fn settled(marks: &[Mark]) -> Result<Option<Held<View>>, NoMemory>
+    ensures { IfOk result (λ view. view ≡ settled marks.now) }
+{
+    match marks {
+        [Mark::Installed { view }] => Ok(Some(view.share()?)),
+        _ => Ok(None),
+    }
+}

@@ -1,0 +1,4 @@
+mod conversation;
+mod heard;
+mod text;
+mod well_formed;
