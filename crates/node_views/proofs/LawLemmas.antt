@@ -1,5 +1,5 @@
 -- The steps of a host, test by test.
-use Rattle.std.proofs.Common.{◌≡◌, Bool, true, false, List, [], refl, ap, ◌∙◌}
+use Rattle.std.proofs.Common.{◌≡◌, Bool, true, false, List, [], refl, ap, ◌∙◌, arith}
 use Rattle.std.specs.List.{list_any}
 use Rattle.sig_core.specs.declared.outs.Outgoing.{Outgoing}
 use Rattle.sig_core.specs.declared.signal.Body.{Body}
@@ -13,9 +13,9 @@ use Rattle.node_views.specs.WellFormed.{is_well_formed}
 use Rattle.node_views.specs.declared.host.Host as hosts
 
 theirs : (s : hosts.Host) (x : Signal) (body : Body) → is_own body ≡ false → host_table s x body ≡ blocks_row s x
-theirs s x (Host (Kill after)) is = grind
-theirs s x (Host (Cut node first)) is = grind
-theirs s x (Host (Closed cause)) is = grind
+theirs s x (Host (Kill after)) is = grind arith
+theirs s x (Host (Cut node first)) is = grind arith
+theirs s x (Host (Closed cause)) is = grind arith
 theirs s x body is = refl
 
 passes : (s : hosts.Host) (x : Signal) → IsCalm s x → passed_row s x ≡ blocks_row s x
@@ -33,12 +33,12 @@ calm_hosts_leave_it_to_blocks s x calm =
 
 silent : (sends : List Outgoing) (stops : Bool) → stops ≡ true → unless_stopped sends stops ≡ []
 silent sends true is = refl
-silent sends false is = grind
+silent sends false is = grind arith
 
 silent_if : (s : hosts.Host) (x : Signal) (fine : Bool) → list_any is_stop (taken_if s x fine).effects.marks ≡ true
     → (taken_if s x fine).effects.sends ≡ []
 silent_if s x true stops = silent _ _ stops
-silent_if s x false is = grind
+silent_if s x false is = grind arith
 
 pub stopping_hosts_are_silent : StoppingHostsAreSilent
 unfolding host_row

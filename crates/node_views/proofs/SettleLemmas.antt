@@ -1,5 +1,5 @@
 -- A step by which the membership settles on a view sends nothing.
-use Rattle.std.proofs.Common.{◌≡◌, ℕ, Bool, true, false, List, [], ◌∷◌, Option, None, Some, refl}
+use Rattle.std.proofs.Common.{◌≡◌, ℕ, Bool, true, false, List, [], ◌∷◌, Option, None, Some, refl, arith}
 use Rattle.sig_core.specs.declared.member.Member.{Member}
 use Rattle.sig_core.specs.declared.view.View.{View}
 use Rattle.qmgr_block.specs.declared.known.Known.{Known}
@@ -10,7 +10,7 @@ use Rattle.node_views.specs.Parts.{settled}
 all_alone : (k : Known) (p : Proposal) (whole : Bool) (view : View)
     → settled (confirmed_all k p whole).effects.marks ≡ Some view → (confirmed_all k p whole).effects.sends ≡ []
 all_alone k p true view is = refl
-all_alone k p false view is = grind
+all_alone k p false view is = grind arith
 
 one_alone : (k : Known) (p : Proposal) (awaited : List Member) (view : View)
     → settled (confirmed_one k p awaited).effects.marks ≡ Some view → (confirmed_one k p awaited).effects.sends ≡ []

@@ -1,6 +1,6 @@
 //! Which signals are well formed in a cluster of a shape.
 ghost use Rattle.std.specs.Prelude.{◌≡◌};
-ghost use Rattle.node_views.specs.WellFormed.{are_nodes, is_chain, is_checkpoint_sound, is_client_sound, is_epoch_sound, is_chain_sound, is_host_sound, is_joining_sound, is_mask, is_member, is_membership_sound, is_node, is_number, is_takeover_sound, is_tx, is_ahead, is_view, is_body_sound, is_well_formed};
+ghost use Rattle.node_views.specs.WellFormed.{are_nodes, is_chain, is_client_sound, is_epoch_sound, is_chain_sound, is_host_sound, is_joining_sound, is_mask, is_member, is_membership_sound, is_node, is_number, is_takeover_sound, is_tx, is_ahead, is_view, is_body_sound, is_well_formed};
 
 use sig_core::{
     Body, Chain, ChainSignal, ClientSignal, EpochSignal, HostSignal, JoiningSignal, Member,
