@@ -1,2 +1,3 @@
+pub mod InstallLemmas
 pub mod LawLemmas
 pub mod SettleLemmas

@@ -35,7 +35,7 @@ parts_row (Ldm p) x = in_ldm (ldm_row p x.to.block x)
 
 -- the view that the membership settles on at a signal
 abbrev pub settled_at : Parts → Signal → Option View
-settled_at (Main p) x = main_settled p x
+settled_at (Main p) x = main_settled p x.to.block x
 settled_at _ x = None
 
 -- a view is installed in each block

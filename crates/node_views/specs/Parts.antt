@@ -1,5 +1,5 @@
 -- What the blocks of a part do at a signal, and where a view is installed.
-use Rattle.std.specs.Prelude.{ℕ, if◌then◌else◌, nat_lt, List, [], ◌∷◌, Option, None, Some}
+use Rattle.std.specs.Prelude.{ℕ, if◌then◌else◌, nat_lt, Bool, true, false, List, [], ◌∷◌, Option, None, Some}
 use Rattle.sig_core.specs.declared.mark.Mark.{Mark}
 use Rattle.sig_core.specs.declared.mark.Mark.TheVariants.{Installed}
 use Rattle.sig_core.specs.declared.place.BlockId.{BlockId}
@@ -78,13 +78,21 @@ settled (Installed view ∷ []) = Some view
 settled marks = None
 
 -- it may settle on one where a member has promised, and where the arbitrator has granted
-abbrev pub main_settled_by : MainPart → Signal → Body → Option View
-main_settled_by p x (Membership (PrepFailConf number)) = settled (main_row p x.to.block x).effects.marks
-main_settled_by p x (Membership (ArbitConf number)) = settled (main_row p x.to.block x).effects.marks
-main_settled_by p x _ = None
+abbrev pub may_settle : Body → Bool
+may_settle (Membership (PrepFailConf number)) = true
+may_settle (Membership (ArbitConf number)) = true
+may_settle _ = false
 
-abbrev pub main_settled : MainPart → Signal → Option View
-main_settled p x = main_settled_by p x x.body
+abbrev pub settled_if : QmgrState → Signal → Bool → Option View
+settled_if s x true = settled (qmgr_row s x).effects.marks
+settled_if s x false = None
+
+abbrev pub qmgr_settled : QmgrState → Signal → Option View
+qmgr_settled s x = settled_if s x (may_settle x.body)
+
+abbrev pub main_settled : MainPart → BlockId → Signal → Option View
+main_settled p block.Qmgr x = qmgr_settled p.qmgr x
+main_settled p _ x = None
 
 unfoldable pub tc_row : TcPart → BlockId → Signal → Step TcPart
 tc_row p block.Tc x = in_coordinator p (coordinator_row p.coordinator x)

@@ -339,9 +339,16 @@ fn hush(out: &mut Outs)
     ensures sends { out.new.sends ≡ unless_stopped out.old.sends (list_any is_stop out.old.marks) }
     ensures marks { out.new.marks ≡ out.old.marks }
 {
-    if out.marks().iter().any(is_stop) {
+    if stops(out.marks()) {
         while let Some(_) = out.take_send() {}
     }
+}
+
+// Whether the marks of a step tell that it stops its host.
+fn stops(marks: &[Mark]) -> bool
+    ensures { result ≡ list_any is_stop marks.now }
+{
+    marks.iter().any(is_stop)
 }
 
 fn is_stop(mark: &Mark) -> bool

@@ -2,8 +2,9 @@
 ghost use Rattle.std.specs.Prelude.{◌≡◌, ◌≤◌, ◌+◌, IfOk, IfSome, OnOk, length};
 ghost use Rattle.sig_core.specs.Step.{HasRoom, IsTaken};
 ghost use Rattle.gcp_master.specs.Master.{fresh_master};
+ghost use Rattle.qmgr_block.specs.Qmgr.{qmgr_row};
 ghost use Rattle.qmgr_block.specs.State.{fresh_qmgr};
-ghost use Rattle.node_views.specs.Parts.{main_entered, main_row, main_settled, settled};
+ghost use Rattle.node_views.specs.Parts.{in_qmgr, main_entered, main_row, main_settled, may_settle, qmgr_settled, settled};
 
 use frag_map::Layout;
 use gcp_master::GcpMaster;
@@ -44,7 +45,7 @@ impl MainPart {
     ///
     /// # Errors
     /// `NoMemory`.
-    #[tactic(auto, using(crate::proofs::SettleLemmas::settles), unfolding(crate::specs::Parts::main_row))]
+    #[tactic(auto, unfolding(crate::specs::Parts::main_row))]
     pub fn handle(
         &mut self,
         alloc: Global,
@@ -53,21 +54,38 @@ impl MainPart {
     ) -> Result<Option<Held<View>>, NoMemory>
         requires { HasRoom out.old }
         ensures taken { OnOk result (IsTaken (main_row self.old signal.now.to.block signal.now) self.new out.old out.new) }
-        ensures settled { IfOk result (λ view. view ≡ main_settled self.old signal.now) }
-        ensures alone { IfOk result (λ view. IfSome view (λ v. out.new.sends ≡ out.old.sends)) }
+        ensures settled { IfOk result (λ view. view ≡ main_settled self.old signal.now.to.block signal.now) }
+        ensures few { IfOk result (λ view. IfSome view (λ v. length out.new.sends ≤ length out.old.sends + 1)) }
+    {
+        match signal.to.block {
+            BlockId::Qmgr => self.decide(alloc, signal, out),
+            BlockId::GcpMaster => {
+                self.master.handle(alloc, signal, out)?;
+                Ok(None)
+            }
+            _ => Ok(None),
+        }
+    }
+
+    // The membership handles a signal.
+    #[tactic(auto, using(crate::proofs::SettleLemmas::settles))]
+    fn decide(
+        &mut self,
+        alloc: Global,
+        signal: &Signal,
+        out: &mut Outs,
+    ) -> Result<Option<Held<View>>, NoMemory>
+        requires { HasRoom out.old }
+        ensures taken { OnOk result (IsTaken (in_qmgr self.old (qmgr_row self.old.qmgr signal.now)) self.new out.old out.new) }
+        ensures settled { IfOk result (λ view. view ≡ qmgr_settled self.old.qmgr signal.now) }
+        ensures few { IfOk result (λ view. IfSome view (λ v. length out.new.sends ≤ length out.old.sends + 1)) }
     {
         let before = out.marks().len();
-        match signal.to.block {
-            BlockId::Qmgr => self.qmgr.handle(alloc, signal, out)?,
-            BlockId::GcpMaster => self.master.handle(alloc, signal, out)?,
-            _ => {}
-        }
-        match &signal.body {
-            Body::Membership(
-                MembershipSignal::PrepFailConf { number: _ }
-                | MembershipSignal::ArbitConf { number: _ },
-            ) => settled(&out.marks()[before..]),
-            _ => Ok(None),
+        self.qmgr.handle(alloc, signal, out)?;
+        if may_settle(&signal.body) {
+            settled(&out.marks()[before..])
+        } else {
+            Ok(None)
         }
     }
 
@@ -80,6 +98,19 @@ impl MainPart {
     {
         self.qmgr.install(view, out);
         self.master.install(view, out);
+    }
+}
+
+// The membership may settle on a view where a member has promised, and where the arbitrator has granted.
+fn may_settle(body: &Body) -> bool
+    ensures { result ≡ may_settle body.now }
+{
+    match body {
+        Body::Membership(
+            MembershipSignal::PrepFailConf { number: _ }
+            | MembershipSignal::ArbitConf { number: _ },
+        ) => true,
+        _ => false,
     }
 }
 

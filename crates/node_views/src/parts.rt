@@ -34,7 +34,7 @@ impl Parts {
         requires { HasRoom out.old }
         ensures taken { OnOk result (IsTaken (parts_row self.old signal.now) self.new out.old out.new) }
         ensures settled { IfOk result (λ view. view ≡ settled_at self.old signal.now) }
-        ensures alone { IfOk result (λ view. IfSome view (λ v. out.new.sends ≡ out.old.sends)) }
+        ensures few { IfOk result (λ view. IfSome view (λ v. length out.new.sends ≤ length out.old.sends + 1)) }
     {
         match self {
             Parts::Shell(part) => part.handle(alloc, signal, out)?,

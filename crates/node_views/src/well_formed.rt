@@ -1,6 +1,6 @@
 //! Which signals are well formed in a cluster of a shape.
 ghost use Rattle.std.specs.Prelude.{◌≡◌};
-ghost use Rattle.node_views.specs.WellFormed.{are_nodes, is_chain, is_client_sound, is_epoch_sound, is_chain_sound, is_host_sound, is_joining_sound, is_mask, is_member, is_membership_sound, is_node, is_number, is_takeover_sound, is_tx, is_ahead, is_view, is_body_sound, is_well_formed};
+ghost use Rattle.node_views.specs.WellFormed.{are_nodes, is_chain, is_client_sound, is_epoch_sound, is_chain_sound, is_host_sound, is_joining_sound, is_mask, is_member, is_membership_sound, is_node, is_number, is_sender, is_takeover_sound, is_tx, is_ahead, is_view, is_body_sound, is_well_formed};
 
 use sig_core::{
     Body, Chain, ChainSignal, ClientSignal, EpochSignal, HostSignal, JoiningSignal, Member,
@@ -67,7 +67,11 @@ fn is_chain(shape: &Shape, chain: &Chain, at: u8) -> bool
 fn is_mask(shape: &Shape, mask: u8) -> bool
     ensures { result ≡ is_mask shape.now mask }
 {
-    mask > 0 && (mask as u64) < 2u64.pow(shape.nodes as u32)
+    mask > 0
+        && match 2u64.checked_pow(shape.nodes as u32) {
+            Some(end) => (mask as u64) < end,
+            None => true,
+        }
 }
 
 fn is_host_sound(shape: &Shape, signal: &HostSignal) -> bool
@@ -237,16 +241,23 @@ fn is_body_sound(shape: &Shape, body: &Body) -> bool
     }
 }
 
+// A member of the cluster, or the shell's host.
+fn is_sender(shape: &Shape, member: &Member) -> bool
+    ensures { result ≡ is_sender shape.now member.now }
+{
+    is_member(shape, member) || (member.node == 0 && member.start == 0)
+}
+
 /// Whether a signal is well formed: each node that it names is one of the cluster, 1 to `nodes`, and
 /// in its header 0 with start 0 too, which is the shell's; so is the coordinator of each transaction,
 /// and 0, the copying of rows, of one that holds a lock; a fragment is below `fragments`; a place of a
 /// chain is in that chain; a mask names some nodes and no others; the number of a view is below
 /// 2^64 - 1; and the hosts of a cut are below 2^32.
+#[tactic(auto, unfolding(crate::specs::WellFormed::is_well_formed))]
 pub fn is_well_formed(shape: &Shape, signal: &Signal) -> bool
     ensures { result ≡ is_well_formed shape.now signal.now }
 {
-    let member = &signal.member;
-    (is_member(shape, member) || (member.node == 0 && member.start == 0))
+    is_sender(shape, &signal.member)
         && is_view(shape, signal.view.get())
         && is_body_sound(shape, &signal.body)
 }

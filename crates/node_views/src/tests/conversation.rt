@@ -4,7 +4,7 @@ use super::text::shown;
 use crate::Host;
 use frag_map::Layout;
 use lqh_block::MapRows;
-use sig_core::{BlockId, Held, Member, Outs, Shape, Signal};
+use sig_core::{BlockId, Held, Member, NoMemory, Outs, Shape, Signal};
 use std::alloc::Global;
 use std::process::Abort;
 use std::test::Fail;
@@ -15,6 +15,25 @@ fn layout() -> Layout {
         replicas: 2,
         fragments: 4,
     })
+}
+
+// Which host a conversation is with.
+#[derive(Clone, Copy)]
+enum Kind {
+    Shell,
+    Main,
+    Tc,
+    Ldm,
+}
+
+// The block that takes what is for none in particular.
+fn first_of(kind: Kind) -> BlockId {
+    match kind {
+        Kind::Shell => BlockId::Api,
+        Kind::Main => BlockId::Qmgr,
+        Kind::Tc => BlockId::Tc,
+        Kind::Ldm => BlockId::Lqh,
+    }
 }
 
 fn me() -> Member {
@@ -47,8 +66,18 @@ fn stepped(
     Ok(shown(alloc, &mut outs)?)
 }
 
+// The host as a life begins, which gives epoch 10.
+fn fresh(alloc: Global, kind: Kind) -> Result<Host, NoMemory> {
+    match kind {
+        Kind::Shell => Host::shell(alloc, &layout()),
+        Kind::Main => Host::main(alloc, me(), &layout(), 10),
+        Kind::Tc => Host::tc(alloc, me(), &layout(), 10, 5),
+        Kind::Ldm => Host::ldm(alloc, me(), &layout(), MapRows::new(alloc), 5),
+    }
+}
+
 // At each signal from a view of that number the host marks and sends just this.
-fn talk(
+fn play(
     rt: &impl Abort,
     alloc: Global,
     host: &mut Host,
@@ -62,14 +91,15 @@ fn talk(
     Ok(())
 }
 
-fn talk_to_tc(rt: &impl Abort, alloc: Global, lines: &[(u64, Heard, &str)]) -> Result<(), Fail> {
-    let mut host = Host::tc(alloc, me(), &layout(), 10, 5)?;
-    talk(rt, alloc, &mut host, BlockId::Tc, lines)
-}
-
-fn talk_to_main(rt: &impl Abort, alloc: Global, lines: &[(u64, Heard, &str)]) -> Result<(), Fail> {
-    let mut host = Host::main(alloc, me(), &layout(), 10)?;
-    talk(rt, alloc, &mut host, BlockId::Qmgr, lines)
+// A conversation with a fresh host.
+fn talk(
+    rt: &impl Abort,
+    alloc: Global,
+    kind: Kind,
+    lines: &[(u64, Heard, &str)],
+) -> Result<(), Fail> {
+    let mut host = fresh(alloc, kind)?;
+    play(rt, alloc, &mut host, first_of(kind), lines)
 }
 
 #[test]
@@ -81,7 +111,7 @@ fn a_greater_view_is_installed_first(rt: HostRuntime) -> Result<(), Fail> {
         (1, Heard::Begin, "api0 begun 3"),
         (4, Heard::Begin, "!excluded 4"),
     ];
-    talk_to_tc(&rt, rt.alloc(), &lines)
+    talk(&rt, rt.alloc(), Kind::Tc, &lines)
 }
 
 #[test]
@@ -93,7 +123,7 @@ fn a_fence_stops_what_is_older(rt: HostRuntime) -> Result<(), Fail> {
         (1, Heard::Begin, "api0 begun 1"),
         (5, Heard::Prepare(11, 12), "!installed 5, gcp1 prepared 11"),
     ];
-    talk_to_tc(&rt, rt.alloc(), &lines)
+    talk(&rt, rt.alloc(), Kind::Tc, &lines)
 }
 
 #[test]
@@ -103,8 +133,12 @@ fn a_kill_counts_signals(rt: HostRuntime) -> Result<(), Fail> {
         (1, Heard::Begin, "api0 begun 1"),
         (1, Heard::Begin, "!killed"),
     ];
-    talk_to_tc(&rt, rt.alloc(), &lines)?;
-    talk_to_tc(&rt, rt.alloc(), &[(1, Heard::Kill(0), "!killed")])
+    talk(&rt, rt.alloc(), Kind::Tc, &lines)
+}
+
+#[test]
+fn a_kill_may_be_at_once(rt: HostRuntime) -> Result<(), Fail> {
+    talk(&rt, rt.alloc(), Kind::Tc, &[(1, Heard::Kill(0), "!killed")])
 }
 
 #[test]
@@ -114,7 +148,7 @@ fn a_node_is_cut_off_once(rt: HostRuntime) -> Result<(), Fail> {
         (1, Heard::Cut(2, 4), ""),
         (1, Heard::Cut(3, 7), ""),
     ];
-    talk_to_tc(&rt, rt.alloc(), &lines)
+    talk(&rt, rt.alloc(), Kind::Tc, &lines)
 }
 
 #[test]
@@ -123,7 +157,7 @@ fn a_host_goes_with_those_of_its_node(rt: HostRuntime) -> Result<(), Fail> {
         (1, Heard::Closed(2, 4), ""),
         (1, Heard::Closed(1, 3), "!with host 3"),
     ];
-    talk_to_tc(&rt, rt.alloc(), &lines)
+    talk(&rt, rt.alloc(), Kind::Tc, &lines)
 }
 
 #[test]
@@ -135,7 +169,7 @@ fn who_goes_on_alone_asks_and_installs(rt: HostRuntime) -> Result<(), Fail> {
         (1, Heard::Grant(2), "!installed 2, qmgr1 go on"),
         (1, Heard::Round, ""),
     ];
-    talk_to_main(&rt, rt.alloc(), &lines)
+    talk(&rt, rt.alloc(), Kind::Main, &lines)
 }
 
 #[test]
@@ -150,30 +184,26 @@ fn who_promises_has_its_fences_up(rt: HostRuntime) -> Result<(), Fail> {
         (1, Heard::Fenced(2), ""),
         (1, Heard::Fenced(3), "!promised 3, qmgr1 promise 3"),
     ];
-    talk_to_main(&rt, rt.alloc(), &lines)
+    talk(&rt, rt.alloc(), Kind::Main, &lines)
 }
 
 #[test]
 fn who_stops_sends_nothing(rt: HostRuntime) -> Result<(), Fail> {
     let lines = [(2, Heard::Stop(1), "!installed 2, !down 1, !without group 1")];
-    talk_to_main(&rt, rt.alloc(), &lines)
+    talk(&rt, rt.alloc(), Kind::Main, &lines)
 }
 
 #[test]
-fn the_shell_and_the_rows_have_hosts(rt: HostRuntime) -> Result<(), Fail> {
-    let alloc = rt.alloc();
-    let mut shell = Host::shell(alloc, &layout())?;
-    talk(
-        &rt,
-        alloc,
-        &mut shell,
-        BlockId::Api,
-        &[(4, Heard::Round, "!installed 4")],
-    )?;
-    let mut rows = Host::ldm(alloc, me(), &layout(), MapRows::new(alloc), 5)?;
+fn the_shell_sees_views(rt: HostRuntime) -> Result<(), Fail> {
+    let lines = [(4, Heard::Round, "!installed 4")];
+    talk(&rt, rt.alloc(), Kind::Shell, &lines)
+}
+
+#[test]
+fn the_rows_are_fenced(rt: HostRuntime) -> Result<(), Fail> {
     let lines = [
         (1, Heard::Fence(2, BlockId::Lqh), "qmgr1 fenced"),
         (1, Heard::Round, ""),
     ];
-    talk(&rt, alloc, &mut rows, BlockId::Lqh, &lines)
+    talk(&rt, rt.alloc(), Kind::Ldm, &lines)
 }

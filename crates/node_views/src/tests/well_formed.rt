@@ -110,6 +110,12 @@ fn members_are_of_the_cluster(rt: HostRuntime) -> Result<(), Fail> {
         });
         assert_eq!(rt; is_fine(alloc, 1, 1, cut)?, expected);
     }
+    Ok(())
+}
+
+#[test]
+fn hosts_of_a_cut_have_numbers(rt: HostRuntime) -> Result<(), Fail> {
+    let alloc = rt.alloc();
     let last = HostId(u32::MAX);
     let cut = Body::Host(HostSignal::Cut {
         node: 2,
