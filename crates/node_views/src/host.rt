@@ -18,7 +18,7 @@ use api_views::is_member;
 use frag_map::Layout;
 use lqh_block::MapRows;
 use sig_core::{
-    Body, Held, HostId, HostSignal, Mark, Member, NoMemory, Outs, Signal, StopCause, View,
+    ApiReply, Body, Held, HostId, HostSignal, Mark, Member, NoMemory, Outs, Signal, StopCause, View,
 };
 use std::alloc::Global;
 
@@ -164,6 +164,22 @@ impl Host {
         self.pass(alloc, signal, out)
     }
 
+    /// The next reply for the shell, in order, each once; none where all were given. A node has none.
+    pub fn next_reply(&mut self) -> Option<ApiReply> {
+        match &mut self.parts {
+            Parts::Shell(part) => part.client.next_reply(),
+            _ => None,
+        }
+    }
+
+    /// Whether the last command left something of its own unanswered.
+    pub fn is_left_open(&self) -> bool {
+        match &self.parts {
+            Parts::Shell(part) => part.client.is_left_open(),
+            _ => false,
+        }
+    }
+
     // Whether a view stops the host.
     fn is_excluded(&self, view: &View) -> bool
         ensures { result ≡ is_excluded self.now.standing view.now }
@@ -266,8 +282,8 @@ impl Host {
         Ok(())
     }
 
-    // Whether the host has cut that one off.
-    fn is_cut(&self, host: HostId) -> bool
+    /// Whether the host has cut that one off: it takes nothing from it and sends it nothing.
+    pub fn is_cut(&self, host: HostId) -> bool
         ensures { result ≡ is_cut self.now.standing host }
     {
         self.standing
