@@ -1,3 +1,5 @@
 pub mod CalmLemmas
 pub mod DoomLemmas
+pub mod FenceLemmas
 pub mod LeftLemmas
+pub mod PromiseLemmas

@@ -1,6 +1,6 @@
 -- What is true of a coordinator under views, whatever comes.
-use Rattle.std.specs.Prelude.{◌≡◌, ℕ, true, false, nat_lt, List, [], ◌∷◌}
-use Rattle.run_theory.specs.Lists.{Each}
+use Rattle.std.specs.Prelude.{◌≡◌, ◌≤◌, ℕ, true, false, nat_lt, List, [], ◌∷◌}
+use Rattle.run_theory.specs.Lists.{Each, IsIn}
 use Rattle.frag_map.specs.Layout.{Layout}
 use Rattle.sig_core.specs.declared.member.TxId.{TxId}
 use Rattle.sig_core.specs.declared.outcome.AbortCause.TheVariants.{NodeFail}
@@ -18,7 +18,7 @@ use Rattle.tc_block.specs.declared.phase.Phase.TheVariants.{Aborting}
 use Rattle.tc_block.specs.declared.task.Task.{Task}
 use Rattle.tc_block.specs.declared.task.Verdict.TheVariants.{Fail}
 use Rattle.tc_block.specs.declared.transaction.Transaction.{Transaction}
-use Rattle.tc_block.specs.Doom.{is_among, is_undecided}
+use Rattle.tc_block.specs.Doom.{is_among, is_doomed_by, is_undecided}
 use Rattle.tc_block.specs.Phases.{is_decided}
 use Rattle.tc_block.specs.Resume.{resume_row}
 use Rattle.tc_block.specs.State.{TcState}
@@ -55,6 +55,38 @@ abbrev pub DoomedAreNotDecided : Type 0
 DoomedAreNotDecided =
     (s : CoordinatorState) (x : Signal) (tx : TxId) → is_among s.doomed tx ≡ true
     → Each (IsNotDecided tx) s.tc.live → Each (IsNotDecided tx) (coordinator_row s x).state.tc.live
+
+-- the promise of a view dooms each transaction that can't go on in it
+abbrev pub PromisesDoom : Type 0
+PromisesDoom =
+    (s : CoordinatorState) (x : Signal) (proposal : View) (e : TxId × Transaction)
+    → x.body ≡ Membership (FenceReq proposal) → IsIn e s.tc.live → is_doomed_by proposal e.1 ≡ true
+    → is_among (coordinator_row s x).state.doomed e.0 ≡ true
+
+-- who is doomed stays so at each step, unless it's forgotten
+abbrev pub DoomedStayDoomed : Type 0
+DoomedStayDoomed =
+    (s : CoordinatorState) (x : Signal) (e : TxId × Transaction) → is_among s.doomed e.0 ≡ true
+    → IsIn e (coordinator_row s x).state.tc.live → is_among (coordinator_row s x).state.doomed e.0 ≡ true
+
+-- an installation leaves each doomed one that is undecided to be aborted, unless a later view is promised
+abbrev pub DoomedAreLeftToFail : Type 0
+DoomedAreLeftToFail =
+    (s : CoordinatorState) (view : View) (e : TxId × Transaction) → s.fence ≤ view.number → IsIn e s.tc.live
+    → is_undecided e.1.phase ≡ true → is_among s.doomed e.0 ≡ true
+    → IsIn (record { tx = e.0; verdict = Fail }) (install_row s view).state.left
+
+-- the fence has risen, or stays, and isn't below this number
+pub record IsFenced (s : CoordinatorState) (number : ℕ) (now : CoordinatorState) : Type 0 where
+  pub rises : s.fence ≤ now.fence
+  pub covers : number ≤ now.fence
+
+-- no step lowers the fence; and it isn't below the number of any view that was promised or installed
+pub record FencesNeverFall : Type 0 where
+  pub steps : (s : CoordinatorState) (x : Signal) → s.fence ≤ (coordinator_row s x).state.fence
+  pub promises : (s : CoordinatorState) (x : Signal) (proposal : View) → x.body ≡ Membership (FenceReq proposal)
+      → IsFenced s proposal.number (coordinator_row s x).state
+  pub installations : (s : CoordinatorState) (view : View) → IsFenced s view.number (install_row s view).state
 
 -- no transaction stands twice among those that aren't forgotten
 abbrev pub AreOnce : List (TxId × Transaction) → Type 0

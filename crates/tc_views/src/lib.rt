@@ -7,7 +7,10 @@ mod laws;
 mod views;
 
 pub use coordinator::Coordinator;
-pub use laws::{calm_steps, doomed_are_not_decided, failed_are_told_the_view, none_is_left_twice};
+pub use laws::{
+    calm_steps, doomed_are_left_to_fail, doomed_are_not_decided, doomed_stay_doomed,
+    failed_are_told_the_view, fences_never_fall, none_is_left_twice, promises_doom,
+};
 
 #[cfg(test)]
 mod tests;
