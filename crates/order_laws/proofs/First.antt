@@ -83,7 +83,7 @@ use Rattle.order_laws.specs.First.{GivenUpAreOutAtFirst}
 use Rattle.order_laws.specs.Standing.{is_away}
 use Rattle.order_laws.specs.Unanswered.{asks_on, is_part_on}
 use Rattle.order_laws.proofs.Aborting as goes
-use Rattle.order_laws.proofs.Aborting.{beside_unbacked, given_same, others_unbacked}
+use Rattle.order_laws.proofs.Aborting.{given_same, others_unbacked}
 use Rattle.order_laws.proofs.AbortingTurns as back
 use Rattle.order_laws.proofs.AbortingTurns.{Aborts, is_abort_to, place_there, turn_aborts}
 use Rattle.order_laws.proofs.Awaited as awaited
@@ -94,7 +94,7 @@ use Rattle.order_laws.proofs.Standing.{IsKnown, asks_known, known_next, who_is_a
 use Rattle.order_laws.specs.Still.{IsStill}
 use Rattle.order_laws.proofs.Still.{IsZero, home_for, home_low, none_weigh, still_at_quiet}
 use Rattle.order_laws.proofs.Unanswered as part
-use Rattle.order_laws.proofs.Unanswered.{beside_apart, others_apart, parts_are_unanswered}
+use Rattle.order_laws.proofs.Unanswered.{others_apart, parts_are_unanswered}
 use Rattle.order_laws.proofs.UnansweredTurns as parts
 use Rattle.order_laws.proofs.UnansweredTurns.{AreUnbacked, Parts, is_backing, parts_out, turn_parts}
 

@@ -1,22 +1,20 @@
 -- When nothing is under way: what is for hosts that are there isn't in transit.
-use Rattle.std.proofs.Common.{◌≡◌, ◌⊎◌, ◌≤◌, ◌<◌, ◌+◌, ℕ, zero, suc, Bool, true, false, List, [], ◌∷◌, ◌++◌, length, refl, sym, ap}
-use Rattle.std.proofs.Common.{◌∙◌, subst, arith, inl, inr}
-use Rattle.std.proofs.lemmas.Bool.{cases_lt, eqb-true, false≢true, true≢false}
+use Rattle.std.proofs.Common.{◌≡◌, ◌⊎◌, ◌≤◌, ◌<◌, ◌+◌, ℕ, Bool, true, false, List, [], ◌∷◌, ◌++◌, length, refl, sym, ap}
+use Rattle.std.proofs.Common.{◌∙◌, arith, inl, inr}
+use Rattle.std.proofs.lemmas.Bool.{cases_lt, false≢true}
 use Rattle.std.specs.List.{list_any}
 use Rattle.std.specs.Prelude.{◌==◌, ◌&&◌, if◌then◌else◌}
 use Rattle.run_theory.specs.Links.{taken}
 use Rattle.run_theory.specs.Lists.{Each}
-use Rattle.sig_core.specs.declared.member.Member.{Member}
 use Rattle.sig_core.specs.declared.member.TxId.{TxId}
 use Rattle.sig_core.specs.declared.outs.Outgoing.{Outgoing}
-use Rattle.sig_core.specs.declared.place.BlockId.TheVariants as block
 use Rattle.sig_core.specs.declared.place.Place.{Place}
 use Rattle.sig_core.specs.declared.signal.Body.{Body}
 use Rattle.sig_core.specs.Chain.{node_at}
 use Rattle.sig_core.specs.Place.{coordinator_of}
 use Rattle.sig_core.specs.Same.{same_tx}
 use Rattle.world_core.proofs.HostNumbers.{host_below}
-use Rattle.world_core.specs.Hosts.{Membership, first_membership, home, host_for, hosts, receiver}
+use Rattle.world_core.specs.Hosts.{first_membership, home, host_for, hosts, receiver}
 use Rattle.world_core.specs.Machine.{all_addressed, counted, machine, sent_count, signals_of, step_after}
 use Rattle.world_core.specs.Quiet.{IsQuiet}
 use Rattle.world_core.specs.Start.{Start}
@@ -25,8 +23,8 @@ use Rattle.host_laws.proofs.TcSends.{eqb-self}
 use Rattle.host_laws.proofs.Wishes.{is_tc}
 use Rattle.host_laws.specs.Ways.{back_by, forth_by, sent_ways}
 use Rattle.run_laws.specs.GivenUp.{is_carried_out, is_given_up}
-use Rattle.run_laws.specs.Routes.{IsForBlock, IsRouted, IsSentTo, replicas}
-use Rattle.run_laws.specs.Transit.{AreInTransit, Comes, IsRun, joined, logs_of}
+use Rattle.run_laws.specs.Routes.{IsForBlock, IsRouted, replicas}
+use Rattle.run_laws.specs.Transit.{AreInTransit, IsRun, logs_of}
 use Rattle.run_laws.proofs.Addressed.{comes_below}
 use Rattle.run_laws.proofs.AlongSteps.{home_place}
 use Rattle.run_laws.proofs.Routes.{signals_are_for_blocks, signals_are_routed}
