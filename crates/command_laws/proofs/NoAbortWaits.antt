@@ -3,69 +3,46 @@
 -- too and wait further on.
 use Rattle.std.proofs.Common.{◌≡◌, ◌≢◌, ◌⊎◌, ◌<◌, ◌≤◌, ◌+◌, ◌-◌, ℕ, zero, suc, Bool, true, false, List, [], ◌∷◌, length, refl, sym}
 use Rattle.std.proofs.Common.{ap, ◌∙◌, subst, inl, inr, arith}
-use Rattle.std.proofs.lemmas.Bool.{cases_eq, false≢true, true≢false}
-use Rattle.std.specs.List.{list_any}
-use Rattle.std.specs.Prelude.{not, Option, None, Some}
+use Rattle.std.proofs.lemmas.Bool.{cases_eq, false≢true, true≢false, cases_lt}
+use Rattle.std.specs.Prelude.{not, Option, None, Some, if◌then◌else◌, is_some}
 use Rattle.run_theory.proofs.Merging.{logs_merged, merged_run}
 use Rattle.run_theory.proofs.Pasts.{each_in}
+use Rattle.run_theory.proofs.Tally.{only_one, tally_in}
+use Rattle.run_theory.specs.Counts.{one_if, total}
 use Rattle.run_theory.specs.Lists.{IsIn}
 use Rattle.run_theory.specs.Orders.{merged}
 use Rattle.run_theory.specs.Runs.{IsWithin}
-use Rattle.run_theory.specs.Counts.{one_if, tally, total}
-use Rattle.run_theory.proofs.Tally.{only_one, tally_in}
 use Rattle.sig_core.proofs.Keys.{same_key-self, same_tx-self}
+use Rattle.sig_core.proofs.TxLemmas.{same_tx-is}
 use Rattle.sig_core.specs.Chain.{node_at}
-use Rattle.sig_core.specs.declared.member.TxId.{TxId}
 use Rattle.sig_core.specs.Op.{key_of}
+use Rattle.sig_core.specs.Place.{rows_of}
 use Rattle.sig_core.specs.Same.{same_key, same_tx}
 use Rattle.sig_core.specs.Work.{work_key}
+use Rattle.sig_core.specs.declared.member.TxId.{TxId}
 use Rattle.row_locks.specs.Holders.{holds}
 use Rattle.row_locks.specs.Queues.{waits}
 use Rattle.row_locks.specs.Tables.{ahead_at, lock_at}
-use Rattle.lqh_block.specs.declared.request.Request.{Request}
+use Rattle.lqh_block.proofs.IndexLemmas as keys
 use Rattle.lqh_block.specs.State.{LqhState}
 use Rattle.lqh_block.specs.Work.{is_for}
+use Rattle.lqh_block.specs.declared.request.Request.{Request}
+use Rattle.tc_block.specs.Phases.{is_aborting, is_committing}
 use Rattle.tc_block.specs.State.{TcState}
 use Rattle.tc_block.specs.declared.phase.Asked.{Asked}
 use Rattle.tc_block.specs.declared.transaction.Transaction.{Transaction}
-use Rattle.tc_block.specs.Phases.{is_aborting, is_committing}
 use Rattle.node_core.specs.Blocks.{lqh_of, tc_of}
+use Rattle.world_core.proofs.HostNumbers.{host_below, rows_run}
 use Rattle.world_core.proofs.Stamped.{stamped}
 use Rattle.world_core.specs.Hosts.{home, hosts, rows_host}
 use Rattle.world_core.specs.Machine.{after, machine}
-use Rattle.world_core.specs.Quiet.{IsQuiet}
 use Rattle.world_core.specs.Start.{Start}
 use Rattle.world_core.specs.Steps.{Addressed, HostStep}
-use Rattle.host_laws.proofs.Sums.{total_at}
-use Rattle.run_laws.specs.Circle.{at_host}
-use Rattle.run_laws.specs.GivenUp.{is_carried_out, is_given_up}
-use Rattle.run_laws.specs.Live.{live_at}
-use Rattle.run_laws.specs.Routes.{IsHostRouted, IsRequestRouted, primary_host, replica_host, replicas}
-use Rattle.run_laws.specs.Transit.{IsRun, logs_of}
-use Rattle.answer_laws.specs.Answered.{AreQuiet, IsLiveAs, WaitsForLock}
-use Rattle.order_laws.specs.Aborting.{WaitsFrom}
-use Rattle.order_laws.specs.LetGo.{IsWaitedFor, lock_at_place}
-use Rattle.order_laws.specs.Still.{IsStill}
-use Rattle.order_laws.proofs.Aborting.{given_up_holders_wait}
-use Rattle.order_laws.proofs.Completing.{completed_let_go}
-use Rattle.order_laws.proofs.First.{given_up_are_out_at_first}
-use Rattle.order_laws.proofs.Later.{later_holders_are_given_up}
-use Rattle.order_laws.proofs.LetGo.{holders_have_let_go}
-use Rattle.order_laws.proofs.Over.{who_lets_go_is_over}
-use Rattle.order_laws.proofs.Still.{home_low, still_at_quiet}
-use Rattle.order_laws.proofs.Writers.{holders_behind_dont_wait}
-use Rattle.command_laws.specs.Quietly.{NoAbortWaits}
-use Rattle.command_laws.specs.Served.{IsBehind}
-use Rattle.command_laws.proofs.ClosedWaits.{is_closed}
-use Rattle.command_laws.proofs.HeldUp.{total_two}
-use Rattle.command_laws.proofs.NoneClosed.{none_closed}
-use Rattle.command_laws.proofs.WaitsBehind.{behind_locks}
-use Rattle.answer_laws.proofs.Commits.{no_commit}
-use Rattle.answer_laws.proofs.Queued.{operations_queue}
 use Rattle.host_laws.proofs.BlocksAlong.{IsHome, first_waiting}
+use Rattle.host_laws.proofs.LqhOps.{true_and}
 use Rattle.host_laws.proofs.OfLive.{each_found}
-use Rattle.host_laws.proofs.OneWay.{back_aborting}
 use Rattle.host_laws.proofs.Replicas.{logs_keep_well}
+use Rattle.host_laws.proofs.Sums.{total_at}
 use Rattle.host_laws.specs.Live.{of_live}
 use Rattle.host_laws.specs.Ways.{back_by, sent_ways}
 use Rattle.run_laws.proofs.AlongSteps.{at_home, live_tx}
@@ -73,15 +50,31 @@ use Rattle.run_laws.proofs.Routes.{signals_are_routed}
 use Rattle.run_laws.proofs.RowsNodes.{rows_node}
 use Rattle.run_laws.proofs.TcSound.{log_sound}
 use Rattle.run_laws.proofs.TcTokens.{IsOwned}
-use Rattle.world_core.proofs.HostNumbers.{host_below, rows_run}
-use Rattle.order_laws.specs.Unanswered.{asks_on, is_on_key, waiting_on}
+use Rattle.run_laws.specs.GivenUp.{is_carried_out, is_given_up}
+use Rattle.run_laws.specs.Live.{live_at}
+use Rattle.run_laws.specs.Routes.{IsHostRouted, IsRequestRouted, replica_host, replicas}
+use Rattle.run_laws.specs.Transit.{IsRun, logs_of}
+use Rattle.answer_laws.proofs.Commits.{no_commit}
+use Rattle.answer_laws.proofs.Queued.{operations_queue}
+use Rattle.answer_laws.specs.Answered.{AreQuiet, IsLiveAs, WaitsForLock}
+use Rattle.order_laws.proofs.Aborting.{given_up_holders_wait}
+use Rattle.order_laws.proofs.Completing.{completed_let_go}
+use Rattle.order_laws.proofs.First.{given_up_are_out_at_first}
+use Rattle.order_laws.proofs.Later.{later_holders_are_given_up}
+use Rattle.order_laws.proofs.LetGo.{holders_have_let_go}
+use Rattle.order_laws.proofs.Over.{who_lets_go_is_over}
+use Rattle.order_laws.proofs.Still.{home_low, still_at_quiet}
 use Rattle.order_laws.proofs.Unanswered.{parts_are_unanswered}
-use Rattle.lqh_block.proofs.IndexLemmas as keys
-use Rattle.sig_core.specs.Place.{rows_of}
-use Rattle.std.proofs.lemmas.Bool.{and_parts, cases_lt}
-use Rattle.std.specs.Prelude.{◌&&◌, if◌then◌else◌, is_some}
-use Rattle.sig_core.proofs.TxLemmas.{same_tx-is}
-use Rattle.host_laws.proofs.LqhOps.{true_and}
+use Rattle.order_laws.proofs.Writers.{holders_behind_dont_wait}
+use Rattle.order_laws.specs.Aborting.{WaitsFrom}
+use Rattle.order_laws.specs.LetGo.{IsWaitedFor, lock_at_place}
+use Rattle.order_laws.specs.Still.{IsStill}
+use Rattle.order_laws.specs.Unanswered.{asks_on, is_on_key, waiting_on}
+use Rattle.command_laws.proofs.HeldUp.{total_two}
+use Rattle.command_laws.proofs.NoneClosed.{none_closed}
+use Rattle.command_laws.proofs.WaitsBehind.{behind_locks}
+use Rattle.command_laws.specs.Quietly.{NoAbortWaits}
+use Rattle.command_laws.specs.Served.{IsBehind}
 
 -- who is found among a coordinator's transactions is one of them
 found_in : (tx : TxId) (t : Transaction) (live : List (TxId × Transaction)) → of_live tx live ≡ Some t
@@ -169,9 +162,11 @@ module _ (start : Start) (es : List HostStep) (run : IsRun start es) (quiet : Ar
           behind : (o : Option TxId) → ahead_at s.locks key tx ≡ o → is_some o ≡ true
               → (who : TxId) × IsBehind tx who key s.locks
           behind None e some = absurd (false≢true some)
-          behind (Some who) e some =
-              (who, behind_locks s.locks key tx who (logs_keep_well start h (logs_of start es h)).orderly
-              (none_closed start key w.node w.from w.to (logs_of start es) quiet) e)
+          behind (Some who) e some = (
+            who,
+            behind_locks s.locks key tx who (logs_keep_well start h (logs_of start es h)).orderly
+                (none_closed start key w.node w.from w.to (logs_of start es) quiet) e,
+          )
 
           b : (who : TxId) × IsBehind tx who key s.locks
           b = behind (ahead_at s.locks key tx) refl ahead
