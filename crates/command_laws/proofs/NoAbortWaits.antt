@@ -1,7 +1,7 @@
 -- At quiet no transaction that is being aborted has an operation unanswered. One that has waits in the queue of a lock, at
 -- a place of the key's chain; not at the first, and at a later one not behind another, since that one would be aborted
 -- too and wait further on.
-use Rattle.std.proofs.Common.{◌≡◌, ◌≢◌, ◌⊎◌, ◌<◌, ◌≤◌, ◌+◌, ◌-◌, ℕ, zero, suc, Bool, true, false, List, [], ◌∷◌, length, refl, sym}
+use Rattle.std.proofs.Common.{◌≡◌, ◌≢◌, ◌⊎◌, ◌<◌, ◌≤◌, ◌+◌, ℕ, zero, suc, Bool, true, false, List, [], ◌∷◌, length, refl, sym}
 use Rattle.std.proofs.Common.{ap, ◌∙◌, subst, inl, inr, arith}
 use Rattle.std.proofs.lemmas.Bool.{cases_eq, false≢true, true≢false, cases_lt}
 use Rattle.std.specs.Prelude.{not, Option, None, Some, if◌then◌else◌, is_some}
