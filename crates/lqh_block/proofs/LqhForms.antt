@@ -2,7 +2,7 @@
 -- no law
 -- above has to open a row.
 use Rattle.std.proofs.Common.{◌≡◌, ◌==◌, ℕ, List, [], ◌∷◌, ◌++◌, Bool, true, false, refl, sym, subst}
-use Rattle.std.specs.Prelude.{◌+◌, ◌-◌, is_some, position, remove, Option, None, Some, slice_get}
+use Rattle.std.specs.Prelude.{◌+◌, is_some, position, remove, Option, None, Some, slice_get}
 use Rattle.sig_core.specs.declared.mark.Mark.TheVariants as mark
 use Rattle.sig_core.specs.declared.member.Member.{Member}
 use Rattle.sig_core.specs.declared.member.TxId.{TxId}

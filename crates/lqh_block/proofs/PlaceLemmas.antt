@@ -10,7 +10,7 @@ use Rattle.std.proofs.lemmas.Bool.Decides.{nat_tests}
 use Rattle.std.proofs.lemmas.List.{length-map}
 use Rattle.std.proofs.lemmas.Option.{slice_get_read}
 use Rattle.sig_core.specs.declared.rows.Slot.{Slot}
-use Rattle.sig_core.specs.Rows.{freed_by, freed_if, is_at, place_of, placed, row_in, taken, with_row}
+use Rattle.sig_core.specs.Rows.{is_at, place_of, placed, taken, with_row}
 use Rattle.sig_core.specs.Same.{same_key}
 use Rattle.lqh_block.specs.declared.index.KeyEntry.{KeyEntry}
 use Rattle.lqh_block.specs.Index.{IsIndexed, count_of, first_free, key_in, keys_in, place_in, seek, seek_by, with_key}

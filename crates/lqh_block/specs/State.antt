@@ -10,7 +10,7 @@ use Rattle.frag_map.specs.Layout.{Layout}
 use Rattle.sig_core.specs.Journal.{JournalState}
 use Rattle.sig_core.specs.Place.{rows_of}
 use Rattle.sig_core.specs.Rows.{RowsState}
-use Rattle.sig_core.specs.Step.{Effects, Step, to_place}
+use Rattle.sig_core.specs.Step.{Step, to_place}
 use Rattle.row_locks.specs.Rows.{Served}
 use Rattle.row_locks.specs.Tables.{Locks, kept, released_at}
 use Rattle.lqh_block.specs.declared.request.Marker.{Marker}

@@ -1,6 +1,7 @@
 //! The records of transactions that are at work on rows, the oldest first.
-ghost use Rattle.std.specs.Prelude.{◌≡◌, ◌<◌, ◌^◌, IfSome, IsOk, OnOk, Some, [], is_some, length, not, option_map, remove, slice_get, true};
+ghost use Rattle.std.specs.Prelude.{◌≡◌, ◌<◌, ◌^◌, ◌&&◌, IfSome, IsOk, OnOk, Some, [], is_some, length, not, option_map, remove, slice_get, true};
 ghost use Rattle.sig_core.specs.Rows.{prepared, record_at, recorded_by};
+ghost use Rattle.sig_core.specs.Same.{same_key, same_tx};
 ghost use Rattle.lqh_block.specs.Records.{committed_at, record_by};
 
 use crate::record_id::{RecordId, Version};
@@ -53,11 +54,27 @@ impl Records {
         ensures place { option_map (λ p. p.0) result ≡ record_at self.now.pending tx key.now }
         ensures record { IfSome result (λ p. slice_get self.now.pending p.0 ≡ Some (record_by tx key.now p.1.now)) }
     {
-        // Most often there are none, and then no hash is worth its while.
-        if self.entries.is_empty() {
-            None
+        // Most often there is none, or one, and then no hash is worth its while.
+        match self.entries.len() {
+            0 => None,
+            1 => self.look_at_only(tx, key),
+            _ => self.look_up(tx, key),
+        }
+    }
+
+    // The same where there is just one.
+    fn look_at_only(&self, tx: TxId, key: &Key) -> Option<(usize, &Version)>
+        requires { length self.now.pending ≡ 1 }
+        ensures place { option_map (λ p. p.0) result ≡ record_at self.now.pending tx key.now }
+        ensures record { IfSome result (λ p. slice_get self.now.pending p.0 ≡ Some (record_by tx key.now p.1.now)) }
+    {
+        let Some((id, version)) = self.entries.get_index(0) else {
+            return None;
+        };
+        if is_of(id, tx, key) {
+            Some((0, version))
         } else {
-            self.look_up(tx, key)
+            None
         }
     }
 
@@ -131,4 +148,11 @@ impl Records {
     {
         self.entries.shift_remove_index(at);
     }
+}
+
+// Whether a record is the transaction's on the key.
+fn is_of(id: &RecordId, tx: TxId, key: &Key) -> bool
+    ensures { result ≡ (same_tx id.now.tx tx && same_key id.now.key key.now) }
+{
+    id.tx == tx && id.key == *key
 }
