@@ -1,3 +1,4 @@
+pub mod CutLemmas
 pub mod InstallLemmas
 pub mod LawLemmas
 pub mod SettleLemmas

@@ -1,12 +1,13 @@
 -- What is true of the steps of a host, whatever comes.
 use Rattle.std.specs.Prelude.{◌≡◌, Bool, true, false, nat_lt, [], None}
 use Rattle.std.specs.List.{list_any}
+use Rattle.sig_core.specs.declared.member.HostId.{HostId}
 use Rattle.sig_core.specs.declared.signal.Body.{Body}
 use Rattle.sig_core.specs.declared.signal.Body.TheVariants.{Host}
 use Rattle.sig_core.specs.declared.signal.Signal.{Signal}
 use Rattle.sig_core.specs.declared.signal.host.HostSignal.TheVariants.{Kill, Cut, Closed}
 use Rattle.sig_core.specs.Step.{stay}
-use Rattle.node_views.specs.Row.{blocks_row, host_row, hushed, is_barred, is_stop}
+use Rattle.node_views.specs.Row.{blocks_row, host_row, hushed, is_barred, is_cut, is_stop}
 use Rattle.node_views.specs.WellFormed.{is_well_formed}
 use Rattle.node_views.specs.declared.host.Host as hosts
 
@@ -39,3 +40,8 @@ StoppingHostsAreSilent =
 abbrev pub MalformedSignalsChangeNothing : Type 0
 MalformedSignalsChangeNothing =
     (s : hosts.Host) (x : Signal) → is_well_formed s.standing.shape x ≡ false → host_row s x ≡ stay s
+
+-- a host that was cut off stays so
+abbrev pub CutHostsStayCut : Type 0
+CutHostsStayCut =
+    (s : hosts.Host) (x : Signal) (host : HostId) → is_cut s.standing host ≡ true → is_cut (host_row s x).state.standing host ≡ true

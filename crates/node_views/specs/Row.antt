@@ -1,5 +1,5 @@
 -- What a host does at a signal.
-use Rattle.std.specs.Prelude.{ℕ, zero, suc, ◌+◌, ◌&&◌, ◌||◌, Bool, true, false, not, nat_eq, nat_lt, List, [], ◌∷◌, ◌++◌, Option, None, Some}
+use Rattle.std.specs.Prelude.{ℕ, zero, suc, ◌+◌, ◌&&◌, ◌||◌, Bool, true, false, not, nat_le, nat_lt, List, [], ◌∷◌, ◌++◌, Option, None, Some}
 use Rattle.std.specs.List.{list_any}
 use Rattle.sig_core.specs.declared.mark.Mark.{Mark}
 use Rattle.sig_core.specs.declared.mark.Mark.TheVariants.{CutOff, Installed, Stopped}
@@ -65,20 +65,13 @@ abbrev pub kill_row : hosts.Host → ℕ → Step hosts.Host
 kill_row s zero = stopping s Killed
 kill_row s (suc after) = stay (standing_at s (killed_after s.standing (Some (suc after))))
 
--- one more is cut off
-abbrev pub cut_from : hosts.Host → HostId → hosts.Host
-cut_from s host = standing_at s (record s.standing { cut = s.standing.cut ++ host ∷ [] })
-
--- the hosts of a node, of which this is the first
-abbrev pub hosts_from : HostId → List HostId
-hosts_from first = first ∷ record { 0 = first.0 + 1 } ∷ record { 0 = first.0 + 2 } ∷ []
-
-abbrev pub same_host : HostId → HostId → Bool
-same_host one other = nat_eq one.0 other.0
+-- the hosts of a node, of which this is the first: three, one for each part
+abbrev pub is_one_of : HostId → HostId → Bool
+is_one_of host first = nat_le first.0 host.0 && nat_lt host.0 (first.0 + 3)
 
 -- the host has cut that one off
 abbrev pub is_cut : Standing → HostId → Bool
-is_cut standing host = list_any (same_host host) standing.cut
+is_cut standing host = list_any (is_one_of host) standing.cut
 
 abbrev pub cut_marks : HostId → List Mark
 cut_marks first = CutOff first ∷ CutOff (record { 0 = first.0 + 1 }) ∷ CutOff (record { 0 = first.0 + 2 }) ∷ []
@@ -87,7 +80,7 @@ abbrev pub cut_if : hosts.Host → HostId → Bool → Step hosts.Host
 cut_if s first true = stay s
 cut_if s first false =
     record {
-      state = standing_at s (record s.standing { cut = s.standing.cut ++ hosts_from first });
+      state = standing_at s (record s.standing { cut = s.standing.cut ++ first ∷ [] });
       effects = marks_only (cut_marks first);
     }
 

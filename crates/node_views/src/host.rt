@@ -1,12 +1,12 @@
 //! A host.
-ghost use Rattle.std.specs.Prelude.{◌≡◌, ◌≤◌, ◌+◌, ◌<◌, ◌++◌, IfOk, None, OnOk, [], length, option_to_list};
+ghost use Rattle.std.specs.Prelude.{◌≡◌, ◌≤◌, ◌+◌, ◌<◌, ◌++◌, IfOk, None, OnErr, OnOk, [], length, option_to_list};
 ghost use Rattle.std.specs.List.{list_any};
 ghost use Rattle.sig_core.specs.declared.mark.Mark.TheVariants.{CutOff, Stopped};
 ghost use Rattle.sig_core.specs.Step.{HasRoom, IsTaken, and_mark, nothing};
 ghost use Rattle.api_views.specs.Members.{same_member};
 ghost use Rattle.node_views.specs.Fresh.{fresh_ldm, fresh_main, fresh_shell, fresh_tc};
 ghost use Rattle.node_views.specs.Replies.{is_left_open, replies_of, with_replies};
-ghost use Rattle.node_views.specs.Row.{blocks_row, closed_if, counted_row, cut_from, cut_row, entered, headed_row, host_row, host_table, is_barred, is_cut, is_excluded, is_stop, kill_row, passed_row, same_host, unless_stopped};
+ghost use Rattle.node_views.specs.Row.{blocks_row, closed_if, counted_row, cut_row, entered, headed_row, host_row, host_table, is_barred, is_cut, is_excluded, is_one_of, is_stop, kill_row, passed_row, unless_stopped};
 
 use crate::fence::is_fenced;
 use crate::ldm_part::LdmPart;
@@ -115,11 +115,12 @@ impl Host {
     /// mark tells, sends nothing.
     ///
     /// # Errors
-    /// `NoMemory`, and then the host is of no more use.
+    /// `NoMemory`, and then the host is of no more use, but still tells which hosts it has cut off.
     #[tactic(auto, unfolding(crate::specs::Row::host_row))]
     pub fn step(&mut self, alloc: Global, signal: &Signal, out: &mut Outs) -> Result<(), NoMemory>
         requires { out.old ≡ nothing }
-        ensures { OnOk result (IsTaken (host_row self.old signal.now) self.new nothing out.new) }
+        ensures taken { OnOk result (IsTaken (host_row self.old signal.now) self.new nothing out.new) }
+        ensures kept { OnErr result (self.new.standing.cut ≡ self.old.standing.cut) }
     {
         if is_well_formed(&self.standing.shape, signal) {
             self.count(alloc, signal, out)?;
@@ -131,7 +132,8 @@ impl Host {
     // A host that is to be killed takes so many more signals.
     fn count(&mut self, alloc: Global, signal: &Signal, out: &mut Outs) -> Result<(), NoMemory>
         requires { out.old ≡ nothing }
-        ensures { OnOk result (IsTaken (counted_row self.old signal.now self.old.standing.left) self.new nothing out.new) }
+        ensures taken { OnOk result (IsTaken (counted_row self.old signal.now self.old.standing.left) self.new nothing out.new) }
+        ensures kept { OnErr result (self.new.standing.cut ≡ self.old.standing.cut) }
     {
         match self.standing.left {
             None => self.head(alloc, signal, out),
@@ -150,7 +152,8 @@ impl Host {
     #[tactic(auto, unfolding(crate::specs::Row::headed_row))]
     fn head(&mut self, alloc: Global, signal: &Signal, out: &mut Outs) -> Result<(), NoMemory>
         requires { out.old ≡ nothing }
-        ensures { OnOk result (IsTaken (headed_row self.old signal.now) self.new nothing out.new) }
+        ensures taken { OnOk result (IsTaken (headed_row self.old signal.now) self.new nothing out.new) }
+        ensures kept { OnErr result (self.new.standing.cut ≡ self.old.standing.cut) }
     {
         let view = &signal.view;
         let number = view.get().number;
@@ -202,6 +205,7 @@ impl Host {
         ensures taken { IsTaken (entered self.old view) self.new out.old out.new }
         ensures few { length out.new.sends ≤ length out.old.sends + 3 }
         ensures unmarked { out.new.marks ≡ out.old.marks }
+        ensures cut { self.new.standing.cut ≡ self.old.standing.cut }
     {
         if is_member(view.get(), &self.standing.member) {
             self.standing.has_joined = true;
@@ -214,7 +218,8 @@ impl Host {
     #[tactic(auto, unfolding(crate::specs::Row::passed_row))]
     fn pass(&mut self, alloc: Global, signal: &Signal, out: &mut Outs) -> Result<(), NoMemory>
         requires { HasRoom out.old }
-        ensures { OnOk result (IsTaken (passed_row self.old signal.now) self.new out.old out.new) }
+        ensures taken { OnOk result (IsTaken (passed_row self.old signal.now) self.new out.old out.new) }
+        ensures kept { OnErr result (self.new.standing.cut ≡ self.old.standing.cut) }
     {
         if self.is_barred(signal) {
             Ok(())
@@ -234,7 +239,8 @@ impl Host {
     // What the host does itself, and what it leaves to its blocks.
     fn take(&mut self, alloc: Global, signal: &Signal, out: &mut Outs) -> Result<(), NoMemory>
         requires { HasRoom out.old }
-        ensures { OnOk result (IsTaken (host_table self.old signal.now signal.now.body) self.new out.old out.new) }
+        ensures taken { OnOk result (IsTaken (host_table self.old signal.now signal.now.body) self.new out.old out.new) }
+        ensures kept { OnErr result (self.new.standing.cut ≡ self.old.standing.cut) }
     {
         match &signal.body {
             Body::Host(HostSignal::Kill { after }) => {
@@ -250,7 +256,8 @@ impl Host {
     // A host has closed its links: one of the same member takes this host with it.
     fn closed(&mut self, alloc: Global, signal: &Signal, out: &mut Outs) -> Result<(), NoMemory>
         requires { HasRoom out.old }
-        ensures { OnOk result (IsTaken (closed_if self.old signal.now (same_member self.old.standing.member signal.now.member)) self.new out.old out.new) }
+        ensures taken { OnOk result (IsTaken (closed_if self.old signal.now (same_member self.old.standing.member signal.now.member)) self.new out.old out.new) }
+        ensures kept { OnErr result (self.new.standing.cut ≡ self.old.standing.cut) }
     {
         if self.standing.member == signal.member {
             stop(StopCause::Sibling { host: signal.from }, out);
@@ -264,7 +271,8 @@ impl Host {
     #[tactic(auto, unfolding(crate::specs::Row::blocks_row))]
     fn handle(&mut self, alloc: Global, signal: &Signal, out: &mut Outs) -> Result<(), NoMemory>
         requires { HasRoom out.old }
-        ensures { OnOk result (IsTaken (blocks_row self.old signal.now) self.new out.old out.new) }
+        ensures taken { OnOk result (IsTaken (blocks_row self.old signal.now) self.new out.old out.new) }
+        ensures kept { OnErr result (self.new.standing.cut ≡ self.old.standing.cut) }
     {
         if let Some(view) = self.parts.handle(alloc, signal, out)? {
             self.enter(view, out);
@@ -287,23 +295,20 @@ impl Host {
     // The hosts of a node are cut off, of which this is the first.
     fn cut(&mut self, first: HostId, out: &mut Outs) -> Result<(), NoMemory>
         requires { HasRoom out.old }
-        ensures { OnOk result (IsTaken (cut_row self.old first) self.new out.old out.new) }
+        ensures taken { OnOk result (IsTaken (cut_row self.old first) self.new out.old out.new) }
+        ensures kept { OnErr result (self.new.standing.cut ≡ self.old.standing.cut) }
     {
         if self.is_cut(first) || first.0 >= u32::MAX - 1 {
             return Ok(());
         }
-        self.cut_one(first, out)?;
-        self.cut_one(HostId(first.0 + 1), out)?;
-        self.cut_one(HostId(first.0 + 2), out)
-    }
-
-    fn cut_one(&mut self, host: HostId, out: &mut Outs) -> Result<(), NoMemory>
-        requires { length out.old.marks < 16 }
-        ensures cut { OnOk result (self.new ≡ cut_from self.old host) }
-        ensures marked { OnOk result (out.new ≡ and_mark out.old (CutOff host)) }
-    {
-        self.standing.cut.push(host)?;
-        out.mark(Mark::CutOff { host });
+        self.standing.cut.push(first)?;
+        out.mark(Mark::CutOff { host: first });
+        out.mark(Mark::CutOff {
+            host: HostId(first.0 + 1),
+        });
+        out.mark(Mark::CutOff {
+            host: HostId(first.0 + 2),
+        });
         Ok(())
     }
 
@@ -315,15 +320,15 @@ impl Host {
             .cut
             .as_slice()
             .iter()
-            .any(|other| same_host(host, other))
+            .any(|first| is_one_of(host, *first))
     }
 }
 
-// Whether the two are one host.
-fn same_host(one: HostId, other: &HostId) -> bool
-    ensures { result ≡ same_host one other.now }
+// Whether a host is one of the three of which this is the first.
+fn is_one_of(host: HostId, first: HostId) -> bool
+    ensures { result ≡ is_one_of host first }
 {
-    one == *other
+    host.0 >= first.0 && host.0 - first.0 < 3
 }
 
 // The host stops.

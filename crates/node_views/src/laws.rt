@@ -1,5 +1,5 @@
 //! What is true of the steps of a host, whatever comes.
-ghost use Rattle.node_views.specs.Laws.{CalmHostsLeaveItToBlocks, MalformedSignalsChangeNothing, StoppingHostsAreSilent};
+ghost use Rattle.node_views.specs.Laws.{CalmHostsLeaveItToBlocks, CutHostsStayCut, MalformedSignalsChangeNothing, StoppingHostsAreSilent};
 
 /// Where a host isn't to be killed, a signal from no greater view, which no fence stops and which isn't
 /// the host's own, is the blocks' alone.
@@ -15,4 +15,9 @@ pub fn stopping_hosts_are_silent()
 /// A signal that isn't well formed changes nothing, sends nothing and marks nothing.
 pub fn malformed_signals_change_nothing()
     ensures { MalformedSignalsChangeNothing }
+{}
+
+/// A host that was cut off stays so.
+pub fn cut_hosts_stay_cut()
+    ensures { CutHostsStayCut }
 {}

@@ -20,7 +20,7 @@ pub struct Standing {
     /// How many signals it still takes before it is killed, the last of them not handled; none where
     /// it isn't to be.
     pub left: Option<u32>,
-    /// The hosts that it has cut off.
+    /// The nodes that it has cut off, each by the first of its three hosts.
     pub cut: Seq<HostId>,
 }
 

@@ -1,8 +1,7 @@
-use Rattle.std.proofs.Common.{◌≡◌, ap, ◌∙◌}
-use Rattle.sig_core.specs.Step.{IsTaken, joined, nothing}
+use Rattle.std.proofs.Common.{ap, ◌∙◌}
+use Rattle.sig_core.specs.Step.{joined, nothing}
 use Rattle.dih_node.specs.Orders as dih
 use Rattle.tc_views.specs.Views as coordinator
-use Rattle.node_views.specs.Parts.{tc_entered}
 use Rattle.node_views.proofs.InstallLemmas.{joined_thrice}
 use Rattle.node_views.proofs.tc_part.TcPart.install.Goals as goal
 

@@ -1,0 +1,92 @@
+//! The laws that runs are judged by.
+
+use sig_core::{NoMemory, WordFault};
+use std::alloc::{AllocError, AllocFailed};
+
+/// A law of a life, as a judge finds it broken.
+#[derive(Clone, Copy, Debug, PartialEq, Eq)]
+pub enum Law {
+    /// No step follows the one that stopped its host.
+    NoStepAfterStop,
+    /// The views of a host have greater and greater numbers.
+    ViewsGrow,
+    /// There is one view of a number.
+    OneViewANumber,
+    /// A transaction is decided once at most.
+    DecidedOnce,
+    /// A transaction is reported once at most.
+    ReportedOnce,
+    /// What is reported committed was decided, with that epoch.
+    ReportedEpoch,
+    /// What is reported committed, and wrote, was applied.
+    ReportedIsApplied,
+    /// What is reported aborted is in no history.
+    AbortedInNoHistory,
+    /// Epochs don't fall along the history.
+    EpochsGrow,
+    /// Each answer in the history is that of a replay.
+    Legal,
+    /// Once an epoch is closed, or durable, no transaction of it or an earlier one is added.
+    ClosedIsWhole,
+    /// A durable epoch was closed before.
+    DurableIsClosed,
+    /// A key at rest has the row of the history, at each node that has it.
+    RowsAgree,
+}
+
+impl Law {
+    /// The law as a line tells it.
+    pub fn name(&self) -> &'static str {
+        match self {
+            Law::NoStepAfterStop => "a step follows a stop",
+            Law::ViewsGrow => "a view has no greater number",
+            Law::OneViewANumber => "two views have one number",
+            Law::DecidedOnce => "a transaction is decided twice",
+            Law::ReportedOnce => "a transaction is reported twice",
+            Law::ReportedEpoch => "a commit was not decided so",
+            Law::ReportedIsApplied => "a commit was not applied",
+            Law::AbortedInNoHistory => "an abort is in the history",
+            Law::EpochsGrow => "an epoch falls",
+            Law::Legal => "an answer is not that of the history",
+            Law::ClosedIsWhole => "a closed epoch has one more",
+            Law::DurableIsClosed => "a durable epoch was not closed",
+            Law::RowsAgree => "a row is not that of the history",
+        }
+    }
+}
+
+/// Why a run has no verdict that it is fine.
+#[derive(Clone, Copy, Debug, PartialEq, Eq)]
+pub enum Fault {
+    Broken(Law),
+    /// A key or value that was drawn is none.
+    Word(WordFault),
+    NoMemory,
+}
+
+impl From<NoMemory> for Fault {
+    fn from(_: NoMemory) -> Fault {
+        Fault::NoMemory
+    }
+}
+
+impl From<AllocError> for Fault {
+    fn from(_: AllocError) -> Fault {
+        Fault::NoMemory
+    }
+}
+
+impl<T> From<AllocFailed<T>> for Fault
+where
+    T: Drop,
+{
+    fn from(_: AllocFailed<T>) -> Fault {
+        Fault::NoMemory
+    }
+}
+
+impl From<WordFault> for Fault {
+    fn from(fault: WordFault) -> Fault {
+        Fault::Word(fault)
+    }
+}

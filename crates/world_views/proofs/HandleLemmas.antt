@@ -1,0 +1,194 @@
+-- What becomes of a signal in the hand of a host.
+use Rattle.std.proofs.Common.{◌≡◌, inl, inr, ℕ, zero, suc, ◌<◌, ◌≤◌, List, ◌++◌, length, Bool, true, false, refl, ap, sym, ◌∙◌, subst}
+use Rattle.std.specs.Prelude.{IfSome, MatchOption, Option, get_or, None, Some, OnOk, Result, Ok, Err, is_some, slice_set}
+use Rattle.std.proofs.lemmas.Bool.{true≢false}
+use Rattle.std.proofs.lemmas.List.{get_or-set_same, get_or_read, set-set, set-get_or}
+use Rattle.frag_map.specs.Layout.{first_layout}
+use Rattle.sig_core.specs.declared.log.HostLog.{HostLog}
+use Rattle.sig_core.specs.declared.mark.Mark.{Mark}
+use Rattle.sig_core.specs.declared.no_memory.NoMemory.{NoMemory}
+use Rattle.sig_core.specs.declared.outcome.StopCause.{StopCause}
+use Rattle.sig_core.specs.declared.outcome.StopCause.TheVariants.{Clock, Memory}
+use Rattle.sig_core.specs.declared.reply.ApiReply.{ApiReply}
+use Rattle.sig_core.specs.declared.view.View.{View}
+use Rattle.sig_core.specs.Step.{Effects, IsTaken, Step, nothing, stay}
+use Rattle.node_views.specs.declared.host.Host.{Host}
+use Rattle.node_views.specs.Fresh.{fresh_shell}
+use Rattle.node_views.specs.Row.{host_row}
+use Rattle.world_core.specs.Steps.{Addressed}
+use Rattle.world_core.specs.World.{with_step}
+use Rattle.world_views.specs.Machine.{cause_in, own_stop, replies_at, step_by, step_if, stops_by, told}
+use Rattle.world_views.specs.Schedule.{HasTaken, is_discarded, taken_if}
+use Rattle.world_views.specs.World.{HasHandled, Whole, body_at, closing, closing_if, entered, halted, logged, next_stamp, sending, step_made, telling, with_body}
+
+-- a host where there is none
+abbrev nobody : Host
+nobody = fresh_shell (first_layout (record { nodes = 0; replicas = 0; fragments = 0 }))
+
+-- a host that is what it was
+pub same_body : (w : Whole) (h : ℕ) → with_body w h (body_at w.bodies h) ≡ w
+same_body w h = ap (λ (bodies : List Host). record w { bodies = bodies }) (set-get_or w.bodies h nobody)
+
+-- the world behind a step, where the hosts are these then
+abbrev pub entered_in : Whole → ℕ → Addressed → Step Host → List Host → Whole
+entered_in w lost x t bodies =
+    logged
+    (closing_if (stops_by t.effects.marks)
+    (sending (record w { bodies = bodies; replies = w.replies ++ replies_at x.to t }) x.to (step_made w x t).stamp t.effects.sends)
+    x.to (step_made w x t).stamp x.signal.view (cause_in t.effects.marks) lost) x t
+
+-- what a host was just before its step is forgotten by it
+pub entered_over : (w : Whole) (lost : ℕ) (x : Addressed) (s : Host) (t : Step Host)
+    → entered (with_body w x.to s) lost x t ≡ entered w lost x t
+entered_over w lost x s t = ap (entered_in w lost x t) (set-set w.bodies x.to s (told x.to t))
+
+-- a host handled a signal that it didn't ask itself for so as to stop
+pub row_taken : (w : Whole) (x : Addressed) (s : Host) (out : Effects) → x.to < length w.bodies
+    → IsTaken (host_row (body_at w.bodies x.to) x.signal) s nothing out → own_stop x.to x.signal ≡ None
+    → record { state = body_at (slice_set w.bodies x.to s) x.to; effects = out } ≡ step_by x.to (body_at w.bodies x.to) x.signal
+row_taken w x s out there taken plain =
+    ap (λ (b : Host). record { state = b; effects = out }) (get_or-set_same w.bodies x.to s nobody there ∙ taken.state)
+    ∙ ap (λ (e : Effects). record { state = (host_row (body_at w.bodies x.to) x.signal).state; effects = e }) taken.effects
+    ∙ sym (ap (λ (o : Option StopCause). step_if (body_at w.bodies x.to) x.signal o) plain)
+
+pub has_moved : (result : Result (Unit {0}) NoMemory) (w u : Whole) (x : Addressed) (s : Host) (out : Effects)
+    → x.to < length w.bodies → IsTaken (host_row (body_at w.bodies x.to) x.signal) s nothing out → own_stop x.to x.signal ≡ None
+    → OnOk result (u ≡ entered (with_body w x.to s) 0 x (record { state = body_at (slice_set w.bodies x.to s) x.to; effects = out }))
+    → OnOk result (HasHandled w x u)
+has_moved (Err fault) w u x s out there taken plain is = tt
+has_moved (Ok done) w u x s out there taken plain is =
+    inl (is ∙ ap (λ (t : Step Host). entered (with_body w x.to s) 0 x t) (row_taken w x s out there taken plain)
+    ∙ entered_over w 0 x s (step_by x.to (body_at w.bodies x.to) x.signal))
+
+-- its stamps are used up
+pub has_no_stamp : (result : Result (Unit {0}) NoMemory) (w u : Whole) (x : Addressed) (view : View)
+    → view ≡ (body_at w.bodies x.to).standing.view → OnOk result (1 ≤ x.to) → OnOk result (u ≡ halted w x.to view Clock 0)
+    → OnOk result (HasHandled w x u)
+has_no_stamp (Err fault) w u x view is some failed = tt
+has_no_stamp (Ok done) w u x view is some failed =
+    inr (
+      some,
+      inr (record {
+        left = body_at w.bodies x.to;
+        cut = refl;
+        is = failed ∙ ap (λ v. halted w x.to v Clock 0) is
+            ∙ ap (λ v. halted v x.to (body_at w.bodies x.to).standing.view Clock 0) (sym (same_body w x.to));
+      }),
+    )
+
+-- it had no memory, and is this now
+pub has_no_memory : (result : Result (Unit {0}) NoMemory) (w u : Whole) (x : Addressed) (s : Host) (view : View)
+    → view ≡ (body_at w.bodies x.to).standing.view → s.standing.cut ≡ (body_at w.bodies x.to).standing.cut
+    → OnOk result (1 ≤ x.to) → OnOk result (u ≡ halted (with_body w x.to s) x.to view Memory 0) → OnOk result (HasHandled w x u)
+has_no_memory (Err fault) w u x s view is cut some failed = tt
+has_no_memory (Ok done) w u x s view is cut some failed =
+    inr (
+      some,
+      inl (record {
+        left = s;
+        cut = cut;
+        is = failed ∙ ap (λ v. halted (with_body w x.to s) x.to v Memory 0) is;
+      }),
+    )
+
+-- a signal that is discarded, or handled
+pub has_discarded : (w : Whole) (x : Addressed) → is_discarded w x ≡ true → HasTaken w x w
+has_discarded w x lost = subst (λ b. taken_if b w x w) (sym lost) refl
+
+pub has_taken : (result : Result (Unit {0}) NoMemory) (w u : Whole) (x : Addressed) → is_discarded w x ≡ false
+    → OnOk result (HasHandled w x u) → OnOk result (HasTaken w x u)
+has_taken (Err fault) w u x kept handled = tt
+has_taken (Ok done) w u x kept handled = subst (λ b. taken_if b w x u) (sym kept) handled
+
+-- what a step sends is sent, and its links are closed where it stops its host
+abbrev closing_after : Bool → Whole → Addressed → Step Host → ℕ → StopCause → ℕ → Whole
+closing_after b w x t stamp cause lost =
+    closing_if b (sending (telling w x t) x.to stamp t.effects.sends) x.to stamp x.signal.view cause lost
+
+-- and it stands in the log of its host, with this stamp
+abbrev logged_as : Whole → Addressed → Step Host → ℕ → Whole
+logged_as v x t stamp =
+    record v {
+      stopped = slice_set v.stopped x.to (stops_by t.effects.marks);
+      stamps = slice_set v.stamps x.to stamp;
+      logs = with_step v.logs x.to (record { stamp = stamp; taken = x.signal; marks = t.effects.marks });
+    }
+
+logged_is : (b : Bool) (w : Whole) (x : Addressed) (t : Step Host) (stamp : ℕ) (cause : StopCause) (lost : ℕ)
+    → logged_as (closing_after b w x t stamp cause lost) x t (next_stamp w.stamps x.to x.signal.stamp)
+    ≡ logged (closing_after b w x t stamp cause lost) x t
+logged_is true w x t stamp cause lost = refl
+logged_is false w x t stamp cause lost = refl
+
+-- the links are closed for the cause that the marks tell
+closed_for : (b : Bool) (o : Option StopCause) (v u : Whole) (h stamp lost : ℕ) (view : View) (cause : StopCause) → is_some o ≡ b
+    → IfSome o (λ c. c ≡ cause) → MatchOption o (u ≡ v) (λ c. u ≡ closing v h stamp view c lost)
+    → u ≡ closing_if b v h stamp view cause lost
+closed_for true (Some c) v u h stamp lost view cause stops is closed = closed ∙ ap (λ d. closing v h stamp view d lost) is
+closed_for true None v u h stamp lost view cause stops is closed = absurd (true≢false (sym stops))
+closed_for false (Some c) v u h stamp lost view cause stops is closed = absurd (true≢false stops)
+closed_for false None v u h stamp lost view cause stops is closed = closed
+
+-- so the step is made
+pub has_entered : (w v u : Whole) (x : Addressed) (t : Step Host) (stamp lost : ℕ) (cause : Option StopCause)
+    → stamp ≡ next_stamp w.stamps x.to x.signal.stamp → is_some cause ≡ stops_by t.effects.marks
+    → IfSome cause (λ c. c ≡ cause_in t.effects.marks)
+    → MatchOption cause (v ≡ sending (telling w x t) x.to stamp t.effects.sends)
+    (λ c. v ≡ closing (sending (telling w x t) x.to stamp t.effects.sends) x.to stamp x.signal.view c lost)
+    → u ≡ logged_as v x t stamp → u ≡ entered w lost x t
+has_entered w v u x t stamp lost cause at stops is closed same =
+    same
+    ∙ ap (λ (a : Whole). logged_as a x t stamp)
+    (closed_for (stops_by t.effects.marks) cause (sending (telling w x t) x.to stamp t.effects.sends) v x.to stamp lost x.signal.view
+    (cause_in t.effects.marks) stops is closed)
+    ∙ ap (λ n. logged_as (closing_after (stops_by t.effects.marks) w x t n (cause_in t.effects.marks) lost) x t n) at
+    ∙ logged_is (stops_by t.effects.marks) w x t (next_stamp w.stamps x.to x.signal.stamp) (cause_in t.effects.marks) lost
+
+-- what is told depends on the state alone
+told_by_state : (h : ℕ) (t : Step Host) → told h (stay t.state) ≡ told h t
+told_by_state zero t = refl
+told_by_state (suc h) t = refl
+
+replies_by_state : (h : ℕ) (t : Step Host) → replies_at h (stay t.state) ≡ replies_at h t
+replies_by_state zero t = refl
+replies_by_state (suc h) t = refl
+
+-- the host is what the step leads to, and its replies are told
+pub has_told : (w : Whole) (x : Addressed) (t : Step Host) (host : Host) (replies : List ApiReply) → host ≡ told x.to (stay t.state)
+    → replies ≡ w.replies ++ replies_at x.to (stay t.state)
+    → record w { bodies = slice_set w.bodies x.to host; replies = replies } ≡ telling w x t
+has_told w x t host replies is told_all =
+    ap (λ (s : Host). record w { bodies = slice_set w.bodies x.to s; replies = replies }) (is ∙ told_by_state x.to t)
+    ∙ ap (λ rs. record w { bodies = slice_set w.bodies x.to (told x.to t); replies = rs })
+    (told_all ∙ ap (λ rs. w.replies ++ rs) (replies_by_state x.to t))
+
+-- The world where the step is logged.
+pub enters_ok : (result : Result (Unit {0}) NoMemory) (w s v : Whole) (x : Addressed) (t : Step Host) (stamp lost : ℕ)
+    (cause : Option StopCause) (b : Bool) (marks : List Mark) (logs : List HostLog)
+    → stamp ≡ next_stamp w.stamps x.to x.signal.stamp → marks ≡ t.effects.marks → is_some cause ≡ stops_by marks
+    → IfSome cause (λ c. c ≡ cause_in marks) → b ≡ is_some cause
+    → s ≡ sending (telling w x t) x.to stamp t.effects.sends
+    → MatchOption cause (v ≡ s) (λ c. v ≡ closing s x.to stamp x.signal.view c lost)
+    → OnOk result (logs ≡ with_step v.logs x.to (record { stamp = stamp; taken = x.signal; marks = marks }))
+    → OnOk result (record v { stopped = slice_set v.stopped x.to b; stamps = slice_set v.stamps x.to stamp; logs = logs }
+    ≡ entered w lost x t)
+enters_ok (Err fault) w s v x t stamp lost cause b marks logs at same stops is named sent closed added = tt
+enters_ok (Ok done) w s v x t stamp lost cause b marks logs at same stops is named sent closed added =
+    has_entered w v (record v { stopped = slice_set v.stopped x.to b; stamps = slice_set v.stamps x.to stamp; logs = logs }) x t stamp
+    lost cause at (stops ∙ ap stops_by same) (subst (λ ms. IfSome cause (λ c. c ≡ cause_in ms)) same is)
+    (subst (λ (a : Whole). MatchOption cause (v ≡ a) (λ c. v ≡ closing a x.to stamp x.signal.view c lost)) sent closed)
+    (ap (λ ls. record v { stopped = slice_set v.stopped x.to b; stamps = slice_set v.stamps x.to stamp; logs = ls }) added
+    ∙ ap (λ f. record v {
+      stopped = slice_set v.stopped x.to f;
+      stamps = slice_set v.stamps x.to stamp;
+      logs = with_step v.logs x.to (record { stamp = stamp; taken = x.signal; marks = marks });
+    }) (named ∙ stops ∙ ap stops_by same)
+    ∙ ap (λ ms. record v {
+      stopped = slice_set v.stopped x.to (stops_by t.effects.marks);
+      stamps = slice_set v.stamps x.to stamp;
+      logs = with_step v.logs x.to (record { stamp = stamp; taken = x.signal; marks = ms });
+    }) same)
+
+-- what was read of the hosts
+pub body_read : (bodies : List Host) (h : ℕ) (s : Host) → h < length bodies → s ≡ get_or bodies h s → s ≡ body_at bodies h
+body_read bodies h s there is = get_or_read bodies h s there is nobody

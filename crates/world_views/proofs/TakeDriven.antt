@@ -1,0 +1,99 @@
+-- A signal that was taken from its link drives its world, whatever became of it.
+use Rattle.std.proofs.Common.{◌≡◌, ◌⊎◌, inl, inr, ℕ, List, Bool, true, false, refl, sym, subst}
+use Rattle.std.specs.Prelude.{if◌then◌else◌, ◌==◌, ◌&&◌, None}
+use Rattle.std.proofs.lemmas.Bool.{true≢false}
+use Rattle.sig_core.specs.declared.outcome.StopCause.TheVariants.{Clock, Memory}
+use Rattle.sig_core.specs.declared.reply.ApiReply.{ApiReply}
+use Rattle.sig_core.specs.declared.signal.Body.{Body}
+use Rattle.sig_core.specs.declared.signal.Body.TheVariants.{Host}
+use Rattle.sig_core.specs.declared.signal.Signal.{Signal}
+use Rattle.sig_core.specs.declared.signal.host.HostSignal.TheVariants.{Closed}
+use Rattle.sig_core.specs.Step.{Step}
+use Rattle.node_views.specs.declared.host.Host as node
+use Rattle.world_core.specs.Hosts.{hosts}
+use Rattle.world_core.specs.Right.{arriving}
+use Rattle.world_core.specs.Start.{Start}
+use Rattle.world_core.specs.Steps.{Addressed}
+use Rattle.world_core.specs.World.{logs_at}
+use Rattle.world_views.specs.Driven.{IsDriven}
+use Rattle.world_views.specs.Links.{Arrival}
+use Rattle.world_views.specs.Machine.{after, closes, own_stop, step_by}
+use Rattle.world_views.specs.Right.{IsRight}
+use Rattle.world_views.specs.Schedule.{HasTaken, is_discarded, left_of, taken_if}
+use Rattle.world_views.specs.Sending.{is_asked, is_own_work}
+use Rattle.world_views.specs.World.{HasFailed, Whole, body_at}
+use Rattle.world_views.proofs.FailDriven.{lost_driven}
+use Rattle.world_views.proofs.Ready.{IsReady}
+use Rattle.world_views.proofs.StepDriven.{entered_driven, grown_itself}
+use Rattle.world_views.proofs.TakeFacts.{IsTakenFrom}
+use Rattle.world_views.proofs.TakeRight.{discard_right, fact, on_open, row_step, take_ready, taking_shortens}
+
+-- what closes no link isn't a host's own stop
+closes_none : (work : Body) → is_own_work work ≡ false → closes work ≡ None
+closes_none (Host (Closed cause)) e = absurd (true≢false e)
+closes_none work e = refl
+
+pub no_stop : (h : ℕ) (x : Signal) → closes x.body ≡ None → own_stop h x ≡ None
+no_stop h x e = go (x.from.0 == h)
+  where
+    go : (b : Bool) → (if b then closes x.body else None) ≡ None
+    go true = e
+    go false = refl
+
+-- nor is what it didn't ask itself for
+pub not_own : (h : ℕ) (x : Signal) → is_asked h x ≡ false → own_stop h x ≡ None
+not_own h x e = go (x.from.0 == h) e
+  where
+    go : (b : Bool) → (b && is_own_work x.body) ≡ false → (if b then closes x.body else None) ≡ None
+    go true e = closes_none x.body e
+    go false e = refl
+
+module _ (start : Start) (given : List ApiReply) (w : Whole) (right : IsRight start given w) (t : Arrival)
+    (at : IsTakenFrom (hosts start) w.links t) where
+  abbrev arrived : Addressed
+  arrived = arriving at.to at.signal
+
+  -- it was discarded
+  discard_driven : is_discarded (left_of w t) arrived ≡ true → IsDriven start w (left_of w t)
+  discard_driven lost =
+      record { right = λ others was. discard_right start others w was t at lost; grown = grown_itself start given w right }
+
+  abbrev step : Step node.Host
+  step = step_by at.to (body_at w.bodies at.to) at.signal
+
+  -- it was handled
+  handle_driven : (u : Whole) → (kept : is_discarded (left_of w t) arrived ≡ false) → taken_if false (left_of w t) arrived u
+      → IsDriven start w u
+  handle_driven u kept (inl same) =
+      subst (IsDriven start w) (sym same)
+      (entered_driven start given w w.bodies t.left 0 arrived step right ready
+      (λ shell. (fact start given w right t at kept).plain))
+    where
+      ready : (others : List ApiReply) → IsRight start others w → IsReady start others (left_of w t) arrived step
+      ready others was =
+          take_ready start others w was t at kept step
+          (row_step at.to (after start at.to (logs_at w.logs at.to)) (body_at w.bodies at.to) at.signal
+          (was.bodies at.to at.to_low (on_open start others w was t at kept).runs))
+  handle_driven u kept (inr failed) = go failed.1
+    where
+      go : HasFailed (left_of w t) at.to Memory u ⊎ HasFailed (left_of w t) at.to Clock u → IsDriven start w u
+      go (inl memory) =
+          lost_driven start given w right at.to at.to_low (on_open start given w right t at kept).runs failed.0 Memory tt t.left
+          at.from u at.from_low (taking_shortens start given w right t at) memory
+      go (inr clock) =
+          lost_driven start given w right at.to at.to_low (on_open start given w right t at kept).runs failed.0 Clock tt t.left
+          at.from u at.from_low (taking_shortens start given w right t at) clock
+
+  pub taken_driven : (u : Whole) → HasTaken (left_of w t) t.taken u → IsDriven start w u
+  taken_driven u taken =
+      go (is_discarded (left_of w t) arrived) refl (subst (λ (x : Addressed). HasTaken (left_of w t) x u) at.is taken)
+    where
+      go : (b : Bool) → is_discarded (left_of w t) arrived ≡ b → taken_if b (left_of w t) arrived u → IsDriven start w u
+      go true lost same = subst (IsDriven start w) (sym same) (discard_driven lost)
+      go false kept handled = handle_driven u kept handled
+
+  -- a signal that a link gave is no stop that its host asked itself for
+  pub taken_is_given : is_discarded (left_of w t) t.taken ≡ false → own_stop t.taken.to t.taken.signal ≡ None
+  taken_is_given =
+      subst (λ (x : Addressed). is_discarded (left_of w t) x ≡ false → own_stop x.to x.signal ≡ None) (sym at.is)
+      (λ kept. not_own at.to at.signal (fact start given w right t at kept).plain)

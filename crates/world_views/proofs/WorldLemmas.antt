@@ -1,0 +1,244 @@
+-- What the calls of a world come to.
+use Rattle.std.proofs.Common.{◌≡◌, inl, inr, ℕ, ◌<◌, List, ◌++◌, Bool, true, false, refl, ap, sym, ◌∙◌, subst, append_assoc, arith}
+use Rattle.std.specs.Prelude.{None, Some, not, OnErr, OnOk, Result, Ok, Err, slice_index_or}
+use Rattle.std.proofs.lemmas.Bool.{true≢false}
+use Rattle.run_theory.proofs.Pasts.{past_trans}
+use Rattle.sig_core.specs.declared.log.HostLog.{HostLog}
+use Rattle.sig_core.specs.declared.no_memory.NoMemory.{NoMemory}
+use Rattle.sig_core.specs.declared.reply.ApiReply.{ApiReply}
+use Rattle.sig_core.specs.declared.request.ApiReq.{ApiReq}
+use Rattle.sig_core.specs.declared.view.View.{View}
+use Rattle.node_views.specs.declared.host.Host.{Host}
+use Rattle.world_core.specs.Hosts.{hosts}
+use Rattle.world_core.specs.Labels.{AreLabelled}
+use Rattle.world_core.specs.Right.{arriving}
+use Rattle.world_core.specs.Start.{Start}
+use Rattle.world_core.specs.Steps.{Addressed, HostStep}
+use Rattle.world_core.specs.World.{logs_at}
+use Rattle.world_views.specs.Driven.{HasAsked, HaveGrown, IsDriven, IsSound, IsStepped, IsWorld}
+use Rattle.world_views.specs.Links.{Arrival, take_first}
+use Rattle.world_views.specs.Machine.{has_stopped, own_signal, own_stop, request_body}
+use Rattle.world_views.specs.Right.{IsRight}
+use Rattle.world_views.specs.Schedule.{HasTaken, is_discarded, left_of}
+use Rattle.world_views.specs.World.{HasHandled, IsIdle, IsOf, IsThere, Whole, asked, asking, body_at, has_stopped_in, moved, new_world}
+use Rattle.world_views.proofs.AskDriven as ask
+use Rattle.world_views.proofs.FreshWorld.{fresh_sound}
+use Rattle.world_views.proofs.StepDriven.{grown_itself}
+use Rattle.world_views.proofs.TakeDriven.{taken_driven, taken_is_given}
+use Rattle.world_views.proofs.TakeFacts.{IsTakenFrom, none_taken, taken_first}
+
+-- a host below the number of hosts is there
+pub there_in : (n : ℕ) (w : Whole) (h : ℕ) → IsOf n w → h < n → IsThere w h
+there_in n w h sizes low =
+    record {
+      bodies = omega (arith, low, sizes.bodies);
+      stopped = omega (arith, low, sizes.stopped);
+      stamps = omega (arith, low, sizes.stamps);
+      logs = omega (arith, low, sizes.logs);
+    }
+
+-- the first host is there
+pub first_there : (w : Whole) → IsWorld w → IsThere w 0
+first_there w is = there_in (hosts is.start) w 0 is.sound.right.sizes (omega arith)
+
+-- so is the one that a link's signal is for
+pub there_for : (w : Whole) (t : Arrival) (start : Start) → IsSound start w → IsTakenFrom (hosts start) w.links t
+    → IsThere (left_of w t) t.taken.to
+there_for w t start sound at =
+    let there = there_in (hosts start) w at.to sound.right.sizes at.to_low in
+    subst (λ (x : Addressed). IsThere (left_of w t) x.to) (sym at.is)
+    (record { bodies = there.bodies; stopped = there.stopped; stamps = there.stamps; logs = there.logs })
+
+first_from : (w : Whole) (t : Arrival) (start : Start) → IsSound start w → take_first w.links ≡ Some t
+    → IsTakenFrom (hosts start) w.links t
+first_from w t start sound e = taken_first (hosts start) w.links t sound.right.sizes.links e
+
+pub can_take : (w : Whole) (t : Arrival) → IsWorld w → take_first w.links ≡ Some t → IsThere (left_of w t) t.taken.to
+can_take w t is e = there_for w t is.start is.sound (first_from w t is.start is.sound e)
+
+pub first_given : (w : Whole) (t : Arrival) → IsWorld w → take_first w.links ≡ Some t
+    → is_discarded (left_of w t) t.taken ≡ false → own_stop t.taken.to t.taken.signal ≡ None
+first_given w t is e =
+    taken_is_given is.start is.sound.given w is.sound.right t (first_from w t is.start is.sound e)
+
+-- a host that runs has not stopped by its log
+pub runs_there : (start : Start) (w : Whole) (h : ℕ) → IsSound start w → h < hosts start → has_stopped_in w h ≡ false
+    → has_stopped (logs_at w.logs h) ≡ false
+runs_there start w h sound low e = sym (sound.right.stopped h low) ∙ e
+
+-- a host that was found to run has not stopped
+pub not_stopped : (b runs : Bool) → runs ≡ not b → runs ≡ true → b ≡ false
+not_stopped true runs is e = absurd (true≢false (sym e ∙ is))
+not_stopped false runs is e = refl
+
+-- what the shell asks for
+pub wishes : (w : Whole) (view : View) (request : ApiReq) (s : Host) → view ≡ s.standing.view → s ≡ body_at w.bodies 0
+    → arriving 0 (own_signal w.made 0 (slice_index_or w.stamps 0 0) view (request_body request)) ≡ asking w 0 (request_body request)
+wishes w view request s seen is =
+    ap (λ v. arriving 0 (own_signal w.made 0 (slice_index_or w.stamps 0 0) v (request_body request)))
+    (seen ∙ ap (λ (b : Host). b.standing.view) is)
+
+-- the shell's host doesn't fail
+shell_handles : (w t : Whole) (x : Addressed) → x.to ≡ 0 → HasHandled w x t → t ≡ moved w 0 x
+shell_handles w t x shell (inl is) = is
+shell_handles w t x shell (inr failed) = absurd (omega (arith, failed.0, shell))
+
+has_asked : (start : Start) (w t : Whole) (request : ApiReq) → has_stopped_in w 0 ≡ false → IsSound start w → t ≡ asked w request
+    → HasAsked start request w t
+has_asked start w t request runs sound same =
+    subst (HasAsked start request w) (sym same)
+    (ask.has_asked start sound.given w sound.right request (runs_there start w 0 sound (omega arith) runs))
+
+-- where the call succeeded
+pub asked_ok : (result : Result (Unit {0}) NoMemory) (w t : Whole) (x : Addressed) (request : ApiReq)
+    → has_stopped_in w 0 ≡ false → x ≡ asking w 0 (request_body request) → OnOk result (HasHandled w x t)
+    → (start : Start) → IsSound start w → OnOk result (HasAsked start request w t)
+asked_ok (Ok done) w t x request runs is handled start sound =
+    has_asked start w t request runs sound
+    (shell_handles w t x (ap (λ (y : Addressed). y.to) is) handled ∙ ap (moved w 0) is)
+asked_ok (Err fault) w t x request runs is handled start sound = tt
+
+pub has_stepped : (w u : Whole) (t : Arrival) → take_first w.links ≡ Some t → HasTaken (left_of w t) t.taken u → (start : Start)
+    → IsSound start w → IsStepped start w u true
+has_stepped w u t e taken start sound =
+    taken_driven start sound.given w sound.right t (first_from w t start sound e) u taken
+
+pub has_stayed : (w t : Whole) → take_first w.links ≡ None → t ≡ w → (start : Start) → IsSound start w
+    → IsStepped start w t false
+has_stayed w t e same start sound = (same, none_taken w.links e)
+
+pub grown_further : (start : Start) (a b c : ℕ → List HostStep) → HaveGrown start a b → HaveGrown start b c → HaveGrown start a c
+grown_further start a b c first second =
+    record {
+      more = λ h. past_trans (first.more h) (second.more h);
+      right = second.right;
+      within = second.within;
+      requests = second.requests ∙ first.requests;
+      asked = λ was. second.asked (first.asked was);
+    }
+
+pub driven_further : (start : Start) (a b c : Whole) → IsDriven start a b → IsDriven start b c → IsDriven start a c
+driven_further start a b c first second =
+    record {
+      right = λ given was. second.right given (first.right given was);
+      grown = grown_further start (logs_at a.logs) (logs_at b.logs) (logs_at c.logs) first.grown second.grown;
+    }
+
+pub stays_sound : (start : Start) (a b : Whole) → IsDriven start a b → IsSound start a → IsSound start b
+stays_sound start a b driven sound = record { given = sound.given; right = driven.right sound.given sound.right }
+
+-- What a loop of steps keeps: the world is sound, and was driven here, from whichever start it is right.
+pub record IsUnderWay (w t : Whole) : Type 0 where
+  pub is : IsWorld t
+  pub driven : (start : Start) → IsSound start w → IsDriven start w t
+
+pub under_way : (w : Whole) → IsWorld w → IsUnderWay w w
+under_way w is =
+    record {
+      is = is;
+      driven = λ start sound. record { right = λ given was. was; grown = grown_itself start sound.given w sound.right };
+    }
+
+-- its logs say whose they are
+pub sound_labels : (start : Start) (w : Whole) → IsSound start w → AreLabelled start w.logs
+sound_labels start w sound = record { one_each = sound.right.sizes.logs; labels = sound.right.labels }
+
+-- and still do where a step was left off
+pub labels_kept : (result : Result (Unit {0}) NoMemory) (w a : Whole) (logs : List HostLog) → IsUnderWay w a
+    → logs ≡ a.logs → (start : Start) → IsSound start w → OnErr result (AreLabelled start logs)
+labels_kept (Ok done) w a logs way same start sound = tt
+labels_kept (Err fault) w a logs way same start sound =
+    subst (AreLabelled start) (sym same) (sound_labels start a (stays_sound start w a (way.driven start sound) sound))
+
+pub logs_kept : (result : Result (Unit {0}) NoMemory) (w a : Whole) (logs : List HostLog) → IsUnderWay w a
+    → logs ≡ a.logs → (start : Start) → IsSound start w → OnErr result (HaveGrown start (logs_at w.logs) (logs_at logs))
+logs_kept (Ok done) w a logs way same start sound = tt
+logs_kept (Err fault) w a logs way same start sound =
+    subst (λ (ls : List HostLog). HaveGrown start (logs_at w.logs) (logs_at ls)) (sym same) (way.driven start sound).grown
+
+-- one step further
+pub goes_on : (w a b : Whole) (went : Bool) → went ≡ true → IsUnderWay w a
+    → ((start : Start) → IsSound start a → IsStepped start a b went) → IsUnderWay w b
+goes_on w a b true is way stepped =
+    record {
+      is = record { start = way.is.start; sound = stays_sound way.is.start a b (stepped way.is.start way.is.sound) way.is.sound };
+      driven = λ start sound.
+          let here = way.driven start sound in
+          driven_further start w a b here (stepped start (stays_sound start w a here sound));
+    }
+goes_on w a b false is way stepped = absurd (true≢false (sym is))
+
+-- no step was left
+pub has_ended : (w a b : Whole) (went : Bool) → went ≡ false → IsUnderWay w a
+    → ((start : Start) → IsSound start a → IsStepped start a b went) → (start : Start) → IsSound start w → IsDriven start w b
+has_ended w a b true is way stepped start sound = absurd (true≢false is)
+has_ended w a b false is way stepped start sound =
+    let here = way.driven start sound in
+    let stayed = stepped start (stays_sound start w a here sound) in
+    subst (IsDriven start w) (sym stayed.0) here
+
+pub is_quiet : (w a b : Whole) (went : Bool) → went ≡ false → IsUnderWay w a
+    → ((start : Start) → IsSound start a → IsStepped start a b went) → IsIdle b
+is_quiet w a b true is way stepped = absurd (true≢false is)
+is_quiet w a b false is way stepped =
+    let stayed = stepped way.is.start way.is.sound in
+    subst IsIdle (sym stayed.0) stayed.1
+
+-- a world as it begins
+pub begun_world : (w : Whole) (start : Start) → w ≡ new_world start → IsWorld w
+begun_world w start same = record { start = start; sound = subst (IsSound start) (sym same) (fresh_sound start) }
+
+-- a world that was asked for something
+pub asked_sound : (start : Start) (request : ApiReq) (w t : Whole) → HasAsked start request w t → IsSound start w → IsSound start t
+asked_sound start request w t asked sound = record { given = sound.given; right = asked.right sound.given sound.right }
+
+pub asked_world : (request : ApiReq) (w t : Whole) → ((start : Start) → IsSound start w → HasAsked start request w t) → IsWorld w
+    → IsWorld t
+asked_world request w t asked is =
+    record { start = is.start; sound = asked_sound is.start request w t (asked is.start is.sound) is.sound }
+
+-- one that was driven
+pub driven_world : (w t : Whole) → ((start : Start) → IsSound start w → IsDriven start w t) → IsWorld w → IsWorld t
+driven_world w t driven is =
+    record { start = is.start; sound = stays_sound is.start w t (driven is.start is.sound) is.sound }
+
+pub driven_ok : (result : Result (Unit {0}) NoMemory) (w t : Whole)
+    → ((start : Start) → IsSound start w → OnOk result (IsDriven start w t)) → IsWorld w → OnOk result (IsWorld t)
+driven_ok (Ok done) w t driven is = driven_world w t driven is
+driven_ok (Err fault) w t driven is = tt
+
+-- The shell was given a reply, or there was none.
+told_right : (start : Start) (given : List ApiReply) (w t : Whole) (reply : List ApiReply)
+    → w ≡ record t { replies = reply ++ t.replies } → IsRight start given w → IsRight start (given ++ reply) t
+told_right start given w t reply same right =
+    let was : IsRight start given (record t { replies = reply ++ t.replies }) = subst (IsRight start given) same right in
+    record {
+      shape = was.shape;
+      made = was.made;
+      sizes = record {
+        bodies = was.sizes.bodies;
+        stopped = was.sizes.stopped;
+        links = was.sizes.links;
+        stamps = was.sizes.stamps;
+        logs = was.sizes.logs;
+      };
+      local = was.local;
+      stamps = was.stamps;
+      labels = was.labels;
+      stopped = was.stopped;
+      bodies = was.bodies;
+      counts = was.counts;
+      linked = was.linked;
+      no_others = was.no_others;
+      replies = was.replies ∙ sym (append_assoc given reply t.replies);
+    }
+
+pub told_world : (w t : Whole) (reply : List ApiReply) → w ≡ record t { replies = reply ++ t.replies } → IsWorld w → IsWorld t
+told_world w t reply same is =
+    record {
+      start = is.start;
+      sound = record {
+        given = is.sound.given ++ reply;
+        right = told_right is.start is.sound.given w t reply same is.sound.right;
+      };
+    }

@@ -1,0 +1,26 @@
+use Rattle.std.proofs.Common.{ap}
+use Rattle.world_views.specs.Links.{arrival}
+use Rattle.world_views.specs.WorldOf.{whole_of}
+use Rattle.world_views.proofs.DropRight.{with_links}
+use Rattle.world_views.proofs.WorldLemmas.{can_take, first_given, has_stayed, has_stepped}
+use Rattle.world_views.proofs.world.World.step.Goals as goal
+
+pub returns-in_default-clause-ok : goal.returns-in_default-clause-ok
+returns-in_default-clause-ok c =
+    has_stayed (whole_of c.args.self.now) _ c.in_default.ensures.none
+    (ap (with_links (whole_of c.args.self.now)) c.in_default.ensures.kept)
+
+pub take-requires-2-clause-there : goal.take-requires-2-clause-there
+take-requires-2-clause-there c =
+    can_take (whole_of c.args.self.now) (arrival c.in-Some.arrived.host c.in-Some.arrived.signal c.take.new.self) c.requires
+    c.in-Some.ensures.taken
+
+pub take-requires-2-clause-given : goal.take-requires-2-clause-given
+take-requires-2-clause-given c =
+    first_given (whole_of c.args.self.now) (arrival c.in-Some.arrived.host c.in-Some.arrived.signal c.take.new.self) c.requires
+    c.in-Some.ensures.taken
+
+pub returns-clause-ok : goal.returns-clause-ok
+returns-clause-ok c =
+    has_stepped (whole_of c.args.self.now) (whole_of c.take-2.new.self)
+    (arrival c.in-Some.arrived.host c.in-Some.arrived.signal c.take.new.self) c.in-Some.ensures.taken c.in_ok-take.ensures.ok

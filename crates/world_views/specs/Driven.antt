@@ -1,0 +1,55 @@
+-- What driving a world does.
+use Rattle.std.specs.Prelude.{◌≡◌, ℕ, Bool, true, false, List, ◌++◌, ◌∷◌, []}
+use Rattle.run_theory.specs.Lists.{IsPast}
+use Rattle.run_theory.specs.Runs.{AreLogs, IsWithin}
+use Rattle.sig_core.specs.declared.reply.ApiReply.{ApiReply}
+use Rattle.sig_core.specs.declared.request.ApiReq.{ApiReq}
+use Rattle.world_core.specs.Hosts.{hosts}
+use Rattle.world_core.specs.Start.{Start}
+use Rattle.world_core.specs.Steps.{HostStep}
+use Rattle.world_core.specs.World.{logs_at}
+use Rattle.world_views.specs.Machine.{machine}
+use Rattle.world_views.specs.Requests.{AreAskedAtQuiet, requests}
+use Rattle.world_views.specs.Right.{IsRight}
+use Rattle.world_views.specs.World.{IsIdle, Whole}
+
+-- a world that is right, whatever replies the shell has had
+pub record IsSound (start : Start) (w : Whole) : Type 0 where
+  pub given : List ApiReply
+  pub right : IsRight start given w
+
+-- a world that is right from some start
+pub record IsWorld (w : Whole) : Type 0 where
+  pub start : Start
+  pub sound : IsSound start w
+
+-- Logs that have grown by steps that no request made.
+pub record HaveGrown (start : Start) (old new : ℕ → List HostStep) : Type 0 where
+  pub more : (h : ℕ) → IsPast (old h) (new h)
+  pub right : AreLogs (machine start) new
+  pub within : IsWithin (hosts start) new
+  pub requests : requests (new 0) ≡ requests (old 0)
+  pub asked : AreAskedAtQuiet start old → AreAskedAtQuiet start new
+
+-- The world went on by steps that no request made.
+pub record IsDriven (start : Start) (w t : Whole) : Type 0 where
+  pub right : (given : List ApiReply) → IsRight start given w → IsRight start given t
+  pub grown : HaveGrown start (logs_at w.logs) (logs_at t.logs)
+
+-- The shell asked for something, in a step of host 0.
+pub record HasAsked (start : Start) (request : ApiReq) (w t : Whole) : Type 0 where
+  pub asking : HostStep
+  pub next : logs_at t.logs 0 ≡ asking ∷ logs_at w.logs 0
+  pub asks : (machine start).asked asking ≡ true
+  pub right : (given : List ApiReply) → IsRight start given w → IsRight start given t
+  pub more : (h : ℕ) → IsPast (logs_at w.logs h) (logs_at t.logs h)
+  pub logs : AreLogs (machine start) (logs_at t.logs)
+  pub within : IsWithin (hosts start) (logs_at t.logs)
+  pub requests : requests (logs_at t.logs 0) ≡ requests (logs_at w.logs 0) ++ request ∷ []
+  -- if nothing was under way, it was asked at quiet
+  pub asked : IsIdle w → AreAskedAtQuiet start (logs_at w.logs) → AreAskedAtQuiet start (logs_at t.logs)
+
+-- a step was taken, or nothing was under way and nothing has changed
+abbrev pub IsStepped : Start → Whole → Whole → Bool → Type 0
+IsStepped start w t true = IsDriven start w t
+IsStepped start w t false = (t ≡ w) × IsIdle w

@@ -1,0 +1,61 @@
+-- Hosts: which one runs what, as each sender knows it. Host 0 is the shell's; behind it each member has three, one for each
+-- part, in the order in which members are made.
+use Rattle.std.specs.Prelude.{ℕ, zero, suc, ◌-◌, ◌%◌, ◌==◌, if◌then◌else◌, List, [], ◌∷◌, Option, None, Some}
+use Rattle.sig_core.specs.declared.member.Member.{Member}
+use Rattle.sig_core.specs.declared.place.BlockId.{BlockId}
+use Rattle.sig_core.specs.declared.place.BlockId.TheVariants as block
+use Rattle.sig_core.specs.declared.place.Part.{Part}
+use Rattle.sig_core.specs.declared.place.Part.TheVariants.{Main, Tc, Ldm}
+use Rattle.sig_core.specs.declared.place.Place.{Place}
+use Rattle.sig_core.specs.declared.view.View.{View}
+use Rattle.sig_core.specs.Part.{part_of}
+use Rattle.sig_core.specs.Place.{client}
+use Rattle.sig_core.specs.Rows.{no_rows}
+use Rattle.frag_map.specs.Layout.{first_layout}
+use Rattle.node_core.specs.Fresh.{own_rows, with_rows}
+use Rattle.node_views.specs.declared.host.Host as node
+use Rattle.node_views.specs.Fresh.{fresh_ldm, fresh_main, fresh_shell, fresh_tc}
+use Rattle.world_core.specs.Hosts.{host_by, member_at, member_of, part_by}
+use Rattle.world_core.specs.Start.{Start, made}
+
+-- the last of these members that is the node's, or else the one before them
+abbrev pub last_of : Option Member → List Member → ℕ → Option Member
+last_of before [] node = before
+last_of before (member ∷ made) node = last_of (if member.node == node then Some member else before) made node
+
+-- the latest start of a node
+abbrev pub latest : List Member → ℕ → Option Member
+latest made node = last_of None made node
+
+-- the member that a host sends to for a node: the shell to the latest start, whether or not it has seen a view with it; a
+-- part of a node to the one in its view
+abbrev pub known : List Member → ℕ → View → ℕ → Option Member
+known made zero view node = latest made node
+known made (suc h) view node = member_of view node
+
+-- where host h, in this view, sends what is for a place; to nobody where it knows no member there
+unfoldable pub reached : List Member → ℕ → View → Place → ℕ
+reached made h view to = if to.node == 0 then 0 else host_by made (part_of to.block) (known made h view to.node)
+
+-- the block of a part that its host's own signals, and closings, are for
+abbrev pub front_in : Part → BlockId
+front_in Main = block.Qmgr
+front_in Tc = block.Tc
+front_in Ldm = block.Lqh
+
+abbrev pub front_of : List Member → ℕ → Place
+front_of made zero = client
+front_of made (suc h) = record { node = (member_at made (suc h)).node; block = front_in (part_by (h % 3)) }
+
+-- a part of a member as it begins; the life starts from the epoch before its first one
+abbrev pub part_started : Start → Part → Member → node.Host
+part_started start Main member = fresh_main member (first_layout start.shape) start.epoch
+part_started start Tc member = fresh_tc member (first_layout start.shape) start.epoch (start.epoch - 1)
+part_started start Ldm member =
+    fresh_ldm member (first_layout start.shape)
+    (with_rows no_rows (own_rows start.shape member.node start.rows) (start.epoch - 1)) (start.epoch - 1)
+
+-- a host as it begins
+unfoldable pub started : Start → ℕ → node.Host
+started start zero = fresh_shell (first_layout start.shape)
+started start (suc h) = part_started start (part_by (h % 3)) (member_at (made start) (suc h))

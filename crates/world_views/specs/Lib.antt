@@ -1,0 +1,11 @@
+pub mod Driven
+pub mod Hosts
+pub mod Links
+pub mod Machine
+pub mod Quiet
+pub mod Requests
+pub mod Right
+pub mod Schedule
+pub mod Sending
+pub mod World
+pub mod WorldOf

@@ -1,0 +1,78 @@
+//! How a host closes its links.
+ghost use Rattle.std.specs.Prelude.{◌≡◌, ◌*◌, ◌+◌, OnOk, IfOk, IfSome, is_some, length};
+ghost use Rattle.sig_core.specs.declared.signal.Body.TheVariants as bodies;
+ghost use Rattle.sig_core.specs.declared.signal.host.HostSignal.TheVariants.{Closed};
+ghost use Rattle.world_views.specs.Hosts.{front_of};
+ghost use Rattle.world_views.specs.Links.{close_below};
+ghost use Rattle.world_views.specs.Machine.{cause_in, stops_by};
+ghost use Rattle.world_views.specs.Sending.{headed};
+ghost use Rattle.world_views.specs.World.{is_unclosed};
+
+use crate::hosts::Made;
+use crate::network::Network;
+use crate::sender::Sender;
+use node_views::Host;
+use sig_core::{Body, Boxed, HostId, HostSignal, Mark, NoMemory, Signal, StopCause};
+use std::alloc::Global;
+
+/// Why a step stops its host, where it does.
+pub fn stop_of(marks: &[Mark]) -> Option<StopCause>
+    ensures stops { is_some result ≡ stops_by marks.now }
+    ensures cause { IfSome result (λ cause. cause ≡ cause_in marks.now) }
+{
+    for mark in marks {
+        if let Mark::Stopped { cause } = mark {
+            return Some(*cause);
+        }
+    }
+    None
+}
+
+/// Closes the links of a host that has stopped for this cause, but for those to itself and to hosts
+/// that it has cut off.
+///
+/// # Errors
+/// `NoMemory`, and then the network is of no use.
+pub fn close_all(
+    alloc: Global,
+    network: &mut Network,
+    made: &Made,
+    host: &Host,
+    by: &Sender,
+    cause: StopCause,
+) -> Result<(), NoMemory>
+    ensures { OnOk result (network.new ≡ close_below (length made.now * 3 + 1) network.old by.now.host (is_unclosed by.now.host host.now.standing) (λ j. headed by.now 0 (record { to = front_of made.now j; body = bodies.Host (Closed cause) }))) }
+{
+    for to in 0..made.hosts() {
+        if to != by.host && !host.is_cut(HostId(to)) {
+            let body = Body::Host(HostSignal::Closed { cause });
+            network.close(by.host, to, first_signal(alloc, made, by, to, body)?)?;
+        }
+    }
+    Ok(())
+}
+
+/// A signal to the block of a host that its own signals, and closings, are for, with no number.
+///
+/// # Errors
+/// `NoMemory`.
+pub fn first_signal(
+    alloc: Global,
+    made: &Made,
+    by: &Sender,
+    to: u32,
+    body: Body,
+) -> Result<Boxed<Signal>, NoMemory>
+    ensures { IfOk result (λ signal. signal ≡ headed by.now 0 (record { to = front_of made.now to; body = body })) }
+{
+    let signal = Signal {
+        from: HostId(by.host),
+        member: by.member,
+        to: made.front_of(to),
+        seq: 0,
+        stamp: by.stamp,
+        view: by.view.share()?,
+        body,
+    };
+    Boxed::new(alloc, signal)
+}

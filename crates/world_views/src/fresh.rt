@@ -1,0 +1,105 @@
+//! Hosts as they begin.
+ghost use Rattle.std.specs.Prelude.{◌≡◌, ◌<◌, ◌+◌, ◌-◌, ◌*◌, ◌%◌, ◌^◌, ◌∷◌, [], IfOk, OnOk};
+ghost use Rattle.frag_map.specs.Layout.{first_layout};
+ghost use Rattle.frag_map.specs.Shape.{IsShape};
+ghost use Rattle.sig_core.specs.Rows.{no_rows};
+ghost use Rattle.node_core.specs.Fresh.{own_rows, with_rows};
+ghost use Rattle.world_core.specs.Hosts.{member_at, part_by};
+ghost use Rattle.world_core.specs.Start.{made};
+ghost use Rattle.world_core.specs.World.{for_each};
+ghost use Rattle.world_views.specs.Hosts.{part_started, started};
+
+use crate::hosts::{Made, PARTS, part_by};
+use frag_map::{Layout, holds};
+use lqh_block::MapRows;
+use node_views::Host;
+use sig_core::{Key, Member, NoMemory, Part, Rows, Shape, Value};
+use std::alloc::Global;
+
+/// The hosts as a life of a cluster of this shape begins in this epoch, with these rows, whose keys
+/// are distinct: the shell's, and three of each member, of which those are there.
+///
+/// # Errors
+/// `NoMemory`.
+pub fn fresh_bodies(
+    alloc: Global,
+    shape: Shape,
+    there: &Made,
+    epoch: u64,
+    rows: &[(Key, Value)],
+) -> Result<Vec<Host>, NoMemory>
+    requires shape { IsShape shape }
+    requires there { there.now ≡ made (record { shape = shape; epoch = epoch; rows = rows.now }) }
+    ensures { IfOk result (λ bodies. bodies.items ≡ for_each (shape.nodes * 3 + 1) (started (record { shape = shape; epoch = epoch; rows = rows.now }))) }
+{
+    let behind = u32::from(shape.nodes) * PARTS;
+    let layout = Layout::first(shape);
+    let mut bodies = Vec::with_capacity(alloc, behind as usize + 1)?;
+    bodies.push_reserved(Host::shell(alloc, &layout)?);
+    for before in 0..behind {
+        let member = there.member_at(before + 1);
+        let part = part_by(before % PARTS);
+        bodies.push_reserved(part_started(alloc, part, member, &layout, epoch, rows)?);
+    }
+    Ok(bodies)
+}
+
+// A part of a member as it begins. The life starts from the epoch before its first one.
+fn part_started(
+    alloc: Global,
+    part: Part,
+    member: Member,
+    layout: &Layout,
+    epoch: u64,
+    rows: &[(Key, Value)],
+) -> Result<Host, NoMemory>
+    requires shape { IsShape layout.now.shape }
+    requires first { layout.now ≡ first_layout layout.now.shape }
+    ensures { IfOk result (λ host. host ≡ part_started (record { shape = layout.now.shape; epoch = epoch; rows = rows.now }) part member) }
+{
+    let start = epoch.saturating_sub(1);
+    match part {
+        Part::Main => Host::main(alloc, member, layout, epoch),
+        Part::Tc => Host::tc(alloc, member, layout, epoch, start),
+        Part::Ldm => {
+            let own = stored(alloc, &layout.shape(), member.node, start, rows)?;
+            Host::ldm(alloc, member, layout, own, start)
+        }
+    }
+}
+
+// Of these rows those that a node's group has, put one after the other, all of this epoch.
+fn stored(
+    alloc: Global,
+    shape: &Shape,
+    node: u8,
+    epoch: u64,
+    rows: &[(Key, Value)],
+) -> Result<MapRows, NoMemory>
+    requires { IsShape shape.now }
+    ensures rows { IfOk result (λ stored. stored.rows ≡ with_rows no_rows (own_rows shape.now node rows.now) epoch) }
+    ensures none { IfOk result (λ stored. stored.rows.pending ≡ []) }
+{
+    let mut stored = MapRows::new(alloc);
+    for row in rows {
+        put(&mut stored, shape, node, epoch, row)?;
+    }
+    Ok(stored)
+}
+
+// Puts a row of this epoch, if the node's group has it.
+fn put(
+    stored: &mut MapRows,
+    shape: &Shape,
+    node: u8,
+    epoch: u64,
+    row: &(Key, Value),
+) -> Result<(), NoMemory>
+    requires { IsShape shape.now }
+    ensures { OnOk result (stored.new.rows ≡ with_rows stored.old.rows (own_rows shape.now node (row.now ∷ [])) epoch) }
+{
+    if holds(node, &row.0, shape) {
+        stored.put_row(&row.0, &row.1, epoch)?;
+    }
+    Ok(())
+}

@@ -1,0 +1,20 @@
+//! The machine of a cluster that may fail, and the world that one thread drives.
+#![tactic(auto)]
+
+mod closing;
+mod fresh;
+mod hosts;
+mod inbox;
+mod logs;
+mod network;
+mod route;
+mod schedule;
+mod sender;
+mod telling;
+mod world;
+
+pub use schedule::{Pick, ScheduleFault};
+pub use world::World;
+
+#[cfg(test)]
+mod tests;

@@ -1,0 +1,68 @@
+//! The logs of all hosts.
+ghost use Rattle.std.specs.Prelude.{◌≡◌, ◌<◌, length, IfOk, OnOk, OnErr};
+ghost use Rattle.world_core.specs.World.{for_each, no_steps, with_step};
+
+use sig_core::{HostId, HostLog, LogStep, NoMemory, Seq};
+use std::alloc::Global;
+use std::marker::Model;
+
+/// The log of each host, in the order of hosts.
+#[derive(Drop)]
+pub struct Logs {
+    hosts: Vec<HostLog>,
+}
+
+impl Model for Logs {
+    ghost use Rattle.std.specs.Prelude.{List};
+    ghost use Rattle.sig_core.specs.declared.log.HostLog.{HostLog};
+
+    ghost Value = { List HostLog };
+
+    ghost view = { λ l. l.hosts.items };
+}
+
+impl Logs {
+    /// Logs of so many hosts, without steps.
+    ///
+    /// # Errors
+    /// `NoMemory`.
+    pub fn new(alloc: Global, hosts: u32) -> Result<Logs, NoMemory>
+        ensures { IfOk result (λ logs. logs ≡ for_each hosts no_steps) }
+    {
+        let mut logs = Vec::with_capacity(alloc, hosts as usize)?;
+        for host in 0..hosts {
+            logs.push_reserved(no_steps(alloc, host));
+        }
+        Ok(Logs { hosts: logs })
+    }
+
+    /// Adds a step behind the others of its host.
+    ///
+    /// # Errors
+    /// `NoMemory`, and then the logs are as they were.
+    pub fn add(&mut self, host: u32, step: LogStep) -> Result<(), NoMemory>
+        requires { host < length self.old }
+        ensures ok { OnOk result (self.new ≡ with_step self.old host step) }
+        ensures err { OnErr result (self.new ≡ self.old) }
+    {
+        self.hosts[host as usize].steps.push(step)
+    }
+
+    /// The logs as a list inside another value. Takes no memory.
+    pub fn into_seq(self) -> Seq<HostLog>
+        ensures { result ≡ self }
+    {
+        Seq::from_vec(self.hosts)
+    }
+}
+
+/// The log of a host that has made no step.
+fn no_steps(alloc: Global, host: u32) -> HostLog
+    ensures { result ≡ no_steps host }
+{
+    HostLog {
+        host: HostId(host),
+        made: 0,
+        steps: Seq::new(alloc),
+    }
+}

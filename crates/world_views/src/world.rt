@@ -1,0 +1,422 @@
+//! The world: all hosts of a cluster that may fail, driven by one thread.
+ghost use Rattle.std.specs.Prelude.{◌≡◌, ◌≤◌, ◌||◌, ◌++◌, [], IfOk, MatchOption, None, OnErr, OnOk, false, slice_index_or};
+ghost use Rattle.frag_map.specs.Shape.{IsShape};
+ghost use Rattle.node_views.specs.Row.{is_cut};
+ghost use Rattle.world_views.specs.Machine.{own_stop};
+ghost use Rattle.world_views.specs.World.{body_at};
+
+use crate::closing::{close_all, first_signal, stop_of};
+use crate::fresh::fresh_bodies;
+use crate::hosts::Made;
+use crate::logs::Logs;
+use crate::network::Network;
+use crate::route::dispatch;
+use crate::sender::Sender;
+use crate::telling::tell;
+use node_views::Host;
+use sig_core::{
+    ApiReply, ApiReq, Body, Boxed, Held, HostId, HostSignal, Key, Life, LogStep, Mark, NoMemory,
+    Outs, Seq, Shape, Signal, StopCause, Value, View, Work,
+};
+use std::alloc::Global;
+use std::collections::VecDeque;
+use std::sync::Wait;
+
+/// A step whose stamp would be this, or more, stops its host.
+const STAMPS_END: u64 = 1 << 48;
+
+/// All hosts, the links between them, and the log of each.
+#[derive(Drop)]
+pub struct World {
+    pub(crate) shape: Shape,
+    pub(crate) made: Made,
+    /// Host 0, the shell's, and behind it three of each member, in their order.
+    pub(crate) bodies: Vec<Host>,
+    /// Which hosts have stopped.
+    pub(crate) stopped: Vec<bool>,
+    pub(crate) network: Network,
+    outs: Outs,
+    /// The stamp of each host's last step.
+    stamps: Vec<u64>,
+    logs: Logs,
+    /// The replies that the shell hasn't had.
+    replies: VecDeque<ApiReply>,
+}
+
+impl World {
+    ghost use Rattle.std.specs.Prelude.{option_to_list};
+    ghost use Rattle.world_core.specs.Labels.{AreLabelled};
+    ghost use Rattle.world_core.specs.Lives.{fresh_life};
+    ghost use Rattle.world_core.specs.Start.{Start};
+    ghost use Rattle.world_core.specs.World.{logs_at};
+    ghost use Rattle.world_views.specs.Driven.{HasAsked, HaveGrown, IsDriven, IsSound, IsStepped, IsWorld};
+    ghost use Rattle.world_views.specs.Machine.{own_signal, sender};
+    ghost use Rattle.world_views.specs.Schedule.{HasTaken, is_discarded};
+    ghost use Rattle.world_views.specs.World.{HasHandled, IsIdle, IsThere, closing, cutting, entered, halted, has_stopped_in, is_left_open, new_world, next_stamp, sending, stopped};
+    ghost use Rattle.world_views.specs.WorldOf.{whole_of};
+
+    /// A world in which nothing has happened: a cluster of this shape begins a life in this epoch,
+    /// with these rows, whose keys are distinct.
+    ///
+    /// # Errors
+    /// `NoMemory`.
+    pub fn new(
+        alloc: Global,
+        shape: Shape,
+        epoch: u64,
+        rows: &[(Key, Value)],
+    ) -> Result<World, NoMemory>
+        requires { IsShape shape }
+        ensures { IfOk result (λ w. whole_of w ≡ new_world (record { shape = shape; epoch = epoch; rows = rows.now })) }
+    {
+        let made = Made::first(alloc, shape.nodes)?;
+        let hosts = made.hosts();
+        let bodies = fresh_bodies(alloc, shape, &made, epoch, rows)?;
+        let network = Network::new(alloc, hosts)?;
+        let outs = Outs::new(alloc)?;
+        let stamps = Vec::from_elem(alloc, 0, hosts as usize)?;
+        let stopped = Vec::from_elem(alloc, false, hosts as usize)?;
+        let logs = Logs::new(alloc, hosts)?;
+        Ok(World {
+            shape,
+            made,
+            bodies,
+            stopped,
+            network,
+            outs,
+            stamps,
+            logs,
+            replies: VecDeque::new(alloc),
+        })
+    }
+
+    /// Asks the shell's host for something, in a step of it.
+    ///
+    /// # Errors
+    /// `NoMemory`, also where the shell's host has stopped, and then nothing is asked, and the world is of
+    /// use for its logs alone.
+    pub fn ask(&mut self, alloc: Global, request: ApiReq) -> Result<(), NoMemory>
+        requires { IsWorld (whole_of self.old) }
+        ensures ok { (start : Start) → IsSound start (whole_of self.old) → OnOk result (HasAsked start request (whole_of self.old) (whole_of self.new)) }
+        ensures err { OnErr result (self.new.logs ≡ self.old.logs) }
+    {
+        if !self.runs(HostId(0)) {
+            return Err(NoMemory);
+        }
+        let body = Body::Host(HostSignal::Continue {
+            work: Work::Request(request),
+            at: 0,
+        });
+        let view = self.bodies[0].standing.view.share()?;
+        let signal = self.own_signal(alloc, 0, view, body)?;
+        self.handle(alloc, 0, signal)
+    }
+
+    /// Takes steps until nothing is under way. It isn't claimed that this ends.
+    ///
+    /// # Errors
+    /// `NoMemory`, and then the world is of use for its logs alone.
+    pub fn drive<W: Wait>(&mut self, rt: &W, alloc: Global) -> Result<(), NoMemory>
+        requires { IsWorld (whole_of self.old) }
+        ensures driven { (start : Start) → IsSound start (whole_of self.old) → OnOk result (IsDriven start (whole_of self.old) (whole_of self.new)) }
+        ensures quiet { OnOk result (IsIdle (whole_of self.new)) }
+        ensures err { (start : Start) → IsSound start (whole_of self.old) → OnErr result (HaveGrown start (logs_at self.old.logs) (logs_at self.new.logs)) }
+        ensures labels { (start : Start) → IsSound start (whole_of self.old) → OnErr result (AreLabelled start self.new.logs) }
+    {
+        for _ in rt.forever() {
+            if !self.step(alloc)? {
+                return Ok(());
+            }
+        }
+        unreachable!()
+    }
+
+    // Takes the first signal of the first link that has one. Says whether there was one.
+    fn step(&mut self, alloc: Global) -> Result<bool, NoMemory>
+        requires { IsWorld (whole_of self.old) }
+        ensures ok { (start : Start) → IsSound start (whole_of self.old) → IfOk result (λ went. IsStepped start (whole_of self.old) (whole_of self.new) went) }
+        ensures err { OnErr result (self.new.logs ≡ self.old.logs) }
+    {
+        let Some(arrived) = self.network.take() else {
+            return Ok(false);
+        };
+        self.take(alloc, arrived.host, arrived.signal)?;
+        Ok(true)
+    }
+
+    // A signal that was taken from its link is discarded where its host has stopped or has cut off its
+    // sender, and else handled.
+    pub(crate) fn take(
+        &mut self,
+        alloc: Global,
+        host: u32,
+        signal: Boxed<Signal>,
+    ) -> Result<(), NoMemory>
+        requires there { IsThere (whole_of self.old) host }
+        requires given { is_discarded (whole_of self.old) (record { to = host; signal = signal }) ≡ false → own_stop host signal ≡ None }
+        ensures ok { OnOk result (HasTaken (whole_of self.old) (record { to = host; signal = signal }) (whole_of self.new)) }
+        ensures err { OnErr result (self.new.logs ≡ self.old.logs) }
+    {
+        if self.is_discarded(host, signal.get().from) {
+            return Ok(());
+        }
+        self.handle(alloc, host, signal)
+    }
+
+    // Whether a host has stopped, or has cut off the sender of a signal.
+    fn is_discarded(&self, host: u32, from: HostId) -> bool
+        requires { IsThere (whole_of self.now) host }
+        ensures { result ≡ (has_stopped_in (whole_of self.now) host || is_cut (body_at self.now.bodies.items host).standing from) }
+    {
+        self.stopped[host as usize] || self.bodies[host as usize].is_cut(from)
+    }
+
+    /// The next reply for the shell, in order, each once.
+    pub fn next_reply(&mut self) -> Option<ApiReply>
+        ensures some { whole_of self.old ≡ record (whole_of self.new) { replies = option_to_list result ++ self.new.replies.items } }
+        ensures none { result ≡ None → self.old.replies.items ≡ [] }
+    {
+        self.replies.pop_front()
+    }
+
+    /// Whether the last command left something of its own unanswered.
+    pub fn is_left_open(&self) -> bool
+        requires { IsWorld (whole_of self.now) }
+        ensures { result ≡ is_left_open (whole_of self.now) }
+    {
+        self.bodies[0].is_left_open()
+    }
+
+    /// What the hosts did, as the first life of a fresh world. Takes no memory.
+    pub fn end_life(self, alloc: Global) -> Life
+        ensures { result ≡ fresh_life self.logs }
+    {
+        Life {
+            start_epoch: 0,
+            start_rows: Seq::new(alloc),
+            logs: self.logs.into_seq(),
+        }
+    }
+
+    // Has a host handle a signal, as its next step. One that has no memory for it, or no stamp, stops.
+    fn handle(&mut self, alloc: Global, host: u32, signal: Boxed<Signal>) -> Result<(), NoMemory>
+        requires there { IsThere (whole_of self.old) host }
+        requires given { own_stop host signal ≡ None }
+        ensures ok { OnOk result (HasHandled (whole_of self.old) (record { to = host; signal = signal }) (whole_of self.new)) }
+        ensures err { OnErr result (self.new.logs ≡ self.old.logs) }
+    {
+        let at = host as usize;
+        let before = self.stamps[at].max(signal.get().stamp);
+        let view = self.bodies[at].standing.view.share()?;
+        if before >= STAMPS_END - 1 {
+            return self.fail(alloc, host, view, StopCause::Clock);
+        }
+        self.outs.clear();
+        match self.bodies[at].step(alloc, signal.get(), &mut self.outs) {
+            Ok(()) => self.enter(alloc, host, before + 1, signal, 0),
+            Err(_) => self.fail(alloc, host, view, StopCause::Memory),
+        }
+    }
+
+    // A host that can't make its step stops, and then its closings have this view. The shell's doesn't.
+    fn fail(
+        &mut self,
+        alloc: Global,
+        host: u32,
+        view: Held<View>,
+        cause: StopCause,
+    ) -> Result<(), NoMemory>
+        requires { IsThere (whole_of self.old) host }
+        ensures some { OnOk result (1 ≤ host) }
+        ensures ok { OnOk result (whole_of self.new ≡ halted (whole_of self.old) host view cause 0) }
+        ensures err { OnErr result (self.new.logs ≡ self.old.logs) }
+    {
+        if host == 0 {
+            return Err(NoMemory);
+        }
+        self.halt(alloc, host, view, cause, 0)
+    }
+
+    /// A host stops in a step of its own, by which the youngest so many signals of each of its links
+    /// are lost.
+    ///
+    /// # Errors
+    /// `NoMemory`, and then the world is of use for its logs alone.
+    pub(crate) fn stop(
+        &mut self,
+        alloc: Global,
+        host: u32,
+        cause: StopCause,
+        lost: u32,
+    ) -> Result<(), NoMemory>
+        requires { IsThere (whole_of self.old) host }
+        ensures ok { OnOk result (whole_of self.new ≡ stopped (whole_of self.old) host cause lost) }
+        ensures err { OnErr result (self.new.logs ≡ self.old.logs) }
+    {
+        let view = self.bodies[host as usize].standing.view.share()?;
+        self.halt(alloc, host, view, cause, lost)
+    }
+
+    // The same, where its closings have this view.
+    fn halt(
+        &mut self,
+        alloc: Global,
+        host: u32,
+        view: Held<View>,
+        cause: StopCause,
+        lost: u32,
+    ) -> Result<(), NoMemory>
+        requires { IsThere (whole_of self.old) host }
+        ensures ok { OnOk result (whole_of self.new ≡ halted (whole_of self.old) host view cause lost) }
+        ensures err { OnErr result (self.new.logs ≡ self.old.logs) }
+    {
+        let Some(stamp) = self.stamps[host as usize].checked_add(1) else {
+            return Err(NoMemory);
+        };
+        let body = Body::Host(HostSignal::Closed { cause });
+        let signal = self.own_signal(alloc, host, view, body)?;
+        self.outs.clear();
+        self.outs.mark(Mark::Stopped { cause });
+        self.enter(alloc, host, stamp, signal, lost)
+    }
+
+    /// A host cuts off the hosts of a node's latest start, in a step of its own.
+    ///
+    /// # Errors
+    /// `NoMemory`, and then the world is of use for its logs alone.
+    pub(crate) fn cut(&mut self, alloc: Global, host: u32, node: u8) -> Result<(), NoMemory>
+        requires { IsThere (whole_of self.old) host }
+        ensures ok { OnOk result (HasHandled (whole_of self.old) (cutting (whole_of self.old) host node) (whole_of self.new)) }
+        ensures err { OnErr result (self.new.logs ≡ self.old.logs) }
+    {
+        let first = HostId(self.made.first_of(node));
+        let view = self.bodies[host as usize].standing.view.share()?;
+        let body = Body::Host(HostSignal::Cut { node, first });
+        let signal = self.own_signal(alloc, host, view, body)?;
+        self.handle(alloc, host, signal)
+    }
+
+    // A signal of a host in this view to itself, after its last step.
+    fn own_signal(
+        &self,
+        alloc: Global,
+        host: u32,
+        view: Held<View>,
+        body: Body,
+    ) -> Result<Boxed<Signal>, NoMemory>
+        requires { IsThere (whole_of self.now) host }
+        ensures { IfOk result (λ signal. signal ≡ own_signal self.now.made host (slice_index_or self.now.stamps.items host 0) view body) }
+    {
+        let by = self.sender(host, self.stamps[host as usize], view);
+        first_signal(alloc, &self.made, &by, host, body)
+    }
+
+    fn sender(&self, host: u32, stamp: u64, view: Held<View>) -> Sender
+        ensures { result ≡ sender self.now.made host stamp view }
+    {
+        Sender {
+            host,
+            member: self.made.member_at(host),
+            stamp,
+            view,
+        }
+    }
+
+    // The step of a host is made: what it sends goes on its way, its replies are told, and it stands in
+    // the log. One that stops the host closes its links, of which it loses so many signals first.
+    fn enter(
+        &mut self,
+        alloc: Global,
+        host: u32,
+        stamp: u64,
+        taken: Boxed<Signal>,
+        lost: u32,
+    ) -> Result<(), NoMemory>
+        requires there { IsThere (whole_of self.old) host }
+        requires stamp { stamp ≡ next_stamp self.old.stamps.items host taken.stamp }
+        ensures ok { OnOk result (whole_of self.new ≡ entered (whole_of self.old) lost (record { to = host; signal = taken }) (record { state = body_at self.old.bodies.items host; effects = self.old.outs })) }
+        ensures err { OnErr result (self.new.logs ≡ self.old.logs) }
+    {
+        let at = host as usize;
+        tell(host, &mut self.bodies[at], &mut self.replies)?;
+        let marks = self.outs.take_marks(alloc)?;
+        let cause = stop_of(marks.as_slice());
+        self.send(alloc, host, stamp)?;
+        self.close_for(alloc, host, stamp, &taken, cause, lost)?;
+        self.stopped[at] = cause.is_some();
+        self.stamps[at] = stamp;
+        self.logs.add(
+            host,
+            LogStep {
+                stamp,
+                taken,
+                marks,
+            },
+        )
+    }
+
+    // What a step of a host sends goes on its way.
+    fn send(&mut self, alloc: Global, host: u32, stamp: u64) -> Result<(), NoMemory>
+        requires { IsThere (whole_of self.old) host }
+        ensures ok { OnOk result (whole_of self.new ≡ sending (whole_of self.old) host stamp self.old.outs.sends) }
+        ensures err { OnErr result (self.new.logs ≡ self.old.logs) }
+    {
+        let at = host as usize;
+        let view = self.bodies[at].standing.view.share()?;
+        let by = self.sender(host, stamp, view);
+        dispatch(
+            alloc,
+            &mut self.network,
+            &self.made,
+            &self.bodies[at],
+            &by,
+            &mut self.outs,
+        )
+    }
+
+    // A host whose step took this signal closes its links, if it has stopped by it.
+    fn close_for(
+        &mut self,
+        alloc: Global,
+        host: u32,
+        stamp: u64,
+        taken: &Boxed<Signal>,
+        cause: Option<StopCause>,
+        lost: u32,
+    ) -> Result<(), NoMemory>
+        requires { IsThere (whole_of self.old) host }
+        ensures ok { OnOk result (MatchOption cause (whole_of self.new ≡ whole_of self.old) (λ cause. whole_of self.new ≡ closing (whole_of self.old) host stamp taken.now.view cause lost)) }
+        ensures err { OnErr result (self.new.logs ≡ self.old.logs) }
+    {
+        match cause {
+            Some(cause) => self.close(alloc, host, stamp, taken, cause, lost),
+            None => Ok(()),
+        }
+    }
+
+    // A host that has stopped by a step that took this signal closes its links.
+    fn close(
+        &mut self,
+        alloc: Global,
+        host: u32,
+        stamp: u64,
+        taken: &Boxed<Signal>,
+        cause: StopCause,
+        lost: u32,
+    ) -> Result<(), NoMemory>
+        requires { IsThere (whole_of self.old) host }
+        ensures ok { OnOk result (whole_of self.new ≡ closing (whole_of self.old) host stamp taken.now.view cause lost) }
+        ensures err { OnErr result (self.new.logs ≡ self.old.logs) }
+    {
+        self.network.lose(host, lost);
+        let by = self.sender(host, stamp, taken.get().view.share()?);
+        close_all(
+            alloc,
+            &mut self.network,
+            &self.made,
+            &self.bodies[host as usize],
+            &by,
+            cause,
+        )
+    }
+}
