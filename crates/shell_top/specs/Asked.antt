@@ -1,17 +1,17 @@
 -- What the shell asks for: command after command, and about each that leaves something of its own unanswered.
 use Rattle.std.specs.Prelude.{◌≡◌, ◌⊎◌, ℕ, zero, suc, ◌+◌, ◌-◌, Bool, true, false, List, [], ◌∷◌, ◌++◌, reverse, take}
 use Rattle.std.specs.Prelude.{slice_get, Option, None, Some}
-use Rattle.node_core.specs.Replies.{is_left_open}
-use Rattle.node_core.specs.Requests.{is_request}
+use Rattle.node_views.specs.Replies.{is_left_open}
 use Rattle.run_theory.specs.Lists.{IsPast}
 use Rattle.script_lang.specs.declared.command.Command.{Command}
 use Rattle.script_lang.specs.declared.command.Command.TheVariants as command
 use Rattle.world_core.specs.Steps.{HostStep}
 use Rattle.sig_core.specs.declared.request.ApiReq.{ApiReq}
 use Rattle.sig_core.specs.declared.request.ApiReq.TheVariants as request
-use Rattle.world_core.specs.Machine.{after}
-use Rattle.world_core.specs.Requests.{requests}
 use Rattle.world_core.specs.Start.{Start}
+use Rattle.world_views.specs.Machine.{after}
+use Rattle.world_views.specs.Requests.{requests}
+use Rattle.world_views.specs.Sending.{is_asked}
 
 -- n rounds more behind the first one, of so many
 abbrev pub rounds_behind : ℕ → ℕ → List ApiReq
@@ -24,6 +24,11 @@ requests_of (command.Begin name at) = request.Begin name at ∷ []
 requests_of (command.Operate name op) = request.Operate name op ∷ []
 requests_of (command.Commit name) = request.Commit name ∷ []
 requests_of (command.Abort name) = request.Abort name ∷ []
+requests_of (command.Kill at) = request.Kill at ∷ []
+requests_of (command.Cut one other) = request.Cut one other ∷ []
+requests_of command.Micro = request.Micro ∷ []
+requests_of command.Gcp = request.Gcp ∷ []
+requests_of command.View = request.View ∷ []
 requests_of (command.Tick rounds) = request.Tick 1 rounds ∷ rounds_behind rounds (rounds - 1)
 requests_of (command.Rows at) = request.Rows at ∷ []
 requests_of (command.Digest at) = request.Digest at ∷ []
@@ -35,7 +40,12 @@ is_served (command.Begin name at) = true
 is_served (command.Operate name op) = true
 is_served (command.Commit name) = true
 is_served (command.Abort name) = true
+is_served (command.Kill at) = true
+is_served (command.Cut one other) = true
 is_served (command.Tick rounds) = true
+is_served command.Micro = true
+is_served command.Gcp = true
+is_served command.View = true
 is_served (command.Rows at) = true
 is_served (command.Digest at) = true
 is_served _ = false
@@ -49,7 +59,7 @@ pub record IsAskedNext (served log : List HostStep) : Type 0 where
   pub newer : List HostStep
   pub asking : HostStep
   pub is : log ≡ newer ++ asking ∷ served
-  pub asks : is_request asking.step.taken.body ≡ true
+  pub asks : is_asked asking.host asking.step.taken ≡ true
 
 -- The log went on from `served`, where a command's own requests were served, to its end: at once where nothing of its own
 -- was unanswered, and else the shell asked what it waits for, and then for its replies.
@@ -107,11 +117,3 @@ pub record AreAskedInPart (start : Start) (commands : List Command) (log : List 
   pub asked : AreAsked start (reverse (take count commands)) before
   pub past : IsPast before log
   pub begun : AsksInPart start (slice_get commands count) before log
-
--- the name of the transaction that a command is about, if it has one
-abbrev pub name_in : Command → Option ℕ
-name_in (command.Begin name at) = Some name
-name_in (command.Operate name op) = name
-name_in (command.Commit name) = Some name
-name_in (command.Abort name) = Some name
-name_in _ = None

@@ -14,14 +14,15 @@ use Rattle.shell_top.specs.declared.ended.Ending.{Ending}
 use Rattle.shell_top.specs.declared.ended.Ending.TheVariants.{WriteFault, NoMemory}
 use Rattle.shell_top.specs.Printed.{AppendsPart}
 use Rattle.shell_top.specs.Told.{text_of}
-use Rattle.world_core.specs.Driven.{IsSound}
 use Rattle.world_core.specs.Hosts.{hosts}
 use Rattle.world_core.specs.Labels.{AreLabelled}
-use Rattle.world_core.specs.Machine.{machine}
-use Rattle.world_core.specs.Requests.{AreAskedAtQuiet, requests}
-use Rattle.world_core.specs.Right.{IsRight}
 use Rattle.world_core.specs.Start.{Start}
-use Rattle.world_core.specs.World.{IsIdle, Whole, logs_at, replies_of}
+use Rattle.world_core.specs.World.{logs_at}
+use Rattle.world_views.specs.Driven.{IsSound}
+use Rattle.world_views.specs.Machine.{machine}
+use Rattle.world_views.specs.Requests.{AreAskedAtQuiet, requests}
+use Rattle.world_views.specs.Right.{IsRight}
+use Rattle.world_views.specs.World.{IsIdle, Whole}
 
 -- the first of these requests is the next step of host 0
 abbrev pub AsksFirst : List ApiReq → List HostStep → List HostStep → Type 0
@@ -61,7 +62,7 @@ pub record IsServed (start : Start) (commands : List Command) (w : Whole) : Type
   pub quiet : IsIdle w
   pub asked : AreAsked start (reverse commands) (logs_at w.logs 0)
   pub at_quiet : AreAskedAtQuiet start (logs_at w.logs)
-  pub none_left : replies_of w ≡ []
+  pub none_left : w.replies ≡ []
 
 -- Memory was wanting while a command was served, after these commands: what the logs are then. The questions were asked
 -- only where it left something of its own unanswered. The text of the logs goes on from the text before.

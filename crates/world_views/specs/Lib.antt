@@ -1,11 +1,15 @@
+pub mod At
 pub mod Driven
 pub mod Hosts
 pub mod Links
+pub mod Lives
 pub mod Machine
 pub mod Quiet
 pub mod Requests
 pub mod Right
 pub mod Schedule
 pub mod Sending
+pub mod SerialLaw
+pub mod Strict
 pub mod World
 pub mod WorldOf

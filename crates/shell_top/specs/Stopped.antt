@@ -1,0 +1,30 @@
+-- Hosts that stopped for want of memory.
+use Rattle.std.specs.Prelude.{◌-◌, Bool, true, false, List, [], length, slice_get, Option, None, Some}
+use Rattle.std.specs.List.{list_any}
+use Rattle.sig_core.specs.declared.log.HostLog.{HostLog}
+use Rattle.sig_core.specs.declared.log.Life.{Life}
+use Rattle.sig_core.specs.declared.log.LogStep.{LogStep}
+use Rattle.sig_core.specs.declared.mark.Mark.{Mark}
+use Rattle.sig_core.specs.declared.mark.Mark.TheVariants.{Stopped}
+use Rattle.sig_core.specs.declared.outcome.StopCause.{StopCause}
+use Rattle.sig_core.specs.declared.outcome.StopCause.TheVariants.{Memory}
+
+abbrev pub wants : StopCause → Bool
+wants Memory = true
+wants _ = false
+
+abbrev pub is_want : Mark → Bool
+is_want (Stopped cause) = wants cause
+is_want _ = false
+
+abbrev pub is_last_want : Option LogStep → Bool
+is_last_want None = false
+is_last_want (Some step) = list_any is_want step.marks
+
+-- the last step of a log stopped its host for want of memory
+abbrev pub ends_by_want : HostLog → Bool
+ends_by_want log = is_last_want (slice_get log.steps (length log.steps - 1))
+
+-- a host of the life did so
+abbrev pub has_wanted : Life → Bool
+has_wanted life = list_any ends_by_want life.logs
