@@ -1,4 +1,5 @@
 //! What the marks of a life tell.
+use crate::client::Client;
 use crate::law::{Fault, Law};
 use indexmap::IndexMap;
 use sig_core::{
@@ -46,6 +47,8 @@ pub struct Facts {
     pub durable: Vec<Moment>,
     /// The hosts that stopped.
     pub stopped: Vec<u32>,
+    /// What the client asked for and was told, and when.
+    pub client: Client,
 }
 
 /// What the logs of a life tell.
@@ -63,6 +66,7 @@ pub fn facts_of(alloc: Global, life: &Life) -> Result<Facts, Fault> {
         closed: Vec::new(alloc),
         durable: Vec::new(alloc),
         stopped: Vec::new(alloc),
+        client: Client::new(alloc),
     };
     for log in life.logs.as_slice() {
         facts.add_log(alloc, log)?;
@@ -80,6 +84,9 @@ impl Facts {
                 return Err(Fault::Broken(Law::NoStepAfterStop));
             }
             self.add_asked(alloc, step)?;
+            if host == 0 {
+                self.client.add(alloc, step)?;
+            }
             for mark in step.marks.as_slice() {
                 match mark {
                     Mark::Installed { view: installed } => {

@@ -1,6 +1,7 @@
 //! The history of a life, and the laws of it.
 use crate::facts::{Facts, Moment};
 use crate::law::{Fault, Law};
+use crate::order::judge_order;
 use serial_model::{ReplayFault, replay};
 use sig_core::{Answer, Entry, HostId, NoMemory, Op, Outcome, Seq, Table, TxId};
 use std::alloc::Global;
@@ -35,6 +36,7 @@ pub fn judge_history(alloc: Global, facts: &Facts) -> Result<Table, Fault> {
     }
     orders.sort()?;
     let entries = entries_of(alloc, facts, orders.as_slice())?;
+    judge_order(&facts.client, entries.as_slice())?;
     judge_epochs(entries.as_slice())?;
     judge_closings(facts, entries.as_slice())?;
     match replay(alloc, &[], entries.as_slice()) {

@@ -32,6 +32,12 @@ pub enum Law {
     DurableIsClosed,
     /// A key at rest has the row of the history, at each node that has it.
     RowsAgree,
+    /// What was reported before another transaction was asked for stands before it in the history.
+    StrictOrder,
+    /// The views that a node promises have greater and greater numbers.
+    PromisesGrow,
+    /// Where nothing failed, each request is answered in the end.
+    NothingOwed,
 }
 
 impl Law {
@@ -51,6 +57,9 @@ impl Law {
             Law::ClosedIsWhole => "a closed epoch has one more",
             Law::DurableIsClosed => "a durable epoch was not closed",
             Law::RowsAgree => "a row is not that of the history",
+            Law::StrictOrder => "a report comes before a request that it stands behind",
+            Law::PromisesGrow => "a promise has no greater number",
+            Law::NothingOwed => "a request is not answered",
         }
     }
 }

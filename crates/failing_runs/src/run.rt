@@ -9,6 +9,8 @@ use crate::dice::Dice;
 use crate::facts::facts_of;
 use crate::history::judge_history;
 use crate::law::Fault;
+use crate::owed::judge_owed;
+use crate::promises::judge_promises;
 use crate::requests::{all_keys, request_of};
 use crate::rows::{NodeRows, judge_rows};
 use sig_core::{ApiReq, NoMemory, Shape};
@@ -36,6 +38,8 @@ pub fn run_one<W: Wait>(rt: &W, alloc: Global, seed: u64, fails: u64) -> Result<
     let rows = all_rows(rt, alloc, &mut world, &shape)?;
     let life = world.end_life(alloc);
     let facts = facts_of(alloc, &life)?;
+    judge_promises(&life)?;
+    judge_owed(alloc, &life, &facts)?;
     let table = judge_history(alloc, &facts)?;
     let keys = all_keys(alloc)?;
     judge_rows(&facts, &shape, &table, rows.as_slice(), keys.as_slice())
