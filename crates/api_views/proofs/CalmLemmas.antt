@@ -4,6 +4,7 @@ use Rattle.std.specs.Prelude.{◌==◌, ◌||◌, is_some, Option, None, Some, s
 use Rattle.sig_core.specs.declared.member.Member.{Member}
 use Rattle.sig_core.specs.declared.member.TxId.{TxId}
 use Rattle.sig_core.specs.declared.op.Op.{Op}
+use Rattle.sig_core.specs.declared.reply.ApiReply.TheVariants as reply
 use Rattle.sig_core.specs.declared.reply.Refusal.TheVariants.{NoMember}
 use Rattle.sig_core.specs.declared.request.ApiReq.{ApiReq}
 use Rattle.sig_core.specs.declared.request.ApiReq.TheVariants as request
@@ -24,12 +25,12 @@ use Rattle.api_block.specs.Operate as api_operate
 use Rattle.api_block.specs.State.{ApiState, about, refused}
 use Rattle.api_block.specs.Wait.{pending_if, pending_row}
 use Rattle.api_views.specs.Client.{asked_row, client_row, client_table, command_row, is_known}
-use Rattle.api_views.specs.Commands.{begin_if, begin_row, lone_by, lone_row, lowest, lowest_from, rows_row, serves}
-use Rattle.api_views.specs.Laws.{IsCalmSignal, calm_state, is_calm_body, is_served}
+use Rattle.api_views.specs.Commands.{begin_if, begin_row, lone_by, lone_row, lowest, lowest_from, rows_row, serves, show_row}
+use Rattle.api_views.specs.Laws.{IsCalmSignal, calm_state, is_calm_body, is_served, is_vouched}
 use Rattle.api_views.specs.Members.{noted}
 use Rattle.api_views.specs.Pending.{client_pending_row, obstacle, own_waits, waits_by}
-use Rattle.api_views.specs.Rounds.{tick_row, ticked, ticked_if, with_rounds}
-use Rattle.api_views.specs.State.{ClientState, within}
+use Rattle.api_views.specs.Rounds.{round_effects, tick_row, ticked, ticked_if}
+use Rattle.api_views.specs.State.{ClientState, telling, within}
 use Rattle.api_views.specs.Stops.{has_stopped, is_down}
 
 -- the least node of those that haven't stopped is that of all
@@ -150,15 +151,16 @@ module _ (a : ApiState) (nodes : ℕ) (over : Option View) where
   up_calm request.Pending served up = pending_calm
   up_calm _ served up = cc
 
-  -- a signal of a member of the greatest view
-  pub body_calm : (x : Signal) (body : Body) → x.body ≡ body → is_calm_body body ≡ true → is_down s ≡ false → is_known s x ≡ true
+  -- a signal that is vouched for where it has to be
+  pub body_calm : (x : Signal) (body : Body) → x.body ≡ body → is_calm_body body ≡ true → is_down s ≡ false
+      → (is_vouched body ≡ true → is_known s x ≡ true)
       → client_table s x body ≡ within s (api_table a body)
   body_calm x (Host (Continue (Request r) at)) is calm up known = up_calm r calm up
-  body_calm x (Client (TcBeginConf name tx)) is calm up known = rw (known, is) refl
+  body_calm x (Client (TcBeginConf name tx)) is calm up known = rw (known refl, is) refl
   body_calm x (Client (TcBeginRef name)) is calm up known = rw (is) refl
   body_calm x (Client (TcKeyConf tx answer)) is calm up known = rw (is) refl
-  body_calm x (Client (TcCommitConf tx epoch)) is calm up known = rw (known, is) refl
-  body_calm x (Client (TcRollbackRep tx cause)) is calm up known = rw (known, is) refl
+  body_calm x (Client (TcCommitConf tx epoch)) is calm up known = rw (known refl, is) refl
+  body_calm x (Client (TcRollbackRep tx cause)) is calm up known = rw (known refl, is) refl
   body_calm x (Client (TcWaitConf tx ahead)) is calm up known = rw (is) refl
   body_calm x (Client (DumpConf rows next)) is calm up known = rw (is) refl
   body_calm x _ is calm up known = cc
@@ -176,11 +178,26 @@ module _ (a : ApiState) (nodes : ℕ) (over : Option View) where
       by true = refl
       by false = refl
 
-  pub asked_tick : (round of : ℕ) → is_down s ≡ false → asked_row s (request.Tick round of) ≡ with_rounds (ticked s round of) 0
+  -- what a round of time comes to, from the state behind it
+  abbrev pub ticked_to : ClientState → Step ClientState
+  ticked_to now = record { state = now; effects = round_effects now }
+
+  pub asked_tick : (round of : ℕ) → is_down s ≡ false → asked_row s (request.Tick round of) ≡ ticked_to (ticked s round of)
   unfolding asked_row command_row tick_row
   asked_tick round of up = rw (up) refl
 
   pub calm_tick : (x : Signal) (at round of : ℕ) → IsCalmSignal s x → x.body ≡ Host (Continue (Request (request.Tick round of)) at)
-      → client_row s x ≡ with_rounds (calm_state (api_row a x).state nodes over) 0
+      → client_row s x ≡ ticked_to (calm_state (api_row a x).state nodes over)
   unfolding noted
   calm_tick x at round of signal is = rw (signal.view, is, asked_tick round of signal.up, ticked_calm round of) refl
+
+  -- the view
+  pub asked_view : is_down s ≡ false
+      → asked_row s request.View ≡ stay (telling (calm_state (request_row a request.View).state nodes over) (reply.View a.view))
+  unfolding asked_row command_row show_row request_row
+  asked_view up = rw (up) refl
+
+  pub calm_shows : (x : Signal) (at : ℕ) → IsCalmSignal s x → x.body ≡ Host (Continue (Request request.View) at)
+      → client_row s x ≡ stay (telling (calm_state (api_row a x).state nodes over) (reply.View a.view))
+  unfolding noted
+  calm_shows x at signal is = rw (signal.view, is, asked_view signal.up) refl

@@ -1,7 +1,7 @@
 -- Each end that is told takes its transaction out.
 use Rattle.std.proofs.Common.{◌≡◌, ℕ, List, Bool, true, false, refl, subst, sym, ap}
 use Rattle.std.proofs.lemmas.List.{append-nil}
-use Rattle.std.specs.Prelude.{◌==◌, ◌&&◌, ◌||◌, Option, None, Some, if◌then◌else◌, is_some, nat_lt, not, remove, slice_get}
+use Rattle.std.specs.Prelude.{◌==◌, ◌&&◌, ◌||◌, Option, None, Some, if◌then◌else◌, is_some, not, remove, slice_get}
 use Rattle.run_theory.proofs.Focus.{IsFocus}
 use Rattle.sig_core.specs.declared.member.TxId.{TxId}
 use Rattle.sig_core.specs.declared.op.Op.{Op}
@@ -17,7 +17,7 @@ use Rattle.sig_core.specs.declared.signal.Signal.{Signal}
 use Rattle.sig_core.specs.declared.signal.client.ClientSignal.TheVariants.{TcBeginConf, TcCommitConf, TcRollbackRep, TcKeyFailConf, TcKeyFailRef, NfCompleteRep, ViewRep}
 use Rattle.sig_core.specs.declared.signal.epoch.EpochSignal.TheVariants.{GcpRep, MicroRep}
 use Rattle.sig_core.specs.declared.signal.host.HostSignal.TheVariants.{Closed, Continue}
-use Rattle.sig_core.specs.declared.signal.host.Work.TheVariants.{Members, Request, Report}
+use Rattle.sig_core.specs.declared.signal.host.Work.TheVariants.{Request, Report}
 use Rattle.sig_core.specs.declared.view.View.{View}
 use Rattle.sig_core.specs.Step.{Step, stay}
 use Rattle.sig_core.proofs.TxLemmas.{same_tx-is}
@@ -32,7 +32,6 @@ use Rattle.api_views.specs.declared.closings.Closing.{Closing}
 use Rattle.api_views.specs.declared.closings.Closing.TheVariants.{Gcp, Micro}
 use Rattle.api_views.specs.declared.reports.Verdict.{Verdict}
 use Rattle.api_views.specs.declared.reports.Verdict.TheVariants.{NeverBegins, Ends}
-use Rattle.api_views.specs.declared.rounds.TheConstants.{MOST_NODES}
 use Rattle.api_views.specs.Client.{asked_row, client_table, command_if, command_row, gone_row, is_known, up_row, vouched_table}
 use Rattle.api_views.specs.Closings.{asked_if, closed_row, closing_row, view_row}
 use Rattle.api_views.specs.Commands.{begin_if, begin_row, cut_by, cut_row, kill_if, kill_row, lone_by, lone_row, lowest, node_for, rows_if, rows_row, serves, show_row}
@@ -40,7 +39,7 @@ use Rattle.api_views.specs.Laws.{AreToldOnce, EndsAreToldOnce, IsTakenOut}
 use Rattle.api_views.specs.Members.{first_start, is_member, noted}
 use Rattle.api_views.specs.Pending.{client_pending_row, closing_left, obstacle, obstructed, obstructed_by, waits_by, waits_if}
 use Rattle.api_views.specs.Reports.{begun_verdict, complete_row, coordinator_member, dump_breaks, ended_by, failed_by, failed_if, going_on, place_due, report_row, stop_row, told_if, unbegun_if, verdict, verdict_by}
-use Rattle.api_views.specs.Rounds.{round_effects, rounds_if_place, rounds_row, tick_row}
+use Rattle.api_views.specs.Rounds.{round_effects, tick_row}
 use Rattle.api_views.specs.State.{ClientState}
 use Rattle.api_views.specs.Stops.{is_down, runs, tc_stopped}
 
@@ -208,14 +207,6 @@ module _ (s : ClientState) where
   unfolding tick_row round_effects
   tick_told round of = tt
 
-  rounds_told : (at : ℕ) → IsToldBy s (rounds_row s at)
-  unfolding rounds_row round_effects
-  rounds_told at = by (nat_lt at MOST_NODES)
-    where
-      by : (fits : Bool) → IsToldBy s (rounds_if_place s at fits)
-      by true = tt
-      by false = tt
-
   up_told : (r : ApiReq) → IsToldBy s (up_row s r)
   up_told (request.Begin name node) = begin_told name node
   up_told (request.Operate None op) = lone_told op
@@ -317,7 +308,6 @@ module _ (s : ClientState) where
   unfolding stop_row closed_row view_row
   table_told x (Host (Continue (Request r) at)) = request_told r
   table_told x (Host (Continue Report at)) = report_told
-  table_told x (Host (Continue Members at)) = rounds_told at
   table_told x (Host (Closed cause)) = tt
   table_told x (Client ViewRep) = tt
   table_told x (Epoch (GcpRep epoch)) = tt

@@ -1,8 +1,9 @@
 -- Signals that are sent one after the other.
-use Rattle.std.proofs.Common.{◌≡◌, ◌++◌, List, [], append_assoc}
+use Rattle.std.proofs.Common.{◌≡◌, ◌++◌, List, [], append_assoc, arith}
 use Rattle.std.proofs.lemmas.List.{append-nil}
 use Rattle.sig_core.specs.declared.outs.Outgoing.{Outgoing}
-use Rattle.sig_core.specs.Step.{Effects, joined, sends_only}
+use Rattle.api_views.specs.Rounds.{HasAllRoom}
+use Rattle.sig_core.specs.Step.{Effects, HasRoom, joined, sends_only}
 
 -- two lists of signals behind effects are one list behind them
 pub joined_twice : (e : Effects) (first second : List Outgoing)
@@ -12,3 +13,7 @@ joined_twice e first second =
       sends = append_assoc e.sends first second i;
       marks = append-nil (e.marks ++ []) i;
     }
+
+-- where there is room for a round there is for any other step
+pub has_room : (e : Effects) → HasAllRoom e → HasRoom e
+has_room e room = record { sends = rw (room.sends) (omega arith); marks = room.marks }

@@ -13,7 +13,7 @@ use Rattle.sig_core.specs.declared.signal.client.ClientSignal.TheVariants.{TcBeg
 use Rattle.sig_core.specs.declared.signal.epoch.EpochSignal.TheVariants.{GcpRep, MicroRep}
 use Rattle.sig_core.specs.declared.signal.host.HostSignal.TheVariants.{Closed, Continue}
 use Rattle.sig_core.specs.declared.signal.host.Work.{Work}
-use Rattle.sig_core.specs.declared.signal.host.Work.TheVariants.{Members, Request, Report}
+use Rattle.sig_core.specs.declared.signal.host.Work.TheVariants.{Request, Report}
 use Rattle.sig_core.specs.Step.{Step, stay}
 use Rattle.api_block.specs.Api.{api_row, request_row}
 use Rattle.api_block.specs.Opened.{begins_at, where_at}
@@ -24,7 +24,7 @@ use Rattle.api_views.specs.Commands.{begin_row, cut_row, kill_row, lone_row, on_
 use Rattle.api_views.specs.Members.{is_member, noted}
 use Rattle.api_views.specs.Pending.{client_pending_row}
 use Rattle.api_views.specs.Reports.{complete_row, report_row, stop_row}
-use Rattle.api_views.specs.Rounds.{rounds_row, tick_row}
+use Rattle.api_views.specs.Rounds.{tick_row}
 use Rattle.api_views.specs.State.{ClientState, turned_down, with_api, within}
 use Rattle.api_views.specs.Stops.{is_down}
 
@@ -87,7 +87,6 @@ is_known s x = is_member s.api.view x.member
 abbrev pub work_table : ClientState → Signal → Work → ℕ → Step ClientState
 work_table s x (Request r) at = asked_row s r
 work_table s x Report at = report_row s
-work_table s x Members at = rounds_row s at
 work_table s x work at = within s (api_row s.api x)
 
 -- what it does at each signal

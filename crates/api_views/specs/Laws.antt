@@ -3,6 +3,7 @@ use Rattle.std.specs.Prelude.{◌≡◌, ℕ, Bool, true, false, nat_lt, List, [
 use Rattle.sig_core.specs.declared.mark.Mark.{Mark}
 use Rattle.sig_core.specs.declared.mark.Mark.TheVariants.{Reported}
 use Rattle.sig_core.specs.declared.member.TxId.{TxId}
+use Rattle.sig_core.specs.declared.reply.ApiReply.TheVariants as reply
 use Rattle.sig_core.specs.declared.request.ApiReq.{ApiReq}
 use Rattle.sig_core.specs.declared.request.ApiReq.TheVariants as request
 use Rattle.sig_core.specs.declared.signal.Body.{Body}
@@ -18,8 +19,8 @@ use Rattle.api_block.specs.Api.{api_row}
 use Rattle.api_block.specs.State.{ApiState}
 use Rattle.api_views.specs.Client.{client_row, is_known}
 use Rattle.api_views.specs.Members.{noted}
-use Rattle.api_views.specs.Rounds.{with_rounds}
-use Rattle.api_views.specs.State.{ClientState, within}
+use Rattle.api_views.specs.Rounds.{round_effects}
+use Rattle.api_views.specs.State.{ClientState, telling, within}
 use Rattle.api_views.specs.Stops.{is_down}
 
 -- no host stopped, no node was cut, and no closing of an epoch is asked for
@@ -27,13 +28,21 @@ abbrev pub calm_state : ApiState → ℕ → Option View → ClientState
 calm_state a nodes over =
     record { api = a; nodes = nodes; stops = []; cuts = []; taken_over = over; closing = None; own = false }
 
--- a signal of a member of the greatest view, which has a full member, that brings no greater one
+-- only a member of the greatest view may say this
+abbrev pub is_vouched : Body → Bool
+is_vouched (Client (TcBeginConf name tx)) = true
+is_vouched (Client (TcCommitConf tx epoch)) = true
+is_vouched (Client (TcRollbackRep tx cause)) = true
+is_vouched _ = false
+
+-- A signal that brings no greater view, and comes from a member of the greatest one where only such may say it. That view
+-- has a full member that hasn't stopped.
 pub record IsCalmSignal (s : ClientState) (x : Signal) : Type 0 where
   pub view : nat_lt s.api.view.number x.view.number ≡ false
-  pub known : is_known s x ≡ true
+  pub known : is_vouched x.body ≡ true → is_known s x ≡ true
   pub up : is_down s ≡ false
 
--- a request that a calm cluster serves as the API does; a round of time it has a law of its own for
+-- a request that a calm cluster serves as the API does; rounds of time and the view have laws of their own
 abbrev pub is_served : ApiReq → Bool
 is_served (request.Begin name at) = true
 is_served (request.Operate name op) = true
@@ -64,12 +73,24 @@ CalmSteps =
     → IsCalmSignal (calm_state a nodes over) x → is_calm_body x.body ≡ true
     → client_row (calm_state a nodes over) x ≡ within (calm_state a nodes over) (api_row a x)
 
--- and so is the state after a round of time, which goes to each live node
+-- and so is the state after a round of time, which goes to the rows of each live node, and to the membership of each
 abbrev pub CalmTicks : Type 0
 CalmTicks =
     (a : ApiState) (nodes : ℕ) (over : Option View) (x : Signal) (at round of : ℕ)
     → IsCalmSignal (calm_state a nodes over) x → x.body ≡ Host (Continue (Request (request.Tick round of)) at)
-    → client_row (calm_state a nodes over) x ≡ with_rounds (calm_state (api_row a x).state nodes over) 0
+    → client_row (calm_state a nodes over) x
+    ≡ record {
+      state = calm_state (api_row a x).state nodes over;
+      effects = round_effects (calm_state (api_row a x).state nodes over);
+    }
+
+-- and where the view is asked for, which is told at once
+abbrev pub CalmShows : Type 0
+CalmShows =
+    (a : ApiState) (nodes : ℕ) (over : Option View) (x : Signal) (at : ℕ)
+    → IsCalmSignal (calm_state a nodes over) x → x.body ≡ Host (Continue (Request request.View) at)
+    → client_row (calm_state a nodes over) x
+    ≡ stay (telling (calm_state (api_row a x).state nodes over) (reply.View a.view))
 
 -- a signal that tells how a transaction ended
 abbrev pub is_report : Body → Bool

@@ -1,15 +1,15 @@
 -- A round of time, for each live node.
-use Rattle.std.specs.Prelude.{ℕ, ◌+◌, ◌==◌, ◌&&◌, ◌||◌, ◌++◌, Bool, true, false, nat_le, nat_lt, List, [], ◌∷◌}
+use Rattle.std.specs.Prelude.{◌≡◌, ◌≤◌, ℕ, ◌+◌, ◌==◌, ◌&&◌, ◌||◌, ◌++◌, Bool, true, false, nat_le, length, List, [], ◌∷◌}
 use Rattle.std.specs.List.{list_any}
 use Rattle.sig_core.specs.declared.outs.Outgoing.{Outgoing}
+use Rattle.sig_core.specs.declared.outs.TheConstants.{OUTS, SIGNAL_OUTS}
+use Rattle.sig_core.specs.declared.place.BlockId.{BlockId}
+use Rattle.sig_core.specs.declared.place.BlockId.TheVariants.{Lqh, Qmgr}
+use Rattle.sig_core.specs.declared.place.Place.{Place}
 use Rattle.sig_core.specs.declared.reply.ApiReply.TheVariants.{Ticked}
 use Rattle.sig_core.specs.declared.signal.Body.TheVariants.{Host}
 use Rattle.sig_core.specs.declared.signal.host.HostSignal.TheVariants.{Round}
-use Rattle.sig_core.specs.declared.signal.host.Work.TheVariants.{Members}
-use Rattle.sig_core.specs.Place.{client, membership, rows_of}
-use Rattle.sig_core.specs.Portion.{go_on_at}
-use Rattle.sig_core.specs.Step.{Effects, Step, sends_only, stay, to_place}
-use Rattle.api_views.specs.declared.rounds.TheConstants.{MOST_NODES}
+use Rattle.sig_core.specs.Step.{Effects, Step, sends_only, to_place}
 use Rattle.api_views.specs.Commands.{serves_at}
 use Rattle.api_views.specs.Members.{first_start}
 use Rattle.api_views.specs.State.{ClientState, left, telling}
@@ -25,29 +25,33 @@ unfoldable pub is_live : ClientState → ℕ → Bool
 is_live s node =
     (nat_le 1 node && nat_le node s.nodes) && (still_runs s.stops (first_start node) || has_member s node)
 
--- a round for the membership of a node and for its rows, which are the blocks that take one
-abbrev pub rounds_if : ℕ → Bool → List Outgoing
-rounds_if node true = to_place (membership node) (Host Round) ∷ to_place (rows_of node) (Host Round) ∷ []
-rounds_if node false = []
+-- a round for a block of a node
+abbrev pub rounds_if : Place → Bool → List Outgoing
+rounds_if to true = to_place to (Host Round) ∷ []
+rounds_if to false = []
 
-unfoldable pub rounds_of : ClientState → ℕ → List Outgoing
-rounds_of s node = rounds_if node (is_live s node)
+unfoldable pub rounds_of : ClientState → BlockId → ℕ → List Outgoing
+rounds_of s block node = rounds_if (record { node = node; block = block }) (is_live s node)
 
--- the rounds of the four nodes behind a place
-unfoldable pub four_rounds : ClientState → ℕ → List Outgoing
-four_rounds s at = ((rounds_of s (at + 1) ++ rounds_of s (at + 2)) ++ rounds_of s (at + 3)) ++ rounds_of s (at + 4)
+-- those of the four nodes behind this one
+unfoldable pub four_rounds : ClientState → BlockId → ℕ → List Outgoing
+four_rounds s block node =
+    ((rounds_of s block (node + 1) ++ rounds_of s block (node + 2)) ++ rounds_of s block (node + 3))
+    ++ rounds_of s block (node + 4)
 
-abbrev pub more_nodes_if : ℕ → Bool → List Outgoing
-more_nodes_if at true = go_on_at client Members (at + 4) ∷ []
-more_nodes_if at false = []
+-- those of all eight nodes
+abbrev pub all_rounds : ClientState → BlockId → List Outgoing
+all_rounds s block = four_rounds s block 0 ++ four_rounds s block 4
 
--- What an event sends of the rounds, from a place on. Places are counted in nodes, so a stop that is taken between two
--- events moves nobody's
-unfoldable pub round_effects : ClientState → ℕ → Effects
-round_effects s at = sends_only (four_rounds s at ++ more_nodes_if at (nat_lt (at + 4) s.nodes))
+-- A round is one event: the rows of each live node are told, and then the membership of each, which are the blocks that
+-- take one. It is the one event that may send two lists of eight
+unfoldable pub round_effects : ClientState → Effects
+round_effects s = sends_only (all_rounds s Lqh ++ all_rounds s Qmgr)
 
-abbrev pub with_rounds : ClientState → ℕ → Step ClientState
-with_rounds s at = record { state = s; effects = round_effects s at }
+-- there is room for that: no signal was sent by now
+pub record HasAllRoom (effects : Effects) : Type 0 where
+  pub sends : effects.sends ≡ []
+  pub marks : length effects.marks + SIGNAL_OUTS ≤ OUTS
 
 -- the last round of a command is told
 abbrev pub ticked_if : ClientState → ℕ → Bool → ClientState
@@ -59,12 +63,4 @@ ticked s round of = ticked_if s of (round == of)
 
 -- a round of time
 unfoldable pub tick_row : ClientState → ℕ → ℕ → Step ClientState
-tick_row s round of = with_rounds (ticked s round of) 0
-
-abbrev pub rounds_if_place : ClientState → ℕ → Bool → Step ClientState
-rounds_if_place s at true = with_rounds s at
-rounds_if_place s at false = stay s
-
--- the rounds go on from a place
-unfoldable pub rounds_row : ClientState → ℕ → Step ClientState
-rounds_row s at = rounds_if_place s at (nat_lt at MOST_NODES)
+tick_row s round of = record { state = ticked s round of; effects = round_effects (ticked s round of) }

@@ -4,6 +4,7 @@ ghost use Rattle.sig_core.specs.Step.{HasRoom, IsTaken, IsUntouched};
 ghost use Rattle.api_views.specs.Client.{asked_row, client_row, seen_row, command_row, gone_row, up_row, vouched, work_table};
 ghost use Rattle.api_views.specs.Commands.{on_api};
 ghost use Rattle.api_views.specs.Members.{noted};
+ghost use Rattle.api_views.specs.Rounds.{HasAllRoom};
 ghost use Rattle.api_views.specs.Pending.{closing_left, is_open};
 ghost use Rattle.api_views.specs.State.{fresh_client, left, telling, turned_down};
 ghost use Rattle.api_block.specs.State.{with_replies};
@@ -135,9 +136,9 @@ impl Client {
     ///
     /// # Errors
     /// `NoMemory`, and then nothing has happened.
-    #[tactic(auto, unfolding(crate::specs::Client::asked_row))]
+    #[tactic(auto, using(crate::proofs::RoundLemmas::has_room), unfolding(crate::specs::Client::asked_row))]
     pub fn ask(&mut self, alloc: Global, request: &ApiReq, out: &mut Outs) -> Result<(), NoMemory>
-        requires { HasRoom out.old }
+        requires { HasAllRoom out.old }
         ensures ok { OnOk result (IsTaken (asked_row self.old request.now) self.new out.old out.new) }
         ensures err { OnErr result (IsUntouched self.old self.new out.old out.new) }
     {
@@ -154,9 +155,9 @@ impl Client {
     }
 
     // Takes a command, unless the cluster is down.
-    #[tactic(auto, unfolding(crate::specs::Client::command_row))]
+    #[tactic(auto, using(crate::proofs::RoundLemmas::has_room), unfolding(crate::specs::Client::command_row))]
     fn command(&mut self, alloc: Global, request: &ApiReq, out: &mut Outs) -> Result<(), NoMemory>
-        requires { HasRoom out.old }
+        requires { HasAllRoom out.old }
         ensures ok { OnOk result (IsTaken (command_row self.old request.now) self.new out.old out.new) }
         ensures err { OnErr result (IsUntouched self.old self.new out.old out.new) }
     {
@@ -167,13 +168,14 @@ impl Client {
     }
 
     // Takes a command of a cluster that isn't down.
+    #[tactic(auto, using(crate::proofs::RoundLemmas::has_room))]
     fn command_up(
         &mut self,
         alloc: Global,
         request: &ApiReq,
         out: &mut Outs,
     ) -> Result<(), NoMemory>
-        requires { HasRoom out.old }
+        requires { HasAllRoom out.old }
         ensures ok { OnOk result (IsTaken (up_row self.old request.now) self.new out.old out.new) }
         ensures err { OnErr result (IsUntouched self.old self.new out.old out.new) }
     {
@@ -252,6 +254,7 @@ impl Client {
     }
 
     // The client goes on with this work, from a place.
+    #[tactic(auto, using(crate::proofs::RoundLemmas::has_room))]
     fn go_on_with(
         &mut self,
         alloc: Global,
@@ -260,24 +263,21 @@ impl Client {
         at: u64,
         out: &mut Outs,
     ) -> Result<(), NoMemory>
-        requires { HasRoom out.old }
+        requires { HasAllRoom out.old }
         ensures ok { OnOk result (IsTaken (work_table self.old signal.now work.now at) self.new out.old out.new) }
         ensures err { OnErr result (IsUntouched self.old self.new out.old out.new) }
     {
         match work {
             Work::Request(request) => self.ask(alloc, request, out),
             Work::Report => self.tell_next(out),
-            Work::Members => {
-                self.go_on_with_rounds(at, out);
-                Ok(())
-            }
             _ => self.api.handle(alloc, signal, out),
         }
     }
 
     // Takes a signal, after its view was seen.
+    #[tactic(auto, using(crate::proofs::RoundLemmas::has_room))]
     fn take(&mut self, alloc: Global, signal: &Signal, out: &mut Outs) -> Result<(), NoMemory>
-        requires { HasRoom out.old }
+        requires { HasAllRoom out.old }
         ensures ok { OnOk result (IsTaken (seen_row self.old signal.now) self.new out.old out.new) }
         ensures err { OnErr result (IsUntouched self.old self.new out.old out.new) }
     {
@@ -312,15 +312,18 @@ impl Client {
     }
 }
 
-impl Actor for Client {
-    ghost use Rattle.sig_core.specs.Step.{stay};
-
-    ghost step = { client_row };
-
-    ghost installed = { λ s view. stay (noted s view) };
-
+impl Client {
+    /// Takes a signal. The event has sent nothing by now, since a round of time may take all the room
+    /// there is.
+    ///
+    /// # Errors
+    /// `NoMemory`, and then nothing has happened.
     #[tactic(auto, unfolding(crate::specs::Members::noted))]
-    fn handle(&mut self, alloc: Global, signal: &Signal, out: &mut Outs) -> Result<(), NoMemory> {
+    pub fn handle(&mut self, alloc: Global, signal: &Signal, out: &mut Outs) -> Result<(), NoMemory>
+        requires { HasAllRoom out.old }
+        ensures ok { OnOk result (IsTaken (client_row self.old signal.now) self.new out.old out.new) }
+        ensures err { OnErr result (IsUntouched self.old self.new out.old out.new) }
+    {
         let before = *self.api.view();
         self.note(signal.view.get());
         let taken = self.take(alloc, signal, out);
@@ -330,7 +333,10 @@ impl Actor for Client {
         taken
     }
 
-    fn install(&mut self, view: &View, _out: &mut Outs) {
+    /// Sees a view that its host installs.
+    pub fn install(&mut self, view: &View)
+        ensures { self.new ≡ noted self.old view.now }
+    {
         self.note(view);
     }
 }

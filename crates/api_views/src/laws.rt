@@ -1,12 +1,13 @@
 //! What is true of the client's side under views.
-ghost use Rattle.api_views.specs.Laws.{CalmSteps, CalmTicks, DroppedChangesNothing, EndsAreToldOnce};
+ghost use Rattle.api_views.specs.Laws.{CalmShows, CalmSteps, CalmTicks, DroppedChangesNothing, EndsAreToldOnce};
 
 /// Where no host stopped, no node was cut and no closing of an epoch is asked for, a step at a
-/// signal of a member of the greatest view, which has a full member, is that of the API; but that a
-/// round of time goes to the membership and the rows of each live node.
+/// signal that brings no greater view, which has a full member, is that of the API; but that a round
+/// of time goes to the membership of each live node too, and that the view is told.
 pub fn calm_steps()
     ensures steps { CalmSteps }
     ensures ticks { CalmTicks }
+    ensures shows { CalmShows }
 {}
 
 /// A signal that tells how a transaction ended, from a member that isn't in the greatest view,

@@ -10,10 +10,7 @@ use crate::rows::NodeRows;
 use sig_core::{Answer, ApiReply, ApiReq, HostId, NoMemory, Shape};
 use std::alloc::Global;
 use std::sync::Wait;
-use world_views::{Pick, ScheduleFault, World};
-
-/// How many hosts a node has.
-const PARTS: u64 = 3;
+use world_views::{PARTS, Pick, ScheduleFault, World};
 
 /// Asks the shell for something.
 ///
@@ -96,7 +93,7 @@ fn host_of(dice: &mut Dice, shape: &Shape, first: u64) -> HostId
     requires shape { IsShape shape.now }
     requires first { first ≤ 1 }
 {
-    let hosts = u64::from(shape.nodes) * PARTS + 1 - first;
+    let hosts = u64::from(shape.nodes) * u64::from(PARTS) + 1 - first;
     HostId((first + dice.roll(hosts)) as u32)
 }
 

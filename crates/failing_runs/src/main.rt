@@ -18,30 +18,34 @@ use std::process::ExitCode;
 use std::sync::Wait;
 use std::test::Fail;
 
-/// The words, as numbers; one that isn't a number counts as 0.
-fn numbers(rt: &HostRuntime) -> Result<Vec<u64>, Fail> {
+const USAGE: &str = "usage: failing_runs SEED COUNT FAILS";
+
+/// The words, as numbers, each of them none where it isn't one.
+fn numbers(rt: &HostRuntime) -> Result<Vec<Option<u64>>, Fail> {
     let mut numbers = Vec::new(rt.alloc());
     for word in env::args(rt)?.skip(1) {
-        numbers.push(word.as_str().parse::<u64>().unwrap_or(0))?;
+        numbers.push(word.as_str().parse::<u64>().ok())?;
     }
     Ok(numbers)
 }
 
-fn run_all<W: Wait>(rt: &HostRuntime, wait: &W, numbers: &[u64]) -> Result<u64, Fail> {
-    let (first, runs, fails) = match numbers {
-        [first, runs, fails] => (*first, *runs, *fails),
-        _ => (1, 100, 1),
-    };
-    let mut broken = 0u64;
-    for more in 0..runs {
+fn run_all<W: Wait>(
+    rt: &HostRuntime,
+    wait: &W,
+    first: u64,
+    count: u64,
+    fails: u64,
+) -> Result<u64, Fail> {
+    let mut faults = 0u64;
+    for more in 0..count {
         let seed = first.wrapping_add(more);
         if let Err(fault) = run::run_one(wait, rt.alloc(), seed, fails) {
-            broken = broken.saturating_add(1);
+            faults = faults.saturating_add(1);
             println!(rt; "run {seed}: {}", told(&fault))?;
         }
     }
-    println!(rt; "{runs} runs from {first}: {broken} break a law")?;
-    Ok(broken)
+    println!(rt; "{count} runs from {first}: {faults} faults")?;
+    Ok(faults)
 }
 
 fn told(fault: &Fault) -> &'static str {
@@ -54,6 +58,10 @@ fn told(fault: &Fault) -> &'static str {
 
 fn main(rt: HostRuntime) -> Result<ExitCode, Fail> {
     let numbers = numbers(&rt)?;
-    let broken = run_all(&rt, &rt, numbers.as_slice())?;
-    Ok(ExitCode::from(if broken == 0 { 0 } else { 1 }))
+    let [Some(first), Some(count), Some(fails)] = numbers.as_slice() else {
+        println!(rt; "{USAGE}")?;
+        return Ok(ExitCode::from(2));
+    };
+    let faults = run_all(&rt, &rt, *first, *count, *fails)?;
+    Ok(ExitCode::from(if faults == 0 { 0 } else { 1 }))
 }

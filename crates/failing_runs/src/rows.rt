@@ -6,9 +6,7 @@ use crate::law::{Fault, Law};
 use frag_map::holds;
 use sig_core::{ApiReply, Key, NoMemory, Shape, Table, Value};
 use std::alloc::Global;
-
-/// How many hosts a node has.
-const PARTS: u32 = 3;
+use world_views::PARTS;
 
 /// The rows that a node told of.
 #[derive(Drop)]

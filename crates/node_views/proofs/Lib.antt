@@ -1,4 +1,5 @@
 pub mod CutLemmas
 pub mod InstallLemmas
 pub mod LawLemmas
+pub mod RoomLemmas
 pub mod SettleLemmas

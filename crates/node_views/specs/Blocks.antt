@@ -1,10 +1,10 @@
 -- What the blocks of a host do at a signal, and where a view is installed.
-use Rattle.std.specs.Prelude.{ℕ, Option, None}
+use Rattle.std.specs.Prelude.{◌≡◌, ℕ, Bool, true, false, [], Option, None}
 use Rattle.sig_core.specs.declared.place.BlockId.{BlockId}
 use Rattle.sig_core.specs.declared.place.BlockId.TheVariants as block
 use Rattle.sig_core.specs.declared.signal.Signal.{Signal}
 use Rattle.sig_core.specs.declared.view.View.{View}
-use Rattle.sig_core.specs.Step.{Step}
+use Rattle.sig_core.specs.Step.{Effects, HasRoom, Step}
 use Rattle.node_views.specs.Parts.{ldm_entered, ldm_row, main_entered, main_row, main_settled, shell_entered, shell_row, tc_entered, tc_row}
 use Rattle.node_views.specs.declared.ldm_part.LdmPart.{LdmPart}
 use Rattle.node_views.specs.declared.main_part.MainPart.{MainPart}
@@ -51,3 +51,12 @@ fence_at (Tc p) block.Tc number = p.coordinator.fence
 fence_at (Tc p) block.Dih number = p.dih.fence
 fence_at (Ldm p) block.Lqh number = p.fence
 fence_at _ _ number = number
+
+abbrev pub is_shell : Parts → Bool
+is_shell (Shell p) = true
+is_shell parts = false
+
+-- the effects leave room for what the blocks may send at a signal: at the shell's host a round of time takes all there is
+pub record HasRoomFor (parts : Parts) (out : Effects) : Type 0 where
+  pub room : HasRoom out
+  pub shell : is_shell parts ≡ true → out.sends ≡ []

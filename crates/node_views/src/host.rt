@@ -1,9 +1,10 @@
 //! A host.
-ghost use Rattle.std.specs.Prelude.{◌≡◌, ◌≤◌, ◌+◌, ◌<◌, ◌++◌, IfOk, None, OnErr, OnOk, [], length, option_to_list};
+ghost use Rattle.std.specs.Prelude.{◌≡◌, ◌≤◌, ◌+◌, ◌<◌, ◌++◌, IfOk, None, OnErr, OnOk, [], length, option_to_list, true};
 ghost use Rattle.std.specs.List.{list_any};
 ghost use Rattle.sig_core.specs.declared.mark.Mark.TheVariants.{CutOff, Stopped};
 ghost use Rattle.sig_core.specs.Step.{HasRoom, IsTaken, and_mark, nothing};
 ghost use Rattle.api_views.specs.Members.{same_member};
+ghost use Rattle.node_views.specs.Blocks.{HasRoomFor, is_shell};
 ghost use Rattle.node_views.specs.Fresh.{fresh_ldm, fresh_main, fresh_shell, fresh_tc};
 ghost use Rattle.node_views.specs.Replies.{is_left_open, replies_of, with_replies};
 ghost use Rattle.node_views.specs.Row.{blocks_row, closed_if, counted_row, cut_row, entered, headed_row, host_row, host_table, is_barred, is_cut, is_excluded, is_one_of, is_stop, kill_row, passed_row, unless_stopped};
@@ -149,7 +150,7 @@ impl Host {
     }
 
     // A view of a greater number is installed.
-    #[tactic(auto, unfolding(crate::specs::Row::headed_row))]
+    #[tactic(auto, using(crate::proofs::RoomLemmas::all_room, crate::proofs::RoomLemmas::installed_room), unfolding(crate::specs::Row::headed_row))]
     fn head(&mut self, alloc: Global, signal: &Signal, out: &mut Outs) -> Result<(), NoMemory>
         requires { out.old ≡ nothing }
         ensures taken { OnOk result (IsTaken (headed_row self.old signal.now) self.new nothing out.new) }
@@ -206,6 +207,7 @@ impl Host {
         ensures few { length out.new.sends ≤ length out.old.sends + 3 }
         ensures unmarked { out.new.marks ≡ out.old.marks }
         ensures cut { self.new.standing.cut ≡ self.old.standing.cut }
+        ensures shell { is_shell self.new.parts ≡ true → out.new.sends ≡ out.old.sends }
     {
         if is_member(view.get(), &self.standing.member) {
             self.standing.has_joined = true;
@@ -215,9 +217,9 @@ impl Host {
     }
 
     // A fence stops the signal, or it is handled.
-    #[tactic(auto, unfolding(crate::specs::Row::passed_row))]
+    #[tactic(auto, using(crate::proofs::RoomLemmas::some_room), unfolding(crate::specs::Row::passed_row))]
     fn pass(&mut self, alloc: Global, signal: &Signal, out: &mut Outs) -> Result<(), NoMemory>
-        requires { HasRoom out.old }
+        requires { HasRoomFor self.old.parts out.old }
         ensures taken { OnOk result (IsTaken (passed_row self.old signal.now) self.new out.old out.new) }
         ensures kept { OnErr result (self.new.standing.cut ≡ self.old.standing.cut) }
     {
@@ -237,8 +239,9 @@ impl Host {
     }
 
     // What the host does itself, and what it leaves to its blocks.
+    #[tactic(auto, using(crate::proofs::RoomLemmas::some_room))]
     fn take(&mut self, alloc: Global, signal: &Signal, out: &mut Outs) -> Result<(), NoMemory>
-        requires { HasRoom out.old }
+        requires { HasRoomFor self.old.parts out.old }
         ensures taken { OnOk result (IsTaken (host_table self.old signal.now signal.now.body) self.new out.old out.new) }
         ensures kept { OnErr result (self.new.standing.cut ≡ self.old.standing.cut) }
     {
@@ -254,8 +257,9 @@ impl Host {
     }
 
     // A host has closed its links: one of the same member takes this host with it.
+    #[tactic(auto, using(crate::proofs::RoomLemmas::some_room))]
     fn closed(&mut self, alloc: Global, signal: &Signal, out: &mut Outs) -> Result<(), NoMemory>
-        requires { HasRoom out.old }
+        requires { HasRoomFor self.old.parts out.old }
         ensures taken { OnOk result (IsTaken (closed_if self.old signal.now (same_member self.old.standing.member signal.now.member)) self.new out.old out.new) }
         ensures kept { OnErr result (self.new.standing.cut ≡ self.old.standing.cut) }
     {
@@ -268,9 +272,9 @@ impl Host {
     }
 
     // The blocks handle a signal, and install a view that the membership settles on.
-    #[tactic(auto, unfolding(crate::specs::Row::blocks_row))]
+    #[tactic(auto, using(crate::proofs::RoomLemmas::some_room), unfolding(crate::specs::Row::blocks_row))]
     fn handle(&mut self, alloc: Global, signal: &Signal, out: &mut Outs) -> Result<(), NoMemory>
-        requires { HasRoom out.old }
+        requires { HasRoomFor self.old.parts out.old }
         ensures taken { OnOk result (IsTaken (blocks_row self.old signal.now) self.new out.old out.new) }
         ensures kept { OnErr result (self.new.standing.cut ≡ self.old.standing.cut) }
     {

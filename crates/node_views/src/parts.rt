@@ -1,7 +1,7 @@
 //! The blocks of a host.
-ghost use Rattle.std.specs.Prelude.{◌≡◌, ◌≤◌, ◌+◌, IfOk, IfSome, OnOk, length};
-ghost use Rattle.sig_core.specs.Step.{HasRoom, IsTaken};
-ghost use Rattle.node_views.specs.Blocks.{fence_at, parts_entered, parts_row, settled_at};
+ghost use Rattle.std.specs.Prelude.{◌≡◌, ◌≤◌, ◌+◌, IfOk, IfSome, OnOk, length, true};
+ghost use Rattle.sig_core.specs.Step.{IsTaken};
+ghost use Rattle.node_views.specs.Blocks.{HasRoomFor, fence_at, is_shell, parts_entered, parts_row, settled_at};
 
 use crate::ldm_part::LdmPart;
 use crate::main_part::MainPart;
@@ -25,13 +25,14 @@ impl Parts {
     ///
     /// # Errors
     /// `NoMemory`.
+    #[tactic(auto, using(crate::proofs::RoomLemmas::shell_room, crate::proofs::RoomLemmas::some_room))]
     pub fn handle(
         &mut self,
         alloc: Global,
         signal: &Signal,
         out: &mut Outs,
     ) -> Result<Option<Held<View>>, NoMemory>
-        requires { HasRoom out.old }
+        requires { HasRoomFor self.old out.old }
         ensures taken { OnOk result (IsTaken (parts_row self.old signal.now) self.new out.old out.new) }
         ensures settled { IfOk result (λ view. view ≡ settled_at self.old signal.now) }
         ensures few { IfOk result (λ view. IfSome view (λ v. length out.new.sends ≤ length out.old.sends + 1)) }
@@ -51,6 +52,7 @@ impl Parts {
         ensures taken { IsTaken (parts_entered self.old view.now) self.new out.old out.new }
         ensures few { length out.new.sends ≤ length out.old.sends + 3 }
         ensures unmarked { out.new.marks ≡ out.old.marks }
+        ensures shell { is_shell self.new ≡ true → out.new.sends ≡ out.old.sends }
     {
         match self {
             Parts::Shell(part) => part.install(view, out),

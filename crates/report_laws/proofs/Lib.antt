@@ -16,6 +16,11 @@ pub mod Requested
 pub mod RunOf
 pub mod Replied
 pub mod Said
+pub mod SingleAnswers
+pub mod SingleCounts
+pub mod SingleNames
+pub mod SingleOperations
+pub mod SingleReplies
 pub mod Steps
 pub mod Told
 pub mod Turns

@@ -56,7 +56,7 @@ rows_answer : (rows : List (List ℕ × List ℕ)) (last : List ApiReply) → an
 rows_answer [] last = refl
 rows_answer (r ∷ rows) last = rows_answer rows last
 
-dump_answers : (node : ℕ) (digest : Bool) (rows : List (List ℕ × List ℕ)) → answers_among
+pub dump_answers : (node : ℕ) (digest : Bool) (rows : List (List ℕ × List ℕ)) → answers_among
     (dump_replies node digest rows) ≡ []
 unfolding dump_replies
 dump_answers node true rows = refl

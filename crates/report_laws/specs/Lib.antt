@@ -4,4 +4,5 @@ pub mod Growing
 pub mod Reported
 pub mod Reports
 pub mod Requested
+pub mod Single
 pub mod Told

@@ -5,6 +5,7 @@ ghost use Rattle.report_laws.specs.Growing.{HistoriesGrow};
 ghost use Rattle.report_laws.specs.Reported.{AbortsAreInNone, CommitsAreInHistory, EndsAreReportedOnce};
 ghost use Rattle.report_laws.specs.Reports.{ReportsAreTheHistory};
 ghost use Rattle.report_laws.specs.Requested.{AskedAreRequested};
+ghost use Rattle.report_laws.specs.Single.{AnswersAreOfTheirTransaction, NamesAreOfOne, NoneIsAnsweredTwice, OperationsAreForTheirTransaction};
 ghost use Rattle.report_laws.specs.Told.{AnswersAreHeard, OutcomesAreMarked};
 
 /// Of all right logs: the client is told just the ends that are marked as reported, each once; every
@@ -71,4 +72,27 @@ pub fn given_are_of_entries()
 /// given for it there are those of its entry, in their order.
 pub fn reported_are_given()
     ensures { ReportedAreGiven }
+{}
+
+/// No more answers were given for a transaction than operations of it were asked for, so none is
+/// answered twice.
+pub fn none_is_answered_twice()
+    ensures { NoneIsAnsweredTwice }
+{}
+
+/// At each moment one transaction at most is open under a name.
+pub fn names_are_of_one()
+    ensures { NamesAreOfOne }
+{}
+
+/// An answer is told under the name of the open transaction of which the step's signal tells it;
+/// that of an operation alone under none.
+pub fn answers_are_of_their_transaction()
+    ensures { AnswersAreOfTheirTransaction }
+{}
+
+/// An operation is asked for by the number of the transaction that is open under the name of its
+/// request; one alone by that of a transaction that has no name.
+pub fn operations_are_for_their_transaction()
+    ensures { OperationsAreForTheirTransaction }
 {}

@@ -137,7 +137,8 @@ impl Pages {
     /// The least place at or above this one that has a row. Goes over those between that have none.
     #[tactic(auto, using(crate::proofs::PageLemmas::reads))]
     pub fn next_row(&self, at: u64) -> Option<u64>
-        ensures { result ≡ next_by at (position has_row (drop at self.now.slots)) }
+        ensures place { result ≡ next_by at (position has_row (drop at self.now.slots)) }
+        ensures small { IfSome result (λ place. place + 1 < 2 ^ 64) }
     {
         let from = self.len.min(at as usize);
         for place in from..self.len {

@@ -19,10 +19,11 @@ use Rattle.world_core.specs.Steps.{HostStep}
 use Rattle.world_core.specs.World.{for_each, logs_at, no_steps, of_host}
 use Rattle.world_core.proofs.HostNumbers.{members_length}
 use Rattle.world_core.proofs.FreshWorld.{each_at, each_length}
+use Rattle.world_core.specs.Machine.{last_stamp}
 use Rattle.world_views.specs.Driven.{IsSound}
 use Rattle.world_views.specs.Hosts.{started}
 use Rattle.world_views.specs.Links.{AreLinks, LinkState, Links, inbox_of, link, link_from, new_link}
-use Rattle.world_views.specs.Machine.{after, has_stopped, last_stamp, machine, sent_count}
+use Rattle.world_views.specs.Machine.{after, has_stopped, machine, sent_count}
 use Rattle.world_views.specs.Requests.{AreAskedAtQuiet}
 use Rattle.world_views.specs.Right.{IsLinked, IsRight, replies_in}
 use Rattle.world_views.specs.World.{IsIdle, new_world}

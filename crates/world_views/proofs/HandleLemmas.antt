@@ -1,7 +1,7 @@
 -- What becomes of a signal in the hand of a host.
 use Rattle.std.proofs.Common.{◌≡◌, inl, inr, ℕ, zero, suc, ◌<◌, ◌≤◌, List, ◌++◌, length, Bool, true, false, refl, ap, sym, ◌∙◌, subst}
-use Rattle.std.specs.Prelude.{IfSome, MatchOption, Option, get_or, None, Some, OnOk, Result, Ok, Err, is_some, slice_set}
-use Rattle.std.proofs.lemmas.Bool.{true≢false}
+use Rattle.std.specs.Prelude.{Err, get_or, IfSome, is_some, MatchOption, nat_lt, None, Ok, OnOk, Option, Result, slice_set, Some, ◌^◌}
+use Rattle.std.proofs.lemmas.Bool.{le-ltb, lt-ltb, true≢false}
 use Rattle.std.proofs.lemmas.List.{get_or-set_same, get_or_read, set-set, set-get_or}
 use Rattle.frag_map.specs.Layout.{first_layout}
 use Rattle.sig_core.specs.declared.log.HostLog.{HostLog}
@@ -16,10 +16,10 @@ use Rattle.node_views.specs.declared.host.Host.{Host}
 use Rattle.node_views.specs.Fresh.{fresh_shell}
 use Rattle.node_views.specs.Row.{host_row}
 use Rattle.world_core.specs.Steps.{Addressed}
-use Rattle.world_core.specs.World.{with_step}
+use Rattle.world_core.specs.World.{next_stamp, with_step}
 use Rattle.world_views.specs.Machine.{cause_in, own_stop, replies_at, step_by, step_if, stops_by, told}
 use Rattle.world_views.specs.Schedule.{HasTaken, is_discarded, taken_if}
-use Rattle.world_views.specs.World.{HasHandled, Whole, body_at, closing, closing_if, entered, halted, logged, next_stamp, sending, step_made, telling, with_body}
+use Rattle.world_views.specs.World.{body_at, closing, closing_if, entered, halted, handled_by, HasHandled, is_stamp, logged, sending, step_made, telling, Whole, with_body}
 
 -- a host where there is none
 abbrev nobody : Host
@@ -51,50 +51,62 @@ row_taken w x s out there taken plain =
     ∙ ap (λ (e : Effects). record { state = (host_row (body_at w.bodies x.to) x.signal).state; effects = e }) taken.effects
     ∙ sym (ap (λ (o : Option StopCause). step_if (body_at w.bodies x.to) x.signal o) plain)
 
+-- there is a stamp for its step, just where the step before and the signal have lesser ones than the last that there is
+pub stamp_is : (stamps : List ℕ) (h sent at : ℕ) → at ≡ next_stamp stamps h sent → (at < 2 ^ 48)
+    → is_stamp (next_stamp stamps h sent) ≡ true
+stamp_is stamps h sent at is below = subst (λ n. nat_lt n (2 ^ 48) ≡ true) is (lt-ltb at (2 ^ 48) below)
+
+pub no_stamp_is : (stamps : List ℕ) (h sent at : ℕ) → at ≡ next_stamp stamps h sent → (2 ^ 48 ≤ at)
+    → is_stamp (next_stamp stamps h sent) ≡ false
+no_stamp_is stamps h sent at is above = subst (λ n. nat_lt n (2 ^ 48) ≡ false) is (le-ltb at (2 ^ 48) above)
+
+-- where there is a stamp it has moved, or had no memory
 pub has_moved : (result : Result (Unit {0}) NoMemory) (w u : Whole) (x : Addressed) (s : Host) (out : Effects)
+    → is_stamp (next_stamp w.stamps x.to x.signal.stamp) ≡ true
     → x.to < length w.bodies → IsTaken (host_row (body_at w.bodies x.to) x.signal) s nothing out → own_stop x.to x.signal ≡ None
     → OnOk result (u ≡ entered (with_body w x.to s) 0 x (record { state = body_at (slice_set w.bodies x.to s) x.to; effects = out }))
     → OnOk result (HasHandled w x u)
-has_moved (Err fault) w u x s out there taken plain is = tt
-has_moved (Ok done) w u x s out there taken plain is =
-    inl (is ∙ ap (λ (t : Step Host). entered (with_body w x.to s) 0 x t) (row_taken w x s out there taken plain)
-    ∙ entered_over w 0 x s (step_by x.to (body_at w.bodies x.to) x.signal))
+has_moved (Err fault) w u x s out stamp there taken plain is = tt
+has_moved (Ok done) w u x s out stamp there taken plain is =
+    subst (λ b. handled_by b w x u) (sym stamp)
+    (inl (is ∙ ap (λ (t : Step Host). entered (with_body w x.to s) 0 x t) (row_taken w x s out there taken plain)
+    ∙ entered_over w 0 x s (step_by x.to (body_at w.bodies x.to) x.signal)))
 
 -- its stamps are used up
 pub has_no_stamp : (result : Result (Unit {0}) NoMemory) (w u : Whole) (x : Addressed) (view : View)
+    → is_stamp (next_stamp w.stamps x.to x.signal.stamp) ≡ false
     → view ≡ (body_at w.bodies x.to).standing.view → OnOk result (1 ≤ x.to) → OnOk result (u ≡ halted w x.to view Clock 0)
     → OnOk result (HasHandled w x u)
-has_no_stamp (Err fault) w u x view is some failed = tt
-has_no_stamp (Ok done) w u x view is some failed =
-    inr (
+has_no_stamp (Err fault) w u x view none is some failed = tt
+has_no_stamp (Ok done) w u x view none is some failed =
+    subst (λ b. handled_by b w x u) (sym none) (
       some,
-      inr (record {
+      record {
         left = body_at w.bodies x.to;
         cut = refl;
         is = failed ∙ ap (λ v. halted w x.to v Clock 0) is
             ∙ ap (λ v. halted v x.to (body_at w.bodies x.to).standing.view Clock 0) (sym (same_body w x.to));
-      }),
+      },
     )
 
 -- it had no memory, and is this now
 pub has_no_memory : (result : Result (Unit {0}) NoMemory) (w u : Whole) (x : Addressed) (s : Host) (view : View)
+    → is_stamp (next_stamp w.stamps x.to x.signal.stamp) ≡ true
     → view ≡ (body_at w.bodies x.to).standing.view → s.standing.cut ≡ (body_at w.bodies x.to).standing.cut
     → OnOk result (1 ≤ x.to) → OnOk result (u ≡ halted (with_body w x.to s) x.to view Memory 0) → OnOk result (HasHandled w x u)
-has_no_memory (Err fault) w u x s view is cut some failed = tt
-has_no_memory (Ok done) w u x s view is cut some failed =
-    inr (
+has_no_memory (Err fault) w u x s view stamp is cut some failed = tt
+has_no_memory (Ok done) w u x s view stamp is cut some failed =
+    subst (λ b. handled_by b w x u) (sym stamp)
+    (inr (
       some,
-      inl (record {
+      record {
         left = s;
         cut = cut;
         is = failed ∙ ap (λ v. halted (with_body w x.to s) x.to v Memory 0) is;
-      }),
-    )
+      },
+    ))
 
 -- a signal that is discarded, or handled
-pub has_discarded : (w : Whole) (x : Addressed) → is_discarded w x ≡ true → HasTaken w x w
-has_discarded w x lost = subst (λ b. taken_if b w x w) (sym lost) refl
-
 pub has_taken : (result : Result (Unit {0}) NoMemory) (w u : Whole) (x : Addressed) → is_discarded w x ≡ false
     → OnOk result (HasHandled w x u) → OnOk result (HasTaken w x u)
 has_taken (Err fault) w u x kept handled = tt

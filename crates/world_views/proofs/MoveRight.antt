@@ -16,8 +16,9 @@ use Rattle.world_core.specs.Right.{IsLabelled}
 use Rattle.world_core.specs.Start.{Start, made}
 use Rattle.world_core.specs.Steps.{Addressed, HostStep}
 use Rattle.world_core.specs.World.{logs_at, no_steps}
+use Rattle.world_core.specs.Machine.{last_stamp}
 use Rattle.world_views.specs.Links.{LinkState, Links, link}
-use Rattle.world_views.specs.Machine.{after, has_stopped, last_stamp, machine, replies_at, sent_count, step_by, stops_by, told}
+use Rattle.world_views.specs.Machine.{after, has_stopped, machine, replies_at, sent_count, step_by, stops_by, told}
 use Rattle.world_views.specs.Right.{IsLinked, IsRight, replies_in}
 use Rattle.world_views.specs.World.{Whole, body_at, entered, step_made}
 use Rattle.world_views.proofs.CloseRight.{close_right}

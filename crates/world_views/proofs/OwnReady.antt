@@ -20,8 +20,9 @@ use Rattle.world_core.specs.Hosts.{hosts}
 use Rattle.world_core.specs.Start.{Start, made}
 use Rattle.world_core.specs.Steps.{Addressed, HostStep}
 use Rattle.world_core.specs.World.{logs_at}
+use Rattle.world_core.specs.Machine.{last_stamp}
 use Rattle.world_views.specs.Links.{link}
-use Rattle.world_views.specs.Machine.{IsOwn, IsOwnCause, IsOwnWork, after, comes_rightly, has_stopped, last_stamp, machine, own_signal, own_stop, step_by, step_if}
+use Rattle.world_views.specs.Machine.{IsOwn, IsOwnCause, IsOwnWork, after, comes_rightly, has_stopped, machine, own_signal, own_stop, step_by, step_if}
 use Rattle.world_views.specs.Right.{IsHeld, IsRight, on_link}
 use Rattle.world_views.specs.Sending.{is_asked, is_own_work}
 use Rattle.world_views.specs.World.{Whole, asking, body_at}

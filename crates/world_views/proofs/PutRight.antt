@@ -15,12 +15,13 @@ use Rattle.world_core.specs.Right.{arriving}
 use Rattle.world_core.specs.Start.{Start, made}
 use Rattle.world_core.specs.Steps.{Addressed, HostStep}
 use Rattle.world_core.specs.World.{logs_at}
+use Rattle.world_core.specs.Machine.{counted}
 use Rattle.world_views.specs.declared.sender.Sender.{Sender}
 use Rattle.world_views.specs.Links.{AreLinks, LinkState, Links, behind, link, put_all}
 use Rattle.world_views.specs.Links as network
 use Rattle.world_views.specs.Machine.{after, machine, sender, sent_count, signals_of, step_by, stops_by, told}
 use Rattle.world_views.specs.Right.{IsLinked, IsOpen, on_link}
-use Rattle.world_views.specs.Sending.{Routed, addressed, all_addressed, count_routed, counted, headed, routed_all}
+use Rattle.world_views.specs.Sending.{Routed, addressed, all_addressed, count_routed, headed, routed_all}
 use Rattle.world_views.specs.World.{Whole, step_made}
 use Rattle.world_views.proofs.Entered.{AreRightLinks, sent_links}
 use Rattle.world_views.proofs.GivenFacts.{put_past, running_given}

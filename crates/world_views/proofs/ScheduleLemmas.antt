@@ -11,7 +11,8 @@ use Rattle.sig_core.specs.declared.view.Shape.{Shape}
 use Rattle.node_views.specs.WellFormed.{is_node}
 use Rattle.world_core.specs.Hosts.{hosts, member_at}
 use Rattle.world_core.specs.Start.{Start}
-use Rattle.world_core.specs.World.{logs_at}
+use Rattle.world_core.specs.World.{logs_at, next_stamp}
+use Rattle.world_core.specs.Steps.{Addressed}
 use Rattle.world_views.specs.declared.schedule.Pick.{Pick}
 use Rattle.world_views.specs.declared.schedule.Pick.TheVariants.{Cut, Stop, Take}
 use Rattle.world_views.specs.declared.schedule.ScheduleFault.{ScheduleFault}
@@ -20,7 +21,7 @@ use Rattle.world_views.specs.Driven.{HaveGrown, IsDriven, IsSound, IsWorld}
 use Rattle.world_views.specs.Links.{Arrival, take_between}
 use Rattle.world_views.specs.Machine.{IsOwnWork, first_of, has_stopped, own_stop, step_by}
 use Rattle.world_views.specs.Schedule.{HasPicked, HavePicked, IsEmpty, IsGone, IsPicked, IsScheduled, LeavesRight, StopsAt, host_of, is_discarded, is_other, left_of, may_be}
-use Rattle.world_views.specs.World.{HasFailed, HasHandled, IsThere, Whole, body_at, cutting, has_stopped_in}
+use Rattle.world_views.specs.World.{body_at, cutting, handled_by, has_stopped_in, HasHandled, is_stamp, IsThere, Whole}
 use Rattle.world_views.proofs.FailDriven.{fail_driven, stop_driven}
 use Rattle.world_views.proofs.OwnReady.{ask_ready}
 use Rattle.world_views.proofs.StepDriven.{entered_driven}
@@ -74,17 +75,19 @@ cuts_rightly start w h node sound some other =
 -- it cuts it off, or stops for want of what that needs
 cut_driven : (start : Start) (w v : Whole) (h node : ℕ) → IsSound start w → h < hosts start → has_stopped (logs_at w.logs h) ≡ false
     → 1 ≤ h → IsOwnWork start h (cutting w h node).signal.body → HasHandled w (cutting w h node) v → IsDriven start w v
-cut_driven start w v h node sound low runs some own (inl same) =
-    let x = cutting w h node in
-    subst (IsDriven start w) (sym same)
-    (entered_driven start sound.given w w.bodies w.links 0 x (step_by h (body_at w.bodies h) x.signal) sound.right
-    (λ others was. ask_ready start others w was h low runs x.signal.body own)
-    (λ shell. absurd (grind (arith, nat_tests, shell, some))))
-cut_driven start w v h node sound low runs some own (inr failed) = go failed.1
+cut_driven start w v h node sound low runs some own = by (is_stamp (next_stamp w.stamps h x.signal.stamp))
   where
-    go : HasFailed w h Memory v ⊎ HasFailed w h Clock v → IsDriven start w v
-    go (inl memory) = fail_driven start sound.given w sound.right h low runs some Memory tt v memory
-    go (inr clock) = fail_driven start sound.given w sound.right h low runs some Clock tt v clock
+    x : Addressed
+    x = cutting w h node
+
+    by : (b : Bool) → handled_by b w x v → IsDriven start w v
+    by true (inl same) =
+        subst (IsDriven start w) (sym same)
+        (entered_driven start sound.given w w.bodies w.links 0 x (step_by h (body_at w.bodies h) x.signal) sound.right
+        (λ others was. ask_ready start others w was h low runs x.signal.body own)
+        (λ shell. absurd (grind (arith, nat_tests, shell, some))))
+    by true (inr failed) = fail_driven start sound.given w sound.right h low runs some Memory tt v failed.1
+    by false failed = fail_driven start sound.given w sound.right h low runs some Clock tt v failed.1
 
 -- a pick drives a world
 pub pick_driven : (start : Start) (w v : Whole) (pick : Pick) → IsSound start w → may_be w pick ≡ true → HasPicked w pick v

@@ -14,11 +14,12 @@ use Rattle.node_views.specs.declared.standing.Standing.{Standing}
 use Rattle.node_views.specs.Row.{is_cut}
 use Rattle.world_core.specs.Start.{Start, made}
 use Rattle.world_core.specs.Steps.{Addressed, HostStep}
+use Rattle.world_core.specs.Machine.{counted, last_stamp}
 use Rattle.world_views.specs.declared.sender.Sender.{Sender}
 use Rattle.world_views.specs.Hosts.{reached}
-use Rattle.world_views.specs.Machine.{after, closing, has_cut, has_stopped, last_stamp, machine, routed_after, sender, sent_count, step_after}
+use Rattle.world_views.specs.Machine.{after, closing, has_cut, has_stopped, machine, routed_after, sender, sent_count, step_after}
 use Rattle.world_views.specs.Right.{IsHeld, holds_by, stopped_holds}
-use Rattle.world_views.specs.Sending.{Routed, all_addressed, counted, is_asked, is_kept_back, is_own_work, routed, routed_all, routed_if}
+use Rattle.world_views.specs.Sending.{Routed, all_addressed, is_asked, is_kept_back, is_own_work, routed, routed_all, routed_if}
 
 -- a signal of this host and stamp; to itself it isn't what the host asks of itself
 record IsFrom (h stamp : ℕ) (x : Addressed) : Type 0 where

@@ -1,5 +1,5 @@
 -- A signal that was taken from its link drives its world, whatever became of it.
-use Rattle.std.proofs.Common.{◌≡◌, ◌⊎◌, inl, inr, ℕ, List, Bool, true, false, refl, sym, subst}
+use Rattle.std.proofs.Common.{◌≡◌, ◌≤◌, inl, inr, ℕ, List, Bool, true, false, refl, sym, subst}
 use Rattle.std.specs.Prelude.{if◌then◌else◌, ◌==◌, ◌&&◌, None}
 use Rattle.std.proofs.lemmas.Bool.{true≢false}
 use Rattle.sig_core.specs.declared.outcome.StopCause.TheVariants.{Clock, Memory}
@@ -9,19 +9,20 @@ use Rattle.sig_core.specs.declared.signal.Body.TheVariants.{Host}
 use Rattle.sig_core.specs.declared.signal.Signal.{Signal}
 use Rattle.sig_core.specs.declared.signal.host.HostSignal.TheVariants.{Closed}
 use Rattle.sig_core.specs.Step.{Step}
+use Rattle.sig_core.specs.declared.outcome.StopCause.{StopCause}
 use Rattle.node_views.specs.declared.host.Host as node
 use Rattle.world_core.specs.Hosts.{hosts}
 use Rattle.world_core.specs.Right.{arriving}
 use Rattle.world_core.specs.Start.{Start}
 use Rattle.world_core.specs.Steps.{Addressed}
-use Rattle.world_core.specs.World.{logs_at}
+use Rattle.world_core.specs.World.{logs_at, next_stamp}
 use Rattle.world_views.specs.Driven.{IsDriven}
 use Rattle.world_views.specs.Links.{Arrival}
-use Rattle.world_views.specs.Machine.{after, closes, own_stop, step_by}
+use Rattle.world_views.specs.Machine.{after, closes, IsOwnCause, own_stop, step_by}
 use Rattle.world_views.specs.Right.{IsRight}
 use Rattle.world_views.specs.Schedule.{HasTaken, is_discarded, left_of, taken_if}
 use Rattle.world_views.specs.Sending.{is_asked, is_own_work}
-use Rattle.world_views.specs.World.{HasFailed, Whole, body_at}
+use Rattle.world_views.specs.World.{body_at, handled_by, HasFailed, HasHandled, is_stamp, Whole}
 use Rattle.world_views.proofs.FailDriven.{lost_driven}
 use Rattle.world_views.proofs.Ready.{IsReady}
 use Rattle.world_views.proofs.StepDriven.{entered_driven, grown_itself}
@@ -32,13 +33,6 @@ use Rattle.world_views.proofs.TakeRight.{discard_right, fact, on_open, row_step,
 closes_none : (work : Body) → is_own_work work ≡ false → closes work ≡ None
 closes_none (Host (Closed cause)) e = absurd (true≢false e)
 closes_none work e = refl
-
-pub no_stop : (h : ℕ) (x : Signal) → closes x.body ≡ None → own_stop h x ≡ None
-no_stop h x e = go (x.from.0 == h)
-  where
-    go : (b : Bool) → (if b then closes x.body else None) ≡ None
-    go true = e
-    go false = refl
 
 -- nor is what it didn't ask itself for
 pub not_own : (h : ℕ) (x : Signal) → is_asked h x ≡ false → own_stop h x ≡ None
@@ -62,27 +56,28 @@ module _ (start : Start) (given : List ApiReply) (w : Whole) (right : IsRight st
   step = step_by at.to (body_at w.bodies at.to) at.signal
 
   -- it was handled
-  handle_driven : (u : Whole) → (kept : is_discarded (left_of w t) arrived ≡ false) → taken_if false (left_of w t) arrived u
+  handle_driven : (u : Whole) → (kept : is_discarded (left_of w t) arrived ≡ false) → HasHandled (left_of w t) arrived u
       → IsDriven start w u
-  handle_driven u kept (inl same) =
-      subst (IsDriven start w) (sym same)
-      (entered_driven start given w w.bodies t.left 0 arrived step right ready
-      (λ shell. (fact start given w right t at kept).plain))
+  handle_driven u kept = by (is_stamp (next_stamp w.stamps at.to at.signal.stamp))
     where
       ready : (others : List ApiReply) → IsRight start others w → IsReady start others (left_of w t) arrived step
       ready others was =
           take_ready start others w was t at kept step
           (row_step at.to (after start at.to (logs_at w.logs at.to)) (body_at w.bodies at.to) at.signal
           (was.bodies at.to at.to_low (on_open start others w was t at kept).runs))
-  handle_driven u kept (inr failed) = go failed.1
-    where
-      go : HasFailed (left_of w t) at.to Memory u ⊎ HasFailed (left_of w t) at.to Clock u → IsDriven start w u
-      go (inl memory) =
-          lost_driven start given w right at.to at.to_low (on_open start given w right t at kept).runs failed.0 Memory tt t.left
-          at.from u at.from_low (taking_shortens start given w right t at) memory
-      go (inr clock) =
-          lost_driven start given w right at.to at.to_low (on_open start given w right t at kept).runs failed.0 Clock tt t.left
-          at.from u at.from_low (taking_shortens start given w right t at) clock
+
+      lost : (cause : StopCause) → IsOwnCause cause → 1 ≤ at.to → HasFailed (left_of w t) at.to cause u → IsDriven start w u
+      lost cause own some failed =
+          lost_driven start given w right at.to at.to_low (on_open start given w right t at kept).runs some cause own t.left
+          at.from u at.from_low (taking_shortens start given w right t at) failed
+
+      by : (b : Bool) → handled_by b (left_of w t) arrived u → IsDriven start w u
+      by true (inl same) =
+          subst (IsDriven start w) (sym same)
+          (entered_driven start given w w.bodies t.left 0 arrived step right ready
+          (λ shell. (fact start given w right t at kept).plain))
+      by true (inr failed) = lost Memory tt failed.0 failed.1
+      by false failed = lost Clock tt failed.0 failed.1
 
   pub taken_driven : (u : Whole) → HasTaken (left_of w t) t.taken u → IsDriven start w u
   taken_driven u taken =

@@ -17,8 +17,9 @@ use Rattle.world_core.specs.Right.{arriving}
 use Rattle.world_core.specs.Start.{Start}
 use Rattle.world_core.specs.Steps.{Addressed, HostStep}
 use Rattle.world_core.specs.World.{logs_at}
+use Rattle.world_core.specs.Machine.{last_stamp}
 use Rattle.world_views.specs.Links.{AreLinks, Arrival, LinkState, link, rest_on}
-use Rattle.world_views.specs.Machine.{after, comes_rightly, has_cut, has_stopped, last_stamp, machine, step_by}
+use Rattle.world_views.specs.Machine.{after, comes_rightly, has_cut, has_stopped, machine, step_by}
 use Rattle.world_views.specs.Right.{IsHeld, IsOpen, IsRight, on_link}
 use Rattle.world_views.specs.Schedule.{is_discarded, left_of}
 use Rattle.world_views.specs.World.{Whole, body_at, has_stopped_in}

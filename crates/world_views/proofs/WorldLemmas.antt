@@ -14,13 +14,13 @@ use Rattle.world_core.specs.Labels.{AreLabelled}
 use Rattle.world_core.specs.Right.{arriving}
 use Rattle.world_core.specs.Start.{Start}
 use Rattle.world_core.specs.Steps.{Addressed, HostStep}
-use Rattle.world_core.specs.World.{logs_at}
+use Rattle.world_core.specs.World.{logs_at, next_stamp}
 use Rattle.world_views.specs.Driven.{HasAsked, HaveGrown, IsDriven, IsSound, IsStepped, IsWorld}
 use Rattle.world_views.specs.Links.{Arrival, take_first}
 use Rattle.world_views.specs.Machine.{has_stopped, own_signal, own_stop, request_body}
 use Rattle.world_views.specs.Right.{IsRight}
 use Rattle.world_views.specs.Schedule.{HasTaken, is_discarded, left_of}
-use Rattle.world_views.specs.World.{HasHandled, IsIdle, IsOf, IsThere, Whole, asked, asking, body_at, has_stopped_in, moved, new_world}
+use Rattle.world_views.specs.World.{asked, asking, body_at, handled_by, has_stopped_in, HasHandled, is_stamp, IsIdle, IsOf, IsThere, moved, new_world, Whole}
 use Rattle.world_views.proofs.AskDriven as ask
 use Rattle.world_views.proofs.FreshWorld.{fresh_sound}
 use Rattle.world_views.proofs.StepDriven.{grown_itself}
@@ -80,8 +80,12 @@ wishes w view request s seen is =
 
 -- the shell's host doesn't fail
 shell_handles : (w t : Whole) (x : Addressed) → x.to ≡ 0 → HasHandled w x t → t ≡ moved w 0 x
-shell_handles w t x shell (inl is) = is
-shell_handles w t x shell (inr failed) = absurd (omega (arith, failed.0, shell))
+shell_handles w t x shell = by (is_stamp (next_stamp w.stamps x.to x.signal.stamp))
+  where
+    by : (b : Bool) → handled_by b w x t → t ≡ moved w 0 x
+    by true (inl is) = is
+    by true (inr failed) = absurd (omega (arith, failed.0, shell))
+    by false failed = absurd (omega (arith, failed.0, shell))
 
 has_asked : (start : Start) (w t : Whole) (request : ApiReq) → has_stopped_in w 0 ≡ false → IsSound start w → t ≡ asked w request
     → HasAsked start request w t

@@ -1,3 +1,4 @@
+pub mod At
 pub mod Driven
 pub mod Hosts
 pub mod Links
@@ -7,5 +8,7 @@ pub mod Requests
 pub mod Right
 pub mod Schedule
 pub mod Sending
+pub mod SerialLaw
+pub mod Strict
 pub mod World
 pub mod WorldOf

@@ -11,6 +11,7 @@ use Rattle.sig_core.specs.declared.mark.Mark.TheVariants.{Stopped}
 use Rattle.sig_core.specs.declared.member.Member.{Member}
 use Rattle.sig_core.specs.declared.outcome.StopCause.{StopCause}
 use Rattle.sig_core.specs.declared.outcome.StopCause.TheVariants.{Clock, Killed, Memory}
+use Rattle.sig_core.specs.declared.outs.Outgoing.{Outgoing}
 use Rattle.sig_core.specs.declared.reply.ApiReply.{ApiReply}
 use Rattle.sig_core.specs.declared.request.ApiReq.{ApiReq}
 use Rattle.sig_core.specs.declared.signal.Body.{Body}
@@ -26,6 +27,7 @@ use Rattle.node_views.specs.Replies as host
 use Rattle.node_views.specs.Row.{host_row, is_cut, is_stop, stopping}
 use Rattle.node_views.specs.WellFormed.{is_node}
 use Rattle.world_core.specs.Hosts.{host_by, member_at}
+use Rattle.world_core.specs.Machine.{last_stamp}
 use Rattle.world_core.specs.Start.{Start, made}
 use Rattle.world_core.specs.Steps.{Addressed, HostStep}
 use Rattle.sig_core.specs.declared.place.Part.TheVariants.{Main}
@@ -106,18 +108,21 @@ signals_of start h log e =
     all_addressed (sender (made start) h e.step.stamp (after start h (e ∷ log)).standing.view) (sent_count start h log)
     (routed_after start h log e)
 
+-- for the block of host j that closings, and its own signals, are for
+abbrev pub to_front : List Member → ℕ → Body → Outgoing
+to_front made j body = record { to = front_of made j; body = body }
+
 -- the last signal on a link to host j from a host that has stopped by this step: it has the view of the signal that it took
 abbrev pub closing_signal : List Member → HostStep → ℕ → Signal
 closing_signal made e j =
-    headed (sender made e.host e.step.stamp e.step.taken.view) 0
-    (record { to = front_of made j; body = Host (Closed (cause_in e.step.marks)) })
+    headed (sender made e.host e.step.stamp e.step.taken.view) 0 (to_front made j (Host (Closed (cause_in e.step.marks))))
 
 abbrev pub closing : List Member → HostStep → ℕ → Addressed
 closing made e j = record { to = j; signal = closing_signal made e j }
 
 -- the signal of host h to itself, after a step of this stamp
 abbrev pub own_signal : List Member → ℕ → ℕ → View → Body → Signal
-own_signal made h stamp view body = headed (sender made h stamp view) 0 (record { to = front_of made h; body = body })
+own_signal made h stamp view body = headed (sender made h stamp view) 0 (to_front made h body)
 
 -- the shell's request
 abbrev pub request_body : ApiReq → Body
@@ -146,11 +151,6 @@ IsOwnWork start h (Host (Continue (Request request) at)) = (h ≡ 0) × (at ≡ 
 IsOwnWork start h (Host (Closed cause)) = (1 ≤ h) × IsOwnCause cause
 IsOwnWork start h (Host (Cut node first)) = (1 ≤ h) × IsOther start h node first.0
 IsOwnWork start h body = ⊥
-
--- the stamp of the newest step
-abbrev pub last_stamp : List HostStep → ℕ
-last_stamp [] = 0
-last_stamp (e ∷ log) = e.step.stamp
 
 -- after its log host h asks itself for this
 pub record IsOwn (start : Start) (h : ℕ) (log : List HostStep) (x : Signal) : Type 0 where

@@ -10,8 +10,9 @@ use Rattle.world_core.specs.Right.{IsLabelled, arriving}
 use Rattle.world_core.specs.Start.{Start, made}
 use Rattle.world_core.specs.Steps.{Addressed, HostStep}
 use Rattle.world_core.specs.World.{logs_at, no_steps}
+use Rattle.world_core.specs.Machine.{last_stamp}
 use Rattle.world_views.specs.Links.{LinkState, link}
-use Rattle.world_views.specs.Machine.{after, has_cut, has_stopped, last_stamp, machine, replies_at, sent_count, step_after}
+use Rattle.world_views.specs.Machine.{after, has_cut, has_stopped, machine, replies_at, sent_count, step_after}
 use Rattle.world_views.specs.World.{IsOf, Whole, body_at}
 
 -- the replies that the steps of a log of the shell's host made, in the order of time

@@ -1,5 +1,5 @@
 -- What a step sends, and to which hosts.
-use Rattle.std.specs.Prelude.{ℕ, ◌==◌, ◌&&◌, ◌||◌, if◌then◌else◌, Bool, true, false, List, [], ◌∷◌}
+use Rattle.std.specs.Prelude.{ℕ, ◌==◌, ◌&&◌, ◌||◌, Bool, true, false, List, [], ◌∷◌}
 use Rattle.sig_core.specs.declared.member.Member.{Member}
 use Rattle.sig_core.specs.declared.outs.Outgoing.{Outgoing}
 use Rattle.sig_core.specs.declared.signal.Body.{Body}
@@ -9,7 +9,7 @@ use Rattle.sig_core.specs.declared.signal.host.HostSignal.TheVariants.{Closed, C
 use Rattle.sig_core.specs.declared.signal.host.Work.TheVariants.{Request}
 use Rattle.node_views.specs.declared.standing.Standing.{Standing}
 use Rattle.node_views.specs.Row.{is_cut}
-use Rattle.world_core.specs.Machine.{one_more}
+use Rattle.world_core.specs.Machine.{counted}
 use Rattle.world_core.specs.Steps.{Addressed}
 use Rattle.world_views.specs.declared.sender.Sender.{Sender}
 use Rattle.world_views.specs.Hosts.{reached}
@@ -60,10 +60,6 @@ headed by number sent =
       view = by.view;
       body = sent.body;
     }
-
--- how many signals were sent to each host, and then one more to this one
-abbrev pub counted : ℕ → (ℕ → ℕ) → ℕ → ℕ
-counted to count j = if to == j then one_more (count j) else count j
 
 -- so many to each host, and then these
 abbrev pub count_routed : List Routed → (ℕ → ℕ) → ℕ → ℕ

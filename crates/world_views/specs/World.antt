@@ -1,5 +1,5 @@
 -- A world: the hosts, the links between them, and what each host has done.
-use Rattle.std.specs.Prelude.{◌≡◌, ◌<◌, ◌≤◌, ◌⊎◌, ℕ, ◌+◌, ◌*◌, ◌==◌, ◌||◌, max, Bool, true, false, List, [], ◌++◌, length, replicate, slice_index_or, slice_set}
+use Rattle.std.specs.Prelude.{◌≡◌, ◌<◌, ◌≤◌, ◌⊎◌, ℕ, ◌+◌, ◌*◌, ◌^◌, ◌==◌, ◌||◌, nat_lt, Bool, true, false, List, [], ◌++◌, length, replicate, slice_index_or, slice_set}
 use Rattle.frag_map.specs.Layout.{first_layout}
 use Rattle.sig_core.specs.declared.log.HostLog.{HostLog}
 use Rattle.sig_core.specs.declared.log.LogStep.{LogStep}
@@ -23,14 +23,14 @@ use Rattle.node_views.specs.Row.{is_cut, stopping}
 use Rattle.world_core.specs.Hosts.{hosts}
 use Rattle.world_core.specs.Start.{Start, made}
 use Rattle.world_core.specs.Steps.{Addressed}
-use Rattle.world_core.specs.World.{for_each, no_steps, with_step}
-use Rattle.world_views.specs.Hosts.{front_of, started}
+use Rattle.world_core.specs.World.{for_each, next_stamp, no_steps, with_step}
+use Rattle.world_views.specs.Hosts.{started}
 use Rattle.world_views.specs.Links.{AreIdle, AreLinks, Links, close_below, lose, new_link, put_all}
-use Rattle.world_views.specs.Machine.{cause_in, first_of, own_signal, replies_at, request_body, sender, step_by, stops_by, told}
+use Rattle.world_views.specs.Machine.{cause_in, first_of, own_signal, replies_at, request_body, sender, step_by, stops_by, to_front, told}
 use Rattle.world_views.specs.Sending.{headed, routed_all}
 
--- the shape of the cluster, the members that were made, the hosts, which of them have stopped, the links to each, the stamp of each host's last step,
--- the log of each, and the replies that the shell hasn't had
+-- the shape of the cluster, the members that were made, the hosts, which of them have stopped, the links to each, the stamp
+-- of each host's last step, the log of each, and the replies that the shell hasn't had
 pub record Whole : Type 0 where
   pub shape : Shape
   pub made : List Member
@@ -45,9 +45,9 @@ pub record Whole : Type 0 where
 abbrev pub body_at : List Host → ℕ → Host
 body_at bodies h = slice_index_or bodies h (fresh_shell (first_layout (record { nodes = 0; replicas = 0; fragments = 0 })))
 
--- the stamp of the step in which a host takes a signal
-abbrev pub next_stamp : List ℕ → ℕ → ℕ → ℕ
-next_stamp stamps h sent_at = max (slice_index_or stamps h 0) sent_at + 1
+-- a stamp that a step may have
+abbrev pub is_stamp : ℕ → Bool
+is_stamp stamp = nat_lt stamp (2 ^ 48)
 
 -- a host doesn't close its link to itself, nor to one that it has cut off
 abbrev pub is_unclosed : ℕ → Standing → ℕ → Bool
@@ -67,7 +67,7 @@ abbrev pub closing : Whole → ℕ → ℕ → View → StopCause → ℕ → Wh
 closing w h stamp view cause lost =
     record w {
       links = close_below (length w.made * 3 + 1) (lose w.links h lost) h (is_unclosed h (body_at w.bodies h).standing)
-          (λ j. headed (sender w.made h stamp view) 0 (record { to = front_of w.made j; body = body.Host (Closed cause) }));
+          (λ j. headed (sender w.made h stamp view) 0 (to_front w.made j (body.Host (Closed cause))));
     }
 
 abbrev pub closing_if : Bool → Whole → ℕ → ℕ → View → StopCause → ℕ → Whole
@@ -140,10 +140,14 @@ pub record HasFailed (w : Whole) (h : ℕ) (cause : StopCause) (t : Whole) : Typ
   pub cut : left.standing.cut ≡ (body_at w.bodies h).standing.cut
   pub is : t ≡ halted (with_body w h left) h (body_at w.bodies h).standing.view cause 0
 
--- What becomes of a signal in the hand of a host: it handles it, or it stops, for want of memory or because its stamps are
--- used up. The shell's host doesn't stop.
+-- What becomes of a signal in the hand of a host: where there is a stamp for it, it handles it, or it stops for want of
+-- memory; and else it stops since its stamps are used up. The shell's host doesn't stop.
+abbrev pub handled_by : Bool → Whole → Addressed → Whole → Type 0
+handled_by true w x t = (t ≡ moved w 0 x) ⊎ ((1 ≤ x.to) × HasFailed w x.to Memory t)
+handled_by false w x t = (1 ≤ x.to) × HasFailed w x.to Clock t
+
 abbrev pub HasHandled : Whole → Addressed → Whole → Type 0
-HasHandled w x t = (t ≡ moved w 0 x) ⊎ ((1 ≤ x.to) × (HasFailed w x.to Memory t ⊎ HasFailed w x.to Clock t))
+HasHandled w x t = handled_by (is_stamp (next_stamp w.stamps x.to x.signal.stamp)) w x t
 
 -- a host cuts off another node
 abbrev pub cutting : Whole → ℕ → ℕ → Addressed

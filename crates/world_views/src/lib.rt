@@ -13,6 +13,7 @@ mod sender;
 mod telling;
 mod world;
 
+pub use hosts::PARTS;
 pub use schedule::{Pick, ScheduleFault};
 pub use world::World;
 

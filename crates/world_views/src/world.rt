@@ -48,11 +48,11 @@ impl World {
     ghost use Rattle.world_core.specs.Labels.{AreLabelled};
     ghost use Rattle.world_core.specs.Lives.{fresh_life};
     ghost use Rattle.world_core.specs.Start.{Start};
-    ghost use Rattle.world_core.specs.World.{logs_at};
+    ghost use Rattle.world_core.specs.World.{logs_at, next_stamp};
     ghost use Rattle.world_views.specs.Driven.{HasAsked, HaveGrown, IsDriven, IsSound, IsStepped, IsWorld};
     ghost use Rattle.world_views.specs.Machine.{own_signal, sender};
     ghost use Rattle.world_views.specs.Schedule.{HasTaken, is_discarded};
-    ghost use Rattle.world_views.specs.World.{HasHandled, IsIdle, IsThere, closing, cutting, entered, halted, has_stopped_in, is_left_open, new_world, next_stamp, sending, stopped};
+    ghost use Rattle.world_views.specs.World.{HasHandled, IsIdle, IsThere, closing, cutting, entered, halted, has_stopped_in, is_left_open, new_world, sending, stopped};
     ghost use Rattle.world_views.specs.WorldOf.{whole_of};
 
     /// A world in which nothing has happened: a cluster of this shape begins a life in this epoch,

@@ -218,55 +218,32 @@ fn cuts_and_views(rt: HostRuntime) -> Result<(), Fail> {
 // Also one that isn't in the greatest view any more.
 #[test]
 fn each_node_that_runs_has_its_rounds(rt: HostRuntime) -> Result<(), Fail> {
+    let all = "lqh1 round, lqh2 round, lqh3 round, main1 round, main2 round, main3 round";
     let lines = [
-        (
-            0,
-            1,
-            Heard::Tick(1, 2),
-            "main1 round, lqh1 round, main2 round, lqh2 round, main3 round, lqh3 round",
-        ),
+        (0, 1, Heard::Tick(1, 2), all),
         (4, 2, Heard::Installed, ""),
         (
             0,
             2,
             Heard::Tick(2, 2),
-            "main1 round, lqh1 round, main2 round, lqh2 round, main3 round, lqh3 round, ticked 2",
+            "lqh1 round, lqh2 round, lqh3 round, main1 round, main2 round, main3 round, ticked 2",
         ),
         (1, 2, KILLED, "node 1 killed"),
         (
             0,
             2,
             Heard::Tick(1, 1),
-            "main2 round, lqh2 round, main3 round, lqh3 round, ticked 1",
+            "lqh2 round, lqh3 round, main2 round, main3 round, ticked 1",
         ),
     ];
     talk(&rt, rt.alloc(), &lines)
 }
 
-// A stop between the parts of a round moves nobody's place.
+// Two signals each, in one event.
 #[test]
-fn a_round_of_many_nodes_goes_on(rt: HostRuntime) -> Result<(), Fail> {
-    let lines = [
-        (
-            0,
-            1,
-            Heard::Tick(1, 1),
-            "main1 round, lqh1 round, main2 round, lqh2 round, main3 round, lqh3 round, main4 round, lqh4 round, api0 goes on, ticked 1",
-        ),
-        (4, 1, KILLED, "node 2 killed"),
-        (
-            0,
-            1,
-            Heard::Rounds(4),
-            "main5 round, lqh5 round, main6 round, lqh6 round",
-        ),
-        (0, 1, Heard::Rounds(8), ""),
-        (
-            0,
-            1,
-            Heard::Tick(1, 1),
-            "main1 round, lqh1 round, main3 round, lqh3 round, main4 round, lqh4 round, api0 goes on, ticked 1",
-        ),
-    ];
-    talk_of(&rt, rt.alloc(), 6, &lines)
+fn eight_nodes_have_their_rounds_at_once(rt: HostRuntime) -> Result<(), Fail> {
+    let all =
+        "lqh1 round, lqh2 round, lqh3 round, lqh4 round, lqh5 round, lqh6 round, lqh7 round, lqh8 round, main1 round, main2 round, main3 round, main4 round, main5 round, main6 round, main7 round, main8 round";
+    let lines = [(0, 1, Heard::Tick(1, 2), all)];
+    talk_of(&rt, rt.alloc(), 8, &lines)
 }

@@ -20,8 +20,6 @@ pub enum Heard {
     Rows(u8),
     /// A round of so many.
     Tick(u8, u8),
-    /// Its own signal to go on with a round.
-    Rounds(u64),
     Pending,
     GoOn,
     Begun(Option<u16>, u8, u64),
@@ -70,10 +68,6 @@ fn short_body(heard: Heard) -> Body {
         Heard::View => request(ApiReq::View),
         Heard::Rows(node) => request(ApiReq::Rows { node }),
         Heard::Tick(round, of) => request(ApiReq::Tick { round, of }),
-        Heard::Rounds(at) => Body::Host(HostSignal::Continue {
-            work: Work::Members,
-            at,
-        }),
         Heard::Pending => request(ApiReq::Pending),
         Heard::GoOn => Body::Host(HostSignal::Continue {
             work: Work::Report,

@@ -3,8 +3,8 @@ use Rattle.tuple_pages.specs.Places.{PagesState, places_in}
 use Rattle.tuple_pages.proofs.PageLemmas.{next_from, next_further, next_here, next_none, places-length, row_here}
 use Rattle.tuple_pages.proofs.pages.Pages.next_row.Goals as goal
 
-pub returns-then-has_row : goal.returns-then-has_row
-returns-then-has_row c =
+pub returns-then-has_row-clause-place : goal.returns-then-has_row-clause-place
+returns-then-has_row-clause-place c =
     let pages = c.self.inside.pages.items in
     let slots : places_in c.self.inside.pages.items c.self.inside.len ≡ c.args.self.now.slots
     = ap (λ (p : PagesState). p.slots) c.self.view_is in
@@ -67,8 +67,8 @@ loop-place-preserved c =
     ∙ c.if-has_row.false))
     ∙ c.loop-place.invariant
 
-pub returns : goal.returns
-returns c =
+pub returns-clause-place : goal.returns-clause-place
+returns-clause-place c =
     let slots : places_in c.self.inside.pages.items c.self.inside.len ≡ c.args.self.now.slots
     = ap (λ (p : PagesState). p.slots) c.self.view_is in
     let long : length c.args.self.now.slots ≡ c.self.inside.len
