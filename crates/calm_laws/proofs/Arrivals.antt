@@ -1,5 +1,6 @@
 -- What comes to a host in calm: what the shell asks for, or what a link gives in both machines.
-use Rattle.std.proofs.Common.{◌≡◌, ◌⊎◌, ◌<◌, ◌≤◌, inl, inr, ℕ, zero, suc, List, ◌∷◌, Bool, true, false, refl, ap, sym, ◌∙◌, subst, subst₂}
+use Rattle.std.proofs.Common.{◌≡◌, ◌⊎◌, ◌<◌, ◌≤◌, inl, inr, ℕ, zero, suc, List, ◌∷◌, Bool, true, false, refl, ap, sym}
+use Rattle.std.proofs.Common.{◌∙◌, subst, subst₂}
 use Rattle.std.specs.Prelude.{◌==◌, ◌&&◌}
 use Rattle.std.proofs.lemmas.Bool.{and_right, cases_lt, false≢true, true≢false}
 use Rattle.api_views.specs.Laws.{is_vouched}
@@ -29,7 +30,8 @@ use Rattle.calm_laws.specs.Calm.{is_calm, is_for}
 use Rattle.calm_laws.specs.Known.{IsOfFirst}
 use Rattle.calm_laws.specs.Plain.{is_beating}
 use Rattle.calm_laws.specs.Steps.{ComesCalmly}
-use Rattle.calm_laws.proofs.CalmSignals.{IsBeat, calm_block, calm_body, main_beat, no_views, own_request, vouched_client}
+use Rattle.calm_laws.proofs.CalmSignals.{IsBeat, calm_block, calm_body, main_beat, no_views, own_request}
+use Rattle.calm_laws.proofs.CalmSignals.{vouched_client}
 use Rattle.calm_laws.proofs.Events.{plain_events, same_log}
 use Rattle.calm_laws.proofs.FirstMembers.{first_fine, member_known}
 use Rattle.calm_laws.proofs.Mirrored.{IsMirrored}
@@ -45,7 +47,8 @@ pub record Arrives (start : Start) (es : List HostStep) (h : ℕ) (x : Signal) :
   pub view : x.view ≡ first start
   pub vouched : is_vouched x.body ≡ true → is_member (first start) x.member ≡ true
   pub asked : is_asked h x ≡ is_request x.body
-  pub rightly : asked_rightly (first_membership start) (is_request x.body) h (last_stamp (log_of (machine start) es h)) x
+  pub rightly :
+      asked_rightly (first_membership start) (is_request x.body) h (last_stamp (log_of (machine start) es h)) x
   pub takes : is_request x.body ≡ false → GivesNext (plain.machine start) (plain_events es) x.from.0 h (arriving h x)
 
 -- what the shell asks itself for in calm is a request, in both machines
@@ -144,7 +147,8 @@ module _ (start : Start) (es : List HostStep) (h : ℕ) (x : Signal) (calm : is_
           go true beats = absurd (no_views h x.to.block takes (calm_block h x calm) (seen.block.views beats))
           go false is = is
 
-      plain_past : IsPast (arriving h x ∷ taken (plain.machine start) i (log h)) (sent (plain.machine start) i h (log i))
+      plain_past :
+          IsPast (arriving h x ∷ taken (plain.machine start) i (log h)) (sent (plain.machine start) i h (log i))
       plain_past =
           subst₂ IsPast
           (ap (λ xs. arriving h x ∷ xs) (taken_alike start i (log h) ((mirrored h).asked takes)))

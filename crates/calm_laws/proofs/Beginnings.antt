@@ -1,5 +1,5 @@
 -- In a life that begins without rows the hosts begin alike.
-use Rattle.std.proofs.Common.{◌≡◌, ◌∙◌, ◌-◌, ◌%◌, ℕ, zero, suc, List, [], refl, ap, sym}
+use Rattle.std.proofs.Common.{◌≡◌, ◌∙◌, ◌%◌, ℕ, zero, suc, List, [], refl, ap, sym}
 use Rattle.frag_map.specs.Layout.{first_layout}
 use Rattle.lqh_block.specs.Lqh.{unasked_yet}
 use Rattle.lqh_block.specs.State.{LqhState}
@@ -12,7 +12,7 @@ use Rattle.sig_core.specs.Rows.{RowsState, no_rows}
 use Rattle.world_core.specs.Hosts as plain_world
 use Rattle.world_core.specs.Hosts.{member_at, part_by}
 use Rattle.world_core.specs.Start.{Start, made}
-use Rattle.world_views.specs.Hosts.{part_started, started}
+use Rattle.world_views.specs.Hosts.{epoch_before, part_started, started}
 use Rattle.calm_laws.specs.Alike.{AreAlike}
 use Rattle.calm_laws.specs.Steps.{HostsBeginAlike}
 
@@ -52,9 +52,11 @@ part_begins start part.Ldm member none = record {
     of_rows : RowsState → LqhState
     of_rows rows = unasked_yet member.node (first_layout start.shape) rows (record { used = 0; reserved = 0 })
 
-    same : of_rows (with_rows no_rows (own_rows start.shape member.node start.rows) (start.epoch - 1))
+    same : of_rows (with_rows no_rows (own_rows start.shape member.node start.rows) (epoch_before start.epoch))
         ≡ of_rows (with_rows no_rows (own_rows start.shape member.node start.rows) start.epoch)
-    same = ap of_rows (none_put start member (start.epoch - 1) none ∙ sym (none_put start member start.epoch none))
+    same =
+        ap of_rows
+        (none_put start member (epoch_before start.epoch) none ∙ sym (none_put start member start.epoch none))
 
 pub begin_alike : HostsBeginAlike
 unfolding started plain_world.started plain.fresh_shell

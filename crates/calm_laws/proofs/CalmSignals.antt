@@ -21,7 +21,8 @@ use Rattle.sig_core.specs.declared.signal.membership.MembershipSignal.TheVariant
 use Rattle.sig_core.specs.declared.view.Shape.{Shape}
 use Rattle.world_core.specs.Hosts.{part_by}
 use Rattle.world_views.specs.Sending.{is_own_work}
-use Rattle.calm_laws.specs.Calm.{has_block, is_calm, is_for, is_for_coordinator, is_for_epochs, is_for_membership, is_for_rows, is_in}
+use Rattle.calm_laws.specs.Calm.{has_block, is_calm, is_for, is_for_coordinator, is_for_epochs, is_for_membership}
+use Rattle.calm_laws.specs.Calm.{is_for_rows, is_in}
 use Rattle.calm_laws.specs.Known.{txs_in}
 use Rattle.calm_laws.specs.Plain.{is_beating, is_main}
 use Rattle.calm_laws.specs.Steps.{is_of_views}
@@ -56,7 +57,8 @@ no_cut block.Lqh node host = refl
 no_cut of node host = refl
 
 -- so what a host asks of itself is a request
-pub own_request : (of : BlockId) (body : Body) → is_for of body ≡ true → is_own_work body ≡ true → is_request body ≡ true
+pub own_request : (of : BlockId) (body : Body) → is_for of body ≡ true → is_own_work body ≡ true
+    → is_request body ≡ true
 own_request of (Host (Continue (Request request) at)) calm own = refl
 own_request of (Host (Cut node host)) calm own = absurd (false≢true (sym (no_cut of node host) ∙ calm))
 own_request of (Host (Closed cause)) calm own = absurd (false≢true (sym (no_closing of cause) ∙ calm))

@@ -1,12 +1,10 @@
 -- One more step of a calm run: its signal comes calmly, its host goes on, and a plain one makes the step too.
-use Rattle.std.proofs.Common.{◌≡◌, ◌<◌, ℕ, zero, suc, List, [], ◌∷◌, ◌++◌, Bool, true, false, refl, ap, ◌∙◌, subst}
-use Rattle.std.proofs.lemmas.Bool.{false≢true}
+use Rattle.std.proofs.Common.{◌≡◌, ◌<◌, List, [], ◌∷◌, Bool, true, false, refl, ap, ◌∙◌, subst}
 use Rattle.frag_map.specs.Shape.{IsShape}
 use Rattle.node_core.specs.Requests.{is_request}
 use Rattle.run_laws.specs.Transit.{Comes}
 use Rattle.run_theory.proofs.Runs.{log_of-own}
 use Rattle.run_theory.specs.Runs.{IsWithin, Run, log_of}
-use Rattle.sig_core.specs.declared.reply.ApiReply.{ApiReply}
 use Rattle.world_core.specs.Hosts.{hosts, member_at}
 use Rattle.world_core.specs.Machine as plain
 use Rattle.world_core.specs.Start.{Start, made}
@@ -14,23 +12,17 @@ use Rattle.world_core.specs.Steps.{HostStep}
 use Rattle.world_views.specs.Machine.{after, machine, stops_by}
 use Rattle.world_views.specs.Right.{replies_in}
 use Rattle.world_views.specs.Sending.{is_asked}
-use Rattle.calm_laws.specs.Alike.{AreAlike, IsAtEase}
+use Rattle.calm_laws.specs.Alike.{IsAtEase}
 use Rattle.calm_laws.specs.Calm.{AreCalm, is_calm}
 use Rattle.calm_laws.specs.Plain.{is_beating}
 use Rattle.calm_laws.specs.Steps.{ComesCalmly, StepAlike, StepAside, plain_replies}
 use Rattle.calm_laws.proofs.Arrivals.{Arrives, arrives, beats_unasked, main_comes, seen}
-use Rattle.calm_laws.proofs.Events.{all_plain, calm_before, calm_now, host_there, plain_events, plain_log, plain_within}
+use Rattle.calm_laws.proofs.Events.{calm_before, calm_now, host_there, plain_events, plain_within}
 use Rattle.calm_laws.proofs.Events.{unless_left, within_before, within_next}
 use Rattle.calm_laws.proofs.KnownTxs.{coming_known}
-use Rattle.calm_laws.proofs.Mirrored.{step_alike}
-use Rattle.calm_laws.proofs.PartSteps.{main_parts_step}
+use Rattle.calm_laws.proofs.Mirrored.{main_aside, step_alike}
 use Rattle.calm_laws.proofs.RunKept.{IsKept, calm_kept}
 use Rattle.calm_laws.proofs.WellFormed.{coming_well_formed}
-
--- only the shell replies
-none_replied : (start : Start) (h : ℕ) (log : List HostStep) → replies_in start (suc h) log ≡ []
-none_replied start h [] = refl
-none_replied start h (e ∷ log) = ap (λ (replies : List ApiReply). replies ++ []) (none_replied start h log)
 
 module _ (start : Start) (shape : IsShape start.shape) (rows : start.rows ≡ []) (es : List HostStep) (e : HostStep)
     (run : Run (machine start) (e ∷ es)) (calm : AreCalm (log_of (machine start) (e ∷ es)))
@@ -44,7 +36,7 @@ module _ (start : Start) (shape : IsShape start.shape) (rows : start.rows ≡ []
   pub host_low : e.host < hosts start
   host_low = host_there start (hosts start) e es within
 
-  kept : IsKept start es
+  pub kept : IsKept start es
   kept = calm_kept start shape rows es run.0 (calm_before start e es calm) within_then
 
   next : IsKept start (e ∷ es)
@@ -92,15 +84,6 @@ module _ (start : Start) (shape : IsShape start.shape) (rows : start.rows ≡ []
           vouched = arrival.vouched;
         }
 
-    pub plain_alike : AreAlike start (plain_replies (replies_in start e.host log)) (after start e.host log)
-        (plain.after start e.host log)
-    plain_alike =
-        subst
-        (λ (rest : List HostStep).
-        AreAlike start (plain_replies (replies_in start e.host log)) (after start e.host log)
-        (plain.after start e.host rest))
-        (all_plain e.host log takes) (kept.mirrored e.host).alike
-
     -- both machines say that it was asked for, or neither does
     pub asked : is_asked e.host e.step.taken ≡ is_request e.step.taken.body
     asked = arrival.asked
@@ -128,29 +111,13 @@ module _ (start : Start) (shape : IsShape start.shape) (rows : start.rows ≡ []
       go true beats = beat_comes beats
       go false takes = part_comes takes
 
-  -- a host behind the shell's, which replies nothing, is alike a plain one
-  pub alone : (h : ℕ) → e.host ≡ suc h
-      → AreAlike start [] (after start e.host log) (plain.after start e.host (plain_log e.host log))
-  alone h is =
-      subst
-      (λ (given : List ApiReply).
-      AreAlike start given (after start e.host log) (plain.after start e.host (plain_log e.host log)))
-      (ap (λ (k : ℕ). plain_replies (replies_in start k log)) is ∙ ap plain_replies (none_replied start h log))
-      (kept.mirrored e.host).alike
-
   -- and the host goes on
   pub goes_on : stops_by e.step.marks ≡ false
   goes_on = go (is_beating e.host) refl
     where
-      main : (h : ℕ) → e.host ≡ h → is_beating h ≡ true → stops_by e.step.marks ≡ false
-      main zero is beats = absurd (false≢true beats)
-      main (suc h) is beats =
-          let aside : StepAside start e.host (after start e.host log) (plain.after start e.host (plain_log e.host log))
-          e.step.taken =
-          main_parts_step start e.host (after start e.host log) (plain.after start e.host (plain_log e.host log))
-          e.step.taken (ap is_beating is ∙ beats) (alone h is) comes in
-          ap stops_by (run.1.step.fits.marks ∙ aside.marks)
-
       go : (b : Bool) → is_beating e.host ≡ b → stops_by e.step.marks ≡ false
-      go true beats = main e.host refl beats
+      go true beats =
+          let aside : StepAside start e.host (after start e.host log) (plain.after start e.host []) e.step.taken =
+          main_aside start e.host log e beats (kept.mirrored e.host) (beat_comes beats) in
+          ap stops_by (run.1.step.fits.marks ∙ aside.marks)
       go false takes = ap stops_by (run.1.step.fits.marks ∙ (alike takes).marks) ∙ (alike takes).goes_on

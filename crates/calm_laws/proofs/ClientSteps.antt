@@ -41,10 +41,10 @@ use Rattle.world_core.specs.Start.{Start}
 use Rattle.world_views.specs.Machine.{stops_by}
 use Rattle.calm_laws.specs.Alike.{first}
 use Rattle.calm_laws.specs.Calm.{is_calm_request, is_for_client}
-use Rattle.calm_laws.specs.Steps.{ComesCalmly, IsForNode, IsPlainSend, plain_replies}
+use Rattle.calm_laws.specs.Steps.{ComesCalmly, IsPlainSend, besides, plain_replies}
 use Rattle.calm_laws.proofs.PlainReplies.{AllPlain, KeepsPlain, keeps_plain, replies_plain}
 use Rattle.calm_laws.proofs.ShellSends.{marks_plain, sends_plain}
-use Rattle.calm_laws.proofs.Rounds.{membership_told, rows_told}
+use Rattle.calm_laws.proofs.Rounds.{memberships_told, none_besides, rows_told}
 
 -- a cluster of some nodes of which none has stopped isn't down
 some_runs : (nodes : ℕ) → 1 ≤ nodes → list_any (still_runs []) (members nodes) ≡ true
@@ -54,18 +54,18 @@ some_runs (suc n) some =
     list_any-append (still_runs []) (members n) (record { node = n + 1; start = 0 } ∷ [])
     ∙ or_right (list_any (still_runs []) (members n)) _ refl
 
--- the step of the client's side, and that of the API where these replies were given before
-pub record ClientAlike (start : Start) (given : List ApiReply) (t : Step ClientState) (q : Step ApiState) : Type 0 where
-  pub api : ApiState
-  pub state : t.state ≡ calm_state api start.shape.nodes None
-  pub view : api.view ≡ first start
-  pub told : in_given given q.state ≡ in_given (given ++ plain_replies api.replies) (with_replies api [])
-  pub marks : t.effects.marks ≡ q.effects.marks
-  pub besides : List Outgoing
-  pub sends : t.effects.sends ≡ q.effects.sends ++ besides
-  pub plain : Each (IsPlainSend 0) q.effects.sends
-  pub others : Each IsForNode besides
-  pub goes_on : stops_by q.effects.marks ≡ false
+-- the step of the client's side at such a body, and that of the API where these replies were given before
+pub record ClientAlike (start : Start) (given : List ApiReply) (body : Body) (t : Step ClientState) (q : Step ApiState)
+    : Type 0
+  where
+    pub api : ApiState
+    pub state : t.state ≡ calm_state api start.shape.nodes None
+    pub view : api.view ≡ first start
+    pub told : in_given given q.state ≡ in_given (given ++ plain_replies api.replies) (with_replies api [])
+    pub marks : t.effects.marks ≡ q.effects.marks
+    pub sends : t.effects.sends ≡ q.effects.sends ++ besides start 0 body
+    pub plain : Each (IsPlainSend 0) q.effects.sends
+    pub goes_on : stops_by q.effects.marks ≡ false
 
 module _ (start : Start) (given : List ApiReply) (a : ApiState) (x : Signal) (shape : IsShape start.shape)
     (view : a.view ≡ first start) (none : a.replies ≡ []) (comes : ComesCalmly start 0 x) where
@@ -73,7 +73,7 @@ module _ (start : Start) (given : List ApiReply) (a : ApiState) (x : Signal) (sh
   s = calm_state a start.shape.nodes None
 
   abbrev IsAlike : Step ClientState → Type 0
-  IsAlike t = ClientAlike start given t (api_row a x)
+  IsAlike t = ClientAlike start given x.body t (api_row a x)
 
   -- the signal is a calm one
   up : is_down s ≡ false
@@ -111,10 +111,10 @@ module _ (start : Start) (given : List ApiReply) (a : ApiState) (x : Signal) (sh
     view = keeps.view ∙ view;
     told = replied_plain;
     marks = refl;
-    besides = [];
-    sends = sym (append-nil (api_row a x).effects.sends);
+    sends =
+        sym (append-nil (api_row a x).effects.sends)
+        ∙ ap (λ (back : List Outgoing). (api_row a x).effects.sends ++ back) (sym (none_besides start x.body body));
     plain = sends_plain a x.body;
-    others = tt;
     goes_on = marks_plain a x.body;
   })
 
@@ -146,10 +146,13 @@ module _ (start : Start) (given : List ApiReply) (a : ApiState) (x : Signal) (sh
         view = keeps.view ∙ view;
         told = replied_plain;
         marks = round_marks now ∙ sym (ap (λ (e : Effects). e.marks) (rounds_are round of at is));
-        besides = all_rounds now Qmgr;
-        sends = round_is now ∙ ap (λ (front : List Outgoing). front ++ all_rounds now Qmgr) (sym sends);
+        sends =
+            round_is now
+            ∙ ap (λ (front : List Outgoing). front ++ all_rounds now Qmgr) (sym sends)
+            ∙ ap (λ (back : List Outgoing). (api_row a x).effects.sends ++ back)
+            (memberships_told (api_row a x).state start.shape.nodes shape.nodes_some shape.nodes_few
+            ∙ sym (ap (besides start 0) is));
         plain = sends_plain a x.body;
-        others = membership_told now;
         goes_on = marks_plain a x.body;
       })
 
@@ -165,7 +168,7 @@ module _ (start : Start) (given : List ApiReply) (a : ApiState) (x : Signal) (sh
 
   shows_view : (at : ℕ) → x.body ≡ Host (Continue (Request request.View) at) → IsAlike (client_row s x)
   shows_view at is =
-      subst₂ (ClientAlike start given)
+      subst₂ (ClientAlike start given x.body)
       (sym (calm_shows a start.shape.nodes None x at signal is
       ∙ ap (λ (q : Step ApiState). stay (telling (calm_state q.state start.shape.nodes None) (reply.View a.view)))
       (shown_is at is)))
@@ -176,10 +179,8 @@ module _ (start : Start) (given : List ApiReply) (a : ApiState) (x : Signal) (sh
         view = view;
         told = ap (λ (replies : List ApiReply). with_replies (about a None) replies) (shown_replies a.replies none);
         marks = refl;
-        besides = [];
-        sends = refl;
+        sends = sym (ap (besides start 0) is);
         plain = tt;
-        others = tt;
         goes_on = refl;
       })
 
@@ -209,5 +210,5 @@ module _ (start : Start) (given : List ApiReply) (a : ApiState) (x : Signal) (sh
   takes (Client (DumpConf rows next)) is fits = served (rw (is) refl)
   takes _ is fits = absurd cc
 
-  pub client_alike : is_for_client x.body ≡ true → ClientAlike start given (client_row s x) (api_row a x)
+  pub client_alike : is_for_client x.body ≡ true → IsAlike (client_row s x)
   client_alike fits = takes x.body refl fits

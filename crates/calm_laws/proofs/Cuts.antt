@@ -1,5 +1,5 @@
 -- Cuts of calm logs: the plain part of a closed one is a closed cut of the plain parts.
-use Rattle.std.proofs.Common.{◌≡◌, ℕ, Bool, true, false, List, [], ◌∷◌, ◌++◌, if◌then◌else◌, sym, subst}
+use Rattle.std.proofs.Common.{◌≡◌, ℕ, Bool, true, false, List, [], if◌then◌else◌}
 use Rattle.run_theory.specs.Cuts.{IsCut}
 use Rattle.run_theory.specs.Lists.{IsPast}
 use Rattle.run_theory.specs.Runs.{AreLogs}
@@ -15,6 +15,7 @@ use Rattle.world_views.proofs.SentFacts.{is_stamped}
 use Rattle.calm_laws.specs.Calm.{is_calm}
 use Rattle.calm_laws.specs.Laws.{CalmCutsArePlain, IsCalmLife}
 use Rattle.calm_laws.specs.Plain.{is_beating, plain_logs}
+use Rattle.calm_laws.proofs.Events.{none_before}
 use Rattle.calm_laws.proofs.Runs.{logs_plain}
 
 -- the logs that the plain part keeps, and those that it leaves out
@@ -24,14 +25,6 @@ plain_kept logs h is = if_false [] (logs h) is
 pub plain_none : (logs : ℕ → List HostStep) (h : ℕ) → is_beating h ≡ true → plain_logs logs h ≡ []
 plain_none logs h is = if_true [] (logs h) is
 
--- an older part of nothing is nothing
-pub none_of_none : {A : Type 0} (xs : List A) → IsPast xs [] → xs ≡ []
-none_of_none {A} xs past = go past.newer past.is
-  where
-    go : (newer : List A) → [] ≡ newer ++ xs → xs ≡ []
-    go [] is = sym is
-    go (x ∷ newer) is = absurd cc
-
 -- a cut of calm logs that is right is calm logs
 pub calm_inside : (start : Start) (inside logs : ℕ → List HostStep) → IsCalmLife start logs → IsCut inside logs
     → AreLogs (machine start) inside → IsCalmLife start inside
@@ -39,7 +32,7 @@ calm_inside start inside logs life cut right =
     record {
       shape = life.shape;
       rows = life.rows;
-      within = λ h past. none_of_none (inside h) (subst (IsPast (inside h)) (life.within h past) (cut h));
+      within = λ h above. none_before (inside h) (logs h) (cut h) (life.within h above);
       right = right;
       calm = λ h. each_past (λ e. is_calm h e.step.taken ≡ true) (cut h) (life.calm h);
     }

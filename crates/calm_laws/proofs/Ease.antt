@@ -1,5 +1,6 @@
 -- In calm nothing stands between a signal and the blocks of a host: it takes it as they do.
-use Rattle.std.proofs.Common.{◌≡◌, ◌==◌, ◌&&◌, ℕ, Bool, true, false, List, if◌then◌else◌, nat_lt, Option, None, refl, sym, ap, ◌∙◌}
+use Rattle.std.proofs.Common.{◌≡◌, ◌==◌, ◌&&◌, ℕ, Bool, true, false, List, if◌then◌else◌, nat_lt, Option, None, refl}
+use Rattle.std.proofs.Common.{sym, ap, ◌∙◌}
 use Rattle.std.specs.List.{list_any}
 use Rattle.std.proofs.lemmas.Bool.{and_parts, and_right, false≢true, true≢false}
 use Rattle.frag_map.specs.Layout.{first_number}
@@ -31,7 +32,8 @@ use Rattle.tc_views.specs.State.{CoordinatorState}
 use Rattle.world_core.specs.Start.{Start}
 use Rattle.world_views.specs.Machine.{closes, own_stop, step_by, step_if}
 use Rattle.calm_laws.specs.Alike.{AreAlike, ArePartsAlike, first}
-use Rattle.calm_laws.specs.Calm.{has_block, is_calm, is_for, is_for_client, is_for_coordinator, is_for_epochs, is_for_membership, is_for_rows}
+use Rattle.calm_laws.specs.Calm.{has_block, is_calm, is_for, is_for_client, is_for_coordinator, is_for_epochs}
+use Rattle.calm_laws.specs.Calm.{is_for_membership, is_for_rows}
 use Rattle.calm_laws.specs.Steps.{ComesCalmly}
 use Rattle.calm_laws.proofs.SameKinds.{by_kind}
 

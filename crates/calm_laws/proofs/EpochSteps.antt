@@ -1,5 +1,6 @@
 -- The epochs of a node, while none is prepared and no view promised, are given as the plain ones are.
-use Rattle.std.proofs.Common.{◌≡◌, ◌∙◌, ◌||◌, ℕ, zero, suc, ◌+◌, Bool, true, false, not, nat_lt, List, [], ◌∷◌, map, length, arith, refl, sym, ap, subst, inl}
+use Rattle.std.proofs.Common.{◌≡◌, ◌∙◌, ◌||◌, ℕ, zero, suc, ◌+◌, Bool, true, false, not, nat_lt, List, [], ◌∷◌, map}
+use Rattle.std.proofs.Common.{length, arith, refl, sym, ap, subst, inl}
 use Rattle.std.proofs.Math.Nat.{add-zero}
 use Rattle.std.specs.Prelude.{Option, None, Some, position, remove}
 use Rattle.std.proofs.lemmas.Bool.{false≢true}

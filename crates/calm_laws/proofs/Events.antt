@@ -1,5 +1,6 @@
 -- The events of a run without the steps of main parts of nodes.
-use Rattle.std.proofs.Common.{◌≡◌, ◌≢◌, ◌⊎◌, ◌<◌, ◌≤◌, inl, inr, ℕ, List, [], ◌∷◌, ◌++◌, Bool, true, false, refl, ap, sym, ◌∙◌, subst, arith}
+use Rattle.std.proofs.Common.{◌≡◌, ◌≢◌, ◌⊎◌, ◌<◌, ◌≤◌, inl, inr, ℕ, List, [], ◌∷◌, ◌++◌, Bool, true, false, refl, ap}
+use Rattle.std.proofs.Common.{sym, ◌∙◌, subst, arith}
 use Rattle.std.specs.Prelude.{if◌then◌else◌}
 use Rattle.std.proofs.lemmas.Bool.{cases_eq, cases_lt}
 use Rattle.run_theory.proofs.Pasts.{each_past}
@@ -42,7 +43,7 @@ plain_nothing h = go (is_beating h)
     go false = refl
 
 -- an older part of nothing is nothing
-none_before : {A : Type 0} (xs ys : List A) → IsPast xs ys → ys ≡ [] → xs ≡ []
+pub none_before : {A : Type 0} (xs ys : List A) → IsPast xs ys → ys ≡ [] → xs ≡ []
 none_before {A} xs ys p none = go p.newer p.is
   where
     go : (newer : List A) → ys ≡ newer ++ xs → xs ≡ []
@@ -91,7 +92,8 @@ module _ (start : Start) where
   pub calm_now : (e : HostStep) (es : List HostStep) → AreCalm (log_of (machine start) (e ∷ es))
       → is_calm e.host e.step.taken ≡ true
   calm_now e es calm =
-      (subst (Each (λ d. is_calm e.host d.step.taken ≡ true)) (log_of-own (machine start) e es e.host refl) (calm e.host)).0
+      (subst (Each (λ d. is_calm e.host d.step.taken ≡ true)) (log_of-own (machine start) e es e.host refl)
+      (calm e.host)).0
 
   -- and within the hosts that there are
   pub within_before : (n : ℕ) (e : HostStep) (es : List HostStep) → IsWithin n (log_of (machine start) (e ∷ es))

@@ -2,10 +2,13 @@
 -- how many of them go to a main part.
 use Rattle.std.proofs.Common.{◌≡◌, ◌≢◌, ◌⊎◌, ◌+◌, ◌<◌, ◌≤◌, inl, inr, ℕ, zero, suc, List, [], ◌∷◌, Bool, true, false}
 use Rattle.std.proofs.Common.{refl, ap, sym, ◌∙◌, subst, eq-eqb, ne_eqb, arith}
-use Rattle.std.specs.Prelude.{◌&&◌, ◌%◌}
+use Rattle.std.specs.Prelude.{◌&&◌, ◌%◌, if◌then◌else◌, map}
 use Rattle.std.proofs.lemmas.Bool.{and_from, and_parts, cases_eq, false≢true}
+use Rattle.std.proofs.lemmas.List.{map-append}
+use Rattle.frag_map.specs.Layout.{members}
 use Rattle.frag_map.specs.Replicas.{first_start}
 use Rattle.qmgr_block.specs.Ring.{heartbeat_to}
+use Rattle.run_theory.proofs.Tally.{tally_append}
 use Rattle.run_theory.specs.Counts.{one_if, tally}
 use Rattle.run_theory.specs.Lists.{Each}
 use Rattle.sig_core.specs.declared.outs.Outgoing.{Outgoing}
@@ -26,10 +29,10 @@ use Rattle.world_core.specs.Start.{Start}
 use Rattle.world_core.specs.Steps.{Addressed}
 use Rattle.calm_laws.specs.Calm.{has_block, is_calm, is_for, is_in}
 use Rattle.calm_laws.specs.Plain.{is_beating, is_main}
-use Rattle.calm_laws.specs.Steps.{IsPlainPlace, IsPlainSend, is_of_parts}
+use Rattle.calm_laws.specs.Steps.{IsPlainPlace, IsPlainSend, besides, is_of_parts, is_tick, round_for}
 use Rattle.calm_laws.proofs.MainPlaces.{main_at, main_beats, main_reached}
+use Rattle.calm_laws.proofs.Rounds.{each_besides}
 use Rattle.calm_laws.proofs.SentStep.{IsFineSend, goes_to}
-use Rattle.calm_laws.proofs.ShellRounds.{rounds_behind, rounds_if_tick}
 
 -- the block of a main part
 main_has : (of : Part) (to : BlockId) → is_main of ≡ true → is_in of to ≡ true → to ≡ block.Qmgr
@@ -103,64 +106,79 @@ module _ (start : Start) where
       (ap (λ (j : ℕ). has_block j block.Qmgr) (main_reached start k low) ∙ beating_has (main_at k) (main_beats k)) takes
 
   -- rounds of time, which the shell tells
-  rounds_fine : (node many : ℕ) → node + many ≤ start.shape.nodes
-      → Each (IsFineSend start 0) (rounds_behind node many)
-  rounds_fine node zero few = tt
-  rounds_fine node (suc many) few = (
-    record {
-      calm = membership_takes node (Host Round) (omega (arith, few)) refl;
-      round = λ low beats is. refl;
-      told = λ low beats is. refl;
-      work = refl;
-    },
-    rounds_fine (node + 1) many (omega (arith, few)),
-  )
+  round_fine : (k : ℕ) → k < start.shape.nodes → IsFineSend start 0 (round_for (first_start (k + 1)))
+  round_fine k low =
+      record {
+        calm = membership_takes k (Host Round) low refl;
+        round = λ there beats is. refl;
+        told = λ there beats is. refl;
+        work = refl;
+      }
 
-  pub tick_fine : (tick : Bool) → Each (IsFineSend start 0) (rounds_if_tick tick start.shape.nodes)
-  tick_fine true = rounds_fine 0 start.shape.nodes (omega arith)
-  tick_fine false = tt
+  pub besides_fine : (body : Body) → Each (IsFineSend start 0) (besides start 0 body)
+  besides_fine body = each_besides (IsFineSend start 0) start 0 body round_fine
 
   -- one to each main part
-  rounds_none : (k node many : ℕ) → k < node → node + many ≤ start.shape.nodes
-      → tally (goes_to start (main_at k)) (rounds_behind node many) ≡ 0
-  rounds_none k node zero before few = refl
-  rounds_none k node (suc many) before few =
+  last_round : (p : Outgoing → Bool) (n : ℕ)
+      → tally p (map round_for (members (suc n)))
+      ≡ tally p (map round_for (members n)) + one_if (p (round_for (first_start (n + 1))))
+  last_round p n =
       omega (
         arith,
-        ap one_if (ne_eqb (host_for start (membership (node + 1))) (main_at k)
-            (λ same. absurd (omega (arith, main_reached start node (omega (arith, few)), same, before)))),
-        rounds_none k (node + 1) many (omega (arith, before)) (omega (arith, few)),
+        ap (tally p) (map-append round_for (members n) (first_start (n + 1) ∷ [])),
+        tally_append p (map round_for (members n)) (round_for (first_start (n + 1)) ∷ []),
       )
 
-  rounds_one : (k node many : ℕ) → node ≤ k → k < node + many → node + many ≤ start.shape.nodes
-      → tally (goes_to start (main_at k)) (rounds_behind node many) ≡ 1
-  rounds_one k node zero from below few = absurd (omega (arith, from, below))
-  rounds_one k node (suc many) from below few =
-      go (cases_eq node k) (rounds_one k (node + 1) many)
-    where
-      go : (node ≡ k) ⊎ (node ≢ k)
-          → (node + 1 ≤ k → k < node + 1 + many → node + 1 + many ≤ start.shape.nodes
-          → tally (goes_to start (main_at k)) (rounds_behind (node + 1) many) ≡ 1)
-          → tally (goes_to start (main_at k)) (rounds_behind node (suc many)) ≡ 1
-      go (inl same) rest =
-          omega (
-            arith,
-            ap one_if (eq-eqb (host_for start (membership (node + 1))) (main_at k)
-                (main_reached start node (omega (arith, few)) ∙ ap main_at same)),
-            rounds_none k (node + 1) many (omega (arith, same)) (omega (arith, few)),
-          )
-      go (inr apart) rest =
-          omega (
-            arith,
-            ap one_if (ne_eqb (host_for start (membership (node + 1))) (main_at k)
-                (λ same. apart (omega (arith, main_reached start node (omega (arith, few)), same)))),
-            rest (omega (arith, from, apart)) (omega (arith, below)) (omega (arith, few)),
-          )
+  module _ (k : ℕ) where
+    round_elsewhere : (n : ℕ) → n < start.shape.nodes → n ≢ k
+        → one_if (goes_to start (main_at k) (round_for (first_start (n + 1)))) ≡ 0
+    round_elsewhere n low apart =
+        ap one_if (ne_eqb (host_for start (membership (n + 1))) (main_at k)
+        (λ same. apart (omega (arith, main_reached start n low, same))))
 
-  pub tick_one : (tick : Bool) (k : ℕ) → k < start.shape.nodes
-      → tally (goes_to start (main_at k)) (rounds_if_tick tick start.shape.nodes) ≡ one_if tick
-  tick_one true k low = rounds_one k 0 start.shape.nodes (omega arith) (omega (arith, low)) (omega arith)
-  tick_one false k low = refl
+    rounds_none : (n : ℕ) → n ≤ k → n ≤ start.shape.nodes
+        → tally (goes_to start (main_at k)) (map round_for (members n)) ≡ 0
+    rounds_none zero before few = refl
+    rounds_none (suc n) before few =
+        omega (
+          arith,
+          last_round (goes_to start (main_at k)) n,
+          round_elsewhere n (omega (arith, few)) (λ same. absurd (omega (arith, same, before))),
+          rounds_none n (omega (arith, before)) (omega (arith, few)),
+        )
+
+    rounds_one : (n : ℕ) → k < n → n ≤ start.shape.nodes
+        → tally (goes_to start (main_at k)) (map round_for (members n)) ≡ 1
+    rounds_one zero low few = absurd (omega (arith, low))
+    rounds_one (suc n) low few = go (cases_eq n k) (rounds_one n)
+      where
+        go : (n ≡ k) ⊎ (n ≢ k)
+            → (k < n → n ≤ start.shape.nodes → tally (goes_to start (main_at k)) (map round_for (members n)) ≡ 1)
+            → tally (goes_to start (main_at k)) (map round_for (members (suc n))) ≡ 1
+        go (inl same) before =
+            omega (
+              arith,
+              last_round (goes_to start (main_at k)) n,
+              ap one_if (eq-eqb (host_for start (membership (n + 1))) (main_at k)
+                  (main_reached start n (omega (arith, few)) ∙ ap main_at same)),
+              rounds_none n (omega (arith, same)) (omega (arith, few)),
+            )
+        go (inr apart) before =
+            omega (
+              arith,
+              last_round (goes_to start (main_at k)) n,
+              round_elsewhere n (omega (arith, few)) apart,
+              before (omega (arith, low, apart)) (omega (arith, few)),
+            )
+
+    pub besides_one : (body : Body) → k < start.shape.nodes
+        → tally (goes_to start (main_at k)) (besides start 0 body) ≡ one_if (is_tick body)
+    besides_one body low = go (is_tick body)
+      where
+        go : (b : Bool)
+            → tally (goes_to start (main_at k)) (if b then map round_for (members start.shape.nodes) else []) ≡ one_if b
+        go true = rounds_one start.shape.nodes low (omega arith)
+        go false = refl
 
   -- a heartbeat of a main part, which goes to the next one
   pub heartbeat_fine : (own k : ℕ) → k < start.shape.nodes

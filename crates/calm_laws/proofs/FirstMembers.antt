@@ -1,5 +1,6 @@
 -- The members that began the life are in the first view, and signals of theirs are well formed.
-use Rattle.std.proofs.Common.{◌≡◌, ℕ, zero, suc, ◌+◌, ◌/◌, ◌<◌, ◌≤◌, ◌⊎◌, inl, inr, [], ◌∷◌, true, false, refl, ap, ◌∙◌, eq-eqb, arith}
+use Rattle.std.proofs.Common.{◌≡◌, ℕ, zero, suc, ◌+◌, ◌/◌, ◌<◌, ◌≤◌, ◌⊎◌, inl, inr, [], ◌∷◌, true, false, refl, ap, ◌∙◌}
+use Rattle.std.proofs.Common.{eq-eqb, arith}
 use Rattle.std.specs.Prelude.{◌==◌, ◌&&◌, ◌||◌, nat_le}
 use Rattle.std.specs.List.{list_all, list_any}
 use Rattle.std.proofs.lemmas.Bool.{and_from, cases_lt, or_left, or_right}
@@ -20,16 +21,19 @@ use Rattle.world_core.specs.Start.{Start, made}
 use Rattle.calm_laws.specs.Alike.{first}
 
 -- a host behind the shell's is of one of them
-pub member_first : (start : Start) (h : ℕ) → suc h < hosts start → member_at (made start) (suc h) ≡ first_start (h / 3 + 1)
+pub member_first : (start : Start) (h : ℕ) → suc h < hosts start
+    → member_at (made start) (suc h) ≡ first_start (h / 3 + 1)
 member_first start h low = members_at start.shape.nodes (h / 3) nobody (omega (arith, low))
 
 among : (n k : ℕ) → k < n → is_among (members n) (first_start (k + 1)) ≡ true
 among zero k low = absurd (omega (arith, low))
 among (suc n) k low =
-    list_any-append (same_member (first_start (k + 1))) (members n) (first_start (n + 1) ∷ []) ∙ go (cases_lt k n) (among n k)
+    list_any-append (same_member (first_start (k + 1))) (members n) (first_start (n + 1) ∷ [])
+    ∙ go (cases_lt k n) (among n k)
   where
     go : (k < n) ⊎ (n ≤ k) → (k < n → is_among (members n) (first_start (k + 1)) ≡ true)
-        → (is_among (members n) (first_start (k + 1)) || list_any (same_member (first_start (k + 1))) (first_start (n + 1) ∷ []))
+        → (is_among (members n) (first_start (k + 1))
+        || list_any (same_member (first_start (k + 1))) (first_start (n + 1) ∷ []))
         ≡ true
     go (inl below) before =
         or_left (is_among (members n) (first_start (k + 1)))
@@ -50,7 +54,8 @@ member_known start h low =
 
 -- all of them are nodes
 node_there : (of : Shape) (node : ℕ) → 1 ≤ node → node ≤ of.nodes → is_node of node ≡ true
-node_there of node some low = and_from (nat_le 1 node) (nat_le node of.nodes) (grind (arith, nat_tests, some)) (grind (arith, nat_tests, low))
+node_there of node some low =
+    and_from (nat_le 1 node) (nat_le node of.nodes) (grind (arith, nat_tests, some)) (grind (arith, nat_tests, low))
 
 all_nodes : (of : Shape) (n : ℕ) → n ≤ of.nodes → are_nodes of (members n) ≡ true
 all_nodes of zero low = refl

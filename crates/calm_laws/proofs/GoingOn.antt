@@ -21,11 +21,12 @@ use Rattle.world_views.specs.Requests.{requests}
 use Rattle.calm_laws.specs.Calm.{AreCalm}
 use Rattle.calm_laws.specs.Laws.{IsCalmLife}
 use Rattle.calm_laws.specs.Resting.{AreResting, CalmGoesOn, GoOnBy, IsRestingPart, RestReturns}
+use Rattle.calm_laws.proofs.CalmRuns as calm_run
+use Rattle.calm_laws.proofs.CalmRuns.{events, same}
 use Rattle.calm_laws.proofs.FirstRing.{behind_of_front, front_low}
 use Rattle.calm_laws.proofs.GoodNext.{good_next}
 use Rattle.calm_laws.proofs.NextCalm.{AreGood, IsGood}
-use Rattle.calm_laws.proofs.QuietLinks as quiet_links
-use Rattle.calm_laws.proofs.QuietLinks.{all_taken, events, same}
+use Rattle.calm_laws.proofs.QuietLinks.{all_taken}
 use Rattle.calm_laws.proofs.MainPlaces.{IsMainAt, main_at, main_beats, main_low, main_place}
 use Rattle.calm_laws.proofs.Steady.{IsShellSteady, IsSteady, behind, rests_more}
 use Rattle.qmgr_block.specs.Ring.{place_in_front}
@@ -60,7 +61,7 @@ module _ (start : Start) (request : ApiReq) (logs more : ℕ → List HostStep) 
   begins : AreGood start logs (events start logs life)
   begins =
       record {
-        calm = quiet_links.calm start logs life;
+        calm = calm_run.calm start logs life;
         good = λ h.
             subst (λ (all : ℕ → List HostStep). IsGood start logs h (all h)) (sym (same start logs life))
             (begins_good h);
@@ -70,7 +71,7 @@ module _ (start : Start) (request : ApiReq) (logs more : ℕ → List HostStep) 
   grows : Grows (machine start) (events start logs life) more
   grows =
       grow (machine start) (is_stamped start) (hosts start) (events start logs life) more
-      (quiet_links.run start logs life) by.within by.right
+      (calm_run.run start logs life) by.within by.right
       (subst (λ (all : ℕ → List HostStep). (h : ℕ) → IsPast (all h) (more h)) (sym (same start logs life)) by.past)
 
   -- and stays good

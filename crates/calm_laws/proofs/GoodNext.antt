@@ -1,6 +1,6 @@
 -- Where calm goes on: each step leaves what its host has done since the quiet moment good.
-use Rattle.std.proofs.Common.{◌≡◌, ◌≢◌, ◌⊎◌, ◌*◌, ◌<◌, inl, inr, ℕ, zero, suc, List, [], ◌∷◌, ◌++◌, Bool, true, false}
-use Rattle.std.proofs.Common.{refl, ap, sym, ◌∙◌, subst, arith}
+use Rattle.std.proofs.Common.{◌≡◌, ◌≢◌, ◌⊎◌, ◌<◌, inl, inr, ℕ, zero, suc, List, [], ◌∷◌, ◌++◌, Bool, true, false}
+use Rattle.std.proofs.Common.{refl, ap, sym, ◌∙◌, subst, append-nil, arith}
 use Rattle.std.proofs.lemmas.Bool.{cases_eq, true≢false}
 use Rattle.node_core.specs.declared.host.Host as plain_node
 use Rattle.node_core.specs.Requests.{is_request}
@@ -12,7 +12,6 @@ use Rattle.sig_core.specs.declared.outs.Outgoing.{Outgoing}
 use Rattle.sig_core.specs.declared.reply.ApiReply.{ApiReply}
 use Rattle.sig_core.specs.declared.request.ApiReq.{ApiReq}
 use Rattle.sig_core.specs.declared.signal.Signal.{Signal}
-use Rattle.world_core.proofs.HostNumbers.{api_runs}
 use Rattle.world_core.specs.Hosts.{hosts}
 use Rattle.world_core.specs.Machine as plain
 use Rattle.world_core.specs.Start.{Start}
@@ -26,17 +25,16 @@ use Rattle.calm_laws.specs.Calm.{AreCalm, is_calm}
 use Rattle.calm_laws.specs.Laws.{IsCalmLife}
 use Rattle.calm_laws.specs.Plain.{is_beating}
 use Rattle.calm_laws.specs.Resting.{GoOnBy}
-use Rattle.calm_laws.specs.Steps.{ComesCalmly, IsPlainSend, plain_replies}
+use Rattle.calm_laws.specs.Steps.{ComesCalmly, IsPlainSend, StepAlike, besides, plain_replies}
 use Rattle.calm_laws.proofs.Arrivals.{arriving}
 use Rattle.calm_laws.proofs.CalmSteps as step
-use Rattle.calm_laws.proofs.Events.{all_plain, plain_events, plain_log, same_log}
+use Rattle.calm_laws.proofs.Events.{plain_events, same_log}
 use Rattle.calm_laws.proofs.FineSends.{plain_fine}
+use Rattle.calm_laws.proofs.Mirrored.{main_alike}
 use Rattle.calm_laws.proofs.NextCalm.{AreGood, IsGood, calm_next, room, signal_fine, within_now}
-use Rattle.calm_laws.proofs.PartSends.{part_sends}
 use Rattle.calm_laws.proofs.MainPlaces.{IsMainAt, main_at, main_beats, main_low, main_place}
 use Rattle.calm_laws.proofs.SentStep.{IsFine, IsFineSend, IsSince, since_next}
 use Rattle.calm_laws.proofs.Steady.{IsMainGood, main_next, shell_next, shell_since}
-use Rattle.calm_laws.proofs.ShellRounds.{is_tick, rounds_if_tick, shell_sends}
 use Rattle.calm_laws.proofs.PlainSends.{plain_sends_calm}
 
 -- One more step of a run to logs that go on.
@@ -80,12 +78,13 @@ module _ (start : Start) (request : ApiReq) (logs more : ℕ → List HostStep) 
     unasked = step.unasked start life.shape life.rows es e run calm within beats
 
     abbrev other : plain_node.Host
-    other = plain.after start e.host (plain_log e.host log)
+    other = plain.after start e.host []
 
     alike : AreAlike start [] (after start (main_at k) log) other
     alike =
         subst (λ h. AreAlike start [] (after start h log) other) at
-        (step.alone start life.shape life.rows es e run calm within (k * 3) at)
+        (main_alike start e.host log beats
+        ((step.kept start life.shape life.rows es e run calm within).mirrored e.host))
 
     fine : IsFine start x.from.0 (arriving e.host x)
     fine = signal_fine start request logs more life quiet by es e run upto are unasked
@@ -126,8 +125,11 @@ module _ (start : Start) (request : ApiReq) (logs more : ℕ → List HostStep) 
     abbrev sends : ℕ → List Outgoing
     sends h = (plain.step_after start h log e).effects.sends
 
+    alike_step : StepAlike start e.host given (after start e.host log) (plain.after start e.host log) x
+    alike_step = step.alike start life.shape life.rows es e run calm within takes
+
     plainly : Each (IsPlainSend e.host) (sends e.host)
-    plainly = (step.alike start life.shape life.rows es e run calm within takes).plain
+    plainly = alike_step.plain
 
     fine_sends : Each (IsFineSend start e.host) (sends e.host)
     fine_sends =
@@ -144,17 +146,11 @@ module _ (start : Start) (request : ApiReq) (logs more : ℕ → List HostStep) 
     none_main : (k : ℕ) → k < start.shape.nodes → e.host ≡ main_at k → IsMainGood start (logs e.host) k (e ∷ log)
     none_main k low at = absurd (true≢false (sym (main_beats k) ∙ sym (ap is_beating at) ∙ takes))
 
-    plain_alike : AreAlike start given (after start e.host log) (plain.after start e.host log)
-    plain_alike = step.plain_alike start life.shape life.rows es e run calm within takes
-
     -- the shell
     module _ (at : e.host ≡ 0) where
-      shell_are : (step_after start 0 log e).effects.sends
-          ≡ sends 0 ++ rounds_if_tick (is_tick x.body) start.shape.nodes
+      shell_are : (step_after start 0 log e).effects.sends ≡ sends 0 ++ besides start 0 x.body
       shell_are =
-          shell_sends start given (after start 0 log) (plain.after start 0 log) x life.shape (api_runs start log)
-          (subst (λ h. AreAlike start given (after start h log) (plain.after start h log)) at plain_alike)
-          (subst (λ h. ComesCalmly start h x) at comes)
+          subst (λ h. (step_after start h log e).effects.sends ≡ sends h ++ besides start h x.body) at alike_step.sends
 
       shell_plain : Each (IsPlainSend 0) (sends 0)
       shell_plain = subst (λ h. Each (IsPlainSend h) (sends h)) at plainly
@@ -185,26 +181,17 @@ module _ (start : Start) (request : ApiReq) (logs more : ℕ → List HostStep) 
 
     -- a part of a node
     module _ (h : ℕ) (at : e.host ≡ suc h) where
-      alone : AreAlike start [] (after start e.host log) (plain.after start e.host log)
-      alone =
-          subst (λ (rest : List HostStep). AreAlike start [] (after start e.host log) (plain.after start e.host rest))
-          (all_plain e.host log takes) (step.alone start life.shape life.rows es e run calm within h at)
-
-      part_are : (step_after start (suc h) log e).effects.sends ≡ sends (suc h)
+      part_are : (step_after start e.host log e).effects.sends ≡ sends e.host
       part_are =
-          part_sends start h (after start (suc h) log) (plain.after start (suc h) log) x
-          (sym (ap is_beating at) ∙ takes)
-          (subst (λ i. AreAlike start [] (after start i log) (plain.after start i log)) at alone)
-          (subst (λ i. ComesCalmly start i x) at comes)
+          alike_step.sends ∙ ap (λ i. sends e.host ++ besides start i x.body) at ∙ append-nil (sends e.host)
 
       part_good : IsGood start logs e.host (e ∷ log)
       part_good =
           record {
             past = past;
             since = λ j.
-                since_next start e.host log e ease goes_on (sends e.host)
-                (subst (λ i. (step_after start i log e).effects.sends ≡ sends i) (sym at) part_are) fine_sends j
-                (logs e.host) (before.since j);
+                since_next start e.host log e ease goes_on (sends e.host) part_are fine_sends j (logs e.host)
+                (before.since j);
             main = none_main;
             shell = λ shell. absurd (cc (at, shell));
           }

@@ -2,6 +2,7 @@ pub mod ApiPlaces
 pub mod Arrivals
 pub mod Asked
 pub mod Beginnings
+pub mod CalmRuns
 pub mod CalmSignals
 pub mod CalmSteps
 pub mod ClientSteps
@@ -25,7 +26,6 @@ pub mod MainPlaces
 pub mod MainSteps
 pub mod Mirrored
 pub mod NextCalm
-pub mod PartSends
 pub mod PartSteps
 pub mod PartsAlike
 pub mod Placed
@@ -49,7 +49,6 @@ pub mod SentAlike
 pub mod SentPlaces
 pub mod SentSeen
 pub mod SentStep
-pub mod ShellRounds
 pub mod ShellSends
 pub mod ShellSteps
 pub mod SoundBodies

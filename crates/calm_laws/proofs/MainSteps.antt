@@ -4,7 +4,8 @@ use Rattle.std.specs.Prelude.{Option, None, Some}
 use Rattle.std.proofs.lemmas.Bool.{false≢true}
 use Rattle.frag_map.specs.Groups.{lost_group}
 use Rattle.qmgr_block.specs.declared.known.Known.{Known}
-use Rattle.qmgr_block.specs.Propose.{has_number, propose, proposed_by, proposed_if, proposed_view, remaining_view, request_of}
+use Rattle.qmgr_block.specs.Propose.{has_number, propose, proposed_by, proposed_if, proposed_view, remaining_view}
+use Rattle.qmgr_block.specs.Propose.{request_of}
 use Rattle.qmgr_block.specs.Qmgr.{qmgr_row, qmgr_table}
 use Rattle.qmgr_block.specs.Ring.{heartbeat_row, round_by, round_row, sides, with_missing, with_round}
 use Rattle.qmgr_block.specs.Sets.{members_of}

@@ -1,12 +1,14 @@
 -- A host that is alike its plain one after its log, and after one more step.
-use Rattle.std.proofs.Common.{◌≡◌, ℕ, zero, suc, List, [], ◌∷◌, ◌++◌, true, false, refl, ap, sym, ◌∙◌, subst}
+use Rattle.std.proofs.Common.{◌≡◌, ◌+◌, ℕ, zero, suc, List, [], ◌∷◌, ◌++◌, true, false, refl, ap, sym, ◌∙◌, subst}
 use Rattle.std.specs.Prelude.{not}
 use Rattle.std.proofs.lemmas.Bool.{false≢true, true≢false}
 use Rattle.std.proofs.lemmas.List.Elements.{filter-append}
+use Rattle.frag_map.specs.Replicas.{first_start}
 use Rattle.frag_map.specs.Shape.{IsShape}
 use Rattle.run_theory.proofs.Pasts.{each_append, each_map}
 use Rattle.run_theory.specs.Links.{sent}
 use Rattle.run_theory.specs.Lists.{Each}
+use Rattle.sig_core.specs.declared.member.Member.{Member}
 use Rattle.sig_core.specs.declared.outs.Outgoing.{Outgoing}
 use Rattle.sig_core.specs.declared.place.BlockId.{BlockId}
 use Rattle.sig_core.specs.declared.place.BlockId.TheVariants as block
@@ -19,10 +21,12 @@ use Rattle.world_views.specs.Machine.{after, machine, replies_at, sent_count, st
 use Rattle.world_views.specs.Right.{replies_in}
 use Rattle.calm_laws.specs.Alike.{AreAlike}
 use Rattle.calm_laws.specs.Plain.{is_beating}
-use Rattle.calm_laws.specs.Steps.{ComesCalmly, IsForNode, IsForViews, IsPlainSend, StepAlike, StepAside, is_of_parts, plain_replies, shows}
+use Rattle.calm_laws.specs.Steps.{ComesCalmly, IsForViews, IsPlainSend, StepAlike, StepAside, besides, is_of_parts}
+use Rattle.calm_laws.specs.Steps.{plain_replies, round_for, shows}
 use Rattle.calm_laws.proofs.Beginnings.{begin_alike}
 use Rattle.calm_laws.proofs.Events.{all_plain, none_plain, plain_log, plain_nothing}
 use Rattle.calm_laws.proofs.PartSteps.{main_parts_step, parts_step}
+use Rattle.calm_laws.proofs.Rounds.{each_besides}
 use Rattle.calm_laws.proofs.SentAlike.{count_next, sent_next}
 use Rattle.calm_laws.proofs.SentSeen.{IsFor, IsSeen, is_client, seen_next}
 use Rattle.calm_laws.proofs.ShellSteps.{shells_step}
@@ -68,19 +72,24 @@ replies_next start h log e =
     filter-append (λ (reply : ApiReply). not (shows reply)) (replies_in start h log)
     (replies_at h (step_after start h log e))
 
+-- so a main part is alike the plain one that has done nothing
+pub main_alike : (start : Start) (h : ℕ) (log : List HostStep) → is_beating h ≡ true → IsMirrored start h log
+    → AreAlike start [] (after start h log) (plain.after start h [])
+main_alike start h log beats mirrored =
+    subst (λ given. AreAlike start given (after start h log) (plain.after start h []))
+    (main_replies start h log beats)
+    (subst
+    (λ rest.
+    AreAlike start (plain_replies (replies_in start h log)) (after start h log) (plain.after start h rest))
+    (none_plain h log beats) mirrored.alike)
+
 -- A step of a main part, which leaves its plain one as it is.
 module _ (start : Start) (h : ℕ) (log : List HostStep) (e : HostStep) (beats : is_beating h ≡ true)
     (mirrored : IsMirrored start h log) (comes : ComesCalmly start h e.step.taken) where
-  alike_now : AreAlike start [] (after start h log) (plain.after start h [])
-  alike_now =
-      subst (λ given. AreAlike start given (after start h log) (plain.after start h [])) (main_replies start h log beats)
-      (subst
-      (λ rest.
-      AreAlike start (plain_replies (replies_in start h log)) (after start h log) (plain.after start h rest))
-      (none_plain h log beats) mirrored.alike)
-
-  aside : StepAside start h (after start h log) (plain.after start h []) e.step.taken
-  aside = main_parts_step start h (after start h log) (plain.after start h []) e.step.taken beats alike_now comes
+  pub main_aside : StepAside start h (after start h log) (plain.after start h []) e.step.taken
+  main_aside =
+      main_parts_step start h (after start h log) (plain.after start h []) e.step.taken beats
+      (main_alike start h log beats mirrored) comes
 
   for_views : (sent : Outgoing) → IsForViews sent → IsFor start h sent
   for_views sent views =
@@ -93,15 +102,16 @@ module _ (start : Start) (h : ℕ) (log : List HostStep) (e : HostStep) (beats :
   main_mirrored =
       record {
         alike =
-            subst (λ given. AreAlike start given (after start h (e ∷ log)) (plain.after start h (plain_log h (e ∷ log))))
+            subst
+            (λ given. AreAlike start given (after start h (e ∷ log)) (plain.after start h (plain_log h (e ∷ log))))
             (sym (main_replies start h (e ∷ log) beats))
             (subst (λ rest. AreAlike start [] (after start h (e ∷ log)) (plain.after start h rest))
-            (sym (none_plain h (e ∷ log) beats)) aside.alike);
+            (sym (none_plain h (e ∷ log) beats)) main_aside.alike);
         links = λ j here takes. absurd (true≢false (sym beats ∙ here));
         counts = λ j here takes. absurd (true≢false (sym beats ∙ here));
         seen = λ j.
-            seen_next start h j log e aside.alike.standing.view
-            (each_map IsForViews (IsFor start h) (step_after start h log e).effects.sends for_views aside.sends)
+            seen_next start h j log e main_aside.alike.standing.view
+            (each_map IsForViews (IsFor start h) (step_after start h log e).effects.sends for_views main_aside.sends)
             (mirrored.seen j);
         asked = λ here. absurd (true≢false (sym beats ∙ here));
       }
@@ -110,9 +120,6 @@ module _ (start : Start) (h : ℕ) (log : List HostStep) (e : HostStep) (beats :
 parts_apart : (of : BlockId) → is_of_parts of ≡ true → is_client of ≡ false
 parts_apart block.Api parts = absurd cc
 parts_apart of parts = refl
-
-node_apart : (of : BlockId) → of ≡ block.Qmgr → is_client of ≡ false
-node_apart of is = ap is_client is
 
 for_plain : (start : Start) (h : ℕ) (sent : Outgoing) → is_beating h ≡ false → IsPlainSend h sent → IsFor start h sent
 for_plain start zero sent here is =
@@ -123,12 +130,9 @@ for_plain start zero sent here is =
 for_plain start (suc h) sent here is =
     record { views = λ beats. absurd (true≢false (sym beats ∙ here)); shell = λ zero. absurd cc }
 
-for_node : (start : Start) (h : ℕ) (sent : Outgoing) → is_beating h ≡ false → IsForNode sent → IsFor start h sent
-for_node start h sent here is =
-    record {
-      views = λ beats. absurd (true≢false (sym beats ∙ here));
-      shell = λ zero. node_apart sent.to.block is.block;
-    }
+for_round : (start : Start) (h : ℕ) (member : Member) → is_beating h ≡ false → IsFor start h (round_for member)
+for_round start h member here =
+    record { views = λ beats. absurd (true≢false (sym beats ∙ here)); shell = λ zero. refl }
 
 -- A step of another host, which its plain one makes too.
 pub step_alike : (start : Start) (h : ℕ) (log : List HostStep) (e : HostStep) → IsShape start.shape
@@ -166,16 +170,19 @@ module _ (start : Start) (h : ℕ) (log : List HostStep) (e : HostStep) (plain_h
   all_for : Each (IsFor start h) (step_after start h log e).effects.sends
   all_for =
       subst (Each (IsFor start h)) (sym step.sends)
-      (each_append (IsFor start h) (plain.step_after start h log e).effects.sends step.besides
+      (each_append (IsFor start h) (plain.step_after start h log e).effects.sends
+      (besides start h e.step.taken.body)
       (each_map (IsPlainSend h) (IsFor start h) (plain.step_after start h log e).effects.sends
       (λ sent is. for_plain start h sent plain_host is) step.plain)
-      (each_map IsForNode (IsFor start h) step.besides (λ sent is. for_node start h sent plain_host is) step.others))
+      (each_besides (IsFor start h) start h e.step.taken.body
+      (λ k low. for_round start h (first_start (k + 1)) plain_host)))
 
   pub part_mirrored : IsMirrored start h (e ∷ log)
   part_mirrored =
       record {
         alike =
-            subst (λ given. AreAlike start given (after start h (e ∷ log)) (plain.after start h (plain_log h (e ∷ log))))
+            subst
+            (λ given. AreAlike start given (after start h (e ∷ log)) (plain.after start h (plain_log h (e ∷ log))))
             (sym (replies_next start h log e))
             (subst
             (λ rest.
@@ -184,11 +191,10 @@ module _ (start : Start) (h : ℕ) (log : List HostStep) (e : HostStep) (plain_h
             (after start h (e ∷ log)) (plain.after start h rest))
             (sym (all_plain h (e ∷ log) plain_host)) step.alike);
         links = λ j here takes.
-            sent_next start h log e step.besides step.alike.standing step.sends step.plain step.others j takes
-            (mirrored.counts j here takes) goes_on (mirrored.links j here takes);
+            sent_next start h log e step.alike.standing step.sends step.plain j takes (mirrored.counts j here takes)
+            goes_on (mirrored.links j here takes);
         counts = λ j here takes.
-            count_next start h log e step.besides step.alike.standing step.sends step.plain step.others j takes
-            (mirrored.counts j here takes);
+            count_next start h log e step.alike.standing step.sends step.plain j takes (mirrored.counts j here takes);
         seen = λ j. seen_next start h j log e step.alike.standing.view all_for (mirrored.seen j);
         asked = λ here. (asked, mirrored.asked here);
       }

@@ -35,6 +35,7 @@ use Rattle.calm_laws.specs.Calm.{AreCalm, has_block, is_calm, is_calm_request, i
 use Rattle.calm_laws.specs.Laws.{IsCalmLife}
 use Rattle.calm_laws.specs.Resting.{GoOnBy}
 use Rattle.calm_laws.proofs.Arrivals.{arriving}
+use Rattle.calm_laws.proofs.Events.{host_there, none_before, within_before}
 use Rattle.calm_laws.proofs.QuietLinks.{all_taken, given_running, none_stops}
 use Rattle.calm_laws.proofs.MainPlaces.{main_at}
 use Rattle.calm_laws.proofs.SentStep.{IsFine, IsSince}
@@ -58,14 +59,6 @@ newer_next {A} x then_taken all newer base before next is = subst (IsIn x) whole
 -- no older part is longer
 pub past_short : {A : Type 0} {xs ys : List A} → IsPast xs ys → length xs ≤ length ys
 past_short {A} {xs} p = omega (arith, ap length p.is, length-append p.newer xs)
-
--- an older part of nothing is nothing
-nothing_past : {A : Type 0} (xs : List A) → IsPast xs [] → xs ≡ []
-nothing_past {A} xs past = go past.newer past.is
-  where
-    go : (newer : List A) → [] ≡ newer ++ xs → xs ≡ []
-    go [] is = sym is
-    go (x ∷ newer) is = absurd cc
 
 -- the requests of an older part come first
 pub record IsAskedBehind (base all : List HostStep) : Type 0 where
@@ -127,24 +120,16 @@ module _ (start : Start) (request : ApiReq) (logs more : ℕ → List HostStep) 
   i = x.from.0
 
   pub within_now : IsWithin (hosts start) (log_of (machine start) (e ∷ es))
-  within_now h above =
-      nothing_past (log_of (machine start) (e ∷ es) h)
-      (subst (IsPast (log_of (machine start) (e ∷ es) h)) (by.within h above) (upto h))
+  within_now h above = none_before (log_of (machine start) (e ∷ es) h) (more h) (upto h) (by.within h above)
 
   within_then : IsWithin (hosts start) (log_of (machine start) es)
-  within_then h above =
-      nothing_past (log h)
-      (subst (IsPast (log h)) (within_now h above) (log_of-past (machine start) e es h))
+  within_then = within_before start (hosts start) e es within_now
 
   upto_own : IsPast (e ∷ log e.host) (more e.host)
   upto_own = subst (λ all. IsPast all (more e.host)) (log_of-own (machine start) e es e.host refl) (upto e.host)
 
   host_low : e.host < hosts start
-  host_low = go (cases_lt e.host (hosts start))
-    where
-      go : (e.host < hosts start) ⊎ (hosts start ≤ e.host) → e.host < hosts start
-      go (inl low) = low
-      go (inr above) = absurd (cc (log_of-own (machine start) e es e.host refl, within_now e.host above))
+  host_low = host_there start (hosts start) e es within_now
 
   -- the signal that a link gave was sent since the quiet moment
   module _ (unasked : is_asked e.host x ≡ false) where
@@ -160,9 +145,9 @@ module _ (start : Start) (request : ApiReq) (logs more : ℕ → List HostStep) 
         go (inl low) = low
         go (inr above) =
             absurd
-            (cc (nothing_past (arriving e.host x ∷ taken (machine start) i (log e.host))
-            (subst (IsPast (arriving e.host x ∷ taken (machine start) i (log e.host)))
-            (ap (sent (machine start) i e.host) (within_then i above)) given)))
+            (cc (none_before (arriving e.host x ∷ taken (machine start) i (log e.host))
+            (sent (machine start) i e.host (log i)) given
+            (ap (sent (machine start) i e.host) (within_then i above))))
 
     pub signal_fine : IsFine start i (arriving e.host x)
     signal_fine =

@@ -31,12 +31,10 @@ pub step_alike : (start : Start) (h : ℕ) (s : host.Host) (other : plain.Host) 
     → StepAlike start (suc h) [] s other x
 step_alike start h s other x alike calm parts = record {
   marks = ap (λ (step : Step host.Host). step.effects.marks) same ∙ parts.marks;
-  besides = [];
   sends =
       ap (λ (step : Step host.Host). step.effects.sends) same ∙ parts.sends
       ∙ sym (append-nil (row other x).effects.sends);
   plain = parts.plain;
-  others = tt;
   goes_on = parts.goes_on;
   alike = subst (λ (step : Step host.Host). AreAlike start [] (told (suc h) step) (row other x).state) (sym same)
       (record { standing = alike.standing; parts = parts.alike });

@@ -113,13 +113,6 @@ round_steps start h missed s other x beating alike calm rests few is =
       marks = step.marks;
     })
 
-pub round_rests : (start : Start) (h missed : ℕ) (s : host.Host) (other : plain.Host) (x : Signal)
-    → is_beating h ≡ true → AreAlike start [] s other → ComesCalmly start h x → IsRestingPart start h missed s.parts
-    → missed < 3 → x.body ≡ Host Round
-    → IsRestingPart start h (missed + 1) (told h (step_by h s x)).parts
-round_rests start h missed s other x beating alike calm rests few is =
-    (round_steps start h missed s other x beating alike calm rests few is).rests
-
 -- a heartbeat: it has missed no more
 pub heartbeat_rests : (start : Start) (h missed : ℕ) (s : host.Host) (other : plain.Host) (x : Signal)
     → is_beating h ≡ true → AreAlike start [] s other → ComesCalmly start h x → IsRestingPart start h missed s.parts

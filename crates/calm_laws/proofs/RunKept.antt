@@ -1,5 +1,6 @@
 -- Each step of a calm run keeps the hosts alike, and the plain events a run.
-use Rattle.std.proofs.Common.{◌≡◌, ◌≢◌, ◌⊎◌, ◌+◌, ◌<◌, inl, inr, ℕ, List, [], ◌∷◌, Bool, true, false, refl, ap, sym, ◌∙◌, subst}
+use Rattle.std.proofs.Common.{◌≡◌, ◌≢◌, ◌⊎◌, ◌+◌, ◌<◌, inl, inr, ℕ, List, [], ◌∷◌, Bool, true, false, refl, ap, sym}
+use Rattle.std.proofs.Common.{◌∙◌, subst}
 use Rattle.std.specs.Prelude.{max}
 use Rattle.std.proofs.lemmas.Bool.{cases_eq}
 use Rattle.frag_map.specs.Shape.{IsShape}
@@ -18,7 +19,8 @@ use Rattle.calm_laws.specs.Calm.{AreCalm, is_calm}
 use Rattle.calm_laws.specs.Plain.{is_beating}
 use Rattle.calm_laws.specs.Steps.{ComesCalmly, StepAlike, plain_replies}
 use Rattle.calm_laws.proofs.Arrivals.{Arrives, arrives, beats_unasked, main_comes}
-use Rattle.calm_laws.proofs.Events.{calm_before, calm_now, host_there, plain_events, plain_within, same_log, unless_left, within_before, within_next}
+use Rattle.calm_laws.proofs.Events.{calm_before, calm_now, host_there, plain_events, plain_within, same_log}
+use Rattle.calm_laws.proofs.Events.{unless_left, within_before, within_next}
 use Rattle.calm_laws.proofs.KnownTxs.{coming_known}
 use Rattle.calm_laws.proofs.Mirrored.{IsMirrored, begins_mirrored, main_mirrored, part_mirrored, step_alike}
 use Rattle.calm_laws.proofs.WellFormed.{coming_well_formed}
@@ -29,7 +31,8 @@ pub record IsKept (start : Start) (es : List HostStep) : Type 0 where
   pub mirrored : (h : ℕ) → IsMirrored start h (log_of (machine start) es h)
 
 -- both machines know the same last stamp
-same_last : (start : Start) (h : ℕ) (log : List HostStep) → last (machine start) h log ≡ last (plain.machine start) h log
+same_last : (start : Start) (h : ℕ) (log : List HostStep)
+    → last (machine start) h log ≡ last (plain.machine start) h log
 same_last start h [] = refl
 same_last start h (e ∷ log) = refl
 
@@ -99,7 +102,8 @@ module _ (start : Start) (shape : IsShape start.shape) (es : List HostStep) (e :
   module _ (takes : is_beating e.host ≡ false) where
     arrival : Arrives start es e.host e.step.taken
     arrival =
-        arrives start es e.host e.step.taken calm within kept.mirrored takes kept.run happens.step.fits.comes happens.takes
+        arrives start es e.host e.step.taken calm within kept.mirrored takes kept.run happens.step.fits.comes
+        happens.takes
 
     -- the plain machine may take the same signal
     abbrev with_marks : HostStep

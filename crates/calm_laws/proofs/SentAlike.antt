@@ -1,5 +1,6 @@
 -- A step sends to the hosts that are no main parts what its plain one does.
-use Rattle.std.proofs.Common.{◌≡◌, ℕ, List, [], ◌∷◌, ◌++◌, Bool, true, false, refl, ap, ap₂, sym, ◌∙◌, eqb-true, ne_eqb}
+use Rattle.std.proofs.Common.{◌≡◌, ◌+◌, ℕ, List, [], ◌∷◌, ◌++◌, Bool, true, false, refl, ap, ap₂, sym, ◌∙◌}
+use Rattle.std.proofs.Common.{arith, eqb-true, ne_eqb}
 use Rattle.std.specs.Prelude.{if◌then◌else◌, ◌==◌, ◌&&◌, ◌||◌}
 use Rattle.std.specs.List.{list_any}
 use Rattle.std.proofs.lemmas.Bool.{and_right, true≢false}
@@ -11,6 +12,8 @@ use Rattle.run_theory.specs.Lists.{Each}
 use Rattle.sig_core.specs.declared.member.HostId.{HostId}
 use Rattle.sig_core.specs.declared.outs.Outgoing.{Outgoing}
 use Rattle.sig_core.specs.declared.place.Place.{Place}
+use Rattle.sig_core.specs.declared.signal.Body.{Body}
+use Rattle.sig_core.specs.Place.{membership}
 use Rattle.world_core.specs.Hosts.{first_membership, host_for}
 use Rattle.world_core.specs.Machine as plain
 use Rattle.world_core.specs.Machine.{counted, one_more}
@@ -20,11 +23,13 @@ use Rattle.world_views.proofs.LogFacts.{sent_going_on}
 use Rattle.world_views.specs.declared.sender.Sender.{Sender}
 use Rattle.world_views.specs.Hosts.{reached}
 use Rattle.world_views.specs.Machine.{after, machine, sender, sent_count, step_after, stops_by}
-use Rattle.world_views.specs.Sending.{Routed, addressed, all_addressed, count_routed, is_kept_back, is_own_work, routed, routed_all, routed_if}
+use Rattle.world_views.specs.Sending.{Routed, addressed, all_addressed, count_routed, is_kept_back, is_own_work, routed}
+use Rattle.world_views.specs.Sending.{routed_all, routed_if}
 use Rattle.calm_laws.specs.Alike.{IsAtEase, first}
 use Rattle.calm_laws.specs.Plain.{is_beating}
-use Rattle.calm_laws.specs.Steps.{IsForNode, IsPlainSend}
+use Rattle.calm_laws.specs.Steps.{IsPlainSend, besides}
 use Rattle.calm_laws.proofs.Reached.{node_beats, reached_first}
+use Rattle.calm_laws.proofs.Rounds.{each_besides}
 
 -- things that are sent, each to the host of its place
 abbrev pub plainly : Start → List Outgoing → List Routed
@@ -39,35 +44,44 @@ aside_if : (b : Bool) (r : Routed) (rs : List Routed) → IsAside r → Each IsA
 aside_if true r rs one all = all
 aside_if false r rs one all = (one, all)
 
+-- it goes to the host of its place, which is a main part or nobody
+abbrev GoesAside : Start → Outgoing → Type 0
+GoesAside start sent = is_beating (host_for start sent.to) ≡ true
+
 -- A host at ease keeps back none of what a plain host sends, and what it sends besides goes to main parts.
 module _ (start : Start) (h : ℕ) (standing : Standing) (ease : IsAtEase start standing) where
-  here : (to : Place) → reached (made start) h standing.view to ≡ host_for start to
+  pub here : (to : Place) → reached (made start) h standing.view to ≡ host_for start to
   here to = ap (λ view. reached (made start) h view to) ease.view ∙ reached_first start h to
 
-  kept : (to : ℕ) (sent : Outgoing) → is_own_work sent.body ≡ false → is_kept_back h standing to sent ≡ false
+  pub kept : (to : ℕ) (sent : Outgoing) → is_own_work sent.body ≡ false → is_kept_back h standing to sent ≡ false
   kept to sent plain =
       ap (λ (cut : List HostId). list_any (is_one_of (record { 0 = to })) cut || ((to == h) && is_own_work sent.body))
       ease.uncut
       ∙ and_right (to == h) (is_own_work sent.body) plain
 
-  pub routed_alike : (sends besides : List Outgoing) → Each (IsPlainSend h) sends
-      → routed_all (made start) h standing (sends ++ besides)
-      ≡ plainly start sends ++ routed_all (made start) h standing besides
-  routed_alike [] besides all = refl
-  routed_alike (sent ∷ more) besides all =
+  pub routed_alike : (sends rounds : List Outgoing) → Each (IsPlainSend h) sends
+      → routed_all (made start) h standing (sends ++ rounds)
+      ≡ plainly start sends ++ routed_all (made start) h standing rounds
+  routed_alike [] rounds all = refl
+  routed_alike (sent ∷ more) rounds all =
       ap (λ b.
       routed_if b (routed (reached (made start) h standing.view sent.to) sent)
-      (routed_all (made start) h standing (more ++ besides)))
+      (routed_all (made start) h standing (more ++ rounds)))
       (kept (reached (made start) h standing.view sent.to) sent all.0.work)
-      ∙ ap₂ (λ to rs. routed to sent ∷ rs) (here sent.to) (routed_alike more besides all.1)
+      ∙ ap₂ (λ to rs. routed to sent ∷ rs) (here sent.to) (routed_alike more rounds all.1)
 
-  pub besides_aside : (besides : List Outgoing) → Each IsForNode besides
-      → Each IsAside (routed_all (made start) h standing besides)
-  besides_aside [] all = tt
-  besides_aside (sent ∷ more) all =
+  all_aside : (sends : List Outgoing) → Each (GoesAside start) sends
+      → Each IsAside (routed_all (made start) h standing sends)
+  all_aside [] all = tt
+  all_aside (sent ∷ more) all =
       aside_if (is_kept_back h standing (reached (made start) h standing.view sent.to) sent)
       (routed (reached (made start) h standing.view sent.to) sent) (routed_all (made start) h standing more)
-      (ap is_beating (here sent.to) ∙ node_beats start sent.to all.0.block all.0.node) (besides_aside more all.1)
+      (ap is_beating (here sent.to) ∙ all.0) (all_aside more all.1)
+
+  besides_aside : (body : Body) → Each IsAside (routed_all (made start) h standing (besides start h body))
+  besides_aside body =
+      all_aside (besides start h body)
+      (each_besides (GoesAside start) start h body (λ k low. node_beats start (membership (k + 1)) refl (omega arith)))
 
 -- What comes on the link to a host that is no main part, and how many signals are counted there.
 module _ (start : Start) (j : ℕ) (takes : is_beating j ≡ false) where
@@ -127,12 +141,12 @@ module _ (start : Start) (j : ℕ) (takes : is_beating j ≡ false) where
           ap (λ number. addressed by number (routed to sent) ∷ before) (ap count is ∙ same ∙ ap other (sym is))
       one false at = refl
 
--- A step that sends what its plain one does, and something for main parts besides.
-module _ (start : Start) (h : ℕ) (log : List HostStep) (e : HostStep) (besides : List Outgoing)
+-- A step that sends what its plain one does, and perhaps rounds besides.
+module _ (start : Start) (h : ℕ) (log : List HostStep) (e : HostStep)
     (ease : IsAtEase start (after start h (e ∷ log)).standing)
-    (sends : (step_after start h log e).effects.sends ≡ (plain.step_after start h log e).effects.sends ++ besides)
+    (sends : (step_after start h log e).effects.sends
+    ≡ (plain.step_after start h log e).effects.sends ++ besides start h e.step.taken.body)
     (plainly_sent : Each (IsPlainSend h) (plain.step_after start h log e).effects.sends)
-    (others : Each IsForNode besides)
     (j : ℕ) (takes : is_beating j ≡ false)
     (same : sent_count start h log j ≡ plain.sent_count start h log j) where
   abbrev standing : Standing
@@ -141,8 +155,11 @@ module _ (start : Start) (h : ℕ) (log : List HostStep) (e : HostStep) (besides
   abbrev both : List Outgoing
   both = (plain.step_after start h log e).effects.sends
 
+  abbrev rounds : List Outgoing
+  rounds = besides start h e.step.taken.body
+
   abbrev rest : List Routed
-  rest = routed_all (made start) h standing besides
+  rest = routed_all (made start) h standing rounds
 
   pub sent_next : stops_by e.step.marks ≡ false → sent (machine start) h j log ≡ sent (plain.machine start) h j log
       → sent (machine start) h j (e ∷ log) ≡ sent (plain.machine start) h j (e ∷ log)
@@ -152,14 +169,14 @@ module _ (start : Start) (h : ℕ) (log : List HostStep) (e : HostStep) (besides
       put (machine start) j
       (all_addressed (sender (made start) h e.step.stamp standing.view) (sent_count start h log) rs)
       (sent (machine start) h j log))
-      (ap (routed_all (made start) h standing) sends ∙ routed_alike start h standing ease both besides plainly_sent)
+      (ap (routed_all (made start) h standing) sends ∙ routed_alike start h standing ease both rounds plainly_sent)
       ∙ ap (λ view.
       put (machine start) j
       (all_addressed (sender (made start) h e.step.stamp view) (sent_count start h log) (plainly start both ++ rest))
       (sent (machine start) h j log))
       ease.view
       ∙ put_alike start j takes h e.step.stamp (sent_count start h log) (plain.sent_count start h log) both rest
-      (sent (machine start) h j log) same (besides_aside start h standing ease besides others)
+      (sent (machine start) h j log) same (besides_aside start h standing ease e.step.taken.body)
       ∙ ap (λ xs.
       put (plain.machine start) j
       (plain.all_addressed (first_membership start) h e.step.stamp (plain.sent_count start h log) both) xs)
@@ -168,6 +185,6 @@ module _ (start : Start) (h : ℕ) (log : List HostStep) (e : HostStep) (besides
   pub count_next : sent_count start h (e ∷ log) j ≡ plain.sent_count start h (e ∷ log) j
   count_next =
       ap (λ rs. count_routed rs (sent_count start h log) j)
-      (ap (routed_all (made start) h standing) sends ∙ routed_alike start h standing ease both besides plainly_sent)
+      (ap (routed_all (made start) h standing) sends ∙ routed_alike start h standing ease both rounds plainly_sent)
       ∙ count_alike start j takes (sent_count start h log) (plain.sent_count start h log) both rest same
-      (besides_aside start h standing ease besides others)
+      (besides_aside start h standing ease e.step.taken.body)

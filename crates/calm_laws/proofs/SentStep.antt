@@ -1,18 +1,13 @@
 -- What a step puts on a link, where its host is at ease: each thing that it sends goes to the host of its place.
 use Rattle.std.proofs.Common.{◌≡◌, ◌+◌, ◌<◌, ℕ, List, [], ◌∷◌, ◌++◌, length, Bool, true, false, refl, ap, ap₂, ◌∙◌}
 use Rattle.std.proofs.Common.{arith}
-use Rattle.std.specs.Prelude.{if◌then◌else◌, ◌==◌, ◌&&◌, ◌||◌}
-use Rattle.std.specs.List.{list_any}
-use Rattle.std.proofs.lemmas.Bool.{and_right}
+use Rattle.std.specs.Prelude.{if◌then◌else◌, ◌==◌, ◌&&◌}
 use Rattle.node_views.specs.declared.standing.Standing.{Standing}
-use Rattle.node_views.specs.Row.{is_one_of}
 use Rattle.run_theory.proofs.Links.{put_each}
 use Rattle.run_theory.specs.Counts.{one_if, tally}
 use Rattle.run_theory.specs.Links.{put, sent}
 use Rattle.run_theory.specs.Lists.{Each}
-use Rattle.sig_core.specs.declared.member.HostId.{HostId}
 use Rattle.sig_core.specs.declared.outs.Outgoing.{Outgoing}
-use Rattle.sig_core.specs.declared.place.Place.{Place}
 use Rattle.sig_core.specs.declared.signal.Body.TheVariants.{Host}
 use Rattle.sig_core.specs.declared.signal.host.HostSignal.TheVariants.{Round}
 use Rattle.world_core.specs.Hosts.{host_for, hosts}
@@ -23,13 +18,12 @@ use Rattle.world_views.proofs.LogFacts.{sent_going_on}
 use Rattle.world_views.specs.declared.sender.Sender.{Sender}
 use Rattle.world_views.specs.Hosts.{reached}
 use Rattle.world_views.specs.Machine.{after, machine, sender, sent_count, step_after, stops_by}
-use Rattle.world_views.specs.Sending.{addressed, all_addressed, is_kept_back, is_own_work, routed, routed_all}
+use Rattle.world_views.specs.Sending.{addressed, all_addressed, is_own_work, routed, routed_all}
 use Rattle.world_views.specs.Sending.{routed_if}
 use Rattle.calm_laws.specs.Alike.{IsAtEase}
 use Rattle.calm_laws.specs.Calm.{has_block, is_calm, is_for}
 use Rattle.calm_laws.specs.Plain.{is_beating}
-use Rattle.calm_laws.proofs.Reached.{reached_first}
-use Rattle.calm_laws.proofs.SentAlike.{plainly}
+use Rattle.calm_laws.proofs.SentAlike.{here, kept, plainly}
 
 -- A thing that host i sends: whoever is to take it takes it in calm; the shell alone tells main parts of rounds, and
 -- tells them of nothing else; and it is nothing that a host asks of itself alone.
@@ -60,23 +54,14 @@ goes_to start j one = host_for start one.to == j
 
 -- a host at ease keeps nothing back
 module _ (start : Start) (h : ℕ) (standing : Standing) (ease : IsAtEase start standing) where
-  here : (to : Place) → reached (made start) h standing.view to ≡ host_for start to
-  here to = ap (λ view. reached (made start) h view to) ease.view ∙ reached_first start h to
-
-  kept : (to : ℕ) (one : Outgoing) → is_own_work one.body ≡ false → is_kept_back h standing to one ≡ false
-  kept to one plain =
-      ap (λ (cut : List HostId). list_any (is_one_of (record { 0 = to })) cut || ((to == h) && is_own_work one.body))
-      ease.uncut
-      ∙ and_right (to == h) (is_own_work one.body) plain
-
   all_routed : (i : ℕ) (sends : List Outgoing) → Each (IsFineSend start i) sends
       → routed_all (made start) h standing sends ≡ plainly start sends
   all_routed i [] all = refl
   all_routed i (one ∷ more) all =
       ap (λ b.
       routed_if b (routed (reached (made start) h standing.view one.to) one) (routed_all (made start) h standing more))
-      (kept (reached (made start) h standing.view one.to) one all.0.work)
-      ∙ ap₂ (λ to rs. routed to one ∷ rs) (here one.to) (all_routed i more all.1)
+      (kept start h standing ease (reached (made start) h standing.view one.to) one all.0.work)
+      ∙ ap₂ (λ to rs. routed to one ∷ rs) (here start h standing ease one.to) (all_routed i more all.1)
 
 module _ (start : Start) where
   fine_addressed : (i : ℕ) (by : Sender) (count : ℕ → ℕ) (sends : List Outgoing) → Each (IsFineSend start i) sends

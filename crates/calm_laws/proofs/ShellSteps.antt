@@ -33,7 +33,7 @@ use Rattle.world_core.specs.Start.{Start}
 use Rattle.world_views.specs.Machine.{replies_at, step_by, stops_by, told}
 use Rattle.calm_laws.specs.Alike.{AreAlike, first}
 use Rattle.calm_laws.specs.Calm.{has_block, is_for, is_for_client}
-use Rattle.calm_laws.specs.Steps.{ComesCalmly, IsPlainSend, ShellsStepAlike, StepAlike, plain_replies}
+use Rattle.calm_laws.specs.Steps.{ComesCalmly, IsPlainSend, ShellsStepAlike, StepAlike, besides, plain_replies}
 use Rattle.calm_laws.proofs.ClientSteps.{ClientAlike, client_alike}
 use Rattle.calm_laws.proofs.Ease.{ease_row}
 
@@ -80,9 +80,9 @@ module _ (start : Start) (given : List ApiReply) (standing : Standing) (p : Shel
         ∙ (ap (λ (b : ApiState). api_row b x) alike.parts.1.1.1 ∙ given_row given a x.body))
 
     -- which are alike
-    client : ClientAlike start given t (api_row a x)
+    client : ClientAlike start given x.body t (api_row a x)
     client =
-        subst (λ (c : ClientState). ClientAlike start given (client_row c x) (api_row a x)) (sym alike.parts.0)
+        subst (λ (c : ClientState). ClientAlike start given x.body (client_row c x) (api_row a x)) (sym alike.parts.0)
         (client_alike start given a x shape alike.parts.1.0 alike.parts.1.1.0 comes taken.1)
 
     goes_on : stops_by t.effects.marks ≡ false
@@ -108,14 +108,13 @@ module _ (start : Start) (given : List ApiReply) (standing : Standing) (p : Shel
       marks =
           ap (λ (step : Step host.Host). step.effects.marks) mine_is
           ∙ (client.marks ∙ sym (ap (λ (step : Step plain.Host). step.effects.marks) theirs_is));
-      besides = client.besides;
       sends =
           ap (λ (step : Step host.Host). step.effects.sends) mine_is
           ∙ (ap (λ (stops : Bool). unless_stopped t.effects.sends stops) goes_on
-          ∙ (client.sends ∙ sym (ap (λ (step : Step plain.Host). step.effects.sends ++ client.besides) theirs_is)));
+          ∙ (client.sends
+          ∙ sym (ap (λ (step : Step plain.Host). step.effects.sends ++ besides start 0 x.body) theirs_is)));
       plain =
           subst (λ (step : Step plain.Host). Each (IsPlainSend 0) step.effects.sends) (sym theirs_is) client.plain;
-      others = client.others;
       goes_on = ap (λ (step : Step plain.Host). stops_by step.effects.marks) theirs_is ∙ client.goes_on;
       alike =
           subst₂ (λ (step : Step host.Host) (other_step : Step plain.Host).

@@ -40,16 +40,16 @@ use Rattle.world_views.specs.Sending.{is_asked}
 use Rattle.calm_laws.specs.Alike.{AreAlike, IsAtEase}
 use Rattle.calm_laws.specs.Calm.{is_for, is_for_membership}
 use Rattle.calm_laws.specs.Resting.{IsRestingPart}
-use Rattle.calm_laws.specs.Steps.{ComesCalmly, IsPlainSend}
+use Rattle.calm_laws.specs.Steps.{ComesCalmly, IsPlainSend, besides, is_tick}
 use Rattle.calm_laws.proofs.Ease.{has_calm_block, takes_calmly}
-use Rattle.calm_laws.proofs.FineSends.{beating_block, heartbeat_fine, heartbeat_one, plain_none, tick_fine, tick_one}
+use Rattle.calm_laws.proofs.FineSends.{beating_block, besides_fine, besides_one, heartbeat_fine, heartbeat_one}
+use Rattle.calm_laws.proofs.FineSends.{plain_none}
 use Rattle.calm_laws.proofs.FirstRing.{behind_low, front_low, same_self}
 use Rattle.calm_laws.proofs.LoneRounds.{lone_round}
 use Rattle.calm_laws.proofs.MainPlaces.{main_at, main_beats, main_low, main_member, none_beside, two_beside}
 use Rattle.calm_laws.proofs.Rest.{HostRests, heartbeat_restores, heartbeat_rests, round_steps}
 use Rattle.calm_laws.proofs.RestingSteps.{beats}
 use Rattle.calm_laws.proofs.SentStep.{IsFineSend, IsSince, goes_to, sent_length, since_next}
-use Rattle.calm_laws.proofs.ShellRounds.{is_tick, rounds_if_tick}
 
 -- the main parts beside one in the ring
 abbrev pub behind : Start → ℕ → ℕ
@@ -280,8 +280,7 @@ tick_asked body = omega arith
 
 -- A step of the shell, which sends these and perhaps rounds.
 module _ (start : Start) (base log : List HostStep) (e : HostStep) (sends : List Outgoing)
-    (are : (step_after start 0 log e).effects.sends
-    ≡ sends ++ rounds_if_tick (is_tick e.step.taken.body) start.shape.nodes)
+    (are : (step_after start 0 log e).effects.sends ≡ sends ++ besides start 0 e.step.taken.body)
     (plain : Each (IsPlainSend 0) sends) (fine : Each (IsFineSend start 0) sends)
     (ease : IsAtEase start (after start 0 (e ∷ log)).standing) (goes_on : stops_by e.step.marks ≡ false)
     (asked : is_asked e.host e.step.taken ≡ is_request e.step.taken.body) where
@@ -289,10 +288,10 @@ module _ (start : Start) (base log : List HostStep) (e : HostStep) (sends : List
   tick = is_tick e.step.taken.body
 
   abbrev rounds : List Outgoing
-  rounds = rounds_if_tick tick start.shape.nodes
+  rounds = besides start 0 e.step.taken.body
 
   all_fine : Each (IsFineSend start 0) (sends ++ rounds)
-  all_fine = each_append (IsFineSend start 0) sends rounds fine (tick_fine start tick)
+  all_fine = each_append (IsFineSend start 0) sends rounds fine (besides_fine start e.step.taken.body)
 
   pub shell_since : (j : ℕ) → IsSince start 0 j base log → IsSince start 0 j base (e ∷ log)
   shell_since j since = since_next start 0 log e ease goes_on (sends ++ rounds) are all_fine j base since
@@ -303,7 +302,7 @@ module _ (start : Start) (base log : List HostStep) (e : HostStep) (sends : List
         arith,
         tally_append (goes_to start (main_at k)) sends rounds,
         plain_none start 0 (main_at k) sends (main_low start k low) (main_beats k) plain fine,
-        tick_one start tick k low,
+        besides_one start k e.step.taken.body low,
       )
 
   asked_more : one_if tick + length (requests log) ≤ length (requests (e ∷ log))

@@ -7,7 +7,8 @@ use Rattle.sig_core.specs.declared.place.BlockId.TheVariants.{Api, Qmgr, Tc, Dih
 use Rattle.sig_core.specs.declared.place.Part.{Part}
 use Rattle.sig_core.specs.declared.place.Part.TheVariants as part
 use Rattle.sig_core.specs.declared.request.ApiReq.{ApiReq}
-use Rattle.sig_core.specs.declared.request.ApiReq.TheVariants.{Begin, Operate, Commit, Abort, Tick, Rows, Digest, View, Waits, Pending}
+use Rattle.sig_core.specs.declared.request.ApiReq.TheVariants.{Begin, Operate, Commit, Abort, Tick, Rows, Digest, View}
+use Rattle.sig_core.specs.declared.request.ApiReq.TheVariants.{Waits, Pending}
 use Rattle.sig_core.specs.declared.signal.Body.{Body}
 use Rattle.sig_core.specs.declared.signal.Body.TheVariants.{Host, Client, Chain, Epoch, Membership}
 use Rattle.sig_core.specs.declared.signal.Signal.{Signal}

@@ -6,8 +6,12 @@ use Rattle.run_theory.specs.Lists.{Each}
 use Rattle.sig_core.specs.declared.member.TxId.{TxId}
 use Rattle.sig_core.specs.declared.signal.Body.{Body}
 use Rattle.sig_core.specs.declared.signal.Body.TheVariants.{Host, Client, Chain, Epoch}
-use Rattle.sig_core.specs.declared.signal.chain.ChainSignal.TheVariants.{LqhKeyReq, LqhKeyConf, LqhKeyRef, Commit, Committed, Complete, Completed, Abort, Aborted}
-use Rattle.sig_core.specs.declared.signal.client.ClientSignal.TheVariants.{TcBeginConf, TcKeyReq, TcKeyConf, TcCommitReq, TcCommitConf, TcCommitAck, TcRollbackReq, TcRollbackRep, TcWaitReq, TcWaitConf, LqhWaitReq, LqhWaitConf}
+use Rattle.sig_core.specs.declared.signal.chain.ChainSignal.TheVariants.{LqhKeyReq, LqhKeyConf, LqhKeyRef, Commit}
+use Rattle.sig_core.specs.declared.signal.chain.ChainSignal.TheVariants.{Committed, Complete, Completed, Abort, Aborted}
+use Rattle.sig_core.specs.declared.signal.client.ClientSignal.TheVariants.{TcBeginConf, TcKeyReq, TcKeyConf}
+use Rattle.sig_core.specs.declared.signal.client.ClientSignal.TheVariants.{TcCommitReq, TcCommitConf, TcCommitAck}
+use Rattle.sig_core.specs.declared.signal.client.ClientSignal.TheVariants.{TcRollbackReq, TcRollbackRep, TcWaitReq}
+use Rattle.sig_core.specs.declared.signal.client.ClientSignal.TheVariants.{TcWaitConf, LqhWaitReq, LqhWaitConf}
 use Rattle.sig_core.specs.declared.signal.epoch.EpochSignal.TheVariants.{DiVerifyReq, DiVerifyConf, DiVerifyEnd}
 use Rattle.sig_core.specs.declared.signal.host.HostSignal.TheVariants.{Continue}
 use Rattle.sig_core.specs.declared.signal.host.Work.TheVariants.{Transaction}

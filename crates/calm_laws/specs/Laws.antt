@@ -48,7 +48,8 @@ CalmCutsArePlain =
     → IsClosed (machine start) inside
     → IsPlainCut start inside logs
 
--- where nothing is under way, nothing is in the plain machine; the same was asked for, and each request at such a moment
+-- Where nothing is under way, nothing is in the plain machine. Both were asked for the same; and if the one was asked
+-- each time when nothing was under way, so was the plain one.
 abbrev pub CalmQuietIsPlain : Type 0
 CalmQuietIsPlain =
     (start : Start) (logs : ℕ → List HostStep) → IsCalmLife start logs → IsQuiet start logs

@@ -1,5 +1,5 @@
--- The plain part of calm logs: what is left of them without the main parts of nodes, whose membership beats. It is what a
--- cluster does in which nothing can fail.
+-- The plain part of calm logs: what is left of them without the main parts of nodes, whose membership beats. It is what
+-- a cluster does in which nothing can fail.
 use Rattle.std.specs.Prelude.{ℕ, zero, suc, ◌%◌, if◌then◌else◌, Bool, true, false, List, []}
 use Rattle.sig_core.specs.declared.place.Part.{Part}
 use Rattle.sig_core.specs.declared.place.Part.TheVariants.{Main}

@@ -1,5 +1,5 @@
--- Calm goes on from one moment at which nothing is under way to the next, where the shell asks for nothing that fails or
--- closes anything: no member misses the heartbeats of another for four rounds.
+-- Calm goes on from one moment at which nothing is under way to the next, where the shell asks for nothing that fails
+-- or closes anything: no member misses the heartbeats of another for four rounds.
 use Rattle.std.specs.Prelude.{◌≡◌, ◌≤◌, ◌<◌, ℕ, true, List, [], ◌∷◌, ◌++◌}
 use Rattle.frag_map.specs.Layout.{first_layout}
 use Rattle.node_core.specs.Requests.{is_request}
@@ -60,8 +60,8 @@ pub record GoOnBy (start : Start) (request : ApiReq) (logs more : ℕ → List H
   pub request_calm : is_calm_request request ≡ true
   pub none : NoneGivesUp more
 
--- a life begins at rest; from rest, where nothing is under way, calm goes on; and where nothing is under way again there
--- is rest
+-- a life begins at rest; from rest, where nothing is under way, calm goes on; and where nothing is under way again
+-- there is rest
 abbrev pub LivesBeginAtRest : Type 0
 LivesBeginAtRest = (start : Start) → AreResting start (λ h. [])
 

@@ -1,7 +1,9 @@
 -- In calm a step of a cluster that may fail is one of the plain machine, but for what the membership does besides.
-use Rattle.std.specs.Prelude.{◌≡◌, ◌≤◌, ℕ, zero, suc, ◌⊎◌, Bool, true, false, not, List, [], ◌++◌, filter}
+use Rattle.std.specs.Prelude.{◌≡◌, ℕ, zero, suc, ◌⊎◌, Bool, true, false, not, List, [], ◌++◌, filter, map}
+use Rattle.std.specs.Prelude.{if◌then◌else◌}
 use Rattle.api_views.specs.Laws.{is_vouched}
 use Rattle.api_views.specs.Members.{is_member}
+use Rattle.frag_map.specs.Layout.{members}
 use Rattle.frag_map.specs.Shape.{IsShape}
 use Rattle.node_core.specs.Blocks.{has_api}
 use Rattle.node_core.specs.declared.host.Host as plain
@@ -9,16 +11,21 @@ use Rattle.node_core.specs.Row.{row}
 use Rattle.node_views.specs.WellFormed.{is_well_formed}
 use Rattle.node_views.specs.declared.host.Host as host
 use Rattle.run_theory.specs.Lists.{Each}
+use Rattle.sig_core.specs.declared.member.Member.{Member}
 use Rattle.sig_core.specs.declared.outs.Outgoing.{Outgoing}
 use Rattle.sig_core.specs.declared.place.BlockId.{BlockId}
 use Rattle.sig_core.specs.declared.place.BlockId.TheVariants.{Arbiter, Dih, Lqh, Qmgr, Tc}
 use Rattle.sig_core.specs.declared.place.Place.{Place}
 use Rattle.sig_core.specs.declared.reply.ApiReply.{ApiReply}
 use Rattle.sig_core.specs.declared.reply.ApiReply.TheVariants.{View}
+use Rattle.sig_core.specs.declared.request.ApiReq.TheVariants.{Tick}
+use Rattle.sig_core.specs.declared.signal.Body.{Body}
 use Rattle.sig_core.specs.declared.signal.Body.TheVariants.{Host}
 use Rattle.sig_core.specs.declared.signal.Signal.{Signal}
-use Rattle.sig_core.specs.declared.signal.host.HostSignal.TheVariants.{Round}
-use Rattle.sig_core.specs.Place.{client}
+use Rattle.sig_core.specs.declared.signal.host.HostSignal.TheVariants.{Continue, Round}
+use Rattle.sig_core.specs.declared.signal.host.Work.TheVariants.{Request}
+use Rattle.sig_core.specs.Place.{client, membership}
+use Rattle.sig_core.specs.Step.{to_place}
 use Rattle.world_core.specs.Hosts as plain_world
 use Rattle.world_core.specs.Start.{Start}
 use Rattle.world_views.specs.Hosts.{started}
@@ -64,11 +71,19 @@ pub record IsPlainSend (h : ℕ) (send : Outgoing) : Type 0 where
   pub place : IsPlainPlace h send.to
   pub work : is_own_work send.body ≡ false
 
--- a round for the membership of a node
-pub record IsForNode (send : Outgoing) : Type 0 where
-  pub block : send.to.block ≡ Qmgr
-  pub node : 1 ≤ send.to.node
-  pub round : send.body ≡ Host Round
+-- the client asks for a round of time
+abbrev pub is_tick : Body → Bool
+is_tick (Host (Continue (Request (Tick round of)) at)) = true
+is_tick body = false
+
+-- a round for the membership of a member's node
+abbrev pub round_for : Member → Outgoing
+round_for member = to_place (membership member.node) (Host Round)
+
+-- what host h sends besides its plain one: the shell, at a round of time, one for the membership of each node
+abbrev pub besides : Start → ℕ → Body → List Outgoing
+besides start zero body = if is_tick body then map round_for (members start.shape.nodes) else []
+besides start (suc h) body = []
 
 -- a signal for the membership, or for who grants views
 abbrev pub is_of_views : BlockId → Bool
@@ -79,15 +94,13 @@ is_of_views block = false
 abbrev pub IsForViews : Outgoing → Type 0
 IsForViews send = is_of_views send.to.block ≡ true
 
--- Host h and its plain one do the same at a signal, but that the host sends something for the membership besides.
+-- Host h and its plain one do the same at a signal, but that the host tells memberships of a round of time besides.
 pub record StepAlike (start : Start) (h : ℕ) (given : List ApiReply) (s : host.Host) (other : plain.Host) (x : Signal)
     : Type 0
   where
     pub marks : (step_by h s x).effects.marks ≡ (row other x).effects.marks
-    pub besides : List Outgoing
-    pub sends : (step_by h s x).effects.sends ≡ (row other x).effects.sends ++ besides
+    pub sends : (step_by h s x).effects.sends ≡ (row other x).effects.sends ++ besides start h x.body
     pub plain : Each (IsPlainSend h) (row other x).effects.sends
-    pub others : Each IsForNode besides
     pub goes_on : stops_by (row other x).effects.marks ≡ false
     pub alike : AreAlike start (given ++ plain_replies (replies_at h (step_by h s x))) (told h (step_by h s x))
         (row other x).state
@@ -119,4 +132,5 @@ PartsStepAlike =
 
 -- in a life that begins without rows they begin alike
 abbrev pub HostsBeginAlike : Type 0
-HostsBeginAlike = (start : Start) (h : ℕ) → start.rows ≡ [] → AreAlike start [] (started start h) (plain_world.started start h)
+HostsBeginAlike =
+    (start : Start) (h : ℕ) → start.rows ≡ [] → AreAlike start [] (started start h) (plain_world.started start h)

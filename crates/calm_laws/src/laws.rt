@@ -1,5 +1,6 @@
 //! Calm logs, without those of the main parts of nodes, are logs of the plain machine.
-ghost use Rattle.calm_laws.specs.Laws.{CalmCutsArePlain, CalmIsAskedAtQuiet, CalmLogsArePlain, CalmQuietIsPlain, SameIsAskedFor};
+ghost use Rattle.calm_laws.specs.Laws.{CalmCutsArePlain, CalmIsAskedAtQuiet, CalmLogsArePlain};
+ghost use Rattle.calm_laws.specs.Laws.{CalmQuietIsPlain, SameIsAskedFor};
 
 /// Their plain parts are logs of the plain machine, and each host is alike the one of that.
 pub fn calm_logs_are_plain()
@@ -11,8 +12,8 @@ pub fn calm_cuts_are_plain()
     ensures { CalmCutsArePlain }
 {}
 
-/// Where nothing is under way, nothing is in the plain machine. It is asked for the same, and each
-/// time when nothing is under way.
+/// Where nothing is under way, nothing is in the plain machine. Both are asked for the same; and if
+/// the one was asked each time when nothing was under way, so was the plain one.
 pub fn calm_quiet_is_plain()
     ensures quiet { CalmQuietIsPlain }
     ensures requests { SameIsAskedFor }

@@ -1,5 +1,6 @@
 -- In calm the shell asks for the transactions for which it asks in the plain machine, and strict order is the same.
-use Rattle.std.proofs.Common.{◌≡◌, ℕ, zero, suc, Bool, true, false, List, [], ◌∷◌, ◌++◌, refl, sym, ap, ◌∙◌, subst, append_assoc}
+use Rattle.std.proofs.Common.{◌≡◌, ℕ, zero, suc, Bool, true, false, List, [], ◌∷◌, ◌++◌, refl, sym, ap, ◌∙◌, subst}
+use Rattle.std.proofs.Common.{append_assoc}
 use Rattle.std.specs.List.{list_any}
 use Rattle.std.specs.Prelude.{◌||◌, Option}
 use Rattle.std.proofs.lemmas.List.Folds.{list_any-append}
@@ -23,10 +24,11 @@ use Rattle.world_views.specs.Sending.{Routed, all_addressed, is_kept_back, route
 use Rattle.world_views.specs.Strict.{IsAskedFor, IsStrictOrder, NoneBegins, begins_there}
 use Rattle.world_views.specs.declared.sender.Sender.{Sender}
 use Rattle.calm_laws.specs.Laws.{IsCalmLife}
-use Rattle.calm_laws.specs.Steps.{IsForNode, StepAlike, plain_replies}
+use Rattle.calm_laws.specs.Steps.{StepAlike, besides, plain_replies}
+use Rattle.calm_laws.proofs.CalmRuns.{IsCalmStep, along_calm}
 use Rattle.calm_laws.proofs.Mirrored.{step_alike}
+use Rattle.calm_laws.proofs.Rounds.{each_besides}
 use Rattle.calm_laws.proofs.SentAlike.{plainly, routed_alike}
-use Rattle.calm_serial.proofs.CalmRuns.{IsCalmStep, along_calm}
 
 -- what is sent asks for a transaction of this name, or of none
 module _ (name : Option ℕ) where
@@ -74,12 +76,6 @@ or_none : (b : Bool) → (b || false) ≡ b
 or_none true = refl
 or_none false = refl
 
--- rounds ask for nothing
-round_asks : (name : Option ℕ) (besides : List Outgoing) → Each IsForNode besides
-    → Each (λ (sent : Outgoing). is_begin name sent.body ≡ false) besides
-round_asks name [] others = tt
-round_asks name (sent ∷ more) others = (ap (is_begin name) others.0.round, round_asks name more others.1)
-
 -- A step of the shell's host in calm asks for what it asks for in the plain machine.
 module _ (start : Start) (shape : IsShape start.shape) (log : List HostStep) (e : HostStep)
     (step : IsCalmStep start 0 log e) (name : Option ℕ) where
@@ -93,23 +89,27 @@ module _ (start : Start) (shape : IsShape start.shape) (log : List HostStep) (e 
   abbrev both : List Outgoing
   both = (plain.step_after start 0 log e).effects.sends
 
-  besides_ask : list_any (asks_at name) (routed_all (made start) 0 standing alike.besides) ≡ false
-  besides_ask =
-      none_asks name start 0 standing alike.besides (round_asks name alike.besides alike.others)
+  -- rounds ask for nothing
+  abbrev rounds : List Outgoing
+  rounds = besides start 0 e.step.taken.body
 
-  routed_is : routed_after start 0 log e
-      ≡ plainly start both ++ routed_all (made start) 0 standing alike.besides
+  rounds_ask : list_any (asks_at name) (routed_all (made start) 0 standing rounds) ≡ false
+  rounds_ask =
+      none_asks name start 0 standing rounds
+      (each_besides (λ (sent : Outgoing). is_begin name sent.body ≡ false) start 0 e.step.taken.body (λ k low. refl))
+
+  routed_is : routed_after start 0 log e ≡ plainly start both ++ routed_all (made start) 0 standing rounds
   routed_is =
       ap (routed_all (made start) 0 standing) alike.sends
-      ∙ routed_alike start 0 standing alike.alike.standing both alike.besides alike.plain
+      ∙ routed_alike start 0 standing alike.alike.standing both rounds alike.plain
 
   begins_next : begins_there start name log e ≡ plain_strict.begins_there start name log e
   begins_next =
       addressed_asks name (sender (made start) 0 e.step.stamp standing.view) (sent_count start 0 log)
       (routed_after start 0 log e)
       ∙ ap (list_any (asks_at name)) routed_is
-      ∙ list_any-append (asks_at name) (plainly start both) (routed_all (made start) 0 standing alike.besides)
-      ∙ ap (λ (b : Bool). list_any (asks_at name) (plainly start both) || b) besides_ask
+      ∙ list_any-append (asks_at name) (plainly start both) (routed_all (made start) 0 standing rounds)
+      ∙ ap (λ (b : Bool). list_any (asks_at name) (plainly start both) || b) rounds_ask
       ∙ or_none (list_any (asks_at name) (plainly start both))
       ∙ plainly_asks name start both
       ∙ sym (plain_asks name (first_membership start) 0 e.step.stamp (plain.sent_count start 0 log) both)
@@ -138,8 +138,8 @@ shell_next start shape (suc h) log e step before = tt
 
 begin_alike : (start : Start) (logs : ℕ → List HostStep) → IsCalmLife start logs → AllBeginAlike start (logs 0)
 begin_alike start logs life =
-    along_calm start (ShellBeginsAlike start)
-    (record { begins = shell_begins start; next = shell_next start life.shape }) logs life 0
+    along_calm start logs life (ShellBeginsAlike start)
+    (record { begins = shell_begins start; next = shell_next start life.shape }) 0
 
 -- an older part of it is such a log
 alike_before : (start : Start) (newer log : List HostStep) → AllBeginAlike start (newer ++ log)

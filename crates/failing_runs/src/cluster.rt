@@ -4,9 +4,8 @@ ghost use Rattle.frag_map.specs.Shape.{IsShape};
 ghost use Rattle.world_views.specs.Driven.{IsWorld};
 ghost use Rattle.world_views.specs.WorldOf.{whole_of};
 
-use crate::dice::Dice;
-use crate::law::Fault;
-use crate::rows::NodeRows;
+use crate::fault::RunFault;
+use life_judge::{Dice, NodeRows};
 use sig_core::{Answer, ApiReply, ApiReq, HostId, NoMemory, Shape};
 use std::alloc::Global;
 use std::sync::Wait;
@@ -78,15 +77,18 @@ fn next_reply(world: &mut World) -> Option<ApiReply>
 ///
 /// # Errors
 /// `NoMemory`.
-pub fn pick(alloc: Global, world: &mut World, pick: Pick) -> Result<(), Fault>
+pub fn pick(alloc: Global, world: &mut World, pick: Pick) -> Result<(), RunFault>
     requires { IsWorld (whole_of world.old) }
     ensures { OnOk result (IsWorld (whole_of world.new)) }
 {
     match world.schedule(alloc, &[pick]) {
-        Err(ScheduleFault::NoMemory) => Err(Fault::NoMemory),
+        Err(ScheduleFault::NoMemory) => Err(RunFault::NoMemory),
         _ => Ok(()),
     }
 }
+
+/// How many signals are taken at most of each link by which rows are told.
+const PEEKS: u32 = 200;
 
 // A host of the cluster; the first of them only where it may be the shell's.
 fn host_of(dice: &mut Dice, shape: &Shape, first: u64) -> HostId
@@ -106,7 +108,7 @@ pub fn take_one(
     dice: &mut Dice,
     world: &mut World,
     shape: &Shape,
-) -> Result<(), Fault>
+) -> Result<(), RunFault>
     requires world { IsWorld (whole_of world.old) }
     requires shape { IsShape shape.now }
     ensures { OnOk result (IsWorld (whole_of world.new)) }
@@ -125,7 +127,7 @@ pub fn fail_one(
     dice: &mut Dice,
     world: &mut World,
     shape: &Shape,
-) -> Result<(), Fault>
+) -> Result<(), RunFault>
     requires world { IsWorld (whole_of world.old) }
     requires shape { IsShape shape.now }
     ensures { OnOk result (IsWorld (whole_of world.new)) }
@@ -161,11 +163,58 @@ pub fn rows_of<W: Wait>(
     ask(alloc, world, ApiReq::Rows { node })?;
     drive(rt, alloc, world)?;
     let mut rows = NodeRows::new(alloc, node);
-    for _ in 0..u64::MAX {
-        match next_reply(world) {
-            Some(reply) => rows.add(&reply)?,
-            None => return Ok(rows),
+    listen(world, &mut rows)?;
+    Ok(rows)
+}
+
+/// The rows that a node tells of while all else stands still: only what stands between the client and
+/// the node's rows is taken, and at most so many signals.
+///
+/// # Errors
+/// `NoMemory`.
+pub fn peek_rows(alloc: Global, world: &mut World, node: u8) -> Result<NodeRows, RunFault>
+    requires { IsWorld (whole_of world.old) }
+    ensures { OnOk result (IsWorld (whole_of world.new)) }
+{
+    ask(alloc, world, ApiReq::Rows { node })?;
+    let mut rows = NodeRows::new(alloc, node);
+    for _ in 0..PEEKS {
+        peek(alloc, world, HostId(u32::from(node) * PARTS))?;
+        listen(world, &mut rows)?;
+        if rows.is_told() {
+            return Ok(rows);
         }
     }
     Ok(rows)
+}
+
+// A signal is taken at a node's rows, and one from there.
+fn peek(alloc: Global, world: &mut World, host: HostId) -> Result<(), RunFault>
+    requires { IsWorld (whole_of world.old) }
+    ensures { OnOk result (IsWorld (whole_of world.new)) }
+{
+    let client = HostId(0);
+    pick(alloc, world, Pick::Take { host, from: client })?;
+    pick(
+        alloc,
+        world,
+        Pick::Take {
+            host: client,
+            from: host,
+        },
+    )
+}
+
+// The replies that the shell hasn't had, which tell of rows.
+fn listen(world: &mut World, rows: &mut NodeRows) -> Result<(), NoMemory>
+    requires { IsWorld (whole_of world.old) }
+    ensures { OnOk result (IsWorld (whole_of world.new)) }
+{
+    for _ in 0..u64::MAX {
+        match next_reply(world) {
+            Some(reply) => rows.add(&reply)?,
+            None => return Ok(()),
+        }
+    }
+    Ok(())
 }

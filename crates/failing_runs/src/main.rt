@@ -4,15 +4,11 @@
 #![tactic(auto)]
 
 mod cluster;
-mod dice;
-mod facts;
-mod history;
-mod law;
+mod fault;
 mod requests;
-mod rows;
 mod run;
 
-use law::Fault;
+use fault::RunFault;
 use std::env;
 use std::process::ExitCode;
 use std::sync::Wait;
@@ -48,11 +44,11 @@ fn run_all<W: Wait>(
     Ok(faults)
 }
 
-fn told(fault: &Fault) -> &'static str {
+fn told(fault: &RunFault) -> &'static str {
     match fault {
-        Fault::Word(_) => "a word that was drawn is none",
-        Fault::NoMemory => "out of memory",
-        Fault::Broken(law) => law.name(),
+        RunFault::Broken(law) => law.name(),
+        RunFault::Word(_) => "a word that was drawn is none",
+        RunFault::NoMemory => "out of memory",
     }
 }
 

@@ -2,8 +2,8 @@
 ghost use Rattle.std.specs.Prelude.{◌<◌};
 ghost use Rattle.frag_map.specs.Shape.{IsShape};
 
-use crate::dice::Dice;
-use crate::law::Fault;
+use crate::fault::RunFault;
+use life_judge::Dice;
 use sig_core::{ApiReq, HeldOp, Key, NoMemory, Op, Shape, Value};
 use std::alloc::Global;
 
@@ -14,7 +14,7 @@ const KEYS: u8 = 6;
 ///
 /// # Errors
 /// `NoMemory`.
-pub fn all_keys(alloc: Global) -> Result<Vec<Key>, Fault> {
+pub fn all_keys(alloc: Global) -> Result<Vec<Key>, RunFault> {
     let mut keys = Vec::new(alloc);
     for at in 0..KEYS {
         keys.push(Key::new(&[b'a' + at])?)?;
@@ -22,7 +22,7 @@ pub fn all_keys(alloc: Global) -> Result<Vec<Key>, Fault> {
     Ok(keys)
 }
 
-fn op_of(dice: &mut Dice, count: u64) -> Result<Op, Fault> {
+fn op_of(dice: &mut Dice, count: u64) -> Result<Op, RunFault> {
     let key = Key::new(&[b'a' + dice.roll(u64::from(KEYS)) as u8])?;
     let value = Value::new(&[b'0' + (count / 10 % 10) as u8, b'0' + (count % 10) as u8])?;
     Ok(match dice.roll(8) {
@@ -45,7 +45,7 @@ pub fn request_of(
     shape: &Shape,
     count: u64,
     fails: u64,
-) -> Result<ApiReq, Fault>
+) -> Result<ApiReq, RunFault>
     requires { IsShape shape.now }
 {
     let name = 1 + dice.roll(6) as u16;

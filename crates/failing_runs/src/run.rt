@@ -4,13 +4,10 @@ ghost use Rattle.frag_map.specs.Shape.{IsShape};
 ghost use Rattle.world_views.specs.Driven.{IsWorld};
 ghost use Rattle.world_views.specs.WorldOf.{whole_of};
 
-use crate::cluster::{ask, drive, fail_one, hear, rows_of, settle, take_one};
-use crate::dice::Dice;
-use crate::facts::facts_of;
-use crate::history::judge_history;
-use crate::law::Fault;
+use crate::cluster::{ask, drive, fail_one, hear, peek_rows, rows_of, settle, take_one};
+use crate::fault::RunFault;
 use crate::requests::{all_keys, request_of};
-use crate::rows::{NodeRows, judge_rows};
+use life_judge::{Dice, NodeRows, judge};
 use sig_core::{ApiReq, NoMemory, Shape};
 use std::alloc::Global;
 use std::sync::Wait;
@@ -22,33 +19,47 @@ const REQUESTS: u64 = 60;
 const ROUNDS: u32 = 16;
 /// The first epoch of a run, 1/0.
 const EPOCH: u64 = 1 << 32;
+/// How often a signal is taken after a request, at most, for each host.
+const TAKES: u64 = 300;
 
 /// Runs a cluster at random, and judges what it did. At most `fails` hosts stop or cut off a node by
 /// themselves, beside what kills and cuts are asked for.
 ///
 /// # Errors
 /// The first law that is broken, or `NoMemory`.
-pub fn run_one<W: Wait>(rt: &W, alloc: Global, seed: u64, fails: u64) -> Result<(), Fault> {
+pub fn run_one<W: Wait>(rt: &W, alloc: Global, seed: u64, fails: u64) -> Result<(), RunFault> {
     let mut dice = Dice::new(seed);
-    let shape = shape_of(dice.roll(4));
+    let shape = shape_of(dice.roll(12));
     let mut world = World::new(alloc, shape, EPOCH, &[])?;
     live(rt, alloc, &mut dice, &mut world, &shape, fails)?;
-    let rows = all_rows(rt, alloc, &mut world, &shape)?;
+    let rests = dice.roll(3) > 0;
+    let rows = end(rt, alloc, &mut world, &shape, rests)?;
     let life = world.end_life(alloc);
-    let facts = facts_of(alloc, &life)?;
-    let table = judge_history(alloc, &facts)?;
     let keys = all_keys(alloc)?;
-    judge_rows(&facts, &shape, &table, rows.as_slice(), keys.as_slice())
+    judge(
+        alloc,
+        &mut dice,
+        &life,
+        &shape,
+        rows.as_slice(),
+        keys.as_slice(),
+        rests,
+    )?;
+    Ok(())
 }
 
 fn shape_of(drawn: u64) -> Shape
     ensures { IsShape result }
 {
     let (nodes, replicas, fragments) = match drawn {
-        0 => (2, 2, 1),
-        1 => (4, 2, 4),
-        2 => (3, 3, 1),
-        _ => (6, 3, 2),
+        0 | 1 => (4, 2, 4),
+        2 | 3 => (3, 3, 1),
+        4 => (6, 3, 2),
+        5 => (4, 4, 3),
+        6 => (8, 4, 8),
+        7 => (8, 2, 32),
+        8 => (3, 1, 6),
+        _ => (2, 2, 1),
     };
     Shape {
         nodes,
@@ -57,7 +68,7 @@ fn shape_of(drawn: u64) -> Shape
     }
 }
 
-// The requests of a run, with signals taken between them, and all rounds behind them.
+// The requests of a run, with signals taken between them.
 fn live<W: Wait>(
     rt: &W,
     alloc: Global,
@@ -65,7 +76,7 @@ fn live<W: Wait>(
     world: &mut World,
     shape: &Shape,
     fails: u64,
-) -> Result<(), Fault>
+) -> Result<(), RunFault>
     requires world { IsWorld (whole_of world.old) }
     requires shape { IsShape shape.now }
     ensures { OnOk result (IsWorld (whole_of world.new)) }
@@ -79,12 +90,6 @@ fn live<W: Wait>(
         }
         hear(world);
     }
-    settle(rt, alloc, world)?;
-    for _ in 0..ROUNDS {
-        ask(alloc, world, ApiReq::Tick { round: 1, of: 1 })?;
-        drive(rt, alloc, world)?;
-    }
-    hear(world);
     Ok(())
 }
 
@@ -95,22 +100,51 @@ fn go_on(
     world: &mut World,
     shape: &Shape,
     fails: u64,
-) -> Result<(), Fault>
+) -> Result<(), RunFault>
     requires world { IsWorld (whole_of world.old) }
     requires shape { IsShape shape.now }
     ensures { OnOk result (IsWorld (whole_of world.new)) }
 {
-    for _ in 0..dice.roll(2000) {
+    for _ in 0..dice.roll(takes(shape)) {
         take_one(alloc, dice, world, shape)?;
-        if fails > 0 && dice.roll(40000) < fails {
+        if fails > 0 && dice.roll(20 * takes(shape)) < fails {
             fail_one(alloc, dice, world, shape)?;
         }
     }
     Ok(())
 }
 
-// The rows of each node.
-fn all_rows<W: Wait>(
+// How often a signal is taken at most after a request.
+fn takes(shape: &Shape) -> u64
+    ensures positive { 0 < result }
+    ensures few { result < 2 ^ 32 }
+{
+    (u64::from(shape.nodes) * 3 + 1) * TAKES
+}
+
+// The rows of each node at the end of a run: once it rests, after some rounds, or as it stands.
+fn end<W: Wait>(
+    rt: &W,
+    alloc: Global,
+    world: &mut World,
+    shape: &Shape,
+    rests: bool,
+) -> Result<Vec<NodeRows>, RunFault>
+    requires { IsWorld (whole_of world.old) }
+{
+    if !rests {
+        return rows_amid(alloc, world, shape);
+    }
+    settle(rt, alloc, world)?;
+    for _ in 0..ROUNDS {
+        ask(alloc, world, ApiReq::Tick { round: 1, of: 1 })?;
+        drive(rt, alloc, world)?;
+    }
+    hear(world);
+    Ok(rows_at_rest(rt, alloc, world, shape)?)
+}
+
+fn rows_at_rest<W: Wait>(
     rt: &W,
     alloc: Global,
     world: &mut World,
@@ -121,6 +155,16 @@ fn all_rows<W: Wait>(
     let mut nodes = Vec::new(alloc);
     for node in 1..=shape.nodes {
         nodes.push(rows_of(rt, alloc, world, node)?)?;
+    }
+    Ok(nodes)
+}
+
+fn rows_amid(alloc: Global, world: &mut World, shape: &Shape) -> Result<Vec<NodeRows>, RunFault>
+    requires { IsWorld (whole_of world.old) }
+{
+    let mut nodes = Vec::new(alloc);
+    for node in 1..=shape.nodes {
+        nodes.push(peek_rows(alloc, world, node)?)?;
     }
     Ok(nodes)
 }

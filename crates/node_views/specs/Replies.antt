@@ -4,6 +4,7 @@ use Rattle.sig_core.specs.declared.reply.ApiReply.{ApiReply}
 use Rattle.api_block.specs.State as api
 use Rattle.api_views.specs.Pending.{is_open}
 use Rattle.api_views.specs.State.{with_api}
+use Rattle.api_views.specs.Stops as client
 use Rattle.node_views.specs.declared.host.Host as hosts
 use Rattle.node_views.specs.declared.parts.Parts.{Parts}
 use Rattle.node_views.specs.declared.parts.Parts.TheVariants.{Shell}
@@ -32,3 +33,11 @@ is_open_in parts = false
 -- the last command left something of its own unanswered
 abbrev pub is_left_open : hosts.Host → Bool
 is_left_open s = is_open_in s.parts
+
+abbrev pub is_down_in : Parts → Bool
+is_down_in (Shell p) = client.is_down p.client
+is_down_in parts = false
+
+-- the cluster is down, as far as the shell's host knows; a part of a node doesn't tell
+abbrev pub is_down : hosts.Host → Bool
+is_down s = is_down_in s.parts

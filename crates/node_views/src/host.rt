@@ -6,7 +6,7 @@ ghost use Rattle.sig_core.specs.Step.{HasRoom, IsTaken, and_mark, nothing};
 ghost use Rattle.api_views.specs.Members.{same_member};
 ghost use Rattle.node_views.specs.Blocks.{HasRoomFor, is_shell};
 ghost use Rattle.node_views.specs.Fresh.{fresh_ldm, fresh_main, fresh_shell, fresh_tc};
-ghost use Rattle.node_views.specs.Replies.{is_left_open, replies_of, with_replies};
+ghost use Rattle.node_views.specs.Replies.{is_down, is_left_open, replies_of, with_replies};
 ghost use Rattle.node_views.specs.Row.{blocks_row, closed_if, counted_row, cut_row, entered, headed_row, host_row, host_table, is_barred, is_cut, is_excluded, is_one_of, is_stop, kill_row, passed_row, unless_stopped};
 
 use crate::fence::is_fenced;
@@ -188,6 +188,17 @@ impl Host {
     {
         match &self.parts {
             Parts::Shell(part) => part.client.is_left_open(),
+            _ => false,
+        }
+    }
+
+    /// Whether the cluster is down, as far as the shell's host knows: each full member of the
+    /// greatest view that it has seen has stopped. A part of a node doesn't tell.
+    pub fn is_down(&self) -> bool
+        ensures { result ≡ is_down self.now }
+    {
+        match &self.parts {
+            Parts::Shell(part) => part.client.is_down(),
             _ => false,
         }
     }

@@ -26,6 +26,7 @@ keyword_word keyword.End = codes "end"
 keyword_word keyword.Kill = codes "kill"
 keyword_word keyword.Cut = codes "cut"
 keyword_word keyword.Tick = codes "tick"
+keyword_word keyword.Micro = codes "micro"
 keyword_word keyword.Gcp = codes "gcp"
 keyword_word keyword.Lcp = codes "lcp"
 keyword_word keyword.Start = codes "start"
@@ -75,13 +76,14 @@ operator_named : (word : List ℕ) (found : Keyword) → operator_word word ≡ 
 operator_named word found =
     link keyword_word word keyword.Kill found _ (
     link keyword_word word keyword.Cut found _ (
+    link keyword_word word keyword.Micro found _ (
     link keyword_word word keyword.Gcp found _ (
     link keyword_word word keyword.Lcp found _ (
     link keyword_word word keyword.Start found _ (
     link keyword_word word keyword.Crash found _ (
     link keyword_word word keyword.Restart found _ (
     link keyword_word word keyword.View found _ (
-    nothing found))))))))
+    nothing found)))))))))
 
 some_keyword : (one other : Keyword) → Some one ≡ Some other → one ≡ other
 some_keyword one other e = cc

@@ -95,6 +95,7 @@ spelling_shown batch nodes (commands.KillAfter node after) small is =
     ((refl, refl), (node_shown nodes node small is.1, ((refl, refl), (number_shown after (omega (arith, is.2)), tt))))
 spelling_shown batch nodes (commands.Cut one other) small is = ((refl, refl), (node_shown nodes one small is.1, (node_shown nodes other small is.2, tt)))
 spelling_shown batch nodes (commands.Tick rounds) small is = ((refl, refl), (number_shown rounds (omega (arith, is.2)), tt))
+spelling_shown batch nodes commands.Micro small is = ((refl, refl), tt)
 spelling_shown batch nodes commands.Gcp small is = ((refl, refl), tt)
 spelling_shown batch nodes commands.Lcp small is = ((refl, refl), tt)
 spelling_shown batch nodes (commands.Start node) small is = ((refl, refl), (node_shown nodes node small is.1, tt))

@@ -165,6 +165,7 @@ outside_spelled nodes keyword.Cut line command small all may e = cut_spelled nod
 outside_spelled nodes keyword.Tick line command small all may e =
     let rounds = one_number_read 1 16 line (λ rounds. commands.Tick rounds) command (lit< tt) e in
     as_made false nodes (codes "tick" ∷ line) (commands.Tick rounds.value) command rounds.is (ap (λ line. codes "tick" ∷ line) rounds.same) (refl, rounds.low, rounds.high)
+outside_spelled nodes keyword.Micro line command small all may e = bare_spelled false nodes (codes "micro") commands.Micro line command refl tt e
 outside_spelled nodes keyword.Gcp line command small all may e = bare_spelled false nodes (codes "gcp") commands.Gcp line command refl tt e
 outside_spelled nodes keyword.Lcp line command small all may e = bare_spelled false nodes (codes "lcp") commands.Lcp line command refl tt e
 outside_spelled nodes keyword.Start line command small all may e =
@@ -186,6 +187,7 @@ inside_spelled : (nodes : ℕ) (keyword : Keyword) (line : List (List ℕ)) (com
     → with_keyword true nodes keyword line ≡ Ok command → AreSpelled true nodes (keyword_word keyword ∷ line) command
 inside_spelled nodes keyword.Begin line command small all may e = begin_spelled true nodes line command small all e
 inside_spelled nodes keyword.Kill line command small all may e = kill_after_spelled nodes line command small e
+inside_spelled nodes keyword.Micro line command small all may e = bare_spelled true nodes (codes "micro") commands.Micro line command refl tt e
 inside_spelled nodes keyword.Gcp line command small all may e = bare_spelled true nodes (codes "gcp") commands.Gcp line command refl tt e
 inside_spelled nodes keyword.Lcp line command small all may e = bare_spelled true nodes (codes "lcp") commands.Lcp line command refl tt e
 inside_spelled nodes keyword.End line command small all may e = bare_spelled true nodes (codes "end") commands.End line command refl refl e

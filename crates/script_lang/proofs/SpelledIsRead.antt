@@ -109,6 +109,7 @@ words_read batch nodes (commands.Cut one other) small is =
     ∙ ap (λ o. meant (with_number o (λ other. Ok (commands.Cut one other)))) (node_read nodes other small is.2))
 words_read batch nodes (commands.Tick rounds) small is =
     there batch false nodes (commands.Tick rounds) is.0 (of_number (λ rounds. commands.Tick rounds) rounds _ (read 1 16 rounds (omega arith) is.1 is.2))
+words_read batch nodes commands.Micro small is = refl
 words_read batch nodes commands.Gcp small is = refl
 words_read batch nodes commands.Lcp small is = refl
 words_read batch nodes (commands.Start node) small is =

@@ -3,7 +3,7 @@ use Rattle.std.specs.Prelude.{ℕ, Bool, true, not, List, codes, bytes_eq, if◌
 use Rattle.script_lang.specs.declared.keyword.OpKind.{OpKind}
 use Rattle.script_lang.specs.declared.keyword.OpKind.TheVariants as kind
 use Rattle.script_lang.specs.declared.keyword.Keyword.{Keyword}
-use Rattle.script_lang.specs.declared.keyword.Keyword.TheVariants.{Operation, Begin, Commit, Abort, Batch, End, Kill, Cut, Tick, Gcp, Lcp, Start, Crash, Restart, Rows, Digest, View, Quit}
+use Rattle.script_lang.specs.declared.keyword.Keyword.TheVariants.{Operation, Begin, Commit, Abort, Batch, End, Kill, Cut, Tick, Micro, Gcp, Lcp, Start, Crash, Restart, Rows, Digest, View, Quit}
 
 -- the operation that a word names
 abbrev pub operation_of : List ℕ → Option OpKind
@@ -35,13 +35,14 @@ abbrev pub operator_word : List ℕ → Option Keyword
 operator_word word =
     if bytes_eq word (codes "kill") then Some Kill else (
     if bytes_eq word (codes "cut") then Some Cut else (
+    if bytes_eq word (codes "micro") then Some Micro else (
     if bytes_eq word (codes "gcp") then Some Gcp else (
     if bytes_eq word (codes "lcp") then Some Lcp else (
     if bytes_eq word (codes "start") then Some Start else (
     if bytes_eq word (codes "crash") then Some Crash else (
     if bytes_eq word (codes "restart") then Some Restart else (
     if bytes_eq word (codes "view") then Some View else (
-    None))))))))
+    None)))))))))
 
 abbrev pub keyword_else : Option Keyword → Option Keyword → Option Keyword
 keyword_else (Some keyword) other = Some keyword
@@ -59,6 +60,7 @@ keyword_of word = keyword_by (operation_of word) word
 abbrev pub is_in : Bool → Keyword → Bool
 is_in batch Begin = true
 is_in batch Kill = true
+is_in batch Micro = true
 is_in batch Gcp = true
 is_in batch Lcp = true
 is_in batch End = batch

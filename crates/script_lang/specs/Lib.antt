@@ -1,5 +1,6 @@
 pub mod AnswerText
 pub mod DigestText
+pub mod EpochText
 pub mod Fault
 pub mod Keyword
 pub mod Line

@@ -109,6 +109,7 @@ with_keyword batch nodes keyword.End words = bare command.End words
 with_keyword batch nodes keyword.Kill words = kill batch nodes words
 with_keyword batch nodes keyword.Cut words = cut nodes words
 with_keyword batch nodes keyword.Tick words = made (λ rounds. command.Tick rounds) (one_number 1 16 words)
+with_keyword batch nodes keyword.Micro words = bare command.Micro words
 with_keyword batch nodes keyword.Gcp words = bare command.Gcp words
 with_keyword batch nodes keyword.Lcp words = bare command.Lcp words
 with_keyword batch nodes keyword.Start words = made (λ node. command.Start node) (one_number 1 nodes words)

@@ -5,6 +5,7 @@ use Rattle.sig_core.specs.declared.outcome.AbortCause.{AbortCause}
 use Rattle.sig_core.specs.declared.outcome.AbortCause.TheVariants.{Request, Timeout, NodeFail, LogFull, TableFull, Down}
 use Rattle.sig_core.specs.declared.outcome.Outcome.{Outcome}
 use Rattle.sig_core.specs.declared.outcome.Outcome.TheVariants.{Committed, Aborted, Unknown}
+use Rattle.script_lang.specs.EpochText.{epoch_words}
 
 -- the words of an abort, by its cause
 abbrev pub abort_words : AbortCause → List ℕ
@@ -18,6 +19,6 @@ abort_words Down = codes "aborted down"
 
 -- the words of an outcome
 abbrev pub outcome_words : Outcome → List ℕ
-outcome_words (Committed epoch) = codes "committed " ++ decimal epoch
+outcome_words (Committed epoch) = codes "committed " ++ epoch_words epoch
 outcome_words (Aborted cause) = abort_words cause
 outcome_words Unknown = codes "unknown"

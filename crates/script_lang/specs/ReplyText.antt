@@ -4,6 +4,7 @@ use Rattle.std.specs.Fmt.{decimal}
 use Rattle.sig_core.specs.declared.reply.ApiReply.{ApiReply}
 use Rattle.sig_core.specs.declared.reply.ApiReply.TheVariants.{Begun, Answered, Ended, Pending, Refused, Stopped, Ticked, Cut, Closed, Durable, Checkpoint, Started, StartEnded, Row, Rows, Digest, View, Crashed, Restarted, BatchEnd}
 use Rattle.script_lang.specs.AnswerText.{answer_words}
+use Rattle.script_lang.specs.EpochText.{epoch_words}
 use Rattle.script_lang.specs.OutcomeText.{outcome_words}
 use Rattle.script_lang.specs.WaitingText.{waiting_words}
 use Rattle.script_lang.specs.RefusalText.{refusal_words, refused_name}
@@ -53,9 +54,9 @@ reply_words (Refused name refusal) = refusal_words refusal
 reply_words (Stopped node cause) = stop_words node cause
 reply_words (Ticked rounds) = codes "ticked " ++ decimal rounds
 reply_words (Cut one other) = codes "cut " ++ decimal one ++ codes " " ++ decimal other
-reply_words (Closed epoch) = codes "closed " ++ decimal epoch
-reply_words (Durable epoch) = codes "durable " ++ decimal epoch
-reply_words (Checkpoint epoch) = codes "checkpoint " ++ decimal epoch
+reply_words (Closed epoch) = codes "closed " ++ epoch_words epoch
+reply_words (Durable epoch) = codes "durable " ++ epoch_words epoch
+reply_words (Checkpoint epoch) = codes "checkpoint " ++ epoch_words epoch
 reply_words (Started node) = codes "started " ++ decimal node
 reply_words (StartEnded node) = codes "start " ++ decimal node ++ codes " ended"
 reply_words (Row key value) = key ++ codes " " ++ value
@@ -63,7 +64,7 @@ reply_words (Rows node count) = codes "node " ++ decimal node ++ codes " rows " 
 reply_words (Digest node digest) = digest_words node digest
 reply_words (View view) = view_words view
 reply_words Crashed = codes "crashed"
-reply_words (Restarted epoch) = codes "restarted " ++ decimal epoch
+reply_words (Restarted epoch) = codes "restarted " ++ epoch_words epoch
 reply_words BatchEnd = codes "end"
 
 -- the line of a reply, with its newline

@@ -21,6 +21,9 @@ pub enum Command {
     Cut { one: u8, other: u8 },
     /// Let this many rounds pass, 1 to 16.
     Tick { rounds: u8 },
+    /// Close the current epoch, in memory alone.
+    Micro,
+    /// Close the current epoch, and make it durable.
     Gcp,
     Lcp,
     Start { node: u8 },

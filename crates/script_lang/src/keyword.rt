@@ -25,6 +25,7 @@ pub enum Keyword {
     Kill,
     Cut,
     Tick,
+    Micro,
     Gcp,
     Lcp,
     Start,
@@ -105,6 +106,8 @@ fn operator_word(word: &[u8]) -> Option<Keyword>
         Some(Keyword::Kill)
     } else if word == b"cut".as_slice() {
         Some(Keyword::Cut)
+    } else if word == b"micro".as_slice() {
+        Some(Keyword::Micro)
     } else if word == b"gcp".as_slice() {
         Some(Keyword::Gcp)
     } else if word == b"lcp".as_slice() {
@@ -127,7 +130,7 @@ pub fn is_in(batch: bool, keyword: Keyword) -> bool
     ensures { result ≡ is_in batch keyword }
 {
     match keyword {
-        Keyword::Begin | Keyword::Kill | Keyword::Gcp | Keyword::Lcp => true,
+        Keyword::Begin | Keyword::Kill | Keyword::Micro | Keyword::Gcp | Keyword::Lcp => true,
         Keyword::End => batch,
         _ => !batch,
     }

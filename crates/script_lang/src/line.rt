@@ -131,6 +131,7 @@ fn parse_rest(keyword: Keyword, rest: &[u8], batch: bool, nodes: u8) -> Result<C
         Keyword::Tick => Ok(Command::Tick {
             rounds: one_number(rest, 1, ROUNDS)? as u8,
         }),
+        Keyword::Micro => bare(Command::Micro, rest),
         Keyword::Gcp => bare(Command::Gcp, rest),
         Keyword::Lcp => bare(Command::Lcp, rest),
         Keyword::Start => Ok(Command::Start {

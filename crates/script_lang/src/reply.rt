@@ -6,6 +6,7 @@ ghost use Rattle.script_lang.specs.ReplyText.{name_of, name_prefix, reply_words,
 
 mod answer;
 mod digest;
+mod epoch;
 mod outcome;
 mod refusal;
 mod row;
@@ -16,6 +17,7 @@ mod words;
 
 use answer::add_answer;
 use digest::add_digest;
+use epoch::add_epoch;
 use outcome::add_outcome;
 use refusal::add_refusal;
 use row::add_row;
@@ -116,9 +118,9 @@ fn add_words(alloc: Global, reply: &ApiReply, line: &mut Vec<u8>) -> Result<(), 
         ApiReply::Stopped { node, cause } => add_stop(alloc, *node, cause, line),
         ApiReply::Ticked { rounds } => add(line, &format!(in alloc; "ticked {rounds}")?),
         ApiReply::Cut { one, other } => add(line, &cut_words(alloc, *one, *other)?),
-        ApiReply::Closed { epoch } => add(line, &format!(in alloc; "closed {epoch}")?),
-        ApiReply::Durable { epoch } => add(line, &format!(in alloc; "durable {epoch}")?),
-        ApiReply::Checkpoint { epoch } => add(line, &format!(in alloc; "checkpoint {epoch}")?),
+        ApiReply::Closed { epoch } => add_epoch(alloc, "closed ", *epoch, line),
+        ApiReply::Durable { epoch } => add_epoch(alloc, "durable ", *epoch, line),
+        ApiReply::Checkpoint { epoch } => add_epoch(alloc, "checkpoint ", *epoch, line),
         ApiReply::Started { node } => add(line, &format!(in alloc; "started {node}")?),
         ApiReply::StartEnded { node } => add(line, &format!(in alloc; "start {node} ended")?),
         ApiReply::Row { key, value } => add_row(key.bytes(), value.bytes(), line),
@@ -126,7 +128,7 @@ fn add_words(alloc: Global, reply: &ApiReply, line: &mut Vec<u8>) -> Result<(), 
         ApiReply::Digest { node, digest } => add_digest(alloc, *node, digest, line),
         ApiReply::View { view } => add_view(alloc, view, line),
         ApiReply::Crashed => add(line, "crashed"),
-        ApiReply::Restarted { epoch } => add(line, &format!(in alloc; "restarted {epoch}")?),
+        ApiReply::Restarted { epoch } => add_epoch(alloc, "restarted ", *epoch, line),
         ApiReply::BatchEnd => add(line, "end"),
     }
 }

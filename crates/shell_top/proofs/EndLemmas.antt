@@ -1,67 +1,115 @@
 -- How a whole session is told: its lines, and then the line of the fault by which it was meant to end.
-use Rattle.std.proofs.Common.{reverse, map, ◌≡◌, ◌⊎◌, ◌≤◌, ℕ, List, [], ◌∷◌, ◌++◌, length, true, false, refl, ap, sym}
+use Rattle.std.proofs.Common.{reverse, map, ◌≡◌, ◌⊎◌, ◌≤◌, ◌<◌, ℕ, List, [], ◌∷◌, ◌++◌, length, Bool, true, false, refl, ap, sym}
 use Rattle.std.proofs.Common.{subst, ◌∙◌, arith, inl, inr}
 use Rattle.std.specs.Prelude.{Option, None, Some}
 use Rattle.std.specs.Global.{Vec}
 use Rattle.std.specs.Io.KnownBytes.{Appends, Consumes}
 use Rattle.std.proofs.KnownBytes.{Appends-nil, Consumes-nil}
-use Rattle.std.proofs.lemmas.List.{append-nil}
+use Rattle.std.proofs.lemmas.Bool.{cases_lt, true≢false}
+use Rattle.std.proofs.lemmas.List.{append-nil, get_or_past}
 use Rattle.run_theory.proofs.Merging.{merged_run}
-use Rattle.host_io.specs.Fault.{Rose}
-use Rattle.sig_core.specs.declared.log.HostLog.{HostLog}
-use Rattle.sig_core.specs.declared.view.Shape.{Shape}
-use Rattle.frag_map.specs.Shape.{IsShape}
-use Rattle.sig_core.specs.declared.log.Life.{Life}
-use Rattle.shell_top.specs.declared.ended.Ending.{Ending}
-use Rattle.shell_top.specs.declared.ended.Ending.TheVariants as ending
-use Rattle.shell_top.specs.declared.session.Session.{Session}
-use Rattle.shell_top.specs.Arranged.{arranged}
-use Rattle.shell_top.specs.Lived.{AreLived, IsLife, session_text}
-use Rattle.shell_top.specs.Opened.{HasOpened}
-use Rattle.shell_top.specs.Printed.{Prints, is_cut_short}
-use Rattle.script_lang.specs.declared.command.Command.{Command}
-use Rattle.shell_top.specs.Script.{script_from}
-use Rattle.shell_top.specs.Served.{IsServed}
-use Rattle.shell_top.specs.Told.{replies_in, text_of}
-use Rattle.shell_top.specs.Session.{AreLinesDone, IsSession, IsUnderWay}
-use Rattle.shell_top.specs.Text.{fault_line, reply_lines}
-use Rattle.shell_top.proofs.PrintedLemmas.{prints_both}
-use Rattle.world_core.specs.Lives.{fresh_life}
-use Rattle.world_core.specs.Hosts.{hosts}
-use Rattle.world_core.specs.Machine.{machine}
+use Rattle.run_theory.specs.Lists.{Each}
+use Rattle.api_block.specs.State.{ApiState}
+use Rattle.calm_laws.specs.Alike.{ArePartsAlike}
+use Rattle.calm_laws.specs.Calm.{is_calm}
+use Rattle.calm_laws.specs.Laws.{ArePlain, IsCalmLife}
+use Rattle.calm_laws.specs.Plain.{plain_logs}
+use Rattle.calm_laws.specs.Resting.{IsRestingPart}
+use Rattle.calm_laws.specs.Steps.{plain_replies}
+use Rattle.calm_laws.proofs.Quiet.{asked_plain, quiet_plain}
+use Rattle.calm_laws.proofs.Rest.{lives_begin_at_rest}
+use Rattle.calm_laws.proofs.Runs.{logs_plain}
+use Rattle.calm_serial.proofs.Serial.{cuts_serial}
 use Rattle.cause_laws.proofs.Causes.{replies_caused}
-use Rattle.report_laws.proofs.Reports.{reports_are_the_history}
-use Rattle.serial_laws.proofs.EveryCut.{every_cut_serial}
 use Rattle.command_laws.proofs.RepliesLive.{replies_live}
 use Rattle.command_laws.proofs.RequestsAnswered.{requests_answered}
 use Rattle.command_laws.specs.Between.{IsAskedAgain}
-use Rattle.world_core.specs.Quiet.{IsQuiet}
-use Rattle.frag_map.specs.Layout.{first_view}
-use Rattle.world_core.specs.Start.{fresh}
+use Rattle.report_laws.proofs.Reports.{reports_are_the_history}
+use Rattle.host_io.specs.Fault.{Rose}
+use Rattle.node_core.specs.declared.host.Host as plain_host
+use Rattle.node_core.specs.declared.host.Host.TheVariants as plain_part
+use Rattle.node_core.specs.Blocks.{has_api}
 use Rattle.node_core.specs.Replies.{replies_of as host_replies}
-use Rattle.world_core.specs.Requests.{requests}
-use Rattle.world_core.specs.World.{Whole, logs_at, new_world, no_steps, of_host, replies_of}
-use Rattle.world_core.specs.WorldOf.{whole_of}
-use Rattle.node_core.proofs.HostLemmas.{fresh_told}
-use Rattle.world_core.proofs.FreshWorld.{each_at, fresh_asked, fresh_quiet, fresh_right}
-use Rattle.world_core.proofs.HostNumbers.{shell_started}
-use Rattle.world_core.proofs.Replies.{replies_are}
-use Rattle.world_core.proofs.Stamped.{stamped}
+use Rattle.node_views.specs.declared.parts.Parts.{Parts}
+use Rattle.node_views.specs.declared.parts.Parts.TheVariants.{Ldm, Main, Shell, Tc}
+use Rattle.frag_map.specs.Shape.{IsShape}
+use Rattle.script_lang.specs.declared.command.Command.{Command}
+use Rattle.sig_core.specs.declared.log.HostLog.{HostLog}
+use Rattle.sig_core.specs.declared.log.Life.{Life}
+use Rattle.sig_core.specs.declared.reply.ApiReply.{ApiReply}
+use Rattle.sig_core.specs.declared.view.Shape.{Shape}
+use Rattle.shell_top.specs.Calm.{IsCalmServed, replied}
+use Rattle.shell_top.specs.declared.ended.Ending.{Ending}
+use Rattle.shell_top.specs.declared.ended.Ending.TheVariants as ending
+use Rattle.shell_top.specs.declared.session.Session.{Session}
+use Rattle.shell_top.specs.Lived.{AreLived, IsLife, session_text}
+use Rattle.shell_top.specs.Opened.{HasOpened}
+use Rattle.shell_top.specs.Printed.{Prints, is_cut_short}
+use Rattle.shell_top.specs.Script.{script_from}
+use Rattle.shell_top.specs.Served.{AreAtRest, IsServed}
+use Rattle.shell_top.specs.Session.{AreLinesDone, IsSession, IsUnderWay}
+use Rattle.shell_top.specs.Text.{down_line, fault_line}
+use Rattle.shell_top.specs.Told.{text_of}
+use Rattle.shell_top.proofs.PrintedLemmas.{prints_both}
+use Rattle.world_core.specs.Hosts.{hosts}
+use Rattle.world_core.specs.Lives.{fresh_life}
+use Rattle.world_core.specs.Machine as plain
+use Rattle.world_core.specs.Quiet as plain_quiet
+use Rattle.world_core.specs.Start.{Start}
+use Rattle.world_core.specs.Steps.{HostStep}
+use Rattle.world_core.specs.World.{for_each, logs_at, no_steps, of_host}
+use Rattle.world_core.proofs.FreshWorld.{each_at, each_length}
+use Rattle.world_core.proofs.HostNumbers.{api_runs}
+use Rattle.world_views.specs.Lives.{fresh}
+use Rattle.world_views.specs.Machine.{after, machine}
+use Rattle.world_views.specs.Quiet.{IsQuiet}
+use Rattle.world_views.specs.Requests.{AreAskedAtQuiet, requests}
+use Rattle.world_views.specs.Right.{replies_in}
+use Rattle.world_views.specs.Shell.{finds_down}
+use Rattle.world_views.specs.Unscheduled.{AreUnscheduled}
+use Rattle.world_views.specs.World.{Whole, new_world}
+use Rattle.world_views.specs.WorldOf.{whole_of}
+use Rattle.world_views.proofs.FreshWorld.{fresh_asked, fresh_quiet, fresh_right}
+use Rattle.world_views.proofs.SentFacts.{is_stamped}
+use Rattle.world_views.proofs.StepDriven.{right_logs, within}
 
--- the shell's host has taken no step in a fresh world
-no_step : (shape : Shape) → logs_at (new_world (fresh shape)).logs 0 ≡ []
-no_step shape = ap (λ (log : HostLog). map (of_host 0) (reverse log.steps)) (each_at (hosts (fresh shape)) no_steps 0 (no_steps 0) (omega arith))
+-- no host has taken a step in a fresh world
+no_step : (start : Start) (h : ℕ) → logs_at (new_world start).logs h ≡ []
+no_step start h = go (cases_lt h (hosts start))
+  where
+    go : (h < hosts start) ⊎ (hosts start ≤ h) → logs_at (new_world start).logs h ≡ []
+    go (inl low) = ap (λ (log : HostLog). map (of_host h) (reverse log.steps)) (each_at (hosts start) no_steps h (no_steps 0) low)
+    go (inr past) =
+        ap (λ (log : HostLog). map (of_host h) (reverse log.steps))
+        (get_or_past (for_each (hosts start) no_steps) h (no_steps 0) (omega (arith, past, each_length (hosts start) no_steps)))
 
--- so it has no reply, and nothing is told
-no_reply : (shape : Shape) → replies_in (fresh shape) [] ≡ []
-no_reply shape = ap host_replies (shell_started (fresh shape)) ∙ fresh_told (first_view shape.nodes)
+-- so nothing is told
+still_as_it_was : (down : Bool) → down_line down down ≡ []
+still_as_it_was true = refl
+still_as_it_was false = refl
 
-no_reply_left : (shape : Shape) → replies_of (new_world (fresh shape)) ≡ []
-no_reply_left shape =
-    sym (replies_are (fresh shape) [] (new_world (fresh shape)) (fresh_right (fresh shape))) ∙ ap (replies_in (fresh shape)) (no_step shape) ∙ no_reply shape
+fresh_text : (start : Start) → text_of start (logs_at (new_world start).logs 0) ≡ []
+fresh_text start = ap (text_of start) (no_step start 0) ∙ still_as_it_was (finds_down start [])
 
-fresh_text : (shape : Shape) → text_of (fresh shape) (logs_at (new_world (fresh shape)).logs 0) ≡ []
-fresh_text shape = ap (text_of (fresh shape)) (no_step shape) ∙ ap (λ replies. reply_lines (arranged None replies)) (no_reply shape)
+-- nor has a host asked anything of itself
+fresh_unscheduled : (start : Start) → AreUnscheduled (logs_at (new_world start).logs)
+fresh_unscheduled start h = subst (Each _) (sym (no_step start h)) tt
+
+-- and its memberships rest
+fresh_rests : (start : Start) → IsShape start.shape → start.rows ≡ [] → AreAtRest start (logs_at (new_world start).logs)
+fresh_rests start sound none =
+    record {
+      life = record {
+        shape = sound;
+        rows = none;
+        within = within start [] (new_world start) (fresh_right start);
+        right = right_logs start [] (new_world start) (fresh_right start);
+        calm = λ h. subst (Each (λ e. is_calm h e.step.taken ≡ true)) (sym (no_step start h)) tt;
+      };
+      resting = λ h low beats.
+          subst (λ (log : List HostStep). IsRestingPart start h 1 (after start h log).parts) (sym (no_step start h))
+          (lives_begin_at_rest start h low beats);
+    }
 
 -- the session is before its first line
 pub starts : (left written : Option (List ℕ)) (session : Session) (lives : Vec Life) → HasOpened session lives
@@ -73,15 +121,17 @@ starts left written session lives opened =
       commands = [];
       read = subst (Consumes left left) (sym opened.reader) (Consumes-nil left);
       lines = λ ended more. ap (λ n. script_from shape.nodes ended n more) (sym opened.line);
-      printed = subst (λ (w : Whole). Appends written written (text_of (fresh shape) (logs_at w.logs 0))) (sym opened.world) (subst (Appends written written) (sym (fresh_text shape)) (Appends-nil written));
+      printed = subst (λ (w : Whole). Appends written written (text_of (fresh shape) (logs_at w.logs 0))) (sym opened.world) (subst (Appends written written) (sym (fresh_text (fresh shape))) (Appends-nil written));
       served = subst (IsServed (fresh shape) []) (sym opened.world)
           (record {
             given = [];
             right = fresh_right (fresh shape);
             quiet = fresh_quiet (fresh shape);
-            asked = ap requests (no_step shape);
+            asked = ap requests (no_step (fresh shape) 0);
             at_quiet = fresh_asked (fresh shape);
-            none_left = no_reply_left shape;
+            none_left = refl;
+            unscheduled = fresh_unscheduled (fresh shape);
+            rests = λ calm none. fresh_rests (fresh shape) opened.sound refl;
           });
       line_low = omega (arith, opened.line);
       held_short = let empty : length session.reader ≡ 0 = ap length opened.reader in omega arith;
@@ -108,6 +158,47 @@ nothing_more_printed ending.WriteFault written cut = record { count = 0; appende
 nothing_more_printed ending.NoMemory written cut = record { count = 0; appended = Appends-nil written }
 nothing_more_printed _ written cut = cc
 
+-- A host of the plain machine that is alike the shell's was replied what that was, but for the views that it was shown.
+replied_alike : (start : Start) (given : List ApiReply) (parts : Parts) (other : plain_host.Host) → has_api other ≡ true
+    → ArePartsAlike start given parts other
+    → given ≡ host_replies other
+unfolding host_replies
+replied_alike start given (Shell p) (plain_part.Shell a) api alike =
+    sym (ap (λ (b : ApiState). b.replies) alike.1.1.1 ∙ ap (λ rs. given ++ rs) alike.1.1.0 ∙ append-nil given)
+replied_alike start given (Main p) (plain_part.Shell a) api alike = absurd alike
+replied_alike start given (Tc p) (plain_part.Shell a) api alike = absurd alike
+replied_alike start given (Ldm p) (plain_part.Shell a) api alike = absurd alike
+replied_alike start given parts (plain_part.Main m) api alike = absurd (true≢false (sym api))
+replied_alike start given parts (plain_part.Tc q) api alike = absurd (true≢false (sym api))
+replied_alike start given parts (plain_part.Ldm s) api alike = absurd (true≢false (sym api))
+
+-- what calm logs say
+module _ (start : Start) (logs : ℕ → List HostStep) (life : IsCalmLife start logs) where
+  are_plain : ArePlain start logs
+  are_plain = logs_plain start logs life
+
+  plainly_replied : plain_replies (replies_in start 0 (logs 0)) ≡ replied start (plain_logs logs 0)
+  plainly_replied =
+      replied_alike start (plain_replies (replies_in start 0 (logs 0))) (after start 0 (logs 0)).parts
+      (plain.after start 0 (plain_logs logs 0)) (api_runs start (plain_logs logs 0)) (are_plain.alike 0).parts
+
+  calmly_served : (e : Ending) → AreAskedAtQuiet start logs → ((e ≡ ending.NoMemory → ⊥) → IsQuiet start logs)
+      → IsCalmServed start e logs
+  calmly_served e asked quiet =
+      record {
+        serial = λ inside cut closed. cuts_serial start inside logs life cut closed;
+        replies = plainly_replied;
+        answered = λ newer step before request at is again.
+            requests_answered start (plain_logs logs) life.shape are_plain.right are_plain.within
+            (asked_plain start logs life asked) newer step before request at is
+            (ends_or_goes_on e (plain_quiet.IsQuiet (plain.machine start) (hosts start) (plain_logs logs))
+            (IsAskedAgain start newer) (λ kept. quiet_plain start logs life (quiet kept)) again);
+        reported = reports_are_the_history start (plain_logs logs) life.shape are_plain.within are_plain.right;
+        caused = λ inside cut closed. replies_caused start inside (plain_logs logs) life.shape
+            (record { within = are_plain.within; right = are_plain.right; cut = cut; closed = closed });
+        living = replies_live start (plain_logs logs) are_plain.within are_plain.right;
+      }
+
 -- what the one life says
 pub is_life : (shape : Shape) → IsShape shape → (e : Ending) (commands : List Command) (logs : List HostLog)
     → AreLived (fresh shape) e commands logs → IsLife shape e commands (fresh_life logs)
@@ -115,15 +206,11 @@ is_life shape sound e commands logs lived =
     record {
       begins = refl;
       lived = lived;
-      serial = λ inside cut closed. every_cut_serial (fresh shape) inside (logs_at logs) sound lived.within lived.right cut closed;
-      answered = λ newer step before request at is again.
-          requests_answered (fresh shape) (logs_at logs) sound lived.right lived.within lived.at_quiet newer step before request at is
-          (ends_or_goes_on e (IsQuiet (machine (fresh shape)) (hosts (fresh shape)) (logs_at logs)) (IsAskedAgain (fresh shape) newer) lived.quiet again);
-      reported = reports_are_the_history (fresh shape) (logs_at logs) sound lived.within lived.right;
-      caused = λ inside cut closed. replies_caused (fresh shape) inside (logs_at logs) sound
-          (record { within = lived.within; right = lived.right; cut = cut; closed = closed });
-      living = replies_live (fresh shape) (logs_at logs) lived.within lived.right;
-      run = merged_run (machine (fresh shape)) (stamped (fresh shape)) (hosts (fresh shape)) (logs_at logs) lived.within lived.right;
+      run = merged_run (machine (fresh shape)) (is_stamped (fresh shape)) (hosts (fresh shape)) (logs_at logs) lived.within lived.right;
+      calm = λ calm.
+          calmly_served (fresh shape) (logs_at logs)
+          (record { shape = sound; rows = refl; within = lived.within; right = lived.right; calm = calm }) e
+          lived.at_quiet lived.quiet;
     }
 
 -- it was done with its lines

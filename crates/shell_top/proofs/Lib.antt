@@ -1,4 +1,6 @@
+pub mod CalmLemmas
 pub mod EndLemmas
+pub mod GivingUp
 pub mod LivedLemmas
 pub mod OpenLemmas
 pub mod PrintedLemmas

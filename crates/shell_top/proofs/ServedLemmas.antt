@@ -1,11 +1,10 @@
 -- A world that has served some commands serves one more.
-use Rattle.std.proofs.Common.{◌≡◌, ◌⊎◌, inl, inr, ℕ, zero, suc, ◌+◌, ◌-◌, ◌≤◌, ◌<◌, arith, List, [], ◌∷◌, ◌++◌, length, take, drop, Bool, true, false, refl, ap, sym, subst, ◌∙◌, append_assoc}
+use Rattle.std.proofs.Common.{◌≡◌, ◌⊎◌, inl, inr, ℕ, zero, suc, ◌+◌, ◌-◌, ◌≤◌, ◌<◌, arith, List, [], ◌∷◌, ◌++◌, length, take, drop, Bool, true, false, refl, ap, ap₂, sym, subst, ◌∙◌, append_assoc}
 use Rattle.std.specs.Global.{Vec}
 use Rattle.std.specs.Prelude.{Option, None, Some, IfOk, OnErr, OnOk, Result, Ok, Err, is_some, option_to_list}
 use Rattle.std.specs.Io.KnownBytes.{Appends}
 use Rattle.std.proofs.lemmas.List.{append-nil, append_cancel_left, drop_at, reverse-append}
 use Rattle.std.proofs.Math.Seq.{take-append-add}
-use Rattle.node_core.specs.Replies as host
 use Rattle.run_theory.proofs.Pasts.{past_self, past_trans}
 use Rattle.run_theory.specs.Lists.{IsPast}
 use Rattle.script_lang.specs.declared.command.Command.{Command}
@@ -16,24 +15,32 @@ use Rattle.sig_core.specs.declared.reply.ApiReply.{ApiReply}
 use Rattle.sig_core.specs.declared.request.ApiReq.{ApiReq}
 use Rattle.sig_core.specs.declared.request.ApiReq.TheVariants.{Tick}
 use Rattle.shell_top.specs.Arranged.{arranged}
-use Rattle.shell_top.specs.Asked.{AreAsked, AsksInPart, AsksOn, IsAskedNext, is_served, name_in, questions, requests_of}
+use Rattle.shell_top.specs.Asked.{AreAsked, AsksInPart, AsksOn, IsAskedNext, are_calm, is_calm_command, is_served, questions, requests_of}
+use Rattle.shell_top.specs.Subject.{subject_in}
 use Rattle.shell_top.specs.Asked.{rounds_behind}
 use Rattle.shell_top.specs.declared.ended.Ending.TheVariants as ending
 use Rattle.shell_top.specs.Printed.{AppendsPart}
-use Rattle.shell_top.specs.Served.{AreLeft, AreLeftOff, AsksFirst, HasGoneOn, HasServed, IsServed, PrintsCommand, ServesCommand}
-use Rattle.shell_top.specs.Text.{reply_lines}
-use Rattle.shell_top.specs.Told.{replies_in, text_of}
-use Rattle.shell_top.proofs.ToldLemmas.{HasFirst, asked_in, asks_for, has_first, none_heads, none_both, none_take, one_more, requests_newer}
-use Rattle.world_core.specs.Driven.{HasAsked, HaveGrown, IsDriven, IsSound, IsWorld}
+use Rattle.calm_laws.specs.Calm.{AreCalm}
+use Rattle.calm_laws.specs.Resting.{NoneGivesUp}
+use Rattle.shell_top.specs.Served.{AreAtRest, AreLeft, AreLeftOff, AsksFirst, HasGoneOn, HasServed, IsServed, PrintsCommand, ServesCommand, are_calm_requests}
+use Rattle.shell_top.specs.Text.{down_line, reply_lines}
+use Rattle.shell_top.specs.Told.{text_of}
+use Rattle.shell_top.proofs.CalmLemmas.{command_calm, commands_back, commands_front, first_calm, head_calm, none_before, one_calm, one_rests, requests_back, requests_front}
+use Rattle.shell_top.proofs.ToldLemmas.{HasFirst, asks_for, has_first, none_heads, none_both, none_take, one_more, requests_newer}
+use Rattle.world_views.specs.Driven.{HasAsked, HaveGrown, IsDriven, IsSound, IsWorld}
 use Rattle.world_core.specs.Labels.{AreLabelled}
-use Rattle.world_core.specs.Machine.{after}
-use Rattle.world_core.specs.Requests.{request_in, requests}
-use Rattle.world_core.specs.Right.{IsRight}
+use Rattle.world_views.specs.Requests.{request_of, requests}
+use Rattle.world_views.specs.Right.{IsRight}
 use Rattle.world_core.specs.Start.{Start}
-use Rattle.world_core.specs.World.{IsIdle, Whole, is_left_open, logs_at, replies_of, with_replies}
-use Rattle.world_core.proofs.Replies.{open_is, replies_are, replies_gone, told_right}
-use Rattle.world_core.proofs.StepDriven.{right_logs, within}
-use Rattle.world_core.proofs.WorldLemmas.{sound_labels}
+use Rattle.world_core.specs.World.{logs_at}
+use Rattle.world_views.specs.World.{IsIdle, Whole, is_down, is_left_open}
+use Rattle.world_views.specs.Right.{replies_in}
+use Rattle.world_views.specs.Shell.{finds_down, leaves_open}
+use Rattle.world_views.specs.Unscheduled.{AreUnscheduled}
+use Rattle.world_views.proofs.QuietLemmas.{quiet_logs}
+use Rattle.world_views.proofs.ShellLemmas.{down_is, open_is, told_right}
+use Rattle.world_views.proofs.StepDriven.{right_logs, within}
+use Rattle.world_views.proofs.WorldLemmas.{sound_labels}
 
 -- the next step still is when the log has grown
 next_longer : (before log all : List HostStep) → IsAskedNext before log → IsPast log all → IsAskedNext before all
@@ -75,19 +82,38 @@ module _ (start : Start) where
         next = refl;
         at_quiet = λ quiet was. was;
         quiet = λ quiet. quiet;
+        unscheduled = λ was. was;
+        rests = λ sound quiet rest calm none. rest;
       }
 
+  -- the step that asks for something is a request
+  asks_it : (request : ApiReq) (w u : Whole) (asked : HasAsked start request w u) → is_some (request_of asked.asking) ≡ true
+  asks_it request w u asked = go (request_of asked.asking) (append_cancel_left (requests (logs_at w.logs 0)) _ _ both)
+    where
+      both : requests (logs_at w.logs 0) ++ option_to_list (request_of asked.asking) ≡ requests (logs_at w.logs 0) ++ request ∷ []
+      both = sym (ap requests asked.next) ∙ asked.requests
+
+      go : (o : Option ApiReq) → option_to_list o ≡ request ∷ [] → is_some o ≡ true
+      go None e = cc
+      go (Some first) e = refl
+
   -- one thing is
-  pub one_served : (request : ApiReq) (w u t : Whole) → HasAsked start request w u → IsDriven start u t → IsIdle t → HasServed start (request ∷ []) w t
-  one_served request w u t asked drove quiet =
+  pub one_served : (request : ApiReq) (w u t : Whole) → HasAsked start request w u → IsDriven start u t → IsIdle t
+      → (AreUnscheduled (logs_at u.logs) → AreUnscheduled (logs_at t.logs))
+      → HasServed start (request ∷ []) w t
+  one_served request w u t asked drove quiet own =
       record {
         right = λ given was. drove.right given (asked.right given was);
         more = λ h. past_trans (asked.more h) (drove.grown.more h);
         requests = drove.grown.requests ∙ asked.requests;
         next = next_longer (logs_at w.logs 0) (logs_at u.logs 0) (logs_at t.logs 0)
-            (record { newer = []; asking = asked.asking; is = asked.next; asks = asked.asks }) (drove.grown.more 0);
+            (record { newer = []; asking = asked.asking; is = asked.next; asks = asks_it request w u asked }) (drove.grown.more 0);
         at_quiet = λ still was. drove.grown.asked (asked.asked still was);
         quiet = λ still. quiet;
+        unscheduled = λ was. own (asked.unscheduled was);
+        rests = λ sound idle rest calm none.
+            one_rests start request w u sound idle rest asked (logs_at t.logs) drove.grown (first_calm request calm) none
+            (quiet_logs start sound.given t (drove.right sound.given (asked.right sound.given sound.right)) quiet);
       }
 
   -- one list of things, and then another
@@ -100,6 +126,11 @@ module _ (start : Start) where
         next = first_longer asked more (logs_at w.logs 0) (logs_at u.logs 0) (logs_at t.logs 0) one.next two.next (two.more 0);
         at_quiet = λ still was. two.at_quiet (one.quiet still) (one.at_quiet still was);
         quiet = λ still. two.quiet (one.quiet still);
+        unscheduled = λ was. two.unscheduled (one.unscheduled was);
+        rests = λ sound idle rest calm none.
+            two.rests (served_sound asked w u one sound) (one.quiet idle)
+            (one.rests sound idle rest (requests_front asked more calm) (none_before (logs_at u.logs) (logs_at t.logs) two.more none))
+            (requests_back asked more calm) none;
       }
 
   -- memory was wanting before anything was asked for
@@ -116,13 +147,16 @@ module _ (start : Start) where
         requests = sym (append-nil (requests (logs_at w.logs 0)));
         at_quiet = λ quiet was. was;
         begun = inl refl;
+        unscheduled = λ was. was;
+        calm = λ sound idle rest calm none. rest.life.calm;
       })
 
   -- or when one thing was
   pub left_undriven : (request : ApiReq) (w u : Whole) (logs : List HostLog) → HasAsked start request w u
       → HaveGrown start (logs_at u.logs) (logs_at logs) → AreLabelled start logs
+      → (AreUnscheduled (logs_at u.logs) → AreUnscheduled (logs_at logs))
       → AreLeftOff start (request ∷ []) w logs
-  left_undriven request w u logs asked grown labelled =
+  left_undriven request w u logs asked grown labelled own =
       record {
         labelled = labelled;
         right = grown.right;
@@ -132,7 +166,10 @@ module _ (start : Start) where
         requests = grown.requests ∙ asked.requests;
         at_quiet = λ still was. grown.asked (asked.asked still was);
         begun = inr (next_longer (logs_at w.logs 0) (logs_at u.logs 0) (logs_at logs 0)
-            (record { newer = []; asking = asked.asking; is = asked.next; asks = asked.asks }) (grown.more 0));
+            (record { newer = []; asking = asked.asking; is = asked.next; asks = asks_it request w u asked }) (grown.more 0));
+        unscheduled = λ was. own (asked.unscheduled was);
+        calm = λ sound idle rest calm none.
+            one_calm start request w u sound idle rest asked (logs_at logs) grown (first_calm request calm) none;
       }
 
   -- or behind what was served
@@ -162,6 +199,11 @@ module _ (start : Start) where
             ∙ ap (λ rs. requests (logs_at w.logs 0) ++ rs) (sym (take-append-add asked more left.part));
         at_quiet = λ still was. left.at_quiet (served.quiet still) (served.at_quiet still was);
         begun = begun_later asked more w u logs served left;
+        unscheduled = λ was. left.unscheduled (served.unscheduled was);
+        calm = λ sound idle rest calm none.
+            left.calm (served_sound asked w u served sound) (served.quiet idle)
+            (served.rests sound idle rest (requests_front asked more calm) (none_before (logs_at u.logs) (logs_at logs) left.more none))
+            (requests_back asked more calm) none;
       }
 
   -- what was left off of some things was left off of more
@@ -178,6 +220,8 @@ module _ (start : Start) where
         requests = left.requests ∙ ap (λ rs. requests (logs_at w.logs 0) ++ rs) (sym part.is);
         at_quiet = left.at_quiet;
         begun = left.begun;
+        unscheduled = left.unscheduled;
+        calm = λ sound idle rest calm none. left.calm sound idle rest (requests_front asked more calm) none;
       }
 
   -- all was served, and then memory was wanting
@@ -189,9 +233,9 @@ module _ (start : Start) where
 
   -- no request, though the next step is one
   none_asked : (before log : List HostStep) → IsAskedNext before log → requests log ≡ requests before ++ [] → ⊥
-  none_asked before log next are = go (request_in next.asking.step.taken.body) refl (asked_in next.asking.step.taken.body next.asks)
+  none_asked before log next are = go (request_of next.asking) refl next.asks
     where
-      go : (o : Option ApiReq) → request_in next.asking.step.taken.body ≡ o → is_some o ≡ true → ⊥
+      go : (o : Option ApiReq) → request_of next.asking ≡ o → is_some o ≡ true → ⊥
       go None e some = cc
       go (Some asked) e some =
           let both : requests before ++ (asked ∷ requests next.newer) ≡ requests before ++ [] =
@@ -203,14 +247,25 @@ module _ (start : Start) where
           nothing : (a : ApiReq) (xs : List ApiReq) → a ∷ xs ≡ [] → ⊥
           nothing a xs same = cc
 
+  -- the lines that a command adds to a text
+  abbrev pub lines_of : Command → List HostStep → List HostStep → List ℕ
+  lines_of c before log =
+      reply_lines (arranged (subject_in c) (drop (length (replies_in start 0 before)) (replies_in start 0 log)))
+      ++ down_line (finds_down start before) (finds_down start log)
+
   -- the text of a log behind which some requests of a command were asked for
   text_behind : (first : ApiReq) (rest : List ApiReq) (before log : List HostStep) → IsAskedNext before log → requests log ≡ requests before ++ first ∷ rest
       → (c : Command) (has : HasFirst c) → first ≡ has.first → none_heads rest ≡ true
-      → text_of start log ≡ text_of start before ++ reply_lines (arranged (name_in c) (drop (length (replies_in start before)) (replies_in start log)))
+      → text_of start log ≡ text_of start before ++ lines_of c before log
   text_behind first rest before log next are c has same none =
       let for = asks_for first rest before log next are in
       one_more start has.first for.asking for.newer before log for.is (for.asks ∙ ap Some same) has.begins_it (subst (λ rs. none_heads rs ≡ true) (sym for.others) none)
-      ∙ ap (λ name. text_of start before ++ reply_lines (arranged name (drop (length (replies_in start before)) (replies_in start log)))) has.name
+      ∙ ap
+      (λ about.
+      text_of start before
+      ++ (reply_lines (arranged about (drop (length (replies_in start 0 before)) (replies_in start 0 log)))
+      ++ down_line (finds_down start before) (finds_down start log)))
+      has.subject
 
   -- memory was wanting in a command: its text goes on
   pub left_text : (c : Command) (w : Whole) (logs : List HostLog) → is_served c ≡ true
@@ -230,7 +285,7 @@ module _ (start : Start) where
           record {
             left = left;
             begun = begun;
-            more = reply_lines (arranged (name_in c) (drop (length (replies_in start (logs_at w.logs 0))) (replies_in start (logs_at logs 0))));
+            more = lines_of c (logs_at w.logs 0) (logs_at logs 0);
             text = text_behind has.first (take part (has.rest ++ questions)) (logs_at w.logs 0) (logs_at logs 0) next is c has refl
                 (none_take part (has.rest ++ questions) (none_both has.rest questions has.none refl));
           }
@@ -264,8 +319,9 @@ module _ (start : Start) where
       }
 
   on_log : (u v : Whole) (given : List ApiReply) → IsRight start given u → (b : Bool) → is_left_open u ≡ b → HasGoneOn start u v b
-      → AsksOn (logs_at u.logs 0) (logs_at v.logs 0) (host.is_left_open (after start 0 (logs_at u.logs 0)))
-  on_log u v given right b e on = subst (AsksOn (logs_at u.logs 0) (logs_at v.logs 0)) (sym e ∙ open_is start u (record { given = given; right = right })) (go b on)
+      → AsksOn (logs_at u.logs 0) (logs_at v.logs 0) (leaves_open start (logs_at u.logs 0))
+  on_log u v given right b e on =
+      subst (AsksOn (logs_at u.logs 0) (logs_at v.logs 0)) (sym e ∙ open_is start given u right) (go b on)
     where
       go : (b : Bool) → HasGoneOn start u v b → AsksOn (logs_at u.logs 0) (logs_at v.logs 0) b
       go false same = ap (λ (x : Whole). logs_at x.logs 0) same
@@ -275,14 +331,16 @@ module _ (start : Start) where
   own_next c has w u own = subst (λ rs. AsksFirst rs (logs_at w.logs 0) (logs_at u.logs 0)) has.are own.next
 
   pub serves : (c : Command) (w u v t : Whole) (text : List ℕ) → is_served c ≡ true → IsSound start w → HasServed start (requests_of c) w u → HasGoneOn start u v (is_left_open u)
-      → t ≡ with_replies v [] → text ≡ reply_lines (arranged (name_in c) (replies_of v)) → ServesCommand start c w t text
+      → t ≡ record v { replies = [] }
+      → text ≡ reply_lines (arranged (subject_in c) v.replies) ++ down_line (is_down w) (is_down t)
+      → ServesCommand start c w t text
   serves c w u v t text is sound own on taken lines =
       record {
         served = λ commands was. subst (IsServed start (commands ++ c ∷ [])) (sym taken) (after_it commands was);
         told = λ commands was.
             ap (λ (x : Whole). text_of start (logs_at x.logs 0)) taken ∙ told commands was;
         sound = subst (IsSound start) (sym taken)
-            (record { given = sound.given ++ replies_of v; right = told_right start sound.given v (behind.served.right sound.given sound.right) });
+            (record { given = sound.given ++ v.replies; right = told_right start sound.given v (behind.served.right sound.given sound.right) });
       }
     where
       has : HasFirst c
@@ -291,10 +349,32 @@ module _ (start : Start) where
       behind : Behind c has w v
       behind = all_served c has w u v own (is_left_open u) on
 
-      after_it : (commands : List Command) → IsServed start commands w → IsServed start (commands ++ c ∷ []) (with_replies v [])
+      -- calm commands are asked for calmly, one after the other
+      rests : (commands : List Command) → IsServed start commands w → are_calm (commands ++ c ∷ []) ≡ true
+          → NoneGivesUp (logs_at v.logs) → AreAtRest start (logs_at v.logs)
+      rests commands was calm none = go (is_left_open u) on
+        where
+          before : AreAtRest start (logs_at w.logs)
+          before =
+              was.rests (commands_front commands (c ∷ []) calm)
+              (none_before (logs_at w.logs) (logs_at v.logs) behind.served.more none)
+
+          one : is_calm_command c ≡ true
+          one = head_calm c [] (commands_back commands (c ∷ []) calm)
+
+          go : (b : Bool) → HasGoneOn start u v b → AreAtRest start (logs_at v.logs)
+          go false same =
+              subst (λ (x : Whole). NoneGivesUp (logs_at x.logs) → AreAtRest start (logs_at x.logs)) (sym same)
+              (own.rests sound was.quiet before (command_calm c one)) none
+          go true asked =
+              asked.rests (served_sound (requests_of c) w u own sound) (own.quiet was.quiet)
+              (own.rests sound was.quiet before (command_calm c one)
+              (none_before (logs_at u.logs) (logs_at v.logs) asked.more none)) refl none
+
+      after_it : (commands : List Command) → IsServed start commands w → IsServed start (commands ++ c ∷ []) (record v { replies = [] })
       after_it commands was =
           record {
-            given = was.given ++ replies_of v;
+            given = was.given ++ v.replies;
             right = told_right start was.given v (behind.served.right was.given was.right);
             quiet = behind.served.quiet was.quiet;
             asked = subst (λ cs. AreAsked start cs (logs_at v.logs 0)) (sym (reverse-append commands (c ∷ [])))
@@ -309,19 +389,26 @@ module _ (start : Start) where
                   };
                 });
             at_quiet = behind.served.at_quiet was.quiet was.at_quiet;
-            none_left = replies_gone start v (record { given = was.given; right = behind.served.right was.given was.right });
+            none_left = refl;
+            unscheduled = behind.served.unscheduled was.unscheduled;
+            rests = rests commands was;
           }
 
       told : (commands : List Command) → IsServed start commands w → text_of start (logs_at v.logs 0) ≡ text_of start (logs_at w.logs 0) ++ text
       told commands was =
           let right = behind.served.right was.given was.right in
-          let old : replies_in start (logs_at w.logs 0) ≡ was.given =
-          replies_are start was.given w was.right ∙ ap (λ rs. was.given ++ rs) was.none_left ∙ append-nil was.given in
-          let new : replies_in start (logs_at v.logs 0) ≡ was.given ++ replies_of v = replies_are start was.given v right in
-          let rest : drop (length (replies_in start (logs_at w.logs 0))) (replies_in start (logs_at v.logs 0)) ≡ replies_of v =
-          ap (λ rs. drop (length rs) (replies_in start (logs_at v.logs 0))) old ∙ ap (drop (length was.given)) new ∙ drop_at was.given (replies_of v) (length was.given) refl in
+          let old : replies_in start 0 (logs_at w.logs 0) ≡ was.given =
+          was.right.replies ∙ ap (λ rs. was.given ++ rs) was.none_left ∙ append-nil was.given in
+          let rest : drop (length (replies_in start 0 (logs_at w.logs 0))) (replies_in start 0 (logs_at v.logs 0)) ≡ v.replies =
+          ap (λ rs. drop (length rs) (replies_in start 0 (logs_at v.logs 0))) old ∙ ap (drop (length was.given)) right.replies ∙ drop_at was.given v.replies (length was.given) refl in
+          let down_now : is_down t ≡ finds_down start (logs_at v.logs 0) =
+          ap is_down taken ∙ down_is start was.given v right in
+          let lines_by : List ApiReply → Bool → Bool → List ℕ =
+          λ rs before now. text_of start (logs_at w.logs 0) ++ (reply_lines (arranged (subject_in c) rs) ++ down_line before now) in
           text_behind has.first behind.rest (logs_at w.logs 0) (logs_at v.logs 0) behind.served.next behind.served.requests c has refl behind.none
-          ∙ ap (λ rs. text_of start (logs_at w.logs 0) ++ reply_lines (arranged (name_in c) rs)) rest
+          ∙ ap (λ rs. lines_by rs (finds_down start (logs_at w.logs 0)) (finds_down start (logs_at v.logs 0))) rest
+          ∙ ap (λ b. lines_by v.replies b (finds_down start (logs_at v.logs 0))) (sym (down_is start was.given w was.right))
+          ∙ ap (λ b. lines_by v.replies (is_down w) b) (sym down_now)
           ∙ ap (λ l. text_of start (logs_at w.logs 0) ++ l) (sym lines)
 
 -- what the calls of a world come to
@@ -333,18 +420,21 @@ module _ (start : Start) (request : ApiReq) where
   asked_world w u sound asked = record { start = start; sound = asked_sound w u sound asked }
 
   pub asked_ok : (result : Result (Unit {0}) NoMemory) (w u t : Whole) → IsSound start w → HasAsked start request w u → (IsSound start u → OnOk result (IsDriven start u t)) → OnOk result (IsIdle t)
+      → (IsSound start u → AreUnscheduled (logs_at u.logs) → AreUnscheduled (logs_at t.logs))
       → OnOk result (HasServed start (request ∷ []) w t)
-  asked_ok (Ok done) w u t sound asked drove quiet = one_served start request w u t asked (drove (asked_sound w u sound asked)) quiet
-  asked_ok (Err fault) w u t sound asked drove quiet = tt
+  asked_ok (Ok done) w u t sound asked drove quiet own =
+      one_served start request w u t asked (drove (asked_sound w u sound asked)) quiet (own (asked_sound w u sound asked))
+  asked_ok (Err fault) w u t sound asked drove quiet own = tt
 
   pub asked_err : (result : Result (Unit {0}) NoMemory) (w u : Whole) (logs : List HostLog) → IsSound start w → HasAsked start request w u
       → (IsSound start u → OnErr result (HaveGrown start (logs_at u.logs) (logs_at logs)))
       → (IsSound start u → OnErr result (AreLabelled start logs))
+      → (IsSound start u → AreUnscheduled (logs_at u.logs) → AreUnscheduled (logs_at logs))
       → OnErr result (AreLeftOff start (request ∷ []) w logs)
-  asked_err (Ok done) w u logs sound asked grown labelled = tt
-  asked_err (Err fault) w u logs sound asked grown labelled =
+  asked_err (Ok done) w u logs sound asked grown labelled own = tt
+  asked_err (Err fault) w u logs sound asked grown labelled own =
       left_undriven start request w u logs asked (grown (asked_sound w u sound asked))
-      (labelled (asked_sound w u sound asked))
+      (labelled (asked_sound w u sound asked)) (own (asked_sound w u sound asked))
 
 -- one list of requests was asked for, and then another
 module _ (start : Start) (asked more : List ApiReq) where
@@ -429,11 +519,11 @@ module _ (start : Start) (c : Command) (w : Whole) where
         served = logs_at u.logs 0;
         past = left.more 0;
         own = own.requests;
-        left_open = sym (open_is start u (own_sound u sound own)) ∙ opened;
+        left_open = sym (open_is start (own_sound u sound own).given u (own_sound u sound own).right) ∙ opened;
         on = record { part = left.part; begun = left.requests };
       }))
 
-  left_gone : (u v : Whole) (logs : List HostLog) → is_served c ≡ true → IsSound start w → HasServed start (requests_of c) w u → HasGoneOn start u v (is_left_open u) → logs ≡ v.logs → AreLeft start c w logs
+  pub left_gone : (u v : Whole) (logs : List HostLog) → is_served c ≡ true → IsSound start w → HasServed start (requests_of c) w u → HasGoneOn start u v (is_left_open u) → logs ≡ v.logs → AreLeft start c w logs
   left_gone u v logs is sound own on same = go (is_left_open u) refl on
     where
       go : (b : Bool) → is_left_open u ≡ b → HasGoneOn start u v b → AreLeft start c w logs
@@ -443,16 +533,22 @@ module _ (start : Start) (c : Command) (w : Whole) where
       go true e asked =
           left_about u logs is sound own e (left_served start questions u v logs asked (own_sound u sound own) same)
 
-  pub left_answers : (u v : Whole) (logs : List HostLog) (result : Result (Vec ℕ) NoMemory) → is_served c ≡ true → IsSound start w → HasServed start (requests_of c) w u
-      → HasGoneOn start u v (is_left_open u) → OnErr result (logs ≡ v.logs) → OnErr result (AreLeft start c w logs)
-  left_answers u v logs (Ok text) is sound own on same = tt
-  left_answers u v logs (Err fault) is sound own on same = left_gone u v logs is sound own on same
+  pub told_world : (u v t : Whole) → IsSound start w → HasServed start (requests_of c) w u
+      → HasGoneOn start u v (is_left_open u) → t ≡ record v { replies = [] } → IsWorld t
+  told_world u v t sound own on taken =
+      let gone = gone_sound u v sound own on in
+      record {
+        start = start;
+        sound = subst (IsSound start) (sym taken)
+            (record { given = gone.given ++ v.replies; right = told_right start gone.given v gone.right });
+      }
 
-  pub serves_ok : (u v t : Whole) (result : Result (Vec ℕ) NoMemory) → is_served c ≡ true → IsSound start w → HasServed start (requests_of c) w u → HasGoneOn start u v (is_left_open u)
-      → OnOk result (t ≡ with_replies v []) → IfOk result (λ text. text.items ≡ reply_lines (arranged (name_in c) (replies_of v)))
-      → IfOk result (λ text. ServesCommand start c w t text.items)
-  serves_ok u v t (Ok text) is sound own on taken lines = serves start c w u v t text.items is sound own on taken lines
-  serves_ok u v t (Err fault) is sound own on taken lines = tt
+-- the lines of the replies, and then that the cluster went down
+pub down_behind : (replies text line all : List ℕ) (was is before now : Bool) → all ≡ text ++ line → text ≡ replies
+    → line ≡ down_line was is → was ≡ before → is ≡ now
+    → all ≡ replies ++ down_line before now
+down_behind replies text line all was is before now are same told then here =
+    are ∙ ap (λ xs. xs ++ line) same ∙ ap (λ xs. replies ++ xs) (told ∙ ap₂ down_line then here)
 
 -- the text is printed
 pub prints_all : (start : Start) (c : Command) (w t : Whole) (text : List ℕ) (written written_now : Option (List ℕ)) → ServesCommand start c w t text → Appends written written_now text

@@ -18,8 +18,10 @@ use Rattle.shell_top.specs.Printed.{Prints}
 use Rattle.shell_top.specs.Served.{AreLeft, CommandEnds, PrintsCommand, WrittenInPart, WrittenWhole}
 use Rattle.shell_top.specs.Told.{text_of}
 use Rattle.shell_top.proofs.LivedLemmas.{left_lived, served_lived, told_front, told_part}
-use Rattle.world_core.specs.Start.{Start, fresh}
-use Rattle.world_core.specs.World.{Whole, logs_at}
+use Rattle.world_core.specs.Start.{Start}
+use Rattle.world_views.specs.Lives.{fresh}
+use Rattle.world_core.specs.World.{logs_at}
+use Rattle.world_views.specs.World.{Whole}
 use Rattle.shell_top.specs.Parsed.{parsed as parsed_line}
 use Rattle.shell_top.specs.Reader.{Reads, IsPartial, is_newline}
 use Rattle.shell_top.specs.Script.{Script, nothing_more, ends_with, follow, is_too_long, last_part, script_from}

@@ -4,30 +4,28 @@ use Rattle.std.specs.Prelude.{if◌then◌else◌, ◌==◌, is_some, option_to_
 use Rattle.std.proofs.lemmas.Bool.{true≢false}
 use Rattle.std.proofs.lemmas.Bool.Decides.{nat_tests}
 use Rattle.std.proofs.lemmas.List.{append-nil, append_cancel_left, take-append-drop}
-use Rattle.node_core.specs.Requests.{is_request}
 use Rattle.script_lang.specs.declared.command.Command.{Command}
 use Rattle.script_lang.specs.declared.command.Command.TheVariants as command
 use Rattle.world_core.specs.Steps.{HostStep}
 use Rattle.sig_core.specs.declared.reply.ApiReply.{ApiReply}
 use Rattle.sig_core.specs.declared.request.ApiReq.{ApiReq}
 use Rattle.sig_core.specs.declared.request.ApiReq.TheVariants as request
-use Rattle.sig_core.specs.declared.signal.Body.{Body}
-use Rattle.sig_core.specs.declared.signal.Body.TheVariants.{Host}
-use Rattle.sig_core.specs.declared.signal.host.HostSignal.TheVariants.{Continue}
-use Rattle.sig_core.specs.declared.signal.host.Work.TheVariants.{Request}
-use Rattle.shell_top.specs.Arranged.{arranged, name_asked}
-use Rattle.shell_top.specs.Asked.{IsAskedNext, is_served, name_in, requests_of, rounds_behind}
-use Rattle.shell_top.specs.Text.{reply_lines}
-use Rattle.shell_top.specs.Told.{Telling, heads, heads_by, replies_in, telling, telling_by, text_of}
-use Rattle.world_core.specs.Requests.{request_in, requests}
+use Rattle.shell_top.specs.Arranged.{arranged}
+use Rattle.shell_top.specs.Asked.{IsAskedNext, is_served, requests_of, rounds_behind}
+use Rattle.shell_top.specs.Subject.{subject_in, subject_of}
+use Rattle.shell_top.specs.Text.{down_line, reply_lines}
+use Rattle.shell_top.specs.Told.{Telling, heads, heads_by, telling, telling_by, text_of, told}
+use Rattle.world_views.specs.Requests.{request_of, requests}
+use Rattle.world_views.specs.Right.{replies_in}
+use Rattle.world_views.specs.Shell.{finds_down}
 use Rattle.world_core.specs.Start.{Start}
 
 -- the requests of a log, and then those of the steps behind it
 pub requests_newer : (newer log : List HostStep) → requests (newer ++ log) ≡ requests log ++ requests newer
 requests_newer [] log = sym (append-nil (requests log))
 requests_newer (e ∷ newer) log =
-    ap (λ rs. rs ++ option_to_list (request_in e.step.taken.body)) (requests_newer newer log)
-    ∙ append_assoc (requests log) (requests newer) (option_to_list (request_in e.step.taken.body))
+    ap (λ rs. rs ++ option_to_list (request_of e)) (requests_newer newer log)
+    ∙ append_assoc (requests log) (requests newer) (option_to_list (request_of e))
 
 -- none of these requests begins a command
 abbrev pub none_heads : List ApiReq → Bool
@@ -62,11 +60,13 @@ none_both (x ∷ xs) ys p q = go (is_some (heads_by x)) p (λ r. none_both xs ys
     go false p later = later p
 
 -- a step that begins no command goes on with the last one
-same_telling : (t : Telling) (replies : List ApiReply) (asked : Option ApiReq) → none_heads (option_to_list asked) ≡ true → telling_by t replies (heads asked) ≡ t
-same_telling t replies None e = refl
-same_telling t replies (Some asked) e = go (heads_by asked) e
+same_telling : (t : Telling) (replies : List ApiReply) (down : Bool) (asked : Option ApiReq)
+    → none_heads (option_to_list asked) ≡ true
+    → telling_by t replies down (heads asked) ≡ t
+same_telling t replies down None e = refl
+same_telling t replies down (Some asked) e = go (heads_by asked) e
   where
-    go : (begun : Option ApiReq) → (if is_some begun then false else true) ≡ true → telling_by t replies begun ≡ t
+    go : (begun : Option ApiReq) → (if is_some begun then false else true) ≡ true → telling_by t replies down begun ≡ t
     go None e = refl
     go (Some first) e = cc
 
@@ -74,40 +74,41 @@ module _ (start : Start) where
   telling_newer : (newer log : List HostStep) → none_heads (requests newer) ≡ true → telling start (newer ++ log) ≡ telling start log
   telling_newer [] log e = refl
   telling_newer (step ∷ newer) log e =
-      same_telling (telling start (newer ++ log)) (replies_in start (newer ++ log)) (request_in step.step.taken.body)
-      (none_back (requests newer) (option_to_list (request_in step.step.taken.body)) e)
-      ∙ telling_newer newer log (none_front (requests newer) (option_to_list (request_in step.step.taken.body)) e)
+      same_telling (telling start (newer ++ log)) (replies_in start 0 (newer ++ log)) (finds_down start (newer ++ log))
+      (request_of step)
+      (none_back (requests newer) (option_to_list (request_of step)) e)
+      ∙ telling_newer newer log (none_front (requests newer) (option_to_list (request_of step)) e)
 
   -- the text of one more command: its first request is the step behind `before`, and no later one begins a command
-  pub one_more : (first : ApiReq) (asking : HostStep) (newer before log : List HostStep) → log ≡ newer ++ asking ∷ before → request_in asking.step.taken.body ≡ Some first
-      → heads_by first ≡ Some first → none_heads (requests newer) ≡ true
-      → text_of start log ≡ text_of start before ++ reply_lines (arranged (name_asked first) (drop (length (replies_in start before)) (replies_in start log)))
+  pub one_more : (first : ApiReq) (asking : HostStep) (newer before log : List HostStep) → log ≡ newer ++ asking ∷ before
+      → request_of asking ≡ Some first → heads_by first ≡ Some first → none_heads (requests newer) ≡ true
+      → text_of start log
+      ≡ text_of start before
+      ++ (reply_lines (arranged (subject_of first) (drop (length (replies_in start 0 before)) (replies_in start 0 log)))
+      ++ down_line (finds_down start before) (finds_down start log))
   one_more first asking newer before log is asks begins_it none =
-      let begun : heads (request_in asking.step.taken.body) ≡ Some first = ap heads asks ∙ begins_it in
-      let at : telling start log ≡ telling_by (telling start before) (replies_in start before) (Some first) =
-      ap (telling start) is ∙ telling_newer newer (asking ∷ before) none ∙ ap (telling_by (telling start before) (replies_in start before)) begun in
-      ap (λ (t : Telling). t.done ++ reply_lines (arranged t.asked (drop t.before (replies_in start log)))) at
-
--- a request is one of the shell
-pub asked_in : (body : Body) → is_request body ≡ true → is_some (request_in body) ≡ true
-asked_in (Host (Continue (Request asked) at)) e = refl
-asked_in _ e = absurd (true≢false (sym e))
+      let begun : heads (request_of asking) ≡ Some first = ap heads asks ∙ begins_it in
+      let goes : Option ApiReq → Telling =
+      telling_by (telling start before) (replies_in start 0 before) (finds_down start before) in
+      let at : telling start log ≡ goes (Some first) =
+      ap (telling start) is ∙ telling_newer newer (asking ∷ before) none ∙ ap goes begun in
+      ap (λ (t : Telling). told t (replies_in start 0 log) (finds_down start log)) at
 
 -- what the steps behind `before` asked for, where the next one asks
 pub record AsksFor (first : ApiReq) (rest : List ApiReq) (before log : List HostStep) : Type 0 where
   pub asking : HostStep
   pub newer : List HostStep
   pub is : log ≡ newer ++ asking ∷ before
-  pub asks : request_in asking.step.taken.body ≡ Some first
+  pub asks : request_of asking ≡ Some first
   pub others : requests newer ≡ rest
 
 pub asks_for : (first : ApiReq) (rest : List ApiReq) (before log : List HostStep) → IsAskedNext before log → requests log ≡ requests before ++ first ∷ rest → AsksFor first rest before log
-asks_for first rest before log next are = go (request_in next.asking.step.taken.body) refl (asked_in next.asking.step.taken.body next.asks)
+asks_for first rest before log next are = go (request_of next.asking) refl next.asks
   where
-    all : requests log ≡ (requests before ++ option_to_list (request_in next.asking.step.taken.body)) ++ requests next.newer
+    all : requests log ≡ (requests before ++ option_to_list (request_of next.asking)) ++ requests next.newer
     all = ap requests next.is ∙ requests_newer next.newer (next.asking ∷ before)
 
-    go : (o : Option ApiReq) → request_in next.asking.step.taken.body ≡ o → is_some o ≡ true → AsksFor first rest before log
+    go : (o : Option ApiReq) → request_of next.asking ≡ o → is_some o ≡ true → AsksFor first rest before log
     go None e some = cc
     go (Some asked) e some =
         let both : requests before ++ (asked ∷ requests next.newer) ≡ requests before ++ first ∷ rest =
@@ -134,7 +135,7 @@ pub record HasFirst (c : Command) : Type 0 where
   pub rest : List ApiReq
   pub are : requests_of c ≡ first ∷ rest
   pub begins_it : heads_by first ≡ Some first
-  pub name : name_asked first ≡ name_in c
+  pub subject : subject_of first ≡ subject_in c
   pub none : none_heads rest ≡ true
 
 no_first : (rounds n : ℕ) → heads_by (request.Tick (n + 2) rounds) ≡ None
@@ -151,12 +152,22 @@ rounds_go_on rounds (suc n) =
     (ap (λ o. if is_some o then false else true) (no_first rounds n))
 
 pub has_first : (c : Command) → is_served c ≡ true → HasFirst c
-has_first (command.Begin name at) e = record { first = request.Begin name at; rest = []; are = refl; begins_it = refl; name = refl; none = refl }
-has_first (command.Operate name op) e = record { first = request.Operate name op; rest = []; are = refl; begins_it = refl; name = refl; none = refl }
-has_first (command.Commit name) e = record { first = request.Commit name; rest = []; are = refl; begins_it = refl; name = refl; none = refl }
-has_first (command.Abort name) e = record { first = request.Abort name; rest = []; are = refl; begins_it = refl; name = refl; none = refl }
+has_first (command.Begin name at) e = record { first = request.Begin name at; rest = []; are = refl; begins_it = refl; subject = refl; none = refl }
+has_first (command.Operate name op) e = record { first = request.Operate name op; rest = []; are = refl; begins_it = refl; subject = refl; none = refl }
+has_first (command.Commit name) e = record { first = request.Commit name; rest = []; are = refl; begins_it = refl; subject = refl; none = refl }
+has_first (command.Abort name) e = record { first = request.Abort name; rest = []; are = refl; begins_it = refl; subject = refl; none = refl }
+has_first (command.Kill at) e =
+    record { first = request.Kill at; rest = []; are = refl; begins_it = refl; subject = refl; none = refl }
+has_first (command.Cut one other) e =
+    record { first = request.Cut one other; rest = []; are = refl; begins_it = refl; subject = refl; none = refl }
+has_first command.Micro e =
+    record { first = request.Micro; rest = []; are = refl; begins_it = refl; subject = refl; none = refl }
+has_first command.Gcp e =
+    record { first = request.Gcp; rest = []; are = refl; begins_it = refl; subject = refl; none = refl }
+has_first command.View e =
+    record { first = request.View; rest = []; are = refl; begins_it = refl; subject = refl; none = refl }
 has_first (command.Tick rounds) e =
-    record { first = request.Tick 1 rounds; rest = rounds_behind rounds (rounds - 1); are = refl; begins_it = refl; name = refl; none = rounds_go_on rounds (rounds - 1) }
-has_first (command.Rows at) e = record { first = request.Rows at; rest = []; are = refl; begins_it = refl; name = refl; none = refl }
-has_first (command.Digest at) e = record { first = request.Digest at; rest = []; are = refl; begins_it = refl; name = refl; none = refl }
+    record { first = request.Tick 1 rounds; rest = rounds_behind rounds (rounds - 1); are = refl; begins_it = refl; subject = refl; none = rounds_go_on rounds (rounds - 1) }
+has_first (command.Rows at) e = record { first = request.Rows at; rest = []; are = refl; begins_it = refl; subject = refl; none = refl }
+has_first (command.Digest at) e = record { first = request.Digest at; rest = []; are = refl; begins_it = refl; subject = refl; none = refl }
 has_first _ e = absurd (true≢false (sym e))

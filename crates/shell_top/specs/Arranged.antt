@@ -1,40 +1,36 @@
 -- The order in which the replies to a command are printed.
-use Rattle.std.specs.Prelude.{ℕ, ◌==◌, not, nat_lt, Bool, true, false, List, [], ◌∷◌, ◌++◌, take, drop, filter, position, Option, None, Some}
+use Rattle.std.specs.Prelude.{ℕ, ◌+◌, not, nat_lt, Bool, List, [], ◌∷◌, ◌++◌, take, drop, filter, map, position, Option, None, Some}
 use Rattle.script_lang.specs.ReplyText.{name_of}
+use Rattle.shell_top.specs.declared.arranged.TheConstants.{LATE}
+use Rattle.shell_top.specs.declared.subject.Subject.{Subject}
+use Rattle.shell_top.specs.Subject.{is_own}
 use Rattle.sig_core.specs.declared.reply.ApiReply.{ApiReply}
-use Rattle.sig_core.specs.declared.request.ApiReq.{ApiReq}
-use Rattle.sig_core.specs.declared.request.ApiReq.TheVariants as request
+use Rattle.sig_core.specs.declared.reply.ApiReply.TheVariants.{Answered, Ended, Stopped}
 
--- the name of the transaction that a request is about, if it has one
-abbrev pub name_asked : ApiReq → Option ℕ
-name_asked (request.Begin name at) = Some name
-name_asked (request.Operate name op) = name
-name_asked (request.Commit name) = Some name
-name_asked (request.Abort name) = Some name
-name_asked _ = None
-
--- a reply to this transaction's command, and to none of another name
-abbrev pub is_own_by : Option ℕ → Option ℕ → Bool
-is_own_by asked None = true
-is_own_by (Some asked) (Some name) = asked == name
-is_own_by None (Some name) = false
-
-abbrev pub is_own : Option ℕ → ApiReply → Bool
-is_own asked reply = is_own_by asked (name_of reply)
-
-abbrev pub is_others : Option ℕ → ApiReply → Bool
+abbrev pub is_others : Subject → ApiReply → Bool
 is_others asked reply = not (is_own asked reply)
 
--- the number by which the replies to others are ordered
-abbrev pub number_of : Option ℕ → ℕ
-number_of None = 0
-number_of (Some name) = name
+-- a reply to an earlier command: what is about a transaction without a name has the name 0
+abbrev pub late : ApiReply → ApiReply
+late (Answered None answer) = Answered (Some 0) answer
+late (Ended None outcome) = Ended (Some 0) outcome
+late reply = reply
+
+-- By what the replies are ordered that aren't the command's own: first the stops, by node; then the closings of epochs
+-- that no command asked for; and then what is about transactions, by name.
+abbrev pub rank_by : Option ℕ → ℕ
+rank_by None = LATE
+rank_by (Some name) = LATE + 1 + name
+
+abbrev pub rank_of : ApiReply → ℕ
+rank_of (Stopped node cause) = node
+rank_of reply = rank_by (name_of reply)
 
 -- a reply is printed before another
 abbrev pub is_before : ApiReply → ApiReply → Bool
-is_before reply other = nat_lt (number_of (name_of reply)) (number_of (name_of other))
+is_before reply other = nat_lt (rank_of reply) (rank_of other)
 
--- a reply goes in front of the first that is of a greater name, or behind all
+-- a reply goes in front of the first that has a greater rank, or behind all
 abbrev pub insert_at : List ApiReply → ApiReply → Option ℕ → List ApiReply
 insert_at replies reply None = replies ++ reply ∷ []
 insert_at replies reply (Some at) = take at replies ++ reply ∷ drop at replies
@@ -42,11 +38,11 @@ insert_at replies reply (Some at) = take at replies ++ reply ∷ drop at replies
 abbrev pub insert : List ApiReply → ApiReply → List ApiReply
 insert replies reply = insert_at replies reply (position (is_before reply) replies)
 
--- one reply after the other; so those of one name stay in their order
-abbrev pub by_name : List ApiReply → List ApiReply → List ApiReply
-by_name into [] = into
-by_name into (reply ∷ replies) = by_name (insert into reply) replies
+-- one reply after the other; so those of one rank stay in their order
+abbrev pub by_rank : List ApiReply → List ApiReply → List ApiReply
+by_rank into [] = into
+by_rank into (reply ∷ replies) = by_rank (insert into reply) replies
 
--- a command's own replies first, and then those to other transactions, by name
-abbrev pub arranged : Option ℕ → List ApiReply → List ApiReply
-arranged asked replies = filter (is_own asked) replies ++ by_name [] (filter (is_others asked) replies)
+-- a command's own replies first, and then the others, by rank
+abbrev pub arranged : Subject → List ApiReply → List ApiReply
+arranged asked replies = filter (is_own asked) replies ++ by_rank [] (map late (filter (is_others asked) replies))

@@ -1,17 +1,16 @@
 -- What the shell asks for: command after command, and about each that leaves something of its own unanswered.
 use Rattle.std.specs.Prelude.{◌≡◌, ◌⊎◌, ℕ, zero, suc, ◌+◌, ◌-◌, Bool, true, false, List, [], ◌∷◌, ◌++◌, reverse, take}
-use Rattle.std.specs.Prelude.{slice_get, Option, None, Some}
-use Rattle.node_core.specs.Replies.{is_left_open}
-use Rattle.node_core.specs.Requests.{is_request}
+use Rattle.std.specs.Prelude.{slice_get, is_some, Option, None, Some}
+use Rattle.std.specs.List.{list_all}
 use Rattle.run_theory.specs.Lists.{IsPast}
 use Rattle.script_lang.specs.declared.command.Command.{Command}
 use Rattle.script_lang.specs.declared.command.Command.TheVariants as command
 use Rattle.world_core.specs.Steps.{HostStep}
 use Rattle.sig_core.specs.declared.request.ApiReq.{ApiReq}
 use Rattle.sig_core.specs.declared.request.ApiReq.TheVariants as request
-use Rattle.world_core.specs.Machine.{after}
-use Rattle.world_core.specs.Requests.{requests}
 use Rattle.world_core.specs.Start.{Start}
+use Rattle.world_views.specs.Requests.{request_of, requests}
+use Rattle.world_views.specs.Shell.{leaves_open}
 
 -- n rounds more behind the first one, of so many
 abbrev pub rounds_behind : ℕ → ℕ → List ApiReq
@@ -24,6 +23,11 @@ requests_of (command.Begin name at) = request.Begin name at ∷ []
 requests_of (command.Operate name op) = request.Operate name op ∷ []
 requests_of (command.Commit name) = request.Commit name ∷ []
 requests_of (command.Abort name) = request.Abort name ∷ []
+requests_of (command.Kill at) = request.Kill at ∷ []
+requests_of (command.Cut one other) = request.Cut one other ∷ []
+requests_of command.Micro = request.Micro ∷ []
+requests_of command.Gcp = request.Gcp ∷ []
+requests_of command.View = request.View ∷ []
 requests_of (command.Tick rounds) = request.Tick 1 rounds ∷ rounds_behind rounds (rounds - 1)
 requests_of (command.Rows at) = request.Rows at ∷ []
 requests_of (command.Digest at) = request.Digest at ∷ []
@@ -35,10 +39,26 @@ is_served (command.Begin name at) = true
 is_served (command.Operate name op) = true
 is_served (command.Commit name) = true
 is_served (command.Abort name) = true
+is_served (command.Kill at) = true
+is_served (command.Cut one other) = true
 is_served (command.Tick rounds) = true
+is_served command.Micro = true
+is_served command.Gcp = true
+is_served command.View = true
 is_served (command.Rows at) = true
 is_served (command.Digest at) = true
 is_served _ = false
+
+-- the command stops nobody, cuts nobody off and closes no epoch
+abbrev pub is_calm_command : Command → Bool
+is_calm_command (command.Kill at) = false
+is_calm_command (command.Cut one other) = false
+is_calm_command command.Micro = false
+is_calm_command command.Gcp = false
+is_calm_command _ = true
+
+abbrev pub are_calm : List Command → Bool
+are_calm commands = list_all is_calm_command commands
 
 -- what is asked about a command that left something of its own unanswered
 abbrev pub questions : List ApiReq
@@ -49,7 +69,7 @@ pub record IsAskedNext (served log : List HostStep) : Type 0 where
   pub newer : List HostStep
   pub asking : HostStep
   pub is : log ≡ newer ++ asking ∷ served
-  pub asks : is_request asking.step.taken.body ≡ true
+  pub asks : is_some (request_of asking) ≡ true
 
 -- The log went on from `served`, where a command's own requests were served, to its end: at once where nothing of its own
 -- was unanswered, and else the shell asked what it waits for, and then for its replies.
@@ -62,7 +82,7 @@ pub record AsksCommand (start : Start) (command : Command) (before log : List Ho
   pub served : List HostStep
   pub next : IsAskedNext before served
   pub own : requests served ≡ requests before ++ requests_of command
-  pub on : AsksOn served log (is_left_open (after start 0 served))
+  pub on : AsksOn served log (leaves_open start served)
 
 -- the commands before were asked for, and then this one
 pub record AsksAfter (start : Start) (command : Command) (log : List HostStep) (AreAskedBefore : List HostStep → Type 0) : Type 0 where
@@ -86,7 +106,7 @@ pub record AsksOnInPart (start : Start) (command : Command) (before log : List H
   pub served : List HostStep
   pub past : IsPast served log
   pub own : requests served ≡ requests before ++ requests_of command
-  pub left_open : is_left_open (after start 0 served) ≡ true
+  pub left_open : leaves_open start served ≡ true
   pub on : AsksFirstOf questions served log
 
 -- a first part of what is asked for a command, if there is one, was asked for
@@ -107,11 +127,3 @@ pub record AreAskedInPart (start : Start) (commands : List Command) (log : List 
   pub asked : AreAsked start (reverse (take count commands)) before
   pub past : IsPast before log
   pub begun : AsksInPart start (slice_get commands count) before log
-
--- the name of the transaction that a command is about, if it has one
-abbrev pub name_in : Command → Option ℕ
-name_in (command.Begin name at) = Some name
-name_in (command.Operate name op) = name
-name_in (command.Commit name) = Some name
-name_in (command.Abort name) = Some name
-name_in _ = None

@@ -1,5 +1,6 @@
 pub mod Arranged
 pub mod Asked
+pub mod Calm
 pub mod Lived
 pub mod Opened
 pub mod Parsed
@@ -8,6 +9,8 @@ pub mod Reader
 pub mod Script
 pub mod Served
 pub mod Session
+pub mod Stopped
+pub mod Subject
 pub mod Text
 pub mod Told
 pub mod Words

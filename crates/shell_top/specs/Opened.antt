@@ -6,9 +6,9 @@ use Rattle.sig_core.specs.declared.log.Life.{Life}
 use Rattle.shell_top.specs.declared.session.Session.{Session}
 use Rattle.shell_top.specs.Session.{IsOpen}
 use Rattle.frag_map.specs.Shape.{IsShape}
-use Rattle.world_core.specs.Start.{fresh}
-use Rattle.world_core.specs.World.{new_world}
-use Rattle.world_core.specs.WorldOf.{whole_of}
+use Rattle.world_views.specs.Lives.{fresh}
+use Rattle.world_views.specs.World.{new_world}
+use Rattle.world_views.specs.WorldOf.{whole_of}
 
 -- it is before its first line, its world is a fresh one of its shape, and there is room for its life
 pub record HasOpened (session : Session) (lives : Vec Life) : Type 0 where

@@ -18,15 +18,21 @@ is_operation word =
     bytes_eq word (codes "get") || bytes_eq word (codes "getx") || bytes_eq word (codes "put")
     || bytes_eq word (codes "ins") || bytes_eq word (codes "upd") || bytes_eq word (codes "del")
 
--- the other commands that the session serves by now
+-- the other commands that the session serves by now: those on transactions, rows and the session
 abbrev pub is_order : List ℕ → Bool
 is_order word =
     bytes_eq word (codes "begin") || bytes_eq word (codes "commit") || bytes_eq word (codes "abort") || bytes_eq word (codes "tick")
     || bytes_eq word (codes "rows") || bytes_eq word (codes "digest") || bytes_eq word (codes "quit")
 
+-- and those on nodes and epochs
+abbrev pub is_operator : List ℕ → Bool
+is_operator word =
+    bytes_eq word (codes "kill") || bytes_eq word (codes "cut") || bytes_eq word (codes "micro")
+    || bytes_eq word (codes "gcp") || bytes_eq word (codes "view")
+
 -- the words that may begin a line by now
 abbrev pub is_available : List ℕ → Bool
-is_available word = is_sign word || is_operation word || is_order word
+is_available word = is_sign word || is_operation word || is_order word || is_operator word
 
 abbrev pub may_stand : Option (List ℕ) → Bool
 may_stand None = true
@@ -39,7 +45,12 @@ asked (command.Begin name at) = Ask (command.Begin name at)
 asked (command.Operate name op) = Ask (command.Operate name op)
 asked (command.Commit name) = Ask (command.Commit name)
 asked (command.Abort name) = Ask (command.Abort name)
+asked (command.Kill at) = Ask (command.Kill at)
+asked (command.Cut one other) = Ask (command.Cut one other)
 asked (command.Tick rounds) = Ask (command.Tick rounds)
+asked command.Micro = Ask command.Micro
+asked command.Gcp = Ask command.Gcp
+asked command.View = Ask command.View
 asked (command.Rows at) = Ask (command.Rows at)
 asked (command.Digest at) = Ask (command.Digest at)
 asked _ = Fault UnknownCommand

@@ -1,34 +1,49 @@
 -- What a world has done for the commands that it was asked for.
 use Rattle.std.specs.Prelude.{◌≡◌, ◌⊎◌, ℕ, Bool, true, false, List, [], ◌∷◌, ◌++◌, reverse, take, Option, Some}
 use Rattle.std.specs.Prelude.{MatchOption}
+use Rattle.std.specs.List.{list_all}
 use Rattle.std.specs.Io.KnownBytes.{Appends}
 use Rattle.run_theory.specs.Lists.{IsPast}
 use Rattle.run_theory.specs.Runs.{AreLogs, IsWithin}
+use Rattle.calm_laws.specs.Calm.{AreCalm, is_calm_request}
+use Rattle.calm_laws.specs.Laws.{IsCalmLife}
+use Rattle.calm_laws.specs.Resting.{AreResting, NoneGivesUp}
 use Rattle.script_lang.specs.declared.command.Command.{Command}
 use Rattle.sig_core.specs.declared.log.HostLog.{HostLog}
 use Rattle.world_core.specs.Steps.{HostStep}
 use Rattle.sig_core.specs.declared.reply.ApiReply.{ApiReply}
 use Rattle.sig_core.specs.declared.request.ApiReq.{ApiReq}
-use Rattle.shell_top.specs.Asked.{AreAsked, AsksInPart, IsAskedNext, questions, requests_of}
+use Rattle.shell_top.specs.Asked.{AreAsked, are_calm, AsksInPart, IsAskedNext, questions, requests_of}
 use Rattle.shell_top.specs.declared.ended.Ending.{Ending}
 use Rattle.shell_top.specs.declared.ended.Ending.TheVariants.{WriteFault, NoMemory}
 use Rattle.shell_top.specs.Printed.{AppendsPart}
 use Rattle.shell_top.specs.Told.{text_of}
-use Rattle.world_core.specs.Driven.{IsSound}
 use Rattle.world_core.specs.Hosts.{hosts}
 use Rattle.world_core.specs.Labels.{AreLabelled}
-use Rattle.world_core.specs.Machine.{machine}
-use Rattle.world_core.specs.Requests.{AreAskedAtQuiet, requests}
-use Rattle.world_core.specs.Right.{IsRight}
 use Rattle.world_core.specs.Start.{Start}
-use Rattle.world_core.specs.World.{IsIdle, Whole, logs_at, replies_of}
+use Rattle.world_core.specs.World.{logs_at}
+use Rattle.world_views.specs.Driven.{IsSound}
+use Rattle.world_views.specs.Machine.{machine}
+use Rattle.world_views.specs.Requests.{AreAskedAtQuiet, requests}
+use Rattle.world_views.specs.Right.{IsRight}
+use Rattle.world_views.specs.Unscheduled.{AreUnscheduled}
+use Rattle.world_views.specs.World.{IsIdle, Whole}
+
+-- these requests stop nobody, cut nobody off and close no epoch
+abbrev pub are_calm_requests : List ApiReq → Bool
+are_calm_requests requests = list_all is_calm_request requests
+
+-- Calm logs of a life that begins without rows, whose memberships are at rest.
+pub record AreAtRest (start : Start) (logs : ℕ → List HostStep) : Type 0 where
+  pub life : IsCalmLife start logs
+  pub resting : AreResting start logs
 
 -- the first of these requests is the next step of host 0
 abbrev pub AsksFirst : List ApiReq → List HostStep → List HostStep → Type 0
 AsksFirst [] before log = log ≡ before
 AsksFirst (first ∷ asked) before log = IsAskedNext before log
 
--- The world was asked for these requests, each at quiet, and is quiet.
+-- The world was asked for these requests, each at quiet, and is quiet. Calm stays, and so does rest.
 pub record HasServed (start : Start) (asked : List ApiReq) (w t : Whole) : Type 0 where
   pub right : (given : List ApiReply) → IsRight start given w → IsRight start given t
   pub more : (h : ℕ) → IsPast (logs_at w.logs h) (logs_at t.logs h)
@@ -36,9 +51,13 @@ pub record HasServed (start : Start) (asked : List ApiReq) (w t : Whole) : Type 
   pub next : AsksFirst asked (logs_at w.logs 0) (logs_at t.logs 0)
   pub at_quiet : IsIdle w → AreAskedAtQuiet start (logs_at w.logs) → AreAskedAtQuiet start (logs_at t.logs)
   pub quiet : IsIdle w → IsIdle t
+  pub unscheduled : AreUnscheduled (logs_at w.logs) → AreUnscheduled (logs_at t.logs)
+  pub rests : IsSound start w → IsIdle w → AreAtRest start (logs_at w.logs) → are_calm_requests asked ≡ true
+      → NoneGivesUp (logs_at t.logs)
+      → AreAtRest start (logs_at t.logs)
 
 -- Memory was wanting while the world was asked for these requests: of the logs, a first part of them was asked for, each
--- at quiet; where none was, the shell's host made no step.
+-- at quiet; where none was, the shell's host made no step. Calm stays.
 pub record AreLeftOff (start : Start) (asked : List ApiReq) (w : Whole) (logs : List HostLog) : Type 0 where
   pub labelled : AreLabelled start logs
   pub right : AreLogs (machine start) (logs_at logs)
@@ -48,20 +67,27 @@ pub record AreLeftOff (start : Start) (asked : List ApiReq) (w : Whole) (logs : 
   pub requests : requests (logs_at logs 0) ≡ requests (logs_at w.logs 0) ++ take part asked
   pub at_quiet : IsIdle w → AreAskedAtQuiet start (logs_at w.logs) → AreAskedAtQuiet start (logs_at logs)
   pub begun : (logs_at logs 0 ≡ logs_at w.logs 0) ⊎ IsAskedNext (logs_at w.logs 0) (logs_at logs 0)
+  pub unscheduled : AreUnscheduled (logs_at w.logs) → AreUnscheduled (logs_at logs)
+  pub calm : IsSound start w → IsIdle w → AreAtRest start (logs_at w.logs) → are_calm_requests asked ≡ true
+      → NoneGivesUp (logs_at logs)
+      → AreCalm (logs_at logs)
 
 -- What was asked about the last command: nothing where it left nothing of its own unanswered, and else the questions.
 abbrev pub HasGoneOn : Start → Whole → Whole → Bool → Type 0
 HasGoneOn start w t false = t ≡ w
 HasGoneOn start w t true = HasServed start questions w t
 
--- The world is quiet. The shell asked for these commands, each at quiet, and has had all replies.
+-- The world is quiet. The shell asked for these commands, each at quiet, and has had all replies. Where they are calm and no
+-- host gave up, so are the logs.
 pub record IsServed (start : Start) (commands : List Command) (w : Whole) : Type 0 where
   pub given : List ApiReply
   pub right : IsRight start given w
   pub quiet : IsIdle w
   pub asked : AreAsked start (reverse commands) (logs_at w.logs 0)
   pub at_quiet : AreAskedAtQuiet start (logs_at w.logs)
-  pub none_left : replies_of w ≡ []
+  pub none_left : w.replies ≡ []
+  pub unscheduled : AreUnscheduled (logs_at w.logs)
+  pub rests : are_calm commands ≡ true → NoneGivesUp (logs_at w.logs) → AreAtRest start (logs_at w.logs)
 
 -- Memory was wanting while a command was served, after these commands: what the logs are then. The questions were asked
 -- only where it left something of its own unanswered. The text of the logs goes on from the text before.

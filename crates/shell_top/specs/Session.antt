@@ -12,12 +12,13 @@ use Rattle.shell_top.specs.Lived.{AreLived, AreLives, may_be_unborn, session_tex
 use Rattle.shell_top.specs.Printed.{Prints, is_cut_short}
 use Rattle.shell_top.specs.Script.{Script, script_from}
 use Rattle.shell_top.specs.Served.{IsServed}
-use Rattle.shell_top.specs.Text.{fault_line, status_of}
+use Rattle.shell_top.specs.Text.{fault_line, status_after}
 use Rattle.shell_top.specs.Told.{text_of}
-use Rattle.world_core.specs.Driven.{IsSound}
-use Rattle.world_core.specs.Start.{fresh}
-use Rattle.world_core.specs.World.{Whole, logs_at}
-use Rattle.world_core.specs.WorldOf.{whole_of}
+use Rattle.world_core.specs.World.{logs_at}
+use Rattle.world_views.specs.Driven.{IsSound}
+use Rattle.world_views.specs.Lives.{fresh}
+use Rattle.world_views.specs.World.{Whole}
+use Rattle.world_views.specs.WorldOf.{whole_of}
 
 -- the script ends the session as finished: at `quit`, or at its end
 abbrev pub is_finished : Bool → Option Ending → Bool
@@ -62,12 +63,12 @@ pub record IsSession (asked : Option Shape) (left left_now written written_now :
   pub words_refused : meant ≡ Words → asked ≡ None
   pub bounded : length input ≤ 513 * 65536 + 1024
 
--- a session, and the status that tells how it ended
+-- a session, and the status that tells how it ended, and whether a host wanted memory
 pub record HasSession (asked : Option Shape) (left left_now written written_now : Option (List ℕ))
     (ReadFailed WriteFailed : Type 0) (status : ℕ) (lives : List Life) : Type 0 where
   pub ending : Ending
   pub session : IsSession asked left left_now written written_now ReadFailed WriteFailed ending lives
-  pub told : status ≡ status_of ending
+  pub told : status ≡ status_after ending lives
 
 -- commands in front of a script
 abbrev pub after : List Command → Script → Script

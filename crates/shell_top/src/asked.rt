@@ -3,16 +3,16 @@ ghost use Rattle.std.specs.Prelude.{◌≡◌, ◌-◌, ◌∷◌, [], true, OnO
 ghost use Rattle.script_lang.specs.declared.command.Command.{Command};
 ghost use Rattle.shell_top.specs.Asked.{is_served, questions, requests_of, rounds_behind};
 ghost use Rattle.shell_top.specs.Served.{AreLeftOff, HasGoneOn, HasServed};
-ghost use Rattle.world_core.specs.Driven.{IsSound};
+ghost use Rattle.world_views.specs.Driven.{IsSound};
 ghost use Rattle.world_core.specs.Start.{Start};
-ghost use Rattle.world_core.specs.World.{is_left_open};
-ghost use Rattle.world_core.specs.WorldOf.{whole_of};
+ghost use Rattle.world_views.specs.World.{is_left_open};
+ghost use Rattle.world_views.specs.WorldOf.{whole_of};
 
 use script_lang::Command;
 use sig_core::{ApiReq, HeldOp, NoMemory};
 use std::alloc::Global;
 use std::sync::Wait;
-use world_core::World;
+use world_views::World;
 
 /// Asks the world for something, and drives it to quiet.
 ///
@@ -99,6 +99,17 @@ pub fn ask_own<R: Wait>(
         Command::Commit { name } => ask(rt, alloc, world, ApiReq::Commit { name: *name }),
         Command::Abort { name } => ask(rt, alloc, world, ApiReq::Abort { name: *name }),
         Command::Tick { rounds } => tick(rt, alloc, world, *rounds),
+        Command::Kill { node } => ask(rt, alloc, world, ApiReq::Kill { node: *node }),
+        Command::Cut { one, other } => {
+            let request = ApiReq::Cut {
+                one: *one,
+                other: *other,
+            };
+            ask(rt, alloc, world, request)
+        }
+        Command::Micro => ask(rt, alloc, world, ApiReq::Micro),
+        Command::Gcp => ask(rt, alloc, world, ApiReq::Gcp),
+        Command::View => ask(rt, alloc, world, ApiReq::View),
         Command::Rows { node } => ask(rt, alloc, world, ApiReq::Rows { node: *node }),
         Command::Digest { node } => ask(rt, alloc, world, ApiReq::Digest { node: *node }),
         _ => Ok(()),

@@ -36,7 +36,7 @@ pub fn is_cut_short(ending: &Ending) -> bool
 pub struct Ended {
     /// The exit status: 0 where the source was read to its end or to `quit`; 1 where the words were
     /// refused; 2 at a line outside the grammar; 3 where the source failed, 4 where the sink did; 5
-    /// for want of memory; 9 at a line that is too long.
+    /// for want of memory, also of a host where the status would be 0; 9 at a line that is too long.
     pub status: u8,
     /// What the hosts did, life by life: none where the words were refused, or where memory was
     /// wanting before anything was read.

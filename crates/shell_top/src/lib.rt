@@ -9,6 +9,8 @@ mod run;
 mod script;
 mod served;
 mod session;
+mod stopped;
+mod subject;
 mod taken;
 mod text;
 mod words;

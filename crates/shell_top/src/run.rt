@@ -11,7 +11,7 @@ ghost use Rattle.shell_top.specs.Words.{asked_shape};
 
 use crate::ended::{Ended, Ending, is_cut_short};
 use crate::session::Session;
-use crate::text::{fault_line, status_of};
+use crate::text::{fault_line, status_after};
 use crate::words::shape_asked;
 use crate::writer::write_all;
 use host_io::{Disk, Gate, Sink, Source};
@@ -39,7 +39,7 @@ pub fn run_shell<R: Threads + Wait + Sync, S: Source, K: Sink, G: Gate + Sync>(
 {
     let outcome = run_session(rt, alloc, words, source, sink);
     Ended {
-        status: status_of(&outcome.ending),
+        status: status_after(&outcome.ending, outcome.lives.as_slice()),
         lives: outcome.lives,
         disks,
     }

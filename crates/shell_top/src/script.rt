@@ -1,7 +1,7 @@
 //! What a line asks of the session.
 ghost use Rattle.std.specs.Prelude.{◌≡◌};
 ghost use Rattle.script_lang.specs.Line.{first_word};
-ghost use Rattle.shell_top.specs.Parsed.{asked, available, is_available, is_operation, is_order, is_sign, may_stand, parsed};
+ghost use Rattle.shell_top.specs.Parsed.{asked, available, is_available, is_operation, is_operator, is_order, is_sign, may_stand, parsed};
 
 use script_lang::{Command, LineFault, first_word, parse_line};
 
@@ -39,11 +39,11 @@ fn may_stand(line: &[u8]) -> bool
 }
 
 /// Whether a word begins a comment or names a transaction, or is a command that the session serves
-/// by now. This and the two below are the one list of these.
+/// by now. This and the four below are the one list of these.
 fn is_available(word: &[u8]) -> bool
     ensures { result ≡ is_available word.now }
 {
-    is_sign(word) || is_operation(word) || is_order(word)
+    is_sign(word) || is_operation(word) || is_order(word) || is_operator(word)
 }
 
 fn is_sign(word: &[u8]) -> bool
@@ -75,6 +75,16 @@ fn is_order(word: &[u8]) -> bool
         || word == b"quit".as_slice()
 }
 
+fn is_operator(word: &[u8]) -> bool
+    ensures { result ≡ is_operator word.now }
+{
+    word == b"kill".as_slice()
+        || word == b"cut".as_slice()
+        || word == b"micro".as_slice()
+        || word == b"gcp".as_slice()
+        || word == b"view".as_slice()
+}
+
 fn parse_available(nodes: u8, line: &[u8]) -> Parsed
     ensures { result ≡ available nodes line.now }
 {
@@ -95,7 +105,12 @@ fn asked(command: &Command) -> Parsed
         | Command::Operate { .. }
         | Command::Commit { .. }
         | Command::Abort { .. }
+        | Command::Kill { .. }
+        | Command::Cut { .. }
         | Command::Tick { .. }
+        | Command::Micro
+        | Command::Gcp
+        | Command::View
         | Command::Rows { .. }
         | Command::Digest { .. } => Parsed::Ask(*command),
         _ => Parsed::Fault(LineFault::UnknownCommand),

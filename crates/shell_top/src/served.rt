@@ -2,18 +2,19 @@
 ghost use Rattle.std.specs.Prelude.{◌≡◌, ◌≤◌, [], true, Some, IfOk, IfNone, OnOk, OnErr};
 ghost use Rattle.host_io.specs.Fault.{Rose};
 ghost use Rattle.shell_top.specs.Arranged.{arranged};
-ghost use Rattle.shell_top.specs.Asked.{is_served, name_in};
+ghost use Rattle.shell_top.specs.Asked.{is_served};
 ghost use Rattle.shell_top.specs.declared.ended.Ending.TheVariants as ending;
 ghost use Rattle.shell_top.specs.Served.{AreLeft, PrintsCommand, ServesCommand};
-ghost use Rattle.shell_top.specs.Text.{reply_lines};
-ghost use Rattle.world_core.specs.Driven.{IsSound};
+ghost use Rattle.shell_top.specs.Subject.{subject_in};
+ghost use Rattle.shell_top.specs.Text.{down_line, reply_lines};
 ghost use Rattle.world_core.specs.Start.{Start};
-ghost use Rattle.world_core.specs.World.{replies_of, with_replies};
-ghost use Rattle.world_core.specs.WorldOf.{whole_of};
+ghost use Rattle.world_views.specs.Driven.{IsSound};
+ghost use Rattle.world_views.specs.WorldOf.{whole_of};
 
 use crate::arranged::arranged;
 use crate::asked::{ask_about, ask_own};
 use crate::ended::Ending;
+use crate::subject::subject_of;
 use crate::taken::take_replies;
 use crate::writer::write_all;
 use host_io::Sink;
@@ -21,7 +22,7 @@ use script_lang::{Command, print_reply};
 use sig_core::{ApiReply, NoMemory};
 use std::alloc::Global;
 use std::sync::Wait;
-use world_core::World;
+use world_views::World;
 
 /// The lines of replies.
 fn lines(alloc: Global, replies: &[ApiReply]) -> Result<Vec<u8>, NoMemory>
@@ -34,18 +35,6 @@ fn lines(alloc: Global, replies: &[ApiReply]) -> Result<Vec<u8>, NoMemory>
     Ok(text)
 }
 
-/// The name of the transaction that a command is about, if it has one.
-fn name_of(command: &Command) -> Option<u16>
-    ensures { result ≡ name_in command.now }
-{
-    match command {
-        Command::Begin { name, node: _ } | Command::Commit { name } | Command::Abort { name } =>
-            Some(*name),
-        Command::Operate { name, op: _ } => *name,
-        _ => None,
-    }
-}
-
 /// The lines of all replies of the world to a command.
 ///
 /// # Errors
@@ -53,12 +42,12 @@ fn name_of(command: &Command) -> Option<u16>
 fn answers(alloc: Global, world: &mut World, command: &Command) -> Result<Vec<u8>, NoMemory>
     ghost start: { Start }
     requires { IsSound start (whole_of world.old) }
-    ensures told { OnOk result (whole_of world.new ≡ with_replies (whole_of world.old) []) }
-    ensures text { IfOk result (λ text. text.items ≡ reply_lines (arranged (name_in command.now) (replies_of (whole_of world.old)))) }
+    ensures told { OnOk result (whole_of world.new ≡ record (whole_of world.old) { replies = [] }) }
+    ensures text { IfOk result (λ text. text.items ≡ reply_lines (arranged (subject_in command.now) (whole_of world.old).replies)) }
     ensures err { OnErr result ((whole_of world.new).logs ≡ (whole_of world.old).logs) }
 {
     let replies = take_replies(alloc, world)?;
-    let replies = arranged(alloc, name_of(command), &replies)?;
+    let replies = arranged(alloc, subject_of(command), &replies)?;
     lines(alloc, &replies)
 }
 
@@ -78,9 +67,19 @@ fn serve<R: Wait>(
     ensures ok { IfOk result (λ text. ServesCommand start command.now (whole_of world.old) (whole_of world.new) text.items) }
     ensures err { OnErr result (AreLeft start command.now (whole_of world.old) (whole_of world.new).logs) }
 {
+    let was_down = world.is_down();
     ask_own(rt, alloc, world, command)?;
     ask_about(rt, alloc, world)?;
-    answers(alloc, world, command)
+    let mut text = answers(alloc, world, command)?;
+    text.extend_from_slice(down_line(was_down, world.is_down()))?;
+    Ok(text)
+}
+
+/// The line that tells that the cluster is down now, where it wasn't before; or nothing.
+fn down_line(before: bool, now: bool) -> &'static [u8]
+    ensures { result.now ≡ down_line before now }
+{
+    if now && !before { b"down\n" } else { b"" }
 }
 
 /// Has the world serve a command, and prints the replies to it. Says why the session ends, if it

@@ -7,9 +7,10 @@ ghost use Rattle.shell_top.specs.Reader.{IsPartial, is_newline};
 ghost use Rattle.shell_top.specs.Session.{GoesOn, GoesToEnd, IsOpen};
 ghost use Rattle.frag_map.specs.Shape.{IsShape};
 ghost use Rattle.world_core.specs.Lives.{fresh_life};
-ghost use Rattle.world_core.specs.Start.{Start, fresh};
-ghost use Rattle.world_core.specs.World.{new_world};
-ghost use Rattle.world_core.specs.WorldOf.{whole_of};
+ghost use Rattle.world_core.specs.Start.{Start};
+ghost use Rattle.world_views.specs.Lives.{fresh};
+ghost use Rattle.world_views.specs.World.{new_world};
+ghost use Rattle.world_views.specs.WorldOf.{whole_of};
 
 use crate::ended::Ending;
 use crate::reader::{Filled, LINE_BYTES, Reader};
@@ -19,10 +20,10 @@ use host_io::{Sink, Source};
 use sig_core::{Life, NoMemory, Shape};
 use std::alloc::Global;
 use std::sync::Wait;
-use world_core::World;
+use world_views::World;
 
-/// The epoch in which a fresh cluster begins.
-const FIRST_EPOCH: u64 = 1;
+/// The epoch in which a fresh cluster begins: the first of the first checkpoint number.
+const FIRST_EPOCH: u64 = 4_294_967_296;
 
 /// The most lines that a script has.
 const LINES: u32 = 65_536;

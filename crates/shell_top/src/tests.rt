@@ -1,4 +1,5 @@
 mod commands;
+mod failing;
 mod many;
 mod words;
 
@@ -156,7 +157,7 @@ fn empty_input_prints_nothing(rt: HostRuntime) -> Result<(), Fail> {
 
 #[test]
 fn last_line_without_newline(rt: HostRuntime) -> Result<(), Fail> {
-    expect(&rt, rt.alloc(), b"put a 1", b"ok\ncommitted 1\n", 0)
+    expect(&rt, rt.alloc(), b"put a 1", b"ok\ncommitted 1/0\n", 0)
 }
 
 #[test]
@@ -166,7 +167,7 @@ fn empty_lines_comments_and_spaces(rt: HostRuntime) -> Result<(), Fail> {
         &rt,
         rt.alloc(),
         script,
-        b"ok\ncommitted 1\nok\ncommitted 1\n",
+        b"ok\ncommitted 1/0\nok\ncommitted 1/0\n",
         0,
     )
 }
@@ -192,7 +193,7 @@ fn lines_come_in_any_pieces(rt: HostRuntime) -> Result<(), Fail> {
         );
         assert_eq!(rt;
             sink.written(),
-            b"ok\ncommitted 1\nok\ncommitted 1\nok\ncommitted 1\nline 6 refused 2\n".as_slice()
+            b"ok\ncommitted 1/0\nok\ncommitted 1/0\nok\ncommitted 1/0\nline 6 refused 2\n".as_slice()
         );
         assert_eq!(rt; ended.status, 2);
     }
@@ -207,14 +208,14 @@ fn refused_lines_have_number_and_code(rt: HostRuntime) -> Result<(), Fail> {
         &rt,
         alloc,
         b"put a 1\nfetch a\nput b 2\n",
-        b"ok\ncommitted 1\nline 2 refused 1\n",
+        b"ok\ncommitted 1/0\nline 2 refused 1\n",
         2,
     )?;
     expect(
         &rt,
         alloc,
         b"put a 1\nput\n",
-        b"ok\ncommitted 1\nline 2 refused 2\n",
+        b"ok\ncommitted 1/0\nline 2 refused 2\n",
         2,
     )?;
     expect(&rt, alloc, b"put a 1 2\nput b 1", b"line 1 refused 2\n", 2)?;
@@ -225,7 +226,7 @@ fn refused_lines_have_number_and_code(rt: HostRuntime) -> Result<(), Fail> {
 fn longest_key_and_value(rt: HostRuntime) -> Result<(), Fail> {
     let alloc = rt.alloc();
     for (key, value, printed, status) in [
-        (32, 200, b"ok\ncommitted 1\n".as_slice(), 0),
+        (32, 200, b"ok\ncommitted 1/0\n".as_slice(), 0),
         (33, 200, b"line 1 refused 3\n".as_slice(), 2),
         (32, 201, b"line 1 refused 3\n".as_slice(), 2),
     ] {
@@ -262,7 +263,10 @@ fn a_read_that_fails(rt: HostRuntime) -> Result<(), Fail> {
     let mut source = MemSource::new(b"put a 1\nput b".to_vec(alloc)?, vec![in alloc; 1]?)?;
     let mut sink = MemSink::new(alloc, Vec::new(alloc))?;
     let ended = session(&rt, alloc, &mut source, &mut sink);
-    assert_eq!(rt; sink.written(), b"ok\ncommitted 1\nread fault\n".as_slice());
+    assert_eq!(rt;
+        sink.written(),
+        b"ok\ncommitted 1/0\nread fault\n".as_slice()
+    );
     assert_eq!(rt; ended.status, 3);
     assert_eq!(rt; source.faults(), 1);
     Ok(())
@@ -277,7 +281,7 @@ fn a_write_that_fails(rt: HostRuntime) -> Result<(), Fail> {
     )?;
     let mut sink = MemSink::new(alloc, vec![in alloc; 1]?)?;
     let ended = session(&rt, alloc, &mut source, &mut sink);
-    assert_eq!(rt; sink.written(), b"ok\ncommitted 1\n".as_slice());
+    assert_eq!(rt; sink.written(), b"ok\ncommitted 1/0\n".as_slice());
     assert_eq!(rt; ended.status, 4);
     assert_eq!(rt; sink.faults(), 1);
     Ok(())

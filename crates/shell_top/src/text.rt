@@ -1,11 +1,12 @@
 //! The text of faults.
 ghost use Rattle.std.specs.Prelude.{◌≡◌, IfOk, string_bytes};
 ghost use Rattle.shell_top.specs.declared.ended.Ending.TheVariants.{Refused, TooLong};
-ghost use Rattle.shell_top.specs.Text.{fault_line, status_of};
+ghost use Rattle.shell_top.specs.Text.{fault_line, status_after, status_of};
 
 use crate::ended::Ending;
+use crate::stopped::have_wanted;
 use script_lang::LineFault;
-use sig_core::NoMemory;
+use sig_core::{Life, NoMemory};
 use std::alloc::Global;
 
 /// The line that is printed last where a session ends so, or nothing.
@@ -37,8 +38,19 @@ fn too_long_line(alloc: Global, line: u32) -> Result<String, NoMemory>
     Ok(format!(in alloc; "line {line} too long\n")?)
 }
 
-/// The exit status of a session that ends so.
-pub fn status_of(ending: &Ending) -> u8
+/// The exit status of a session that ends so, with these lives. One that is finished tells of want
+/// of memory where a host stopped for that.
+pub fn status_after(ending: &Ending, lives: &[Life]) -> u8
+    ensures { result ≡ status_after ending.now lives.now }
+{
+    match ending {
+        Ending::Finished if have_wanted(lives) => status_of(&Ending::NoMemory),
+        _ => status_of(ending),
+    }
+}
+
+/// The exit status of an ending.
+fn status_of(ending: &Ending) -> u8
     ensures { result ≡ status_of ending.now }
 {
     match ending {

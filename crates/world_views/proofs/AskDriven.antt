@@ -18,6 +18,7 @@ use Rattle.world_views.proofs.OwnReady.{ask_ready}
 use Rattle.world_views.proofs.QuietLemmas.{quiet_logs}
 use Rattle.world_views.proofs.Ready.{IsReady, host_step}
 use Rattle.world_views.proofs.StepDriven.{log_grows, quiet_before, right_logs, within}
+use Rattle.world_views.proofs.UnscheduledLemmas.{entered_unscheduled}
 
 module _ (start : Start) (given : List ApiReply) (w : Whole) (right : IsRight start given w) (request : ApiReq)
     (runs : has_stopped (logs_at w.logs 0) ≡ false) where
@@ -67,4 +68,5 @@ module _ (start : Start) (given : List ApiReply) (w : Whole) (right : IsRight st
         within = within start given (asked w request) now;
         requests = ap requests log_is;
         asked = at_quiet;
+        unscheduled = entered_unscheduled start given w 0 wish step (ready given right) (λ asks. refl);
       }

@@ -103,10 +103,10 @@ module _ (start : Start) (given : List ApiReply) (w : Whole) (right : IsRight st
     (runs : has_stopped (logs_at w.logs h) ≡ false) (some : 1 ≤ h) (cause : StopCause) (own : IsOwnCause cause) where
   -- no host but its own is what it wasn't
   module _ (left : Host) (cut : left.standing.cut ≡ (body_at w.bodies h).standing.cut) where
-    abbrev bodies : List Host
+    abbrev pub bodies : List Host
     bodies = slice_set w.bodies h left
 
-    abbrev wish : Addressed
+    abbrev pub wish : Addressed
     wish = asking w h (body.Host (Closed cause))
 
     -- a part of a node is no shell
@@ -118,7 +118,7 @@ module _ (start : Start) (given : List ApiReply) (w : Whole) (right : IsRight st
         get_or-set_same w.bodies h left (fresh_shell (first_layout (record { nodes = 0; replicas = 0; fragments = 0 })))
         (omega (arith, there, right.sizes.bodies))
 
-    fail_ready : (others : List ApiReply) → IsRight start others w
+    pub fail_ready : (others : List ApiReply) → IsRight start others w
         → IsReady start others (with_body w h left) wish (stopping (body_at bodies h) cause)
     fail_ready others was =
         halt_ready start others w was h there runs bodies cause some own (length-set w.bodies h left ∙ was.sizes.bodies)

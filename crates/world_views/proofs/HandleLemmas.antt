@@ -1,14 +1,14 @@
 -- What becomes of a signal in the hand of a host.
 use Rattle.std.proofs.Common.{◌≡◌, inl, inr, ℕ, zero, suc, ◌<◌, ◌≤◌, List, ◌++◌, length, Bool, true, false, refl, ap, sym, ◌∙◌, subst}
 use Rattle.std.specs.Prelude.{Err, get_or, IfSome, is_some, MatchOption, nat_lt, None, Ok, OnOk, Option, Result, slice_set, Some, ◌^◌}
-use Rattle.std.proofs.lemmas.Bool.{le-ltb, lt-ltb, true≢false}
-use Rattle.std.proofs.lemmas.List.{get_or-set_same, get_or_read, set-set, set-get_or}
+use Rattle.std.proofs.lemmas.Bool.{lt-ltb, true≢false}
+use Rattle.std.proofs.lemmas.List.{get_or-set_same, get_or_read, set-set}
 use Rattle.frag_map.specs.Layout.{first_layout}
 use Rattle.sig_core.specs.declared.log.HostLog.{HostLog}
 use Rattle.sig_core.specs.declared.mark.Mark.{Mark}
 use Rattle.sig_core.specs.declared.no_memory.NoMemory.{NoMemory}
 use Rattle.sig_core.specs.declared.outcome.StopCause.{StopCause}
-use Rattle.sig_core.specs.declared.outcome.StopCause.TheVariants.{Clock, Memory}
+use Rattle.sig_core.specs.declared.outcome.StopCause.TheVariants.{Memory}
 use Rattle.sig_core.specs.declared.reply.ApiReply.{ApiReply}
 use Rattle.sig_core.specs.declared.view.View.{View}
 use Rattle.sig_core.specs.Step.{Effects, IsTaken, Step, nothing, stay}
@@ -24,10 +24,6 @@ use Rattle.world_views.specs.World.{body_at, closing, closing_if, entered, halte
 -- a host where there is none
 abbrev nobody : Host
 nobody = fresh_shell (first_layout (record { nodes = 0; replicas = 0; fragments = 0 }))
-
--- a host that is what it was
-pub same_body : (w : Whole) (h : ℕ) → with_body w h (body_at w.bodies h) ≡ w
-same_body w h = ap (λ (bodies : List Host). record w { bodies = bodies }) (set-get_or w.bodies h nobody)
 
 -- the world behind a step, where the hosts are these then
 abbrev pub entered_in : Whole → ℕ → Addressed → Step Host → List Host → Whole
@@ -56,10 +52,6 @@ pub stamp_is : (stamps : List ℕ) (h sent at : ℕ) → at ≡ next_stamp stamp
     → is_stamp (next_stamp stamps h sent) ≡ true
 stamp_is stamps h sent at is below = subst (λ n. nat_lt n (2 ^ 48) ≡ true) is (lt-ltb at (2 ^ 48) below)
 
-pub no_stamp_is : (stamps : List ℕ) (h sent at : ℕ) → at ≡ next_stamp stamps h sent → (2 ^ 48 ≤ at)
-    → is_stamp (next_stamp stamps h sent) ≡ false
-no_stamp_is stamps h sent at is above = subst (λ n. nat_lt n (2 ^ 48) ≡ false) is (le-ltb at (2 ^ 48) above)
-
 -- where there is a stamp it has moved, or had no memory
 pub has_moved : (result : Result (Unit {0}) NoMemory) (w u : Whole) (x : Addressed) (s : Host) (out : Effects)
     → is_stamp (next_stamp w.stamps x.to x.signal.stamp) ≡ true
@@ -71,23 +63,6 @@ has_moved (Ok done) w u x s out stamp there taken plain is =
     subst (λ b. handled_by b w x u) (sym stamp)
     (inl (is ∙ ap (λ (t : Step Host). entered (with_body w x.to s) 0 x t) (row_taken w x s out there taken plain)
     ∙ entered_over w 0 x s (step_by x.to (body_at w.bodies x.to) x.signal)))
-
--- its stamps are used up
-pub has_no_stamp : (result : Result (Unit {0}) NoMemory) (w u : Whole) (x : Addressed) (view : View)
-    → is_stamp (next_stamp w.stamps x.to x.signal.stamp) ≡ false
-    → view ≡ (body_at w.bodies x.to).standing.view → OnOk result (1 ≤ x.to) → OnOk result (u ≡ halted w x.to view Clock 0)
-    → OnOk result (HasHandled w x u)
-has_no_stamp (Err fault) w u x view none is some failed = tt
-has_no_stamp (Ok done) w u x view none is some failed =
-    subst (λ b. handled_by b w x u) (sym none) (
-      some,
-      record {
-        left = body_at w.bodies x.to;
-        cut = refl;
-        is = failed ∙ ap (λ v. halted w x.to v Clock 0) is
-            ∙ ap (λ v. halted v x.to (body_at w.bodies x.to).standing.view Clock 0) (sym (same_body w x.to));
-      },
-    )
 
 -- it had no memory, and is this now
 pub has_no_memory : (result : Result (Unit {0}) NoMemory) (w u : Whole) (x : Addressed) (s : Host) (view : View)

@@ -19,8 +19,10 @@ pub mod QuietLemmas
 pub mod Ready
 pub mod ScheduleLemmas
 pub mod SentFacts
+pub mod ShellLemmas
 pub mod StepDriven
 pub mod TakeDriven
 pub mod TakeFacts
 pub mod TakeRight
+pub mod UnscheduledLemmas
 pub mod WorldLemmas

@@ -27,7 +27,7 @@ use Rattle.world_views.proofs.OwnReady.{ask_ready}
 use Rattle.world_views.proofs.StepDriven.{entered_driven}
 use Rattle.world_views.proofs.TakeDriven.{taken_driven, taken_is_given}
 use Rattle.world_views.proofs.TakeFacts.{taken_on}
-use Rattle.world_views.proofs.WorldLemmas.{IsUnderWay, driven_further, runs_there, stays_sound, there_for, there_in}
+use Rattle.world_views.proofs.WorldLemmas.{IsUnderWay, driven_further, runs_there, stays_sound, there_for}
 
 not_true : (b : Bool) → not b ≡ true → b ≡ false
 not_true true e = absurd (true≢false (sym e))
@@ -49,11 +49,6 @@ pick_runs w (Stop host lost) may = not_true (has_stopped_in w host.0) (and_parts
 pick_runs w (Cut host node) may =
     not_true (has_stopped_in w host.0)
     (and_parts (nat_lt 0 host.0) (not (has_stopped_in w host.0)) (and_parts _ (is_other w host.0 node) may).0).1
-
-pub pick_there : (w : Whole) (pick : Pick) → IsWorld w → may_be w pick ≡ true → IsThere w (host_of pick)
-pick_there w pick is may =
-    there_in (hosts is.start) w (host_of pick) is.sound.right.sizes
-    (running_low is.start w (host_of pick) is.sound (pick_runs w pick may))
 
 -- it has a number above the shell's where it stops or cuts off
 positive : (h : ℕ) → nat_lt 0 h ≡ true → 1 ≤ h

@@ -44,7 +44,7 @@ not_own h x e = go (x.from.0 == h) e
 
 module _ (start : Start) (given : List ApiReply) (w : Whole) (right : IsRight start given w) (t : Arrival)
     (at : IsTakenFrom (hosts start) w.links t) where
-  abbrev arrived : Addressed
+  abbrev pub arrived : Addressed
   arrived = arriving at.to at.signal
 
   -- it was discarded
@@ -52,20 +52,22 @@ module _ (start : Start) (given : List ApiReply) (w : Whole) (right : IsRight st
   discard_driven lost =
       record { right = λ others was. discard_right start others w was t at lost; grown = grown_itself start given w right }
 
-  abbrev step : Step node.Host
+  abbrev pub step : Step node.Host
   step = step_by at.to (body_at w.bodies at.to) at.signal
+
+  -- its host is ready for its step, unless it is discarded
+  pub handle_ready : is_discarded (left_of w t) arrived ≡ false → (others : List ApiReply) → IsRight start others w
+      → IsReady start others (left_of w t) arrived step
+  handle_ready kept others was =
+      take_ready start others w was t at kept step
+      (row_step at.to (after start at.to (logs_at w.logs at.to)) (body_at w.bodies at.to) at.signal
+      (was.bodies at.to at.to_low (on_open start others w was t at kept).runs))
 
   -- it was handled
   handle_driven : (u : Whole) → (kept : is_discarded (left_of w t) arrived ≡ false) → HasHandled (left_of w t) arrived u
       → IsDriven start w u
   handle_driven u kept = by (is_stamp (next_stamp w.stamps at.to at.signal.stamp))
     where
-      ready : (others : List ApiReply) → IsRight start others w → IsReady start others (left_of w t) arrived step
-      ready others was =
-          take_ready start others w was t at kept step
-          (row_step at.to (after start at.to (logs_at w.logs at.to)) (body_at w.bodies at.to) at.signal
-          (was.bodies at.to at.to_low (on_open start others w was t at kept).runs))
-
       lost : (cause : StopCause) → IsOwnCause cause → 1 ≤ at.to → HasFailed (left_of w t) at.to cause u → IsDriven start w u
       lost cause own some failed =
           lost_driven start given w right at.to at.to_low (on_open start given w right t at kept).runs some cause own t.left
@@ -74,7 +76,7 @@ module _ (start : Start) (given : List ApiReply) (w : Whole) (right : IsRight st
       by : (b : Bool) → handled_by b (left_of w t) arrived u → IsDriven start w u
       by true (inl same) =
           subst (IsDriven start w) (sym same)
-          (entered_driven start given w w.bodies t.left 0 arrived step right ready
+          (entered_driven start given w w.bodies t.left 0 arrived step right (handle_ready kept)
           (λ shell. (fact start given w right t at kept).plain))
       by true (inr failed) = lost Memory tt failed.0 failed.1
       by false failed = lost Clock tt failed.0 failed.1

@@ -20,12 +20,14 @@ use Rattle.world_views.specs.Links.{Arrival, take_first}
 use Rattle.world_views.specs.Machine.{has_stopped, own_signal, own_stop, request_body}
 use Rattle.world_views.specs.Right.{IsRight}
 use Rattle.world_views.specs.Schedule.{HasTaken, is_discarded, left_of}
+use Rattle.world_views.specs.Unscheduled.{AreUnscheduled}
 use Rattle.world_views.specs.World.{asked, asking, body_at, handled_by, has_stopped_in, HasHandled, is_stamp, IsIdle, IsOf, IsThere, moved, new_world, Whole}
 use Rattle.world_views.proofs.AskDriven as ask
 use Rattle.world_views.proofs.FreshWorld.{fresh_sound}
 use Rattle.world_views.proofs.StepDriven.{grown_itself}
 use Rattle.world_views.proofs.TakeDriven.{taken_driven, taken_is_given}
 use Rattle.world_views.proofs.TakeFacts.{IsTakenFrom, none_taken, taken_first}
+use Rattle.world_views.proofs.UnscheduledLemmas.{taken_unscheduled}
 
 -- a host below the number of hosts is there
 pub there_in : (n : ℕ) (w : Whole) (h : ℕ) → IsOf n w → h < n → IsThere w h
@@ -107,6 +109,11 @@ pub has_stepped : (w u : Whole) (t : Arrival) → take_first w.links ≡ Some t 
 has_stepped w u t e taken start sound =
     taken_driven start sound.given w sound.right t (first_from w t start sound e) u taken
 
+pub stepped_unscheduled : (w u : Whole) (t : Arrival) → take_first w.links ≡ Some t → HasTaken (left_of w t) t.taken u
+    → (start : Start) → IsSound start w → AreUnscheduled (logs_at w.logs) → AreUnscheduled (logs_at u.logs)
+stepped_unscheduled w u t e taken start sound was =
+    taken_unscheduled start sound.given w sound.right t (first_from w t start sound e) was u taken
+
 pub has_stayed : (w t : Whole) → take_first w.links ≡ None → t ≡ w → (start : Start) → IsSound start w
     → IsStepped start w t false
 has_stayed w t e same start sound = (same, none_taken w.links e)
@@ -154,12 +161,6 @@ labels_kept (Ok done) w a logs way same start sound = tt
 labels_kept (Err fault) w a logs way same start sound =
     subst (AreLabelled start) (sym same) (sound_labels start a (stays_sound start w a (way.driven start sound) sound))
 
-pub logs_kept : (result : Result (Unit {0}) NoMemory) (w a : Whole) (logs : List HostLog) → IsUnderWay w a
-    → logs ≡ a.logs → (start : Start) → IsSound start w → OnErr result (HaveGrown start (logs_at w.logs) (logs_at logs))
-logs_kept (Ok done) w a logs way same start sound = tt
-logs_kept (Err fault) w a logs way same start sound =
-    subst (λ (ls : List HostLog). HaveGrown start (logs_at w.logs) (logs_at ls)) (sym same) (way.driven start sound).grown
-
 -- one step further
 pub goes_on : (w a b : Whole) (went : Bool) → went ≡ true → IsUnderWay w a
     → ((start : Start) → IsSound start a → IsStepped start a b went) → IsUnderWay w b
@@ -171,6 +172,15 @@ goes_on w a b true is way stepped =
           driven_further start w a b here (stepped start (stays_sound start w a here sound));
     }
 goes_on w a b false is way stepped = absurd (true≢false (sym is))
+
+-- No schedule had a host stop or cut off a node between these worlds.
+abbrev pub StayUnscheduled : Whole → Whole → Type 0
+StayUnscheduled w t =
+    (start : Start) → IsSound start w → AreUnscheduled (logs_at w.logs) → AreUnscheduled (logs_at t.logs)
+
+pub unscheduled_further : (w a b : Whole) → IsUnderWay w a → StayUnscheduled w a → StayUnscheduled a b → StayUnscheduled w b
+unscheduled_further w a b way first second start sound was =
+    second start (stays_sound start w a (way.driven start sound) sound) (first start sound was)
 
 -- no step was left
 pub has_ended : (w a b : Whole) (went : Bool) → went ≡ false → IsUnderWay w a

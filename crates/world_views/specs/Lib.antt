@@ -2,6 +2,7 @@ pub mod At
 pub mod Driven
 pub mod Hosts
 pub mod Links
+pub mod Lives
 pub mod Machine
 pub mod Quiet
 pub mod Requests
@@ -9,6 +10,8 @@ pub mod Right
 pub mod Schedule
 pub mod Sending
 pub mod SerialLaw
+pub mod Shell
 pub mod Strict
+pub mod Unscheduled
 pub mod World
 pub mod WorldOf

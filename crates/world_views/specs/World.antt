@@ -1,5 +1,6 @@
 -- A world: the hosts, the links between them, and what each host has done.
-use Rattle.std.specs.Prelude.{◌≡◌, ◌<◌, ◌≤◌, ◌⊎◌, ℕ, ◌+◌, ◌*◌, ◌^◌, ◌==◌, ◌||◌, nat_lt, Bool, true, false, List, [], ◌++◌, length, replicate, slice_index_or, slice_set}
+use Rattle.std.specs.Prelude.{◌≡◌, ◌<◌, ◌≤◌, ◌⊎◌, ℕ, ◌+◌, ◌*◌, ◌^◌, ◌==◌, ◌&&◌, ◌||◌, nat_lt, Bool, true, false, not, List, [], ◌++◌, length}
+use Rattle.std.specs.Prelude.{replicate, slice_index_or, slice_set}
 use Rattle.frag_map.specs.Layout.{first_layout}
 use Rattle.sig_core.specs.declared.log.HostLog.{HostLog}
 use Rattle.sig_core.specs.declared.log.LogStep.{LogStep}
@@ -190,6 +191,10 @@ new_world start =
       replies = [];
     }
 
--- the last command left something of its own unanswered
+-- the shell's host runs, and the last command left something of its own unanswered
 abbrev pub is_left_open : Whole → Bool
-is_left_open w = host.is_left_open (body_at w.bodies 0)
+is_left_open w = not (has_stopped_in w 0) && host.is_left_open (body_at w.bodies 0)
+
+-- the shell's host runs, and knows that the cluster is down
+abbrev pub is_down : Whole → Bool
+is_down w = not (has_stopped_in w 0) && host.is_down (body_at w.bodies 0)

@@ -7,10 +7,11 @@ ghost use Rattle.node_core.specs.Fresh.{own_rows, with_rows};
 ghost use Rattle.world_core.specs.Hosts.{member_at, part_by};
 ghost use Rattle.world_core.specs.Start.{made};
 ghost use Rattle.world_core.specs.World.{for_each};
-ghost use Rattle.world_views.specs.Hosts.{part_started, started};
+ghost use Rattle.world_views.specs.Hosts.{epoch_before, part_started, started};
 
 use crate::hosts::{Made, PARTS, part_by};
 use frag_map::{Layout, holds};
+use gcp_master::MICROS;
 use lqh_block::MapRows;
 use node_views::Host;
 use sig_core::{Key, Member, NoMemory, Part, Rows, Shape, Value};
@@ -44,7 +45,7 @@ pub fn fresh_bodies(
     Ok(bodies)
 }
 
-// A part of a member as it begins. The life starts from the epoch before its first one.
+// A part of a member as it begins.
 fn part_started(
     alloc: Global,
     part: Part,
@@ -57,7 +58,7 @@ fn part_started(
     requires first { layout.now ≡ first_layout layout.now.shape }
     ensures { IfOk result (λ host. host ≡ part_started (record { shape = layout.now.shape; epoch = epoch; rows = rows.now }) part member) }
 {
-    let start = epoch.saturating_sub(1);
+    let start = epoch_before(epoch);
     match part {
         Part::Main => Host::main(alloc, member, layout, epoch),
         Part::Tc => Host::tc(alloc, member, layout, epoch, start),
@@ -66,6 +67,14 @@ fn part_started(
             Host::ldm(alloc, member, layout, own, start)
         }
     }
+}
+
+// The first epoch of the checkpoint number before that of this one: a life that begins in this one
+// starts from it.
+fn epoch_before(epoch: u64) -> u64
+    ensures { result ≡ epoch_before epoch }
+{
+    (epoch / MICROS).saturating_sub(1) * MICROS
 }
 
 // Of these rows those that a node's group has, put one after the other, all of this epoch.

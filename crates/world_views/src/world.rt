@@ -52,7 +52,8 @@ impl World {
     ghost use Rattle.world_views.specs.Driven.{HasAsked, HaveGrown, IsDriven, IsSound, IsStepped, IsWorld};
     ghost use Rattle.world_views.specs.Machine.{own_signal, sender};
     ghost use Rattle.world_views.specs.Schedule.{HasTaken, is_discarded};
-    ghost use Rattle.world_views.specs.World.{HasHandled, IsIdle, IsThere, closing, cutting, entered, halted, has_stopped_in, is_left_open, new_world, sending, stopped};
+    ghost use Rattle.world_views.specs.Unscheduled.{AreUnscheduled};
+    ghost use Rattle.world_views.specs.World.{HasHandled, IsIdle, IsThere, closing, cutting, entered, halted, has_stopped_in, is_down, is_left_open, new_world, sending, stopped};
     ghost use Rattle.world_views.specs.WorldOf.{whole_of};
 
     /// A world in which nothing has happened: a cluster of this shape begins a life in this epoch,
@@ -90,7 +91,8 @@ impl World {
         })
     }
 
-    /// Asks the shell's host for something, in a step of it.
+    /// Asks the shell's host for something, in a step of it. It has no host stop, or cut off a node, as a
+    /// schedule does.
     ///
     /// # Errors
     /// `NoMemory`, also where the shell's host has stopped, and then nothing is asked, and the world is of
@@ -112,7 +114,8 @@ impl World {
         self.handle(alloc, 0, signal)
     }
 
-    /// Takes steps until nothing is under way. It isn't claimed that this ends.
+    /// Takes steps until nothing is under way. It isn't claimed that this ends. A host stops by itself only
+    /// for want of memory or of stamps, and cuts off no node by itself.
     ///
     /// # Errors
     /// `NoMemory`, and then the world is of use for its logs alone.
@@ -122,6 +125,7 @@ impl World {
         ensures quiet { OnOk result (IsIdle (whole_of self.new)) }
         ensures err { (start : Start) → IsSound start (whole_of self.old) → OnErr result (HaveGrown start (logs_at self.old.logs) (logs_at self.new.logs)) }
         ensures labels { (start : Start) → IsSound start (whole_of self.old) → OnErr result (AreLabelled start self.new.logs) }
+        ensures unscheduled { (start : Start) → IsSound start (whole_of self.old) → AreUnscheduled (logs_at self.old.logs) → AreUnscheduled (logs_at self.new.logs) }
     {
         for _ in rt.forever() {
             if !self.step(alloc)? {
@@ -136,6 +140,7 @@ impl World {
         requires { IsWorld (whole_of self.old) }
         ensures ok { (start : Start) → IsSound start (whole_of self.old) → IfOk result (λ went. IsStepped start (whole_of self.old) (whole_of self.new) went) }
         ensures err { OnErr result (self.new.logs ≡ self.old.logs) }
+        ensures unscheduled { (start : Start) → IsSound start (whole_of self.old) → AreUnscheduled (logs_at self.old.logs) → AreUnscheduled (logs_at self.new.logs) }
     {
         let Some(arrived) = self.network.take() else {
             return Ok(false);
@@ -179,12 +184,21 @@ impl World {
         self.replies.pop_front()
     }
 
-    /// Whether the last command left something of its own unanswered.
+    /// Whether the shell's host runs, and the last command left something of its own unanswered.
     pub fn is_left_open(&self) -> bool
         requires { IsWorld (whole_of self.now) }
         ensures { result ≡ is_left_open (whole_of self.now) }
     {
-        self.bodies[0].is_left_open()
+        self.runs(HostId(0)) && self.bodies[0].is_left_open()
+    }
+
+    /// Whether the shell's host runs, and knows that the cluster is down: each full member of the
+    /// greatest view that it has seen has stopped.
+    pub fn is_down(&self) -> bool
+        requires { IsWorld (whole_of self.now) }
+        ensures { result ≡ is_down (whole_of self.now) }
+    {
+        self.runs(HostId(0)) && self.bodies[0].is_down()
     }
 
     /// What the hosts did, as the first life of a fresh world. Takes no memory.

@@ -3,6 +3,7 @@ ghost use Rattle.std.specs.Prelude.{◌≡◌, ◌++◌, string_bytes, OnOk, IfO
 ghost use Rattle.sig_core.specs.declared.outcome.AbortCause.TheVariants.{LogFull};
 ghost use Rattle.script_lang.specs.OutcomeText.{outcome_words, abort_words};
 
+use crate::reply::epoch::add_epoch;
 use crate::reply::words::add;
 use sig_core::{AbortCause, NoMemory, Outcome};
 use std::alloc::Global;
@@ -15,7 +16,7 @@ pub fn add_outcome(alloc: Global, outcome: &Outcome, line: &mut Vec<u8>) -> Resu
     ensures { OnOk result (line.new.items ≡ line.old.items ++ outcome_words outcome.now) }
 {
     match outcome {
-        Outcome::Committed(epoch) => add(line, &format!(in alloc; "committed {epoch}")?),
+        Outcome::Committed(epoch) => add_epoch(alloc, "committed ", *epoch, line),
         Outcome::Aborted(cause) => add_abort(alloc, cause, line),
         Outcome::Unknown => add(line, "unknown"),
     }

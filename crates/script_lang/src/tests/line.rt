@@ -75,6 +75,7 @@ fn spell(alloc: Global, command: &Command) -> Result<String, Fail> {
         Command::KillAfter { node, after } => format!(in alloc; "kill {node} after {after}")?,
         Command::Cut { one, other } => format!(in alloc; "cut {one} {other}")?,
         Command::Tick { rounds } => format!(in alloc; "tick {rounds}")?,
+        Command::Micro => String::from_str(alloc, "micro")?,
         Command::Gcp => String::from_str(alloc, "gcp")?,
         Command::Lcp => String::from_str(alloc, "lcp")?,
         Command::Start { node } => format!(in alloc; "start {node}")?,
@@ -100,7 +101,7 @@ fn commands_with_fewest_and_most_words(rt: HostRuntime) -> Result<(), Fail> {
         b"o|begin 1|begin 1\no|begin 65535|begin 65535\no|begin 7 1|begin 7 1\no|begin 7 3|begin 7 3\n\
 o|begin|2\no|begin 7 1 1|2\no|commit 7|commit 7\no|commit|2\no|commit 7 7|2\no|abort 65535|abort 65535\no|abort|2\no|abort 1 2|2\n\
 o|batch|batch\no|batch 1|2\no|kill 3|kill 3\no|kill|2\no|kill 1 2|2\no|kill 1 after 2|2\no|cut 1 3|cut 1 3\no|cut 1|2\no|cut|2\no|cut 1 2 3|2\n\
-o|tick 1|tick 1\no|tick 16|tick 16\no|tick|2\no|tick 1 1|2\no|gcp|gcp\no|gcp 1|2\no|lcp|lcp\no|lcp 1|2\no|start 2|start 2\no|start|2\no|start 1 2|2\n\
+o|tick 1|tick 1\no|tick 16|tick 16\no|tick|2\no|tick 1 1|2\no|micro|micro\no|micro 1|2\no|gcp|gcp\no|gcp 1|2\no|lcp|lcp\no|lcp 1|2\no|start 2|start 2\no|start|2\no|start 1 2|2\n\
 o|crash|crash\no|crash 1|2\no|restart|restart\no|restart 1|2\no|rows 1|rows 1\no|rows|2\no|rows 1 2|2\no|digest 2|digest 2\no|digest|2\no|digest 1 2|2\n\
 o|view|view\no|view 1|2\no|quit|quit\no|quit now|2";
     expect_rows(&rt, rt.alloc(), table.as_slice())
@@ -146,7 +147,7 @@ o|rows 0|4\no|rows 4|4\no|rows 3|rows 3\no|digest 0|4\no|digest 4|4\no|digest 3|
 #[test]
 fn lines_of_a_batch(rt: HostRuntime) -> Result<(), Fail> {
     let table =
-        b"b|begin 1|begin 1\nb|begin 1 3|begin 1 3\nb|begin|2\nb|begin 0|4\nb|@7 put a 1|@7 put a 1\nb|@7 get a|@7 get a\nb|@7 fetch|1\nb|gcp|gcp\nb|lcp|lcp\nb|gcp 1|2\nb|end|end\nb|end 1|2\n\
+        b"b|begin 1|begin 1\nb|begin 1 3|begin 1 3\nb|begin|2\nb|begin 0|4\nb|@7 put a 1|@7 put a 1\nb|@7 get a|@7 get a\nb|@7 fetch|1\nb|micro|micro\nb|gcp|gcp\nb|lcp|lcp\nb|gcp 1|2\nb|end|end\nb|end 1|2\n\
 b|kill 1 after 0|kill 1 after 0\nb|kill 3 after 100000|kill 3 after 100000\nb|kill 3 after 100001|4\nb|kill 3 after 01|4\nb|kill 3 after x|4\nb|kill 3 after|2\nb|kill 3|2\nb|kill|2\nb|kill 1 after 1 1|2\n\
 b|kill 0 after 1|4\nb|kill 4 after 1|4\nb|kill 1 before 1|3\nb|kill 4 before x|4\nb|kill 1 before x|3\nb|kill 1 2 3|3\n\
 b|put a 1|1\nb|get a|1\nb|commit 1|1\nb|abort 1|1\nb|batch|1\nb|cut 1 2|1\nb|tick 1|1\nb|start 1|1\nb|crash|1\nb|restart|1\nb|rows 1|1\nb|digest 1|1\nb|view|1\nb|quit|1\nb|fetch|1";

@@ -69,10 +69,11 @@ fn outcomes_with_and_without_a_name(rt: HostRuntime) -> Result<(), Fail> {
         need: 250,
     };
     let table = [
-        (Outcome::Committed(1), b"committed 1\n".as_slice()),
+        (Outcome::Committed(1), b"committed 0/1\n".as_slice()),
+        (Outcome::Committed(4294967296), b"committed 1/0\n"),
         (
             Outcome::Committed(18446744073709551615),
-            b"committed 18446744073709551615\n",
+            b"committed 4294967295/4294967295\n",
         ),
         (
             Outcome::Aborted(AbortCause::Request),
@@ -211,9 +212,9 @@ fn events_of_the_cluster_tell_their_numbers(rt: HostRuntime) -> Result<(), Fail>
     let table = [
         (ApiReply::Ticked { rounds: 255 }, b"ticked 255\n".as_slice()),
         (ApiReply::Cut { one: 3, other: 1 }, b"cut 3 1\n"),
-        (ApiReply::Closed { epoch: 4 }, b"closed 4\n"),
-        (ApiReply::Durable { epoch: 5 }, b"durable 5\n"),
-        (ApiReply::Checkpoint { epoch: 6 }, b"checkpoint 6\n"),
+        (ApiReply::Closed { epoch: 4294967300 }, b"closed 1/4\n"),
+        (ApiReply::Durable { epoch: 8589934592 }, b"durable 2/0\n"),
+        (ApiReply::Checkpoint { epoch: 6 }, b"checkpoint 0/6\n"),
         (ApiReply::Started { node: 2 }, b"started 2\n"),
         (ApiReply::StartEnded { node: 2 }, b"start 2 ended\n"),
         (
@@ -224,7 +225,7 @@ fn events_of_the_cluster_tell_their_numbers(rt: HostRuntime) -> Result<(), Fail>
             b"node 1 rows 1000\n",
         ),
         (ApiReply::Crashed, b"crashed\n"),
-        (ApiReply::Restarted { epoch: 0 }, b"restarted 0\n"),
+        (ApiReply::Restarted { epoch: 0 }, b"restarted 0/0\n"),
         (ApiReply::BatchEnd, b"end\n"),
     ];
     for (reply, line) in &table {

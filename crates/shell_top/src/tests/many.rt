@@ -21,7 +21,7 @@ fn forty(alloc: Global) -> Result<Conversation, NoMemory> {
     }
     for name in 1..41 {
         script.push_str(&format!(in alloc; "commit {name}\n")?)?;
-        printed.push_str(&format!(in alloc; "@{name} committed 1\n")?)?;
+        printed.push_str(&format!(in alloc; "@{name} committed 1/0\n")?)?;
     }
     Ok(Conversation { script, printed })
 }
@@ -37,10 +37,10 @@ fn queue_of_ten(alloc: Global) -> Result<Conversation, NoMemory> {
     for name in 1..11 {
         let next = name + 1;
         script.push_str(&format!(in alloc; "commit {name}\n")?)?;
-        printed.push_str(&format!(in alloc; "@{name} committed 1\n@{next} ok\n")?)?;
+        printed.push_str(&format!(in alloc; "@{name} committed 1/0\n@{next} ok\n")?)?;
     }
     script.push_str("commit 11\nget a\n")?;
-    printed.push_str("@11 committed 1\nvalue 11\ncommitted 1\n")?;
+    printed.push_str("@11 committed 1/0\nvalue 11\ncommitted 1/0\n")?;
     Ok(Conversation { script, printed })
 }
 
@@ -53,7 +53,7 @@ fn sixty_five_operations(alloc: Global) -> Result<Conversation, NoMemory> {
         printed.push_str("@1 ok\n")?;
     }
     script.push_str("@1 get a\ncommit 1\n")?;
-    printed.push_str("@1 too many operations 64\n@1 committed 1\n")?;
+    printed.push_str("@1 too many operations 64\n@1 committed 1/0\n")?;
     Ok(Conversation { script, printed })
 }
 

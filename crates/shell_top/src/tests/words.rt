@@ -10,7 +10,7 @@ fn rows_are_in_the_group_of_their_fragment(rt: HostRuntime) -> Result<(), Fail> 
         alloc,
         "--nodes 4",
         b"put a 1\nput b 2\nrows 1\nrows 3\n",
-        b"ok\ncommitted 1\nok\ncommitted 1\nb 2\nnode 1 rows 1\na 1\nnode 3 rows 1\n",
+        b"ok\ncommitted 1/0\nok\ncommitted 1/0\nb 2\nnode 1 rows 1\na 1\nnode 3 rows 1\n",
         0,
     )?;
     expect_with(
@@ -18,7 +18,7 @@ fn rows_are_in_the_group_of_their_fragment(rt: HostRuntime) -> Result<(), Fail> 
         alloc,
         "--nodes=4",
         b"begin 1 3\n@1 put a 100\n@1 put b 7\ncommit 1\nrows 1\nrows 3\n",
-        b"@1 begun 3\n@1 ok\n@1 ok\n@1 committed 1\nb 7\nnode 1 rows 1\na 100\nnode 3 rows 1\n",
+        b"@1 begun 3\n@1 ok\n@1 ok\n@1 committed 1/0\nb 7\nnode 1 rows 1\na 100\nnode 3 rows 1\n",
         0,
     )
 }
@@ -31,7 +31,7 @@ fn smallest_and_largest_cluster(rt: HostRuntime) -> Result<(), Fail> {
         alloc,
         "--fragments 1 --replicas 1 --nodes 1",
         b"put a 1\nrows 1\n",
-        b"ok\ncommitted 1\na 1\nnode 1 rows 1\n",
+        b"ok\ncommitted 1/0\na 1\nnode 1 rows 1\n",
         0,
     )?;
     expect_with(
@@ -39,7 +39,7 @@ fn smallest_and_largest_cluster(rt: HostRuntime) -> Result<(), Fail> {
         alloc,
         "--nodes 8 --replicas=4 --fragments 32",
         b"put a 1\nrows 1\nrows 5\nrows 8\n",
-        b"ok\ncommitted 1\nnode 1 rows 0\na 1\nnode 5 rows 1\na 1\nnode 8 rows 1\n",
+        b"ok\ncommitted 1/0\nnode 1 rows 0\na 1\nnode 5 rows 1\na 1\nnode 8 rows 1\n",
         0,
     )
 }

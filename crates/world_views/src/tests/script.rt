@@ -30,7 +30,7 @@ fn a_put_is_committed(rt: HostRuntime) -> Result<(), Fail> {
         &rt,
         rt.alloc(),
         &["put a 1", "rows 2"],
-        "ok\ncommitted 1\na 1\nnode 2 rows 1\n",
+        "ok\ncommitted 1/0\na 1\nnode 2 rows 1\n",
     )
 }
 
@@ -40,7 +40,7 @@ fn a_coordinator_is_killed(rt: HostRuntime) -> Result<(), Fail> {
         &rt,
         rt.alloc(),
         &["begin 1 1", "@1 put a 1", "kill 1", "put a 2", "rows 2"],
-        "@1 begun 1\n@1 ok\nnode 1 stopped killed\n@1 aborted nodefail 2\nok\ncommitted 1\na 2\nnode 2 rows 1\n",
+        "@1 begun 1\n@1 ok\nnode 1 stopped killed\n@1 aborted nodefail 2\nok\ncommitted 1/0\na 2\nnode 2 rows 1\n",
     )
 }
 
@@ -50,6 +50,6 @@ fn checkpoints(rt: HostRuntime) -> Result<(), Fail> {
         &rt,
         rt.alloc(),
         &["put a 1", "gcp", "gcp", "put a 2"],
-        "ok\ncommitted 1\ndurable 1\ndurable 4294967296\nok\ncommitted 8589934592\n",
+        "ok\ncommitted 1/0\ndurable 1/0\ndurable 2/0\nok\ncommitted 3/0\n",
     )
 }

@@ -5,6 +5,7 @@ ghost use Rattle.world_views.specs.Driven.{IsWorld};
 ghost use Rattle.world_views.specs.WorldOf.{whole_of};
 
 use crate::World;
+use gcp_master::MICROS;
 use script_lang::{Command, parse_line, print_reply};
 use sig_core::{Answer, ApiReq, HeldOp, NoMemory, Shape};
 use std::alloc::Global;
@@ -30,6 +31,7 @@ fn request_of(alloc: Global, command: &Command) -> Result<Option<ApiReq>, NoMemo
             other: *other,
         }),
         Command::View => Some(ApiReq::View),
+        Command::Micro => Some(ApiReq::Micro),
         Command::Gcp => Some(ApiReq::Gcp),
         _ => None,
     })
@@ -129,7 +131,7 @@ pub fn printed<W: Wait>(
 ) -> Result<Vec<u8>, NoMemory>
     requires { IsShape shape }
 {
-    let mut world = World::new(alloc, shape, 1, &[])?;
+    let mut world = World::new(alloc, shape, MICROS, &[])?;
     let mut text = Vec::new(alloc);
     for line in lines {
         serve(rt, alloc, &mut world, line.as_bytes(), shape.nodes)?;

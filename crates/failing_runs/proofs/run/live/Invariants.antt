@@ -5,6 +5,3 @@ use Rattle.failing_runs.proofs.run.live.Given as goal
 -- the world is one
 abbrev pub invariant-loop-count : goal.invariant-loop-count
 invariant-loop-count g l = IsWorld (whole_of l.world)
-
-abbrev pub invariant-loop : goal.invariant-loop
-invariant-loop g l = IsWorld (whole_of l.world)

@@ -1,6 +1,6 @@
 use Rattle.std.proofs.Common.{◌≡◌, ◌++◌, drop}
 use Rattle.std.specs.Prelude.{filter}
-use Rattle.shell_top.specs.Arranged.{is_own}
+use Rattle.shell_top.specs.Subject.{is_own}
 use Rattle.shell_top.proofs.arranged.own.Given as goal
 
 -- those so far and those that are left are all

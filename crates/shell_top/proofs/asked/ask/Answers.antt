@@ -1,5 +1,5 @@
 use Rattle.std.proofs.Common.{[], ◌∷◌}
-use Rattle.world_core.specs.WorldOf.{whole_of}
+use Rattle.world_views.specs.WorldOf.{whole_of}
 use Rattle.shell_top.proofs.ServedLemmas.{asked_ok, asked_err, asked_world, left_unasked, on_err}
 use Rattle.shell_top.proofs.asked.ask.Goals as goal
 
@@ -13,9 +13,9 @@ drive-requires g c = asked_world g.start c.args.request (whole_of c.args.world.n
 pub returns-clause-ok : goal.returns-clause-ok
 returns-clause-ok g c =
     asked_ok g.start c.args.request c.drive.result (whole_of c.args.world.now) (whole_of c.ask.new.self) (whole_of c.drive.new.self) c.requires.1
-    (c.in_ok-ask.ensures.ok g.start c.requires.1) (c.drive.ensures.driven g.start) c.drive.ensures.quiet
+    (c.in_ok-ask.ensures.ok g.start c.requires.1) (c.drive.ensures.driven g.start) c.drive.ensures.quiet (c.drive.ensures.unscheduled g.start)
 
 pub returns-clause-err : goal.returns-clause-err
 returns-clause-err g c =
     asked_err g.start c.args.request c.drive.result (whole_of c.args.world.now) (whole_of c.ask.new.self) c.drive.new.self.logs c.requires.1
-    (c.in_ok-ask.ensures.ok g.start c.requires.1) (c.drive.ensures.err g.start) (c.drive.ensures.labels g.start)
+    (c.in_ok-ask.ensures.ok g.start c.requires.1) (c.drive.ensures.err g.start) (c.drive.ensures.labels g.start) (c.drive.ensures.unscheduled g.start)

@@ -1,5 +1,5 @@
 use Rattle.std.proofs.Common.{refl}
-use Rattle.world_core.specs.WorldOf.{whole_of}
+use Rattle.world_views.specs.WorldOf.{whole_of}
 use Rattle.shell_top.specs.Asked.{requests_of}
 use Rattle.shell_top.proofs.ServedLemmas.{left_unasked, on_err}
 use Rattle.shell_top.proofs.asked.ask_own.Goals as goal

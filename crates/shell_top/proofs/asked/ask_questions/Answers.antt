@@ -1,6 +1,6 @@
 use Rattle.std.proofs.Common.{[], ◌∷◌}
 use Rattle.sig_core.specs.declared.request.ApiReq.TheVariants.{Waits, Pending}
-use Rattle.world_core.specs.WorldOf.{whole_of}
+use Rattle.world_views.specs.WorldOf.{whole_of}
 use Rattle.shell_top.proofs.ServedLemmas.{both_ok, first_err, on_err, second_err, served_sound}
 use Rattle.shell_top.proofs.asked.ask_questions.Goals as goal
 

@@ -1,7 +1,9 @@
-use Rattle.std.proofs.Common.{[], ◌∷◌, ◌-◌, ◌+◌, arith}
+use Rattle.std.proofs.Common.{◌≡◌, [], ◌∷◌, ◌-◌, ◌+◌, arith, subst}
 use Rattle.std.proofs.lemmas.Bool.Decides.{nat_tests}
 use Rattle.sig_core.specs.declared.request.ApiReq.TheVariants.{Tick}
-use Rattle.world_core.specs.WorldOf.{whole_of}
+use Rattle.shell_top.specs.Asked.{rounds_behind}
+use Rattle.shell_top.specs.Served.{HasServed}
+use Rattle.world_views.specs.WorldOf.{whole_of}
 use Rattle.shell_top.proofs.ServedLemmas.{on_err, round_left, round_served, served_sound}
 use Rattle.shell_top.proofs.asked.further_rounds.Goals as goal
 
@@ -19,3 +21,11 @@ loop-behind-preserved g c =
       sound = served_sound g.start (Tick (c.loop-behind.behind + 2) c.args.rounds ∷ []) (whole_of c.loop-behind.world) (whole_of c.ask.new.world) c.in_ok-ask.ensures.ok
           c.loop-behind.invariant.sound;
     }
+
+pub returns-clause-ok : goal.returns-clause-ok
+returns-clause-ok g c =
+    let all : c.loop-behind.behind ≡ c.args.rounds - 1 =
+    omega (arith, c.loop-behind-test.false, c.loop-behind.auto.behind-end, c.saturating_sub-behind-end.ensures) in
+    subst
+    (λ n. HasServed g.start (rounds_behind c.args.rounds n) (whole_of c.args.world.now) (whole_of c.loop-behind.world))
+    all c.loop-behind.invariant.served

@@ -1,7 +1,7 @@
 use Rattle.shell_top.specs.Asked.{rounds_behind}
 use Rattle.shell_top.specs.Served.{HasServed}
-use Rattle.world_core.specs.Driven.{IsSound}
-use Rattle.world_core.specs.WorldOf.{whole_of}
+use Rattle.world_views.specs.Driven.{IsSound}
+use Rattle.world_views.specs.WorldOf.{whole_of}
 use Rattle.shell_top.proofs.asked.further_rounds.Given as goal
 
 -- the rounds so far were served

@@ -1,4 +1,4 @@
-use Rattle.world_core.specs.WorldOf.{whole_of}
+use Rattle.world_views.specs.WorldOf.{whole_of}
 use Rattle.shell_top.proofs.EndLemmas.{one_life, rose_still, session_done, starts}
 use Rattle.shell_top.proofs.run.run_opened.Goals as goal
 

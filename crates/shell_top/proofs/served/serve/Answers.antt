@@ -1,5 +1,10 @@
-use Rattle.world_core.specs.WorldOf.{whole_of}
-use Rattle.shell_top.proofs.ServedLemmas.{left_about, left_answers, left_own, on_err, own_sound, serves_ok, gone_sound}
+use Rattle.std.proofs.Common.{ap}
+use Rattle.shell_top.specs.Arranged.{arranged}
+use Rattle.shell_top.specs.Subject.{subject_in}
+use Rattle.shell_top.specs.Text.{reply_lines}
+use Rattle.world_views.specs.World.{Whole, is_down}
+use Rattle.world_views.specs.WorldOf.{whole_of}
+use Rattle.shell_top.proofs.ServedLemmas.{down_behind, gone_sound, left_about, left_gone, left_own, on_err, own_sound, serves, told_world}
 use Rattle.shell_top.proofs.served.serve.Goals as goal
 
 pub returns-in_err-ask_own-clause-err : goal.returns-in_err-ask_own-clause-err
@@ -21,12 +26,33 @@ answers-requires g c =
     gone_sound g.start c.args.command.now (whole_of c.args.world.now) (whole_of c.ask_own.new.world) (whole_of c.ask_about.new.world) c.requires.1.0 c.in_ok-ask_own.ensures.ok
     c.in_ok-ask_about.ensures.ok
 
+pub returns-in_err-text-clause-err : goal.returns-in_err-text-clause-err
+returns-in_err-text-clause-err g c =
+    on_err c.from_residual-in_err-text.result
+    (left_gone g.start c.args.command.now (whole_of c.args.world.now) (whole_of c.ask_own.new.world)
+    (whole_of c.ask_about.new.world) c.answers.new.world.logs c.requires.1.1 c.requires.1.0 c.in_ok-ask_own.ensures.ok
+    c.in_ok-ask_about.ensures.ok c.in_err-text.ensures.err)
+
+pub is_down-requires : goal.is_down-requires
+is_down-requires g c =
+    told_world g.start c.args.command.now (whole_of c.args.world.now) (whole_of c.ask_own.new.world)
+    (whole_of c.ask_about.new.world) (whole_of c.answers.new.world) c.requires.1.0 c.in_ok-ask_own.ensures.ok
+    c.in_ok-ask_about.ensures.ok c.in_ok-text.ensures.told
+
+pub returns-in_err-extend_from_slice-clause-err : goal.returns-in_err-extend_from_slice-clause-err
+returns-in_err-extend_from_slice-clause-err g c =
+    on_err c.from_residual-in_err-extend_from_slice.result
+    (left_gone g.start c.args.command.now (whole_of c.args.world.now) (whole_of c.ask_own.new.world)
+    (whole_of c.ask_about.new.world) c.answers.new.world.logs c.requires.1.1 c.requires.1.0 c.in_ok-ask_own.ensures.ok
+    c.in_ok-ask_about.ensures.ok (ap (λ (x : Whole). x.logs) c.in_ok-text.ensures.told))
+
 pub returns-clause-ok : goal.returns-clause-ok
 returns-clause-ok g c =
-    serves_ok g.start c.args.command.now (whole_of c.args.world.now) (whole_of c.ask_own.new.world) (whole_of c.ask_about.new.world) (whole_of c.answers.new.world) c.answers.result
-    c.requires.1.1 c.requires.1.0 c.in_ok-ask_own.ensures.ok c.in_ok-ask_about.ensures.ok c.answers.ensures.told c.answers.ensures.text
-
-pub returns-clause-err : goal.returns-clause-err
-returns-clause-err g c =
-    left_answers g.start c.args.command.now (whole_of c.args.world.now) (whole_of c.ask_own.new.world) (whole_of c.ask_about.new.world) c.answers.new.world.logs c.answers.result
-    c.requires.1.1 c.requires.1.0 c.in_ok-ask_own.ensures.ok c.in_ok-ask_about.ensures.ok c.answers.ensures.err
+    serves g.start c.args.command.now (whole_of c.args.world.now) (whole_of c.ask_own.new.world)
+    (whole_of c.ask_about.new.world) (whole_of c.answers.new.world) c.extend_from_slice.new.self.items c.requires.1.1
+    c.requires.1.0 c.in_ok-ask_own.ensures.ok c.in_ok-ask_about.ensures.ok c.in_ok-text.ensures.told
+    (down_behind (reply_lines (arranged (subject_in c.args.command.now) (whole_of c.ask_about.new.world).replies))
+    c.in_ok-text.text.items c.down_line.result.now c.extend_from_slice.new.self.items c.is_down-was_down.result
+    c.is_down.result (is_down (whole_of c.args.world.now)) (is_down (whole_of c.answers.new.world))
+    c.in_ok-extend_from_slice.ensures.items c.in_ok-text.ensures.text c.down_line.ensures c.is_down-was_down.ensures
+    c.is_down.ensures)

@@ -1,4 +1,4 @@
-use Rattle.world_core.specs.WorldOf.{whole_of}
+use Rattle.world_views.specs.WorldOf.{whole_of}
 use Rattle.shell_top.proofs.OpenLemmas.{opens}
 use Rattle.shell_top.proofs.session.Session.new.Goals as goal
 

@@ -1,4 +1,4 @@
-use Rattle.world_core.specs.Start.{fresh}
+use Rattle.world_views.specs.Lives.{fresh}
 use Rattle.shell_top.proofs.session.Session.next_line.Given as goal
 
 abbrev pub ghost-whole_line : goal.ghost-whole_line

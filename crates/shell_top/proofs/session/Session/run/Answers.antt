@@ -1,6 +1,6 @@
 use Rattle.std.proofs.Common.{◌∙◌, arith, subst}
 use Rattle.shell_top.specs.Session.{AreLinesDone}
-use Rattle.world_core.specs.WorldOf.{whole_of}
+use Rattle.world_views.specs.WorldOf.{whole_of}
 use Rattle.shell_top.proofs.session.Session.run.Goals as goal
 
 pub returns-in-Some-clause-done : goal.returns-in-Some-clause-done

@@ -1,7 +1,7 @@
 use Rattle.std.proofs.Common.{◌≤◌, ◌-◌}
 use Rattle.std.specs.Prelude.{None}
 use Rattle.shell_top.specs.Session.{GoesOn, IsOpen}
-use Rattle.world_core.specs.WorldOf.{whole_of}
+use Rattle.world_views.specs.WorldOf.{whole_of}
 use Rattle.shell_top.proofs.session.Session.run.Given as goal
 
 -- the session is under way and open, and the counts of faults haven't fallen

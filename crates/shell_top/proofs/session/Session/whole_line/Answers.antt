@@ -1,6 +1,6 @@
 use Rattle.std.proofs.Common.{◌≡◌, take, refl, ap, sym, subst, ◌∙◌}
-use Rattle.world_core.specs.Driven.{IsSound}
-use Rattle.world_core.specs.WorldOf.{whole_of}
+use Rattle.world_views.specs.Driven.{IsSound}
+use Rattle.world_views.specs.WorldOf.{whole_of}
 use Rattle.shell_top.specs.Parsed.{parsed as parsed_line}
 use Rattle.shell_top.specs.declared.script.Parsed.TheVariants as parsed
 use Rattle.shell_top.proofs.ScriptLemmas.{command_served}

@@ -1,9 +1,9 @@
 use Rattle.world_views.specs.WorldOf.{whole_of}
-use Rattle.world_views.proofs.WorldLemmas.{goes_on, has_ended, is_quiet, labels_kept, under_way}
+use Rattle.world_views.proofs.WorldLemmas.{goes_on, has_ended, is_quiet, labels_kept, under_way, unscheduled_further}
 use Rattle.world_views.proofs.world.World.drive.Goals as goal
 
 pub loop-init : goal.loop-init
-loop-init g c = (under_way (whole_of c.args.self.now) c.requires, tt, tt)
+loop-init g c = (under_way (whole_of c.args.self.now) c.requires, λ start sound was. was, tt, tt)
 
 pub returns-then-not-branch-clause-driven : goal.returns-then-not-branch-clause-driven
 returns-then-not-branch-clause-driven g c =
@@ -18,9 +18,21 @@ returns-in_err-step-clause-labels g c =
     labels_kept c.from_residual.result (whole_of c.args.self.now) (whole_of c.loop.self) _ c.loop.invariant.0
     c.in_err-step.ensures.err
 
+pub returns-then-not-branch-clause-unscheduled : goal.returns-then-not-branch-clause-unscheduled
+returns-then-not-branch-clause-unscheduled g c =
+    unscheduled_further (whole_of c.args.self.now) (whole_of c.loop.self) (whole_of c.step.new.self) c.loop.invariant.0 c.loop.invariant.1
+    c.in_ok-step.ensures.unscheduled
+
+pub returns-in_err-step-clause-unscheduled : goal.returns-in_err-step-clause-unscheduled
+returns-in_err-step-clause-unscheduled g c =
+    unscheduled_further (whole_of c.args.self.now) (whole_of c.loop.self) (whole_of c.step.new.self) c.loop.invariant.0 c.loop.invariant.1
+    c.in_err-step.ensures.unscheduled
+
 pub loop-preserved : goal.loop-preserved
 loop-preserved g c = (
   goes_on (whole_of c.args.self.now) (whole_of c.loop.self) (whole_of c.step.new.self) c.in_ok-step.field-0 c.if-not-branch.false c.loop.invariant.0 c.in_ok-step.ensures.ok,
+  unscheduled_further (whole_of c.args.self.now) (whole_of c.loop.self) (whole_of c.step.new.self) c.loop.invariant.0 c.loop.invariant.1
+      c.in_ok-step.ensures.unscheduled,
   tt,
   tt,
 )

@@ -1,0 +1,44 @@
+//! Why a run has no verdict that it is fine.
+
+use life_judge::{Fault, Law};
+use sig_core::{NoMemory, WordFault};
+use std::alloc::AllocFailed;
+
+/// Why a run has no verdict that it is fine.
+#[derive(Clone, Copy, Debug, PartialEq, Eq)]
+pub enum RunFault {
+    Broken(Law),
+    /// A key or value that was drawn is none.
+    Word(WordFault),
+    NoMemory,
+}
+
+impl From<Fault> for RunFault {
+    fn from(fault: Fault) -> RunFault {
+        match fault {
+            Fault::Broken(law) => RunFault::Broken(law),
+            Fault::NoMemory => RunFault::NoMemory,
+        }
+    }
+}
+
+impl From<NoMemory> for RunFault {
+    fn from(_: NoMemory) -> RunFault {
+        RunFault::NoMemory
+    }
+}
+
+impl<T> From<AllocFailed<T>> for RunFault
+where
+    T: Drop,
+{
+    fn from(_: AllocFailed<T>) -> RunFault {
+        RunFault::NoMemory
+    }
+}
+
+impl From<WordFault> for RunFault {
+    fn from(fault: WordFault) -> RunFault {
+        RunFault::Word(fault)
+    }
+}

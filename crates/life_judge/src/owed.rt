@@ -1,0 +1,85 @@
+//! What is owed to the client of a cluster that came to rest.
+use crate::client::Client;
+use crate::law::{Fault, Law};
+use sig_core::{Life, Mark, Outcome, TxId};
+
+/// Judges a life that came to rest after its last requests, and more rounds than a wait may last: where
+/// no host cut off another one, each operation that a coordinator took was answered, or its transaction
+/// was reported aborted, and each commit that it was asked for was reported.
+///
+/// # Errors
+/// `NothingOwed`, where it is broken.
+pub fn judge_owed(life: &Life, client: &Client) -> Result<(), Fault> {
+    if !cuts(life) && (owes_answers(client) || owes_ends(client)) {
+        return Err(Fault::Broken(Law::NothingOwed));
+    }
+    Ok(())
+}
+
+// Whether a host cut off another one.
+fn cuts(life: &Life) -> bool {
+    for log in life.logs.as_slice() {
+        for step in log.steps.as_slice() {
+            for mark in step.marks.as_slice() {
+                if let Mark::CutOff { host: _ } = mark {
+                    return true;
+                }
+            }
+        }
+    }
+    false
+}
+
+// Whether an operation of a transaction that wasn't aborted isn't answered.
+fn owes_answers(client: &Client) -> bool {
+    for asked in client.asked.as_slice() {
+        if !is_aborted(client, &asked.tx)
+            && answers(client, &asked.tx) < operations(client, &asked.tx)
+        {
+            return true;
+        }
+    }
+    false
+}
+
+fn is_aborted(client: &Client, tx: &TxId) -> bool {
+    match client.reported.get(tx) {
+        Some(report) => match report.outcome {
+            Outcome::Aborted(_) => true,
+            _ => false,
+        },
+        None => false,
+    }
+}
+
+fn operations(client: &Client, tx: &TxId) -> u64 {
+    let mut count = 0u64;
+    for asked in client.asked.as_slice() {
+        if asked.tx == *tx {
+            count = count.saturating_add(1);
+        }
+    }
+    count
+}
+
+fn answers(client: &Client, tx: &TxId) -> u64 {
+    let mut count = 0u64;
+    for given in client.given.as_slice() {
+        if given.tx == *tx {
+            count = count.saturating_add(1);
+        }
+    }
+    count
+}
+
+// Whether the end of a transaction that was to be committed or aborted isn't reported.
+fn owes_ends(client: &Client) -> bool {
+    for at in 0..client.ends.len() {
+        if let Some((tx, _)) = client.ends.get_index(at) {
+            if !client.reported.contains_key(tx) {
+                return true;
+            }
+        }
+    }
+    false
+}

@@ -1,0 +1,214 @@
+//! The views of a cut, who promised them, and what was done in them.
+ghost use Rattle.frag_map.specs.Shape.{IsShape};
+
+use crate::law::{Fault, Law};
+use crate::moment::Moment;
+use frag_map::lost_group;
+use indexmap::IndexMap;
+use sig_core::{LogStep, Mark, Member, Shape, View};
+use std::alloc::Global;
+
+/// How many hosts a node has.
+const PARTS: u32 = 3;
+
+/// The number of the view that a life begins with.
+pub const FIRST_VIEW: u64 = 1;
+
+/// A host's promise of a view.
+#[derive(Clone, Copy)]
+struct Promise {
+    host: u32,
+    number: u64,
+    stamp: u64,
+}
+
+/// What a cut tells of views.
+#[derive(Drop)]
+pub struct Views {
+    /// By their numbers; without the first one.
+    installed: IndexMap<u64, View>,
+    promises: Vec<Promise>,
+    /// When transactions were decided, and rows applied.
+    deeds: Vec<Moment>,
+}
+
+impl Views {
+    /// None but the first.
+    pub fn new(alloc: Global) -> Views {
+        Views {
+            installed: IndexMap::new(alloc),
+            promises: Vec::new(alloc),
+            deeds: Vec::new(alloc),
+        }
+    }
+
+    /// The views that a step installs at its host, which had the view of this number. Gives the number
+    /// of the last of them.
+    ///
+    /// # Errors
+    /// `ViewsGrow` or `OneViewANumber`, where it is broken, or `NoMemory`.
+    pub fn install(&mut self, before: u64, step: &LogStep) -> Result<u64, Fault> {
+        let mut number = before;
+        for mark in step.marks.as_slice() {
+            if let Mark::Installed { view } = mark {
+                number = self.add_view(number, view.get())?;
+            }
+        }
+        Ok(number)
+    }
+
+    fn add_view(&mut self, before: u64, view: &View) -> Result<u64, Fault> {
+        if view.number <= before {
+            return Err(Fault::Broken(Law::ViewsGrow));
+        }
+        if self.has_other(view) {
+            return Err(Fault::Broken(Law::OneViewANumber));
+        }
+        self.installed.insert(view.number, *view)?;
+        Ok(view.number)
+    }
+
+    // Whether there is another view of that number.
+    fn has_other(&self, view: &View) -> bool {
+        match self.installed.get(&view.number) {
+            Some(other) => !is_same(other, view),
+            None => false,
+        }
+    }
+
+    /// A mark of a step.
+    ///
+    /// # Errors
+    /// `NoMemory`.
+    pub fn add_mark(&mut self, moment: &Moment, mark: &Mark) -> Result<(), Fault> {
+        match mark {
+            Mark::Promised { number } => self.promises.push(Promise {
+                host: moment.host,
+                number: *number,
+                stamp: moment.stamp,
+            })?,
+            Mark::Decided { tx: _, epoch: _ } => self.deeds.push(*moment)?,
+            Mark::Applied { tx: _, key: _ } => self.deeds.push(*moment)?,
+            _ => {}
+        }
+        Ok(())
+    }
+
+    /// Whether the node is a full member of the greatest view that a host has installed.
+    pub fn is_live(&self, node: u32) -> bool {
+        match self.installed.get(&self.greatest()) {
+            Some(view) => is_among(node, view.full.as_slice()),
+            None => true,
+        }
+    }
+
+    // The number of the greatest view that a host has installed.
+    fn greatest(&self) -> u64 {
+        let mut greatest = FIRST_VIEW;
+        for at in 0..self.installed.len() {
+            if let Some((number, _)) = self.installed.get_index(at) {
+                greatest = greatest.max(*number);
+            }
+        }
+        greatest
+    }
+
+    // Whether a host of the node's main part promised the view of this number.
+    fn is_promised(&self, node: u8, number: u64) -> bool {
+        for promise in self.promises.as_slice() {
+            if promise.number == number && node_of(promise.host) == u32::from(node) {
+                return true;
+            }
+        }
+        false
+    }
+
+    fn are_promised(&self, members: &[Member], number: u64) -> bool {
+        for member in members {
+            if !self.is_promised(member.node, number) {
+                return false;
+            }
+        }
+        true
+    }
+
+    // Whether the node of a host promised a view above that of a moment, before it.
+    fn is_fenced(&self, moment: &Moment) -> bool {
+        for promise in self.promises.as_slice() {
+            if moment.view < promise.number
+                && promise.stamp < moment.stamp
+                && node_of(promise.host) == node_of(moment.host)
+            {
+                return true;
+            }
+        }
+        false
+    }
+
+    fn judge_view(&self, shape: &Shape, number: u64, view: &View) -> Result<(), Fault>
+        requires { IsShape shape.now }
+    {
+        if lost_group(view, shape).is_some() {
+            return Err(Fault::Broken(Law::ViewsAreViable));
+        }
+        if !self.are_promised(view.full.as_slice(), number)
+            || !self.are_promised(view.starting.as_slice(), number)
+        {
+            return Err(Fault::Broken(Law::ViewsArePromised));
+        }
+        Ok(())
+    }
+}
+
+/// Judges the views of a cut: each has a full member in each group and was promised by all its members,
+/// and nobody decides or applies anything in a lesser view than its node promised.
+///
+/// # Errors
+/// The first of these laws that is broken.
+pub fn judge_views(views: &Views, shape: &Shape) -> Result<(), Fault>
+    requires { IsShape shape.now }
+{
+    for at in 0..views.installed.len() {
+        if let Some((number, view)) = views.installed.get_index(at) {
+            views.judge_view(shape, *number, view)?;
+        }
+    }
+    for moment in views.deeds.as_slice() {
+        if views.is_fenced(moment) {
+            return Err(Fault::Broken(Law::PromisesAreKept));
+        }
+    }
+    Ok(())
+}
+
+/// The node of a host, 0 for the shell's.
+pub fn node_of(host: u32) -> u32 {
+    if host == 0 { 0 } else { (host - 1) / PARTS + 1 }
+}
+
+fn is_among(node: u32, members: &[Member]) -> bool {
+    for member in members {
+        if u32::from(member.node) == node {
+            return true;
+        }
+    }
+    false
+}
+
+// Whether two views have the same members.
+fn is_same(one: &View, other: &View) -> bool {
+    are_same(one.full.as_slice(), other.full.as_slice())
+        && are_same(one.starting.as_slice(), other.starting.as_slice())
+}
+
+fn are_same(one: &[Member], other: &[Member]) -> bool {
+    if one.len() != other.len() {
+        return false;
+    }
+    for at in 0..one.len() {
+        if one[at].node != other[at].node || one[at].start != other[at].start {
+            return false;
+        }
+    }
+    true
+}

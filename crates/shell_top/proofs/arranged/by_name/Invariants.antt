@@ -1,9 +1,0 @@
-use Rattle.std.proofs.Common.{◌≡◌, [], drop}
-use Rattle.shell_top.specs.Arranged.{by_name}
-use Rattle.shell_top.proofs.arranged.by_name.Given as goal
-
--- what is left leads to the same as all did
-abbrev pub invariant-loop-reply : goal.invariant-loop-reply
-invariant-loop-reply l = record {
-  left : by_name l.ordered.items (drop l.reply-index l.replies) ≡ by_name [] l.replies;
-}

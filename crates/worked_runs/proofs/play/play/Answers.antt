@@ -1,0 +1,9 @@
+use Rattle.std.proofs.Common.{[]}
+use Rattle.world_views.specs.WorldOf.{whole_of}
+use Rattle.world_views.proofs.WorldLemmas.{begun_world}
+use Rattle.worked_runs.proofs.play.play.Goals as goal
+
+pub play_lines-requires : goal.play_lines-requires
+play_lines-requires g c =
+    begun_world (whole_of c.in_ok-world.world) (record { shape = c.shape_of-shape.result; epoch = 4294967296; rows = [] })
+    c.in_ok-world.ensures
