@@ -131,7 +131,9 @@ impl Coordinator {
     pub(crate) fn forget_doomed(&mut self)
         ensures { self.new ≡ record self.old { doomed = still_live self.old.tc self.old.doomed } }
     {
-        keep_live(&self.tc, &mut self.doomed);
+        if !self.doomed.is_empty() {
+            keep_live(&self.tc, &mut self.doomed);
+        }
     }
 }
 

@@ -1,4 +1,4 @@
--- One membership along its events: the numbers of its promises rise, and what it confirms it had promised.
+-- Promises and proposals along a list of events: numbers rise, and what is confirmed was promised.
 use Rattle.std.proofs.Common.{◌≡◌, ◌≤◌, ◌<◌, ◌==◌, ◌⊎◌, ℕ, Bool, true, false, nat_lt, List, [], ◌∷◌, ◌++◌, map, refl, ap, sym, subst, ◌∙◌, arith, inl, inr}
 use Rattle.std.proofs.lemmas.Bool.{eq-eqb, eqb-true, ltb-true, ltb-false, true≢false}
 use Rattle.std.specs.Prelude.{if◌then◌else◌}
@@ -46,12 +46,11 @@ event_rises s (installs view) =
     subst (Rises s.known.promised) (sym (row_installs s.known view).promised)
     (adopted_rises s.known.promised view (nat_lt s.known.promised.number view.number) refl)
 
--- the numbers of promises
-abbrev pub promise_number : Promised → ℕ
-promise_number promise = promise.set.number
+abbrev number_of : Promised → ℕ
+number_of promise = promise.set.number
 
 rising_more : (number : ℕ) (before : View) (older : List Promised) → before.number < number → IsLast before older
-    → AreRising (map promise_number older) → AreRising (number ∷ map promise_number older)
+    → AreRising (map number_of older) → AreRising (number ∷ map number_of older)
 rising_more number before [] above last rising = absurd last
 rising_more number before (promise ∷ older) above last rising =
     (subst (λ (set : View). set.number < number) last above, rising)
@@ -62,7 +61,7 @@ last_of before now (promise ∷ older) same last = same ∙ last
 
 -- promises with those of one more event
 record Risen (now : View) (promises : List Promised) : Type 0 where
-  rising : AreRising (map promise_number promises)
+  rising : AreRising (map number_of promises)
   last : IsLast now promises
 
 risen_if : (event : Event) (before now : View) (older : List Promised) (same : Bool)
@@ -165,8 +164,7 @@ waiting_stays : (new older : List Promised) (before now : List Promise)
     → Each (λ promise. IsNumberAsked older promise.number) before
     → Each (λ promise. IsNumberAsked (new ++ older) promise.number) now
 waiting_stays new older before now has all =
-    each_map _ _ now
-    (λ promise one. asked_more new older promise.number (asked_of older before promise.number one all)) has
+    each_map _ _ now (λ promise one. asked_more new older promise.number (asked_of older before promise.number one all)) has
 
 event_confirmed : (s : QmgrState) (event : Event) (new older : List Promised)
     → Each (λ promise. IsNumberAsked older promise.number) s.promises
@@ -194,8 +192,7 @@ event_waiting s (takes x) older all = by (steps s x).promise
     by (inr asks) =
         let now = (qmgr_row s x).state.known.promised in
         subst (Each (λ (promise : Promise). IsNumberAsked (new ++ older) promise.number)) (sym asks.waiting)
-        (each_append _ s.promises _
-        (each_map _ _ s.promises (λ promise one. asked_more new older promise.number one) all) (
+        (each_append _ s.promises _ (each_map _ _ s.promises (λ promise one. asked_more new older promise.number one) all) (
           record {
             set = now;
             there =

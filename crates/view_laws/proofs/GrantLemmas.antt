@@ -1,4 +1,4 @@
--- The grants of ballots, from the newest to the oldest.
+-- What was granted, from the newest grant to the oldest.
 use Rattle.std.proofs.Common.{◌≡◌, ◌<◌, ◌≤◌, ℕ, List, [], ◌∷◌, refl, sym, ap, ◌∙◌, inl, inr, arith}
 use Rattle.run_theory.specs.Lists.{IsIn}
 use Rattle.view_laws.specs.Ballots.{Ballots, Granted}
@@ -71,8 +71,8 @@ module _ (b : Ballots) where
     left = rise.left;
   }
 
-  -- from a grant down to one of a lesser number: the first one whose number is less stands right behind one that has
-  -- the number and the members of that grant
+  -- from a grant down to one of a lesser number: the first one whose number is less stands right behind one that has the
+  -- number and the members of that grant
   pub rise : (all : List Granted) → AreGrants b all → (above below : Granted) → IsIn above all → IsIn below all
       → below.number < above.number → Rise b above below all
   rise [] are above below i j less = absurd i

@@ -1,5 +1,5 @@
--- The rows of the arbitrator: what it grants stands rightly behind what it granted before.
-use Rattle.std.proofs.Common.{◌≡◌, ◌&&◌, ◌==◌, ◌⊎◌, ℕ, Bool, true, false, nat_lt, List, [], ◌∷◌, ◌++◌, map, refl, ap, sym, subst, inl, inr}
+-- What the arbitrator grants stands rightly behind what it granted before.
+use Rattle.std.proofs.Common.{◌≡◌, ◌&&◌, ◌==◌, ◌⊎◌, ℕ, Bool, true, false, nat_lt, List, [], ◌∷◌, ◌++◌, map, refl, ap, sym, subst, arith, inl, inr}
 use Rattle.std.proofs.lemmas.Bool.{and_parts, eqb-true, false≢true, ltb-true, or_cases}
 use Rattle.std.specs.List.{list_all}
 use Rattle.std.specs.Prelude.{if◌then◌else◌, Option, None, Some}
@@ -29,8 +29,7 @@ all_among : (set : List Member) (joining : Option Member) (members : List Member
     → list_all (joins_or_is_among set joining) members ≡ true → Each (IsAmong set joining) members
 all_among set joining [] e = tt
 all_among set joining (member ∷ members) e =
-    let parts =
-    and_parts (joins_or_is_among set joining member) (list_all (joins_or_is_among set joining) members) e in (
+    let parts = and_parts (joins_or_is_among set joining member) (list_all (joins_or_is_among set joining) members) e in (
       among set joining member (or_cases (is_joining joining member) (is_among set member) parts.0),
       all_among set joining members parts.1,
     )
@@ -45,8 +44,7 @@ keeping grant = record { number = grant.number; members = grant.members }
 
 next_if : (last : Granted) (number : ℕ) (members : List Member) (joining : Option Member) (greater : Bool)
     → nat_lt last.number number ≡ greater
-    → (if greater then lie_in last.members members joining
-    else number == last.number && is_same_set members last.members)
+    → (if greater then lie_in last.members members joining else number == last.number && is_same_set members last.members)
     ≡ true
     → IsNextGrant last (asked_for number members joining)
 unfolding lie_in is_same_set

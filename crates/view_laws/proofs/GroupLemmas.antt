@@ -1,17 +1,17 @@
 -- A set that has all nodes of a group and one that has a node of each share a full member, where both are of one set.
-use Rattle.std.proofs.Common.{◌≡◌, ◌<◌, ◌≤◌, ◌+◌, ◌-◌, ◌*◌, ◌/◌, ◌%◌, ℕ, zero, suc, Bool, true, false, not, if◌then◌else◌, Option, None, Some, is_some, List, ◌∷◌, length, refl, sym, subst, ⊎_elim, eq-or-lt_of_le, eqb-true, leb-true, filter, arith, true≢false}
+use Rattle.std.proofs.Common.{◌≡◌, ◌<◌, ◌≤◌, ◌+◌, ◌-◌, ◌*◌, ◌/◌, ◌%◌, ◌||◌, ℕ, zero, suc, Bool, true, false, not, if◌then◌else◌, Option, None, Some, is_some, List, [], ◌∷◌, length, refl, sym, subst, inl, inr, ⊎_elim, eq-or-lt_of_le, eqb-true, leb-true, filter, arith, true≢false}
+use Rattle.std.specs.List.{list_any}
 use Rattle.std.proofs.lemmas.Nat.{div-add-mod'}
 use Rattle.frag_map.specs.Groups.{is_manned, is_viable, is_whole, lost_from, lost_group, whole_from, whole_group}
 use Rattle.frag_map.specs.Replicas.{is_of_group}
 use Rattle.frag_map.specs.Shape.{IsShape, groups}
 use Rattle.run_theory.specs.Lists.{Each, IsIn}
-use Rattle.run_theory.proofs.Pasts.{each_from}
+use Rattle.run_theory.proofs.Pasts.{each_from, each_in}
 use Rattle.sig_core.specs.declared.member.Member.{Member}
 use Rattle.sig_core.specs.declared.view.Shape.{Shape}
 use Rattle.sig_core.specs.declared.view.View.{View}
 use Rattle.view_laws.specs.Sets.{AreApart, IsApart, all_of}
-use Rattle.view_laws.proofs.Finding.{Found, found}
-use Rattle.view_laws.proofs.Rooms.{IsNear, apart_filter, apart_front, apart_same, each_filter, few_near, some_node}
+use Rattle.view_laws.proofs.Rooms.{IsNear, apart_filter, apart_front, apart_same, apart_some, each_filter, few_near}
 
 module _ (shape : Shape) (set : View) where
   manned_from : (first n : ℕ) → lost_from shape set first n ≡ None → (group : ℕ) → first ≤ group → group < first + n
@@ -55,10 +55,19 @@ module _ (shape : Shape) (set : View) where
       by true e whole rest = (first, omega arith, omega arith, e)
       by false e whole rest = let r = rest whole in (r.0, omega (arith, r.1), omega (arith, r.2), r.3)
 
-  pub whole_one : whole_group shape set ≡ true
-      → (group : ℕ) × (group < groups shape) × (is_whole shape set group ≡ true)
+  pub whole_one : whole_group shape set ≡ true → (group : ℕ) × (group < groups shape) × (is_whole shape set group ≡ true)
   unfolding whole_group
   whole_one is = let r = whole_from_one 0 (groups shape) is in (r.0, omega (arith, r.2), r.3)
+
+-- a test that some item passes
+any_one : {A : Type 0} (p : A → Bool) (xs : List A) → list_any p xs ≡ true → (x : A) × IsIn x xs × (p x ≡ true)
+any_one {A} p [] is = absurd (true≢false (sym is))
+any_one {A} p (x ∷ xs) is = by (p x) refl is (any_one p xs)
+  where
+    by : (b : Bool) → p x ≡ b → (b || list_any p xs) ≡ true → (list_any p xs ≡ true → (y : A) × IsIn y xs × (p y ≡ true))
+        → (y : A) × IsIn y (x ∷ xs) × (p y ≡ true)
+    by true e any rest = (x, inl refl, e)
+    by false e any rest = let r = rest any in (r.0, inr r.1, r.2)
 
 module _ (shape : Shape) (is : IsShape shape) where
   -- a member of a group has one of its nodes
@@ -66,28 +75,27 @@ module _ (shape : Shape) (is : IsShape shape) where
       → IsNear (group * shape.replicas + 1) shape.replicas member
   group_near group member some of =
       let is_group : (member.node - 1) / shape.replicas ≡ group = eqb-true _ _ of in
-      let parts :
-      (member.node - 1) / shape.replicas * shape.replicas + (member.node - 1) % shape.replicas ≡ member.node - 1 =
+      let parts : (member.node - 1) / shape.replicas * shape.replicas + (member.node - 1) % shape.replicas ≡ member.node - 1 =
       div-add-mod' (member.node - 1) shape.replicas in
       let low : (member.node - 1) % shape.replicas < shape.replicas = omega (arith, is.replicas_some) in
       let parts' : group * shape.replicas + (member.node - 1) % shape.replicas ≡ member.node - 1 =
       subst (λ g. g * shape.replicas + (member.node - 1) % shape.replicas ≡ member.node - 1) is_group parts in
       (omega (arith, some, parts'), omega (arith, some, parts', low))
 
-  -- of two sets whose full members are all of one, in which no node stands twice, the one with a whole group and the
-  -- other viable
+  -- of two sets whose full members are all of one, in which no node stands twice, the one with a whole group and the other
+  -- viable
   pub shares_full : (all : List Member) → AreApart all → (whole viable : View)
       → ((x : Member) → IsIn x whole.full → IsIn x all) → ((x : Member) → IsIn x viable.full → IsIn x all)
       → AreApart (all_of whole) → whole_group shape whole ≡ true → is_viable shape viable ≡ true
       → ((x : Member) → IsIn x whole.full → IsIn x viable.full → ⊥) → ⊥
   shares_full all apart whole viable from from_too whole_apart has each none =
-      few one.member one.there one.passes
+      few one.0 one.1 one.2
     where
       group : (group : ℕ) × (group < groups shape) × (is_whole shape whole group ≡ true)
       group = whole_one shape whole has
 
-      one : Found (is_of_group shape group.0) viable.full
-      one = found (is_of_group shape group.0) viable.full (viable_manned shape viable each group.0 group.1)
+      one : (x : Member) × IsIn x viable.full × (is_of_group shape group.0 x ≡ true)
+      one = any_one (is_of_group shape group.0) viable.full (viable_manned shape viable each group.0 group.1)
 
       test : Member → Bool
       test = is_of_group shape group.0
@@ -95,8 +103,11 @@ module _ (shape : Shape) (is : IsShape shape) where
       low : ℕ
       low = group.0 * shape.replicas + 1
 
+      node_some : (x : Member) → IsIn x all → 1 ≤ x.node
+      node_some x i = each_in (λ m. 1 ≤ m.node) x all (apart_some all apart) i
+
       near : (x : Member) → IsIn x all → test x ≡ true → IsNear low shape.replicas x
-      near x i of = group_near group.0 x (some_node all x apart i) of
+      near x i of = group_near group.0 x (node_some x i) of
 
       few : (x : Member) → IsIn x viable.full → test x ≡ true → ⊥
       few x i of =
@@ -104,13 +115,11 @@ module _ (shape : Shape) (is : IsShape shape) where
           let others : Each (IsApart x) seats =
           each_filter test (IsApart x) whole.full (each_from _ whole.full (λ y j h same.
           none y j (subst (λ z. IsIn z viable.full) (apart_same all apart x y (from_too x i) (from y j) same) i))) in
-          let seats_apart : AreApart seats =
-          apart_filter test whole.full (apart_front whole.full whole.starting whole_apart) in
+          let seats_apart : AreApart seats = apart_filter test whole.full (apart_front whole.full whole.starting whole_apart) in
           let seats_near : Each (IsNear low shape.replicas) seats =
-          each_filter test (IsNear low shape.replicas) whole.full
-          (each_from _ whole.full (λ y j h. near y (from y j) h)) in
+          each_filter test (IsNear low shape.replicas) whole.full (each_from _ whole.full (λ y j h. near y (from y j) h)) in
           let fits : length (x ∷ seats) ≤ shape.replicas =
-          few_near low shape.replicas (x ∷ seats) (some_node all x apart (from_too x i), others, seats_apart)
+          few_near low shape.replicas (x ∷ seats) (node_some x (from_too x i), others, seats_apart)
           (near x (from_too x i) of, seats_near) in
           let many : shape.replicas ≤ length seats = leb-true _ _ group.2 in
           omega (arith, fits, many)

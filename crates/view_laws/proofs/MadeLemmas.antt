@@ -1,6 +1,6 @@
--- The sets that a membership proposes: each is rightly made of the installed view, and its own.
+-- The sets that a member proposes: each is rightly made of the installed view, and its own.
 use Rattle.std.proofs.Common.{◌≡◌, ◌≤◌, ◌⊎◌, ℕ, Bool, true, false, cond, not, List, [], ◌∷◌, ◌++◌, filter, length, refl, ap, sym, subst, ◌∙◌, arith, inl, inr, append_assoc, length-append}
-use Rattle.std.proofs.lemmas.Bool.{and_from, not-true, false≢true, true≢false}
+use Rattle.std.proofs.lemmas.Bool.{and_from, false≢true, true≢false}
 use Rattle.std.proofs.lemmas.List.Elements.{filter-append}
 use Rattle.std.proofs.lemmas.List.{take_all}
 use Rattle.std.specs.Prelude.{if◌then◌else◌, Option, None, Some, position}
@@ -15,11 +15,11 @@ use Rattle.qmgr_block.specs.Sets as sets
 use Rattle.qmgr_block.specs.Sets.{is_among, is_same_set, members_of, promoted_view, with_member, without}
 use Rattle.qmgr_block.specs.Suspects.{is_trusted, member_at, presides_by}
 use Rattle.view_laws.specs.Events.{IsSet}
-use Rattle.view_laws.specs.Kept.{IsOwn, oldest}
+use Rattle.view_laws.specs.Kept.{IsOwn}
 use Rattle.view_laws.specs.Members.{change_by, promotion_among}
+use Rattle.view_laws.specs.Orderly.{proposer}
 use Rattle.view_laws.specs.Sets.{AreApart, Change, IsApart, IsMadeOf, all_of, joins, promotes, shrinks}
-use Rattle.view_laws.proofs.ApartLemmas.{AreUpTo, all_members, few, join_apart, no_node_apart, parts_apart, snoc_apart, two_apart}
-use Rattle.view_laws.proofs.Rooms.{apart_filter, some_node}
+use Rattle.view_laws.proofs.ApartLemmas.{AreUpTo, all_members, few, filter_apart, join_apart, no_node_apart, parts_apart, snoc_apart, some_node, two_apart}
 use Rattle.view_laws.proofs.SetRows.{among_in, among_is, filter_in, promoted_made, same_is, set_self, with_in, without_in}
 use Rattle.view_laws.proofs.WalkLemmas.{Form, fills_one, has_one, president_of, remains}
 
@@ -41,7 +41,7 @@ reads base set (member ∷ members) = by (sets.promotes base set member) refl (r
     by false e (reads_promotion one is passes) = reads_promotion one is passes
 
 -- who proposes anything is the first of the full members
-own_any : (me : Member) (base set : View) (change : Change) → oldest set.full ≡ Some me → IsOwn me base set change
+own_any : (me : Member) (base set : View) (change : Change) → proposer set.full ≡ Some me → IsOwn me base set change
 own_any me base set shrinks own = own
 own_any me base set (joins member) own = λ _. own
 own_any me base set (promotes member) own = λ _. own
@@ -52,18 +52,18 @@ at_is_get members None = refl
 at_is_get members (Some at) = refl
 
 first_kept : (p : Member → Bool) (me : Member) (members : List Member) → presides_by me (first p members) ≡ true
-    → oldest (filter p members) ≡ Some me
+    → proposer (filter p members) ≡ Some me
 first_kept p me [] e = absurd (false≢true e)
 first_kept p me (x ∷ members) e = by (p x) e (first_kept p me members)
   where
     by : (b : Bool) → presides_by me (if b then Some x else first p members) ≡ true
-        → (presides_by me (first p members) ≡ true → oldest (filter p members) ≡ Some me)
-        → oldest (cond b (x ∷ filter p members) (filter p members)) ≡ Some me
+        → (presides_by me (first p members) ≡ true → proposer (filter p members) ≡ Some me)
+        → proposer (cond b (x ∷ filter p members) (filter p members)) ≡ Some me
     by true is rest = ap (λ (m : Member). Some m) (sym (same_is me x is))
     by false is rest = rest is
 
 president_first : (me : Member) (base : View) (suspects : List Member)
-    → presides_by me (president_of base suspects) ≡ true → oldest (without base.full suspects) ≡ Some me
+    → presides_by me (president_of base suspects) ≡ true → proposer (without base.full suspects) ≡ Some me
 unfolding without
 president_first me base suspects e =
     first_kept (is_trusted suspects) me base.full
@@ -89,7 +89,7 @@ without_set : (base : View) (suspects members : List Member) → IsSet base → 
 unfolding without
 without_set base suspects members is e =
     subst (λ (members : List Member). AreApart members × AreUpTo 8 members) (sym e) (
-      apart_filter _ (all_of base) is.apart,
+      filter_apart _ (all_of base) is.apart,
       each_from _ (without (all_of base) suspects)
           (λ one there. each_in _ one (all_of base) is.nodes (without_in (all_of base) suspects one there)),
     )
@@ -178,6 +178,10 @@ others_in : (members : List Member) (member one : Member) → IsIn one (without 
 unfolding without
 others_in members member one there = filter_in _ members one there
 
+not_true : (b : Bool) → not b ≡ true → b ≡ true → ⊥
+not_true true e is = false≢true e
+not_true false e is = false≢true is
+
 others_apart : (members : List Member) (member : Member) → AreApart members → IsIn member members
     → Each (IsApart member) (without members (member ∷ []))
 others_apart members member apart there = each_from _ (without members (member ∷ [])) by
@@ -191,13 +195,14 @@ others_apart members member apart there = each_from _ (without members (member �
           where
             go : (member ≡ one) ⊎ IsApart member one → IsApart member one
             go (inl same) =
-                absurd (true≢false (sym (among_in (member ∷ []) one (inl (sym same))) ∙ not-true _ parts.1))
+                absurd (not_true (is_among (member ∷ []) one) parts.1
+                (among_in (member ∷ []) one (inl (sym same))))
             go (inr apart) = apart
 
 without_apart : (members : List Member) (member : Member) → AreApart members
     → AreApart (without members (member ∷ []))
 unfolding without
-without_apart members member apart = apart_filter _ members apart
+without_apart members member apart = filter_apart _ members apart
 
 turned_apart : (full starting : List Member) (member : Member) → AreApart (full ++ starting) → IsIn member starting
     → AreApart (full ++ member ∷ without starting (member ∷ []))
@@ -260,7 +265,7 @@ promotes_it base set member among full starting =
 last_in : (xs : List Member) (y : Member) → IsIn y (xs ++ y ∷ [])
 last_in xs y = in_append y xs (y ∷ []) (inl refl)
 
-snoc_proposer : (me : Member) (xs : List Member) (y : Member) → oldest xs ≡ Some me → oldest (xs ++ y ∷ []) ≡ Some me
+snoc_proposer : (me : Member) (xs : List Member) (y : Member) → proposer xs ≡ Some me → proposer (xs ++ y ∷ []) ≡ Some me
 snoc_proposer me [] y e = absurd (none_some e)
   where
     is_there : Option Member → Bool
@@ -283,7 +288,7 @@ fills_made me base set member change is among full starting (reads_part same non
 fills_made me base set member change is among full starting (reads_promotion one same passes) =
     let whole = promoted_whole base member is (among_is base.starting member among) in
     subst (λ (change : Change). IsOwn me base set change × IsMadeOf base change set) (sym same) (
-      (λ own. ap (λ (xs : List Member). oldest xs) (full ∙ whole) ∙ snoc_proposer me base.full member own),
+      (λ own. ap (λ (xs : List Member). proposer xs) (full ∙ whole) ∙ snoc_proposer me base.full member own),
       promoted_made base set one passes,
     )
 
@@ -296,7 +301,7 @@ made A me base set joining a is (remains suspects presides full starting none) =
       right = remains_set base set suspects is full starting;
       own =
           own_any me base set _
-          (ap (λ (xs : List Member). oldest xs) full ∙ president_first me base suspects presides);
+          (ap (λ (xs : List Member). proposer xs) full ∙ president_first me base suspects presides);
       made = remains_made me base set suspects _ full starting (reads base set set.full);
     })
 made A me base set joining a is (has_one member node none full starting one) =
@@ -304,7 +309,7 @@ made A me base set joining a is (has_one member node none full starting one) =
     subst (λ (joining : Option Member). IsMade me base set (change_by base set joining)) (sym one)
     (record {
       right = joined_set base set member is (node a) made.allowed full starting;
-      own = λ own. ap (λ (xs : List Member). oldest xs) full ∙ own;
+      own = λ own. ap (λ (xs : List Member). proposer xs) full ∙ own;
       made = made;
     })
 made A me base set joining a is (fills_one member among full starting none) =

@@ -1,5 +1,5 @@
 -- A chosen set that isn't the first view is made of a chosen one with a lesser number.
-use Rattle.std.proofs.Common.{◌≡◌, ◌<◌, ◌≤◌, ◌⊎◌, ℕ, zero, suc, true, sym, ap, subst, inl, inr, arith, le_refl}
+use Rattle.std.proofs.Common.{◌≡◌, ◌<◌, ◌≤◌, ◌⊎◌, ℕ, zero, suc, true, List, [], ◌∷◌, Some, sym, ap, subst, inl, inr, arith, le_refl}
 use Rattle.frag_map.specs.Groups.{is_viable}
 use Rattle.run_theory.specs.Lists.{IsIn}
 use Rattle.run_theory.proofs.Pasts.{each_in}
@@ -7,7 +7,7 @@ use Rattle.sig_core.specs.declared.member.Member.{Member}
 use Rattle.sig_core.specs.declared.view.Shape.{Shape}
 use Rattle.sig_core.specs.declared.view.View.{View}
 use Rattle.view_laws.specs.Ballots.{Ballots, IsBacked, IsChosen, IsGranted, IsWon, NeedsNoGrant}
-use Rattle.view_laws.specs.Orderly.{AreOrderly, IsProposal}
+use Rattle.view_laws.specs.Orderly.{AreOrderly, IsProposal, proposer}
 use Rattle.view_laws.specs.Sets.{AreApart, Change, IsMadeOf, all_of}
 use Rattle.view_laws.proofs.Deciding.{Meets}
 use Rattle.view_laws.proofs.SetLemmas.{full_in, made_full}
@@ -22,11 +22,19 @@ pub record Origin (shape : Shape) (b : Ballots) (set : View) : Type 0 where
   pub viable : is_viable shape set ≡ true
   pub apart : AreApart (all_of set)
   pub by : Member
-  pub by_full : IsIn by set.full
+  pub proposer : proposer set.full ≡ Some by
   pub backed : IsBacked b set
   pub free : NeedsNoGrant shape change set ⊎ IsGranted b set
 
+-- the proposer is a full member
+by_in : (members : List Member) (by : Member) → proposer members ≡ Some by → IsIn by members
+by_in [] by is = absurd cc
+by_in (member ∷ members) by is = inl cc
+
 module _ (shape : Shape) (b : Ballots) (set : View) (from : Origin shape b set) where
+  pub by_full : IsIn from.by set.full
+  by_full = by_in set.full from.by from.proposer
+
   -- a full member of the set was of the one of which it is made: so another set that has it meets the set
   pub full_meets : (member : Member) → IsIn member set.full → (other : View) → IsIn member (all_of other)
       → Meets from.base other set
@@ -51,7 +59,7 @@ module _ (shape : Shape) (b : Ballots) (o : AreOrderly shape b) where
         viable = facts.viable;
         apart = facts.apart;
         by = facts.by;
-        by_full = facts.of;
+        proposer = facts.proposer;
         backed = subst (IsBacked b) won.is won.backed;
         free = subst (λ s. NeedsNoGrant shape p.change s ⊎ IsGranted b s) won.is won.free;
       })
@@ -59,8 +67,7 @@ module _ (shape : Shape) (b : Ballots) (o : AreOrderly shape b) where
   -- no chosen set comes before the first view
   first_least : (n : ℕ) (set : View) → IsChosen shape b set → set.number < n → b.first.number ≤ set.number
   first_least zero set chosen low = omega (arith, low)
-  first_least (suc n) set (inl is) low =
-      subst (λ (s : View). b.first.number ≤ s.number) (sym is) (le_refl b.first.number)
+  first_least (suc n) set (inl is) low = subst (λ (s : View). b.first.number ≤ s.number) (sym is) (le_refl b.first.number)
   first_least (suc n) set (inr won) low =
       let from = origin set won in
       let before : b.first.number ≤ from.base.number =

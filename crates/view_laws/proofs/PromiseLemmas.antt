@@ -1,4 +1,4 @@
--- The promises of a member in ballots, from the newest to the oldest.
+-- What a member has promised, from the newest to the oldest.
 use Rattle.std.proofs.Common.{◌≡◌, ◌<◌, List, [], ◌∷◌, false, refl, sym, ap, ◌∙◌, subst, inl, inr, ⊎_elim, arith}
 use Rattle.run_theory.specs.Lists.{IsIn}
 use Rattle.run_theory.proofs.Pasts.{each_in}
@@ -47,9 +47,8 @@ module _ (b : Ballots) (member : Member) where
       (one.0, inr one.1, one.2)
 
 -- two backed sets of one number with a member in common are the same
-pub backed_same : (shape : Shape) (b : Ballots) → AreOrderly shape b → (one other : View) → IsBacked b one
-    → IsBacked b other → one.number ≡ other.number → (member : Member) → IsIn member (all_of one)
-    → IsIn member (all_of other) → one ≡ other
+pub backed_same : (shape : Shape) (b : Ballots) → AreOrderly shape b → (one other : View) → IsBacked b one → IsBacked b other
+    → one.number ≡ other.number → (member : Member) → IsIn member (all_of one) → IsIn member (all_of other) → one ≡ other
 backed_same shape b o one other backed too same member i j =
     ap (λ (p : Promised). p.set) (one_promise b member (b.promises member) (o.promises member)
     (record { set = one; adopted = false }) (record { set = other; adopted = false })

@@ -1,6 +1,7 @@
--- The promises of one membership, along its rows: each stands rightly behind the one before.
-use Rattle.std.proofs.Common.{◌≡◌, ◌&&◌, ◌==◌, ◌⊎◌, Bool, true, false, not, nat_lt, List, [], ◌∷◌, ◌++◌, refl, ap, sym, subst, ◌∙◌, inl, inr, append_assoc}
-use Rattle.std.proofs.lemmas.Bool.{and_parts, eq-eqb, eqb-true, not-true, or_cases, true≢false}
+-- Each promise stands rightly behind the one before.
+use Rattle.std.proofs.Common.{◌≡◌, ◌&&◌, ◌==◌, ◌⊎◌, Bool, true, false, not, nat_lt, List, [], ◌∷◌, ◌++◌, refl, ap, sym, subst, ◌∙◌, arith, inl, inr, append_assoc}
+use Rattle.std.proofs.lemmas.Bool.{and_parts, eq-eqb, eqb-true, false≢true, or_cases, true≢false}
+use Rattle.std.specs.List.{list_any}
 use Rattle.std.specs.Prelude.{if◌then◌else◌}
 use Rattle.frag_map.specs.Layout.{Layout}
 use Rattle.run_theory.specs.Lists.{Each, IsIn}
@@ -23,15 +24,35 @@ use Rattle.view_laws.specs.Members.{installed_of, is_adopted, known_of, promises
 use Rattle.view_laws.specs.Sets.{AreApart, IsApart, IsMadeOf, IsPart, all_of, joins, promotes}
 use Rattle.view_laws.proofs.ApartLemmas.{all_members, parts_apart}
 use Rattle.view_laws.proofs.EventLemmas.{have_risen, steps}
-use Rattle.view_laws.proofs.Finding.{found}
-use Rattle.view_laws.proofs.SetRows.{HasParts, among_in, cut, part_is, parts_are, promoted_made, with_in}
+use Rattle.view_laws.proofs.SetRows.{HasParts, among_in, cut, part_made, parts_are, promoted_made, with_in}
 use Rattle.view_laws.proofs.StepLemmas.{Asks, Stays, row_installs}
 
+-- who passes a test
+record Found (p : Member → Bool) (members : List Member) : Type 0 where
+  member : Member
+  there : IsIn member members
+  passes : p member ≡ true
+
+found : (p : Member → Bool) (members : List Member) → list_any p members ≡ true → Found p members
+found p [] e = absurd (false≢true e)
+found p (x ∷ members) e = by (or_cases (p x) (list_any p members) e) (found p members)
+  where
+    by : (p x ≡ true) ⊎ (list_any p members ≡ true) → (list_any p members ≡ true → Found p members)
+        → Found p (x ∷ members)
+    by (inl passes) rest = record { member = x; there = inl refl; passes = passes }
+    by (inr later) rest =
+        let one = rest later in
+        record { member = one.member; there = inr one.there; passes = one.passes }
+
 -- who isn't in a view is of none of its members
+not_true : (b : Bool) → not b ≡ true → b ≡ true → ⊥
+not_true true e is = false≢true e
+not_true false e is = false≢true is
+
 outside : (view : View) (member : Member) → IsSet view → not (is_in view member) ≡ true → IsIn member (all_of view) → ⊥
 outside view member is out there =
-    let among = among_in (members_of view) member (subst (IsIn member) (sym (all_members view is)) there) in
-    true≢false (sym among ∙ not-true (is_in view member) out)
+    not_true (is_in view member) out
+    (among_in (members_of view) member (subst (IsIn member) (sym (all_members view is)) there))
 
 -- who joins a set that is apart is of another node than its members
 last_apart : (xs : List Member) (y : Member) → AreApart (xs ++ y ∷ []) → Each (IsApart y) xs
@@ -101,7 +122,7 @@ asked_if : (k : Known) (set : View) → IsSet k.layout.view → IsSet set
     ⊎ ((is_special k.layout.view set && (k.promised.number == k.layout.view.number)) ≡ true)
     → IsPart k.promised set ⊎ IsGrown k.layout.view k.promised set
 unfolding is_special
-asked_if k set is right (inl e) = inl (part_is k.promised set e)
+asked_if k set is right (inl e) = inl (part_made k.promised set e)
 asked_if k set is right (inr e) =
     let parts = and_parts (is_special k.layout.view set) (k.promised.number == k.layout.view.number) e in
     inr (grown_if k.layout.view k.promised set is right

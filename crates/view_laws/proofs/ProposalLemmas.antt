@@ -1,7 +1,7 @@
--- The proposals of one membership: their numbers rise, and each set is rightly made of the installed view.
+-- What a member proposes: numbers rise, and each set is rightly made of the installed view.
 use Rattle.std.proofs.Common.{◌≡◌, ◌≤◌, ◌<◌, ◌&&◌, ◌⊎◌, ℕ, Bool, true, false, not, List, [], ◌∷◌, ◌++◌, map, refl, ap, sym, subst, ◌∙◌, arith, inl, inr}
 use Rattle.std.proofs.lemmas.Bool.{le-ltb, lt-ltb}
-use Rattle.std.specs.Prelude.{is_some, Option, None, Some}
+use Rattle.std.specs.Prelude.{if◌then◌else◌, is_some, Option, None, Some}
 use Rattle.frag_map.specs.Groups.{lost_group}
 use Rattle.frag_map.specs.Layout.{Layout}
 use Rattle.run_theory.specs.Lists.{Each, IsIn}
@@ -14,17 +14,21 @@ use Rattle.qmgr_block.specs.declared.known.Known.{Known}
 use Rattle.qmgr_block.specs.declared.known.Proposal.{Proposal}
 use Rattle.qmgr_block.specs.Laws.{Event, after, installs, takes}
 use Rattle.qmgr_block.specs.Propose.{proposal_by}
+use Rattle.qmgr_block.specs.Sets as sets
 use Rattle.qmgr_block.specs.State.{QmgrState}
 use Rattle.view_laws.specs.Ballots.{Proposed}
 use Rattle.view_laws.specs.Events.{AreOrderlyEvents, IsOrderly, IsSet}
 use Rattle.view_laws.specs.Kept.{AreRising, EachProposalIsRight, IsRight, ProposalsRise}
-use Rattle.view_laws.specs.Members.{installed_of, known_of, proposed_at, proposed_if, proposed_of, state_of}
-use Rattle.view_laws.proofs.EntryLemmas.{entry_of}
+use Rattle.view_laws.specs.Members.{change_by, installed_of, known_of, proposed_at, proposed_if, proposed_of, state_of}
 use Rattle.view_laws.proofs.EventLemmas.{have_risen, steps}
 use Rattle.view_laws.proofs.MadeLemmas.{made}
 use Rattle.view_laws.proofs.PromiseRows.{in_installed, view_set, views_more}
 use Rattle.view_laws.proofs.StepLemmas.{row_installs}
 use Rattle.view_laws.proofs.WalkLemmas.{Brings, IsNotAbove, Keeps}
+
+-- what is proposed, as ballots have it
+abbrev entry_of : View → View → Option Member → Proposed
+entry_of base set joining = record { set = set; change = change_by base set joining; base = base }
 
 -- no proposal is new, or one is of which members are asked
 data Adds (A : Type 0) (k l : Known) (added : List Proposed) : Type 0 where
@@ -67,14 +71,14 @@ proposals s (installs view) =
     inl (record { proposed = row.proposed; low = row.low })
 
 -- no number is above
-abbrev pub IsLow : ℕ → List Proposed → Type 0
+abbrev IsLow : ℕ → List Proposed → Type 0
 IsLow number [] = Unit {0}
 IsLow number (p ∷ proposed) = p.set.number ≤ number
 
-pub record AreLow (k : Known) (proposed : List Proposed) : Type 0 where
-  pub rising : AreRising (map (λ p. p.set.number) proposed)
-  pub low : IsLow k.proposed proposed
-  pub outstanding : IsNotAbove k.proposed k.outstanding
+record AreLow (k : Known) (proposed : List Proposed) : Type 0 where
+  rising : AreRising (map (λ p. p.set.number) proposed)
+  low : IsLow k.proposed proposed
+  outstanding : IsNotAbove k.proposed k.outstanding
 
 grows : (A : Type 0) (k l : Known) → Keeps k l ⊎ Brings A k l → k.proposed ≤ l.proposed
 grows A k l (inl keeps) =
@@ -120,7 +124,7 @@ low_on A k l older added are goes (adds_one brings lost e) =
       outstanding = outstanding_low A k l are.outstanding goes;
     })
 
-pub are_low : (me : Member) (layout : Layout) (events : List Event)
+are_low : (me : Member) (layout : Layout) (events : List Event)
     → AreLow (known_of me layout events) (proposed_of me layout events)
 are_low me layout [] = record { rising = tt; low = tt; outstanding = tt }
 are_low me layout (event ∷ events) =
@@ -146,8 +150,7 @@ stays_shape : (s : QmgrState) (event : Event) → (after s event).known.layout.s
 stays_shape s (takes x) = ap (λ (y : Layout). y.shape) (steps s x).layout
 stays_shape s (installs view) = ap (λ (y : Layout). y.shape) (row_installs s.known view).layout
 
-pub shape_is : (me : Member) (layout : Layout) (events : List Event)
-    → (known_of me layout events).layout.shape ≡ layout.shape
+shape_is : (me : Member) (layout : Layout) (events : List Event) → (known_of me layout events).layout.shape ≡ layout.shape
 shape_is me layout [] = refl
 shape_is me layout (event ∷ events) = stays_shape (state_of me layout events) event ∙ shape_is me layout events
 
@@ -199,8 +202,7 @@ each_right me layout (event ∷ events) orderly =
     let sound : IsOrderly k.me event =
     subst (λ (me : Member). IsOrderly me event) (sym (me_is me layout events)) orderly.each.0 in
     let added =
-    added_right (IsOrderly k.me event) k (after s event).known views _ sound
-    (view_set me layout events before) risen.below
+    added_right (IsOrderly k.me event) k (after s event).known views _ sound (view_set me layout events before) risen.below
     (views_more layout event events k.layout.view (in_installed _ _ risen.installed))
     (adds (IsOrderly k.me event) k (after s event).known (are_low me layout events).outstanding (proposals s event)) in
     each_append _ _ (proposed_of me layout events)

@@ -7,8 +7,7 @@ use Rattle.sig_core.specs.declared.member.Member.{Member}
 use Rattle.view_laws.specs.Sets.{AreApart, IsApart}
 
 -- members with different nodes of which two have one node are the same
-pub apart_same : (members : List Member) → AreApart members → (one other : Member) → IsIn one members
-    → IsIn other members
+pub apart_same : (members : List Member) → AreApart members → (one other : Member) → IsIn one members → IsIn other members
     → one.node ≡ other.node → one ≡ other
 apart_same [] are one other i j same = absurd i
 apart_same (member ∷ members) are one other (inl is) (inl like) same = is ∙ sym like
@@ -23,12 +22,9 @@ apart_front [] ys are = tt
 apart_front (x ∷ xs) ys are = (are.0, each_before (IsApart x) xs ys are.1, apart_front xs ys are.2)
 
 -- each of them has a node
-apart_some : (members : List Member) → AreApart members → Each (λ m. 1 ≤ m.node) members
+pub apart_some : (members : List Member) → AreApart members → Each (λ m. 1 ≤ m.node) members
 apart_some [] are = tt
 apart_some (member ∷ members) are = (are.0, apart_some members are.2)
-
-pub some_node : (members : List Member) (one : Member) → AreApart members → IsIn one members → 1 ≤ one.node
-some_node members one are i = each_in (λ m. 1 ≤ m.node) one members (apart_some members are) i
 
 module _ (p : Member → Bool) where
   each_kept : (P : Member → Type 0) (x : Member) (xs : List Member) → (p x ≡ true → P x) → Each P xs
@@ -62,13 +58,11 @@ all_elsewhere node x is [] apart = refl
 all_elsewhere node x is (y ∷ ys) apart =
     by (y.node == node) refl (all_elsewhere node x is ys apart.1)
   where
-    by : (b : Bool) → (y.node == node) ≡ b → filter (is_elsewhere node) ys ≡ ys
-        → filter (is_elsewhere node) (y ∷ ys) ≡ y ∷ ys
+    by : (b : Bool) → (y.node == node) ≡ b → filter (is_elsewhere node) ys ≡ ys → filter (is_elsewhere node) (y ∷ ys) ≡ y ∷ ys
     by true e rest = absurd (apart.0 (is ∙ sym (eqb-true y.node node e)))
     by false e rest = rw e (ap (λ zs. y ∷ zs) rest)
 
-elsewhere_shorter : (node : ℕ) (xs : List Member) → AreApart xs
-    → length xs ≤ suc (length (filter (is_elsewhere node) xs))
+elsewhere_shorter : (node : ℕ) (xs : List Member) → AreApart xs → length xs ≤ suc (length (filter (is_elsewhere node) xs))
 elsewhere_shorter node [] are = zero-le
 elsewhere_shorter node (x ∷ xs) are =
     by (x.node == node) refl (elsewhere_shorter node xs are.2)
@@ -92,6 +86,5 @@ few_near low (suc many) xs are near =
     let left : List Member = filter (is_elsewhere (low + many)) xs in
     let near_left : Each (IsNear low many) left =
     each_filter (is_elsewhere (low + many)) (IsNear low many) xs (each_map _ _ xs (nearer low many) near) in
-    let fewer : length left ≤ many =
-    few_near low many left (apart_filter (is_elsewhere (low + many)) xs are) near_left in
+    let fewer : length left ≤ many = few_near low many left (apart_filter (is_elsewhere (low + many)) xs are) near_left in
     omega (arith, fewer, elsewhere_shorter (low + many) xs are)

@@ -1,4 +1,4 @@
--- What each row of the membership changes of what it knows: its last promise, and its proposals.
+-- What each row of the membership changes of what it knows, as far as ballots go.
 use Rattle.std.proofs.Common.{◌≡◌, ◌≤◌, ◌&&◌, ◌||◌, ◌==◌, ℕ, Bool, true, false, List, [], ◌∷◌, refl, subst, ◌∙◌, arith, inl}
 use Rattle.std.proofs.lemmas.Bool.{false≢true}
 use Rattle.std.specs.Prelude.{if◌then◌else◌, Option, None, Some}
@@ -37,25 +37,24 @@ missing_if : (k : Known) (before : Member) (all : Bool) → Like k (if all then 
 missing_if k before true = suspect_like k before
 missing_if k before false = like_self k
 
-pub missed_like : (k : Known) (before : Member) → Like k (with_missing (with_round k) before) k.promised
+missed_like : (k : Known) (before : Member) → Like k (with_missing (with_round k) before) k.promised
 missed_like k before =
     let rounded = with_round k in
     like_on k rounded (with_missing rounded before) k.promised (round_if k _ _) (missing_if rounded before _)
 
-pub heartbeat_by_like : (k : Known) (member : Member) (before : Option Member)
+heartbeat_by_like : (k : Known) (member : Member) (before : Option Member)
     → Like k (heartbeat_by k member before) k.promised
 heartbeat_by_like k member None = like_self k
 heartbeat_by_like k member (Some before) = round_if k 0 (same_member member before)
 
-pub closing_like : (k : Known) (member : Member) → Like k (with_closing k member) k.promised
+closing_like : (k : Known) (member : Member) → Like k (with_closing k member) k.promised
 closing_like k member =
     let l : Known = record k { closed = noted k.closed member } in
     like_on k l (with_closed l) k.promised
     (record { me = refl; layout = refl; promised = refl; proposed = refl; outstanding = refl }) (closed_like l)
 
 -- what a promise changes beside the last promise
-absent_if : (k : Known) (set : View) (special : Bool)
-    → Like k (if special then k else with_missing_from k set) k.promised
+absent_if : (k : Known) (set : View) (special : Bool) → Like k (if special then k else with_missing_from k set) k.promised
 absent_if k set true = like_self k
 absent_if k set false = both_like k _ _
 
@@ -92,7 +91,7 @@ keeps_heard k p member e = record {
   low = λ number low. subst (IsNotAbove number) e low;
 }
 
-pub unlike_like : (k : Known) (set other : View) → Like k (with_unlike k set other) k.promised
+unlike_like : (k : Known) (set other : View) → Like k (with_unlike k set other) k.promised
 unfolding with_unlike
 unlike_like k set other = both_like k _ _
 
@@ -112,8 +111,7 @@ module _ (A : Type 0) where
   round_by_goes : (k : Known) (next before : Option Member) → Goes k (round_by k next before)
   round_by_goes k (Some next) (Some before) =
       let missing = with_missing (with_round k) before in
-      moves_sent A k k.promised (heartbeat_to next ∷ []) _
-      (told_on A k missing (has_more k missing) (missed_like k before))
+      moves_sent A k k.promised (heartbeat_to next ∷ []) _ (told_on A k missing (has_more k missing) (missed_like k before))
   round_by_goes k (Some next) None = moves_stay A k
   round_by_goes k None before = moves_stay A k
 
@@ -200,8 +198,7 @@ module _ (A : Type 0) where
 
   unpromised_if_goes : (k : Known) (p : Proposal) (promised : View) (among : Bool)
       → Goes k (unpromised_if k p promised among)
-  unpromised_if_goes k p promised true =
-      told_on A k (with_unlike k p.view promised) true (unlike_like k p.view promised)
+  unpromised_if_goes k p promised true = told_on A k (with_unlike k p.view promised) true (unlike_like k p.view promised)
   unpromised_if_goes k p promised false = moves_like A k k.promised _ (like_self k) refl
 
   unpromised_by_goes : (k : Known) (outstanding : Option Proposal) (promised : View)
@@ -231,9 +228,8 @@ module _ (A : Type 0) where
       moves_proposed_if A k k k.promised (like_self k) (omega arith) (joined_view k.layout.view (next_number k) member)
       (Some member) (presides k && has_number k) refl (λ _. has_one member sound none refl refl refl)
 
-  start_by_goes : (k : Known) (member : Member) (full in_view settled seen : Bool)
-      → (A → (1 ≤ member.node) × (member.node ≤ 8)) → has_node (members_of k.layout.view) member ≡ in_view
-      → Goes k (start_by k member full in_view settled seen)
+  start_by_goes : (k : Known) (member : Member) (full in_view settled seen : Bool) → (A → (1 ≤ member.node) × (member.node ≤ 8))
+      → has_node (members_of k.layout.view) member ≡ in_view → Goes k (start_by k member full in_view settled seen)
   start_by_goes k member true in_view settled seen sound e = moves_like A k k.promised _ (like_self k) refl
   start_by_goes k member false true settled seen sound e = moves_stay A k
   start_by_goes k member false false false seen sound e = moves_stay A k
@@ -249,8 +245,7 @@ module _ (A : Type 0) where
   promote_goes : (k : Known) (member : Member) → Goes k (promote_row k member)
   unfolding promote_row promoted_view
   promote_goes k member =
-      moves_proposed_if A k k k.promised (like_self k) (omega arith)
-      (promoted_view k.layout.view (next_number k) member)
+      moves_proposed_if A k k k.promised (like_self k) (omega arith) (promoted_view k.layout.view (next_number k) member)
       None _ refl
       (λ may. fills_one member
       (starting_if (is_settled k) (is_among k.layout.view.starting member) (presides k) (has_number k) may)

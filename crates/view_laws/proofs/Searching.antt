@@ -1,5 +1,5 @@
--- Of the sets with a property one has the greatest number below a bound, or the least above one. It isn't computed:
--- these serve where a contradiction is looked for.
+-- Of the sets with a property one has the greatest number below a bound, or the least above one. It isn't computed: these
+-- serve where a contradiction is looked for.
 use Rattle.std.proofs.Common.{◌<◌, ◌≤◌, ◌+◌, ℕ, zero, suc, le_refl, arith}
 use Rattle.sig_core.specs.declared.view.View.{View}
 
@@ -12,8 +12,7 @@ module _ (P : View → Type 0) where
       → (left : ℕ) (set : View) → P set → set.number < high → high ≤ set.number + left → ⊥
   greatest_by high none zero set is below near = omega (arith, below, near)
   greatest_by high none (suc left) set is below near =
-      none set is below (λ other has above under. greatest_by high none left other has under
-      (omega (arith, near, above)))
+      none set is below (λ other has above under. greatest_by high none left other has under (omega (arith, near, above)))
 
   -- the greatest below
   pub greatest : (high : ℕ) → ((set : View) → P set → set.number < high → NoneBetween P set.number high → ⊥)

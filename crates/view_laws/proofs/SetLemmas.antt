@@ -1,4 +1,4 @@
--- Sets of ballots that are made of others: where their members come from.
+-- Sets that are made of others: where their members come from.
 use Rattle.std.proofs.Common.{◌⊎◌, List, [], ◌∷◌, ◌++◌, refl, sym, subst, inl, inr, ⊎_elim}
 use Rattle.run_theory.specs.Lists.{Each, IsIn}
 use Rattle.run_theory.proofs.Pasts.{each_from, each_in, each_map, in_append}
@@ -62,8 +62,7 @@ pub part_made : (before : View) (change : Change) (set part : View) → IsMadeOf
 part_made before change set part made is = record {
   allowed = made.allowed;
   full = each_map _ _ part.full (λ x. ⊎_elim (each_in _ x set.full made.full) (λ h. absurd h)) is.full;
-  starting =
-      each_map _ _ part.starting (λ x. ⊎_elim (each_in _ x set.starting made.starting) (λ h. absurd h)) is.starting;
+  starting = each_map _ _ part.starting (λ x. ⊎_elim (each_in _ x set.starting made.starting) (λ h. absurd h)) is.starting;
 }
 
 -- who joins makes nobody full
@@ -81,8 +80,7 @@ pub joining_new : (before : View) (change : Change) (x : Member) → IsAllowed b
     → IsIn x (all_of before) → ⊥
 joining_new before shrinks x a h i = h
 joining_new before (promotes member) x a h i = h
-joining_new before (joins member) x a h i =
-    apart_self member (all_of before) a (subst (λ y. IsIn y (all_of before)) h i)
+joining_new before (joins member) x a h i = apart_self member (all_of before) a (subst (λ y. IsIn y (all_of before)) h i)
 
 -- what is made with this member joining
 pub made_joining : (before : View) (change : Change) (set : View) (x : Member) → IsJoining change x

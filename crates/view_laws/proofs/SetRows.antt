@@ -1,6 +1,6 @@
--- Sets as the rows of a membership test and change them: what the tests tell, and of what a changed set is made.
+-- What the tests of members and sets tell, and of what a changed set is made.
 use Rattle.std.proofs.Common.{◌≡◌, ◌||◌, ◌⊎◌, ℕ, zero, suc, Bool, true, false, cond, nat_eq, List, [], ◌∷◌, ◌++◌, filter, take, refl, ap, sym, subst, ◌∙◌, inl, inr}
-use Rattle.std.proofs.lemmas.Bool.{and_from, and_parts, eq-eqb, eqb-true, false≢true}
+use Rattle.std.proofs.lemmas.Bool.{and_from, and_parts, eq-eqb, eqb-true, false≢true, or_cases}
 use Rattle.std.specs.Cmp.Lexicographic.{pointwise}
 use Rattle.std.specs.List.{list_all, list_any}
 use Rattle.run_theory.specs.Lists.{Each, IsIn}
@@ -10,7 +10,6 @@ use Rattle.sig_core.specs.declared.view.View.{View}
 use Rattle.qmgr_block.specs.Sets as sets
 use Rattle.qmgr_block.specs.Sets.{are_same_parts, is_among, is_part, is_same_set, lie_in, promoted_view, same_member, with_member, without}
 use Rattle.view_laws.specs.Sets.{IsMadeOf, IsPart, promotes}
-use Rattle.view_laws.proofs.Finding.{found}
 
 -- equal members are one
 pub same_is : (one other : Member) → same_member one other ≡ true → one ≡ other
@@ -38,9 +37,14 @@ set_self (x ∷ xs) = and_from _ _ (same_self x) (set_self xs)
 
 -- who is among members is one of them
 pub any_is : (set : List Member) (member : Member) → list_any (same_member member) set ≡ true → IsIn member set
-any_is set member e =
-    let one = found (same_member member) set e in
-    subst (λ (other : Member). IsIn other set) (sym (same_is member one.member one.passes)) one.there
+any_is [] member e = absurd (false≢true e)
+any_is (x ∷ set) member e =
+    by (or_cases (same_member member x) (list_any (same_member member) set) e) (any_is set member)
+  where
+    by : (same_member member x ≡ true) ⊎ (list_any (same_member member) set ≡ true)
+        → (list_any (same_member member) set ≡ true → IsIn member set) → IsIn member (x ∷ set)
+    by (inl is) rest = inl (same_is member x is)
+    by (inr is) rest = inr (rest is)
 
 pub among_is : (set : List Member) (member : Member) → is_among set member ≡ true → IsIn member set
 unfolding is_among
@@ -63,8 +67,7 @@ pub among_in : (set : List Member) (member : Member) → IsIn member set → is_
 unfolding is_among
 among_in set member is = any_in set member is
 
-all_lie : (set members : List Member) → list_all (is_among set) members ≡ true
-    → Each (λ member. IsIn member set) members
+all_lie : (set members : List Member) → list_all (is_among set) members ≡ true → Each (λ member. IsIn member set) members
 all_lie set [] e = tt
 all_lie set (member ∷ members) e =
     let parts = and_parts (is_among set member) (list_all (is_among set) members) e in
@@ -112,8 +115,8 @@ pub with_in : (members : List Member) (member one : Member) → IsIn one (with_m
 with_in members member one is = snoc_in members member one (take_in 8 (members ++ member ∷ []) one is)
 
 -- how a set is made of another
-pub part_is : (whole part : View) → is_part whole part ≡ true → IsPart whole part
-part_is whole part e =
+pub part_made : (whole part : View) → is_part whole part ≡ true → IsPart whole part
+part_made whole part e =
     let parts = and_parts (lie_in whole.full part.full) (lie_in whole.starting part.starting) e in
     record {
       allowed = tt;

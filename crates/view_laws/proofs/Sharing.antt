@@ -1,5 +1,5 @@
--- Two sets that follow the same chosen one share a full member, or both were granted. And what was granted after
--- another grant shares a member with a chosen set that the other comes to.
+-- Two sets that follow the same chosen one share a full member, or both were granted. And what was granted after another
+-- grant shares a member with a chosen set that the other comes to.
 use Rattle.std.proofs.Common.{◌≡◌, ◌<◌, ◌⊎◌, ℕ, true, List, [], ◌∷◌, Some, refl, sym, ap, ◌∙◌, subst, inl, inr, ⊎_elim, arith}
 use Rattle.frag_map.specs.Groups.{whole_group}
 use Rattle.frag_map.specs.Shape.{IsShape}
@@ -15,14 +15,13 @@ use Rattle.view_laws.specs.Sets.{AreApart, Change, Change.joins, Change.promotes
 use Rattle.view_laws.proofs.Deciding.{Meets}
 use Rattle.view_laws.proofs.GrantLemmas.{Rise, grants_fall, grants_same, rise}
 use Rattle.view_laws.proofs.GroupLemmas.{shares_full}
-use Rattle.view_laws.proofs.Origins.{Origin, chosen_apart, full_meets}
+use Rattle.view_laws.proofs.Origins.{Origin, by_full, chosen_apart, full_meets}
 use Rattle.view_laws.proofs.PromiseLemmas.{backed_same}
 use Rattle.view_laws.proofs.Searching.{NoneBetween}
 use Rattle.view_laws.proofs.SetLemmas.{apart_self, full_in, made_full}
 
 -- what needs no grant has a whole group
-free_whole : (shape : Shape) (change : Change) (set : View) → NeedsNoGrant shape change set
-    → whole_group shape set ≡ true
+free_whole : (shape : Shape) (change : Change) (set : View) → NeedsNoGrant shape change set → whole_group shape set ≡ true
 free_whole shape shrinks set free = free
 free_whole shape (promotes member) set free = free
 free_whole shape (joins member) set free = absurd free
@@ -64,19 +63,17 @@ module _ (shape : Shape) (is_shape : IsShape shape) (b : Ballots) (o : AreOrderl
       by (inr granted) (inr granted_too) = neither granted granted_too
 
   -- two sets that were granted with one number are the same
-  pub granted_same : (one other : View) → Origin shape b one → Origin shape b other → IsGranted b one
-      → IsGranted b other
+  pub granted_same : (one other : View) → Origin shape b one → Origin shape b other → IsGranted b one → IsGranted b other
       → one.number ≡ other.number → one ≡ other
   granted_same one other from from_too granted granted_too same =
       let alike : all_of one ≡ all_of other =
-      sym granted.members
-      ∙ (grants_same b b.grants o.grants granted.grant granted_too.grant granted.there granted_too.there
+      sym granted.members ∙ (grants_same b b.grants o.grants granted.grant granted_too.grant granted.there granted_too.there
       (granted.number ∙ (same ∙ sym granted_too.number)) ∙ granted_too.members) in
-      let i : IsIn from.by (all_of one) = full_in one from.by from.by_full in
+      let i : IsIn from.by (all_of one) = full_in one from.by (by_full shape b one from) in
       backed_same shape b o one other from.backed from_too.backed same from.by i (subst (IsIn from.by) alike i)
 
-  -- Where the number rises from the last grant to one of this set, the full members of the set are of the last grant:
-  -- the grant is of a proposal of the very set, and a full member isn't one that joined.
+  -- Where the number rises from the last grant to one of this set, the full members of the set are of the last grant: the
+  -- grant is of a proposal of the very set, and a full member isn't one that joined.
   kept_granted : (set : View) → IsBacked b set → (last grant : Granted) → IsOfProposal b grant → IsNextGrant last grant
       → last.number < grant.number → grant.number ≡ set.number → grant.members ≡ all_of set
       → (member : Member) → IsIn member set.full → IsIn member last.members
@@ -98,21 +95,17 @@ module _ (shape : Shape) (is_shape : IsShape shape) (b : Ballots) (o : AreOrderl
           (subst (IsIn member) (sym (of.members ∙ members)) inside) inside
 
       old : IsIn member (all_of proposal.base)
-      old =
-          made_full proposal.base proposal.change proposal.set made member
-          (subst (λ v. IsIn member v.full) (sym same) i)
+      old = made_full proposal.base proposal.change proposal.set made member (subst (λ v. IsIn member v.full) (sym same) i)
 
       by : IsNextGrant last grant → IsIn member last.members
       by (inl h) =
           ⊎_elim (λ k. k)
           (λ named. absurd (named_new proposal.change proposal.base member made.allowed (named ∙ sym of.joining) old))
-          (each_in (IsAmong last.members grant.joining) member grant.members h.1
-          (subst (IsIn member) (sym members) inside))
+          (each_in (IsAmong last.members grant.joining) member grant.members h.1 (subst (IsIn member) (sym members) inside))
       by (inr h) = absurd (omega (arith, h.0, rises))
 
   -- what an older grant is of is a chosen set, if it isn't the first grant
-  grant_chosen : (grant : Granted) → IsIn grant b.grants → (of : IsOfProposal b grant)
-      → IsChosen shape b of.proposal.set
+  grant_chosen : (grant : Granted) → IsIn grant b.grants → (of : IsOfProposal b grant) → IsChosen shape b of.proposal.set
   grant_chosen grant there of = inr (record {
     proposal = of.proposal;
     there = of.there;
@@ -133,7 +126,7 @@ module _ (shape : Shape) (is_shape : IsShape shape) (b : Ballots) (o : AreOrderl
           (omega (arith, granted.number, granted_too.number, below))
 
       i : IsIn from.by set.full
-      i = from.by_full
+      i = by_full shape b set from
 
       kept : IsIn from.by r.last.members
       kept =
@@ -146,8 +139,7 @@ module _ (shape : Shape) (is_shape : IsShape shape) (b : Ballots) (o : AreOrderl
       by : (last : Granted) (older : List Granted) → AreGrants b (r.grant ∷ last ∷ older) → last.number < r.grant.number
           → IsIn last b.grants → IsIn granted.grant (last ∷ older) → IsIn from.by last.members → ⊥
       by last [] are rises there (inl is) k =
-          let there = subst (IsIn from.by) (ap (λ (g : Granted). g.members) (sym is) ∙ granted.members) k in
-          none one (chosen, meets one there)
+          none one (chosen, meets one (subst (IsIn from.by) (ap (λ (g : Granted). g.members) (sym is) ∙ granted.members) k))
           above below
       by last [] are rises there (inr j) k = j
       by last (first ∷ older) are rises there left k =

@@ -1,5 +1,5 @@
--- From a chosen set to a later one along the promises of a member of both: where no chosen set between shares a
--- member with the later one, that is made of the earlier one by one change.
+-- From a chosen set to a later one along the promises of a member of both: where no chosen set between shares a member with
+-- the later one, that is made of the earlier one by one change.
 use Rattle.std.proofs.Common.{◌≡◌, ◌<◌, ◌≤◌, ◌⊎◌, ℕ, Bool, true, false, List, [], ◌∷◌, refl, sym, ap, ◌∙◌, subst, inl, inr, ⊎_elim, arith, eq-or-lt_of_le, le_refl}
 use Rattle.run_theory.specs.Lists.{IsIn}
 use Rattle.run_theory.proofs.Pasts.{each_in}
@@ -11,7 +11,7 @@ use Rattle.view_laws.specs.Chain.{Follows}
 use Rattle.view_laws.specs.Orderly.{AreOrderly, ArePromises, IsBehind, IsOut, IsSpecial}
 use Rattle.view_laws.specs.Sets.{Change.joins, Change.shrinks, IsJoining, IsMadeOf, IsPart, all_of}
 use Rattle.view_laws.proofs.Deciding.{Meets}
-use Rattle.view_laws.proofs.Origins.{Origin, full_meets}
+use Rattle.view_laws.proofs.Origins.{Origin, by_full, full_meets}
 use Rattle.view_laws.proofs.PromiseLemmas.{first_promise, older_promises, promises_rise}
 use Rattle.view_laws.proofs.Searching.{NoneBetween}
 use Rattle.view_laws.proofs.SetLemmas.{full_in, joined_full, joining_new, made_from, made_joining, part_in, part_made, part_self}
@@ -34,8 +34,7 @@ module _ (shape : Shape) (b : Ballots) (o : AreOrderly shape b) (member : Member
     abbrev Stands : View → Type 0
     Stands set = Follows before set ⊎ HasJoined shape b member before.number set ⊎ IsOut set member
 
-    part_stands : (last set : View) → last.number < set.number → Stands last → IsIn member (all_of set)
-        → IsPart last set
+    part_stands : (last set : View) → last.number < set.number → Stands last → IsIn member (all_of set) → IsPart last set
         → Stands set
     part_stands last set later (inl from) i part =
         inl (record { change = from.change; made = part_made before from.change last set from.made part })
@@ -71,8 +70,7 @@ module _ (shape : Shape) (b : Ballots) (o : AreOrderly shape b) (member : Member
               made = subst (λ v. IsMadeOf v special.change set) (is_before e) special.made;
             })
         by (inr above) (inl j) =
-            absurd (none base chosen (omega (arith, above, special.number))
-            (omega (arith, special.number, later, below)) j)
+            absurd (none base chosen (omega (arith, above, special.number)) (omega (arith, special.number, later, below)) j)
         by (inl e) (inr joins_it) =
             absurd (joining_new base special.change member special.made.allowed joins_it
             (subst (λ v. IsIn member (all_of v)) (sym (is_before e)) inside))
@@ -92,8 +90,7 @@ module _ (shape : Shape) (b : Ballots) (o : AreOrderly shape b) (member : Member
         ⊎_elim (part_stands last set later stands behind.member_in)
         (special_stands last set low later below behind.member_in) behind.from
 
-    stands : (newest : Promised) (older : List Promised) → ArePromises b member (newest ∷ older)
-        → newest.set.number ≤ high
+    stands : (newest : Promised) (older : List Promised) → ArePromises b member (newest ∷ older) → newest.set.number ≤ high
         → (one : Promised) → IsIn one (newest ∷ older) → one.set ≡ before
         → (before.number ≤ newest.set.number) × Stands newest.set
     stands newest older are below one (inl is) same =
@@ -145,8 +142,8 @@ module _ (shape : Shape) (b : Ballots) (o : AreOrderly shape b) where
       → NoneBetween (λ other. IsChosen shape b other × Meets from.base other set) before.number set.number
       → Meets from.base before set → Follows before set
   follows before set chosen from later alone none meets =
-      end (promise_stands shape b o member before set.number meets.in_one alone between
-      (b.promises member) (o.promises member) promise there (le_refl set.number) later one.0 one.1 one.2)
+      end (promise_stands shape b o member before set.number meets.in_one alone between (b.promises member) (o.promises member)
+      promise there (le_refl set.number) later one.0 one.1 one.2)
     where
       member : Member
       member = meets.member
@@ -170,8 +167,7 @@ module _ (shape : Shape) (b : Ballots) (o : AreOrderly shape b) where
       end : Follows before set ⊎ HasJoined shape b member before.number set ⊎ IsOut set member → Follows before set
       end (inl made) = made
       end (inr (inl h)) =
-          let i : IsIn from.by set.full = from.by_full in
-          let j : IsIn from.by (all_of h.base) =
-          full_in h.base from.by (joined_full h.base member set h.made from.by i) in
+          let i : IsIn from.by set.full = by_full shape b set from in
+          let j : IsIn from.by (all_of h.base) = full_in h.base from.by (joined_full h.base member set h.made from.by i) in
           absurd (none h.base (h.chosen, full_meets shape b set from from.by i h.base j) h.above h.below)
       end (inr (inr out)) = absurd (out meets.in_other)

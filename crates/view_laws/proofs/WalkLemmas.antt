@@ -1,5 +1,4 @@
--- What a row of the membership may change of what it knows: its last promise, and its proposals. So much do the rows
--- change by which it proposes.
+-- What a signal changes of what the membership of a node knows, as far as ballots go: the last promise, and proposals.
 use Rattle.std.proofs.Common.{◌≡◌, ◌≤◌, ◌<◌, ◌⊎◌, ℕ, Bool, true, false, nat_lt, List, [], ◌∷◌, refl, ap, sym, subst, ◌∙◌, arith, inl, inr}
 use Rattle.std.proofs.lemmas.Bool.{ltb-true, ltb-false}
 use Rattle.std.specs.Prelude.{if◌then◌else◌, Option, None, Some, position}
@@ -78,14 +77,6 @@ pub record Keeps (k l : Known) : Type 0 where
   pub proposed : l.proposed ≡ k.proposed
   pub low : (number : ℕ) → IsNotAbove number k.outstanding → IsNotAbove number l.outstanding
 
--- the greater one of two numbers isn't below either
-pub greatest_if : (a b : ℕ) (less : Bool) → nat_lt a b ≡ less
-    → (a ≤ (if less then b else a)) × (b ≤ (if less then b else a))
-greatest_if a b true e =
-    let lower : a < b = ltb-true a b e in
-    (omega arith, omega arith)
-greatest_if a b false e = (omega arith, ltb-false a b e)
-
 -- where A says what is so of the signal
 module _ (A : Type 0) where
   -- how the set of a proposal is made of the installed view: without suspects, or with a member that joins, or with one
@@ -94,8 +85,7 @@ module _ (A : Type 0) where
     remains : (suspects : List Member) → presides_by me (president_of base suspects) ≡ true
         → set.full ≡ without base.full suspects → set.starting ≡ without base.starting suspects → joining ≡ None
         → Form me base set joining
-    has_one : (member : Member) → (A → (1 ≤ member.node) × (member.node ≤ 8))
-        → has_node (members_of base) member ≡ false
+    has_one : (member : Member) → (A → (1 ≤ member.node) × (member.node ≤ 8)) → has_node (members_of base) member ≡ false
         → set.full ≡ base.full → set.starting ≡ with_member base.starting member → joining ≡ Some member
         → Form me base set joining
     fills_one : (member : Member) → is_among base.starting member ≡ true
@@ -146,6 +136,13 @@ module _ (A : Type 0) where
     proposals = moves.proposals;
     silent = moves.silent;
   }
+
+  greatest_if : (a b : ℕ) (less : Bool) → nat_lt a b ≡ less
+      → (a ≤ (if less then b else a)) × (b ≤ (if less then b else a))
+  greatest_if a b true e =
+      let lower : a < b = ltb-true a b e in
+      (omega arith, omega arith)
+  greatest_if a b false e = (omega arith, ltb-false a b e)
 
   -- a proposal of the least number that is left
   pub moves_proposed : (k l : Known) (promised : View) → Like k l promised → k.promised.number ≤ promised.number
@@ -199,8 +196,7 @@ module _ (A : Type 0) where
   pub moves_told : (k l : Known) (promised : View) → Like k l promised → k.promised.number ≤ promised.number
       → Moves k promised (told l)
   unfolding told
-  moves_told k l promised like rises =
-      moves_told_by k l promised like rises l.has_joined (presides l) (president l) refl
+  moves_told k l promised like rises = moves_told_by k l promised like rises l.has_joined (presides l) (president l) refl
 
   pub moves_told_if : (k l : Known) (promised : View) → Like k l promised → k.promised.number ≤ promised.number
       → (changed : Bool) → Moves k promised (told_if l changed)

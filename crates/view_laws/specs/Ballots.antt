@@ -25,8 +25,7 @@ pub record Granted : Type 0 where
   pub joining : Option Member
 
 -- All that members did. Of each member: what it promised, the newest first, which numbers it has confirmed, and the
--- views that the host of its membership has installed. Of all: what was proposed, and what was granted, the newest
--- first.
+-- views that the host of its membership has installed. Of all: what was proposed, and what was granted, the newest first.
 pub record Ballots : Type 0 where
   pub first : View
   pub promises : Member → List Promised

@@ -19,8 +19,7 @@ pub record IsNext (shape : Shape) (b : Ballots) (before after : View) : Type 0 w
   pub one : IsChosen shape b before
   pub other : IsChosen shape b after
   pub later : before.number < after.number
-  pub none : (between : View) → IsChosen shape b between → before.number < between.number
-      → between.number < after.number
+  pub none : (between : View) → IsChosen shape b between → before.number < between.number → between.number < after.number
       → ⊥
 
 -- the set is made of the one before

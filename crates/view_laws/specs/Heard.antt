@@ -1,5 +1,5 @@
 -- What a membership has heard when it asks the arbitrator and when it settles on a view, and what it answers to.
-use Rattle.std.specs.Prelude.{◌≡◌, ◌≤◌, ◌⊎◌, ℕ, false, List, [], ◌∷◌, Option, None, Some}
+use Rattle.std.specs.Prelude.{◌≡◌, ◌≤◌, ◌⊎◌, ℕ, false, List, [], ◌∷◌, ◌++◌, Option, None, Some}
 use Rattle.frag_map.specs.Layout.{Layout}
 use Rattle.run_theory.specs.Lists.{Each, IsIn}
 use Rattle.sig_core.specs.declared.mark.Mark.TheVariants.{Installed}
@@ -14,7 +14,7 @@ use Rattle.sig_core.specs.declared.view.View.{View}
 use Rattle.sig_core.specs.Place.{membership}
 use Rattle.qmgr_block.specs.declared.known.Proposal.{Proposal}
 use Rattle.qmgr_block.specs.Laws.{Event, takes}
-use Rattle.view_laws.specs.Ballots.{NeedsNoGrant, Proposed}
+use Rattle.view_laws.specs.Ballots.{NeedsNoGrant, Promised, Proposed}
 use Rattle.view_laws.specs.Events.{AreOrderlyEvents}
 use Rattle.view_laws.specs.HostEvents.{taken_in}
 use Rattle.view_laws.specs.Members.{confirmed_of, effects_at, known_of, promises_of, proposed_of, state_of}
@@ -55,8 +55,7 @@ IsRightlyAsked proposals taken (Membership (ArbitReq number members joins)) =
 IsRightlyAsked proposals taken body = Unit {0}
 
 -- a view that is settled on at a signal was proposed and confirmed by all, and was granted unless it needs no grant
-pub record IsRightlySettled (layout : Layout) (proposals : List Proposed) (taken : List Signal) (x : Signal)
-    (view : View)
+pub record IsRightlySettled (layout : Layout) (proposals : List Proposed) (taken : List Signal) (x : Signal) (view : View)
     : Type 0 where
   pub joins : Option Member
   pub of : IsHeardOf proposals taken [] view joins
@@ -75,8 +74,7 @@ pub record AskRightly (me : Member) (layout : Layout) (events : List Event) : Ty
 
 abbrev pub MembershipsAskRightly : Type 0
 MembershipsAskRightly =
-    (me : Member) (layout : Layout) (events : List Event) → AreOrderlyEvents me layout events
-    → AskRightly me layout events
+    (me : Member) (layout : Layout) (events : List Event) → AreOrderlyEvents me layout events → AskRightly me layout events
 
 -- a promise that is confirmed to a node was asked for by that node
 pub record IsAnswerTo (me : Member) (layout : Layout) (events : List Event) (node number : ℕ) : Type 0 where

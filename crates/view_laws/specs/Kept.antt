@@ -1,5 +1,5 @@
--- What the membership of one node keeps by itself of what ballots owe, along what it takes and installs.
-use Rattle.std.specs.Prelude.{◌≡◌, ◌<◌, ◌≤◌, ◌⊎◌, ℕ, Bool, true, false, List, [], ◌∷◌, map, Option, None, Some}
+-- What the membership of one node keeps by itself of what ballots owe, along whatever it takes and installs.
+use Rattle.std.specs.Prelude.{◌≡◌, ◌<◌, ◌≤◌, ◌⊎◌, ℕ, Bool, true, false, List, [], ◌∷◌, map, Some}
 use Rattle.frag_map.specs.Groups.{is_viable}
 use Rattle.frag_map.specs.Layout.{Layout}
 use Rattle.run_theory.specs.Lists.{Each, IsIn}
@@ -11,6 +11,7 @@ use Rattle.qmgr_block.specs.Laws.{Event, takes}
 use Rattle.view_laws.specs.Ballots.{Promised, Proposed}
 use Rattle.view_laws.specs.Events.{AreOrderlyEvents, IsSet}
 use Rattle.view_laws.specs.Members.{confirmed_of, installed_of, known_of, promises_of, proposed_of, state_of}
+use Rattle.view_laws.specs.Orderly.{proposer}
 use Rattle.view_laws.specs.Sets.{Change, IsMadeOf, IsPart, all_of, joins, promotes, shrinks}
 
 -- numbers, the newest first, rise
@@ -93,17 +94,12 @@ PromisesStandBehindOneAnother =
     (me : Member) (layout : Layout) (events : List Event) → AreOrderlyEvents me layout events
     → AreBehind me (installed_of layout events) (promises_of me layout events)
 
--- the oldest of these members
-abbrev pub oldest : List Member → Option Member
-oldest [] = None
-oldest (member ∷ members) = Some member
-
 -- a set is proposed by its oldest full member, where it has lost members; where one joins, or is promoted, if the
 -- oldest full member of the base proposes it
 abbrev pub IsOwn : Member → View → View → Change → Type 0
-IsOwn me base set shrinks = oldest set.full ≡ Some me
-IsOwn me base set (joins member) = oldest base.full ≡ Some me → oldest set.full ≡ Some me
-IsOwn me base set (promotes member) = oldest base.full ≡ Some me → oldest set.full ≡ Some me
+IsOwn me base set shrinks = proposer set.full ≡ Some me
+IsOwn me base set (joins member) = proposer base.full ≡ Some me → proposer set.full ≡ Some me
+IsOwn me base set (promotes member) = proposer base.full ≡ Some me → proposer set.full ≡ Some me
 
 -- a proposal of the member: each group has a full member, no node has two, and it is made of an installed view that has
 -- a lesser number

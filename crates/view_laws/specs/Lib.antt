@@ -1,7 +1,6 @@
 pub mod Ballots
 pub mod Chain
 pub mod Events
-pub mod Fences
 pub mod Grants
 pub mod Heard
 pub mod HostEvents
@@ -10,5 +9,4 @@ pub mod Members
 pub mod Orderly
 pub mod Runs
 pub mod Sets
-pub mod Standing
 pub mod Votes

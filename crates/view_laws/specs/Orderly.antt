@@ -1,5 +1,5 @@
 -- What is so of the ballots of each run, as far as the views that are chosen rest on it.
-use Rattle.std.specs.Prelude.{◌≡◌, ◌<◌, ◌⊎◌, Bool, true, false, List, [], ◌∷◌, Option, Some}
+use Rattle.std.specs.Prelude.{◌≡◌, ◌<◌, ◌⊎◌, Bool, true, false, List, [], ◌∷◌, Option, None, Some}
 use Rattle.frag_map.specs.Groups.{is_viable}
 use Rattle.run_theory.specs.Lists.{Each, IsIn}
 use Rattle.sig_core.specs.declared.member.Member.{Member}
@@ -48,17 +48,21 @@ abbrev pub ArePromises : Ballots → Member → List Promised → Type 0
 ArePromises b member [] = Unit {0}
 ArePromises b member (promise ∷ []) = IsFirstPromise b member promise
 ArePromises b member (promise ∷ last ∷ older) =
-    (last.set.number < promise.set.number) × IsNextPromise b member last.set promise
-    × ArePromises b member (last ∷ older)
+    (last.set.number < promise.set.number) × IsNextPromise b member last.set promise × ArePromises b member (last ∷ older)
 
--- a proposal: a set in which each group has a full member, made of a view that the host of its proposer, a full member
--- of it, has installed, with a greater number
+-- a set is proposed by its oldest full member
+abbrev pub proposer : List Member → Option Member
+proposer [] = None
+proposer (member ∷ members) = Some member
+
+-- a proposal: a set in which each group has a full member, made of a view that its proposer's host has installed, with
+-- a greater number
 pub record IsProposal (shape : Shape) (b : Ballots) (p : Proposed) : Type 0 where
   pub viable : is_viable shape p.set ≡ true
   pub apart : AreApart (all_of p.set)
   pub later : p.base.number < p.set.number
   pub by : Member
-  pub of : IsIn by p.set.full
+  pub proposer : proposer p.set.full ≡ Some by
   pub installed : IsIn p.base (b.installed by)
   pub made : IsMadeOf p.base p.change p.set
 
@@ -90,10 +94,18 @@ AreGrants b [] = Unit {0}
 AreGrants b (grant ∷ []) = IsFirstGrant b grant
 AreGrants b (grant ∷ last ∷ older) = IsOfProposal b grant × IsNextGrant last grant × AreGrants b (last ∷ older)
 
+-- a node proposes no number twice
+abbrev pub AreOneEach : List Proposed → Type 0
+AreOneEach proposed =
+    (one other : Proposed) → IsIn one proposed → IsIn other proposed → one.set.number ≡ other.set.number
+    → proposer one.set.full ≡ proposer other.set.full
+    → one ≡ other
+
 -- all of that; and what is installed is chosen
 pub record AreOrderly (shape : Shape) (b : Ballots) : Type 0 where
   pub first_apart : AreApart (all_of b.first)
   pub promises : (member : Member) → ArePromises b member (b.promises member)
   pub proposed : Each (IsProposal shape b) b.proposed
+  pub one_each : AreOneEach b.proposed
   pub grants : AreGrants b b.grants
   pub installed : (member : Member) → Each (IsChosen shape b) (b.installed member)

@@ -1,5 +1,5 @@
 -- The ballots of a run, and what is so of them.
-use Rattle.std.specs.Prelude.{◌≡◌, ◌<◌, ℕ, if◌then◌else◌, true, List, [], flat_map}
+use Rattle.std.specs.Prelude.{◌≡◌, ◌<◌, ℕ, if◌then◌else◌, Bool, true, false, List, [], flat_map}
 use Rattle.std.specs.List.{list_any}
 use Rattle.frag_map.specs.Groups.{is_viable}
 use Rattle.frag_map.specs.Layout.{first_layout, first_view, members}
@@ -33,13 +33,10 @@ if_made start member some = if list_any (is_member member) (made start) then som
 abbrev pub ballots_of : Start → (ℕ → List HostStep) → Ballots
 ballots_of start logs = record {
   first = first_view start.shape.nodes;
-  promises =
-      λ member. if_made start member (promises_of member (first_layout start.shape) (events_in start logs member));
-  confirmed =
-      λ member. if_made start member (confirmed_of member (first_layout start.shape) (events_in start logs member));
+  promises = λ member. if_made start member (promises_of member (first_layout start.shape) (events_in start logs member));
+  confirmed = λ member. if_made start member (confirmed_of member (first_layout start.shape) (events_in start logs member));
   installed = λ member. if_made start member (installed_of (first_layout start.shape) (events_in start logs member));
-  proposed =
-      flat_map (λ member. proposed_of member (first_layout start.shape) (events_in start logs member)) (made start);
+  proposed = flat_map (λ member. proposed_of member (first_layout start.shape) (events_in start logs member)) (made start);
   grants = grants_of (members start.shape.nodes) (taken_in (events_of is_arbiter start 0 (logs 0)));
 }
 
@@ -58,8 +55,7 @@ pub record HasOrderlyBallots (start : Start) (es : List HostStep) : Type 0 where
   pub orderly : AreOrderly start.shape (ballots_of start (log_of (machine start) es))
   pub chosen :
       (h : ℕ) → h < hosts start
-      → IsChosen start.shape (ballots_of start (log_of (machine start) es))
-      (view_after start h (log_of (machine start) es h))
+      → IsChosen start.shape (ballots_of start (log_of (machine start) es)) (view_after start h (log_of (machine start) es h))
 
 abbrev pub RunsHaveOrderlyBallots : Type 0
 RunsHaveOrderlyBallots = (start : Start) (es : List HostStep) → IsRun start es → HasOrderlyBallots start es

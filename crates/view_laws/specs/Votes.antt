@@ -1,5 +1,5 @@
 -- Who sends the signals by which views are chosen.
-use Rattle.std.specs.Prelude.{◌≡◌, ℕ, Bool, true, false, List, [], ◌∷◌, ◌++◌, Option, None, Some}
+use Rattle.std.specs.Prelude.{◌≡◌, ◌+◌, ◌<◌, ℕ, Bool, true, false, List, [], ◌∷◌, ◌++◌, Option, None, Some}
 use Rattle.frag_map.specs.Layout.{Layout, first_layout, members}
 use Rattle.run_theory.specs.Lists.{Each, IsIn}
 use Rattle.sig_core.specs.declared.member.Member.{Member}
@@ -21,7 +21,7 @@ use Rattle.world_core.specs.Steps.{HostStep}
 use Rattle.world_views.specs.Machine.{after, step_after}
 use Rattle.view_laws.specs.Grants.{arbiter_of}
 use Rattle.view_laws.specs.HostEvents.{events_at, events_of, is_arbiter, is_membership, taken_in}
-use Rattle.view_laws.specs.Members.{effects_at, state_of}
+use Rattle.view_laws.specs.Members.{effects_at, known_of, state_of}
 
 -- signals by which views are asked for, proposed, promised and granted
 abbrev pub is_vote : Body → Bool
@@ -59,8 +59,7 @@ pub record FollowsItsEvents (start : Start) (member : Member) (log : List HostSt
 
 abbrev pub HostsFollowTheirEvents : Type 0
 HostsFollowTheirEvents =
-    (start : Start) (member : Member) (log : List HostStep) → IsIn member (made start)
-    → FollowsItsEvents start member log
+    (start : Start) (member : Member) (log : List HostStep) → IsIn member (made start) → FollowsItsEvents start member log
 
 -- and the shell's host has the arbitrator to which all that it took came
 abbrev pub ArbitersFollowTheirSignals : Type 0
@@ -97,8 +96,7 @@ abbrev pub ArbitersVote : Type 0
 ArbitersVote =
     (start : Start) (log : List HostStep) (e : HostStep)
     → Each (λ sent. is_vote sent.body ≡ true → IsSentByArbiter (members start.shape.nodes)
-    (taken_in (events_at is_arbiter 0 (after start 0 log) e.step.taken))
-    (taken_in (events_of is_arbiter start 0 log)) sent)
+    (taken_in (events_at is_arbiter 0 (after start 0 log) e.step.taken)) (taken_in (events_of is_arbiter start 0 log)) sent)
     (step_after start 0 log e).effects.sends
 
 -- a host that runs neither sends none
