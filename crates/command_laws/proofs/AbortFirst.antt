@@ -1,6 +1,6 @@
 -- The request of an abort: the wish for it goes to the transaction's coordinator, and all that was asked for stays as it is.
 use Rattle.std.proofs.Common.{◌≡◌, ◌≤◌, ◌+◌, ℕ, Bool, true, false, sym, ap, ◌∙◌, subst, arith}
-use Rattle.std.specs.Prelude.{◌==◌, ◌&&◌, None, Some}
+use Rattle.std.specs.Prelude.{◌==◌, ◌&&◌, Some}
 use Rattle.run_theory.specs.Lists.{IsIn}
 use Rattle.sig_core.proofs.Keys.{same_tx-self}
 use Rattle.sig_core.specs.declared.member.TxId.{TxId}

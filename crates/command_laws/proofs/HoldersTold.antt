@@ -112,7 +112,7 @@ module _ (answered : EachIsAnswered) (held_up : EachIsHeldUp) (start : Start) (w
   i = own_found s t own
 
   in_opened : IsIn t (opened_after start was)
-  in_opened = subst (IsIn t) (sym i.is) (in_middle i.front t i.back)
+  in_opened = subst (IsIn t) (sym i.first.is) (in_middle i.front t i.back)
 
   pub w : IsWaiting t
   w = is_waiting start was t unanswered (answered start was t first_served.before in_opened)
@@ -138,7 +138,7 @@ module _ (answered : EachIsAnswered) (held_up : EachIsHeldUp) (start : Start) (w
         arith,
         h.few,
         once_started start w.tx was first_served.before,
-        tally_between (has_tx w.tx) i.front t i.back s.opened i.is,
+        tally_between (has_tx w.tx) i.front t i.back s.opened i.first.is,
         ap one_if (ap (is_tx w.tx) w.own ∙ same_tx-self w.tx),
         tally_append (has_tx w.tx) i.front i.back,
       )

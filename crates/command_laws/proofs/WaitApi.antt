@@ -1,6 +1,5 @@
 -- The API while it asks what its own transaction waits for.
-use Rattle.std.proofs.Common.{◌≡◌, ◌⊎◌, ◌<◌, ◌≤◌, ◌+◌, ℕ, true, false, List, [], ◌∷◌, ◌++◌, length, refl, sym, ap, ◌∙◌, subst, inl, inr, length-append, arith, Bool}
-use Rattle.std.proofs.lemmas.Bool.Decides.{nat_tests}
+use Rattle.std.proofs.Common.{◌≡◌, ◌⊎◌, ◌≤◌, ◌+◌, ℕ, true, false, List, [], ◌∷◌, ◌++◌, length, refl, sym, ap, ◌∙◌, subst, inl, inr, arith, Bool}
 use Rattle.std.specs.Prelude.{◌==◌, ◌&&◌, if◌then◌else◌, nat_lt, Option, None, Some, is_some, not, position, slice_get, slice_set}
 use Rattle.sig_core.proofs.Keys.{same_tx-self}
 use Rattle.sig_core.specs.declared.member.TxId.{TxId}
@@ -147,9 +146,8 @@ module _ (front : List OpenTransaction) (t : OpenTransaction) (back : List OpenT
 
 inside : (front : List OpenTransaction) (u : OpenTransaction) (back : List OpenTransaction)
     → nat_lt (length front) (length (front ++ u ∷ back)) ≡ true
-inside front u back =
-    let low : length front < length (front ++ u ∷ back) = omega (arith, length-append front (u ∷ back)) in
-    grind (arith, nat_tests, low)
+inside [] u back = refl
+inside (y ∷ front) u back = inside front u back
 
 own_place_is : (s : ApiState) (front : List OpenTransaction) (u : OpenTransaction) (back : List OpenTransaction)
     → s.own ≡ Some (length front) → s.opened ≡ front ++ u ∷ back → own_place s ≡ Some (length front)

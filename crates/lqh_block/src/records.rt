@@ -10,9 +10,6 @@ use sig_core::{Key, NoMemory, PendingRecord, TxId, Value};
 use std::alloc::Global;
 use std::marker::Model;
 
-/// How many records a look-up goes through, rather than by a hash.
-const FEW: usize = 8;
-
 /// Records, at most one of a transaction on a key. A look-up takes a time that doesn't depend on their
 /// number, and so does taking the youngest out; taking out another moves those that are younger.
 /// Contracts see a list, and whether there is memory for one more.
@@ -57,23 +54,28 @@ impl Records {
         ensures place { option_map (λ p. p.0) result ≡ record_at self.now.pending tx key.now }
         ensures record { IfSome result (λ p. slice_get self.now.pending p.0 ≡ Some (record_by tx key.now p.1.now)) }
     {
-        // Most often there are few, and then no hash is worth its while.
-        if self.entries.len() <= FEW {
-            self.look_through(tx, key)
-        } else {
-            self.look_up(tx, key)
+        // Most often there is none, or one, and then no hash is worth its while.
+        match self.entries.len() {
+            0 => None,
+            1 => self.look_at_only(tx, key),
+            _ => self.look_up(tx, key),
         }
     }
 
-    // The same by looking at one after the other.
-    fn look_through(&self, tx: TxId, key: &Key) -> Option<(usize, &Version)>
+    // The same where there is just one.
+    fn look_at_only(&self, tx: TxId, key: &Key) -> Option<(usize, &Version)>
+        requires { length self.now.pending ≡ 1 }
         ensures place { option_map (λ p. p.0) result ≡ record_at self.now.pending tx key.now }
         ensures record { IfSome result (λ p. slice_get self.now.pending p.0 ≡ Some (record_by tx key.now p.1.now)) }
     {
-        let ids = self.entries.as_slice().keys().as_slice();
-        let at = ids.iter().position(|id| is_of(id, tx, key))?;
-        let (_, version) = self.entries.get_index(at)?;
-        Some((at, version))
+        let Some((id, version)) = self.entries.get_index(0) else {
+            return None;
+        };
+        if is_of(id, tx, key) {
+            Some((0, version))
+        } else {
+            None
+        }
     }
 
     // The same by the hash of the two.

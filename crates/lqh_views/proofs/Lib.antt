@@ -6,5 +6,4 @@ pub mod FewLemmas
 pub mod LastLemmas
 pub mod LawLemmas
 pub mod ReportSteps
-pub mod StraightLemmas
 pub mod WholeLemmas

@@ -59,8 +59,8 @@ fn is_ahead(shape: &Shape, tx: TxId) -> bool
 fn is_chain(shape: &Shape, chain: &Chain, at: u8) -> bool
     ensures { result ≡ is_chain shape.now chain.now at }
 {
-    let nodes = chain.nodes();
-    nodes.iter().all(|node| is_node(shape, *node)) && (at as usize) < nodes.len()
+    let members = chain.members();
+    are_nodes(shape, members.as_slice()) && (at as usize) < members.as_slice().len()
 }
 
 // Some nodes of the cluster, of which node n has bit n - 1.

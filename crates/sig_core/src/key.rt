@@ -77,17 +77,8 @@ impl PartialEq for Key {
 
     ghost laws = { partial_equiv_from_equiv nat_list_eq_equiv };
 
-    // Most keys are so short that slices aren't worth their while, and most that differ do so early.
     fn eq(&self, other: &Key) -> bool {
-        if self.len != other.len {
-            return false;
-        }
-        for at in 0..self.len as usize {
-            if self.bytes[at] != other.bytes[at] {
-                return false;
-            }
-        }
-        true
+        self.bytes() == other.bytes()
     }
 }
 

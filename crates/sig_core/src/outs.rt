@@ -76,16 +76,12 @@ impl Outs {
         self.marks.push_reserved(mark);
     }
 
-    /// Empties it. Most often it is empty already.
+    /// Empties it.
     pub fn clear(&mut self)
         ensures { self.new ≡ nothing }
     {
-        if !self.sends.is_empty() {
-            self.sends.clear();
-        }
-        if !self.marks.is_empty() {
-            self.marks.clear();
-        }
+        self.sends.clear();
+        self.marks.clear();
     }
 
     /// The marks so far.

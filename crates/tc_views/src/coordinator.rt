@@ -131,9 +131,7 @@ impl Coordinator {
     pub(crate) fn forget_doomed(&mut self)
         ensures { self.new ≡ record self.old { doomed = still_live self.old.tc self.old.doomed } }
     {
-        if !self.doomed.is_empty() {
-            keep_live(&self.tc, &mut self.doomed);
-        }
+        keep_live(&self.tc, &mut self.doomed);
     }
 }
 
