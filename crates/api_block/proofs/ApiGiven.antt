@@ -32,7 +32,7 @@ use Rattle.api_block.specs.Opened.{begins, begins_at, begun, behind, if_there, i
 use Rattle.api_block.specs.Opened.{place_of, where_at}
 use Rattle.api_block.specs.Operate.{answer_by, answer_row, begun_by, begun_row, lone_by, lone_row, operate_by}
 use Rattle.api_block.specs.Operate.{operate_if, operate_row}
-use Rattle.api_block.specs.Outcome.{abort_report_row, acknowledging, commit_report_row, ending, over, refuse_row}
+use Rattle.api_block.specs.Outcome.{abort_report_row, acknowledging, commit_report_row, ending, over, refuse_row, without}
 use Rattle.api_block.specs.Outcome.{unknown}
 use Rattle.api_block.specs.State.{ApiState, about, changing, refused, replied, with_dump, with_opened, with_replies}
 use Rattle.api_block.specs.Wait.{behind_row, name_of, pending_by, pending_if, pending_row, waits_if, waits_row}
@@ -213,7 +213,7 @@ answer_given given s tx answer =
 -- outcomes
 over_given : (given : List ApiReply) (s : ApiState) (at : ℕ) (said : ApiReply)
     → over (in_given given s) at said ≡ in_given given (over s at said)
-over_given given s at said = told given (with_opened s (remove s.opened at)) (said ∷ [])
+over_given given s at said = told given (about (with_opened s (remove s.opened at)) (without at s.own)) (said ∷ [])
 
 pub refuse_given : (given : List ApiReply) (s : ApiState) (name : Option ℕ)
     → refuse_row (in_given given s) name ≡ in_given given (refuse_row s name)

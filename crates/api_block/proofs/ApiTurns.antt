@@ -36,7 +36,7 @@ use Rattle.api_block.specs.Dump.{begun_dump, dump_replies, dumped_by, dumped_nex
 use Rattle.api_block.specs.Gathered.{gathered}
 use Rattle.api_block.specs.Members.{everyone, is_full, least_node, telling_all}
 use Rattle.api_block.specs.Opened.{answered, behind, begins, begins_at, begun, begun_operating, committing, has_tx}
-use Rattle.api_block.specs.Opened.{is_named, is_unanswered, operating, own_place_by, place_named, where_at}
+use Rattle.api_block.specs.Opened.{is_named, is_unanswered, operating, own_place, place_named, where_at}
 use Rattle.api_block.specs.Operate.{answer_by, answer_row, begun_by, begun_row, key_request, lone_by, lone_row}
 use Rattle.api_block.specs.Operate.{operate_by, operate_if, operate_row}
 use Rattle.api_block.specs.Outcome.{abort_report_row, acknowledging, commit_report_row, ending, over, refuse_row}
@@ -45,7 +45,7 @@ use Rattle.api_block.specs.Requests.{is_request}
 use Rattle.api_block.specs.State.{ApiState, about, changing, refused, replied, with_dump}
 use Rattle.api_block.specs.Wait.{behind_row, name_of, pending_by, pending_if, pending_row, waits_if, waits_row}
 use Rattle.api_block.specs.declared.operate.TheConstants.{OPERATIONS}
-use Rattle.api_block.proofs.WhereFound.{where_found}
+use Rattle.api_block.proofs.WhereFound.{where_found, where_own}
 
 -- nothing that was opened is what the signal tells of
 abbrev pub IsVoid : List OpenTransaction → Body → Type 0
@@ -103,13 +103,13 @@ pub record ApiRequestForms (s : ApiState) (asked : ApiReq) (R : Step ApiState �
   pub operates : (name : ℕ) (op : Op) (at : ℕ) (f : NamedAt s name at) (tx : TxId)
       → asked ≡ request.Operate (Some name) op → f.item.doing ≡ Ready → f.item.tx ≡ Some tx
       → nat_lt f.item.operations OPERATIONS ≡ true
-      → R (key_request (about (changing s at (operating f.item)) (Some (Some name))) tx op)
+      → R (key_request (about (changing s at (operating f.item)) (Some at)) tx op)
   pub commits : (name at : ℕ) (f : NamedAt s name at) (tx : TxId) → asked ≡ request.Commit name
       → f.item.doing ≡ Ready → f.item.tx ≡ Some tx
-      → R (sending (about (changing s at (committing f.item)) (Some (Some name))) (coordinator_of tx)
+      → R (sending (about (changing s at (committing f.item)) (Some at)) (coordinator_of tx)
       (Client (TcCommitReq tx)))
   pub aborts : (name at : ℕ) (f : NamedAt s name at) (tx : TxId) → asked ≡ request.Abort name → f.item.tx ≡ Some tx
-      → R (sending (about s (Some (Some name))) (coordinator_of tx) (Client (TcRollbackReq tx)))
+      → R (sending (about s None) (coordinator_of tx) (Client (TcRollbackReq tx)))
   pub ticks : (round of : ℕ) → asked ≡ request.Tick round of
       → R (record {
         state = about (ticked_if s of (round == of)) None;
@@ -257,17 +257,15 @@ module _ (s : ApiState) (asked : ApiReq) (R : Step ApiState → Type 0) (forms :
       named_turns name (λ at t. operate_by s name op at t t.doing t.tx) (ap name_asked is)
       (λ at f. operate_by_turns name op at f f.item.doing f.item.tx is refl refl)
 
-  own_turns : (some : ℕ → OpenTransaction → Step ApiState) (o : Option (Option ℕ))
+  own_turns : (some : ℕ → OpenTransaction → Step ApiState)
       → ((p : OpenTransaction → Bool) (at : ℕ) (f : IsFocus p s.opened at) → R (some at f.item))
-      → R (where_at s.opened (stay s) some (own_place_by s o))
-  own_turns some None present = forms.rests
-  own_turns some (Some name) present =
-      where_found (is_named name) s.opened (stay s) some R (λ none. forms.rests) (λ at f. present (is_named name) at f)
+      → R (where_at s.opened (stay s) some (own_place s))
+  own_turns some present = where_own s.opened (stay s) some s.own R forms.rests present
 
   waits_turns : asked ≡ request.Waits → R (waits_row s)
   unfolding waits_row
   waits_turns asks =
-      own_turns (λ at t. waits_if s at t (is_unanswered t.doing) t.tx) s.own
+      own_turns (λ at t. waits_if s at t (is_unanswered t.doing) t.tx)
       (λ p at f. by p at f (is_unanswered f.item.doing) f.item.tx refl)
     where
       by : (p : OpenTransaction → Bool) (at : ℕ) (f : IsFocus p s.opened at) (b : Bool) (tx : Option TxId)
@@ -285,7 +283,7 @@ module _ (s : ApiState) (asked : ApiReq) (R : Step ApiState → Type 0) (forms :
   pending_turns : asked ≡ request.Pending → R (pending_row s)
   unfolding pending_row
   pending_turns is =
-      own_turns (λ at t. pending_if s t (is_unanswered t.doing) t.ahead) s.own
+      own_turns (λ at t. pending_if s t (is_unanswered t.doing) t.ahead)
       (λ p at f. by p at f (is_unanswered f.item.doing) f.item.ahead)
     where
       by : (p : OpenTransaction → Bool) (at : ℕ) (f : IsFocus p s.opened at) (b : Bool) (ahead : Option TxId)

@@ -1,5 +1,5 @@
 -- The requests that open, end and look at transactions and rows.
-use Rattle.std.specs.Prelude.{ℕ, ◌==◌, Bool, true, false, is_some, [], ◌∷◌, Option, None, Some}
+use Rattle.std.specs.Prelude.{ℕ, ◌==◌, Bool, true, false, is_some, [], ◌∷◌, length, Option, None, Some}
 use Rattle.sig_core.specs.declared.member.TxId.{TxId}
 use Rattle.sig_core.specs.declared.op.Op.{Op}
 use Rattle.sig_core.specs.declared.reply.ApiReply.TheVariants.{Ticked}
@@ -29,7 +29,7 @@ node_for view (Some node) = node
 
 -- a transaction is asked for at the coordinator of a node
 abbrev pub beginning : ApiState → Option ℕ → ℕ → Option Op → Step ApiState
-beginning s name node op = sending (about (opening s (asked_for name node op)) (Some name)) (coordinator node) (Client (TcBeginReq name))
+beginning s name node op = sending (about (opening s (asked_for name node op)) (Some (length s.opened))) (coordinator node) (Client (TcBeginReq name))
 
 abbrev pub begin_at : ApiState → ℕ → ℕ → Bool → Step ApiState
 begin_at s name node true = beginning s (Some name) node None
@@ -46,16 +46,16 @@ begin_row s name node = begin_if s name node (is_some (place_named s (Some name)
 -- the transaction is to commit
 abbrev pub commit_by : ApiState → ℕ → ℕ → OpenTransaction → Doing → Option TxId → Step ApiState
 commit_by s name at t Ready (Some tx) =
-    sending (about (changing s at (committing t)) (Some (Some name))) (coordinator_of tx) (Client (TcCommitReq tx))
+    sending (about (changing s at (committing t)) (Some at)) (coordinator_of tx) (Client (TcCommitReq tx))
 commit_by s name at t _ _ = refused s (Some name) Busy
 
 unfoldable pub commit_row : ApiState → ℕ → Step ApiState
 commit_row s name = where_at s.opened (refused s (Some name) NotOpen) (λ at t. commit_by s name at t t.doing t.tx) (place_named s (Some name))
 
--- the transaction is to be aborted, whatever it does
+-- the transaction is to be aborted, whatever it does. The command isn't about it: what its operation waits for was told
 abbrev pub abort_by : ApiState → ℕ → Option TxId → Step ApiState
 abort_by s name None = refused s (Some name) Busy
-abort_by s name (Some tx) = sending (about s (Some (Some name))) (coordinator_of tx) (Client (TcRollbackReq tx))
+abort_by s name (Some tx) = sending (about s None) (coordinator_of tx) (Client (TcRollbackReq tx))
 
 unfoldable pub abort_row : ApiState → ℕ → Step ApiState
 abort_row s name = where_at s.opened (refused s (Some name) NotOpen) (λ at t. abort_by s name t.tx) (place_named s (Some name))

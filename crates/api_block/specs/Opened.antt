@@ -1,5 +1,5 @@
 -- The transactions that were asked for and whose end isn't reported.
-use Rattle.std.specs.Prelude.{ℕ, ◌+◌, ◌==◌, ◌&&◌, Bool, true, false, List, position, slice_get, Option, None, Some}
+use Rattle.std.specs.Prelude.{ℕ, ◌+◌, ◌==◌, ◌&&◌, if◌then◌else◌, nat_lt, Bool, true, false, List, length, position, slice_get, Option, None, Some}
 use Rattle.sig_core.specs.declared.member.TxId.{TxId}
 use Rattle.sig_core.specs.declared.op.Op.{Op}
 use Rattle.sig_core.specs.Same.{same_tx}
@@ -52,12 +52,12 @@ abbrev pub place_of : ApiState → TxId → Option ℕ
 place_of s tx = position (has_tx tx) s.opened
 
 -- where the transaction stands that the last command is about
-abbrev pub own_place_by : ApiState → Option (Option ℕ) → Option ℕ
-own_place_by s None = None
-own_place_by s (Some name) = place_named s name
+abbrev pub if_inside : List OpenTransaction → Option ℕ → Option ℕ
+if_inside opened None = None
+if_inside opened (Some at) = if nat_lt at (length opened) then Some at else None
 
 abbrev pub own_place : ApiState → Option ℕ
-own_place s = own_place_by s s.own
+own_place s = if_inside s.opened s.own
 
 -- what is said of the transaction at a place, or where there is none
 abbrev pub if_there : {A : Type 0} → A → (OpenTransaction → A) → Option OpenTransaction → A

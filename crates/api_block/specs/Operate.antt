@@ -32,7 +32,7 @@ key_request s tx op = sending s (coordinator_of tx) (Client (TcKeyReq tx op))
 
 -- a transaction with a name performs an operation, up to the 64th
 abbrev pub operate_if : ApiState → ℕ → Op → ℕ → OpenTransaction → TxId → Bool → Step ApiState
-operate_if s name op at t tx true = key_request (about (changing s at (operating t)) (Some (Some name))) tx op
+operate_if s name op at t tx true = key_request (about (changing s at (operating t)) (Some at)) tx op
 operate_if s name op at t tx false = refused s (Some name) TooManyOperations
 
 abbrev pub operate_by : ApiState → ℕ → Op → ℕ → OpenTransaction → Doing → Option TxId → Step ApiState

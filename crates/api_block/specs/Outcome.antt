@@ -1,5 +1,5 @@
 -- How transactions end, as far as the client is told.
-use Rattle.std.specs.Prelude.{ℕ, List, [], ◌∷◌, position, remove, Option}
+use Rattle.std.specs.Prelude.{ℕ, ◌==◌, ◌-◌, if◌then◌else◌, nat_lt, List, [], ◌∷◌, position, remove, Option, None, Some}
 use Rattle.sig_core.specs.declared.mark.Mark.TheVariants.{Reported}
 use Rattle.sig_core.specs.declared.member.TxId.{TxId}
 use Rattle.sig_core.specs.declared.outcome.AbortCause.{AbortCause}
@@ -13,11 +13,16 @@ use Rattle.sig_core.specs.Step.{Step, stay}
 use Rattle.api_block.specs.declared.members.News.TheVariants as news
 use Rattle.api_block.specs.Members.{everyone, telling_all}
 use Rattle.api_block.specs.Opened.{begins, place_of, where_at}
-use Rattle.api_block.specs.State.{ApiState, replied, with_opened}
+use Rattle.api_block.specs.State.{ApiState, about, replied, with_opened}
 
--- the transaction at a place is over, and the client is told
+-- where one stands once the one at another place is removed
+abbrev pub without : ℕ → Option ℕ → Option ℕ
+without at None = None
+without at (Some own) = if own == at then None else (if nat_lt at own then Some (own - 1) else Some own)
+
+-- the transaction at a place is over, and the client is told. A command about it is about none from then on
 abbrev pub over : ApiState → ℕ → ApiReply → ApiState
-over s at reply = replied (with_opened s (remove s.opened at)) (reply ∷ [])
+over s at reply = replied (about (with_opened s (remove s.opened at)) (without at s.own)) (reply ∷ [])
 
 -- the transaction doesn't begin
 unfoldable pub refuse_row : ApiState → Option ℕ → ApiState

@@ -9,12 +9,12 @@ use Rattle.sig_core.specs.Step.{Effects, Step, stay}
 use Rattle.api_block.specs.declared.dump.Dump.{Dump}
 use Rattle.api_block.specs.declared.opened.OpenTransaction.{OpenTransaction}
 
--- an API: its view; the transactions that were asked for and whose end isn't reported, in the order of asking; the name
+-- an API: its view; the transactions that were asked for and whose end isn't reported, in the order of asking; the place
 -- of the one that the last command is about, if it is about one; the dump that is under way; the replies that weren't given
 pub record ApiState : Type 0 where
   pub view : View
   pub opened : List OpenTransaction
-  pub own : Option (Option ℕ)
+  pub own : Option ℕ
   pub dump : Option Dump
   pub replies : List ApiReply
 
@@ -29,8 +29,8 @@ in_view s view = record { view = view; opened = s.opened; own = s.own; dump = s.
 abbrev pub with_opened : ApiState → List OpenTransaction → ApiState
 with_opened s opened = record { view = s.view; opened = opened; own = s.own; dump = s.dump; replies = s.replies }
 
--- the last command is about the transaction of this name, or about none
-abbrev pub about : ApiState → Option (Option ℕ) → ApiState
+-- the last command is about the transaction at this place, or about none
+abbrev pub about : ApiState → Option ℕ → ApiState
 about s own = record { view = s.view; opened = s.opened; own = own; dump = s.dump; replies = s.replies }
 
 abbrev pub with_dump : ApiState → Option Dump → ApiState

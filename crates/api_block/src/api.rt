@@ -4,7 +4,7 @@ ghost use Rattle.sig_core.specs.Step.{HasRoom, IsTaken, IsUntouched};
 
 use crate::dump::Dump;
 use crate::lists::push_back;
-use crate::opened::{OpenTransaction, is_unanswered, place_named};
+use crate::opened::{OpenTransaction, is_unanswered};
 use sig_core::{
     Actor, Answer, ApiReply, ApiReq, Body, ClientSignal, HostSignal, NoMemory, Outs, Refusal,
     Signal, View, Work,
@@ -20,8 +20,8 @@ pub struct Api {
     pub(crate) view: View,
     /// The transactions whose end isn't reported, in the order in which they were asked for.
     pub(crate) opened: Vec<OpenTransaction>,
-    /// The name of the transaction that the last command is about, if it is about one.
-    pub(crate) own: Option<Option<u16>>,
+    /// Where the transaction stands that the last command is about, if it is about one.
+    pub(crate) own: Option<usize>,
     /// The dump that is under way.
     pub(crate) dump: Option<Dump>,
     /// The replies that weren't given.
@@ -113,8 +113,8 @@ impl Api {
         ensures inside { IfSome result (λ at. at < length self.now.opened) }
     {
         match self.own {
-            Some(name) => place_named(self.opened.as_slice(), name),
-            None => None,
+            Some(at) if at < self.opened.len() => Some(at),
+            _ => None,
         }
     }
 

@@ -57,6 +57,7 @@ impl Api {
         ensures ok { OnOk result (IsTaken (beginning self.old name node op) self.new out.old out.new) }
         ensures err { OnErr result (IsUntouched self.old self.new out.old out.new) }
     {
+        let at = self.opened.len();
         push(
             &mut self.opened,
             OpenTransaction {
@@ -68,7 +69,7 @@ impl Api {
                 ahead: None,
             },
         )?;
-        self.own = Some(name);
+        self.own = Some(at);
         out.send(
             coordinator(node),
             Body::Client(ClientSignal::TcBeginReq { name }),
@@ -111,7 +112,7 @@ impl Api {
         match (&t.doing, t.tx) {
             (Doing::Ready, Some(tx)) => {
                 self.opened[at] = t.committing();
-                self.own = Some(Some(name));
+                self.own = Some(at);
                 out.send(
                     coordinator_of(tx),
                     Body::Client(ClientSignal::TcCommitReq { tx }),
@@ -149,7 +150,7 @@ impl Api {
     {
         match tx {
             Some(tx) => {
-                self.own = Some(Some(name));
+                self.own = None;
                 out.send(
                     coordinator_of(tx),
                     Body::Client(ClientSignal::TcRollbackReq { tx }),

@@ -70,7 +70,7 @@ impl Api {
             (Doing::Ready, Some(tx)) if t.operations < OPERATIONS => {
                 let op = op.share()?;
                 self.opened[at] = t.operating();
-                self.own = Some(Some(name));
+                self.own = Some(at);
                 send_operation(tx, op, out);
                 Ok(())
             }

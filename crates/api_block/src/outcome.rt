@@ -2,12 +2,23 @@
 ghost use Rattle.std.specs.Prelude.{◌≡◌, ◌<◌, [], OnOk, OnErr, length};
 ghost use Rattle.sig_core.specs.declared.outcome.Outcome.TheVariants.{Committed};
 ghost use Rattle.sig_core.specs.Step.{HasRoom, IsTaken, IsUntouched};
-ghost use Rattle.api_block.specs.Outcome.{abort_report_row, acknowledging, commit_report_row, ending, over, refuse_row};
+ghost use Rattle.api_block.specs.Outcome.{abort_report_row, acknowledging, commit_report_row, ending, over, refuse_row, without};
 
 use crate::api::Api;
 use crate::members::{News, tell_everyone};
 use crate::opened::{place_beginning, place_of};
 use sig_core::{AbortCause, ApiReply, Mark, NoMemory, Outcome, Outs, Refusal, TxId};
+
+// Where one stands once the one at another place is removed.
+fn without(at: usize, own: Option<usize>) -> Option<usize>
+    ensures { result ≡ without at own }
+{
+    match own {
+        Some(own) if own == at => None,
+        Some(own) if at < own => Some(own - 1),
+        _ => own,
+    }
+}
 
 impl Api {
     /// A coordinator begins no further transaction.
@@ -39,6 +50,7 @@ impl Api {
     {
         self.reply(reply)?;
         self.opened.remove(at);
+        self.own = without(at, self.own);
         Ok(())
     }
 

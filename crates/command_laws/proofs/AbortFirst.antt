@@ -1,6 +1,6 @@
 -- The request of an abort: the wish for it goes to the transaction's coordinator, and all that was asked for stays as it is.
 use Rattle.std.proofs.Common.{◌≡◌, ◌≤◌, ◌+◌, ℕ, Bool, true, false, sym, ap, ◌∙◌, subst, arith}
-use Rattle.std.specs.Prelude.{◌==◌, ◌&&◌, Some}
+use Rattle.std.specs.Prelude.{◌==◌, ◌&&◌, None, Some}
 use Rattle.run_theory.specs.Lists.{IsIn}
 use Rattle.sig_core.proofs.Keys.{same_tx-self}
 use Rattle.sig_core.specs.declared.member.TxId.{TxId}
@@ -31,7 +31,7 @@ use Rattle.command_laws.specs.Served.{named_in}
 
 -- the row where the name is found
 pub abort_found : (s : ApiState) (name : ℕ) (t : OpenTransaction) (tx : TxId) → t.tx ≡ Some tx → (f : IsNamed s.opened name t)
-    → abort_row s name ≡ sending (about s (Some (Some name))) (coordinator_of tx) (Client (TcRollbackReq tx))
+    → abort_row s name ≡ sending (about s None) (coordinator_of tx) (Client (TcRollbackReq tx))
 unfolding abort_row
 abort_found s name t tx own f =
     ap (where_at s.opened (refused s (Some name) NotOpen) (λ at (u : OpenTransaction). abort_by s name u.tx)) f.place
@@ -71,7 +71,7 @@ abort_first start s name t tx is ready own were = record {
     f : IsNamed s.opened name t
     f = named_found s.opened name t is
 
-    now : abort_row s name ≡ sending (about s (Some (Some name))) (coordinator_of tx) (Client (TcRollbackReq tx))
+    now : abort_row s name ≡ sending (about s None) (coordinator_of tx) (Client (TcRollbackReq tx))
     now = abort_found s name t tx own f
 
     opened : (abort_row s name).state.opened ≡ s.opened

@@ -1,5 +1,5 @@
 -- The API, as a transaction with a name is asked for when none begins, and as its coordinator answers.
-use Rattle.std.proofs.Common.{◌≡◌, ◌==◌, ℕ, Bool, true, false, [], ◌∷◌, ◌++◌, refl, sym, ap, ◌∙◌, subst, eq-eqb}
+use Rattle.std.proofs.Common.{◌≡◌, ◌==◌, ℕ, Bool, true, false, [], ◌∷◌, ◌++◌, length, refl, sym, ap, ◌∙◌, subst, eq-eqb}
 use Rattle.std.specs.Prelude.{◌&&◌, if◌then◌else◌, is_some, Option, None, Some}
 use Rattle.run_theory.proofs.Pasts.{each_map}
 use Rattle.run_theory.specs.Lists.{Each}
@@ -46,7 +46,7 @@ module _ (s : ApiState) (name node : ℕ) (free : IsFree s name node) (calm : No
   entry = asked_for (Some name) node None
 
   abbrev pub asking : ApiState
-  asking = about (opening s entry) (Some (Some name))
+  asking = about (opening s entry) (Some (length s.opened))
 
   pub begin_is : (at : Option ℕ) → node_for s.view at ≡ node
       → request_row s (Begin name at) ≡ beginning s (Some name) node None

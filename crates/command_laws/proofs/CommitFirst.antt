@@ -24,7 +24,7 @@ use Rattle.command_laws.specs.Served.{named_in}
 
 module _ (s : ApiState) (name : ℕ) (t : OpenTransaction) (tx : TxId) (ready : t.doing ≡ Ready) (own : t.tx ≡ Some tx) where
   -- the row where the name is found
-  pub commit_found : (f : IsNamed s.opened name t) → commit_row s name ≡ sending (about (changing s f.at (committing t)) (Some (Some name))) (coordinator_of tx) (Client (TcCommitReq tx))
+  pub commit_found : (f : IsNamed s.opened name t) → commit_row s name ≡ sending (about (changing s f.at (committing t)) (Some f.at)) (coordinator_of tx) (Client (TcCommitReq tx))
   unfolding commit_row
   commit_found f =
       ap (where_at s.opened (refused s (Some name) NotOpen) (λ at (u : OpenTransaction). commit_by s name at u u.doing u.tx)) f.place

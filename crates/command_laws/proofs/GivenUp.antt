@@ -1,5 +1,5 @@
 -- An operation alone that had to wait is given up: its transaction is aborted at the client's request.
-use Rattle.std.proofs.Common.{◌≡◌, ℕ, true, List, [], ◌∷◌, refl, sym, ap, ◌∙◌, subst}
+use Rattle.std.proofs.Common.{◌≡◌, ℕ, true, List, [], ◌∷◌, length, refl, sym, ap, ◌∙◌, subst}
 use Rattle.std.specs.Prelude.{None, Some}
 use Rattle.run_theory.specs.Lists.{IsIn}
 use Rattle.sig_core.specs.declared.member.TxId.{TxId}
@@ -46,25 +46,24 @@ module _ (start : Start) (was mid now : ℕ → List HostStep) (t : OpenTransact
   who : TxId
   who = (tells each_answered each_held_up start was mid now t first_served then_served own unanswered).who
 
-  about_it : IsAboutOne entry.first.front t entry.first.back (Some entry.name) (Some who) s
+  about_it : IsAboutOne entry.front t entry.back (Some (length entry.front)) (Some who) s
   unfolding entry who
   about_it =
-      subst (λ a. IsAboutOne entry.first.front t entry.first.back (Some entry.name) a s)
+      subst (λ a. IsAboutOne entry.front t entry.back (Some (length entry.front)) a s)
       (tells each_answered each_held_up start was mid now t first_served then_served own unanswered).is
       (about each_answered each_held_up start was mid now t first_served then_served own unanswered)
 
   in_mid : IsIn (behind t (Some who)) (opened_after start mid)
   in_mid =
       subst (IsIn (behind t (Some who))) (sym about_it.opened)
-      (in_middle entry.first.front (behind t (Some who)) entry.first.back)
+      (in_middle entry.front (behind t (Some who)) entry.back)
 
   module _ (tx : TxId) (own_tx : t.tx ≡ Some tx) (nameless : t.name ≡ None) where
     row_is : request_row s request.Pending
         ≡ sending (replied s (Pending None (HeldBy (name_of s who)) ∷ [])) (coordinator_of tx) (Client (TcRollbackReq tx))
     unfolding request_row
     row_is =
-        pending_is s entry.first.front t entry.first.back entry.name who about_it unanswered entry.first.none
-        entry.first.passes
+        pending_is s entry.front t entry.back who about_it unanswered
         ∙ ap (λ name. pending_by s (name_of s who) name t.tx) nameless
         ∙ ap (pending_by s (name_of s who) None) own_tx
 

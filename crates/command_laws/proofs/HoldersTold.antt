@@ -112,7 +112,7 @@ module _ (answered : EachIsAnswered) (held_up : EachIsHeldUp) (start : Start) (w
   i = own_found s t own
 
   in_opened : IsIn t (opened_after start was)
-  in_opened = subst (IsIn t) (sym i.first.is) (in_middle i.first.front t i.first.back)
+  in_opened = subst (IsIn t) (sym i.is) (in_middle i.front t i.back)
 
   pub w : IsWaiting t
   w = is_waiting start was t unanswered (answered start was t first_served.before in_opened)
@@ -131,16 +131,16 @@ module _ (answered : EachIsAnswered) (held_up : EachIsHeldUp) (start : Start) (w
   live = live_tx start w.tx c_host (was c_host) up.transaction up.live
 
   -- no other transaction of the API has its number
-  pub none : tally (has_tx w.tx) i.first.front ≡ 0
+  pub none : tally (has_tx w.tx) i.front ≡ 0
   none =
       let h = holds_at start w.tx was first_served.before in
       omega (
         arith,
         h.few,
         once_started start w.tx was first_served.before,
-        tally_between (has_tx w.tx) i.first.front t i.first.back s.opened i.first.is,
+        tally_between (has_tx w.tx) i.front t i.back s.opened i.is,
         ap one_if (ap (is_tx w.tx) w.own ∙ same_tx-self w.tx),
-        tally_append (has_tx w.tx) i.first.front i.first.back,
+        tally_append (has_tx w.tx) i.front i.back,
       )
 
   pub f : IsFirst start was mid request.Waits
@@ -157,9 +157,9 @@ module _ (answered : EachIsAnswered) (held_up : EachIsHeldUp) (start : Start) (w
   asked_same : requests (mid 0) ≡ requests (f.first ∷ was 0)
   asked_same = first_served.asked ∙ ap (λ o. requests (was 0) ++ option_to_list o) (sym (ap request_in f.body))
 
-  pub all : AllHold start was first_served.before f.first w.tx up.transaction up.asked up.member up.unanswered up.inside live up.held i.first.front t i.first.back (Some i.name) w.own none asking.plain mid
+  pub all : AllHold start was first_served.before f.first w.tx up.transaction up.asked up.member up.unanswered up.inside live up.held i.front t i.back (Some (length i.front)) w.own none asking.plain mid
   all =
-      all_hold start was first_served.before f.first w.tx up.transaction up.asked up.member up.unanswered up.inside live up.held i.first.front t i.first.back (Some i.name) w.own none asking.plain mid f.right
+      all_hold start was first_served.before f.first w.tx up.transaction up.asked up.member up.unanswered up.inside live up.held i.front t i.back (Some (length i.front)) w.own none asking.plain mid f.right
       first_served.since first_cut asked_same asking.about
 
   abbrev cut : IsCut was mid
@@ -236,14 +236,14 @@ module _ (answered : EachIsAnswered) (held_up : EachIsHeldUp) (start : Start) (w
   pub then : IsFirst start mid now request.Pending
   then = request_first start mid now request.Pending then_served
 
-  pub about : IsAboutOne i.first.front t i.first.back (Some i.name) all.shell.ahead (api_of (after start 0 (mid 0)))
-  about = subst (λ log. IsAboutOne i.first.front t i.first.back (Some i.name) all.shell.ahead (api_of (after start 0 log))) (sym (all.is 0)) all.shell.about
+  pub about : IsAboutOne i.front t i.back (Some (length i.front)) all.shell.ahead (api_of (after start 0 (mid 0)))
+  about = subst (λ log. IsAboutOne i.front t i.back (Some (length i.front)) all.shell.ahead (api_of (after start 0 log))) (sym (all.is 0)) all.shell.about
 
   pub tells : TellsHolder t.name all.shell.ahead (api_of (after start 0 (mid 0))) (api_seen (step_after start 0 (mid 0) then.first))
   tells =
       subst (TellsHolder t.name all.shell.ahead (api_of (after start 0 (mid 0))))
       (sym (first_step start mid now request.Pending then))
-      (pending_first (api_of (after start 0 (mid 0))) i.first.front t i.first.back i.name all.shell.ahead about unanswered i.first.none i.first.passes ahead_known)
+      (pending_first (api_of (after start 0 (mid 0))) i.front t i.back all.shell.ahead about unanswered ahead_known)
 
   tells_reply : replies_of (after start 0 (then.first ∷ mid 0)) ≡ replies_of (after start 0 (mid 0)) ++ Pending t.name
       (HeldBy (name_of_tx (opened_after start mid) tells.who)) ∷ []

@@ -165,7 +165,7 @@ module _ (tx : TxId) where
 -- the row where the name is found
 operate_found : (s : ApiState) (name : ℕ) (op : Op) (t : OpenTransaction) (tx : TxId) → t.doing ≡ Ready → t.tx ≡ Some tx
     → t.operations < OPERATIONS → (f : IsNamed s.opened name t)
-    → operate_row s name op ≡ key_request (about (changing s f.at (operating t)) (Some (Some name))) tx op
+    → operate_row s name op ≡ key_request (about (changing s f.at (operating t)) (Some f.at)) tx op
 unfolding operate_row
 operate_found s name op t tx ready own few f =
     ap (where_at s.opened (refused s (Some name) NotOpen)
@@ -209,7 +209,7 @@ operate_first s name op t tx is ready own few were = record {
     f : IsNamed s.opened name t
     f = named_found s.opened name t is
 
-    now : operate_row s name op ≡ key_request (about (changing s f.at (operating t)) (Some (Some name))) tx op
+    now : operate_row s name op ≡ key_request (about (changing s f.at (operating t)) (Some f.at)) tx op
     now = operate_found s name op t tx ready own few f
 
     opened : (operate_row s name op).state.opened ≡ f.focus.front ++ operating t ∷ f.focus.back

@@ -4,7 +4,7 @@
 use Rattle.std.proofs.Common.{◌≡◌, ◌≢◌, ◌⊎◌, ◌<◌, ℕ, zero, suc, true, false, List, [], ◌∷◌, ◌++◌, refl, sym, ap, ◌∙◌, subst, inl, inr, append_assoc}
 use Rattle.std.proofs.lemmas.Bool.{cases_eq, false≢true, true≢false}
 use Rattle.std.proofs.lemmas.List.{append_cancel_right}
-use Rattle.std.specs.Prelude.{Option, Some}
+use Rattle.std.specs.Prelude.{Option, None, Some}
 use Rattle.run_theory.specs.Cuts.{IsCut}
 use Rattle.run_theory.specs.Lists.{Each, IsIn}
 use Rattle.sig_core.proofs.Keys.{same_tx-self}
@@ -236,7 +236,7 @@ abort_heard : (start : Start) (was now : ℕ → List HostStep) (name : ℕ) (tx
 unfolding request_row
 abort_heard start was now name tx served op =
     heard start was now (Abort name) (Some name) tx op.item served there n.called op.own op.operating
-    (about (api_of (after start 0 (was 0))) (Some (Some name))) refl
+    (about (api_of (after start 0 (was 0))) None) refl
     (abort_found (api_of (after start 0 (was 0))) name op.item tx op.own n)
   where
     n : IsNamed (opened_after start was) name op.item

@@ -1,6 +1,7 @@
 -- The API while it asks what its own transaction waits for.
-use Rattle.std.proofs.Common.{◌≡◌, ◌⊎◌, ◌≤◌, ◌+◌, ℕ, true, false, List, [], ◌∷◌, ◌++◌, length, refl, sym, ap, ◌∙◌, subst, inl, inr, arith, Bool}
-use Rattle.std.specs.Prelude.{◌==◌, ◌&&◌, Option, None, Some, is_some, not, position, slice_get, slice_set}
+use Rattle.std.proofs.Common.{◌≡◌, ◌⊎◌, ◌<◌, ◌≤◌, ◌+◌, ℕ, true, false, List, [], ◌∷◌, ◌++◌, length, refl, sym, ap, ◌∙◌, subst, inl, inr, length-append, arith, Bool}
+use Rattle.std.proofs.lemmas.Bool.Decides.{nat_tests}
+use Rattle.std.specs.Prelude.{◌==◌, ◌&&◌, if◌then◌else◌, nat_lt, Option, None, Some, is_some, not, position, slice_get, slice_set}
 use Rattle.sig_core.proofs.Keys.{same_tx-self}
 use Rattle.sig_core.specs.declared.member.TxId.{TxId}
 use Rattle.sig_core.specs.declared.place.BlockId.{BlockId}
@@ -18,7 +19,7 @@ use Rattle.sig_core.specs.Same.{same_tx}
 use Rattle.sig_core.specs.Step.{Step, sending, stay}
 use Rattle.api_block.specs.Api.{api_table, request_row}
 use Rattle.api_block.specs.declared.opened.OpenTransaction.{OpenTransaction}
-use Rattle.api_block.specs.Opened.{behind, has_tx, if_there, is_named, is_tx, is_unanswered, own_place, own_place_by, where_at}
+use Rattle.api_block.specs.Opened.{behind, has_tx, if_inside, if_there, is_tx, is_unanswered, own_place, where_at}
 use Rattle.api_block.specs.State.{ApiState, changing}
 use Rattle.api_block.specs.Wait.{behind_row, name_of, pending_by, pending_if, pending_row, waits_if, waits_row}
 use Rattle.node_core.specs.Blocks.{api_of, has_api}
@@ -33,35 +34,40 @@ use Rattle.host_laws.proofs.TcMoves.{same_tx-is}
 use Rattle.host_laws.proofs.TcSends.{eqb-self}
 use Rattle.host_laws.proofs.Wishes.{is_api, sends_of}
 use Rattle.command_laws.proofs.BlockSteps.{api_host, api_seen}
-use Rattle.command_laws.proofs.Places.{IsFirstOf, first_there, split_get, split_position, split_set}
+use Rattle.command_laws.proofs.Places.{split_at, split_get, split_position, split_set}
 use Rattle.command_laws.proofs.WaitRows.{is_other, is_passed, is_telling_who, is_wait_of, is_want, passed_of}
 use Rattle.command_laws.specs.Served.{name_of_tx}
 
--- the API's own transaction: the first of the name that the last command is about
+-- the API's own transaction: the one at the place that the last command is about
 pub record IsOwn (s : ApiState) (t : OpenTransaction) : Type 0 where
-  pub name : Option ℕ
-  pub own : s.own ≡ Some name
-  pub first : IsFirstOf (is_named name) s.opened t
+  pub front : List OpenTransaction
+  pub back : List OpenTransaction
+  pub is : s.opened ≡ front ++ t ∷ back
+  pub own : s.own ≡ Some (length front)
 
 pub own_found : (s : ApiState) (t : OpenTransaction) → where_at s.opened None (λ at (x : OpenTransaction). Some x)
     (own_place s) ≡ Some t → IsOwn s t
 own_found s t = by s.own refl
   where
-    at_place : (name : Option ℕ) → s.own ≡ Some name → (o : Option ℕ) → position (is_named name) s.opened ≡ o → where_at s.opened None (λ at (x : OpenTransaction). Some x) o ≡ Some t → IsOwn s t
-    at_place name own None place is = cc
-    at_place name own (Some at) place is = at_get (slice_get s.opened at) refl is
-      where
-        at_get : (x : Option OpenTransaction) → slice_get s.opened at ≡ x → if_there None (λ (y : OpenTransaction). Some y) x ≡ Some t → IsOwn s t
-        at_get None get found = cc
-        at_get (Some y) get found =
-            let same : y ≡ t = cc in
-            record { name = name; own = own; first = subst (IsFirstOf (is_named name) s.opened) same (first_there (is_named name) s.opened at y place get) }
+    at_get : (at : ℕ) → s.own ≡ Some at → (x : Option OpenTransaction) → slice_get s.opened at ≡ x
+        → if_there None (λ (y : OpenTransaction). Some y) x ≡ Some t → IsOwn s t
+    at_get at own None get found = cc
+    at_get at own (Some y) get found =
+        let same : Some y ≡ Some t = found in
+        let there = split_at s.opened at t (get ∙ same) in
+        record { front = there.front; back = there.back; is = there.is; own = own ∙ ap Some (sym there.place) }
 
-    by : (o : Option (Option ℕ)) → s.own ≡ o → where_at s.opened None (λ at (x : OpenTransaction). Some x) (own_place_by s o) ≡ Some t → IsOwn s t
+    at_place : (at : ℕ) → s.own ≡ Some at → (b : Bool)
+        → where_at s.opened None (λ at (x : OpenTransaction). Some x) (if b then Some at else None) ≡ Some t → IsOwn s t
+    at_place at own true is = at_get at own (slice_get s.opened at) refl is
+    at_place at own false is = cc
+
+    by : (o : Option ℕ) → s.own ≡ o
+        → where_at s.opened None (λ at (x : OpenTransaction). Some x) (if_inside s.opened o) ≡ Some t → IsOwn s t
     by None own is = cc
-    by (Some name) own is = at_place name own (position (is_named name) s.opened) refl is
+    by (Some at) own is = at_place at own (nat_lt at (length s.opened)) is
 
-module _ (front : List OpenTransaction) (t : OpenTransaction) (back : List OpenTransaction) (own : Option (Option ℕ)) where
+module _ (front : List OpenTransaction) (t : OpenTransaction) (back : List OpenTransaction) (own : Option ℕ) where
   -- the transaction stands there, and waits for that one as far as it is known
   pub record IsAboutOne (ahead : Option TxId) (s : ApiState) : Type 0 where
     pub own_is : s.own ≡ own
@@ -139,24 +145,31 @@ module _ (front : List OpenTransaction) (t : OpenTransaction) (back : List OpenT
         for_api block.Api e = refl
         for_api _ e = cc
 
-own_place_is : (s : ApiState) (name : Option ℕ) (front : List OpenTransaction) (u : OpenTransaction) (back : List OpenTransaction) → s.own ≡ Some name → s.opened ≡ front ++ u ∷ back → tally (is_named name) front ≡ 0
-    → is_named name u ≡ true → own_place s ≡ Some (length front)
-own_place_is s name front u back own opened none named =
-    ap (own_place_by s) own ∙ ap (position (is_named name)) opened ∙ split_position (is_named name) front u back none named
+inside : (front : List OpenTransaction) (u : OpenTransaction) (back : List OpenTransaction)
+    → nat_lt (length front) (length (front ++ u ∷ back)) ≡ true
+inside front u back =
+    let low : length front < length (front ++ u ∷ back) = omega (arith, length-append front (u ∷ back)) in
+    grind (arith, nat_tests, low)
+
+own_place_is : (s : ApiState) (front : List OpenTransaction) (u : OpenTransaction) (back : List OpenTransaction)
+    → s.own ≡ Some (length front) → s.opened ≡ front ++ u ∷ back → own_place s ≡ Some (length front)
+own_place_is s front u back own opened =
+    ap (if_inside s.opened) own ∙ ap (λ xs. if nat_lt (length front) (length xs) then Some (length front) else None) opened
+    ∙ ap (λ b. if b then Some (length front) else None) (inside front u back)
 
 -- the question for whom it waits
 pub record IsAsking (start : Start) (s : ApiState) (t : OpenTransaction) (tx : TxId) (i : IsOwn s t) (step : Step ApiState) : Type 0 where
-  pub about : IsAboutOne i.first.front t i.first.back (Some i.name) None step.state
+  pub about : IsAboutOne i.front t i.back (Some (length i.front)) None step.state
   pub plain : sends_of (is_other tx) step.effects.sends ≡ 0
   pub wants : 1 ≤ sends_of (to_host start (home start tx) (is_want tx)) step.effects.sends
 
 waits_is : (s : ApiState) (t : OpenTransaction) (tx : TxId) (i : IsOwn s t) → is_unanswered t.doing ≡ true → t.tx ≡ Some tx
-    → waits_row s ≡ sending (changing s (length i.first.front) (behind t None)) (coordinator_of tx) (Client (TcWaitReq tx))
+    → waits_row s ≡ sending (changing s (length i.front) (behind t None)) (coordinator_of tx) (Client (TcWaitReq tx))
 unfolding waits_row
 waits_is s t tx i waits own =
-    ap (where_at s.opened (stay s) (λ at (x : OpenTransaction). waits_if s at x (is_unanswered x.doing) x.tx)) (own_place_is s i.name i.first.front t i.first.back i.own i.first.is i.first.none i.first.passes)
-    ∙ ap (if_there (stay s) (λ (x : OpenTransaction). waits_if s (length i.first.front) x (is_unanswered x.doing) x.tx)) (ap (λ xs. slice_get xs (length i.first.front)) i.first.is ∙ split_get i.first.front t i.first.back)
-    ∙ ap (λ b. waits_if s (length i.first.front) t b t.tx) waits ∙ ap (waits_if s (length i.first.front) t true) own
+    ap (where_at s.opened (stay s) (λ at (x : OpenTransaction). waits_if s at x (is_unanswered x.doing) x.tx)) (own_place_is s i.front t i.back i.own i.is)
+    ∙ ap (if_there (stay s) (λ (x : OpenTransaction). waits_if s (length i.front) x (is_unanswered x.doing) x.tx)) (ap (λ xs. slice_get xs (length i.front)) i.is ∙ split_get i.front t i.back)
+    ∙ ap (λ b. waits_if s (length i.front) t b t.tx) waits ∙ ap (waits_if s (length i.front) t true) own
 
 pub waits_first : (start : Start) (s : ApiState) (t : OpenTransaction) (tx : TxId) (i : IsOwn s t)
     → is_unanswered t.doing ≡ true → t.tx ≡ Some tx → IsAsking start s t tx i (request_row s request.Waits)
@@ -164,7 +177,7 @@ unfolding request_row
 waits_first start s t tx i waits own = record {
   about = record {
     own_is = ap (λ (r : Step ApiState). r.state.own) now ∙ i.own;
-    opened = ap (λ (r : Step ApiState). r.state.opened) now ∙ ap (λ xs. slice_set xs (length i.first.front) (behind t None)) i.first.is ∙ split_set i.first.front t i.first.back (behind t None);
+    opened = ap (λ (r : Step ApiState). r.state.opened) now ∙ ap (λ xs. slice_set xs (length i.front) (behind t None)) i.is ∙ split_set i.front t i.back (behind t None);
   };
   plain = ap (λ (r : Step ApiState). sends_of (is_other tx) r.effects.sends) now ∙ ap (λ b. one_if (not b) + 0) (same_tx-self tx);
   wants = omega (
@@ -174,7 +187,7 @@ waits_first start s t tx i waits own = record {
   );
 }
   where
-    now : waits_row s ≡ sending (changing s (length i.first.front) (behind t None)) (coordinator_of tx) (Client (TcWaitReq tx))
+    now : waits_row s ≡ sending (changing s (length i.front) (behind t None)) (coordinator_of tx) (Client (TcWaitReq tx))
     now = waits_is s t tx i waits own
 
 pending_by_replies : (s : ApiState) (holder name : Option ℕ) (one : Option TxId) → (pending_by s holder name one).state.replies ≡ s.replies ++ Pending name (HeldBy holder) ∷ []
@@ -184,13 +197,12 @@ pending_by_replies s holder (Some name) one = refl
 
 -- the row of the question for replies, where it is known for whom the transaction waits
 pub pending_is : (s : ApiState) (front : List OpenTransaction) (t : OpenTransaction) (back : List OpenTransaction)
-    (name : Option ℕ) (next : TxId) → IsAboutOne front t back (Some name) (Some next) s → is_unanswered t.doing ≡ true
-    → tally (is_named name) front ≡ 0 → is_named name t ≡ true
+    (next : TxId) → IsAboutOne front t back (Some (length front)) (Some next) s → is_unanswered t.doing ≡ true
     → pending_row s ≡ pending_by s (name_of s next) t.name t.tx
 unfolding pending_row
-pending_is s front t back name next about waits none named =
+pending_is s front t back next about waits =
     ap (where_at s.opened (stay s) (λ at (x : OpenTransaction). pending_if s x (is_unanswered x.doing) x.ahead))
-    (own_place_is s name front (behind t (Some next)) back about.own_is about.opened none named)
+    (own_place_is s front (behind t (Some next)) back about.own_is about.opened)
     ∙ ap (if_there (stay s) (λ (x : OpenTransaction). pending_if s x (is_unanswered x.doing) x.ahead))
     (ap (λ xs. slice_get xs (length front)) about.opened ∙ split_get front (behind t (Some next)) back)
     ∙ ap (λ b. pending_if s (behind t (Some next)) b (Some next)) waits
@@ -201,13 +213,13 @@ pub record TellsHolder (name : Option ℕ) (ahead : Option TxId) (s : ApiState) 
   pub is : ahead ≡ Some who
   pub told : step.state.replies ≡ s.replies ++ Pending name (HeldBy (name_of_tx s.opened who)) ∷ []
 
-pub pending_first : (s : ApiState) (front : List OpenTransaction) (t : OpenTransaction) (back : List OpenTransaction) (name : Option ℕ) (ahead : Option TxId) → IsAboutOne front t back (Some name) ahead s
-    → is_unanswered t.doing ≡ true → tally (is_named name) front ≡ 0 → is_named name t ≡ true → is_some ahead ≡ true
+pub pending_first : (s : ApiState) (front : List OpenTransaction) (t : OpenTransaction) (back : List OpenTransaction) (ahead : Option TxId) → IsAboutOne front t back (Some (length front)) ahead s
+    → is_unanswered t.doing ≡ true → is_some ahead ≡ true
     → TellsHolder t.name ahead s (request_row s request.Pending)
 unfolding request_row
-pending_first s front t back name ahead about waits none named some = by ahead some about
+pending_first s front t back ahead about waits some = by ahead some about
   where
-    by : (a : Option TxId) → is_some a ≡ true → IsAboutOne front t back (Some name) a s
+    by : (a : Option TxId) → is_some a ≡ true → IsAboutOne front t back (Some (length front)) a s
         → TellsHolder t.name a s (pending_row s)
     by None off about = cc
     by (Some next) on about = record {
@@ -217,4 +229,4 @@ pending_first s front t back name ahead about waits none named some = by ahead s
     }
       where
         now : pending_row s ≡ pending_by s (name_of s next) t.name t.tx
-        now = pending_is s front t back name next about waits none named
+        now = pending_is s front t back next about waits

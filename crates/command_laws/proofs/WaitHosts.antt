@@ -89,7 +89,7 @@ module _ (start : Start) (was : ℕ → List HostStep) (tx : TxId) (u : Transact
       steps_on : NodeSteps h (after start (suc h) (newer ++ was (suc h))) e.step.taken
       steps_on = subst (λ g. NodeSteps h g e.step.taken) (sym holds.same) (node_steps h e.step.taken is)
 
-  module _ (base : List HostStep) (front : List OpenTransaction) (t : OpenTransaction) (back : List OpenTransaction) (own : Option (Option ℕ)) (own_tx : t.tx ≡ Some tx) (none : tally (has_tx tx) front ≡ 0) where
+  module _ (base : List HostStep) (front : List OpenTransaction) (t : OpenTransaction) (back : List OpenTransaction) (own : Option ℕ) (own_tx : t.tx ≡ Some tx) (none : tally (has_tx tx) front ≡ 0) where
     -- the shell's host has the transaction, and knows for whom it waits once it was told
     pub record ShellHolds (newer : List HostStep) : Type 0 where
       pub plain : sent_since start (is_other tx) 0 newer base ≡ 0

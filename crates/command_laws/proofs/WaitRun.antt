@@ -51,7 +51,7 @@ module _ (start : Start) (was : ℕ → List HostStep) (before : AreQuiet start 
     (live : OnTc (λ s. of_live tx s.live ≡ Some u) (after start (home start tx) (was (home start tx))))
     (held : IsHeldUpAt tx (key_of asked.op)
     (after start (rows_host start member.node) (was (rows_host start member.node))))
-    (front : List OpenTransaction) (t : OpenTransaction) (back : List OpenTransaction) (own : Option (Option ℕ)) (own_tx : t.tx ≡ Some tx) (none : tally (has_tx tx) front ≡ 0)
+    (front : List OpenTransaction) (t : OpenTransaction) (back : List OpenTransaction) (own : Option ℕ) (own_tx : t.tx ≡ Some tx) (none : tally (has_tx tx) front ≡ 0)
     (plain_first : sends_of (is_other tx) (step_after start 0 (was 0) first).effects.sends ≡ 0) where
   abbrev NodesHold : List HostStep → Type 0
   NodesHold more = (h : ℕ) → NodeHolds start was tx u asked member unanswered inside live held h (log_of (machine start) more (suc h))

@@ -1,12 +1,10 @@
 -- Rows that are put one after the other.
-use Rattle.std.proofs.Common.{◌≡◌, ℕ, ◌+◌, ◌<◌, List, [], ◌∷◌, Bool, true, false, length, drop, refl, ap, sym, ◌∙◌, arith}
+use Rattle.std.proofs.Common.{◌≡◌, ℕ, ◌+◌, ◌<◌, List, [], ◌∷◌, Bool, true, false, length, drop, refl, ap, sym, ◌∙◌}
 use Rattle.std.proofs.lemmas.List.{drop_more}
 use Rattle.std.specs.Prelude.{if◌then◌else◌, slice_index_or}
 use Rattle.sig_core.specs.declared.view.Shape.{Shape}
-use Rattle.sig_core.specs.Journal.{JournalState}
-use Rattle.sig_core.specs.Rows.{RowsState, no_rows, put_row}
+use Rattle.sig_core.specs.Rows.{RowsState}
 use Rattle.frag_map.specs.Layout.{holds}
-use Rattle.lqh_block.specs.Due.{IsCovered, due_of}
 use Rattle.node_core.specs.Fresh.{own_rows, with_rows}
 
 -- the group's part of one row, and then of others
@@ -32,15 +30,3 @@ row_put shape node epoch before after all rows i row low is put left =
     ∙ sym (ap (λ rs. with_rows before (own_rows shape node rs) epoch) (drop_more rows i row low)
     ∙ ap (λ r. with_rows before (own_rows shape node (r ∷ drop (i + 1) rows)) epoch) (sym is))
     ∙ left
-
--- no record is at work on them
-none_pending : (s : RowsState) (rows : List (List ℕ × List ℕ)) (epoch : ℕ) → (with_rows s rows epoch).pending ≡ s.pending
-none_pending s [] epoch = refl
-none_pending s (row ∷ rows) epoch = none_pending (put_row s row.0 row.1 epoch) rows epoch
-
--- so an empty journal covers what they need
-pub fresh_covered : (s : RowsState) (journal : JournalState) (rows : List (List ℕ × List ℕ)) (epoch : ℕ)
-    → s ≡ with_rows no_rows rows epoch → journal ≡ record { used = 0; reserved = 0 } → IsCovered s journal
-fresh_covered s journal rows epoch are empty =
-    let none : due_of s.pending ≡ 0 = ap (λ (t : RowsState). due_of t.pending) are ∙ ap due_of (none_pending no_rows rows epoch) in
-    record { kept = omega (arith, none) }

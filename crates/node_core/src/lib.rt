@@ -1,4 +1,6 @@
-//! The hosts: the shell's, and the parts of the data nodes, each with its blocks.
+//! The hosts of a cluster in which nothing can fail: the shell's, and the parts of the data nodes,
+//! each with its blocks. They are a model: what they consist of is here, what they do is their row
+//! in `specs`, and nothing runs them.
 #![tactic(auto)]
 
 mod dih;
@@ -9,6 +11,3 @@ mod tc_part;
 pub use host::Host;
 pub use main_part::MainPart;
 pub use tc_part::TcPart;
-
-#[cfg(test)]
-mod tests;

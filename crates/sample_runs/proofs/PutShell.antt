@@ -31,10 +31,10 @@ use Rattle.answer_laws.specs.Sample.{first_tx}
 use Rattle.sample_runs.proofs.Traces.{Do}
 use Rattle.sample_runs.specs.Put.{shell, two, write}
 
--- the API with these entries and replies, which sends these signals
-abbrev comes : List OpenTransaction → List ApiReply → List Outgoing → List Mark → Step Host
-comes opened replies sends marks = record {
-  state = Shell (record { view = first_view 2; opened = opened; own = Some None; dump = None; replies = replies });
+-- the API with these entries and replies, whose last command is about this place, which sends these signals
+abbrev comes : List OpenTransaction → Option ℕ → List ApiReply → List Outgoing → List Mark → Step Host
+comes opened own replies sends marks = record {
+  state = Shell (record { view = first_view 2; opened = opened; own = own; dump = None; replies = replies });
   effects = record { sends = sends; marks = marks };
 }
 
@@ -45,12 +45,12 @@ lone tx operations doing =
 
 abbrev pub shell_steps : List (Step Host)
 shell_steps =
-    comes [] (Answered None Done ∷ Ended None (Committed 1) ∷ [])
+    comes [] None (Answered None Done ∷ Ended None (Committed 1) ∷ [])
     (to_place (rows_of 1) (Client (TcCommitAck first_tx)) ∷ to_place (rows_of 2) (Client (TcCommitAck first_tx)) ∷ [])
     (Reported first_tx (Committed 1) ∷ [])
-    ∷ comes (lone (Some first_tx) 1 Committing) (Answered None Done ∷ []) (to_place (coordinator 1) (Client (TcCommitReq first_tx)) ∷ []) []
-    ∷ comes (lone (Some first_tx) 1 Operating) [] (to_place (coordinator 1) (Client (TcKeyReq first_tx write)) ∷ []) []
-    ∷ comes (lone None 0 (Beginning (Some write))) [] (to_place (coordinator 1) (Client (TcBeginReq None)) ∷ []) []
+    ∷ comes (lone (Some first_tx) 1 Committing) (Some 0) (Answered None Done ∷ []) (to_place (coordinator 1) (Client (TcCommitReq first_tx)) ∷ []) []
+    ∷ comes (lone (Some first_tx) 1 Operating) (Some 0) [] (to_place (coordinator 1) (Client (TcKeyReq first_tx write)) ∷ []) []
+    ∷ comes (lone None 0 (Beginning (Some write))) (Some 0) [] (to_place (coordinator 1) (Client (TcBeginReq None)) ∷ []) []
     ∷ []
 
 pub shell_do : Do two 0 shell shell_steps

@@ -32,10 +32,10 @@ use Rattle.answer_laws.specs.Sample.{first_tx, lone}
 use Rattle.sample_runs.proofs.Traces.{Do}
 use Rattle.sample_runs.specs.Wait.{asking, first_write, second_tx, second_write}
 
--- the API with these entries and replies, whose last command is about this name, which sends these signals
+-- the API with these entries and replies, whose last command is about this place, which sends these signals
 abbrev comes : List OpenTransaction → Option ℕ → List ApiReply → List Outgoing → List Mark → Step Host
 comes opened own replies sends marks = record {
-  state = Shell (record { view = first_view 1; opened = opened; own = Some own; dump = None; replies = replies });
+  state = Shell (record { view = first_view 1; opened = opened; own = own; dump = None; replies = replies });
   effects = record { sends = sends; marks = marks };
 }
 
@@ -57,22 +57,22 @@ replied = Begun 1 1 ∷ Answered (Some 1) Done ∷ []
 
 abbrev pub asking_steps : List (Step Host)
 asking_steps =
-    comes [] (Some 1)
+    comes [] None
     (Begun 1 1 ∷ Answered (Some 1) Done ∷ Ended (Some 1) (Committed 1) ∷ Answered None Done ∷ Ended None (Committed 1) ∷ [])
     (to_place (rows_of 1) (Client (TcCommitAck second_tx)) ∷ []) (Reported second_tx (Committed 1) ∷ [])
-    ∷ comes (second Committing ∷ []) (Some 1)
+    ∷ comes (second Committing ∷ []) None
     (Begun 1 1 ∷ Answered (Some 1) Done ∷ Ended (Some 1) (Committed 1) ∷ Answered None Done ∷ [])
     (to_place (coordinator 1) (Client (TcCommitReq second_tx)) ∷ []) []
-    ∷ comes (second Operating ∷ []) (Some 1) (Begun 1 1 ∷ Answered (Some 1) Done ∷ Ended (Some 1) (Committed 1) ∷ [])
+    ∷ comes (second Operating ∷ []) None (Begun 1 1 ∷ Answered (Some 1) Done ∷ Ended (Some 1) (Committed 1) ∷ [])
     (to_place (rows_of 1) (Client (TcCommitAck first_tx)) ∷ []) (Reported first_tx (Committed 1) ∷ [])
-    ∷ comes (first 1 Committing ∷ second Operating ∷ []) (Some 1) replied (to_place (coordinator 1) (Client (TcCommitReq first_tx)) ∷ []) []
-    ∷ comes (first 1 Ready ∷ second Operating ∷ []) None replied (to_place (coordinator 1) (Client (TcKeyReq second_tx second_write)) ∷ []) []
-    ∷ comes (first 1 Ready ∷ opened None None 0 (Beginning (Some second_write)) ∷ []) None replied
+    ∷ comes (first 1 Committing ∷ second Operating ∷ []) (Some 0) replied (to_place (coordinator 1) (Client (TcCommitReq first_tx)) ∷ []) []
+    ∷ comes (first 1 Ready ∷ second Operating ∷ []) (Some 1) replied (to_place (coordinator 1) (Client (TcKeyReq second_tx second_write)) ∷ []) []
+    ∷ comes (first 1 Ready ∷ opened None None 0 (Beginning (Some second_write)) ∷ []) (Some 1) replied
     (to_place (coordinator 1) (Client (TcBeginReq None)) ∷ []) []
-    ∷ comes (first 1 Ready ∷ []) (Some 1) replied [] []
-    ∷ comes (first 1 Operating ∷ []) (Some 1) (Begun 1 1 ∷ []) (to_place (coordinator 1) (Client (TcKeyReq first_tx first_write)) ∷ []) []
-    ∷ comes (first 0 Ready ∷ []) (Some 1) (Begun 1 1 ∷ []) [] []
-    ∷ comes (opened (Some 1) None 0 (Beginning None) ∷ []) (Some 1) [] (to_place (coordinator 1) (Client (TcBeginReq (Some 1))) ∷ []) []
+    ∷ comes (first 1 Ready ∷ []) (Some 0) replied [] []
+    ∷ comes (first 1 Operating ∷ []) (Some 0) (Begun 1 1 ∷ []) (to_place (coordinator 1) (Client (TcKeyReq first_tx first_write)) ∷ []) []
+    ∷ comes (first 0 Ready ∷ []) (Some 0) (Begun 1 1 ∷ []) [] []
+    ∷ comes (opened (Some 1) None 0 (Beginning None) ∷ []) (Some 0) [] (to_place (coordinator 1) (Client (TcBeginReq (Some 1))) ∷ []) []
     ∷ []
 
 pub asking_do : Do lone 0 asking asking_steps

@@ -1,5 +1,5 @@
 -- Where no schedule picks, a host gives up only for want of memory or of stamps.
-use Rattle.std.proofs.Common.{◌≡◌, ℕ, List, [], ◌∷◌, Bool, true, false, refl, ap, sym, subst, ◌∙◌}
+use Rattle.std.proofs.Common.{◌≡◌, ℕ, List, [], ◌∷◌, ◌++◌, Bool, true, false, refl, ap, sym, subst, ◌∙◌}
 use Rattle.std.specs.Prelude.{◌==◌, ◌&&◌, ◌||◌, if◌then◌else◌, Option, None, Some}
 use Rattle.std.specs.List.{list_any}
 use Rattle.std.proofs.lemmas.Bool.{true≢false}
@@ -8,9 +8,10 @@ use Rattle.node_core.specs.Requests.{is_request}
 use Rattle.run_theory.specs.Lists.{Each}
 use Rattle.run_theory.specs.Logs.{IsLog, IsStep}
 use Rattle.run_theory.specs.Runs.{AreLogs}
-use Rattle.shell_top.specs.Stopped.{NoneWants, gives_up}
+use Rattle.shell_top.specs.Stopped.{NoneWants, gives_up, gives_up_for}
 use Rattle.sig_core.specs.declared.mark.Mark.TheVariants.{Stopped}
 use Rattle.sig_core.specs.declared.outcome.StopCause.{StopCause}
+use Rattle.sig_core.specs.declared.outcome.StopCause.TheVariants.{Clock, Memory}
 use Rattle.sig_core.specs.declared.signal.Body.{Body}
 use Rattle.sig_core.specs.declared.signal.Body.TheVariants.{Host}
 use Rattle.sig_core.specs.declared.signal.Signal.{Signal}
@@ -20,7 +21,7 @@ use Rattle.world_core.specs.Start.{Start}
 use Rattle.world_core.specs.Steps.{HostStep}
 use Rattle.world_views.specs.Machine.{after, closes, machine, own_stop, step_if}
 use Rattle.world_views.specs.Sending.{is_asked, is_own_work}
-use Rattle.world_views.specs.Unscheduled.{AreUnscheduled, is_unscheduled, is_want}
+use Rattle.world_views.specs.Unscheduled.{AreUnscheduled, IsUnscheduled, IsWant}
 
 -- a host asked itself for it
 from_itself : (h : ℕ) (x : Signal) → is_asked h x ≡ true → (x.from.0 == h) ≡ true
@@ -36,10 +37,18 @@ own_closing : (h : ℕ) (x : Signal) (cause : StopCause) → is_asked h x ≡ tr
 own_closing h x cause asked is =
     ap (λ b. if b then closes x.body else None) (from_itself h x asked) ∙ ap closes is
 
-module _ (start : Start) (h : ℕ) (log : List HostStep) (e : HostStep) (step : IsStep (machine start) h log e)
-    (none : list_any gives_up e.step.marks ≡ false) (asked : is_asked h e.step.taken ≡ true)
+-- a host stops without a schedule only where it gives up
+want_gives_up : (start : Start) (logs : ℕ → List HostStep) (h : ℕ) (log : List HostStep) (cause : StopCause)
+    → IsWant start logs h log cause → gives_up_for cause ≡ true
+want_gives_up start logs h log Memory is = refl
+want_gives_up start logs h log Clock is = refl
+want_gives_up start logs h log cause is = absurd is
+
+module _ (start : Start) (logs : ℕ → List HostStep) (h : ℕ) (log : List HostStep) (e : HostStep)
+    (step : IsStep (machine start) h log e) (none : list_any gives_up e.step.marks ≡ false)
+    (asked : is_asked h e.step.taken ≡ true)
   where
-    no_closing : (cause : StopCause) → e.step.taken.body ≡ Host (Closed cause) → is_want cause ≡ true → ⊥
+    no_closing : (cause : StopCause) → e.step.taken.body ≡ Host (Closed cause) → gives_up_for cause ≡ true → ⊥
     no_closing cause is want =
         let marks : e.step.marks ≡ Stopped cause ∷ [] =
         step.fits.marks
@@ -47,24 +56,28 @@ module _ (start : Start) (h : ℕ) (log : List HostStep) (e : HostStep) (step : 
         (own_closing h e.step.taken cause asked is) in
         true≢false (sym (ap (λ b. b || false) want) ∙ sym (ap (list_any gives_up) marks) ∙ none)
 
-    is_request_by : (body : Body) → e.step.taken.body ≡ body → is_unscheduled body ≡ true → is_request body ≡ true
+    is_request_by : (body : Body) → e.step.taken.body ≡ body → IsUnscheduled start logs h log body
+        → is_request body ≡ true
     is_request_by (Host (Continue (Request request) at)) is own = refl
-    is_request_by (Host (Closed cause)) is own = absurd (no_closing cause is own)
-    is_request_by _ is own = absurd (true≢false (sym own))
+    is_request_by (Host (Closed cause)) is own = absurd (no_closing cause is (want_gives_up start logs h log cause own))
+    is_request_by _ is own = absurd own
 
     -- so it is a request
-    asks : is_unscheduled e.step.taken.body ≡ true → is_request e.step.taken.body ≡ true
+    asks : IsUnscheduled start logs h log e.step.taken.body → is_request e.step.taken.body ≡ true
     asks own = is_request_by e.step.taken.body refl own
 
-along : (start : Start) (h : ℕ) (log : List HostStep) → IsLog (machine start) h log
-    → Each (λ e. is_asked h e.step.taken ≡ true → is_unscheduled e.step.taken.body ≡ true) log
+along : (start : Start) (logs : ℕ → List HostStep) (h : ℕ) (log : List HostStep) → IsLog (machine start) h log
+    → ((newer : List HostStep) (e : HostStep) (before : List HostStep) → log ≡ newer ++ e ∷ before
+    → is_asked h e.step.taken ≡ true → IsUnscheduled start logs h before e.step.taken.body)
     → Each (λ e. list_any gives_up e.step.marks ≡ false) log
     → Each (λ e. is_asked h e.step.taken ≡ true → is_request e.step.taken.body ≡ true) log
-along start h [] steps own none = tt
-along start h (e ∷ log) steps own none =
-    (λ asked. asks start h log e steps.0 none.0 asked (own.0 asked), along start h log steps.1 own.1 none.1)
+along start logs h [] steps own none = tt
+along start logs h (e ∷ log) steps own none = (
+  λ asked. asks start logs h log e steps.0 none.0 asked (own [] e log refl asked),
+  along start logs h log steps.1 (λ newer f before is. own (e ∷ newer) f before (ap (λ more. e ∷ more) is)) none.1,
+)
 
-pub none_gives_up : (start : Start) (logs : ℕ → List HostStep) → AreLogs (machine start) logs → AreUnscheduled logs
-    → NoneWants logs
+pub none_gives_up : (start : Start) (logs : ℕ → List HostStep) → AreLogs (machine start) logs
+    → AreUnscheduled start logs → NoneWants logs
     → NoneGivesUp logs
-none_gives_up start logs right own none h = along start h (logs h) (right.local h) (own h) (none h)
+none_gives_up start logs right own none h = along start logs h (logs h) (right.local h) (own h) (none h)

@@ -99,7 +99,7 @@ module _ (start : Start) where
 
   -- one thing is
   pub one_served : (request : ApiReq) (w u t : Whole) → HasAsked start request w u → IsDriven start u t → IsIdle t
-      → (AreUnscheduled (logs_at u.logs) → AreUnscheduled (logs_at t.logs))
+      → (AreUnscheduled start (logs_at u.logs) → AreUnscheduled start (logs_at t.logs))
       → HasServed start (request ∷ []) w t
   one_served request w u t asked drove quiet own =
       record {
@@ -154,7 +154,7 @@ module _ (start : Start) where
   -- or when one thing was
   pub left_undriven : (request : ApiReq) (w u : Whole) (logs : List HostLog) → HasAsked start request w u
       → HaveGrown start (logs_at u.logs) (logs_at logs) → AreLabelled start logs
-      → (AreUnscheduled (logs_at u.logs) → AreUnscheduled (logs_at logs))
+      → (AreUnscheduled start (logs_at u.logs) → AreUnscheduled start (logs_at logs))
       → AreLeftOff start (request ∷ []) w logs
   left_undriven request w u logs asked grown labelled own =
       record {
@@ -420,7 +420,7 @@ module _ (start : Start) (request : ApiReq) where
   asked_world w u sound asked = record { start = start; sound = asked_sound w u sound asked }
 
   pub asked_ok : (result : Result (Unit {0}) NoMemory) (w u t : Whole) → IsSound start w → HasAsked start request w u → (IsSound start u → OnOk result (IsDriven start u t)) → OnOk result (IsIdle t)
-      → (IsSound start u → AreUnscheduled (logs_at u.logs) → AreUnscheduled (logs_at t.logs))
+      → (IsSound start u → AreUnscheduled start (logs_at u.logs) → AreUnscheduled start (logs_at t.logs))
       → OnOk result (HasServed start (request ∷ []) w t)
   asked_ok (Ok done) w u t sound asked drove quiet own =
       one_served start request w u t asked (drove (asked_sound w u sound asked)) quiet (own (asked_sound w u sound asked))
@@ -429,7 +429,7 @@ module _ (start : Start) (request : ApiReq) where
   pub asked_err : (result : Result (Unit {0}) NoMemory) (w u : Whole) (logs : List HostLog) → IsSound start w → HasAsked start request w u
       → (IsSound start u → OnErr result (HaveGrown start (logs_at u.logs) (logs_at logs)))
       → (IsSound start u → OnErr result (AreLabelled start logs))
-      → (IsSound start u → AreUnscheduled (logs_at u.logs) → AreUnscheduled (logs_at logs))
+      → (IsSound start u → AreUnscheduled start (logs_at u.logs) → AreUnscheduled start (logs_at logs))
       → OnErr result (AreLeftOff start (request ∷ []) w logs)
   asked_err (Ok done) w u logs sound asked grown labelled own = tt
   asked_err (Err fault) w u logs sound asked grown labelled own =

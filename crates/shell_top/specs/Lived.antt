@@ -34,8 +34,8 @@ AreAskedFor start ending commands log = AreAsked start (reverse commands) log
 
 -- The logs of a life in which the shell asked for the commands, each at quiet, as far as the session came. There is one
 -- for each host, and it says which host's it is. At its end nothing was under way, unless memory was wanting. No host
--- stopped by itself, unless for want of memory or of stamps, nor cut off a node. Where none did so, and no command kills,
--- cuts or closes anything, the logs are calm.
+-- stopped by itself, unless for want of memory or of stamps, and then it had no stamp left, nor cut off a node. Where none
+-- did so, and no command kills, cuts or closes anything, the logs are calm.
 pub record AreLived (start : Start) (ending : Ending) (commands : List Command) (logs : List HostLog) : Type 0 where
   pub labelled : AreLabelled start logs
   pub right : AreLogs (machine start) (logs_at logs)
@@ -43,7 +43,7 @@ pub record AreLived (start : Start) (ending : Ending) (commands : List Command) 
   pub asked : AreAskedFor start ending commands (logs_at logs 0)
   pub at_quiet : AreAskedAtQuiet start (logs_at logs)
   pub quiet : (ending ≡ NoMemory → ⊥) → IsQuiet start (logs_at logs)
-  pub unscheduled : AreUnscheduled (logs_at logs)
+  pub unscheduled : AreUnscheduled start (logs_at logs)
   pub stays_calm : are_calm commands ≡ true → NoneWants (logs_at logs) → AreCalm (logs_at logs)
 
 -- What a life of a cluster of this shape says: it begins without rows, in the first epoch; its logs, one for each host

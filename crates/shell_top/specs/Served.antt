@@ -51,7 +51,7 @@ pub record HasServed (start : Start) (asked : List ApiReq) (w t : Whole) : Type 
   pub next : AsksFirst asked (logs_at w.logs 0) (logs_at t.logs 0)
   pub at_quiet : IsIdle w → AreAskedAtQuiet start (logs_at w.logs) → AreAskedAtQuiet start (logs_at t.logs)
   pub quiet : IsIdle w → IsIdle t
-  pub unscheduled : AreUnscheduled (logs_at w.logs) → AreUnscheduled (logs_at t.logs)
+  pub unscheduled : AreUnscheduled start (logs_at w.logs) → AreUnscheduled start (logs_at t.logs)
   pub rests : IsSound start w → IsIdle w → AreAtRest start (logs_at w.logs) → are_calm_requests asked ≡ true
       → NoneGivesUp (logs_at t.logs)
       → AreAtRest start (logs_at t.logs)
@@ -67,7 +67,7 @@ pub record AreLeftOff (start : Start) (asked : List ApiReq) (w : Whole) (logs : 
   pub requests : requests (logs_at logs 0) ≡ requests (logs_at w.logs 0) ++ take part asked
   pub at_quiet : IsIdle w → AreAskedAtQuiet start (logs_at w.logs) → AreAskedAtQuiet start (logs_at logs)
   pub begun : (logs_at logs 0 ≡ logs_at w.logs 0) ⊎ IsAskedNext (logs_at w.logs 0) (logs_at logs 0)
-  pub unscheduled : AreUnscheduled (logs_at w.logs) → AreUnscheduled (logs_at logs)
+  pub unscheduled : AreUnscheduled start (logs_at w.logs) → AreUnscheduled start (logs_at logs)
   pub calm : IsSound start w → IsIdle w → AreAtRest start (logs_at w.logs) → are_calm_requests asked ≡ true
       → NoneGivesUp (logs_at logs)
       → AreCalm (logs_at logs)
@@ -86,7 +86,7 @@ pub record IsServed (start : Start) (commands : List Command) (w : Whole) : Type
   pub asked : AreAsked start (reverse commands) (logs_at w.logs 0)
   pub at_quiet : AreAskedAtQuiet start (logs_at w.logs)
   pub none_left : w.replies ≡ []
-  pub unscheduled : AreUnscheduled (logs_at w.logs)
+  pub unscheduled : AreUnscheduled start (logs_at w.logs)
   pub rests : are_calm commands ≡ true → NoneGivesUp (logs_at w.logs) → AreAtRest start (logs_at w.logs)
 
 -- Memory was wanting while a command was served, after these commands: what the logs are then. The questions were asked

@@ -8,9 +8,8 @@ use Rattle.sig_core.specs.declared.log.LogStep.{LogStep}
 use Rattle.sig_core.specs.declared.mark.Mark.{Mark}
 use Rattle.sig_core.specs.declared.mark.Mark.TheVariants.{Stopped}
 use Rattle.sig_core.specs.declared.outcome.StopCause.{StopCause}
-use Rattle.sig_core.specs.declared.outcome.StopCause.TheVariants.{Memory}
+use Rattle.sig_core.specs.declared.outcome.StopCause.TheVariants.{Clock, Memory}
 use Rattle.world_core.specs.Steps.{HostStep}
-use Rattle.world_views.specs.Unscheduled.{is_want as of_want}
 
 abbrev pub wants : StopCause → Bool
 wants Memory = true
@@ -32,11 +31,17 @@ ends_by_want log = is_last_want (slice_get log.steps (length log.steps - 1))
 abbrev pub has_wanted : Life → Bool
 has_wanted life = list_any ends_by_want life.logs
 
--- a mark of a host that stopped for want of memory or of stamps
+-- a host gives up for want of memory or of stamps
+abbrev pub gives_up_for : StopCause → Bool
+gives_up_for Memory = true
+gives_up_for Clock = true
+gives_up_for _ = false
+
+-- a mark of a host that did so
 abbrev pub gives_up : Mark → Bool
-gives_up (Stopped cause) = of_want cause
+gives_up (Stopped cause) = gives_up_for cause
 gives_up _ = false
 
--- no host of these logs did so
+-- no host of these logs gave up
 abbrev pub NoneWants : (ℕ → List HostStep) → Type 0
 NoneWants logs = (h : ℕ) → Each (λ e. list_any gives_up e.step.marks ≡ false) (logs h)

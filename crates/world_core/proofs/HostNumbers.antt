@@ -122,17 +122,6 @@ number_few Main = omega arith
 number_few Tc = omega arith
 number_few Ldm = omega arith
 
-same_part : (one other : Part) → number_of one ≡ number_of other → one ≡ other
-same_part Main Main e = refl
-same_part Main Tc e = absurd (omega (arith, e))
-same_part Main Ldm e = absurd (omega (arith, e))
-same_part Tc Main e = absurd (omega (arith, e))
-same_part Tc Tc e = refl
-same_part Tc Ldm e = absurd (omega (arith, e))
-same_part Ldm Main e = absurd (omega (arith, e))
-same_part Ldm Tc e = absurd (omega (arith, e))
-same_part Ldm Ldm e = refl
-
 module _ (start : Start) where
   -- the host of a node's membership
   abbrev pub main_host : ℕ → ℕ
@@ -177,16 +166,7 @@ module _ (start : Start) where
   same_node one other some low other_some other_low same =
       omega (arith, same, node_host one some low, node_host other other_some other_low, number_some (part_of one.block), number_few (part_of one.block), number_some (part_of other.block), number_few (part_of other.block), some, other_some)
 
-  pub same_parts : (one other : Place) → 1 ≤ one.node → one.node ≤ start.shape.nodes → 1 ≤ other.node → other.node ≤ start.shape.nodes
-      → host_for start one ≡ host_for start other → part_of one.block ≡ part_of other.block
-  same_parts one other some low other_some other_low same =
-      same_part (part_of one.block) (part_of other.block)
-      (omega (arith, same, node_host one some low, node_host other other_some other_low, same_node one other some low other_some other_low same))
-
-  -- coordinators, and rows, of two nodes have two hosts
-  pub tc_host_apart : (a b : ℕ) → 1 ≤ a → a ≤ start.shape.nodes → 1 ≤ b → b ≤ start.shape.nodes → tc_host start a ≡ tc_host start b → a ≡ b
-  tc_host_apart a b some low b_some b_low same = same_node (record { node = a; block = block.Tc }) (record { node = b; block = block.Tc }) some low b_some b_low same
-
+  -- rows of two nodes have two hosts
   pub rows_host_apart : (a b : ℕ) → 1 ≤ a → a ≤ start.shape.nodes → 1 ≤ b → b ≤ start.shape.nodes → rows_host start a ≡ rows_host start b → a ≡ b
   rows_host_apart a b some low b_some b_low same = same_node (record { node = a; block = block.Lqh }) (record { node = b; block = block.Lqh }) some low b_some b_low same
 
@@ -205,10 +185,6 @@ module _ (start : Start) where
       ∙ ap (λ m. fresh_part (part_by left) m (first_layout start.shape) start.epoch start.rows)
       (ap (λ i. slice_index_or (made start) i nobody) (div-mul-add (node - 1) 3 left few)
       ∙ members_at start.shape.nodes (node - 1) nobody (omega (arith, some, low)) ∙ ap first_start own)
-
-  pub shell_started : started start 0 ≡ fresh_shell (first_view start.shape.nodes)
-  unfolding started
-  shell_started = refl
 
   pub main_started : (node : ℕ) → 1 ≤ node → node ≤ start.shape.nodes → started start (main_host node) ≡ fresh_part Main (first_start node) (first_layout start.shape) start.epoch start.rows
   main_started node some low =

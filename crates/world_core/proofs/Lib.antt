@@ -1,16 +1,7 @@
-pub mod AskDriven
-pub mod BusyLinks
 pub mod FreshWorld
 pub mod HostNumbers
-pub mod LinkIndex
 pub mod LogIndex
 pub mod MemberLemmas
-pub mod MoveRight
-pub mod QuietLemmas
 pub mod Replies
-pub mod ScheduleLemmas
 pub mod SentFacts
 pub mod Stamped
-pub mod StepDriven
-pub mod TakeRight
-pub mod WorldLemmas

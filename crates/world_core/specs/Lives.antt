@@ -1,19 +1,13 @@
--- Lives of a session: their logs, and how they began.
-use Rattle.std.specs.Prelude.{ℕ, ◌+◌, List, []}
+-- Lives of a session: their logs, and the first one.
+use Rattle.std.specs.Prelude.{ℕ, List, []}
 use Rattle.sig_core.specs.declared.log.HostLog.{HostLog}
 use Rattle.sig_core.specs.declared.log.Life.{Life}
-use Rattle.sig_core.specs.declared.view.Shape.{Shape}
 use Rattle.world_core.specs.World.{logs_at}
-use Rattle.world_core.specs.Start.{Start}
 use Rattle.world_core.specs.Steps.{HostStep}
 
 -- the log of each host, the newest step first
 abbrev pub logs_of : Life → ℕ → List HostStep
 logs_of life = logs_at life.logs
-
--- how a life of a cluster of this shape began: in the epoch behind its start epoch, with its start rows
-abbrev pub start_of : Shape → Life → Start
-start_of shape life = record { shape = shape; epoch = life.start_epoch + 1; rows = life.start_rows }
 
 -- the first life of a fresh world, with these logs
 abbrev pub fresh_life : List HostLog → Life

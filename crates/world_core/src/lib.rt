@@ -1,15 +1,3 @@
-//! The machine of the kernel, and the world in which one thread drives it.
+//! The machine of a cluster in which nothing can fail, and the history of its logs. It is a model:
+//! definitions and lemmas, in `specs` and `proofs`, and nothing that runs.
 #![tactic(auto)]
-
-mod hosts;
-mod inbox;
-mod logs;
-mod network;
-mod schedule;
-mod world;
-
-pub use schedule::{Pick, ScheduleFault};
-pub use world::World;
-
-#[cfg(test)]
-mod tests;

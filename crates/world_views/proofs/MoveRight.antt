@@ -28,7 +28,8 @@ use Rattle.world_views.proofs.PutRight.{put_right}
 use Rattle.world_views.proofs.Ready.{IsReady, host_step, log_with}
 use Rattle.world_views.proofs.SentFacts.{last_is}
 
-running : (start : Start) (log : List HostStep) → has_stopped log ≡ false → IsRunning (machine start) log
+-- a host that hasn't stopped runs
+pub running : (start : Start) (log : List HostStep) → has_stopped log ≡ false → IsRunning (machine start) log
 running start [] runs = tt
 running start (e ∷ log) runs = runs
 

@@ -136,6 +136,14 @@ module _ (start : Start) (given : List ApiReply) (w : Whole) (right : IsRight st
         apart (inl same) = inr (subst (λ k. has_stopped (logs_at w.logs k) ≡ false) (sym same) (on_open kept).runs)
         apart (inr away) = inl away
 
+    -- the link gives the signal next
+    pub gives : IsGiven (machine start) at.from at.to (logs_at w.logs at.from) (arrived ∷ before)
+    gives =
+        let all = on_link at.to (link t.left at.from at.to) in
+        past_given start at.from at.to (logs_at w.logs at.from) (arrived ∷ before) (all ++ (arrived ∷ before))
+        (record { newer = all; is = refl })
+        (held_given start at.from at.to (logs_at w.logs at.from) (all ++ (arrived ∷ before)) held)
+
     module _ (step : Step Host) where
       abbrev next : HostStep
       next = host_step (left_of w t) arrived step
@@ -148,9 +156,7 @@ module _ (start : Start) (given : List ApiReply) (w : Whole) (right : IsRight st
           let all = on_link at.to (link t.left at.from at.to) in
           record {
             from = taking_shortens.from;
-            given = subst (IsGiven (machine start) at.from at.to (logs_at w.logs at.from)) (sym more)
-                (past_given start at.from at.to (logs_at w.logs at.from) (arrived ∷ before) (all ++ (arrived ∷ before))
-                (record { newer = all; is = refl }) (held_given start at.from at.to (logs_at w.logs at.from) (all ++ (arrived ∷ before)) held));
+            given = subst (IsGiven (machine start) at.from at.to (logs_at w.logs at.from)) (sym more) gives;
             held = λ takes. subst (λ xs. IsHeld start at.from at.to (logs_at w.logs at.from) (all ++ xs)) (sym more) held;
           }
 

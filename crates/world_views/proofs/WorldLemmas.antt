@@ -110,7 +110,7 @@ has_stepped w u t e taken start sound =
     taken_driven start sound.given w sound.right t (first_from w t start sound e) u taken
 
 pub stepped_unscheduled : (w u : Whole) (t : Arrival) → take_first w.links ≡ Some t → HasTaken (left_of w t) t.taken u
-    → (start : Start) → IsSound start w → AreUnscheduled (logs_at w.logs) → AreUnscheduled (logs_at u.logs)
+    → (start : Start) → IsSound start w → AreUnscheduled start (logs_at w.logs) → AreUnscheduled start (logs_at u.logs)
 stepped_unscheduled w u t e taken start sound was =
     taken_unscheduled start sound.given w sound.right t (first_from w t start sound e) was u taken
 
@@ -176,7 +176,7 @@ goes_on w a b false is way stepped = absurd (true≢false (sym is))
 -- No schedule had a host stop or cut off a node between these worlds.
 abbrev pub StayUnscheduled : Whole → Whole → Type 0
 StayUnscheduled w t =
-    (start : Start) → IsSound start w → AreUnscheduled (logs_at w.logs) → AreUnscheduled (logs_at t.logs)
+    (start : Start) → IsSound start w → AreUnscheduled start (logs_at w.logs) → AreUnscheduled start (logs_at t.logs)
 
 pub unscheduled_further : (w a b : Whole) → IsUnderWay w a → StayUnscheduled w a → StayUnscheduled a b → StayUnscheduled w b
 unscheduled_further w a b way first second start sound was =

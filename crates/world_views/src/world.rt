@@ -115,7 +115,7 @@ impl World {
     }
 
     /// Takes steps until nothing is under way. It isn't claimed that this ends. A host stops by itself only
-    /// for want of memory or of stamps, and cuts off no node by itself.
+    /// for want of memory, or where it has no stamp left, and cuts off no node by itself.
     ///
     /// # Errors
     /// `NoMemory`, and then the world is of use for its logs alone.
@@ -125,7 +125,7 @@ impl World {
         ensures quiet { OnOk result (IsIdle (whole_of self.new)) }
         ensures err { (start : Start) → IsSound start (whole_of self.old) → OnErr result (HaveGrown start (logs_at self.old.logs) (logs_at self.new.logs)) }
         ensures labels { (start : Start) → IsSound start (whole_of self.old) → OnErr result (AreLabelled start self.new.logs) }
-        ensures unscheduled { (start : Start) → IsSound start (whole_of self.old) → AreUnscheduled (logs_at self.old.logs) → AreUnscheduled (logs_at self.new.logs) }
+        ensures unscheduled { (start : Start) → IsSound start (whole_of self.old) → AreUnscheduled start (logs_at self.old.logs) → AreUnscheduled start (logs_at self.new.logs) }
     {
         for _ in rt.forever() {
             if !self.step(alloc)? {
@@ -140,7 +140,7 @@ impl World {
         requires { IsWorld (whole_of self.old) }
         ensures ok { (start : Start) → IsSound start (whole_of self.old) → IfOk result (λ went. IsStepped start (whole_of self.old) (whole_of self.new) went) }
         ensures err { OnErr result (self.new.logs ≡ self.old.logs) }
-        ensures unscheduled { (start : Start) → IsSound start (whole_of self.old) → AreUnscheduled (logs_at self.old.logs) → AreUnscheduled (logs_at self.new.logs) }
+        ensures unscheduled { (start : Start) → IsSound start (whole_of self.old) → AreUnscheduled start (logs_at self.old.logs) → AreUnscheduled start (logs_at self.new.logs) }
     {
         let Some(arrived) = self.network.take() else {
             return Ok(false);

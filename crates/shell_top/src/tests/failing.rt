@@ -44,7 +44,7 @@ fn epochs_are_closed(rt: HostRuntime) -> Result<(), Fail> {
 }
 
 // The words, a script, and what it prints until it ends at the end of its input.
-const FAILURES: [(&str, &[u8], &[u8]); 14] = [
+const FAILURES: [(&str, &[u8], &[u8]); 16] = [
     // crossed cuts: one half goes on
     (
         "--nodes 4",
@@ -56,6 +56,18 @@ const FAILURES: [(&str, &[u8], &[u8]); 14] = [
         "--nodes 2",
         b"cut 1 2\nput a 1\ntick 4\nput a 2\nview\n",
         b"cut 1 2\npending cut 1 2\nticked 4\nnode 2 stopped excluded 2\n@0 aborted nodefail 2\nok\ncommitted 1/0\nview 2 full 1 starting -\n",
+    ),
+    // a later operation alone isn't taken for one that a cut keeps
+    (
+        "--nodes 4",
+        b"cut 1 3\ncut 3 1\nput a 1\nbegin 5 2\n@5 put b 5\nput b 2\nget c\ncommit 5\n",
+        b"cut 1 3\ncut 3 1\npending cut 1 3\n@5 begun 2\n@5 ok\npending held by @5\naborted by request\nnone\ncommitted 1/0\n@5 committed 1/0\n",
+    ),
+    // what a cut keeps is told in its own command, and not in that of its abort
+    (
+        "--nodes 4",
+        b"cut 1 3\ncut 3 1\nbegin 1\n@1 put a 1\nabort 1\nrows 2\nkill 3\n",
+        b"cut 1 3\ncut 3 1\n@1 begun 1\n@1 pending cut 1 3\nnode 2 rows 0\nnode 3 stopped killed\n@1 aborted by request\n",
     ),
     // a commit comes once the node is left out that was cut off
     (

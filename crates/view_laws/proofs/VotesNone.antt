@@ -1,0 +1,57 @@
+-- What is neither a vote nor a request for a fence, and lists of sends, of which one event sends a part.
+use Rattle.std.proofs.Common.{◌≡◌, ◌+◌, ℕ, Bool, true, false, List, take, drop, length, nat_lt, refl, ap, ◌||◌}
+use Rattle.run_theory.specs.Lists.{Each}
+use Rattle.run_theory.proofs.EachSent.{each_drop, each_take}
+use Rattle.run_theory.proofs.Pasts.{each_append}
+use Rattle.sig_core.specs.declared.outs.Outgoing.{Outgoing}
+use Rattle.sig_core.specs.declared.place.Place.{Place}
+use Rattle.sig_core.specs.declared.portion.TheConstants.{PORTION}
+use Rattle.sig_core.specs.declared.signal.Body.{Body}
+use Rattle.sig_core.specs.declared.signal.Body.TheVariants.{Membership}
+use Rattle.sig_core.specs.declared.signal.host.Work.{Work}
+use Rattle.sig_core.specs.declared.signal.membership.MembershipSignal.TheVariants.{FenceReq}
+use Rattle.sig_core.specs.Portion.{portion_effects, rest_if}
+use Rattle.sig_core.specs.Step.{Step}
+use Rattle.view_laws.specs.Votes.{is_vote}
+
+-- a request for a fence
+abbrev pub is_fencing : Body → Bool
+is_fencing (Membership (FenceReq set)) = true
+is_fencing body = false
+
+-- what memberships alone tell of views, and the arbitrator
+abbrev pub is_told : Body → Bool
+is_told body = is_vote body || is_fencing body
+
+pub vote_told : (body : Body) → is_vote body ≡ true → is_told body ≡ true
+vote_told body vote = ap (λ b. b || is_fencing body) vote
+
+pub untold_vote : (body : Body) → is_told body ≡ false → is_vote body ≡ false
+untold_vote body off = by (is_vote body) off
+  where
+    by : (b : Bool) → (b || is_fencing body) ≡ false → b ≡ false
+    by true off = off
+    by false off = refl
+
+-- it is neither
+abbrev pub IsNoVote : Outgoing → Type 0
+IsNoVote send = is_told send.body ≡ false
+
+abbrev pub AreNoVotes : List Outgoing → Type 0
+AreNoVotes sends = Each IsNoVote sends
+
+-- a step sends no vote
+abbrev pub SendsNoVote : {S : Type 0} → Step S → Type 0
+SendsNoVote step = AreNoVotes step.effects.sends
+
+rest_none : (by : Place) (work : Work) (at : ℕ) (b : Bool) → AreNoVotes (rest_if by work at b)
+rest_none by work at true = (refl, tt)
+rest_none by work at false = tt
+
+-- of a list without votes no event sends one
+pub portion_none : (by : Place) (work : Work) (sends : List Outgoing) (at : ℕ) → AreNoVotes sends
+    → AreNoVotes (portion_effects by work sends at).sends
+portion_none by work sends at all =
+    each_append IsNoVote (take PORTION (drop at sends)) (rest_if by work at (nat_lt (at + PORTION) (length sends)))
+    (each_take IsNoVote PORTION (drop at sends) (each_drop IsNoVote at sends all))
+    (rest_none by work at (nat_lt (at + PORTION) (length sends)))

@@ -1,0 +1,5 @@
+use Rattle.view_laws.proofs.HeardAnswers.{answer_rightly}
+use Rattle.view_laws.proofs.heard_laws.memberships_answer_rightly.Goals as goal
+
+pub returns : goal.returns
+returns c = answer_rightly

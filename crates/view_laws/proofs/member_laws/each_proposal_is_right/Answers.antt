@@ -1,0 +1,5 @@
+use Rattle.view_laws.proofs.ProposalLemmas.{each_right}
+use Rattle.view_laws.proofs.member_laws.each_proposal_is_right.Goals as goal
+
+pub returns : goal.returns
+returns c = each_right

@@ -1,0 +1,5 @@
+use Rattle.view_laws.proofs.ProposalLemmas.{rise}
+use Rattle.view_laws.proofs.member_laws.proposals_rise.Goals as goal
+
+pub returns : goal.returns
+returns c = rise

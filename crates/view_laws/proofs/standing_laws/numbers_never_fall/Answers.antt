@@ -1,0 +1,5 @@
+use Rattle.view_laws.proofs.StandingNumbers.{never_fall}
+use Rattle.view_laws.proofs.standing_laws.numbers_never_fall.Goals as goal
+
+pub returns : goal.returns
+returns c = never_fall

@@ -1,0 +1,6 @@
+use Rattle.view_laws.proofs.FollowHosts.{hosts_follow}
+use Rattle.view_laws.proofs.VotesMain.{memberships_vote}
+use Rattle.view_laws.proofs.vote_laws.memberships_vote.Goals as goal
+
+pub returns : goal.returns
+returns c = memberships_vote hosts_follow

@@ -1,0 +1,14 @@
+pub mod Ballots
+pub mod Chain
+pub mod Events
+pub mod Fences
+pub mod Grants
+pub mod Heard
+pub mod HostEvents
+pub mod Kept
+pub mod Members
+pub mod Orderly
+pub mod Runs
+pub mod Sets
+pub mod Standing
+pub mod Votes

@@ -1,0 +1,19 @@
+//! Views in runs of the machine, whatever stops and is cut off.
+ghost use Rattle.view_laws.specs.Runs.{OneViewOfANumber, RunsHaveOrderlyBallots, ViewsAreViable};
+
+/// What members promise, propose and are granted in a run is orderly, and each host stands in a view
+/// that is chosen by it.
+pub fn runs_have_orderly_ballots()
+    ensures { RunsHaveOrderlyBallots }
+{}
+
+/// In all right logs there is one view for each number: two that were installed, by whatever hosts
+/// and at whatever moments, are the same.
+pub fn one_view_of_a_number()
+    ensures { OneViewOfANumber }
+{}
+
+/// Each view that was installed has a full member in each group.
+pub fn views_are_viable()
+    ensures { ViewsAreViable }
+{}

@@ -1,0 +1,27 @@
+//! Views that hosts stand in, and headers of signals.
+ghost use Rattle.view_laws.specs.Standing.{HeadersAreInstalled, HostsAreOfTheirViews, NumbersNeverFall, SignalsGoToMembers, ViewsOnlyShrink};
+
+/// The number of a host's view never falls.
+pub fn numbers_never_fall()
+    ensures { NumbersNeverFall }
+{}
+
+/// The member of a host is in the view that the host stands in.
+pub fn hosts_are_of_their_views()
+    ensures { HostsAreOfTheirViews }
+{}
+
+/// The view in the header of each signal that was taken was installed by some host.
+pub fn headers_are_installed()
+    ensures { HeadersAreInstalled }
+{}
+
+/// What a host of a node sends goes to the shell's host, or to hosts of members of its view.
+pub fn signals_go_to_members()
+    ensures { SignalsGoToMembers }
+{}
+
+/// Of two views that were installed the one with the greater number is a part of the other.
+pub fn views_only_shrink()
+    ensures { ViewsOnlyShrink }
+{}

@@ -1,0 +1,27 @@
+//! Who sends the signals by which views are chosen: memberships and the arbitrator, and at what.
+ghost use Rattle.view_laws.specs.Votes.{ArbitersFollowTheirSignals, ArbitersVote, HostsFollowTheirEvents, MembershipsVote, OthersDontVote};
+
+/// The main host of a member has the membership to which happened what its log says.
+pub fn hosts_follow_their_events()
+    ensures { HostsFollowTheirEvents }
+{}
+
+/// The shell's host has the arbitrator to which came what its log says.
+pub fn arbiters_follow_their_signals()
+    ensures { ArbitersFollowTheirSignals }
+{}
+
+/// Proposals, promises and questions are sent by memberships, at signals that they take.
+pub fn memberships_vote()
+    ensures { MembershipsVote }
+{}
+
+/// Grants are sent by the arbitrator, at a signal that it takes.
+pub fn arbiters_vote()
+    ensures { ArbitersVote }
+{}
+
+/// Nobody else sends any of these.
+pub fn others_dont_vote()
+    ensures { OthersDontVote }
+{}

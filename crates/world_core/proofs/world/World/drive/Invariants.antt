@@ -1,9 +1,0 @@
-use Rattle.world_core.specs.WorldOf.{whole_of}
-use Rattle.world_core.proofs.WorldLemmas.{IsUnderWay}
-use Rattle.world_core.proofs.world.World.drive.Given as goal
-
--- the world is sound, and was driven here
-abbrev pub invariant-loop : goal.invariant-loop
-invariant-loop g l =
-    IsUnderWay (whole_of l.initial.self) (whole_of l.self)
-    × (goal.iterator-loop g).can_next l.iterator' × (goal.iterator-loop g).is_finite l.iterator'
