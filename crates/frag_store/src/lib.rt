@@ -1,0 +1,14 @@
+//! The rows of a node, in pages, found by a hash index.
+#![tactic(auto)]
+
+mod counts;
+mod pending;
+mod places;
+mod record_id;
+mod records;
+mod store;
+
+pub use store::Store;
+
+#[cfg(test)]
+mod tests;

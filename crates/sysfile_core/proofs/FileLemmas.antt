@@ -1,0 +1,152 @@
+-- What a write leaves of the bytes of a file that are not in its piece, and what a crash leaves of those that are kept.
+use Rattle.std.proofs.Common.{◌≡◌, ◌∙◌, ◌⊎◌, ℕ, suc, zero, ◌+◌, ◌-◌, ◌≤◌, ◌<◌, Bool, true, false, nat_le, nat_lt, ◌&&◌, List, [], ◌∷◌, ◌++◌, length, take, drop, replicate, get_or, refl, ap, sym, subst, arith, inl, inr, length-append}
+use Rattle.std.specs.Prelude.{min, ◌||◌}
+use Rattle.std.specs.List.{list_any}
+use Rattle.std.proofs.lemmas.Bool.{and_left, and_right, le-ltb, lt-leb, true≢false}
+use Rattle.std.proofs.lemmas.List.{get_or-append_right, get_or-drop, get_or-take, get_or_append_left, length-take-le}
+use Rattle.std.proofs.lemmas.List.Folds.{list_any-append}
+use Rattle.host_io.specs.declared.dirty.DirtyRange.{DirtyRange}
+use Rattle.host_io.specs.DiskState.{FileState, dirtied, filled_up, is_dirty, laid, put_over, settled, written}
+use Rattle.host_io.specs.Image.{IsImage}
+use Rattle.host_io.proofs.StateLemmas.{laid_grows, length_filled, length_put}
+
+filled_below : (end : ℕ) (bytes : List ℕ) (p : ℕ) → p < length bytes → get_or (filled_up end bytes) p 0 ≡ get_or bytes p 0
+filled_below end bytes p below = get_or_append_left bytes (replicate (end - length bytes) 0) 0 p below
+
+put_before : (at : ℕ) (piece bytes : List ℕ) (p : ℕ) → p < at → at + length piece ≤ length bytes
+    → get_or (put_over at piece bytes) p 0 ≡ get_or bytes p 0
+put_before at piece bytes p before fits =
+    let front : length (take at bytes) ≡ at = length-take-le at bytes (omega (arith, fits)) in
+    let both = length-append (take at bytes) piece in
+    get_or_append_left (take at bytes ++ piece) (drop (at + length piece) bytes) 0 p (omega (arith, front, both, before))
+    ∙ get_or_append_left (take at bytes) piece 0 p (omega (arith, front, before))
+    ∙ get_or-take at bytes p 0 before
+
+put_behind : (at : ℕ) (piece bytes : List ℕ) (p : ℕ) → at + length piece ≤ p → at + length piece ≤ length bytes
+    → get_or (put_over at piece bytes) p 0 ≡ get_or bytes p 0
+put_behind at piece bytes p behind fits =
+    let front : length (take at bytes) ≡ at = length-take-le at bytes (omega (arith, fits)) in
+    let both : length (take at bytes ++ piece) ≡ at + length piece =
+    length-append (take at bytes) piece ∙ ap (λ n. n + length piece) front in
+    get_or-append_right (take at bytes ++ piece) (drop (at + length piece) bytes) (at + length piece) p 0 both behind
+    ∙ get_or-drop (at + length piece) bytes (p - (at + length piece)) 0
+    ∙ ap (λ (q : ℕ). get_or bytes q 0) (omega (arith, behind))
+
+put_here : (at : ℕ) (piece bytes : List ℕ) (k : ℕ) → k < length piece → at + length piece ≤ length bytes
+    → get_or (put_over at piece bytes) (at + k) 0 ≡ get_or piece k 0
+put_here at piece bytes k within fits =
+    let front : length (take at bytes) ≡ at = length-take-le at bytes (omega (arith, fits)) in
+    let both = length-append (take at bytes) piece in
+    get_or_append_left (take at bytes ++ piece) (drop (at + length piece) bytes) 0 (at + k) (omega (arith, front, both, within))
+    ∙ get_or-append_right (take at bytes) piece at (at + k) 0 front (omega arith)
+    ∙ ap (λ (q : ℕ). get_or piece q 0) (omega arith)
+
+-- a place that a piece doesn't reach has the byte that it had
+pub laid_elsewhere : (at : ℕ) (piece bytes : List ℕ) (p : ℕ) → p < length bytes → (p < at) ⊎ (at + length piece ≤ p)
+    → get_or (laid at piece bytes) p 0 ≡ get_or bytes p 0
+laid_elsewhere at [] bytes p below apart = refl
+laid_elsewhere at (byte ∷ piece) bytes p below (inl before) =
+    let end = at + length (byte ∷ piece) in
+    let full = length_filled end bytes in
+    put_before at (byte ∷ piece) (filled_up end bytes) p before (omega (arith, full)) ∙ filled_below end bytes p below
+laid_elsewhere at (byte ∷ piece) bytes p below (inr behind) =
+    let end = at + length (byte ∷ piece) in
+    let full = length_filled end bytes in
+    put_behind at (byte ∷ piece) (filled_up end bytes) p behind (omega (arith, full)) ∙ filled_below end bytes p below
+
+-- a place of the piece has the piece's byte
+pub laid_here : (at : ℕ) (piece bytes : List ℕ) (k : ℕ) → k < length piece
+    → get_or (laid at piece bytes) (at + k) 0 ≡ get_or piece k 0
+laid_here at [] bytes k within = absurd (omega (arith, within))
+laid_here at (byte ∷ piece) bytes k within =
+    let end = at + length (byte ∷ piece) in
+    let full = length_filled end bytes in
+    put_here at (byte ∷ piece) (filled_up end bytes) k within (omega (arith, full))
+
+-- the file reaches the end of the piece
+pub laid_reaches : (at : ℕ) (piece bytes : List ℕ) → 0 < length piece → at + length piece ≤ length (laid at piece bytes)
+laid_reaches at [] bytes some = absurd (omega (arith, some))
+laid_reaches at (byte ∷ piece) bytes some =
+    let end = at + length (byte ∷ piece) in
+    let full = length_filled end bytes in
+    let put = length_put at (byte ∷ piece) (filled_up end bytes) (omega (arith, full)) in
+    omega (arith, full, put)
+
+-- a range has a place
+abbrev covers : ℕ → DirtyRange → Bool
+covers p range = nat_le range.from p && nat_lt p range.to
+
+outside_range : (p from to : ℕ) → (p < from) ⊎ (to ≤ p) → (nat_le from p && nat_lt p to) ≡ false
+outside_range p from to (inl before) = and_left (nat_le from p) (nat_lt p to) (lt-leb from p before)
+outside_range p from to (inr behind) = and_right (nat_le from p) (nat_lt p to) (le-ltb p to behind)
+
+outside_dirtied : (at asked before now p : ℕ) → p < before → (p < at) ⊎ (at + asked ≤ p)
+    → covers p (dirtied at asked before now) ≡ false
+outside_dirtied at asked before now p old (inl early) =
+    outside_range p (min at before) (min (at + asked) now) (inl (omega (arith, old, early)))
+outside_dirtied at asked before now p old (inr late) =
+    outside_range p (min at before) (min (at + asked) now) (inr (omega (arith, late)))
+
+neither : (x y : Bool) → x ≡ false → y ≡ false → (x || (y || false)) ≡ false
+neither true y one other = absurd (true≢false one)
+neither false true one other = absurd (true≢false other)
+neither false false one other = refl
+
+-- a place that a write doesn't ask for is as clean as before
+pub clean_written : (s : FileState) (at asked : ℕ) (piece : List ℕ) (p : ℕ) → p < length s.bytes
+    → (p < at) ⊎ (at + asked ≤ p) → is_dirty s p ≡ false → is_dirty (written s at asked piece) p ≡ false
+clean_written s at asked piece p old apart clean =
+    let range = dirtied at asked (length s.bytes) (length (laid at piece s.bytes)) in
+    let new : covers p range ≡ false = outside_dirtied at asked (length s.bytes) (length (laid at piece s.bytes)) p old apart in
+    list_any-append (covers p) s.dirty (range ∷ []) ∙ neither (list_any (covers p) s.dirty) (covers p range) clean new
+
+-- The bytes from one place up to another are those of `old`, and no crash changes them.
+pub record Keeps (old : List ℕ) (from to : ℕ) (s : FileState) : Type 0 where
+  pub synced : to ≤ s.synced
+  pub ends : s.synced ≤ length s.bytes
+  pub clean : (at : ℕ) → from ≤ at → at < to → is_dirty s at ≡ false
+  pub same : (at : ℕ) → from ≤ at → at < to → get_or s.bytes at 0 ≡ get_or old at 0
+
+apart_at : (from to at asked p : ℕ) → from ≤ p → p < to → (to ≤ at) ⊎ (at + asked ≤ from) → (p < at) ⊎ (at + asked ≤ p)
+apart_at from to at asked p low high (inl before) = inl (omega (arith, high, before))
+apart_at from to at asked p low high (inr behind) = inr (omega (arith, low, behind))
+
+fewer_apart : (at asked count p : ℕ) → count ≤ asked → (p < at) ⊎ (at + asked ≤ p) → (p < at) ⊎ (at + count ≤ p)
+fewer_apart at asked count p few (inl before) = inl before
+fewer_apart at asked count p few (inr behind) = inr (omega (arith, few, behind))
+
+pub keeps_written : (old : List ℕ) (from to : ℕ) (s : FileState) (at asked : ℕ) (piece : List ℕ) → Keeps old from to s
+    → length piece ≤ asked → (to ≤ at) ⊎ (at + asked ≤ from) → Keeps old from to (written s at asked piece)
+keeps_written old from to s at asked piece k few apart =
+    record {
+      synced = k.synced;
+      ends = omega (arith, k.ends, laid_grows at piece s.bytes);
+      clean =
+          λ p low high.
+          clean_written s at asked piece p (omega (arith, high, k.synced, k.ends)) (apart_at from to at asked p low high apart)
+          (k.clean p low high);
+      same =
+          λ p low high.
+          laid_elsewhere at piece s.bytes p (omega (arith, high, k.synced, k.ends))
+          (fewer_apart at asked (length piece) p few (apart_at from to at asked p low high apart))
+          ∙ k.same p low high;
+    }
+
+pub keeps_settled : (old : List ℕ) (from to : ℕ) (s : FileState) → Keeps old from to s → Keeps old from to (settled s.bytes)
+keeps_settled old from to s k =
+    record {
+      synced = omega (arith, k.synced, k.ends);
+      ends = omega arith;
+      clean = λ p low high. refl;
+      same = k.same;
+    }
+
+-- the bytes of a file of which nothing is dirty are kept
+pub settled_keeps : (bytes : List ℕ) (from to : ℕ) → to ≤ length bytes → Keeps bytes from to (settled bytes)
+settled_keeps bytes from to within =
+    record { synced = within; ends = omega arith; clean = λ p low high. refl; same = λ p low high. refl }
+
+pub keeps_image : (old : List ℕ) (from to : ℕ) (s : FileState) (image : List ℕ) → Keeps old from to s → IsImage s image
+    → (p : ℕ) → from ≤ p → p < to → get_or image p 0 ≡ get_or old p 0
+keeps_image old from to s image k one p low high =
+    one.clean p (omega (arith, high, k.synced)) (k.clean p low high) ∙ k.same p low high
