@@ -11,7 +11,7 @@ ghost use Rattle.api_block.specs.State.{with_replies};
 
 use crate::closings::Closing;
 use crate::cuts::CutPair;
-use crate::members::{greater_view, is_member};
+use crate::members::is_member;
 use crate::stops::HostStop;
 use api_block::{Api, place_beginning_at};
 use sig_core::{
@@ -199,8 +199,9 @@ impl Client {
     fn note(&mut self, view: &View)
         ensures { self.new ≡ noted self.old view.now }
     {
-        let greater = greater_view(self.api.view(), view);
-        self.api.see(&greater);
+        if self.api.view().number < view.number {
+            self.api.see(view);
+        }
     }
 
     // A coordinator that isn't in the greatest view began a transaction.

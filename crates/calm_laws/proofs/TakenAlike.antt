@@ -8,7 +8,7 @@ use Rattle.run_theory.specs.Lists.{Each, IsPast}
 use Rattle.sig_core.specs.declared.signal.Body.TheVariants.{Host}
 use Rattle.sig_core.specs.declared.signal.host.HostSignal.TheVariants.{Closed}
 use Rattle.world_core.specs.Machine as plain
-use Rattle.world_core.specs.Start.{Start, made}
+use Rattle.world_core.specs.Start.{Start}
 use Rattle.world_core.specs.Steps.{Addressed, HostStep}
 use Rattle.world_views.specs.Machine.{cause_in, closing, machine}
 use Rattle.world_views.specs.Sending.{is_asked}
@@ -43,9 +43,9 @@ module _ (start : Start) where
   given_sent i j [] x xs calm (inr c) = absurd c
   given_sent i j (e ∷ log) x xs calm (inr c) = absurd (never c)
     where
-      never : Closes (machine start) e j (sent (machine start) i j (e ∷ log)) (x ∷ xs) → ⊥
+      never : Closes (machine start) i log e j (sent (machine start) i j (e ∷ log)) (x ∷ xs) → ⊥
       never c =
-          let same : x ≡ closing (made start) e j = cc (c.is) in
+          let same : x ≡ closing start i log e j = cc (c.is) in
           let is : x.signal.body ≡ Host (Closed (cause_in e.step.marks)) =
           ap (λ (y : Addressed). y.signal.body) same in
           false≢true

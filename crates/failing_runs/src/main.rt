@@ -1,5 +1,5 @@
 //! Random runs of a cluster that fails, and the laws that they are judged by. The words are the first
-//! seed, how many runs, and how many of a hundred requests fail something; a run is made of its seed
+//! seed, how many runs, and at how many of a hundred requests failures begin; a run is made of its seed
 //! alone, so one that breaks a law can be had again.
 #![tactic(auto)]
 

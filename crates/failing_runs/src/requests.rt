@@ -52,7 +52,7 @@ pub fn request_of(
     let node = 1 + dice.roll(u64::from(shape.nodes)) as u8;
     let other = 1 + dice.roll(u64::from(shape.nodes)) as u8;
     let fails = dice.roll(100) < fails;
-    let drawn = dice.roll(24);
+    let drawn = dice.roll(30);
     if fails && drawn % 2 == 0 {
         return Ok(ApiReq::Kill { node });
     }
@@ -67,12 +67,14 @@ pub fn request_of(
         3 | 4 | 5 => ApiReq::Commit { name },
         6 => ApiReq::Abort { name },
         7 => ApiReq::Tick { round: 1, of: 1 },
-        8 => ApiReq::Gcp,
-        9 => ApiReq::Micro,
+        8 | 18 => ApiReq::Gcp,
+        9 | 19 => ApiReq::Micro,
         10 | 11 | 12 | 13 => ApiReq::Operate {
             name: None,
             op: HeldOp::new(alloc, op_of(dice, count)?)?,
         },
+        // Often enough that nodes which are cut off from each other miss each other's heartbeats.
+        14 | 15 | 16 | 17 => ApiReq::Tick { round: 1, of: 1 },
         _ => ApiReq::Operate {
             name: Some(name),
             op: HeldOp::new(alloc, op_of(dice, count)?)?,

@@ -14,16 +14,22 @@ use std::sync::Wait;
 use world_views::World;
 
 /// How many requests a run has.
-const REQUESTS: u64 = 60;
+const REQUESTS: u64 = 90;
 /// How many rounds come at its end: enough for time-outs, and for the views that follow from stops.
 const ROUNDS: u32 = 16;
 /// The first epoch of a run, 1/0.
 const EPOCH: u64 = 1 << 32;
 /// How often a signal is taken after a request, at most, for each host.
 const TAKES: u64 = 300;
+/// For how many requests failures go on, at most, once they have begun: a takeover takes about four.
+const UNREST: u64 = 6;
+/// Of a hundred requests amid failures so many fail something, and hosts fail in proportion.
+const FAILING: u64 = 30;
+/// How many times fewer signals are taken after every other request, so that many are under way at once.
+const HASTE: u64 = 16;
 
-/// Runs a cluster at random, and judges what it did. At most `fails` hosts stop or cut off a node by
-/// themselves, beside what kills and cuts are asked for.
+/// Runs a cluster at random, and judges what it did. At `fails` of a hundred requests failures begin:
+/// nodes are killed or cut from each other, and hosts stop or cut off a node by themselves.
 ///
 /// # Errors
 /// The first law that is broken, or `NoMemory`.
@@ -68,7 +74,8 @@ fn shape_of(drawn: u64) -> Shape
     }
 }
 
-// The requests of a run, with signals taken between them.
+// The requests of a run, with signals taken between them. Failures come together, so that one meets what
+// another one left to do, and seldom, so that much is done in the views that follow.
 fn live<W: Wait>(
     rt: &W,
     alloc: Global,
@@ -81,10 +88,16 @@ fn live<W: Wait>(
     requires shape { IsShape shape.now }
     ensures { OnOk result (IsWorld (whole_of world.new)) }
 {
+    let mut unrest = 0u64;
     for count in 0..REQUESTS {
-        let request = request_of(alloc, dice, shape, count, fails)?;
+        if dice.roll(100) < fails {
+            unrest = 1 + dice.roll(UNREST);
+        }
+        let failing = if unrest > 0 { FAILING } else { 0 };
+        unrest = unrest.saturating_sub(1);
+        let request = request_of(alloc, dice, shape, count, failing)?;
         ask(alloc, world, request)?;
-        go_on(alloc, dice, world, shape, fails)?;
+        go_on(alloc, dice, world, shape, failing)?;
         if dice.roll(6) == 0 {
             settle(rt, alloc, world)?;
         }
@@ -105,7 +118,12 @@ fn go_on(
     requires shape { IsShape shape.now }
     ensures { OnOk result (IsWorld (whole_of world.new)) }
 {
-    for _ in 0..dice.roll(takes(shape)) {
+    let most = if dice.roll(2) == 0 {
+        takes(shape)
+    } else {
+        takes(shape) / HASTE + 1
+    };
+    for _ in 0..dice.roll(most) {
         take_one(alloc, dice, world, shape)?;
         if fails > 0 && dice.roll(20 * takes(shape)) < fails {
             fail_one(alloc, dice, world, shape)?;

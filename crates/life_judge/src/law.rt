@@ -38,9 +38,11 @@ pub enum Law {
     PromisesGrow,
     /// Where nothing was cut, each request is answered in the end.
     NothingOwed,
+    /// Where nothing was cut, in the end no live node holds a record of a transaction that was reported.
+    NothingLeft,
     /// A view has a full member in each group.
     ViewsAreViable,
-    /// A view was promised by all its members.
+    /// A view was promised by all its members before it was installed.
     ViewsArePromised,
     /// Nobody decides or applies anything in a lesser view than its node has promised.
     PromisesAreKept,
@@ -76,6 +78,7 @@ impl Law {
             Law::StrictOrder => "a report comes before a request that it stands behind",
             Law::PromisesGrow => "a promise has no greater number",
             Law::NothingOwed => "a request is not answered",
+            Law::NothingLeft => "a record is left of a transaction that has ended",
             Law::ViewsAreViable => "a view has no full member of a group",
             Law::ViewsArePromised => "a view was not promised by a member",
             Law::PromisesAreKept => "a promise was not kept",

@@ -31,7 +31,8 @@ fn goes_on(log: &HostLog) -> bool {
     false
 }
 
-fn stops(step: &LogStep) -> bool {
+/// Whether the step stopped its host.
+pub fn stops(step: &LogStep) -> bool {
     for mark in step.marks.as_slice() {
         if let Mark::Stopped { cause: _ } = mark {
             return true;

@@ -1,19 +1,51 @@
-//! What is owed to the client of a cluster that came to rest.
+//! What is owed to the client of a cluster that came to rest, and what is left of its transactions.
 use crate::client::Client;
+use crate::facts::Facts;
 use crate::law::{Fault, Law};
+use crate::logs::stops;
+use crate::views::node_of;
 use sig_core::{Life, Mark, Outcome, TxId};
 
 /// Judges a life that came to rest after its last requests, and more rounds than a wait may last: where
 /// no host cut off another one, each operation that a coordinator took was answered, or its transaction
-/// was reported aborted, and each commit that it was asked for was reported.
+/// was reported aborted, each commit that it was asked for was reported, and no live node that goes on
+/// holds a record of a transaction that was reported. (A node that was left out may stay: where all
+/// others have stopped it isn't told any more.)
 ///
 /// # Errors
-/// `NothingOwed`, where it is broken.
-pub fn judge_owed(life: &Life, client: &Client) -> Result<(), Fault> {
-    if !cuts(life) && (owes_answers(client) || owes_ends(client)) {
+/// The first of these laws that is broken.
+pub fn judge_owed(life: &Life, facts: &Facts) -> Result<(), Fault> {
+    if cuts(life) {
+        return Ok(());
+    }
+    if owes_answers(&facts.client) || owes_ends(&facts.client) {
         return Err(Fault::Broken(Law::NothingOwed));
     }
+    if holds_ended(life, facts) {
+        return Err(Fault::Broken(Law::NothingLeft));
+    }
     Ok(())
+}
+
+// Whether a live node that goes on holds a record of a transaction whose end was reported.
+fn holds_ended(life: &Life, facts: &Facts) -> bool {
+    for record in facts.records.held.as_slice() {
+        if facts.client.reported.contains_key(&record.tx)
+            && facts.views.is_live(node_of(record.host))
+            && goes_on(life, record.host)
+        {
+            return true;
+        }
+    }
+    false
+}
+
+// Whether the host hasn't stopped.
+fn goes_on(life: &Life, host: u32) -> bool {
+    match life.logs.as_slice().get(host as usize) {
+        Some(log) => !log.steps.as_slice().iter().any(stops),
+        None => false,
+    }
 }
 
 // Whether a host cut off another one.

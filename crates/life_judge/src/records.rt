@@ -12,7 +12,7 @@ use std::alloc::Global;
 #[derive(Clone, Copy)]
 pub struct Record {
     pub host: u32,
-    tx: TxId,
+    pub tx: TxId,
     pub key: Key,
     image: Option<Value>,
 }

@@ -45,7 +45,7 @@ pub fn judge(
     let table = table_of(alloc, history.as_slice())?;
     judge_rows(&facts, shape, &table, nodes, keys)?;
     if rests {
-        judge_owed(life, &facts.client)?;
+        judge_owed(life, &facts)?;
     }
     judge_records(&facts, history.as_slice())?;
     judge_cuts(alloc, dice, life, shape, whole, history.as_slice())

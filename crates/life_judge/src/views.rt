@@ -27,6 +27,8 @@ struct Promise {
 pub struct Views {
     /// By their numbers; without the first one.
     installed: IndexMap<u64, View>,
+    /// The least stamp of a step that installed the view of a number.
+    first: IndexMap<u64, u64>,
     promises: Vec<Promise>,
     /// When transactions were decided, and rows applied.
     deeds: Vec<Moment>,
@@ -37,6 +39,7 @@ impl Views {
     pub fn new(alloc: Global) -> Views {
         Views {
             installed: IndexMap::new(alloc),
+            first: IndexMap::new(alloc),
             promises: Vec::new(alloc),
             deeds: Vec::new(alloc),
         }
@@ -51,13 +54,13 @@ impl Views {
         let mut number = before;
         for mark in step.marks.as_slice() {
             if let Mark::Installed { view } = mark {
-                number = self.add_view(number, view.get())?;
+                number = self.add_view(number, step.stamp, view.get())?;
             }
         }
         Ok(number)
     }
 
-    fn add_view(&mut self, before: u64, view: &View) -> Result<u64, Fault> {
+    fn add_view(&mut self, before: u64, stamp: u64, view: &View) -> Result<u64, Fault> {
         if view.number <= before {
             return Err(Fault::Broken(Law::ViewsGrow));
         }
@@ -65,7 +68,14 @@ impl Views {
             return Err(Fault::Broken(Law::OneViewANumber));
         }
         self.installed.insert(view.number, *view)?;
+        let first = self.first_of(view.number).min(stamp);
+        self.first.insert(view.number, first)?;
         Ok(view.number)
+    }
+
+    // The least stamp so far of a step that installed the view of this number.
+    fn first_of(&self, number: u64) -> u64 {
+        self.first.get(&number).copied().unwrap_or(u64::MAX)
     }
 
     // Whether there is another view of that number.
@@ -113,10 +123,13 @@ impl Views {
         greatest
     }
 
-    // Whether a host of the node's main part promised the view of this number.
+    // Whether a host of the node's main part promised the view of this number, before any installed it.
     fn is_promised(&self, node: u8, number: u64) -> bool {
         for promise in self.promises.as_slice() {
-            if promise.number == number && node_of(promise.host) == u32::from(node) {
+            if promise.number == number
+                && promise.stamp < self.first_of(number)
+                && node_of(promise.host) == u32::from(node)
+            {
                 return true;
             }
         }
@@ -160,8 +173,8 @@ impl Views {
     }
 }
 
-/// Judges the views of a cut: each has a full member in each group and was promised by all its members,
-/// and nobody decides or applies anything in a lesser view than its node promised.
+/// Judges the views of a cut: each has a full member in each group and was promised by all its members
+/// before it was installed, and nobody decides or applies anything in a lesser view than its node promised.
 ///
 /// # Errors
 /// The first of these laws that is broken.

@@ -1,5 +1,5 @@
 -- Records as a map of what each is found by.
-use Rattle.std.proofs.Common.{◌≡◌, ℕ, zero, suc, ◌+◌, Bool, true, false, cond, not, nat_lt, ◌&&◌, map, length, List, [], ◌∷◌}
+use Rattle.std.proofs.Common.{◌≡◌, ℕ, zero, suc, ◌+◌, Bool, true, false, cond, not, nat_lt, ◌&&◌, map, List, [], ◌∷◌}
 use Rattle.std.proofs.Common.{refl, ap, sym, ◌∙◌, arith}
 use Rattle.std.specs.Prelude.{Option, None, Some, if◌then◌else◌, is_some, position, remove, slice_get}
 use Rattle.std.specs.Map.{keys_of, lookup, lookup_key, values_of}
@@ -14,7 +14,7 @@ use Rattle.sig_core.proofs.Keys.{same_key-swap}
 use Rattle.sig_core.proofs.TxLemmas.{same_tx-is, same_tx-swap}
 use Rattle.lqh_block.specs.declared.record_id.RecordId.{RecordId}
 use Rattle.lqh_block.specs.declared.record_id.Version.{Version}
-use Rattle.lqh_block.specs.Records.{committed_at, record_by, record_in}
+use Rattle.lqh_block.specs.Records.{committed_at, is_id, record_by, record_in}
 use Rattle.lqh_block.proofs.IndexLemmas.{same}
 
 -- two ids are of one record
@@ -138,21 +138,19 @@ remove_record [] (suc at) = refl
 remove_record (entry ∷ entries) zero = refl
 remove_record (entry ∷ entries) (suc at) = ap (λ w. record_in entry ∷ w) (remove_record entries at)
 
--- where there is one record, it is found or none is
-pub only_record : (entries : List (RecordId × Version)) (tx : TxId) (key : List ℕ) (id : RecordId) (version : Version) (b : Bool)
-    → length (map record_in entries) ≡ 1 → slice_get entries 0 ≡ Some (id, version) → (same_tx id.tx tx && same_key id.key key) ≡ b
-    → place_by b None ≡ record_at (map record_in entries) tx key
-only_record [] tx key id version b one found is = cc
-only_record (entry ∷ []) tx key id version b one found is =
-    let here : entry ≡ (id, version) = cc in
-    ap (λ c. place_by c None) (sym is ∙ ap (λ (e : RecordId × Version). same_tx e.0.tx tx && same_key e.0.key key) (sym here))
-    ∙ sym (position-cons (is_of tx key) (record_in entry) [])
-only_record (entry ∷ other ∷ entries) tx key id version b one found is = cc
+-- the same by a test of the ids
+pub position-records : (entries : List (RecordId × Version)) (tx : TxId) (key : List ℕ)
+    → position (is_id tx key) (keys_of entries) ≡ record_at (map record_in entries) tx key
+position-records [] tx key = refl
+position-records (entry ∷ entries) tx key =
+    position-cons (is_id tx key) entry.0 (keys_of entries)
+    ∙ ap (place_by (is_id tx key entry.0)) (position-records entries tx key)
+    ∙ sym (position-cons (is_of tx key) (record_in entry) (map record_in entries))
 
 -- an entry with the transaction and the key is their record
 pub record_there : (entries : List (RecordId × Version)) (tx : TxId) (key : List ℕ) (at : ℕ) (id : RecordId)
     (version : Version)
-    → slice_get entries at ≡ Some (id, version) → (same_tx id.tx tx && same_key id.key key) ≡ true
+    → slice_get entries at ≡ Some (id, version) → is_id tx key id ≡ true
     → slice_get (map record_in entries) at ≡ Some (record_by tx key version)
 record_there entries tx key at id version found is =
     entry_record entries tx key at id version found (id-is tx key id (sym (id-is_of tx key (id, version)) ∙ is))

@@ -1,11 +1,16 @@
 -- The records of transactions, as a map of what each is found by.
-use Rattle.std.specs.Prelude.{ℕ, Bool, nat_lt, List, map, slice_set, Option, None, Some}
+use Rattle.std.specs.Prelude.{ℕ, Bool, ◌&&◌, nat_lt, List, map, slice_set, Option, None, Some}
 use Rattle.std.specs.HashMap.{HashMap, spare}
 use Rattle.sig_core.specs.declared.member.TxId.{TxId}
 use Rattle.sig_core.specs.declared.rows.PendingRecord.{PendingRecord}
 use Rattle.sig_core.specs.Rows.{committed}
+use Rattle.sig_core.specs.Same.{same_key, same_tx}
 use Rattle.lqh_block.specs.declared.record_id.RecordId.{RecordId}
 use Rattle.lqh_block.specs.declared.record_id.Version.{Version}
+
+-- what the transaction's record on the key is found by
+abbrev pub is_id : TxId → List ℕ → RecordId → Bool
+is_id tx key id = same_tx id.tx tx && same_key id.key key
 
 -- a transaction's record on a key
 abbrev pub record_by : TxId → List ℕ → Version → PendingRecord

@@ -12,8 +12,8 @@ use crate::operate::serve_granted;
 use crate::request::Marker;
 use crate::work::{same_key, same_tx};
 use sig_core::{
-    Body, Chain, ChainSignal, Journal, Key, Mark, Members, NoMemory, Outs, Rows, TxId,
-    coordinator_of, node_at, rows_of,
+    Body, Chain, ChainSignal, Journal, Key, Mark, NoMemory, Outs, Rows, TxId, coordinator_of,
+    rows_of,
 };
 
 impl<R: Rows, J: Journal> Lqh<R, J> {
@@ -27,7 +27,7 @@ impl<R: Rows, J: Journal> Lqh<R, J> {
         tx: TxId,
         key: &Key,
         epoch: u64,
-        chain: &Members,
+        chain: &Chain,
         at: u8,
         out: &mut Outs,
     ) -> Result<(), NoMemory>
@@ -66,7 +66,7 @@ impl<R: Rows, J: Journal> Lqh<R, J> {
         tx: TxId,
         key: &Key,
         epoch: u64,
-        chain: &Members,
+        chain: &Chain,
         at: u8,
         had: Option<bool>,
         out: &mut Outs,
@@ -87,16 +87,16 @@ impl<R: Rows, J: Journal> Lqh<R, J> {
                 tx,
                 key: *key,
                 epoch,
-                chain: Chain::of(chain),
+                chain: chain.share(),
                 at: at - 1,
             };
-            out.send(rows_of(node_at(chain, at as usize - 1)), Body::Chain(body));
+            out.send(rows_of(chain.node_at(at as usize - 1)), Body::Chain(body));
         }
     }
 
     /// A record is to be completed, at this place of its chain.
     #[tactic(auto, using(crate::proofs::EffectLemmas::effects), unfolding(crate::specs::Complete::complete_row))]
-    pub fn complete(&mut self, tx: TxId, key: &Key, chain: &Members, at: u8, out: &mut Outs)
+    pub fn complete(&mut self, tx: TxId, key: &Key, chain: &Chain, at: u8, out: &mut Outs)
         requires { HasRoom out.old }
         ensures { IsTaken (complete_row self.old tx key.now chain.now at) self.new out.old out.new }
     {
@@ -109,7 +109,7 @@ impl<R: Rows, J: Journal> Lqh<R, J> {
 }
 
 // Tells the completion: at the primary to the coordinator, and else to the place in front.
-fn tell_completion(tx: TxId, key: &Key, chain: &Members, at: u8, out: &mut Outs)
+fn tell_completion(tx: TxId, key: &Key, chain: &Chain, at: u8, out: &mut Outs)
     requires { length out.old.sends < 16 }
     ensures { out.new ≡ and_send out.old (completed_by tx key.now chain.now at (at == 0)).to (completed_by tx key.now chain.now at (at == 0)).body }
 {
@@ -120,10 +120,10 @@ fn tell_completion(tx: TxId, key: &Key, chain: &Members, at: u8, out: &mut Outs)
         let body = ChainSignal::Complete {
             tx,
             key: *key,
-            chain: Chain::of(chain),
+            chain: chain.share(),
             at: at - 1,
         };
-        out.send(rows_of(node_at(chain, at as usize - 1)), Body::Chain(body));
+        out.send(rows_of(chain.node_at(at as usize - 1)), Body::Chain(body));
     }
 }
 

@@ -104,7 +104,7 @@ impl<R: Rows, J: Journal> Lqh<R, J> {
                 let request = Request {
                     tx: *tx,
                     work: work.share()?,
-                    chain: chain.members(),
+                    chain: chain.share(),
                     at: *at,
                 };
                 self.request(alloc, request, out)
@@ -115,9 +115,9 @@ impl<R: Rows, J: Journal> Lqh<R, J> {
                 epoch,
                 chain,
                 at,
-            } => self.commit(*tx, key, *epoch, &chain.members(), *at, out),
+            } => self.commit(*tx, key, *epoch, chain, *at, out),
             ChainSignal::Complete { tx, key, chain, at } => {
-                self.complete(*tx, key, &chain.members(), *at, out);
+                self.complete(*tx, key, chain, *at, out);
                 Ok(())
             }
             ChainSignal::Abort { tx, key } => {

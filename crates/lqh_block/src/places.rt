@@ -1,5 +1,8 @@
 //! Places, and an index of the keys that they are taken by.
-ghost use Rattle.std.specs.Prelude.{◌≡◌, ◌<◌, IsOk, List, OnOk, [], cond, is_some, length, nat_eq, ℕ, None, Some, true, slice_set, ◌+◌, ◌^◌};
+ghost use Rattle.std.specs.Prelude.{◌≡◌, ◌<◌, IfSome, IsOk, List, OnOk, [], cond, is_some, length, nat_eq, position, ℕ, None, Some, true, slice_set, ◌+◌, ◌^◌};
+ghost use Rattle.std.specs.Cmp.Lexicographic.{pointwise};
+ghost use Rattle.std.specs.List.{IsDistinct};
+ghost use Rattle.std.specs.Map.{keys_of};
 ghost use Rattle.std.specs.Vec.{vec_capacity};
 ghost use Rattle.std.specs.BinaryHeap.{heap_capacity};
 ghost use Rattle.sig_core.specs.Rows.{epoch_in, freed_by, has_row, kept_epoch, no_row, place_of, placed, set_row, with_place};
@@ -27,6 +30,8 @@ pub struct Places {
     index: IndexMap<Key, KeyEntry>,
     /// The free places, the least on top. There is room for as many as there are places.
     free: BinaryHeap<Reverse<usize>>,
+    /// Where the key that was held last stands in the index: most often it is asked for next.
+    recent: usize,
 }
 
 impl Model for Places {
@@ -52,6 +57,7 @@ impl Places {
             slots: Vec::new(alloc),
             index: IndexMap::new(alloc),
             free: BinaryHeap::new(alloc),
+            recent: 0,
         }
     }
 
@@ -75,9 +81,22 @@ impl Places {
     pub fn place_of(&self, key: &Key) -> Option<usize>
         ensures { result ≡ place_of self.now.slots key.now }
     {
-        match self.index.get(key) {
-            Some(entry) => Some(entry.place),
+        match self.spot(key) {
+            Some(at) => Some(self.index[at].place),
             None => None,
+        }
+    }
+
+    // Where the key stands in the index, if it has a place. That of the key that was held last is found
+    // without a hash.
+    fn spot(&self, key: &Key) -> Option<usize>
+        ensures place { result ≡ position (pointwise nat_eq key.now) (keys_of self.now.index) }
+        ensures within { IfSome result (λ at. at < length self.now.index) }
+        ensures unique { IsDistinct (pointwise nat_eq) (keys_of self.now.index) }
+    {
+        match self.index.as_slice().get_index(self.recent) {
+            Some((held, _)) if *key == *held => Some(self.recent),
+            _ => self.index.get_index_of(key),
         }
     }
 
@@ -117,8 +136,12 @@ impl Places {
         ensures slots { self.new.slots ≡ with_place self.old.slots key.now }
         ensures records { (q : List ℕ) → records_on self.new.index q ≡ records_on self.old.index q + cond (same_key key.now q) 1 0 }
     {
-        match self.index.get_mut(key) {
-            Some(entry) => entry.records += 1,
+        match self.spot(key) {
+            Some(at) => {
+                let entry = &mut self.index[at];
+                entry.records += 1;
+                self.recent = at;
+            }
             None => self.add(key, 1),
         }
     }
@@ -137,6 +160,7 @@ impl Places {
             epoch: 0,
         };
         let place = put_slot(&mut self.slots, &mut self.free, slot);
+        self.recent = self.index.len();
         match self.index.insert(*key, KeyEntry { place, records }) {
             Ok(_) => {}
             Err(_) => unreachable!(),
@@ -175,9 +199,10 @@ impl Places {
         ensures left { records_on self.new.index key.now ≡ result.records }
         ensures records { (q : List ℕ) → records_on self.new.index q + cond (same_key key.now q) 1 0 ≡ records_on self.old.index q }
     {
-        let Some(entry) = self.index.get_mut(key) else {
+        let Some(at) = self.spot(key) else {
             unreachable!();
         };
+        let entry = &mut self.index[at];
         entry.records -= 1;
         *entry
     }

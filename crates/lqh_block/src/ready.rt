@@ -3,7 +3,7 @@ ghost use Rattle.std.specs.Prelude.{◌≡◌, IfOk};
 ghost use Rattle.lqh_block.specs.Ready.{IsReady, work_answer};
 
 use crate::request::Request;
-use sig_core::{Answer, HeldAnswer, HeldWork, NoMemory, Rows};
+use sig_core::{Answer, HeldAnswer, HeldWork, NoMemory, Op, Rows};
 use std::alloc::Global;
 
 /// What performing a request answers, or passes on, in memory of its own. It is made before
@@ -30,11 +30,14 @@ impl Ready {
     }
 }
 
-// What a request answers where its write takes effect, or doesn't.
+// What a request answers where its write takes effect, or doesn't. What stores whatever the row is doesn't
+// look for it.
+#[tactic(auto, unfolding(sig_core::specs::Op::answer_to))]
 fn work_answer<R: Rows>(rows: &R, request: &Request) -> Answer
     ensures { result ≡ work_answer (R.state_of rows.now) request.now.tx request.now.work }
 {
     match request.work.operation() {
+        Some(Op::Put(_, _)) => Answer::Done,
         Some(op) => op.answer_to(&rows.seen(request.tx, op.key())),
         None => Answer::Done,
     }

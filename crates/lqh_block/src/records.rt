@@ -1,14 +1,16 @@
 //! The records of transactions that are at work on rows, the oldest first.
-ghost use Rattle.std.specs.Prelude.{◌≡◌, ◌<◌, ◌^◌, ◌&&◌, IfSome, IsOk, OnOk, Some, [], is_some, length, not, option_map, remove, slice_get, true};
+ghost use Rattle.std.specs.Prelude.{◌≡◌, ◌<◌, ◌^◌, IfSome, IsOk, OnOk, Some, [], is_some, length, not, option_map, position, remove, slice_get, true};
 ghost use Rattle.sig_core.specs.Rows.{prepared, record_at, recorded_by};
-ghost use Rattle.sig_core.specs.Same.{same_key, same_tx};
-ghost use Rattle.lqh_block.specs.Records.{committed_at, record_by};
+ghost use Rattle.lqh_block.specs.Records.{committed_at, is_id, record_by};
 
 use crate::record_id::{RecordId, Version};
 use indexmap::IndexMap;
 use sig_core::{Key, NoMemory, PendingRecord, TxId, Value};
 use std::alloc::Global;
 use std::marker::Model;
+
+/// How many records a look-up goes through, rather than by a hash.
+const FEW: usize = 8;
 
 /// Records, at most one of a transaction on a key. A look-up takes a time that doesn't depend on their
 /// number, and so does taking the youngest out; taking out another moves those that are younger.
@@ -54,27 +56,23 @@ impl Records {
         ensures place { option_map (λ p. p.0) result ≡ record_at self.now.pending tx key.now }
         ensures record { IfSome result (λ p. slice_get self.now.pending p.0 ≡ Some (record_by tx key.now p.1.now)) }
     {
-        // Most often there is none, or one, and then no hash is worth its while.
-        match self.entries.len() {
-            0 => None,
-            1 => self.look_at_only(tx, key),
-            _ => self.look_up(tx, key),
+        // Most often there are few, and then no hash is worth its while.
+        if self.entries.len() <= FEW {
+            self.look_through(tx, key)
+        } else {
+            self.look_up(tx, key)
         }
     }
 
-    // The same where there is just one.
-    fn look_at_only(&self, tx: TxId, key: &Key) -> Option<(usize, &Version)>
-        requires { length self.now.pending ≡ 1 }
+    // The same by looking at one after the other.
+    fn look_through(&self, tx: TxId, key: &Key) -> Option<(usize, &Version)>
         ensures place { option_map (λ p. p.0) result ≡ record_at self.now.pending tx key.now }
         ensures record { IfSome result (λ p. slice_get self.now.pending p.0 ≡ Some (record_by tx key.now p.1.now)) }
     {
-        let Some((id, version)) = self.entries.get_index(0) else {
-            return None;
-        };
-        if is_of(id, tx, key) {
-            Some((0, version))
-        } else {
-            None
+        let ids = self.entries.as_slice().keys().as_slice();
+        match place_among(ids, tx, key) {
+            Some(at) => Some((at, &self.entries[at])),
+            None => None,
         }
     }
 
@@ -150,9 +148,17 @@ impl Records {
     }
 }
 
+// Where the record of the transaction on the key stands among those found by these, if it does.
+fn place_among(ids: &[RecordId], tx: TxId, key: &Key) -> Option<usize>
+    ensures value { result ≡ position (is_id tx key.now) ids.now }
+    ensures inside { IfSome result (λ at. at < length ids.now) }
+{
+    ids.iter().position(|id| is_of(id, tx, key))
+}
+
 // Whether a record is the transaction's on the key.
 fn is_of(id: &RecordId, tx: TxId, key: &Key) -> bool
-    ensures { result ≡ (same_tx id.now.tx tx && same_key id.now.key key.now) }
+    ensures { result ≡ is_id tx key.now id.now }
 {
     id.tx == tx && id.key == *key
 }

@@ -1,7 +1,7 @@
 //! What waits at a node's rows, and what is marked there.
 ghost use Rattle.std.specs.Prelude.{◌≡◌, IfOk};
 
-use sig_core::{HeldWork, Key, Members, NoMemory, TxId};
+use sig_core::{Chain, HeldWork, Key, NoMemory, TxId};
 
 /// A request of a transaction to prepare something.
 #[derive(Drop)]
@@ -9,7 +9,7 @@ pub struct Request {
     pub tx: TxId,
     pub work: HeldWork,
     /// The replicas of the row, the primary first.
-    pub chain: Members,
+    pub chain: Chain,
     /// The place in the chain, from 0, of this replica.
     pub at: u8,
 }
@@ -23,7 +23,12 @@ impl Request {
         ensures { IfOk result (λ request. request ≡ self.now) }
     {
         let work = self.work.share()?;
-        Ok(Request { work, ..*self })
+        Ok(Request {
+            tx: self.tx,
+            work,
+            chain: self.chain.share(),
+            at: self.at,
+        })
     }
 }
 

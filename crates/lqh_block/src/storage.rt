@@ -13,7 +13,7 @@ use crate::ready::Ready;
 use crate::request::Request;
 use sig_core::{
     AbortCause, Answer, Body, Chain, ChainSignal, HeldAnswer, HeldWork, Journal, JournalFault, Key,
-    Mark, Members, NoMemory, Outs, Redo, Rows, RowsFault, TxId, Value, commit_size, coordinator_of,
+    Mark, NoMemory, Outs, Redo, Rows, RowsFault, TxId, Value, commit_size, coordinator_of,
     prepare_size, rows_of,
 };
 
@@ -84,7 +84,7 @@ impl<R: Rows, J: Journal> Storage<R, J> {
         image: &Option<Value>,
         onward: HeldWork,
         fragment: u8,
-        chain: &Members,
+        chain: &Chain,
         at: u8,
         out: &mut Outs,
     )
@@ -240,19 +240,19 @@ fn confirm(tx: TxId, key: &Key, answer: HeldAnswer, out: &mut Outs)
 }
 
 // Sends work on to the next place of its chain, or answers the write.
-fn pass_on(tx: TxId, key: &Key, onward: HeldWork, chain: &Members, at: u8, out: &mut Outs)
+fn pass_on(tx: TxId, key: &Key, onward: HeldWork, chain: &Chain, at: u8, out: &mut Outs)
     requires { length out.old.sends < 16 }
     ensures { out.new ≡ and_send out.old (sent_on tx key.now onward chain.now at).to (sent_on tx key.now onward chain.now at).body }
 {
-    match chain.as_slice().get(at as usize + 1).copied() {
+    match chain.nodes().get(at as usize + 1) {
         Some(next) => {
             let body = ChainSignal::LqhKeyReq {
                 tx,
                 work: onward,
-                chain: Chain::of(chain),
+                chain: chain.share(),
                 at: at + 1,
             };
-            out.send(rows_of(next.node), Body::Chain(body));
+            out.send(rows_of(*next), Body::Chain(body));
         }
         None => confirm(tx, key, HeldAnswer::done(), out),
     }

@@ -53,7 +53,7 @@ calm_all : (view : View) (sends : List Outgoing) → Each (IsCalm view) sends �
 calm_all view [] calm = refl
 calm_all view (send ∷ sends) calm = λ i. calm_one view send calm.0 i ∷ calm_all view sends calm.1 i
 
-passed_beside : (s : ReplicaState) (x : Signal) → Each (IsCalm s.lqh.layout.view) (lqh_row s.lqh x).effects.sends
+pub passed_beside : (s : ReplicaState) (x : Signal) → Each (IsCalm s.lqh.layout.view) (lqh_row s.lqh x).effects.sends
     → passed s x ≡ beside s (lqh_row s.lqh x)
 passed_beside s x calm =
     ap (λ sends. record {

@@ -6,4 +6,5 @@ pub mod FewLemmas
 pub mod LastLemmas
 pub mod LawLemmas
 pub mod ReportSteps
+pub mod StraightLemmas
 pub mod WholeLemmas

@@ -5,7 +5,7 @@ use Rattle.sig_core.specs.declared.member.TxId.{TxId}
 use Rattle.sig_core.specs.declared.outs.Outgoing.{Outgoing}
 use Rattle.sig_core.specs.declared.signal.Body.{Body}
 use Rattle.sig_core.specs.declared.signal.Body.TheVariants.{Chain}
-use Rattle.sig_core.specs.declared.signal.chain.ChainSignal.TheVariants.{Committed, Completed, Aborted}
+use Rattle.sig_core.specs.declared.signal.chain.ChainSignal.TheVariants.{Commit, Committed, Complete, Completed, Abort, Aborted}
 use Rattle.sig_core.specs.declared.view.View.{View}
 use Rattle.sig_core.specs.Place.{takeover}
 use Rattle.sig_core.specs.Step.{to_place}
@@ -46,3 +46,18 @@ addressed_behind view (suc n) (send ∷ sends) = send ∷ addressed_behind view 
 abbrev pub next_of : View → ℕ → Outgoing → Outgoing
 next_of view zero send = addressed view send
 next_of view (suc n) send = send
+
+-- the transaction of whose part in a row the rows may tell, at this signal, that it is committed, completed or aborted
+abbrev pub ended : Body → Option TxId
+ended (Chain (Commit tx key epoch chain at)) = Some tx
+ended (Chain (Complete tx key chain at)) = Some tx
+ended (Chain (Abort tx key)) = Some tx
+ended _ = None
+
+abbrev pub is_owner : List Member → Option TxId → Bool
+is_owner full None = true
+is_owner full (Some tx) = is_coordinated full tx
+
+-- all that the rows send at this signal goes where they send it
+abbrev pub goes_straight : View → Body → Bool
+goes_straight view body = is_owner view.full (ended body)

@@ -1,7 +1,7 @@
 //! Who is told of the end of a transaction's part in a row.
 ghost use Rattle.std.specs.Prelude.{◌≡◌, ◌+◌, ◌++◌, ◌≤◌, [], length};
 ghost use Rattle.sig_core.specs.Step.{nothing};
-ghost use Rattle.lqh_views.specs.Address.{about, addressed, addressed_behind, next_of, to_takeover};
+ghost use Rattle.lqh_views.specs.Address.{about, addressed, addressed_behind, ended, goes_straight, next_of, to_takeover};
 
 use lqh_block::is_coordinated;
 use sig_core::{Body, ChainSignal, Member, Outgoing, Outs, TxId, View, takeover};
@@ -17,6 +17,43 @@ fn about(body: &Body) -> Option<TxId>
             | ChainSignal::Aborted { tx, key: _ },
         ) => Some(*tx),
         _ => None,
+    }
+}
+
+// The transaction of whose part in a row the rows may tell, at a signal, that it is committed, completed
+// or aborted.
+fn ended(body: &Body) -> Option<TxId>
+    ensures { result ≡ ended body.now }
+{
+    match body {
+        Body::Chain(
+            ChainSignal::Commit {
+                tx,
+                key: _,
+                epoch: _,
+                chain: _,
+                at: _,
+            }
+            | ChainSignal::Complete {
+                tx,
+                key: _,
+                chain: _,
+                at: _,
+            }
+            | ChainSignal::Abort { tx, key: _ },
+        ) => Some(*tx),
+        _ => None,
+    }
+}
+
+/// Whether all that the rows send at a signal goes where they send it, in this view. It does, unless they
+/// may tell an end to a coordinator that isn't a full member.
+pub fn goes_straight(view: &View, body: &Body) -> bool
+    ensures { result ≡ goes_straight view.now body.now }
+{
+    match ended(body) {
+        Some(tx) => is_coordinated(view.full.as_slice(), tx),
+        None => true,
     }
 }
 

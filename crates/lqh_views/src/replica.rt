@@ -3,7 +3,7 @@ ghost use Rattle.std.specs.Prelude.{◌≡◌, IfOk, OnOk, OnErr};
 ghost use Rattle.sig_core.specs.Step.{HasRoom, IsTaken, IsUntouched};
 ghost use Rattle.lqh_views.specs.Replica.{is_stale, passed, replica_row, serve_if};
 
-use crate::address::{address_behind, count_sends};
+use crate::address::{address_behind, count_sends, goes_straight};
 use crate::report::Report;
 use frag_map::Layout;
 use lqh_block::Lqh;
@@ -96,6 +96,10 @@ impl<R: Rows, J: Journal> Replica<R, J> {
         ensures ok { OnOk result (IsTaken (passed self.old signal.now) self.new out.old out.new) }
         ensures err { OnErr result (IsUntouched self.old self.new out.old out.new) }
     {
+        // Nearly always nothing is to be addressed, and signals needn't be set aside.
+        if goes_straight(self.lqh.view(), &signal.body) {
+            return self.lqh.handle(alloc, signal, out);
+        }
         let view = *self.lqh.view();
         let before = count_sends(out, &mut self.aside);
         self.lqh.handle(alloc, signal, out)?;

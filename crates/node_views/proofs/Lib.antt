@@ -1,3 +1,4 @@
+mod NodeLemmas
 pub mod CutLemmas
 pub mod InstallLemmas
 pub mod LawLemmas

@@ -1,4 +1,5 @@
 //! Which signals are well formed in a cluster of a shape.
+ghost use Rattle.std.specs.List.{list_all};
 ghost use Rattle.std.specs.Prelude.{◌≡◌};
 ghost use Rattle.node_views.specs.WellFormed.{are_nodes, is_chain, is_client_sound, is_epoch_sound, is_chain_sound, is_host_sound, is_joining_sound, is_mask, is_member, is_membership_sound, is_node, is_number, is_sender, is_takeover_sound, is_tx, is_ahead, is_view, is_body_sound, is_well_formed};
 
@@ -56,11 +57,19 @@ fn is_ahead(shape: &Shape, tx: TxId) -> bool
 }
 
 // A chain, and a place in it.
+#[tactic(auto, using(crate::proofs::NodeLemmas::chain_nodes))]
 fn is_chain(shape: &Shape, chain: &Chain, at: u8) -> bool
     ensures { result ≡ is_chain shape.now chain.now at }
 {
-    let members = chain.members();
-    are_nodes(shape, members.as_slice()) && (at as usize) < members.as_slice().len()
+    let nodes = chain.nodes();
+    are_all_nodes(shape, nodes) && (at as usize) < nodes.len()
+}
+
+// Whether all of these are nodes of the cluster.
+fn are_all_nodes(shape: &Shape, nodes: &[u8]) -> bool
+    ensures { result ≡ list_all (is_node shape.now) nodes.now }
+{
+    nodes.iter().all(|node| is_node(shape, *node))
 }
 
 // Some nodes of the cluster, of which node n has bit n - 1.

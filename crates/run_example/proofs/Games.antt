@@ -21,7 +21,7 @@ sends_stamped (Ping ball) h stamp from = (refl, tt)
 sends_stamped _ h stamp from = tt
 
 pub game_stamped : (made : ℕ → ℕ) → IsStamped (game made)
-game_stamped made = record { sends = λ h log e. sends_stamped e.signal.kind h e.stamp e.signal.from; closing = λ e j. refl }
+game_stamped made = record { sends = λ h log e. sends_stamped e.signal.kind h e.stamp e.signal.from; closing = λ h log e j. refl }
 
 -- a step sends what it tells of truly
 sends_tell : (kind : Kind) (h stamp from : ℕ) (logs : ℕ → List Step) → HasTaken kind (logs h) → Each (λ x. SignalTells x logs) (sends h stamp from kind)

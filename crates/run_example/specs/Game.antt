@@ -50,7 +50,7 @@ game_tests made =
       fits = λ h log e. fits h e.signal.kind;
       sends = λ h log e. sends h e.stamp e.signal.from e.signal.kind;
       stops = λ e. is_stop e.signal.kind;
-      closing = λ e j. record { from = e.signal.to; to = j; stamp = e.stamp; kind = Closed };
+      closing = λ h log e j. record { from = e.signal.to; to = j; stamp = e.stamp; kind = Closed };
       made = made;
       makes = λ h log e. is_making h e.signal.kind;
     }

@@ -111,15 +111,15 @@ module _ (start : Start) (read : Kind → Option TxId) (add : Kind → List TxId
       (step_after start h log e).effects.sends (sent (machine start) h j log) (sent_kinds start add h log)
       (sent_sub h j log)
 
-  no_closing : (j : ℕ) (log : List HostStep) (x : Addressed) → IsClosingOf (machine start) j log x → read_of x ≡ None
-  no_closing j [] x c = absurd c
-  no_closing j (e ∷ log) x c = absurd cc
+  no_closing : (i j : ℕ) (log : List HostStep) (x : Addressed) → IsClosingOf (machine start) i j log x → read_of x ≡ None
+  no_closing i j [] x c = absurd c
+  no_closing i j (e ∷ log) x c = absurd cc
 
   -- so what was taken of it is apart
   taken_apart : (logs : ℕ → List HostStep) → AreLogs (machine start) logs → (i j : ℕ) → AreApart (sent_kinds start add i (logs i)) → AreApart (filter_map read_of (taken (machine start) i (logs j)))
   taken_apart logs right i j apart =
       apart_past (filter_map read_of (taken (machine start) i (logs j))) (filter_map read_of (sent (machine start) i j (logs i)))
-      (link_projects (machine start) logs right i j read_of (λ x c. no_closing j (logs i) x c))
+      (link_projects (machine start) logs right i j read_of (λ x c. no_closing i j (logs i) x c))
       (apart_sub (filter_map read_of (sent (machine start) i j (logs i))) (sent_kinds start add i (logs i)) (sent_sub i j (logs i)) apart)
 
   -- the step took one of the kind, of this transaction, from host i

@@ -90,7 +90,7 @@ module _ (start : Start) (es : List HostStep) (run : IsRun start es) (tx : TxId)
       here inside =
           sent_verified (first_membership start) x.signal.from.0 s.step.step.stamp (sent_count start x.signal.from.0 s.before) (step_after start x.signal.from.0 s.before s.step).effects.sends (sent_kinds start verified_by x.signal.from.0 s.before) x tx inside is
 
-      by : (IsIn x (signals_of start x.signal.from.0 s.before s.step) × (x.to ≡ home start tx)) ⊎ ((false ≡ true) × (x ≡ (machine start).closing s.step (home start tx))) → asked_of x.signal.from.0 (logs x.signal.from.0) ≡ true
+      by : (IsIn x (signals_of start x.signal.from.0 s.before s.step) × (x.to ≡ home start tx)) ⊎ ((false ≡ true) × (x ≡ (machine start).closing x.signal.from.0 s.before s.step (home start tx))) → asked_of x.signal.from.0 (logs x.signal.from.0) ≡ true
       by (inl sends) =
           subst (λ log. asked_of x.signal.from.0 log ≡ true) (sym s.past.is) (newer_verified start (same_tx tx) x.signal.from.0 s.past.newer (s.step ∷ s.before) (here sends.0))
       by (inr stops) = absurd (let never = stops.0 in cc)

@@ -21,11 +21,11 @@ module _ {E X : Type 0} (m : Machine E X) where
   along_run P start step (e ∷ es) r = step es e r.0 r.1 (along_run P start step es r.0)
 
   -- what holds of a link's signals holds of what the link gives
-  given_head : (P : X → Type 0) (i j : ℕ) (log : List E) (x : X) (xs : List X) → Each P (sent m i j log) → ((e : E) (older : List E) → log ≡ e ∷ older → m.stops e ≡ true → P (m.closing e j)) → IsGiven m i j log (x ∷ xs) → P x
+  given_head : (P : X → Type 0) (i j : ℕ) (log : List E) (x : X) (xs : List X) → Each P (sent m i j log) → ((e : E) (older : List E) → log ≡ e ∷ older → m.stops e ≡ true → P (m.closing i older e j)) → IsGiven m i j log (x ∷ xs) → P x
   given_head P i j log x xs all closing (inl p) = let h : Each P (x ∷ xs) = each_past P p all in h.0
   given_head P i j [] x xs all closing (inr c) = absurd c
   given_head P i j (e ∷ log) x xs all closing (inr c) =
-      let same : m.closing e j ≡ x = cc (c.is) in
+      let same : m.closing i log e j ≡ x = cc (c.is) in
       subst P same (closing e log refl c.stops)
 
   module _ (K : X → (ℕ → List E) → Type 0) (Q : (ℕ → List E) → Type 0) (kept : IsKept m K Q) where
@@ -54,16 +54,18 @@ module _ {E X : Type 0} (m : Machine E X) where
         go old (inr at) = subst (λ w. Each P (sent m i j w)) (sym (log_of-other m e es i at)) old
 
     closing_next : (es : List E) (e : E) (i j : ℕ) (f : E) (log : List E) → Comes m K Q es e
-        → (log_of m es i ≡ f ∷ log → m.stops f ≡ true → K (m.closing f j) (log_of m es))
-        → log_of m (e ∷ es) i ≡ f ∷ log → m.stops f ≡ true → K (m.closing f j) (log_of m (e ∷ es))
+        → (log_of m es i ≡ f ∷ log → m.stops f ≡ true → K (m.closing i log f j) (log_of m es))
+        → log_of m (e ∷ es) i ≡ f ∷ log → m.stops f ≡ true → K (m.closing i log f j) (log_of m (e ∷ es))
     closing_next es e i j f log come old is stop = go (cases_eq (m.host e) i)
       where
-        go : (m.host e ≡ i) ⊎ (m.host e ≢ i) → K (m.closing f j) (log_of m (e ∷ es))
+        go : (m.host e ≡ i) ⊎ (m.host e ≢ i) → K (m.closing i log f j) (log_of m (e ∷ es))
         go (inl at) =
             let both : e ∷ log_of m es i ≡ f ∷ log = sym (log_of-own m e es i at) ∙ is in
             let same : e ≡ f = cc (both) in
-            subst (λ g. K (m.closing g j) (log_of m (e ∷ es))) same (kept.closing es e come (ap m.stops same ∙ stop) j)
-        go (inr at) = kept.stays es e (m.closing f j) come (old (sym (log_of-other m e es i at) ∙ is) stop)
+            let rest : log_of m es i ≡ log = cc (both) in
+            let own = subst (λ h. K (m.closing h (log_of m es h) e j) (log_of m (e ∷ es))) at (kept.closing es e come (ap m.stops same ∙ stop) j) in
+            subst (λ w. K (m.closing i w f j) (log_of m (e ∷ es))) rest (subst (λ g. K (m.closing i (log_of m es i) g j) (log_of m (e ∷ es))) same own)
+        go (inr at) = kept.stays es e (m.closing i log f j) come (old (sym (log_of-other m e es i at) ∙ is) stop)
 
     all_next : (es : List E) (e : E) → Run m es → Happens m es e → AllHold m K Q (log_of m es) → AllHold m K Q (log_of m (e ∷ es))
     all_next es e run happens all =

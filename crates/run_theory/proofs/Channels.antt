@@ -54,7 +54,7 @@ module _ {E X : Type 0} (m : Machine E X) where
   -- what waits in a channel and what was taken from it are all that was sent; or the closing and some of it
   abbrev Held : ℕ → ℕ → List E → List X → Type 0
   Held i j [] xs = xs ≡ []
-  Held i j (e ∷ log) xs = ((m.stops e ≡ false) × (xs ≡ sent m i j (e ∷ log))) ⊎ Closes m e j (sent m i j (e ∷ log)) xs
+  Held i j (e ∷ log) xs = ((m.stops e ≡ false) × (xs ≡ sent m i j (e ∷ log))) ⊎ Closes m i log e j (sent m i j (e ∷ log)) xs
 
   held_given : (i j : ℕ) (log : List E) (xs : List X) → Held i j log xs → IsGiven m i j log xs
   held_given i j [] xs is = inl (subst (λ w. IsPast w []) (sym is) (past_self []))
@@ -73,7 +73,7 @@ module _ {E X : Type 0} (m : Machine E X) where
 
   -- what a step puts on its own channel
   held_put : (log : List E) (e : E) (i j : ℕ) (between after : List X) (had : List X) → IsRunning m log
-      → (m.stops e ≡ false → after ≡ put m j (m.sends i log e) between) → (m.stops e ≡ true → Drops m e j between after)
+      → (m.stops e ≡ false → after ≡ put m j (m.sends i log e) between) → (m.stops e ≡ true → Drops m i log e j between after)
       → Held i j log (between ++ had) → Held i j (e ∷ log) (after ++ had)
   held_put log e i j between after had running runs stops held = go (cases_Bool (m.stops e)) (held_running i j log (between ++ had) running held)
     where
@@ -103,7 +103,7 @@ module _ {E X : Type 0} (m : Machine E X) where
       own h at b =
           held_put (log_of m es h) e h j (moves.between h j) (after h j) had (subst (λ k. IsRunning m (log_of m es k)) at moves.step.runs)
           (λ run. subst (λ k. after k j ≡ put m j (m.sends k (log_of m es k) e) (moves.between k j)) at (moves.puts.runs run j))
-          (λ stop. subst (λ k. Drops m e j (moves.between k j) (after k j)) at (moves.puts.stops stop j))
+          (λ stop. subst (λ k. Drops m k (log_of m es k) e j (moves.between k j) (after k j)) at (moves.puts.stops stop j))
           b
 
       go : (m.host e ≡ i) ⊎ (m.host e ≢ i) → Held i j (log_of m (e ∷ es) i) (after i j ++ had)

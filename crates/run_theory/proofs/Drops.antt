@@ -18,19 +18,19 @@ module _ {E X : Type 0} (m : Machine E X) where
   -- what a channel holds and gave, by the log of its sender, where `left` is what a stop leaves of it
   abbrev whole : ℕ → ℕ → List X → List E → List X
   whole i j left [] = []
-  whole i j left (e ∷ log) = if m.stops e then m.closing e j ∷ left else sent m i j (e ∷ log)
+  whole i j left (e ∷ log) = if m.stops e then m.closing i log e j ∷ left else sent m i j (e ∷ log)
 
   whole-runs : (i j : ℕ) (left : List X) (log : List E) → IsRunning m log → whole i j left log ≡ sent m i j log
   whole-runs i j left [] runs = refl
-  whole-runs i j left (e ∷ log) runs = if_false (m.closing e j ∷ left) (sent m i j (e ∷ log)) runs
+  whole-runs i j left (e ∷ log) runs = if_false (m.closing i log e j ∷ left) (sent m i j (e ∷ log)) runs
 
-  whole-stops : (i j : ℕ) (left : List X) (e : E) (log : List E) → m.stops e ≡ true → whole i j left (e ∷ log) ≡ m.closing e j ∷ left
-  whole-stops i j left e log stops = if_true (m.closing e j ∷ left) (sent m i j (e ∷ log)) stops
+  whole-stops : (i j : ℕ) (left : List X) (e : E) (log : List E) → m.stops e ≡ true → whole i j left (e ∷ log) ≡ m.closing i log e j ∷ left
+  whole-stops i j left e log stops = if_true (m.closing i log e j ∷ left) (sent m i j (e ∷ log)) stops
 
   -- what a stop leaves is some of what was sent, and serves for all that was taken
   pub record Serves (i j : ℕ) (left : List X) (e : E) (log : List E) (had : List X) : Type 0 where
     pub past : IsPast left (sent m i j (e ∷ log))
-    pub gave : IsPast had (m.closing e j ∷ left)
+    pub gave : IsPast had (m.closing i log e j ∷ left)
 
   abbrev ServesStop : ℕ → ℕ → List X → List E → List X → Type 0
   ServesStop i j left [] had = Unit {0}
@@ -93,18 +93,18 @@ module _ {E X : Type 0} (m : Machine E X) where
 
   module _ (stamped : IsStamped m) where
     -- the signals of a host that stops don't hold the closing
-    no_closing : (i j : ℕ) (e : E) (log : List E) (had left : List X) → IsLog m i (e ∷ log) → IsPast had (sent m i j log) → had ≡ m.closing e j ∷ left → ⊥
+    no_closing : (i j : ℕ) (e : E) (log : List E) (had left : List X) → IsLog m i (e ∷ log) → IsPast had (sent m i j log) → had ≡ m.closing i log e j ∷ left → ⊥
     no_closing i j e log had left l p is =
-        let inside : IsIn (m.closing e j) (sent m i j log) = in_past (m.closing e j) p (subst (IsIn (m.closing e j)) (sym is) (inl refl)) in
-        let below : m.sent_at (m.closing e j) ≤ last m i log = each_in (λ y. m.sent_at y ≤ last m i log) (m.closing e j) (sent m i j log) (sent_below m stamped i j log l.1) inside in
-        omega (arith, below, stamped.closing e j, step_above m i log e l.0)
+        let inside : IsIn (m.closing i log e j) (sent m i j log) = in_past (m.closing i log e j) p (subst (IsIn (m.closing i log e j)) (sym is) (inl refl)) in
+        let below : m.sent_at (m.closing i log e j) ≤ last m i log = each_in (λ y. m.sent_at y ≤ last m i log) (m.closing i log e j) (sent m i j log) (sent_below m stamped i j log l.1) inside in
+        omega (arith, below, stamped.closing i log e j, step_above m i log e l.0)
 
     -- the channel of a host that stops keeps what is left, and is closed
     drops_at : (i j : ℕ) (e : E) (log : List E) (left had between after : List X) → IsLog m i (e ∷ log) → m.stops e ≡ true → Serves i j left e log had
-        → sent m i j log ≡ between ++ had → m.closing e j ∷ left ≡ after ++ had → Drops m e j between after
+        → sent m i j log ≡ between ++ had → m.closing i log e j ∷ left ≡ after ++ had → Drops m i log e j between after
     drops_at i j e log left had between [] l stop serves is is' = absurd (no_closing i j e log had left l (record { newer = between; is = is }) (sym is'))
     drops_at i j e log left had between (x ∷ kept) l stop serves is is' =
-        let same : x ≡ m.closing e j = cc (is') in
+        let same : x ≡ m.closing i log e j = cc (is') in
         let rest : left ≡ kept ++ had = cc (is') in
         let p = serves.past in
         let all : between ++ had ≡ (p.newer ++ kept) ++ had = sym is ∙ (sym (sent-stops m i j log e stop) ∙ (p.is ∙ (ap (λ w. p.newer ++ w) rest ∙ sym (append_assoc p.newer kept had)))) in
@@ -154,7 +154,7 @@ module _ {E X : Type 0} (m : Machine E X) where
             runs_at h j e log (had j) (q h j).newer (r h j).newer run (before j)
             (sym (whole-runs h j (left h j) (e ∷ log) run) ∙ (ap (whole h j (left h j)) (sym own) ∙ (r h j).is))
 
-        stops : m.stops e ≡ true → (j : ℕ) → Drops m e j (q h j).newer (r h j).newer
+        stops : m.stops e ≡ true → (j : ℕ) → Drops m h log e j (q h j).newer (r h j).newer
         stops stop j =
             let serve : Serves h j (left h j) e log (had j) = subst (λ w. ServesStop h j (left h j) w (had j)) own (serves h j) stop in
             drops_at h j e log (left h j) (had j) (q h j).newer (r h j).newer l stop serve (before j)
@@ -193,8 +193,8 @@ module _ {E X : Type 0} (m : Machine E X) where
     plan_serves : (i j : ℕ) (log : List E) (had : List X) (g : IsGiven m i j log had) → ServesStop i j (plan i j log had g) log had
     unfolding plan
     plan_serves i j [] had g = tt
-    plan_serves i j (e ∷ log) had (inl p) = λ stop. record { past = past_self (sent m i j (e ∷ log)); gave = past_more (m.closing e j) p }
-    plan_serves i j (e ∷ log) had (inr c) = λ stop. record { past = c.past; gave = subst (λ w. IsPast w (m.closing e j ∷ c.rest)) (sym c.is) (past_self (m.closing e j ∷ c.rest)) }
+    plan_serves i j (e ∷ log) had (inl p) = λ stop. record { past = past_self (sent m i j (e ∷ log)); gave = past_more (m.closing i log e j) p }
+    plan_serves i j (e ∷ log) had (inr c) = λ stop. record { past = c.past; gave = subst (λ w. IsPast w (m.closing i log e j ∷ c.rest)) (sym c.is) (past_self (m.closing i log e j ∷ c.rest)) }
 
     -- the machine with channels admits every run
     pub channels_of_run : (es : List E) → Run m es → Admits m es

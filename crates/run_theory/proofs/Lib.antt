@@ -6,8 +6,10 @@ pub mod Orders
 pub mod Merging
 pub mod Along
 pub mod Growth
+pub mod Ranking
 pub mod LinkFacts
 pub mod HostFacts
+pub mod Pairs
 pub mod Channels
 pub mod Drops
 pub mod Sorting

@@ -57,29 +57,29 @@ count_past p {xs} {ys} past = subst (λ w. count_by p xs ≤ count_by p w) (sym 
 module _ {E X : Type 0} (m : Machine E X) where
   -- the k-th signal that was taken is the k-th that was sent, or the closing
   pub first_in_first_out : (logs : ℕ → List E) → AreLogs m logs → (i j k : ℕ) (x : X) → at_time (taken m i (logs j)) k ≡ Some x
-      → (at_time (sent m i j (logs i)) k ≡ Some x) ⊎ (IsClosingOf m j (logs i) x × (suc k ≡ length (taken m i (logs j))))
+      → (at_time (sent m i j (logs i)) k ≡ Some x) ⊎ (IsClosingOf m i j (logs i) x × (suc k ≡ length (taken m i (logs j))))
   first_in_first_out logs a i j k x is = go (logs i) (taken m i (logs j)) (a.linked i j) is
     where
-      closed : (e : E) (log : List E) (xs : List X) → (c : Closes m e j (sent m i j (e ∷ log)) xs) → (at_time c.rest k ≡ Some x) ⊎ ((k ≡ length c.rest) × (m.closing e j ≡ x))
-          → (at_time (sent m i j (e ∷ log)) k ≡ Some x) ⊎ (IsClosingOf m j (e ∷ log) x × (suc k ≡ length xs))
+      closed : (e : E) (log : List E) (xs : List X) → (c : Closes m i log e j (sent m i j (e ∷ log)) xs) → (at_time c.rest k ≡ Some x) ⊎ ((k ≡ length c.rest) × (m.closing i log e j ≡ x))
+          → (at_time (sent m i j (e ∷ log)) k ≡ Some x) ⊎ (IsClosingOf m i j (e ∷ log) x × (suc k ≡ length xs))
       closed e log xs c (inl is) = inl (at_time_past k x c.past is)
       closed e log xs c (inr is) = inr ((c.stops, sym is.1), ap suc is.0 ∙ sym (ap length c.is))
 
-      go : (log : List E) (xs : List X) → IsGiven m i j log xs → at_time xs k ≡ Some x → (at_time (sent m i j log) k ≡ Some x) ⊎ (IsClosingOf m j log x × (suc k ≡ length xs))
+      go : (log : List E) (xs : List X) → IsGiven m i j log xs → at_time xs k ≡ Some x → (at_time (sent m i j log) k ≡ Some x) ⊎ (IsClosingOf m i j log x × (suc k ≡ length xs))
       go log xs (inl p) is = inl (at_time_past k x p is)
       go [] xs (inr c) is = absurd c
-      go (e ∷ log) xs (inr c) is = closed e log xs c (at_time_push c.rest (m.closing e j) k x (subst (λ w. at_time w k ≡ Some x) c.is is))
+      go (e ∷ log) xs (inr c) is = closed e log xs c (at_time_push c.rest (m.closing i log e j) k x (subst (λ w. at_time w k ≡ Some x) c.is is))
 
   -- what is read off the signals taken from a link, but not off its closing, is an older part of what is read off those sent
-  pub link_projects : {Y : Type 0} (logs : ℕ → List E) → AreLogs m logs → (i j : ℕ) (f : X → Option Y) → ((x : X) → IsClosingOf m j (logs i) x → f x ≡ None)
+  pub link_projects : {Y : Type 0} (logs : ℕ → List E) → AreLogs m logs → (i j : ℕ) (f : X → Option Y) → ((x : X) → IsClosingOf m i j (logs i) x → f x ≡ None)
       → IsPast (filter_map f (taken m i (logs j))) (filter_map f (sent m i j (logs i)))
   link_projects {Y} logs a i j f none = go (logs i) (taken m i (logs j)) none (a.linked i j)
     where
-      go : (log : List E) (xs : List X) → ((x : X) → IsClosingOf m j log x → f x ≡ None) → IsGiven m i j log xs → IsPast (filter_map f xs) (filter_map f (sent m i j log))
+      go : (log : List E) (xs : List X) → ((x : X) → IsClosingOf m i j log x → f x ≡ None) → IsGiven m i j log xs → IsPast (filter_map f xs) (filter_map f (sent m i j log))
       go log xs none (inl p) = past_map f xs (sent m i j log) p
       go [] xs none (inr c) = absurd c
       go (e ∷ log) xs none (inr c) =
-          let same : filter_map f xs ≡ filter_map f c.rest = ap (filter_map f) c.is ∙ filter_map_none f (m.closing e j) c.rest (none (m.closing e j) (c.stops, refl)) in
+          let same : filter_map f xs ≡ filter_map f c.rest = ap (filter_map f) c.is ∙ filter_map_none f (m.closing i log e j) c.rest (none (m.closing i log e j) (c.stops, refl)) in
           subst (λ w. IsPast w (filter_map f (sent m i j (e ∷ log)))) (sym same) (past_map f c.rest (sent m i j (e ∷ log)) c.past)
 
   -- nothing follows a step that stops
@@ -113,15 +113,15 @@ module _ {E X : Type 0} (m : Machine E X) where
 
       more : (log : List E) → IsPast (sent m i j log) (offered m i j log)
       more [] = past_self []
-      more (e ∷ log) = front (m.stops e) (m.closing e j) (sent m i j (e ∷ log))
+      more (e ∷ log) = front (m.stops e) (m.closing i log e j) (sent m i j (e ∷ log))
 
       go : (log : List E) (xs : List X) → IsGiven m i j log xs → count_by p xs ≤ count_by p (offered m i j log)
       go log xs (inl past) = count_past p (past_trans past (more log))
       go [] xs (inr c) = absurd c
       go (e ∷ log) xs (inr c) =
           let all : List X = sent m i j (e ∷ log) in
-          let le : count_by p (m.closing e j ∷ c.rest) ≤ count_by p (m.closing e j ∷ all) = omega (arith, count_past p c.past, count_cons p (m.closing e j) c.rest, count_cons p (m.closing e j) all) in
-          subst (λ w. count_by p w ≤ count_by p (offered m i j (e ∷ log))) (sym c.is) (subst (λ w. count_by p (m.closing e j ∷ c.rest) ≤ count_by p w) (sym (if_true (m.closing e j ∷ all) all c.stops)) le)
+          let le : count_by p (m.closing i log e j ∷ c.rest) ≤ count_by p (m.closing i log e j ∷ all) = omega (arith, count_past p c.past, count_cons p (m.closing i log e j) c.rest, count_cons p (m.closing i log e j) all) in
+          subst (λ w. count_by p w ≤ count_by p (offered m i j (e ∷ log))) (sym c.is) (subst (λ w. count_by p (m.closing i log e j ∷ c.rest) ≤ count_by p w) (sym (if_true (m.closing i log e j ∷ all) all c.stops)) le)
 
   -- a signal on a link was sent by a step of its sender, which has its stamp
   in_put : (j : ℕ) (x : X) (xs before : List X) → IsIn x (put m j xs before) → (IsIn x xs × (m.to x ≡ j)) ⊎ IsIn x before
@@ -156,12 +156,12 @@ module _ {E X : Type 0} (m : Machine E X) where
     in_given i j log x xs (inl p) = in_sent i j log x (in_past x p (inl refl))
     in_given i j [] x xs (inr c) = absurd c
     in_given i j (e ∷ log) x xs (inr c) =
-        let same : x ≡ m.closing e j = cc (c.is) in
+        let same : x ≡ m.closing i log e j = cc (c.is) in
         record {
           step = e;
           before = log;
           past = past_self (e ∷ log);
-          at = sym (ap m.sent_at same ∙ stamped.closing e j);
+          at = sym (ap m.sent_at same ∙ stamped.closing i log e j);
           sends = inr (c.stops, same);
         }
 
@@ -176,26 +176,26 @@ module _ {E X : Type 0} (m : Machine E X) where
         (s, omega (arith, s.at, signal_below m j older e l.0))
 
     -- after the closing nothing more is taken
-    pub closing_is_last : (logs : ℕ → List E) → AreLogs m logs → (i j : ℕ) (x : X) (newer older : List X) → IsClosingOf m j (logs i) x → taken m i (logs j) ≡ newer ++ x ∷ older → newer ≡ []
+    pub closing_is_last : (logs : ℕ → List E) → AreLogs m logs → (i j : ℕ) (x : X) (newer older : List X) → IsClosingOf m i j (logs i) x → taken m i (logs j) ≡ newer ++ x ∷ older → newer ≡ []
     closing_is_last logs a i j x newer older closes is = go (logs i) (a.local i) closes (subst (IsGiven m i j (logs i)) is (a.linked i j))
       where
         -- the closing is none of the signals that were sent
-        apart : (e : E) (log : List E) → IsLog m i (e ∷ log) → IsClosingOf m j (e ∷ log) x → IsIn x (sent m i j (e ∷ log)) → ⊥
+        apart : (e : E) (log : List E) → IsLog m i (e ∷ log) → IsClosingOf m i j (e ∷ log) x → IsIn x (sent m i j (e ∷ log)) → ⊥
         apart e log l c i' =
             let same : sent m i j (e ∷ log) ≡ sent m i j log = ap (λ w. put m j w (sent m i j log)) (sent_by_stop m i log e c.0) in
             let below : m.sent_at x ≤ last m i log = each_in (λ y. m.sent_at y ≤ last m i log) x (sent m i j log) (sent_below m stamped i j log l.1) (subst (IsIn x) same i') in
-            omega (arith, below, step_above m i log e l.0, ap m.sent_at c.1, stamped.closing e j)
+            omega (arith, below, step_above m i log e l.0, ap m.sent_at c.1, stamped.closing i log e j)
 
         in_newer : (newer : List X) → IsIn x (newer ++ x ∷ older)
         in_newer [] = inl refl
         in_newer (y ∷ newer) = inr (in_newer newer)
 
-        go : (log : List E) → IsLog m i log → IsClosingOf m j log x → IsGiven m i j log (newer ++ x ∷ older) → newer ≡ []
+        go : (log : List E) → IsLog m i log → IsClosingOf m i j log x → IsGiven m i j log (newer ++ x ∷ older) → newer ≡ []
         go [] l c g = absurd c
         go (e ∷ log) l c (inl p) = absurd (apart e log l c (in_past x p (in_newer newer)))
         go (e ∷ log) l c (inr d) = rest newer d.is
           where
-            rest : (newer : List X) → newer ++ x ∷ older ≡ m.closing e j ∷ d.rest → newer ≡ []
+            rest : (newer : List X) → newer ++ x ∷ older ≡ m.closing i log e j ∷ d.rest → newer ≡ []
             rest [] is = refl
             rest (y ∷ newer) is =
                 let same : newer ++ x ∷ older ≡ d.rest = cc (is) in

@@ -108,7 +108,7 @@ module _ {E X : Type 0} (m : Machine E X) where
     given_below i j [] xs l (inr c) = absurd c
     given_below i j (e ∷ log) xs l (inr c) =
         let P : X → Type 0 = λ x. m.sent_at x ≤ m.stamp e in
-        let all : Each P (m.closing e j ∷ c.rest) = (omega (arith, stamped.closing e j), each_past P c.past (sent_below i j (e ∷ log) l)) in
+        let all : Each P (m.closing i log e j ∷ c.rest) = (omega (arith, stamped.closing i log e j), each_past P c.past (sent_below i j (e ∷ log) l)) in
         subst (Each P) (sym c.is) all
 
     -- what a link gave before its sender's newest step it gave by the log below that step
@@ -117,8 +117,8 @@ module _ {E X : Type 0} (m : Machine E X) where
     given_before i j e log (x ∷ xs) below (inl p) =
         inl (past_under_put (m.stamp e) j x xs (sent_by m i log e) (sent m i j log) below (sent_by_stamped i log e) p)
     given_before i j e log (x ∷ xs) below (inr c) =
-        let head : x ≡ m.closing e j = cc (c.is) in
-        absurd (omega (arith, stamped.closing e j, ap m.sent_at head))
+        let head : x ≡ m.closing i log e j = cc (c.is) in
+        absurd (omega (arith, stamped.closing i log e j, ap m.sent_at head))
 
     pub given_after : (i j : ℕ) (newer log : List E) (xs : List X) → IsLog m i (newer ++ log) → Each (λ x. m.sent_at x ≤ last m i log) xs → IsGiven m i j (newer ++ log) xs → IsGiven m i j log xs
     given_after i j [] log xs l below g = g
@@ -133,9 +133,9 @@ module _ {E X : Type 0} (m : Machine E X) where
   pub given_less : (i j : ℕ) (log : List E) {xs ys : List X} → IsPast xs ys → IsGiven m i j log ys → IsGiven m i j log xs
   given_less i j log p (inl q) = inl (past_trans p q)
   given_less i j [] p (inr c) = absurd c
-  given_less i j (e ∷ log) {xs} {ys} p (inr c) = go (past_cases (m.closing e j) (subst (IsPast xs) c.is p))
+  given_less i j (e ∷ log) {xs} {ys} p (inr c) = go (past_cases (m.closing i log e j) (subst (IsPast xs) c.is p))
     where
-      go : (m.closing e j ∷ c.rest ≡ xs) ⊎ IsPast xs c.rest → IsGiven m i j (e ∷ log) xs
+      go : (m.closing i log e j ∷ c.rest ≡ xs) ⊎ IsPast xs c.rest → IsGiven m i j (e ∷ log) xs
       go (inl is) = inr (record { stops = c.stops; rest = c.rest; is = sym is; past = c.past })
       go (inr q) = inl (past_trans q c.past)
 

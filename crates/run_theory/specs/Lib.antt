@@ -7,12 +7,16 @@ pub mod Orders
 pub mod Cuts
 pub mod Along
 pub mod TestMachine
+pub mod Ranks
 pub mod RunLaws
+pub mod RankLaws
 pub mod CutLaws
 pub mod AlongLaws
 pub mod LinkLaws
 pub mod Hosts
 pub mod HostLaws
+pub mod Pairs
+pub mod PairLaws
 pub mod Literal
 pub mod LiteralLaws
 pub mod Counts

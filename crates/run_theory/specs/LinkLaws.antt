@@ -13,14 +13,14 @@ at_time xs k = slice_get (reverse xs) k
 
 module _ {E X : Type 0} (m : Machine E X) where
   -- host i, with this log, stopped, and x closes its link to host j
-  abbrev pub IsClosingOf : ℕ → List E → X → Type 0
-  IsClosingOf j [] x = ⊥
-  IsClosingOf j (e ∷ log) x = (m.stops e ≡ true) × (x ≡ m.closing e j)
+  abbrev pub IsClosingOf : ℕ → ℕ → List E → X → Type 0
+  IsClosingOf i j [] x = ⊥
+  IsClosingOf i j (e ∷ log) x = (m.stops e ≡ true) × (x ≡ m.closing i log e j)
 
   -- all that the link from host i, with this log, to host j gives where nothing is lost
   abbrev pub offered : ℕ → ℕ → List E → List X
   offered i j [] = []
-  offered i j (e ∷ log) = if m.stops e then m.closing e j ∷ sent m i j (e ∷ log) else sent m i j (e ∷ log)
+  offered i j (e ∷ log) = if m.stops e then m.closing i log e j ∷ sent m i j (e ∷ log) else sent m i j (e ∷ log)
 
   -- a step in this log of host i sent x to host j, or stopped and so closed the link with x
   pub record IsSentBy (i j : ℕ) (log : List E) (x : X) : Type 0 where
@@ -28,7 +28,7 @@ module _ {E X : Type 0} (m : Machine E X) where
     pub before : List E
     pub past : IsPast (step ∷ before) log
     pub at : m.stamp step ≡ m.sent_at x
-    pub sends : (IsIn x (sent_by m i before step) × (m.to x ≡ j)) ⊎ ((m.stops step ≡ true) × (x ≡ m.closing step j))
+    pub sends : (IsIn x (sent_by m i before step) × (m.to x ≡ j)) ⊎ ((m.stops step ≡ true) × (x ≡ m.closing i before step j))
 
 -- First in, first out: the k-th signal that was taken from a link is the k-th that was sent, but for the closing,
 -- and that is the last one taken.
@@ -36,7 +36,7 @@ abbrev pub FirstInFirstOut : (E X : Type 0) → Type 0
 FirstInFirstOut E X =
     (t : TestMachine E X) (logs : ℕ → List E) → AreLogs (machine t) logs → (i j k : ℕ) (x : X)
     → at_time (taken (machine t) i (logs j)) k ≡ Some x
-    → (at_time (sent (machine t) i j (logs i)) k ≡ Some x) ⊎ (IsClosingOf (machine t) j (logs i) x × (suc k ≡ length (taken (machine t) i (logs j))))
+    → (at_time (sent (machine t) i j (logs i)) k ≡ Some x) ⊎ (IsClosingOf (machine t) i j (logs i) x × (suc k ≡ length (taken (machine t) i (logs j))))
 
 -- nothing follows a step that stops
 abbrev pub NothingFollowsStop : (E X : Type 0) → Type 0
@@ -49,7 +49,7 @@ abbrev pub ClosingIsLast : (E X : Type 0) → Type 0
 ClosingIsLast E X =
     (t : TestMachine E X) → IsStamped (machine t) → (logs : ℕ → List E) → AreLogs (machine t) logs
     → (i j : ℕ) (x : X) (newer older : List X)
-    → IsClosingOf (machine t) j (logs i) x → taken (machine t) i (logs j) ≡ newer ++ x ∷ older → newer ≡ []
+    → IsClosingOf (machine t) i j (logs i) x → taken (machine t) i (logs j) ≡ newer ++ x ∷ older → newer ≡ []
 
 -- a signal that a link gave was sent by a step of its sender, and the step that took it has the greater stamp
 abbrev pub StampsRise : (E X : Type 0) → Type 0
@@ -77,5 +77,5 @@ TakenAtMostOnce E X =
 abbrev pub LinksProject : (E X Y : Type 0) → Type 0
 LinksProject E X Y =
     (t : TestMachine E X) (logs : ℕ → List E) → AreLogs (machine t) logs → (i j : ℕ) (f : X → Option Y)
-    → ((x : X) → IsClosingOf (machine t) j (logs i) x → f x ≡ None)
+    → ((x : X) → IsClosingOf (machine t) i j (logs i) x → f x ≡ None)
     → IsPast (filter_map f (taken (machine t) i (logs j))) (filter_map f (sent (machine t) i j (logs i)))

@@ -27,18 +27,18 @@ module _ {E X : Type 0} (m : Machine E X) where
   taken i [] = []
   taken i (e ∷ log) = if is_from i e then m.signal e ∷ taken i log else taken i log
 
-  -- The sender stopped with the step e, and the link gave an older part of what was sent and then the closing:
-  -- what it had of the rest was lost.
-  pub record Closes (e : E) (j : ℕ) (all xs : List X) : Type 0 where
+  -- Host i stopped with the step e after its log, and its link to host j gave an older part of what was sent and then
+  -- the closing: what it had of the rest was lost.
+  pub record Closes (i : ℕ) (log : List E) (e : E) (j : ℕ) (all xs : List X) : Type 0 where
     pub stops : m.stops e ≡ true
     pub rest : List X
-    pub is : xs ≡ m.closing e j ∷ rest
+    pub is : xs ≡ m.closing i log e j ∷ rest
     pub past : IsPast rest all
 
   -- the link from host i, which stopped with the newest step of its log, to host j gave these and is closed
   abbrev pub IsClosing : ℕ → ℕ → List E → List X → Type 0
   IsClosing i j [] xs = ⊥
-  IsClosing i j (e ∷ log) xs = Closes e j (sent i j (e ∷ log)) xs
+  IsClosing i j (e ∷ log) xs = Closes i log e j (sent i j (e ∷ log)) xs
 
   -- what the link from host i with this log to host j may have given: first in, first out
   abbrev pub IsGiven : ℕ → ℕ → List E → List X → Type 0

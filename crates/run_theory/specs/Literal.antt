@@ -20,17 +20,17 @@ module _ {E X : Type 0} (m : Machine E X) where
   abbrev pub Takes : E → Channels X → Channels X → Type 0
   Takes e before after = (i j : ℕ) → before i j ≡ after i j ++ took i j e
 
-  -- a channel loses any number of its newest signals, and then is closed
-  pub record Drops (e : E) (j : ℕ) (before after : List X) : Type 0 where
+  -- a channel of host h loses any number of its newest signals, and then is closed
+  pub record Drops (h : ℕ) (log : List E) (e : E) (j : ℕ) (before after : List X) : Type 0 where
     pub kept : List X
     pub past : IsPast kept before
-    pub is : after ≡ m.closing e j ∷ kept
+    pub is : after ≡ m.closing h log e j ∷ kept
 
   -- the step puts what it sends on the channels of its host, or stops and closes them
   pub record Puts (log : List E) (e : E) (before after : Channels X) : Type 0 where
     pub others : (i j : ℕ) → m.host e ≢ i → after i j ≡ before i j
     pub runs : m.stops e ≡ false → (j : ℕ) → after (m.host e) j ≡ put m j (m.sends (m.host e) log e) (before (m.host e) j)
-    pub stops : m.stops e ≡ true → (j : ℕ) → Drops e j (before (m.host e) j) (after (m.host e) j)
+    pub stops : m.stops e ≡ true → (j : ℕ) → Drops (m.host e) log e j (before (m.host e) j) (after (m.host e) j)
 
   -- after these events the machine makes the step e, and its channels change so
   pub record Moves (es : List E) (e : E) (before after : Channels X) : Type 0 where

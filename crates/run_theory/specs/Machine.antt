@@ -25,8 +25,8 @@ pub record Machine (E X : Type 0) : Type 1 where
   pub sends : ℕ → List E → E → List X
   -- the host stops with this step
   pub stops : E → Bool
-  -- `closing e j`: what the link to host j gives last, after its sender stopped with the step e
-  pub closing : E → ℕ → X
+  -- `closing h log e j`: what the link from host h to host j gives last, where h stopped with the step e after its log
+  pub closing : ℕ → List E → E → ℕ → X
   -- the stamp of the step that made the host, or 0 for a host that is there from the start
   pub made : ℕ → ℕ
   -- `Makes h log e`: the step e of host 0 after its log makes host h
@@ -35,4 +35,4 @@ pub record Machine (E X : Type 0) : Type 1 where
 -- The one law that a machine owes: whatever a step sends has the stamp of that step.
 pub record IsStamped {E X : Type 0} (m : Machine E X) : Type 0 where
   pub sends : (h : ℕ) (log : List E) (e : E) → Each (λ x. m.sent_at x ≡ m.stamp e) (m.sends h log e)
-  pub closing : (e : E) (j : ℕ) → m.sent_at (m.closing e j) ≡ m.stamp e
+  pub closing : (h : ℕ) (log : List E) (e : E) (j : ℕ) → m.sent_at (m.closing h log e j) ≡ m.stamp e

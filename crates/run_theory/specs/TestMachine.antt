@@ -14,7 +14,7 @@ pub record TestMachine (E X : Type 0) : Type 0 where
   pub fits : ℕ → List E → E → Bool
   pub sends : ℕ → List E → E → List X
   pub stops : E → Bool
-  pub closing : E → ℕ → X
+  pub closing : ℕ → List E → E → ℕ → X
   pub made : ℕ → ℕ
   pub makes : ℕ → List E → E → Bool
 

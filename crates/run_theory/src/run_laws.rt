@@ -1,5 +1,6 @@
 //! Runs and right logs are the same thing.
 ghost use Rattle.run_theory.specs.RunLaws.{RunsLeaveRightLogs, RunsAreCausal, MergedLogsRun, LogsByStampRun, SortedLogsRun, CausalLogsRun, SchedulesRunMerged};
+ghost use Rattle.run_theory.specs.RankLaws.{RankedLogsRun};
 
 /// A run leaves right logs, and keeps to causes.
 pub fn runs_leave_right_logs<E, X>()
@@ -19,4 +20,10 @@ pub fn right_logs_are_a_run<E, X>()
 /// A schedule in any order leaves logs whose merged order is a run.
 pub fn schedules_run_in_merged_order<E, X>()
     ensures { SchedulesRunMerged E X }
+{}
+
+/// Right logs are a run in the order of any rank that falls neither along a log nor along a signal; steps of one rank
+/// stand in order of (stamp, host).
+pub fn ranked_logs_are_a_run<E, X>()
+    ensures { RankedLogsRun E X }
 {}

@@ -51,6 +51,7 @@ use Rattle.shell_top.specs.Session.{AreLinesDone, IsSession, IsUnderWay}
 use Rattle.shell_top.specs.Text.{down_line, fault_line}
 use Rattle.shell_top.specs.Told.{text_of}
 use Rattle.shell_top.proofs.PrintedLemmas.{prints_both}
+use Rattle.shell_top.proofs.SafeLemmas.{cuts_are_safe}
 use Rattle.world_core.specs.Hosts.{hosts}
 use Rattle.world_core.specs.Lives.{fresh_life}
 use Rattle.world_core.specs.Machine as plain
@@ -211,6 +212,8 @@ is_life shape sound e commands logs lived =
       begins = refl;
       lived = lived;
       run = merged_run (machine (fresh shape)) (is_stamped (fresh shape)) (hosts (fresh shape)) (logs_at logs) lived.within lived.right;
+      safe = λ inside cut closed.
+          cuts_are_safe (fresh shape) inside (logs_at logs) (omega arith) sound lived.within lived.right cut closed;
       calm = λ calm.
           calmly_served (fresh shape) (logs_at logs)
           (record { shape = sound; rows = refl; within = lived.within; right = lived.right; calm = calm }) e

@@ -4,6 +4,7 @@ pub mod GivingUp
 pub mod LivedLemmas
 pub mod OpenLemmas
 pub mod PrintedLemmas
+pub mod SafeLemmas
 pub mod ScriptLemmas
 pub mod ServedLemmas
 pub mod SessionLemmas

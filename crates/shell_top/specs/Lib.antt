@@ -6,6 +6,7 @@ pub mod Opened
 pub mod Parsed
 pub mod Printed
 pub mod Reader
+pub mod Safe
 pub mod Script
 pub mod Served
 pub mod Session

@@ -14,7 +14,7 @@ ghost use Rattle.world_views.specs.WorldOf.{whole_of};
 use crate::arranged::arranged;
 use crate::asked::{ask_about, ask_own};
 use crate::ended::Ending;
-use crate::subject::subject_of;
+use crate::subject::{is_own, subject_of};
 use crate::taken::take_replies;
 use crate::writer::write_all;
 use host_io::Sink;
@@ -24,11 +24,14 @@ use std::alloc::Global;
 use std::sync::Wait;
 use world_views::World;
 
+/// For how many bytes of text there is room at first. That of nearly all commands fits.
+const TEXT: usize = 64;
+
 /// The lines of replies.
 fn lines(alloc: Global, replies: &[ApiReply]) -> Result<Vec<u8>, NoMemory>
     ensures { IfOk result (λ text. text.items ≡ reply_lines replies.now) }
 {
-    let mut text = Vec::new(alloc);
+    let mut text = Vec::with_capacity(alloc, TEXT)?;
     for reply in replies {
         print_reply(alloc, reply, &mut text)?;
     }
@@ -47,8 +50,12 @@ fn answers(alloc: Global, world: &mut World, command: &Command) -> Result<Vec<u8
     ensures err { OnErr result ((whole_of world.new).logs ≡ (whole_of world.old).logs) }
 {
     let replies = take_replies(alloc, world)?;
-    let replies = arranged(alloc, subject_of(command), &replies)?;
-    lines(alloc, &replies)
+    let subject = subject_of(command);
+    match replies.as_slice() {
+        // Most often there is one reply, the command's own, and nothing to arrange.
+        [reply] if is_own(subject, reply) => lines(alloc, &replies),
+        _ => lines(alloc, &arranged(alloc, subject, &replies)?),
+    }
 }
 
 /// Has the world serve a command, and gives the text of the replies to it.

@@ -1,5 +1,5 @@
 -- Chains by their nodes and starts.
-use Rattle.std.proofs.Common.{◌≡◌, ℕ, ◌+◌, ◌<◌, ◌≤◌, List, [], ◌∷◌, ◌++◌, length, take, slice_index_or, slice_set, refl, ap, ap₂, sym, ◌∙◌, arith}
+use Rattle.std.proofs.Common.{◌≡◌, ℕ, ◌+◌, ◌<◌, ◌≤◌, List, [], ◌∷◌, ◌++◌, length, take, map, slice_index_or, slice_set, refl, ap, ap₂, sym, ◌∙◌, arith}
 use Rattle.std.proofs.lemmas.List.{length-append, length-set, length-take-le, take_more, take_more_set}
 use Rattle.sig_core.specs.declared.member.Member.{Member}
 use Rattle.sig_core.specs.Chain.{members_by}
@@ -14,6 +14,15 @@ members_by-last (n ∷ nodes) [] node start same = cc
 members_by-last (n ∷ nodes) (s ∷ starts) node start same =
     let rest : length nodes ≡ length starts = cc in
     ap (λ ms. record { node = n; start = s } ∷ ms) (members_by-last nodes starts node start rest)
+
+-- the nodes of members are those that they were made of
+pub nodes-members_by : (nodes starts : List ℕ) → length nodes ≡ length starts
+    → map (λ (member : Member). member.node) (members_by nodes starts) ≡ nodes
+nodes-members_by [] starts same = refl
+nodes-members_by (n ∷ nodes) [] same = cc
+nodes-members_by (n ∷ nodes) (s ∷ starts) same =
+    let rest : length nodes ≡ length starts = cc in
+    ap (λ ns. n ∷ ns) (nodes-members_by nodes starts rest)
 
 -- one replica more is in the arrays
 module _ (replicas : List Member) (nodes starts : List ℕ) (len at : ℕ) (few : length replicas ≤ 8) (inside : at < length replicas) where

@@ -1,5 +1,6 @@
 //! Chains: the replicas of a row, the primary first.
-ghost use Rattle.std.specs.Prelude.{◌≡◌};
+ghost use Rattle.std.specs.Prelude.{◌≡◌, ◌≤◌, length, map};
+ghost use Rattle.sig_core.specs.declared.member.Member.{Member};
 ghost use Rattle.sig_core.specs.Chain.{last_place, node_at, primary_of};
 
 use crate::member::Member;
@@ -44,6 +45,35 @@ impl Chain {
             nodes,
             starts,
             len: len as u8,
+        }
+    }
+
+    /// The same chain once more.
+    pub fn share(&self) -> Chain
+        ensures { result ≡ self.now }
+    {
+        Chain {
+            nodes: self.nodes,
+            starts: self.starts,
+            len: self.len,
+        }
+    }
+
+    /// The nodes of the replicas.
+    pub fn nodes(&self) -> &[u8]
+        ensures value { result.now ≡ map (λ (replica : Member). replica.node) self.now }
+        ensures most { length result.now ≤ 8 }
+    {
+        &self.nodes[..self.len as usize]
+    }
+
+    /// The node at a place. 0, which has no rows, where the chain has no such place.
+    pub fn node_at(&self, at: usize) -> u8
+        ensures { result ≡ node_at self.now at }
+    {
+        match self.nodes().get(at) {
+            Some(node) => *node,
+            None => 0,
         }
     }
 

@@ -77,8 +77,17 @@ impl PartialEq for Key {
 
     ghost laws = { partial_equiv_from_equiv nat_list_eq_equiv };
 
+    // Most keys are so short that slices aren't worth their while, and most that differ do so early.
     fn eq(&self, other: &Key) -> bool {
-        self.bytes() == other.bytes()
+        if self.len != other.len {
+            return false;
+        }
+        for at in 0..self.len as usize {
+            if self.bytes[at] != other.bytes[at] {
+                return false;
+            }
+        }
+        true
     }
 }
 

@@ -76,12 +76,16 @@ impl Outs {
         self.marks.push_reserved(mark);
     }
 
-    /// Empties it.
+    /// Empties it. Most often it is empty already.
     pub fn clear(&mut self)
         ensures { self.new ≡ nothing }
     {
-        self.sends.clear();
-        self.marks.clear();
+        if !self.sends.is_empty() {
+            self.sends.clear();
+        }
+        if !self.marks.is_empty() {
+            self.marks.clear();
+        }
     }
 
     /// The marks so far.

@@ -1,5 +1,6 @@
 //! The coordinator of a node.
-ghost use Rattle.std.specs.Prelude.{◌≡◌, ◌+◌, ◌<◌, ◌^◌, OnOk, OnErr, IfOk, is_some};
+ghost use Rattle.std.specs.Prelude.{◌≡◌, ◌+◌, ◌<◌, ◌^◌, OnOk, OnErr, IfOk, IfSome, is_some, length};
+ghost use Rattle.sig_core.specs.Same.{same_tx};
 ghost use Rattle.sig_core.specs.Step.{HasRoom, IsTaken, IsUntouched};
 ghost use Rattle.sig_core.specs.declared.signal.Body.TheVariants.{Chain, Client};
 ghost use Rattle.tc_block.specs.Abort.{aborted_row, refuse_row, rollback_row};
@@ -64,6 +65,17 @@ impl Tc {
         })
     }
 
+    // Where a transaction stands. Most often it is the first, and then no hash is worth its while.
+    fn place_of(&self, tx: TxId) -> Option<usize>
+        ensures place { result ≡ place_in self.now tx }
+        ensures within { IfSome result (λ at. at < length self.now.live) }
+    {
+        match self.live.get_index(0) {
+            Some((first, _)) if is_same(tx, first) => Some(0),
+            _ => self.live.get_index_of(&tx),
+        }
+    }
+
     // Whether it begins no further transaction.
     fn is_full(&self) -> bool
         ensures { result ≡ is_full self.now }
@@ -98,7 +110,7 @@ impl Tc {
         ensures ok { OnOk result (IsTaken (step_of self.old tx (λ t. operate_row self.old.layout tx t op.now)) self.new out.old out.new) }
         ensures err { OnErr result (IsUntouched self.old self.new out.old out.new) }
     {
-        let Some(at) = self.live.get_index_of(&tx) else {
+        let Some(at) = self.place_of(tx) else {
             return Ok(());
         };
         let t = &mut self.live[at];
@@ -117,7 +129,7 @@ impl Tc {
         ensures ok { OnOk result (IsTaken (step_of self.old tx (λ t. answer_row self.old.layout tx t key.now answer.now)) self.new out.old out.new) }
         ensures err { OnErr result (IsUntouched self.old self.new out.old out.new) }
     {
-        let Some(at) = self.live.get_index_of(&tx) else {
+        let Some(at) = self.place_of(tx) else {
             return Ok(());
         };
         let t = &mut self.live[at];
@@ -129,7 +141,7 @@ impl Tc {
         requires { HasRoom out.old }
         ensures { IsTaken (turn_of self.old tx (λ t. refuse_row self.old.node self.old.layout tx t key.now cause)) self.new out.old out.new }
     {
-        let Some(at) = self.live.get_index_of(&tx) else {
+        let Some(at) = self.place_of(tx) else {
             return;
         };
         let t = &mut self.live[at];
@@ -145,7 +157,7 @@ impl Tc {
         ensures ok { OnOk result (IsTaken (step_of self.old tx (λ t. verify_row self.old.node tx t)) self.new out.old out.new) }
         ensures err { OnErr result (IsUntouched self.old self.new out.old out.new) }
     {
-        let Some(at) = self.live.get_index_of(&tx) else {
+        let Some(at) = self.place_of(tx) else {
             return Ok(());
         };
         let t = &mut self.live[at];
@@ -157,7 +169,7 @@ impl Tc {
         requires { HasRoom out.old }
         ensures { IsTaken (turn_of self.old tx (λ t. commit_row self.old.node self.old.layout tx t epoch)) self.new out.old out.new }
     {
-        let Some(at) = self.live.get_index_of(&tx) else {
+        let Some(at) = self.place_of(tx) else {
             return;
         };
         let t = &mut self.live[at];
@@ -172,7 +184,7 @@ impl Tc {
         requires { HasRoom out.old }
         ensures { IsTaken (turn_of self.old tx (λ t. committed_row self.old.node self.old.layout tx t)) self.new out.old out.new }
     {
-        let Some(at) = self.live.get_index_of(&tx) else {
+        let Some(at) = self.place_of(tx) else {
             return;
         };
         let t = &mut self.live[at];
@@ -187,7 +199,7 @@ impl Tc {
         requires { HasRoom out.old }
         ensures { IsTaken (turn_of self.old tx (λ t. completed_row self.old.node tx t)) self.new out.old out.new }
     {
-        let Some(at) = self.live.get_index_of(&tx) else {
+        let Some(at) = self.place_of(tx) else {
             return;
         };
         let t = &mut self.live[at];
@@ -202,7 +214,7 @@ impl Tc {
         requires { HasRoom out.old }
         ensures { IsTaken (turn_of self.old tx (λ t. rollback_row self.old.node self.old.layout tx t)) self.new out.old out.new }
     {
-        let Some(at) = self.live.get_index_of(&tx) else {
+        let Some(at) = self.place_of(tx) else {
             return;
         };
         let t = &mut self.live[at];
@@ -217,7 +229,7 @@ impl Tc {
         requires { HasRoom out.old }
         ensures { IsTaken (turn_of self.old tx (λ t. aborted_row self.old.node tx t)) self.new out.old out.new }
     {
-        let Some(at) = self.live.get_index_of(&tx) else {
+        let Some(at) = self.place_of(tx) else {
             return;
         };
         let t = &mut self.live[at];
@@ -232,7 +244,7 @@ impl Tc {
         requires { HasRoom out.old }
         ensures { IsTaken (step_of self.now tx (λ t. wait_row tx t)) self.now out.old out.new }
     {
-        let Some(at) = self.live.get_index_of(&tx) else {
+        let Some(at) = self.place_of(tx) else {
             return;
         };
         let t = &self.live[at];
@@ -244,7 +256,7 @@ impl Tc {
         requires { HasRoom out.old }
         ensures { IsTaken (step_of self.now tx (λ t. go_on_row self.now.node self.now.layout tx t at)) self.now out.old out.new }
     {
-        let Some(place) = self.live.get_index_of(&tx) else {
+        let Some(place) = self.place_of(tx) else {
             return;
         };
         let t = &self.live[place];
@@ -268,6 +280,13 @@ impl Tc {
             out.send(CLIENT, Body::Client(ClientSignal::TcWaitConf { tx, ahead }));
         }
     }
+}
+
+// Whether the two are one transaction.
+fn is_same(one: TxId, other: &TxId) -> bool
+    ensures { result ≡ same_tx one other.now }
+{
+    one == *other
 }
 
 impl Tc {

@@ -2,7 +2,7 @@
 use Rattle.std.proofs.Common.{◌≡◌, ℕ, false, [], refl, sym, ap, ◌∙◌}
 use Rattle.sig_core.specs.declared.signal.Body.{Body}
 use Rattle.sig_core.specs.declared.signal.Body.TheVariants.{Client, Epoch, Host, Membership}
-use Rattle.sig_core.specs.declared.signal.client.ClientSignal.TheVariants.{TcRollbackReq}
+use Rattle.sig_core.specs.declared.signal.client.ClientSignal.TheVariants.{TcKeyReq, TcRollbackReq}
 use Rattle.sig_core.specs.declared.signal.epoch.EpochSignal.TheVariants.{DiVerifyConf}
 use Rattle.sig_core.specs.declared.signal.host.HostSignal.TheVariants.{Continue}
 use Rattle.sig_core.specs.declared.signal.host.Work.TheVariants.{Installation, Transaction}
@@ -29,6 +29,8 @@ calm_table s number (Host (Continue (Transaction tx) at)) none nothing calm =
     ap (calm_unless s (Host (Continue (Transaction tx) at))) calm ∙ quiet s _ none
 calm_table s number (Epoch (DiVerifyConf tx epoch)) none nothing calm =
     ap (λ doomed. calm_unless s (Epoch (DiVerifyConf tx epoch)) (is_among doomed tx)) none ∙ quiet s _ none
+calm_table s number (Client (TcKeyReq tx op)) none nothing calm =
+    ap (λ left. calm_unless s (Client (TcKeyReq tx op)) (is_to_fail left tx)) nothing ∙ quiet s _ none
 calm_table s number (Client (TcRollbackReq tx)) none nothing calm =
     ap (λ left. calm_unless s (Client (TcRollbackReq tx)) (is_to_fail left tx)) nothing ∙ quiet s _ none
 calm_table s number body none nothing calm = quiet s _ none

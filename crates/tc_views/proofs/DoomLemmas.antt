@@ -10,7 +10,7 @@ use Rattle.sig_core.specs.declared.member.TxId.{TxId}
 use Rattle.sig_core.specs.declared.outcome.AbortCause.{AbortCause}
 use Rattle.sig_core.specs.declared.signal.Body.{Body}
 use Rattle.sig_core.specs.declared.signal.Body.TheVariants.{Client, Epoch, Host, Membership}
-use Rattle.sig_core.specs.declared.signal.client.ClientSignal.TheVariants.{TcRollbackReq}
+use Rattle.sig_core.specs.declared.signal.client.ClientSignal.TheVariants.{TcKeyReq, TcRollbackReq}
 use Rattle.sig_core.specs.declared.signal.epoch.EpochSignal.TheVariants.{DiVerifyConf}
 use Rattle.sig_core.specs.declared.signal.host.HostSignal.TheVariants.{Continue}
 use Rattle.sig_core.specs.declared.signal.host.Work.TheVariants as work
@@ -234,6 +234,8 @@ module _ (tx : TxId) where
   table_fine s number (Host (Continue work.Installation at)) doomed fine = goes_on s number fine
   table_fine s number (Host (Continue (work.Transaction one) at)) doomed fine =
       unless_fine s (Host (Continue (work.Transaction one) at)) (nat_lt number s.number) (λ other epoch off is. absurd cc) fine
+  table_fine s number (Client (TcKeyReq one op)) doomed fine =
+      unless_fine s (Client (TcKeyReq one op)) (is_to_fail s.left one) (λ other epoch off is. absurd cc) fine
   table_fine s number (Client (TcRollbackReq one)) doomed fine =
       unless_fine s (Client (TcRollbackReq one)) (is_to_fail s.left one) (λ other epoch off is. absurd cc) fine
   table_fine s number (Epoch (DiVerifyConf one epoch)) doomed fine =

@@ -6,7 +6,7 @@ use Rattle.sig_core.specs.declared.member.TxId.{TxId}
 use Rattle.sig_core.specs.declared.signal.Body.{Body}
 use Rattle.sig_core.specs.declared.signal.Body.TheVariants.{Client, Epoch, Host, Membership}
 use Rattle.sig_core.specs.declared.signal.Signal.{Signal}
-use Rattle.sig_core.specs.declared.signal.client.ClientSignal.TheVariants.{TcRollbackReq}
+use Rattle.sig_core.specs.declared.signal.client.ClientSignal.TheVariants.{TcKeyReq, TcRollbackReq}
 use Rattle.sig_core.specs.declared.signal.epoch.EpochSignal.TheVariants.{DiVerifyConf}
 use Rattle.sig_core.specs.declared.signal.host.HostSignal.TheVariants.{Continue}
 use Rattle.sig_core.specs.declared.signal.host.Work.TheVariants.{Installation, Transaction}
@@ -53,7 +53,8 @@ abbrev pub is_to_fail : List Task → TxId → Bool
 is_to_fail left tx = list_any (fails tx) left
 
 -- What it does, by the number of the sender's view and what the signal says. A doomed transaction takes no epoch. A list of
--- sends that was begun in an older view has ended. Who is left to be aborted needn't be asked for it.
+-- sends that was begun in an older view has ended. Who is left to be aborted does nothing more: an abort could overtake an
+-- operation on its way to a replica, which would keep the record.
 abbrev pub coordinator_table : CoordinatorState → ℕ → Body → Step CoordinatorState
 coordinator_table s number (Membership (FenceReq proposal)) = fence_row s proposal
 coordinator_table s number (Host (Continue Installation at)) = resume_row s number
@@ -61,6 +62,8 @@ coordinator_table s number (Host (Continue (Transaction tx) at)) =
     calm_unless s (Host (Continue (Transaction tx) at)) (nat_lt number s.number)
 coordinator_table s number (Epoch (DiVerifyConf tx epoch)) =
     calm_unless s (Epoch (DiVerifyConf tx epoch)) (is_among s.doomed tx)
+coordinator_table s number (Client (TcKeyReq tx op)) =
+    calm_unless s (Client (TcKeyReq tx op)) (is_to_fail s.left tx)
 coordinator_table s number (Client (TcRollbackReq tx)) =
     calm_unless s (Client (TcRollbackReq tx)) (is_to_fail s.left tx)
 coordinator_table s number body = calm_row s body

@@ -131,7 +131,9 @@ impl Coordinator {
     pub(crate) fn forget_doomed(&mut self)
         ensures { self.new ≡ record self.old { doomed = still_live self.old.tc self.old.doomed } }
     {
-        keep_live(&self.tc, &mut self.doomed);
+        if !self.doomed.is_empty() {
+            keep_live(&self.tc, &mut self.doomed);
+        }
     }
 }
 
@@ -204,7 +206,9 @@ impl Actor for Coordinator {
                 let is_doomed = self.is_doomed(tx);
                 self.step_unless(alloc, signal, is_doomed, out)
             }
-            Body::Client(ClientSignal::TcRollbackReq { tx }) => {
+            Body::Client(
+                ClientSignal::TcKeyReq { tx, op: _ } | ClientSignal::TcRollbackReq { tx },
+            ) => {
                 let is_to_fail = self.is_to_fail(tx);
                 self.step_unless(alloc, signal, is_to_fail, out)
             }

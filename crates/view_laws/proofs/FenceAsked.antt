@@ -1,5 +1,5 @@
 -- A membership asks its blocks for a fence where it promises a set that it is asked for, and nowhere else.
-use Rattle.std.proofs.Common.{◌≡◌, ◌⊎◌, ◌<◌, ◌&&◌, ◌||◌, ◌==◌, ℕ, Bool, true, false, List, [], ◌∷◌, ◌++◌, map, take, drop, refl, arith, inl, inr}
+use Rattle.std.proofs.Common.{◌≡◌, ◌⊎◌, ◌<◌, ◌&&◌, ◌||◌, ◌==◌, ℕ, Bool, true, false, List, [], ◌∷◌, ◌++◌, map, take, drop, refl, arith, inl, inr, filter, cond, ap, sym, subst}
 use Rattle.std.specs.Prelude.{if◌then◌else◌, Option, None, Some, position, slice_get}
 use Rattle.frag_map.specs.Groups.{lost_group}
 use Rattle.run_theory.specs.Lists.{Each, IsIn}
@@ -39,12 +39,12 @@ use Rattle.qmgr_block.specs.State.{QmgrState}
 use Rattle.qmgr_block.specs.Suspects.{close_row, has_more, is_kept_suspect, president, presides, report_row, told, told_by, told_if, with_closing, with_suspects}
 use Rattle.view_laws.proofs.RowLemmas.{promised_like}
 use Rattle.view_laws.proofs.StepLemmas.{higher}
-use Rattle.view_laws.proofs.VotesNone.{is_fencing}
+use Rattle.view_laws.proofs.VotesNone.{is_confirming, is_fencing, is_of_fence}
 use Rattle.view_laws.proofs.WalkLemmas.{moves_told_if}
 
--- it asks for no fence
+-- it is of no fence
 abbrev pub IsOff : Outgoing → Type 0
-IsOff sent = is_fencing sent.body ≡ false
+IsOff sent = is_of_fence sent.body ≡ false
 
 abbrev AreOff : List Outgoing → Type 0
 AreOff sends = Each IsOff sends
@@ -345,3 +345,65 @@ module _ (s : QmgrState) where
 
   pub row_fences : (x : Signal) → Fences x.body (qmgr_row s x)
   row_fences x = table_fences x.from.0 x.member x.view.number x.body
+
+-- those are all that it asks for, in this order
+abbrev pub asked_fences : Known → Body → List Outgoing
+asked_fences k (Membership (PrepFailReq set)) = if may_promise k set then fences k.me.node set else []
+asked_fences k body = []
+
+abbrev pub fencing : List Outgoing → List Outgoing
+fencing sends = filter (λ (sent : Outgoing). is_fencing sent.body) sends
+
+-- what is of no fence asks for none
+pub unasking : (body : Body) → is_of_fence body ≡ false → is_fencing body ≡ false
+unasking body off = by (is_fencing body) off
+  where
+    by : (b : Bool) → (b || is_confirming body) ≡ false → b ≡ false
+    by true off = off
+    by false off = refl
+
+pub off_none : (sends : List Outgoing) → AreOff sends → fencing sends ≡ []
+off_none [] all = refl
+off_none (sent ∷ sends) all =
+    subst (λ b. cond b (sent ∷ fencing sends) (fencing sends) ≡ []) (sym (unasking sent.body all.0))
+    (off_none sends all.1)
+
+module _ (s : QmgrState) where
+  promise_by_only : (to : ℕ) (set : View) (may : Bool)
+      → fencing (promise_by s to set may).effects.sends ≡ (if may then fences s.known.me.node set else [])
+  promise_by_only to set true =
+      let l = promising (with_absent s.known set) set in
+      let told_none : fencing (told_if l (has_more s.known l)).effects.sends ≡ [] =
+      off_none (told_if l (has_more s.known l)).effects.sends (told_off l (has_more s.known l)) in
+      ap (λ sends. fences s.known.me.node set ++ sends) told_none
+  promise_by_only to set false =
+      let l = with_absent s.known set in
+      off_none (told_if l (has_more s.known l)).effects.sends (told_off l (has_more s.known l))
+
+  promise_only : (to : ℕ) (set : View)
+      → fencing (promise_row s to set).effects.sends ≡ asked_fences s.known (Membership (PrepFailReq set))
+  unfolding promise_row
+  promise_only to set = promise_by_only to set (may_promise s.known set)
+
+  membership_only : (host : ℕ) (member : Member) (signal : MembershipSignal)
+      → fencing (membership_table s host member signal).effects.sends ≡ asked_fences s.known (Membership signal)
+  membership_only host member Heartbeat = off_none _ (heartbeat_off s.known member)
+  membership_only host member (FailRep suspects) = off_none _ (report_off s.known suspects)
+  membership_only host member (PrepFailReq proposal) = promise_only member.node proposal
+  membership_only host member FenceConf = off_none _ (fence_off s host)
+  membership_only host member (PrepFailConf number) = off_none _ (confirm_off s.known number member)
+  membership_only host member (PrepFailRef promised) = off_none _ (unpromised_off s.known promised)
+  membership_only host member (ArbitConf number) = off_none _ (granted_off s.known number)
+  membership_only host member (ArbitRef number members) = off_none _ (refused_off s.known number members)
+  membership_only host member (StopSet cause) = off_none _ (stop_off s.known cause)
+  membership_only host member _ = refl
+
+  table_only : (host : ℕ) (member : Member) (number : ℕ) (body : Body)
+      → fencing (qmgr_table s host member number body).effects.sends ≡ asked_fences s.known body
+  table_only host member number (Host signal) = off_none _ (host_off s.known member number signal)
+  table_only host member number (Membership signal) = membership_only host member signal
+  table_only host member number (Joining signal) = off_none _ (joining_off s.known signal)
+  table_only host member number _ = refl
+
+  pub row_only : (x : Signal) → fencing (qmgr_row s x).effects.sends ≡ asked_fences s.known x.body
+  row_only x = table_only x.from.0 x.member x.view.number x.body

@@ -24,7 +24,7 @@ use Rattle.view_laws.proofs.FollowHosts.{first_of}
 use Rattle.view_laws.proofs.RunMade.{made_same, made_tested, node_low, node_some}
 use Rattle.view_laws.proofs.SetRows.{filter_in}
 
-any_found : {A : Type 0} (p : A → Bool) (xs : List A) (i : ℕ) → position p xs ≡ Some i → list_any p xs ≡ true
+pub any_found : {A : Type 0} (p : A → Bool) (xs : List A) (i : ℕ) → position p xs ≡ Some i → list_any p xs ≡ true
 any_found p [] i is = absurd cc
 any_found p (x ∷ xs) i is = by (p x) (position p xs) (any_found p xs) (sym (position-cons p x xs) ∙ is)
   where
@@ -145,3 +145,32 @@ module _ (start : Start) where
           → w ≡ me
       by true e same = absurd (omega (arith, eqb-true w.node 0 e, node_some start w made_w))
       by false e same = found (member_of view w.node) refl same
+
+  -- and only what is for a place of a part comes to that
+  pub part_reaches : (h : ℕ) (view : View) (node : ℕ) (me : Member) → IsIn me (made start) → (b at : BlockId)
+      → reached (made start) (suc h) view (record { node = node; block = b }) ≡ host_of (made start) (part_of at) me
+      → number_of (part_of b) ≡ number_of (part_of at)
+  unfolding reached
+  part_reaches h view node me there b at is = by (node == 0) is
+    where
+      found : (o : Option Member) → host_by (made start) (part_of b) o ≡ host_of (made start) (part_of at) me
+          → number_of (part_of b) ≡ number_of (part_of at)
+      found None same = absurd (not_absent me there at (sym (absent_is (part_of b)) ∙ same))
+      found (Some m) same =
+          omega (
+            arith,
+            same,
+            block_host m (found_made m me there b at same) b,
+            block_host me there at,
+            number_some (part_of b),
+            number_few (part_of b),
+            number_some (part_of at),
+            number_few (part_of at),
+          )
+
+      by : (test : Bool)
+          → (if test then 0 else host_by (made start) (part_of b) (member_of view node))
+          ≡ host_of (made start) (part_of at) me
+          → number_of (part_of b) ≡ number_of (part_of at)
+      by true same = absurd (omega (arith, same, block_host me there at, number_some (part_of at)))
+      by false same = found (member_of view node) same

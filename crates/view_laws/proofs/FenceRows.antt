@@ -4,7 +4,7 @@ use Rattle.std.specs.Prelude.{◌+◌, Option, None, Some, position, slice_get}
 use Rattle.sig_core.specs.declared.member.TxId.{TxId}
 use Rattle.sig_core.specs.declared.signal.Body.{Body}
 use Rattle.sig_core.specs.declared.signal.Body.TheVariants.{Client, Epoch, Host, Membership}
-use Rattle.sig_core.specs.declared.signal.client.ClientSignal.TheVariants.{TcRollbackReq}
+use Rattle.sig_core.specs.declared.signal.client.ClientSignal.TheVariants.{TcKeyReq, TcRollbackReq}
 use Rattle.sig_core.specs.declared.signal.epoch.EpochSignal.{EpochSignal}
 use Rattle.sig_core.specs.declared.signal.epoch.EpochSignal.TheVariants.{CopyGciReq, DiVerifyConf, DiVerifyEnd, DiVerifyReq, GcpClosed, GcpCommit, GcpDone, GcpPrepare, GcpStateReq}
 use Rattle.sig_core.specs.declared.signal.host.HostSignal.TheVariants.{Continue}
@@ -55,6 +55,7 @@ module _ (s : CoordinatorState) where
       unless_fence (Host (Continue (Transaction tx) at)) (nat_lt number s.number)
   coordinator_by number (Epoch (DiVerifyConf tx epoch)) =
       unless_fence (Epoch (DiVerifyConf tx epoch)) (is_among s.doomed tx)
+  coordinator_by number (Client (TcKeyReq tx op)) = unless_fence (Client (TcKeyReq tx op)) (is_to_fail s.left tx)
   coordinator_by number (Client (TcRollbackReq tx)) = unless_fence (Client (TcRollbackReq tx)) (is_to_fail s.left tx)
   coordinator_by number body = refl
 
@@ -66,90 +67,101 @@ module _ (s : CoordinatorState) where
   unfolding coordinator.install_row
   coordinator_enters view = refl
 
--- that of a node's epochs
-reported_fence : (s : DihState) → (reported s).state.fence ≡ s.fence
-unfolding reported
-reported_fence s = by s.order
-  where
-    whether : (order : Report) (b : Bool) → (report_if s order b).state.fence ≡ s.fence
-    whether order true = refl
-    whether order false = refl
+-- that of a node's epochs, which stay of their node
+abbrev Keeps : DihState → DihState → Type 0
+Keeps s t = (t.fence ≡ s.fence) × (t.node ≡ s.node)
 
-    by : (o : Option Report) → (report_by s o).state.fence ≡ s.fence
-    by None = refl
+reported_keeps : (s : DihState) → Keeps s (reported s).state
+unfolding reported
+reported_keeps s = by s.order
+  where
+    whether : (order : Report) (b : Bool) → Keeps s (report_if s order b).state
+    whether order true = (refl, refl)
+    whether order false = (refl, refl)
+
+    by : (o : Option Report) → Keeps s (report_by s o).state
+    by None = (refl, refl)
     by (Some order) = whether order (is_unfinished s.counted order.epoch)
 
-ended_fence : (s : DihState) (tx : TxId) → (ended s tx).fence ≡ s.fence
+ended_keeps : (s : DihState) (tx : TxId) → Keeps s (ended s tx)
 unfolding ended
-ended_fence s tx = by (position (is_of tx) s.counted)
+ended_keeps s tx = by (position (is_of tx) s.counted)
   where
-    held : (o : Option ℕ) → (held_by s o).fence ≡ s.fence
-    held None = refl
-    held (Some at) = refl
+    held : (o : Option ℕ) → Keeps s (held_by s o)
+    held None = (refl, refl)
+    held (Some at) = (refl, refl)
 
-    by : (o : Option ℕ) → (ended_by s tx o).fence ≡ s.fence
+    by : (o : Option ℕ) → Keeps s (ended_by s tx o)
     by None = held (position (same_tx tx) s.held)
-    by (Some at) = refl
+    by (Some at) = (refl, refl)
 
 module _ (s : DihState) where
-  verify_fence : (tx : TxId) → (verify_row s tx).state.fence ≡ s.fence
+  verify_keeps : (tx : TxId) → Keeps s (verify_row s tx).state
   unfolding verify_row given
-  verify_fence tx = by (nat_lt (length s.counted + length s.held) TRANSACTIONS)
+  verify_keeps tx = by (nat_lt (length s.counted + length s.held) TRANSACTIONS)
     where
-      gets : (b : Bool) → (verify_if s tx b).state.fence ≡ s.fence
-      gets true = refl
-      gets false = refl
+      gets : (b : Bool) → Keeps s (verify_if s tx b).state
+      gets true = (refl, refl)
+      gets false = (refl, refl)
 
-      by : (b : Bool) → (take_if s tx b).state.fence ≡ s.fence
+      by : (b : Bool) → Keeps s (take_if s tx b).state
       by true = gets (gives s)
-      by false = refl
+      by false = (refl, refl)
 
-  serve_fence : (number : ℕ) → (serve_row s number).state.fence ≡ s.fence
+  serve_keeps : (number : ℕ) → Keeps s (serve_row s number).state
   unfolding serve_row given
-  serve_fence number = by (number == s.number) (gives s)
+  serve_keeps number = by (number == s.number) (gives s)
     where
-      first : (o : Option TxId) → (serve_by s o).state.fence ≡ s.fence
-      first None = refl
-      first (Some tx) = refl
+      first : (o : Option TxId) → Keeps s (serve_by s o).state
+      first None = (refl, refl)
+      first (Some tx) = (refl, refl)
 
-      by : (b c : Bool) → (serve_if s b c).state.fence ≡ s.fence
+      by : (b c : Bool) → Keeps s (serve_if s b c).state
       by true true = first (slice_get s.held 0)
-      by true false = refl
-      by false c = refl
+      by true false = (refl, refl)
+      by false c = (refl, refl)
 
-  prepared_fence : (epoch next : ℕ) (b : Bool) → (dih.prepared_if s epoch next b).fence ≡ s.fence
-  prepared_fence epoch next true = refl
-  prepared_fence epoch next false = refl
+  prepared_keeps : (epoch next : ℕ) (b : Bool) → Keeps s (dih.prepared_if s epoch next b)
+  prepared_keeps epoch next true = (refl, refl)
+  prepared_keeps epoch next false = (refl, refl)
 
-  commit_fence : (from epoch next : ℕ) (b : Bool) → (dih.commit_if s from epoch next b).state.fence ≡ s.fence
-  commit_fence from epoch next true = reported_fence _
-  commit_fence from epoch next false = reported_fence _
+  commit_keeps : (from epoch next : ℕ) (b : Bool) → Keeps s (dih.commit_if s from epoch next b).state
+  commit_keeps from epoch next true = reported_keeps _
+  commit_keeps from epoch next false = reported_keeps _
 
-  end_fence : (tx : TxId) → (end_row s tx).state.fence ≡ s.fence
+  end_keeps : (tx : TxId) → Keeps s (end_row s tx).state
   unfolding end_row
-  end_fence tx = reported_fence (ended s tx) ∙ ended_fence s tx
+  end_keeps tx =
+      let late = reported_keeps (ended s tx) in
+      let early = ended_keeps s tx in
+      (late.0 ∙ early.0, late.1 ∙ early.1)
 
-  epochs_fence : (from : ℕ) (signal : EpochSignal) → (epoch_table s from signal).state.fence ≡ s.fence
+  epochs_keep : (from : ℕ) (signal : EpochSignal) → Keeps s (epoch_table s from signal).state
   unfolding dih.prepare_row dih.commit_row dih.close_row dih.copy_row dih.done_row dih.state_row
-  epochs_fence from (DiVerifyReq tx ops) = verify_fence tx
-  epochs_fence from (DiVerifyEnd tx) = end_fence tx
-  epochs_fence from (GcpPrepare epoch next) = prepared_fence epoch next (nat_le s.current epoch)
-  epochs_fence from (GcpCommit epoch next) = commit_fence from epoch next (nat_le s.current epoch)
-  epochs_fence from (GcpClosed epoch) = refl
-  epochs_fence from (CopyGciReq epoch mask) = refl
-  epochs_fence from (GcpDone epoch) = refl
-  epochs_fence from GcpStateReq = refl
-  epochs_fence from _ = refl
+  epochs_keep from (DiVerifyReq tx ops) = verify_keeps tx
+  epochs_keep from (DiVerifyEnd tx) = end_keeps tx
+  epochs_keep from (GcpPrepare epoch next) = prepared_keeps epoch next (nat_le s.current epoch)
+  epochs_keep from (GcpCommit epoch next) = commit_keeps from epoch next (nat_le s.current epoch)
+  epochs_keep from (GcpClosed epoch) = (refl, refl)
+  epochs_keep from (CopyGciReq epoch mask) = (refl, refl)
+  epochs_keep from (GcpDone epoch) = (refl, refl)
+  epochs_keep from GcpStateReq = (refl, refl)
+  epochs_keep from _ = (refl, refl)
 
-  dih_by : (from number : ℕ) (body : Body) → (dih_table s from number body).state.fence ≡ raised s.fence body
+  dih_by : (from number : ℕ) (body : Body)
+      → ((dih_table s from number body).state.fence ≡ raised s.fence body)
+      × ((dih_table s from number body).state.node ≡ s.node)
   unfolding dih.fence_row
-  dih_by from number (Host (Continue Held at)) = serve_fence number
-  dih_by from number (Membership (FenceReq proposal)) = refl
-  dih_by from number (Epoch signal) = epochs_fence from signal
-  dih_by from number _ = refl
+  dih_by from number (Host (Continue Held at)) = serve_keeps number
+  dih_by from number (Membership (FenceReq proposal)) = (refl, refl)
+  dih_by from number (Epoch signal) = epochs_keep from signal
+  dih_by from number _ = (refl, refl)
 
   pub dih_fence : (x : Signal) → (dih_row s x).state.fence ≡ raised s.fence x.body
-  dih_fence x = dih_by x.member.node x.view.number x.body
+  dih_fence x = (dih_by x.member.node x.view.number x.body).0
+
+  pub dih_node : (x : Signal) → (dih_row s x).state.node ≡ s.node
+  dih_node x = (dih_by x.member.node x.view.number x.body).1
 
   pub dih_enters : (number : ℕ) → (dih.install_row s number).state.fence ≡ greater s.fence number
   unfolding dih.install_row

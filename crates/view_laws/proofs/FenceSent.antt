@@ -1,5 +1,7 @@
--- Requests for fences are sent by the main host of a member, to its own blocks, and of sets that it has promised.
-use Rattle.std.proofs.Common.{◌≡◌, ◌⊎◌, ◌<◌, ◌==◌, ◌||◌, ◌++◌, ◌∙◌, ℕ, suc, Bool, true, false, List, [], ◌∷◌, append_assoc, refl, ap, sym, subst, arith, inl, inr}
+-- Requests for fences are sent by the main host of a member, to its own blocks, and of sets that it has promised;
+-- fences
+-- are confirmed by the other hosts of a member, to its membership.
+use Rattle.std.proofs.Common.{◌≡◌, ◌⊎◌, ◌<◌, ◌==◌, ◌||◌, ◌++◌, ◌%◌, ◌∙◌, ℕ, suc, Bool, true, false, List, [], ◌∷◌, append_assoc, refl, ap, sym, subst, arith, inl, inr}
 use Rattle.std.proofs.lemmas.Bool.{eqb-true, true≢false}
 use Rattle.std.specs.Prelude.{if◌then◌else◌}
 use Rattle.frag_map.specs.Layout.{Layout, first_layout, members}
@@ -16,7 +18,7 @@ use Rattle.arbiter_block.specs.Arbiter.{ArbiterState, arbit_if, arbit_row, arbit
 use Rattle.qmgr_block.specs.Laws.{Event, installs, takes}
 use Rattle.qmgr_block.specs.Promise.{fences}
 use Rattle.qmgr_block.specs.Qmgr.{qmgr_row}
-use Rattle.world_core.specs.Hosts.{hosts}
+use Rattle.world_core.specs.Hosts.{hosts, member_at}
 use Rattle.world_core.specs.Start.{Start, made}
 use Rattle.world_core.specs.Steps.{HostStep}
 use Rattle.world_views.specs.Machine.{after, step_after}
@@ -27,27 +29,29 @@ use Rattle.view_laws.specs.Members.{known_of, promises_of, state_of}
 use Rattle.view_laws.specs.Votes.{IsSentAmong, IsSentByArbiter, is_vote, main_of}
 use Rattle.view_laws.proofs.EventLemmas.{steps}
 use Rattle.view_laws.proofs.FenceAsked.{IsFenceOf, IsOff, row_fences}
+use Rattle.view_laws.proofs.FenceNodes.{node_after}
 use Rattle.view_laws.proofs.FollowHosts.{arbiters_follow, hosts_follow}
 use Rattle.view_laws.proofs.FollowKinds.{no_arbiter_behind, no_membership_beside}
 use Rattle.view_laws.proofs.RunGrowth.{promises_past}
 use Rattle.view_laws.proofs.RunMade.{HostIs, host_is, of_main, of_other, of_shell}
 use Rattle.view_laws.proofs.StepLemmas.{higher, row_installs}
 use Rattle.view_laws.proofs.VotesMain.{memberships_tell}
-use Rattle.view_laws.proofs.VotesNone.{is_fencing, is_told}
-use Rattle.view_laws.proofs.VotesOthers.{others_dont_tell}
+use Rattle.view_laws.proofs.VotesNone.{IsNoVote, confirmation, is_of_fence, is_told}
+use Rattle.view_laws.proofs.VotesOthers.{others_answer}
+use Rattle.view_laws.proofs.VotesParts.{own_node}
 use Rattle.view_laws.proofs.VotesShell.{arbiters_tell}
 
-fencing_told : (body : Body) → is_fencing body ≡ true → is_told body ≡ true
-fencing_told body is = by (is_vote body)
+fence_told : (body : Body) → is_of_fence body ≡ true → is_told body ≡ true
+fence_told body is = by (is_vote body)
   where
-    by : (b : Bool) → (b || is_fencing body) ≡ true
+    by : (b : Bool) → (b || is_of_fence body) ≡ true
     by true = refl
     by false = is
 
-untold_fencing : (body : Body) → is_told body ≡ false → is_fencing body ≡ false
-untold_fencing body off = by (is_vote body) off
+pub untold_fence : (body : Body) → is_told body ≡ false → is_of_fence body ≡ false
+untold_fence body off = by (is_vote body) off
   where
-    by : (b : Bool) → (b || is_fencing body) ≡ false → is_fencing body ≡ false
+    by : (b : Bool) → (b || is_of_fence body) ≡ false → is_of_fence body ≡ false
     by true off = absurd (true≢false off)
     by false off = off
 
@@ -112,7 +116,7 @@ module _ (layout : Layout) (w : Member) where
     there = one.there;
   }
 
-  among_promised : (new old : List Event) (sent : Outgoing) → is_fencing sent.body ≡ true
+  among_promised : (new old : List Event) (sent : Outgoing) → is_of_fence sent.body ≡ true
       → IsSentAmong w layout new old sent → IsPromisedFence layout w (new ++ old) sent
   among_promised new old sent is among =
       by
@@ -138,26 +142,35 @@ module _ (start : Start) where
     pub at : k ≡ main_of start member
     pub fence : IsPromisedFence (first_layout start.shape) member (events_of is_membership start k log) sent
 
+  -- host k is another host of a member, and confirms a fence to its node
+  pub record IsOfPart (k : ℕ) (sent : Outgoing) : Type 0 where
+    pub before : ℕ
+    pub left : ℕ
+    pub at : k ≡ suc before
+    pub part : before % 3 ≡ suc left
+    pub is : sent ≡ confirmation (member_at (made start) k).node
+
   abbrev pub SendsFences : ℕ → List HostStep → HostStep → Type 0
-  SendsFences k log e = Each (λ sent. IsOff sent ⊎ IsOfMain k (e ∷ log) sent) (step_after start k log e).effects.sends
+  SendsFences k log e =
+      Each (λ sent. IsOff sent ⊎ IsOfMain k (e ∷ log) sent ⊎ IsOfPart k sent) (step_after start k log e).effects.sends
 
   main_fences : (w : Member) → IsIn w (made start) → (log : List HostStep) (e : HostStep)
       → SendsFences (main_of start w) log e
   main_fences w there log e =
       each_map _ _ (step_after start (main_of start w) log e).effects.sends
-      (λ sent tells. by sent (is_fencing sent.body) refl (λ is. tells (fencing_told sent.body is)))
+      (λ sent tells. by sent (is_of_fence sent.body) refl (λ is. tells (fence_told sent.body is)))
       (memberships_tell hosts_follow start w log e there)
     where
       k : ℕ
       k = main_of start w
 
-      by : (sent : Outgoing) (b : Bool) → is_fencing sent.body ≡ b
-          → (is_fencing sent.body ≡ true → IsSentAmong w (first_layout start.shape)
+      by : (sent : Outgoing) (b : Bool) → is_of_fence sent.body ≡ b
+          → (is_of_fence sent.body ≡ true → IsSentAmong w (first_layout start.shape)
           (events_at is_membership (main_of start w) (after start (main_of start w) log) e.step.taken)
           (events_of is_membership start (main_of start w) log) sent)
-          → IsOff sent ⊎ IsOfMain (main_of start w) (e ∷ log) sent
+          → IsOff sent ⊎ IsOfMain (main_of start w) (e ∷ log) sent ⊎ IsOfPart (main_of start w) sent
       by sent false off tells = inl off
-      by sent true is tells = inr (record {
+      by sent true is tells = inr (inl (record {
         member = w;
         made = there;
         at = refl;
@@ -165,16 +178,16 @@ module _ (start : Start) where
             among_promised (first_layout start.shape) w
             (events_at is_membership (main_of start w) (after start (main_of start w) log) e.step.taken)
             (events_of is_membership start (main_of start w) log) sent is (tells is);
-      })
+      }))
 
   shell_fences : (log : List HostStep) (e : HostStep) → SendsFences 0 log e
   shell_fences log e =
       each_map _ _ (step_after start 0 log e).effects.sends
-      (λ sent tells. inl (by sent (is_fencing sent.body) refl (λ is. tells (fencing_told sent.body is))))
+      (λ sent tells. inl (by sent (is_of_fence sent.body) refl (λ is. tells (fence_told sent.body is))))
       (arbiters_tell arbiters_follow start log e)
     where
-      by : (sent : Outgoing) (b : Bool) → is_fencing sent.body ≡ b
-          → (is_fencing sent.body ≡ true → IsSentByArbiter (members start.shape.nodes)
+      by : (sent : Outgoing) (b : Bool) → is_of_fence sent.body ≡ b
+          → (is_of_fence sent.body ≡ true → IsSentByArbiter (members start.shape.nodes)
           (taken_in (events_at is_arbiter 0 (after start 0 log) e.step.taken))
           (taken_in (events_of is_arbiter start 0 log)) sent)
           → IsOff sent
@@ -187,6 +200,26 @@ module _ (start : Start) where
           one.taken.member.node one.taken.body)
           one.there
 
+  part_fences : (j left : ℕ) → j % 3 ≡ suc left → (log : List HostStep) (e : HostStep) → SendsFences (suc j) log e
+  part_fences j left part log e =
+      each_map _ _ (step_after start (suc j) log e).effects.sends by
+      (others_answer start (suc j) log e (no_membership_beside start j left log part)
+      (no_arbiter_behind start (suc j) log (omega arith))).each
+    where
+      node : ℕ
+      node = own_node (after start (suc j) log).parts e.step.taken.to.block
+
+      by : (sent : Outgoing) → IsNoVote sent ⊎ (sent ≡ confirmation node)
+          → IsOff sent ⊎ IsOfMain (suc j) (e ∷ log) sent ⊎ IsOfPart (suc j) sent
+      by sent (inl off) = inl (untold_fence sent.body off)
+      by sent (inr is) = inr (inr (record {
+        before = j;
+        left = left;
+        at = refl;
+        part = part;
+        is = is ∙ ap confirmation (node_after start j left part log e.step.taken.to.block);
+      }))
+
   pub host_fences : (k : ℕ) → k < hosts start → (log : List HostStep) (e : HostStep) → SendsFences k log e
   host_fences k low log e = by (host_is start k low)
     where
@@ -194,8 +227,4 @@ module _ (start : Start) where
       by (of_shell at) = subst (λ k. SendsFences k log e) (sym at) (shell_fences log e)
       by (of_main w there at) = subst (λ k. SendsFences k log e) (sym at) (main_fences w there log e)
       by (of_other j left at part) =
-          subst (λ k. SendsFences k log e) (sym at)
-          (each_map _ _ (step_after start (suc j) log e).effects.sends
-          (λ sent off. inl (untold_fencing sent.body off))
-          (others_dont_tell start (suc j) log e (no_membership_beside start j left log part)
-          (no_arbiter_behind start (suc j) log (omega arith))))
+          subst (λ k. SendsFences k log e) (sym at) (part_fences j left part log e)

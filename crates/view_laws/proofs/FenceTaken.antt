@@ -1,4 +1,5 @@
--- Each request for a fence that a part of a member takes was sent by the member's own main host, which had promised the
+-- Each request for a fence that a part of a member takes was sent by the member's own main host, which had promised
+-- the
 -- set.
 use Rattle.std.proofs.Common.{◌≡◌, ◌⊎◌, ◌<◌, ◌≤◌, ◌∙◌, ◌+◌, ◌-◌, ◌*◌, ℕ, suc, Bool, true, false, List, [], ◌∷◌, refl, ap, sym, subst, inl, inr}
 use Rattle.std.proofs.lemmas.Bool.{cases_lt, true≢false}
@@ -31,19 +32,19 @@ use Rattle.view_laws.specs.Members.{promises_of}
 use Rattle.view_laws.specs.Runs.{AreOfCluster, events_in}
 use Rattle.view_laws.proofs.FenceAsked.{IsOff}
 use Rattle.view_laws.proofs.FenceHosts.{own_reaches}
-use Rattle.view_laws.proofs.FenceSent.{IsOfMain, host_fences}
+use Rattle.view_laws.proofs.FenceSent.{IsOfMain, IsOfPart, host_fences}
 use Rattle.view_laws.proofs.FollowSends.{each_sent}
 use Rattle.view_laws.proofs.RunGrowth.{events_past, promises_past}
 use Rattle.view_laws.proofs.RunMade.{main_is}
 use Rattle.view_laws.proofs.RunViews.{past_none}
-use Rattle.view_laws.proofs.VotesNone.{is_fencing}
+use Rattle.view_laws.proofs.VotesNone.{is_of_fence}
 
 -- one of the requests for a fence of a set
-record IsFence (node : ℕ) (set : View) (sent : Outgoing) : Type 0 where
-  block : BlockId
-  is : sent ≡ fence_of (record { node = node; block = block }) set
+pub record IsFence (node : ℕ) (set : View) (sent : Outgoing) : Type 0 where
+  pub block : BlockId
+  pub is : sent ≡ fence_of (record { node = node; block = block }) set
 
-fence_entry : (node : ℕ) (set : View) (sent : Outgoing) → IsIn sent (fences node set) → IsFence node set sent
+pub fence_entry : (node : ℕ) (set : View) (sent : Outgoing) → IsIn sent (fences node set) → IsFence node set sent
 fence_entry node set sent (inl is) = record { block = block.Tc; is = is }
 fence_entry node set sent (inr (inl is)) = record { block = block.Dih; is = is }
 fence_entry node set sent (inr (inr (inl is))) = record { block = block.Lqh; is = is }
@@ -95,7 +96,11 @@ module _ (start : Start) (logs : ℕ → List HostStep) where
 
     off_promised : (y : Addressed) (sent : Outgoing) → y.signal.body ≡ sent.body → IsOff sent → IsPromisedAt y
     off_promised y sent body off me there at is set says =
-        absurd (true≢false (sym (ap is_fencing (sym body ∙ says)) ∙ off))
+        absurd (true≢false (sym (ap is_of_fence (sym body ∙ says)) ∙ off))
+
+    from_part : (y : Addressed) (sent : Outgoing) → y.signal.body ≡ sent.body → IsOfPart start k sent → IsPromisedAt y
+    from_part y sent body part me there at is set says =
+        absurd (cc (says, body, ap (λ (s : Outgoing). s.body) part.is))
 
     each_promised : k < hosts start → Each IsPromisedAt (signals_of start k log e)
     each_promised low =
@@ -106,12 +111,13 @@ module _ (start : Start) (logs : ℕ → List HostStep) where
       where
         by : (y : Addressed) (sent : Outgoing) → y.signal.body ≡ sent.body
             → y.to ≡ reached (made start) k (after start k (e ∷ log)).standing.view sent.to
-            → IsOff sent ⊎ IsOfMain start k (e ∷ log) sent → IsPromisedAt y
+            → IsOff sent ⊎ IsOfMain start k (e ∷ log) sent ⊎ IsOfPart start k sent → IsPromisedAt y
         by y sent body to (inl off) = off_promised y sent body off
-        by y sent body to (inr of) = from_main y (after start k (e ∷ log)).standing.view sent body to of
+        by y sent body to (inr (inl of)) = from_main y (after start k (e ∷ log)).standing.view sent body to of
+        by y sent body to (inr (inr part)) = from_part y sent body part
 
   module _ (are : AreOfCluster start logs) where
-    low_host : (k : ℕ) (e : HostStep) (log : List HostStep) → IsPast (e ∷ log) (logs k) → k < hosts start
+    pub low_host : (k : ℕ) (e : HostStep) (log : List HostStep) → IsPast (e ∷ log) (logs k) → k < hosts start
     low_host k e log past = by (cases_lt k (hosts start))
       where
         by : (k < hosts start) ⊎ (hosts start ≤ k) → k < hosts start
@@ -119,7 +125,8 @@ module _ (start : Start) (logs : ℕ → List HostStep) where
         by (inr high) = absurd (cc (past_none (e ∷ log) (subst (IsPast (e ∷ log)) (are.within k high) past)))
 
     -- all that is sent
-    sent_promised : (i j : ℕ) (log : List HostStep) → IsPast log (logs i) → Each IsPromisedAt (sent (machine start) i j log)
+    sent_promised : (i j : ℕ) (log : List HostStep) → IsPast log (logs i)
+        → Each IsPromisedAt (sent (machine start) i j log)
     sent_promised i j [] past = tt
     sent_promised i j (e ∷ log) past =
         put_each (machine start) IsPromisedAt j (sent_by (machine start) i log e) (sent (machine start) i j log)
@@ -127,8 +134,8 @@ module _ (start : Start) (logs : ℕ → List HostStep) where
         (λ runs. each_promised i log e past (low_host i e log past)))
         (sent_promised i j log (past_less e past))
 
-    closing_promised : (e : HostStep) (j : ℕ) → IsPromisedAt (closing (made start) e j)
-    closing_promised e j me there at is set says = absurd cc
+    closing_promised : (i : ℕ) (log : List HostStep) (e : HostStep) (j : ℕ) → IsPromisedAt (closing start i log e j)
+    closing_promised i log e j me there at is set says = absurd cc
 
     -- and all that a link gives
     given_promised : (i j : ℕ) (y : Addressed) (ys : List Addressed) → IsIn y ys
@@ -141,8 +148,8 @@ module _ (start : Start) (logs : ℕ → List HostStep) where
         by [] e closing = absurd closing
         by (e ∷ log) same closes = or (subst (IsIn y) closes.is there)
           where
-            or : IsIn y ((machine start).closing e j ∷ closes.rest) → IsPromisedAt y
-            or (inl is) = subst IsPromisedAt (sym is) (closing_promised e j)
+            or : IsIn y ((machine start).closing i log e j ∷ closes.rest) → IsPromisedAt y
+            or (inl is) = subst IsPromisedAt (sym is) (closing_promised i log e j)
             or (inr behind) =
                 each_in IsPromisedAt y _
                 (subst (λ log. Each IsPromisedAt (sent (machine start) i j log)) same

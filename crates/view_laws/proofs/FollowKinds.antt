@@ -43,7 +43,7 @@ module _ (start : Start) where
   no_member_part zero member = refl
   no_member_part (suc left) member = refl
 
-  never_joins : (h : ℕ) (log : List HostStep) → membership_in (started start h).parts ≡ None
+  pub never_joins : (h : ℕ) (log : List HostStep) → membership_in (started start h).parts ≡ None
       → membership_in (after start h log).parts ≡ None
   never_joins h log none =
       log_goes is_membership membership_seen to_membership membership_is_seen start h log

@@ -27,7 +27,7 @@ pub data StepsAs (mine : BlockId → Bool) (parts : Parts) (view : View) (x : Si
   entering : view.number < x.view.number → (later : List Event) → events ≡ later ++ installs x.view ∷ []
       → PassesAs mine (parts_entered parts x.view).state x later → StepsAs mine parts view x events
 
-entered_parts : (s : hosts.Host) (view : View) → (entered s view).state.parts ≡ (parts_entered s.parts view).state
+pub entered_parts : (s : hosts.Host) (view : View) → (entered s view).state.parts ≡ (parts_entered s.parts view).state
 unfolding entered
 entered_parts s view = refl
 
@@ -37,7 +37,7 @@ module _ (mine : BlockId → Bool) where
   passes_if s x true = passed refl
   passes_if s x false = dropped refl
 
-  passes_as : (s : hosts.Host) (x : Signal) → PassesAs mine s.parts x (passed_events mine s x)
+  pub passes_as : (s : hosts.Host) (x : Signal) → PassesAs mine s.parts x (passed_events mine s x)
   passes_as s x = passes_if s x (is_passed s x)
 
   entering_as : (s : hosts.Host) (x : Signal) (excluded : Bool) → s.standing.view.number < x.view.number

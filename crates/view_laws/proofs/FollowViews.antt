@@ -30,7 +30,7 @@ pub data ViewMoves (parts : Parts) (view : View) (x : Signal) (now : View) : Typ
   settles_in : IsSettled parts x now → ViewMoves parts view x now
 
 -- behind what blocks are passed the host stands in its view, or in the one that is settled on
-abbrev IsAfterPass : Parts → View → Signal → View → Type 0
+abbrev pub IsAfterPass : Parts → View → Signal → View → Type 0
 IsAfterPass at view x now = (now ≡ view) ⊎ (settled_at at x ≡ Some now)
 
 pass_views : (mine : BlockId → Bool) (at : Parts) (view : View) (x : Signal) (settles : Option View)
@@ -39,7 +39,7 @@ pass_views : (mine : BlockId → Bool) (at : Parts) (view : View) (x : Signal) (
 pass_views mine at view x None e = inl (sym (view_takes mine view x (mine x.to.block)))
 pass_views mine at view x (Some other) e = inr e
 
-passes_views : (mine : BlockId → Bool) (at : Parts) (view : View) (x : Signal) (events : List Event)
+pub passes_views : (mine : BlockId → Bool) (at : Parts) (view : View) (x : Signal) (events : List Event)
     → PassesAs mine at x events → IsAfterPass at view x (along to_view view events)
 passes_views mine at view x events (dropped is) = inl (ap (along to_view view) is)
 passes_views mine at view x events (passed is) =

@@ -6,7 +6,7 @@ use Rattle.run_theory.specs.Lists.{Each, IsIn}
 use Rattle.run_theory.proofs.EachSent.{each_drop, each_mapped, each_take}
 use Rattle.run_theory.proofs.Pasts.{each_append, each_from, each_map}
 use Rattle.sig_core.specs.declared.mark.Mark.{Mark}
-use Rattle.sig_core.specs.declared.mark.Mark.TheVariants.{Installed, Promised}
+use Rattle.sig_core.specs.declared.mark.Mark.TheVariants.{Decided, Installed, Promised}
 use Rattle.sig_core.specs.declared.member.Member.{Member}
 use Rattle.sig_core.specs.declared.outcome.StopCause.{StopCause}
 use Rattle.sig_core.specs.declared.outcome.StopCause.TheVariants.{Clock, Disk, Excluded, Killed, Memory, NoGroup, Sibling}
@@ -43,9 +43,10 @@ use Rattle.view_laws.specs.Votes.{is_vote}
 use Rattle.view_laws.proofs.RowLemmas.{absent_like, closing_like, heartbeat_by_like, missed_like, promised_like, unlike_like}
 use Rattle.view_laws.proofs.WalkLemmas.{Like, greatest_if, like_self, suspects_like}
 
--- the mark of a view that is settled on
+-- the mark of a view that is settled on, or of a decision, which no membership makes
 abbrev pub is_settling : Mark → Bool
 is_settling (Installed view) = true
+is_settling (Decided tx epoch) = true
 is_settling mark = false
 
 -- no vote

@@ -1,22 +1,52 @@
 mod ApartLemmas
 mod Deciding
 mod EntryLemmas
+mod EraArrives
+pub mod EraCausal
+mod EraClient
+mod EraCoordinator
+mod EraDecided
+pub mod EraEntries
+mod EraMarks
+mod EraMaster
+pub mod EraOrder
+mod EraParts
+pub mod EraRises
+pub mod EraShapes
+pub mod EraSorted
+pub mod EraSound
+mod EraTurns
+mod EraWalk
 mod EventLemmas
+mod FenceAnswers
 mod FenceAsked
-mod FenceHosts
+mod FenceCounts
+mod FenceFrom
+pub mod FenceHosts
+mod FenceLines
+mod FenceLinks
+mod FenceNodes
+mod FenceOrder
 mod FencePromised
-mod FenceRows
+mod FenceRaised
+mod FenceRanks
+pub mod FenceRows
+mod FenceRuns
 mod FenceSeen
 mod FenceSent
 mod FenceTaken
-mod FenceViews
+mod FenceThere
+mod FenceViewed
+pub mod FenceViews
+mod FenceWaits
+mod FencedLemmas
 mod Finding
-mod FollowHosts
+pub mod FollowHosts
 mod FollowKinds
 mod FollowMemberships
 mod FollowRoutes
 mod FollowSeen
-mod FollowSends
+pub mod FollowSends
 mod FollowSteps
 mod FollowTaken
 mod FollowViews
@@ -33,29 +63,29 @@ mod MadeLemmas
 mod Origins
 mod PromiseLemmas
 mod PromiseRows
-mod ProposalLemmas
+pub mod ProposalLemmas
 mod Rooms
 mod RowLemmas
 mod RunGrants
-mod RunGrowth
+pub mod RunGrowth
 mod RunHeaders
 mod RunJoins
-mod RunKept
-mod RunMade
+pub mod RunKept
+pub mod RunMade
 mod RunMember
-mod RunOrderly
+pub mod RunOrderly
 mod RunSends
-mod RunShrink
-mod RunSound
-mod RunStep
-mod RunViews
+pub mod RunShrink
+pub mod RunSound
+pub mod RunStep
+pub mod RunViews
 mod Searching
-mod SetLemmas
-mod SetRows
+pub mod SetLemmas
+pub mod SetRows
 mod Sharing
 mod Shrink
 mod StandingHome
-mod StandingMembers
+pub mod StandingMembers
 mod StandingNumbers
 mod StandingSettled
 mod StepLemmas
@@ -63,6 +93,7 @@ mod VotesApi
 mod VotesClient
 mod VotesCoordinator
 mod VotesEpochs
+mod VotesLists
 mod VotesMain
 mod VotesMaster
 mod VotesNone

@@ -138,7 +138,7 @@ stays_me : (s : QmgrState) (event : Event) → (after s event).known.me ≡ s.kn
 stays_me s (takes x) = (steps s x).me
 stays_me s (installs view) = (row_installs s.known view).me
 
-me_is : (me : Member) (layout : Layout) (events : List Event) → (known_of me layout events).me ≡ me
+pub me_is : (me : Member) (layout : Layout) (events : List Event) → (known_of me layout events).me ≡ me
 me_is me layout [] = refl
 me_is me layout (event ∷ events) = stays_me (state_of me layout events) event ∙ me_is me layout events
 

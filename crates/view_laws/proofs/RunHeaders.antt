@@ -18,7 +18,7 @@ use Rattle.view_laws.specs.Runs.{WasInstalled, view_after}
 use Rattle.view_laws.specs.Standing.{HeadersAreInstalled}
 use Rattle.view_laws.proofs.FollowSends.{each_sent, own_view}
 use Rattle.view_laws.proofs.RunStep.{host_there}
-use Rattle.view_laws.proofs.RunViews.{within_less}
+use Rattle.view_laws.proofs.RunViews.{of_greater, within_less}
 
 module _ (start : Start) where
   -- what was installed in logs was so in longer ones
@@ -93,7 +93,10 @@ module _ (start : Start) where
         (λ x one within.
         subst (WasInstalled start (log_of (machine start) (e ∷ es))) (sym one.view_is) (view_now es e come within))
         (each_sent start e.host (log_of (machine start) es e.host) e);
-    closing = λ es e come stops j within. new_taken es e come within;
+    closing = λ es e come stops j within.
+        of_greater (WasInstalled start (log_of (machine start) (e ∷ es)))
+        (view_after start e.host (e ∷ log_of (machine start) es e.host)) e.step.taken.view (view_now es e come within)
+        (new_taken es e come within);
     stays = λ es e x come is within.
         installed_more (log_of (machine start) es) (log_of (machine start) (e ∷ es)) (log_of-past (machine start) e es)
         x.signal.view (is (within_less start e es within));

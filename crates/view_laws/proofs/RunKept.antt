@@ -1,5 +1,5 @@
 -- Along each run all is sound, and so ballots are orderly; and all is sound in right logs.
-use Rattle.std.proofs.Common.{ℕ, List, [], ◌∷◌, refl}
+use Rattle.std.proofs.Common.{ℕ, List, [], ◌∷◌, refl, subst}
 use Rattle.frag_map.specs.Shape.{IsShape}
 use Rattle.run_theory.proofs.Along.{along_signals, along_signals_of_logs}
 use Rattle.run_theory.proofs.Runs.{log_of-own, log_of-past}
@@ -7,17 +7,17 @@ use Rattle.run_theory.specs.Along.{Comes, IsKept}
 use Rattle.run_theory.specs.Lists.{Each}
 use Rattle.run_theory.specs.Runs.{IsWithin, log_of}
 use Rattle.world_core.specs.Hosts.{hosts}
-use Rattle.world_core.specs.Start.{Start, made}
+use Rattle.world_core.specs.Start.{Start}
 use Rattle.world_core.specs.Steps.{Addressed, HostStep}
 use Rattle.world_views.proofs.SentFacts.{is_stamped}
 use Rattle.world_views.specs.Machine.{closing, machine, signals_of}
-use Rattle.view_laws.specs.Runs.{AreOfCluster, RunsHaveOrderlyBallots}
+use Rattle.view_laws.specs.Runs.{AreOfCluster, RunsHaveOrderlyBallots, view_after}
 use Rattle.view_laws.proofs.RunGrowth.{signal_more}
 use Rattle.view_laws.proofs.RunOrderly.{sound_orderly}
 use Rattle.view_laws.proofs.RunSends.{host_sends}
-use Rattle.view_laws.proofs.RunSound.{AreSoundLogs, IsSoundSignal}
+use Rattle.view_laws.proofs.RunSound.{AreSoundLogs, IsGood, IsSoundSignal}
 use Rattle.view_laws.proofs.RunStep.{host_there, sound_next, sound_start, true_view}
-use Rattle.view_laws.proofs.RunViews.{within_less}
+use Rattle.view_laws.proofs.RunViews.{of_greater, within_less}
 
 module _ (start : Start) (is_shape : IsShape start.shape) where
   -- all is sound in logs of the hosts that there are, and so is each signal on its way
@@ -53,14 +53,20 @@ module _ (start : Start) (is_shape : IsShape start.shape) where
       all_within [] all = tt
       all_within (x ∷ xs) all = (λ within. (all within).0, all_within xs (λ within. (all within).1))
 
-  -- the closing of a host that has stopped has the view of the signal that it took, and is no vote
+  -- the closing of a host that has stopped has the view in which it stands or that of the signal that it took, and is no
+  -- vote
   closing_next : (es : List HostStep) (e : HostStep) → IsNext es e → (j : ℕ)
-      → IsTrueIn (closing (made start) e j) (log_of (machine start) (e ∷ es))
+      → IsTrueIn (closing start e.host (log_of (machine start) es e.host) e j) (log_of (machine start) (e ∷ es))
   closing_next es e come j within =
       let before = within_less start e es within in
+      let old = log_of (machine start) es e.host in
+      let new = log_of (machine start) (e ∷ es) in
       record {
         view =
-            true_view start is_shape es e within come.happens (come.all.law before) (λ asked. come.told asked before);
+            of_greater (IsGood start new) (view_after start e.host (e ∷ old)) e.step.taken.view
+            (subst (λ log. IsGood start new (view_after start e.host log)) (log_of-own (machine start) e es e.host refl)
+            ((next es e come within).views e.host (host_there start e es within)))
+            (true_view start is_shape es e within come.happens (come.all.law before) (λ asked. come.told asked before));
         says = λ me there at. tt;
         asks = λ at. tt;
       }

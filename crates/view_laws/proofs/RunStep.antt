@@ -95,7 +95,7 @@ module _ (start : Start) where
     part_view Tc member = refl
     part_view Ldm member = refl
 
-    started_view : (h : ℕ) → (started start h).standing.view ≡ first_view start.shape.nodes
+    pub started_view : (h : ℕ) → (started start h).standing.view ≡ first_view start.shape.nodes
     unfolding started
     started_view zero = refl
     started_view (suc h) = part_view (part_by (h % 3)) (member_at (made start) (suc h))

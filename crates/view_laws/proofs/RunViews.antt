@@ -1,5 +1,5 @@
 -- From the ballots of runs to the views in all right logs: each that was installed is chosen.
-use Rattle.std.proofs.Common.{◌≡◌, ◌≢◌, ◌<◌, ◌⊎◌, ℕ, suc, true, List, [], ◌∷◌, ◌++◌, ap, sym, subst, ◌∙◌, inl, inr, lt-suc_self}
+use Rattle.std.proofs.Common.{◌≡◌, ◌≢◌, ◌<◌, ◌⊎◌, ℕ, suc, Bool, true, false, if◌then◌else◌, nat_lt, List, [], ◌∷◌, ◌++◌, ap, sym, subst, ◌∙◌, inl, inr, lt-suc_self}
 use Rattle.std.proofs.lemmas.Bool.{cases_eq}
 use Rattle.frag_map.proofs.FirstReplicas.{first_viable}
 use Rattle.frag_map.specs.Groups.{is_viable}
@@ -10,6 +10,7 @@ use Rattle.run_theory.proofs.Runs.{log_of-other, log_of-own, log_of-past}
 use Rattle.run_theory.specs.Lists.{IsPast}
 use Rattle.run_theory.specs.Runs.{IsWithin, Run, log_of}
 use Rattle.sig_core.specs.declared.view.View.{View}
+use Rattle.api_views.specs.Members.{greater_view}
 use Rattle.world_core.specs.Hosts.{hosts}
 use Rattle.world_core.specs.Start.{Start}
 use Rattle.world_core.specs.Steps.{HostStep}
@@ -29,6 +30,14 @@ past_none {A} xs past = go past.newer past.is
     go : (newer : List A) → [] ≡ newer ++ xs → xs ≡ []
     go [] is = sym is
     go (x ∷ newer) is = absurd cc
+
+-- what holds of two views holds of the greater one
+pub of_greater : (P : View → Type 0) (own taken : View) → P own → P taken → P (greater_view own taken)
+of_greater P own taken is other = by (nat_lt own.number taken.number)
+  where
+    by : (b : Bool) → P (if b then taken else own)
+    by true = other
+    by false = is
 
 module _ (start : Start) where
   -- a run without its newest event is of the hosts that there are too

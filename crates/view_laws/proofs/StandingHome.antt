@@ -1,4 +1,5 @@
--- Whose host one is, and that it has joined, doesn't change; so it enters no view without its member.
+-- Whose host one is, that it has joined, and the shape of its cluster don't change; so it enters no view without its
+-- member.
 use Rattle.std.proofs.Common.{◌≡◌, ◌≤◌, ◌<◌, ◌⊎◌, ◌||◌, ◌&&◌, ◌%◌, ◌/◌, ◌+◌, ℕ, zero, suc, Bool, true, false, nat_lt, List, [], ◌∷◌, refl, ap, sym, subst, arith, inl, inr}
 use Rattle.std.proofs.lemmas.Bool.{lt-ltb, or_cases}
 use Rattle.std.specs.List.{list_any}
@@ -16,6 +17,7 @@ use Rattle.sig_core.specs.declared.signal.Body.{Body}
 use Rattle.sig_core.specs.declared.signal.Body.TheVariants.{Host}
 use Rattle.sig_core.specs.declared.signal.Signal.{Signal}
 use Rattle.sig_core.specs.declared.signal.host.HostSignal.TheVariants.{Closed, Cut, Kill}
+use Rattle.sig_core.specs.declared.view.Shape.{Shape}
 use Rattle.sig_core.specs.declared.view.View.{View}
 use Rattle.sig_core.specs.Members.{nobody}
 use Rattle.sig_core.specs.Step.{Step}
@@ -39,91 +41,104 @@ use Rattle.view_laws.proofs.RunMade.{first_in}
 use Rattle.view_laws.proofs.SetLemmas.{in_front}
 use Rattle.view_laws.proofs.SetRows.{any_in, any_is}
 
--- a host of the member, which has joined
-pub record IsHome (me : Member) (s : hosts.Host) : Type 0 where
+-- a host of the member, which has joined, in a cluster of this shape
+pub record IsHome (me : Member) (shape : Shape) (s : hosts.Host) : Type 0 where
   pub is : s.standing.member ≡ me
   pub joined : s.standing.has_joined ≡ true
+  pub shape_is : s.standing.shape ≡ shape
 
-module _ (me : Member) where
+module _ (me : Member) (shape : Shape) where
   -- no step changes that
-  entered_home : (s : hosts.Host) (view : View) → IsHome me s → IsHome me (entered s view).state
+  entered_home : (s : hosts.Host) (view : View) → IsHome me shape s → IsHome me shape (entered s view).state
   unfolding entered
   entered_home s view home = record {
     is = home.is;
     joined = ap (λ (b : Bool). b || is_member view s.standing.member) home.joined;
+    shape_is = home.shape_is;
   }
 
-  settle_home : (t : Step hosts.Host) (view : Option View) → IsHome me t.state → IsHome me (settle t view).state
+  settle_home : (t : Step hosts.Host) (view : Option View) → IsHome me shape t.state
+      → IsHome me shape (settle t view).state
   settle_home t None home = home
   settle_home t (Some view) home = entered_home t.state view home
 
-  blocks_home : (s : hosts.Host) (x : Signal) → IsHome me s → IsHome me (blocks_row s x).state
+  blocks_home : (s : hosts.Host) (x : Signal) → IsHome me shape s → IsHome me shape (blocks_row s x).state
   unfolding blocks_row
   blocks_home s x home =
       settle_home (with_parts s (parts_row s.parts x)) (settled_at s.parts x)
-      (record { is = home.is; joined = home.joined })
+      (record { is = home.is; joined = home.joined; shape_is = home.shape_is })
 
-  cut_home : (s : hosts.Host) (first : HostId) (cut : Bool) → IsHome me s → IsHome me (cut_if s first cut).state
+  cut_home : (s : hosts.Host) (first : HostId) (cut : Bool) → IsHome me shape s
+      → IsHome me shape (cut_if s first cut).state
   cut_home s first true home = home
-  cut_home s first false home = record { is = home.is; joined = home.joined }
+  cut_home s first false home = record { is = home.is; joined = home.joined; shape_is = home.shape_is }
 
-  closed_home : (s : hosts.Host) (x : Signal) (own : Bool) → IsHome me s → IsHome me (closed_if s x own).state
+  closed_home : (s : hosts.Host) (x : Signal) (own : Bool) → IsHome me shape s
+      → IsHome me shape (closed_if s x own).state
   closed_home s x true home = home
   closed_home s x false home = blocks_home s x home
 
-  table_home : (s : hosts.Host) (x : Signal) (body : Body) → IsHome me s → IsHome me (host_table s x body).state
+  table_home : (s : hosts.Host) (x : Signal) (body : Body) → IsHome me shape s
+      → IsHome me shape (host_table s x body).state
   table_home s x (Host (Kill zero)) home = home
-  table_home s x (Host (Kill (suc left))) home = record { is = home.is; joined = home.joined }
-  table_home s x (Host (Cut node first)) home = cut_home s first (is_cut s.standing first || not (is_first first)) home
+  table_home s x (Host (Kill (suc left))) home =
+      record { is = home.is; joined = home.joined; shape_is = home.shape_is }
+  table_home s x (Host (Cut node first)) home =
+      cut_home s first (is_cut s.standing first || not (is_first first)) home
   table_home s x (Host (Closed cause)) home = closed_home s x (same_member s.standing.member x.member) home
   table_home s x _ home = blocks_home s x home
 
-  passed_if_home : (s : hosts.Host) (x : Signal) (barred : Bool) → IsHome me s → IsHome me (passed_if s x barred).state
+  passed_if_home : (s : hosts.Host) (x : Signal) (barred : Bool) → IsHome me shape s
+      → IsHome me shape (passed_if s x barred).state
   passed_if_home s x true home = home
   passed_if_home s x false home = table_home s x x.body home
 
-  passed_home : (s : hosts.Host) (x : Signal) → IsHome me s → IsHome me (passed_row s x).state
+  passed_home : (s : hosts.Host) (x : Signal) → IsHome me shape s → IsHome me shape (passed_row s x).state
   unfolding passed_row
   passed_home s x home = passed_if_home s x (is_barred s x) home
 
-  entering_home : (s : hosts.Host) (x : Signal) (excluded : Bool) → IsHome me s
-      → IsHome me (entering_if s x excluded).state
+  entering_home : (s : hosts.Host) (x : Signal) (excluded : Bool) → IsHome me shape s
+      → IsHome me shape (entering_if s x excluded).state
   entering_home s x true home = home
   entering_home s x false home = passed_home (entered s x.view).state x (entered_home s x.view home)
 
-  headed_if_home : (s : hosts.Host) (x : Signal) (newer : Bool) → IsHome me s → IsHome me (headed_if s x newer).state
+  headed_if_home : (s : hosts.Host) (x : Signal) (newer : Bool) → IsHome me shape s
+      → IsHome me shape (headed_if s x newer).state
   headed_if_home s x true home = entering_home s x (is_excluded s.standing x.view) home
   headed_if_home s x false home = passed_home s x home
 
-  headed_home : (s : hosts.Host) (x : Signal) → IsHome me s → IsHome me (headed_row s x).state
+  headed_home : (s : hosts.Host) (x : Signal) → IsHome me shape s → IsHome me shape (headed_row s x).state
   unfolding headed_row
   headed_home s x home = headed_if_home s x (nat_lt s.standing.view.number x.view.number) home
 
-  counted_home : (s : hosts.Host) (x : Signal) (left : Option ℕ) → IsHome me s → IsHome me (counted_row s x left).state
+  counted_home : (s : hosts.Host) (x : Signal) (left : Option ℕ) → IsHome me shape s
+      → IsHome me shape (counted_row s x left).state
   counted_home s x None home = headed_home s x home
   counted_home s x (Some zero) home = home
   counted_home s x (Some (suc zero)) home = home
   counted_home s x (Some (suc (suc left))) home =
       headed_home (standing_at s (killed_after s.standing (Some (suc left)))) x
-      (record { is = home.is; joined = home.joined })
+      (record { is = home.is; joined = home.joined; shape_is = home.shape_is })
 
-  taken_home : (s : hosts.Host) (x : Signal) (sound : Bool) → IsHome me s → IsHome me (taken_if s x sound).state
+  taken_home : (s : hosts.Host) (x : Signal) (sound : Bool) → IsHome me shape s
+      → IsHome me shape (taken_if s x sound).state
   taken_home s x true home = counted_home s x s.standing.left home
   taken_home s x false home = home
 
-  row_home : (s : hosts.Host) (x : Signal) → IsHome me s → IsHome me (host_row s x).state
+  row_home : (s : hosts.Host) (x : Signal) → IsHome me shape s → IsHome me shape (host_row s x).state
   unfolding host_row
   row_home s x home = taken_home s x (is_well_formed s.standing.shape x) home
 
-  by_home : (s : hosts.Host) (x : Signal) (cause : Option StopCause) → IsHome me s → IsHome me (step_if s x cause).state
+  by_home : (s : hosts.Host) (x : Signal) (cause : Option StopCause) → IsHome me shape s
+      → IsHome me shape (step_if s x cause).state
   by_home s x (Some cause) home = home
   by_home s x None home = row_home s x home
 
-  told_home : (h : ℕ) (t : Step hosts.Host) → IsHome me t.state → IsHome me (told h t)
-  told_home zero t home = record { is = home.is; joined = home.joined }
+  told_home : (h : ℕ) (t : Step hosts.Host) → IsHome me shape t.state → IsHome me shape (told h t)
+  told_home zero t home = record { is = home.is; joined = home.joined; shape_is = home.shape_is }
   told_home (suc h) t home = home
 
-  next_home : (h : ℕ) (s : hosts.Host) (x : Signal) → IsHome me s → IsHome me (told h (step_by h s x))
+  next_home : (h : ℕ) (s : hosts.Host) (x : Signal) → IsHome me shape s → IsHome me shape (told h (step_by h s x))
   next_home h s x home = told_home h (step_by h s x) (by_home s x (own_stop h x) home)
 
   -- who is a member of a view is among all of it
@@ -148,15 +163,16 @@ module _ (me : Member) where
     admitted true false events e some = absurd (some refl)
     admitted false false events e some = absurd cc
 
-    entering_has : (s : hosts.Host) (x : Signal) → IsHome me s
+    entering_has : (s : hosts.Host) (x : Signal) → IsHome me shape s
         → IsSomething (if is_excluded s.standing x.view then [] else entering_events mine s x)
         → IsIn me (all_of x.view)
     entering_has s x home some =
         member_there x.view
         (subst (λ (m : Member). is_member x.view m ≡ true) home.is
-        (admitted s.standing.has_joined (is_member x.view s.standing.member) (entering_events mine s x) home.joined some))
+        (admitted s.standing.has_joined (is_member x.view s.standing.member) (entering_events mine s x) home.joined
+        some))
 
-    headed_has : (s : hosts.Host) (x : Signal) → IsHome me s → s.standing.view.number < x.view.number
+    headed_has : (s : hosts.Host) (x : Signal) → IsHome me shape s → s.standing.view.number < x.view.number
         → IsSomething (headed_events mine s x) → IsIn me (all_of x.view)
     headed_has s x home above some =
         entering_has s x home
@@ -166,26 +182,29 @@ module _ (me : Member) where
         else passed_events mine s x))
         (lt-ltb s.standing.view.number x.view.number above) some)
 
-    counted_has : (s : hosts.Host) (x : Signal) (left : Option ℕ) → IsHome me s
-        → s.standing.view.number < x.view.number → IsSomething (counted_events mine s x left) → IsIn me (all_of x.view)
+    counted_has : (s : hosts.Host) (x : Signal) (left : Option ℕ) → IsHome me shape s
+        → s.standing.view.number < x.view.number → IsSomething (counted_events mine s x left)
+        → IsIn me (all_of x.view)
     counted_has s x None home above some = headed_has s x home above some
     counted_has s x (Some zero) home above some = absurd (some refl)
     counted_has s x (Some (suc zero)) home above some = absurd (some refl)
     counted_has s x (Some (suc (suc left))) home above some =
         headed_has (standing_at s (killed_after s.standing (Some (suc left)))) x
-        (record { is = home.is; joined = home.joined }) above some
+        (record { is = home.is; joined = home.joined; shape_is = home.shape_is }) above some
 
-    sound_has : (s : hosts.Host) (x : Signal) (sound : Bool) → IsHome me s → s.standing.view.number < x.view.number
+    sound_has : (s : hosts.Host) (x : Signal) (sound : Bool) → IsHome me shape s
+        → s.standing.view.number < x.view.number
         → IsSomething (sound_events mine s x sound) → IsIn me (all_of x.view)
     sound_has s x true home above some = counted_has s x s.standing.left home above some
     sound_has s x false home above some = absurd (some refl)
 
-    by_has : (s : hosts.Host) (x : Signal) (cause : Option StopCause) → IsHome me s
+    by_has : (s : hosts.Host) (x : Signal) (cause : Option StopCause) → IsHome me shape s
         → s.standing.view.number < x.view.number → IsSomething (events_by mine s x cause) → IsIn me (all_of x.view)
     by_has s x (Some cause) home above some = absurd (some refl)
     by_has s x None home above some = sound_has s x (is_well_formed s.standing.shape x) home above some
 
-    pub header_has : (h : ℕ) (s : hosts.Host) (x : Signal) → IsHome me s → s.standing.view.number < x.view.number
+    pub header_has : (h : ℕ) (s : hosts.Host) (x : Signal) → IsHome me shape s
+        → s.standing.view.number < x.view.number
         → IsSomething (events_at mine h s x) → IsIn me (all_of x.view)
     header_has h s x home above some = by_has s x (own_stop h x) home above some
 
@@ -202,23 +221,24 @@ module _ (start : Start) where
   unfolding is_member
   first_member me there = ap (λ (b : Bool). b || false) (any_in (members start.shape.nodes) me there)
 
-  part_home : (part : Part) (me : Member) → IsIn me (made start) → IsHome me (part_started start part me)
-  part_home Main me there = record { is = refl; joined = first_member me there }
-  part_home Tc me there = record { is = refl; joined = first_member me there }
-  part_home Ldm me there = record { is = refl; joined = first_member me there }
+  part_home : (part : Part) (me : Member) → IsIn me (made start) → IsHome me start.shape (part_started start part me)
+  part_home Main me there = record { is = refl; joined = first_member me there; shape_is = refl }
+  part_home Tc me there = record { is = refl; joined = first_member me there; shape_is = refl }
+  part_home Ldm me there = record { is = refl; joined = first_member me there; shape_is = refl }
 
-  started_home : (h : ℕ) → 1 ≤ h → h < world.hosts start → IsHome (member_at (made start) h) (started start h)
+  started_home : (h : ℕ) → 1 ≤ h → h < world.hosts start
+      → IsHome (member_at (made start) h) start.shape (started start h)
   started_home zero some low = absurd (omega (arith, some))
   started_home (suc k) some low =
       let me = member_at (made start) (suc k) in
-      subst (IsHome me) (sym (started_behind start k))
+      subst (IsHome me start.shape) (sym (started_behind start k))
       (part_home (part_by (k % 3)) me (host_made (suc k) some low))
 
   pub host_home : (h : ℕ) → 1 ≤ h → h < world.hosts start → (log : List HostStep)
-      → IsHome (member_at (made start) h) (after start h log)
+      → IsHome (member_at (made start) h) start.shape (after start h log)
   host_home h some low [] = started_home h some low
   host_home h some low (e ∷ log) =
-      next_home (member_at (made start) h) h (after start h log) e.step.taken (host_home h some low log)
+      next_home (member_at (made start) h) start.shape h (after start h log) e.step.taken (host_home h some low log)
 
   -- and they begin in a view with their members
   part_of : (part : Part) (me : Member) → IsIn me (made start)

@@ -115,12 +115,12 @@ module _ (start : Start) (logs : ℕ → List HostStep) (are : AreOfCluster star
       let new = events_at is_membership h s x in
       let before = (hosts_follow start me log there).view in
       let home =
-      subst (λ (m : Member). IsHome m s) (member_main start me there)
+      subst (λ (m : Member). IsHome m start.shape s) (member_main start me there)
       (host_home start h some low log) in
       subst (λ (v : View). IsIn me (all_of v)) (sym (hosts_follow start me (e ∷ log) there).view)
       (steps_of me there x old new (events_past is_membership start h past) (member_steps start me log x there)
       (λ above some.
-      header_has me is_membership h s x home
+      header_has me start.shape is_membership h s x home
       (subst (λ (v : View). v.number < x.view.number) (sym before) above) some)
       (subst (λ (v : View). IsIn me (all_of v)) before of))
 
@@ -143,7 +143,7 @@ module _ (start : Start) (logs : ℕ → List HostStep) (are : AreOfCluster star
       by (inl same) = subst (λ (v : View). IsIn me (all_of v)) (sym same) of
       by (inr entered) =
           subst (λ (v : View). IsIn me (all_of v)) (sym entered.1)
-          (header_has me is_membership h s x (host_home start h some low log) entered.0 happens)
+          (header_has me start.shape is_membership h s x (host_home start h some low log) entered.0 happens)
         where
           goes : view_after start h (e ∷ log)
               ≡ along to_view (view_after start h log) (events_at is_membership h s x)

@@ -1,10 +1,11 @@
--- A coordinator sends no vote, whatever it takes and whatever view is installed.
-use Rattle.std.proofs.Common.{◌==◌, ℕ, Bool, true, false, List, [], ◌∷◌, nat_lt, length, refl}
+-- A coordinator sends no vote, whatever it takes and whatever view is installed; it confirms its fence where it is
+-- asked to.
+use Rattle.std.proofs.Common.{◌==◌, ℕ, Bool, true, false, List, [], ◌∷◌, nat_lt, length, refl, inl, inr}
 use Rattle.run_theory.proofs.Pasts.{each_append}
 use Rattle.sig_core.specs.declared.signal.Body.{Body}
 use Rattle.sig_core.specs.declared.signal.Body.TheVariants.{Client, Epoch, Host, Membership}
 use Rattle.sig_core.specs.declared.signal.Signal.{Signal}
-use Rattle.sig_core.specs.declared.signal.client.ClientSignal.TheVariants.{TcRollbackReq}
+use Rattle.sig_core.specs.declared.signal.client.ClientSignal.TheVariants.{TcKeyReq, TcRollbackReq}
 use Rattle.sig_core.specs.declared.signal.epoch.EpochSignal.TheVariants.{DiVerifyConf}
 use Rattle.sig_core.specs.declared.signal.host.HostSignal.TheVariants.{Continue}
 use Rattle.sig_core.specs.declared.signal.host.Work.TheVariants.{Installation, Transaction}
@@ -16,7 +17,7 @@ use Rattle.tc_block.specs.Resume.{resume_step}
 use Rattle.tc_views.specs.Coordinator.{calm_row, calm_unless, coordinator_row, coordinator_table, is_to_fail}
 use Rattle.tc_views.specs.State.{CoordinatorState, go_on_if, within}
 use Rattle.tc_views.specs.Views.{fence_row, install_row, resume_by, resume_first, resume_if, resume_row, tasks_at}
-use Rattle.view_laws.proofs.VotesNone.{AreNoVotes, IsNoVote, SendsNoVote}
+use Rattle.view_laws.proofs.VotesNone.{AreNoVotes, AreQuiet, IsNoVote, SendsNoVote}
 use Rattle.view_laws.proofs.VotesTurns.{resume_none, tc_none}
 
 more_none : (node : ℕ) (b : Bool) → AreNoVotes (go_on_if node b)
@@ -49,19 +50,24 @@ resumes_none s number = by (number == s.number)
     by true = left_none s s.left
     by false = tt
 
-table_none : (s : CoordinatorState) (number : ℕ) (body : Body) → SendsNoVote (coordinator_table s number body)
+table_quiet : (s : CoordinatorState) (number : ℕ) (body : Body)
+    → AreQuiet s.tc.node body (coordinator_table s number body).effects.sends
 unfolding fence_row
-table_none s number (Membership (FenceReq proposal)) = (refl, tt)
-table_none s number (Host (Continue Installation at)) = resumes_none s number
-table_none s number (Host (Continue (Transaction tx) at)) =
-    unless_none s (Host (Continue (Transaction tx) at)) (nat_lt number s.number)
-table_none s number (Epoch (DiVerifyConf tx epoch)) =
-    unless_none s (Epoch (DiVerifyConf tx epoch)) (is_among s.doomed tx)
-table_none s number (Client (TcRollbackReq tx)) = unless_none s (Client (TcRollbackReq tx)) (is_to_fail s.left tx)
-table_none s number body = calm_none s body
+table_quiet s number (Membership (FenceReq proposal)) = inr (refl, refl)
+table_quiet s number (Host (Continue Installation at)) = inl (resumes_none s number)
+table_quiet s number (Host (Continue (Transaction tx) at)) =
+    inl (unless_none s (Host (Continue (Transaction tx) at)) (nat_lt number s.number))
+table_quiet s number (Epoch (DiVerifyConf tx epoch)) =
+    inl (unless_none s (Epoch (DiVerifyConf tx epoch)) (is_among s.doomed tx))
+table_quiet s number (Client (TcKeyReq tx op)) =
+    inl (unless_none s (Client (TcKeyReq tx op)) (is_to_fail s.left tx))
+table_quiet s number (Client (TcRollbackReq tx)) =
+    inl (unless_none s (Client (TcRollbackReq tx)) (is_to_fail s.left tx))
+table_quiet s number body = inl (calm_none s body)
 
-pub coordinator_none : (s : CoordinatorState) (x : Signal) → SendsNoVote (coordinator_row s x)
-coordinator_none s x = table_none s x.view.number x.body
+pub coordinator_quiet : (s : CoordinatorState) (x : Signal)
+    → AreQuiet s.tc.node x.body (coordinator_row s x).effects.sends
+coordinator_quiet s x = table_quiet s x.view.number x.body
 
 pub coordinator_installs_none : (s : CoordinatorState) (view : View) → SendsNoVote (install_row s view)
 unfolding install_row

@@ -1,5 +1,6 @@
--- The epochs of a node send no vote, whatever they take and whatever view is installed.
-use Rattle.std.proofs.Common.{◌==◌, ◌+◌, ◌++◌, ℕ, Bool, true, false, nat_le, nat_lt, length, refl}
+-- The epochs of a node send no vote, whatever they take and whatever view is installed; they confirm their fence where
+-- they are asked to.
+use Rattle.std.proofs.Common.{◌==◌, ◌+◌, ◌++◌, ℕ, Bool, true, false, nat_le, nat_lt, length, refl, inl, inr}
 use Rattle.std.specs.Prelude.{Option, None, Some, remove, slice_get}
 use Rattle.run_theory.proofs.Pasts.{each_append}
 use Rattle.sig_core.specs.declared.member.TxId.{TxId}
@@ -18,7 +19,7 @@ use Rattle.dih_node.specs.Dih.{dih_row, dih_table, epoch_table}
 use Rattle.dih_node.specs.Orders.{close_row, commit_if, commit_row, committed, copy_row, done_row, fence_row, greater, install_row, noting, prepare_row, serving, state_row}
 use Rattle.dih_node.specs.State.{DihState, can_serve, gives, go_on_if, is_unfinished}
 use Rattle.dih_node.specs.Verify.{end_row, ended, given, report_by, report_if, reported, serve_by, serve_if, serve_row, take_if, verify_if, verify_row}
-use Rattle.view_laws.proofs.VotesNone.{AreNoVotes, IsNoVote, SendsNoVote}
+use Rattle.view_laws.proofs.VotesNone.{AreNoVotes, AreQuiet, IsNoVote, SendsNoVote}
 
 more_none : (node : ℕ) (b : Bool) → AreNoVotes (go_on_if node b)
 more_none node true = (refl, tt)
@@ -96,15 +97,16 @@ epochs_none s from (GcpDone epoch) = tt
 epochs_none s from GcpStateReq = (refl, tt)
 epochs_none s from _ = tt
 
-table_none : (s : DihState) (from number : ℕ) (body : Body) → SendsNoVote (dih_table s from number body)
+table_quiet : (s : DihState) (from number : ℕ) (body : Body)
+    → AreQuiet s.node body (dih_table s from number body).effects.sends
 unfolding fence_row
-table_none s from number (Host (Continue Held at)) = serve_none s number
-table_none s from number (Membership (FenceReq proposal)) = (refl, tt)
-table_none s from number (Epoch signal) = epochs_none s from signal
-table_none s from number _ = tt
+table_quiet s from number (Host (Continue Held at)) = inl (serve_none s number)
+table_quiet s from number (Membership (FenceReq proposal)) = inr (refl, refl)
+table_quiet s from number (Epoch signal) = inl (epochs_none s from signal)
+table_quiet s from number _ = inl tt
 
-pub dih_none : (s : DihState) (x : Signal) → SendsNoVote (dih_row s x)
-dih_none s x = table_none s x.member.node x.view.number x.body
+pub dih_quiet : (s : DihState) (x : Signal) → AreQuiet s.node x.body (dih_row s x).effects.sends
+dih_quiet s x = table_quiet s x.member.node x.view.number x.body
 
 pub dih_installs_none : (s : DihState) (number : ℕ) → SendsNoVote (install_row s number)
 unfolding install_row

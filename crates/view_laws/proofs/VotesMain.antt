@@ -51,7 +51,7 @@ row_said P (Tc p) q x is of = absurd cc
 row_said P (Ldm p) q x is of = absurd cc
 
 -- a view is installed in the membership
-entered_in : (parts : Parts) (q : QmgrState) (view : View) → membership_in parts ≡ Some q
+pub entered_in : (parts : Parts) (q : QmgrState) (view : View) → membership_in parts ≡ Some q
     → membership_in (parts_entered parts view).state ≡ Some (qmgr_installed q view).state
 entered_in (Main p) q view is =
     let same : p.qmgr ≡ q = cc in

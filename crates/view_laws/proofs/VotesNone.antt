@@ -1,5 +1,5 @@
--- What is neither a vote nor a request for a fence, and lists of sends, of which one event sends a part.
-use Rattle.std.proofs.Common.{◌≡◌, ◌+◌, ℕ, Bool, true, false, List, take, drop, length, nat_lt, refl, ap, ◌||◌}
+-- What is neither a vote nor of a fence, and lists of sends, of which one event sends a part.
+use Rattle.std.proofs.Common.{◌≡◌, ◌⊎◌, ◌+◌, ℕ, Bool, true, false, List, [], ◌∷◌, take, drop, length, nat_lt, refl, ap, ◌||◌}
 use Rattle.run_theory.specs.Lists.{Each}
 use Rattle.run_theory.proofs.EachSent.{each_drop, each_take}
 use Rattle.run_theory.proofs.Pasts.{each_append}
@@ -9,9 +9,10 @@ use Rattle.sig_core.specs.declared.portion.TheConstants.{PORTION}
 use Rattle.sig_core.specs.declared.signal.Body.{Body}
 use Rattle.sig_core.specs.declared.signal.Body.TheVariants.{Membership}
 use Rattle.sig_core.specs.declared.signal.host.Work.{Work}
-use Rattle.sig_core.specs.declared.signal.membership.MembershipSignal.TheVariants.{FenceReq}
+use Rattle.sig_core.specs.declared.signal.membership.MembershipSignal.TheVariants.{FenceConf, FenceReq}
+use Rattle.sig_core.specs.Place.{membership}
 use Rattle.sig_core.specs.Portion.{portion_effects, rest_if}
-use Rattle.sig_core.specs.Step.{Step}
+use Rattle.sig_core.specs.Step.{Step, to_place}
 use Rattle.view_laws.specs.Votes.{is_vote}
 
 -- a request for a fence
@@ -19,17 +20,26 @@ abbrev pub is_fencing : Body → Bool
 is_fencing (Membership (FenceReq set)) = true
 is_fencing body = false
 
--- what memberships alone tell of views, and the arbitrator
+-- a fence is confirmed
+abbrev pub is_confirming : Body → Bool
+is_confirming (Membership FenceConf) = true
+is_confirming body = false
+
+-- either of them
+abbrev pub is_of_fence : Body → Bool
+is_of_fence body = is_fencing body || is_confirming body
+
+-- what memberships tell of views, and the arbitrator, and other blocks but to confirm a fence
 abbrev pub is_told : Body → Bool
-is_told body = is_vote body || is_fencing body
+is_told body = is_vote body || is_of_fence body
 
 pub vote_told : (body : Body) → is_vote body ≡ true → is_told body ≡ true
-vote_told body vote = ap (λ b. b || is_fencing body) vote
+vote_told body vote = ap (λ b. b || is_of_fence body) vote
 
 pub untold_vote : (body : Body) → is_told body ≡ false → is_vote body ≡ false
 untold_vote body off = by (is_vote body) off
   where
-    by : (b : Bool) → (b || is_fencing body) ≡ false → b ≡ false
+    by : (b : Bool) → (b || is_of_fence body) ≡ false → b ≡ false
     by true off = off
     by false off = refl
 
@@ -43,6 +53,14 @@ AreNoVotes sends = Each IsNoVote sends
 -- a step sends no vote
 abbrev pub SendsNoVote : {S : Type 0} → Step S → Type 0
 SendsNoVote step = AreNoVotes step.effects.sends
+
+-- the signal by which a block of a node confirms its fence
+abbrev pub confirmation : ℕ → Outgoing
+confirmation node = to_place (membership node) (Membership FenceConf)
+
+-- what a block sends at a signal that is no membership of a node, nor the arbitrator: no vote, or it confirms a fence
+abbrev pub AreQuiet : ℕ → Body → List Outgoing → Type 0
+AreQuiet node body sends = AreNoVotes sends ⊎ ((is_fencing body ≡ true) × (sends ≡ confirmation node ∷ []))
 
 rest_none : (by : Place) (work : Work) (at : ℕ) (b : Bool) → AreNoVotes (rest_if by work at b)
 rest_none by work at true = (refl, tt)

@@ -1,5 +1,6 @@
--- What the blocks of a part send is no vote, but for what the membership and the arbitrator do at their signals.
-use Rattle.std.proofs.Common.{◌≡◌, Bool, true, false, refl}
+-- What the blocks of a part send is no vote, but for what the membership and the arbitrator do at their signals, and
+-- where fences are confirmed.
+use Rattle.std.proofs.Common.{◌≡◌, ℕ, Bool, true, false, refl, inl}
 use Rattle.std.specs.Prelude.{None}
 use Rattle.run_theory.proofs.Pasts.{each_append}
 use Rattle.sig_core.specs.declared.member.Member.{Member}
@@ -19,10 +20,10 @@ use Rattle.qmgr_block.specs.Qmgr.{qmgr_installed}
 use Rattle.qmgr_block.specs.State.{QmgrState}
 use Rattle.tc_views.specs.Views as coordinator
 use Rattle.view_laws.specs.Votes.{arbiter_in, membership_in}
-use Rattle.view_laws.proofs.VotesCoordinator.{coordinator_installs_none, coordinator_none}
-use Rattle.view_laws.proofs.VotesEpochs.{dih_installs_none, dih_none}
-use Rattle.view_laws.proofs.VotesNone.{AreNoVotes, IsNoVote, SendsNoVote}
-use Rattle.view_laws.proofs.VotesRows.{replica_none}
+use Rattle.view_laws.proofs.VotesCoordinator.{coordinator_installs_none, coordinator_quiet}
+use Rattle.view_laws.proofs.VotesEpochs.{dih_installs_none, dih_quiet}
+use Rattle.view_laws.proofs.VotesNone.{AreNoVotes, AreQuiet, IsNoVote, SendsNoVote}
+use Rattle.view_laws.proofs.VotesRows.{replica_quiet}
 use Rattle.view_laws.proofs.VotesTakeover.{takeover_none}
 
 left_none : (me : Member) (b c : Bool) → AreNoVotes (left_by me b c)
@@ -46,26 +47,34 @@ entered_none (Tc p) view =
     (dih_installs_none p.dih view.number)
 entered_none (Ldm p) view = tt
 
--- at a signal
-tc_none : (p : TcPart) (b : BlockId) (x : Signal) → SendsNoVote (tc_row p b x)
-unfolding tc_row
-tc_none p block.Tc x = coordinator_none p.coordinator x
-tc_none p block.Takeover x = takeover_none p.takeover x
-tc_none p block.Dih x = dih_none p.dih x
-tc_none p _ x = tt
+-- the node that a block of these parts knows as its own
+abbrev pub own_node : Parts → BlockId → ℕ
+own_node (Tc p) block.Dih = p.dih.node
+own_node (Tc p) b = p.coordinator.tc.node
+own_node (Ldm p) b = p.replica.lqh.node
+own_node _ b = 0
 
-ldm_none : (p : LdmPart) (b : BlockId) (x : Signal) → SendsNoVote (ldm_row p b x)
+-- at a signal
+tc_quiet : (p : TcPart) (b : BlockId) (x : Signal) → AreQuiet (own_node (Tc p) b) x.body (tc_row p b x).effects.sends
+unfolding tc_row
+tc_quiet p block.Tc x = coordinator_quiet p.coordinator x
+tc_quiet p block.Takeover x = inl (takeover_none p.takeover x)
+tc_quiet p block.Dih x = dih_quiet p.dih x
+tc_quiet p _ x = inl tt
+
+ldm_quiet : (p : LdmPart) (b : BlockId) (x : Signal)
+    → AreQuiet (own_node (Ldm p) b) x.body (ldm_row p b x).effects.sends
 unfolding ldm_row
-ldm_none p block.Lqh x = replica_none p.replica x
-ldm_none p _ x = tt
+ldm_quiet p block.Lqh x = replica_quiet p.replica x
+ldm_quiet p _ x = inl tt
 
 -- a part that runs neither of them
-pub others_none : (parts : Parts) (x : Signal) → membership_in parts ≡ None → arbiter_in parts ≡ None
-    → SendsNoVote (parts_row parts x)
-others_none (Shell p) x no_membership no_arbiter = absurd cc
-others_none (Main p) x no_membership no_arbiter = absurd cc
-others_none (Tc p) x no_membership no_arbiter = tc_none p x.to.block x
-others_none (Ldm p) x no_membership no_arbiter = ldm_none p x.to.block x
+pub others_quiet : (parts : Parts) (x : Signal) → membership_in parts ≡ None → arbiter_in parts ≡ None
+    → AreQuiet (own_node parts x.to.block) x.body (parts_row parts x).effects.sends
+others_quiet (Shell p) x no_membership no_arbiter = absurd cc
+others_quiet (Main p) x no_membership no_arbiter = absurd cc
+others_quiet (Tc p) x no_membership no_arbiter = tc_quiet p x.to.block x
+others_quiet (Ldm p) x no_membership no_arbiter = ldm_quiet p x.to.block x
 
 -- an installation doesn't change that
 pub still_others : (parts : Parts) (view : View) → membership_in parts ≡ None → arbiter_in parts ≡ None

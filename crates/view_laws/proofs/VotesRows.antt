@@ -1,5 +1,5 @@
--- The rows of a node send no vote, whatever they take.
-use Rattle.std.proofs.Common.{◌==◌, ◌∙◌, ℕ, Bool, true, false, List, [], ◌∷◌, map, refl, ap}
+-- The rows of a node send no vote, whatever they take; they confirm their fence where they are asked to.
+use Rattle.std.proofs.Common.{◌==◌, ◌∙◌, ℕ, Bool, true, false, List, [], ◌∷◌, map, refl, ap, inl, inr}
 use Rattle.std.specs.Prelude.{Option, None, Some}
 use Rattle.sig_core.specs.declared.outs.Outgoing.{Outgoing}
 use Rattle.sig_core.specs.declared.rows.PendingRecord.{PendingRecord}
@@ -25,7 +25,7 @@ use Rattle.lqh_views.specs.Replica.{is_stale, passed, replica_by, replica_row, s
 use Rattle.lqh_views.specs.Report.{go_on_by, is_orphaned_marker, is_orphaned_record, last_before, marker_by, record_by, reporting, told_record_if}
 use Rattle.lqh_views.specs.State.{ReplicaState}
 use Rattle.lqh_views.proofs.AddressLemmas.{same-body}
-use Rattle.view_laws.proofs.VotesNone.{AreNoVotes, IsNoVote, SendsNoVote, is_told}
+use Rattle.view_laws.proofs.VotesNone.{AreNoVotes, AreQuiet, IsNoVote, SendsNoVote, is_told}
 
 -- a request that is performed
 request_none : (r : Request) → RequestSends IsNoVote r
@@ -98,14 +98,16 @@ epochs_none s from (GcpSaveReq epoch) = (refl, tt)
 epochs_none s from GcpStateReq = (refl, tt)
 epochs_none s from _ = tt
 
-replica_by_none : (s : ReplicaState) (x : Signal) (body : Body) → SendsNoVote (replica_by s x body)
-replica_by_none s x (Membership (FenceReq proposal)) = (refl, tt)
-replica_by_none s x (Takeover LqhTransReq) = reports_none s _
-replica_by_none s x (Host (Continue Report at)) = goes_on_none s (x.view.number == s.lqh.layout.view.number) s.report
-replica_by_none s x (Host (Continue Granted at)) = serve_none s x (is_stale s x)
-replica_by_none s x (Host (Continue Expired at)) = serve_none s x (is_stale s x)
-replica_by_none s x (Epoch signal) = epochs_none s x.member.node signal
-replica_by_none s x _ = passed_none s x
+by_quiet : (s : ReplicaState) (x : Signal) (body : Body)
+    → AreQuiet s.lqh.node body (replica_by s x body).effects.sends
+by_quiet s x (Membership (FenceReq proposal)) = inr (refl, refl)
+by_quiet s x (Takeover LqhTransReq) = inl (reports_none s _)
+by_quiet s x (Host (Continue Report at)) =
+    inl (goes_on_none s (x.view.number == s.lqh.layout.view.number) s.report)
+by_quiet s x (Host (Continue Granted at)) = inl (serve_none s x (is_stale s x))
+by_quiet s x (Host (Continue Expired at)) = inl (serve_none s x (is_stale s x))
+by_quiet s x (Epoch signal) = inl (epochs_none s x.member.node signal)
+by_quiet s x _ = inl (passed_none s x)
 
-pub replica_none : (s : ReplicaState) (x : Signal) → SendsNoVote (replica_row s x)
-replica_none s x = replica_by_none s x x.body
+pub replica_quiet : (s : ReplicaState) (x : Signal) → AreQuiet s.lqh.node x.body (replica_row s x).effects.sends
+replica_quiet s x = by_quiet s x x.body

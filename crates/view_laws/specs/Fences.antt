@@ -11,7 +11,8 @@ use Rattle.world_core.specs.Hosts.{host_of}
 use Rattle.world_core.specs.Start.{Start, made}
 use Rattle.world_core.specs.Steps.{HostStep}
 use Rattle.world_views.specs.Machine.{after}
-use Rattle.view_laws.specs.Runs.{AreOfCluster, ballots_of, view_after}
+use Rattle.view_laws.specs.Runs.{AreOfCluster, WasInstalled, ballots_of, view_after}
+use Rattle.view_laws.specs.Sets.{all_of}
 
 -- the blocks that are fenced
 abbrev pub IsFenced : BlockId → Type 0
@@ -43,3 +44,10 @@ RaisedFencesWerePromised =
     → (let h = host_of (made start) (part_of at) member in
     (view_after start h (logs h)).number < fence_after start h (logs h) at
     → WasPromised start logs member (fence_after start h (logs h) at))
+
+-- where a view was installed by any host, each fenced block of each of its members has been fenced at its number
+abbrev pub EachViewIsFenced : Type 0
+EachViewIsFenced =
+    (start : Start) (logs : ℕ → List HostStep) → AreOfCluster start logs → (view : View) → WasInstalled start logs view
+    → (member : Member) → IsIn member (all_of view) → (at : BlockId) → IsFenced at
+    → (let h = host_of (made start) (part_of at) member in view.number ≤ fence_after start h (logs h) at)

@@ -1,12 +1,14 @@
 pub mod Ballots
 pub mod Chain
 pub mod Events
+pub mod Fenced
 pub mod Fences
 pub mod Grants
 pub mod Heard
 pub mod HostEvents
 pub mod Kept
 pub mod Members
+pub mod Order
 pub mod Orderly
 pub mod Runs
 pub mod Sets

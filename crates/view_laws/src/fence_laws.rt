@@ -1,5 +1,6 @@
 //! Fences, by which the blocks of a member drop what comes from older views.
-ghost use Rattle.view_laws.specs.Fences.{FencesAreNotBelow, RaisedFencesWerePromised};
+ghost use Rattle.view_laws.specs.Fenced.{FencedSignalsChangeNothing};
+ghost use Rattle.view_laws.specs.Fences.{EachViewIsFenced, FencesAreNotBelow, RaisedFencesWerePromised};
 
 /// The fence of a block isn't below the view that its host stands in.
 pub fn fences_are_not_below()
@@ -9,4 +10,16 @@ pub fn fences_are_not_below()
 /// A fence above that view is of a set that the member has promised.
 pub fn raised_fences_were_promised()
     ensures { RaisedFencesWerePromised }
+{}
+
+/// Where a view was installed, each fenced block of each of its members has a fence that isn't below
+/// its number.
+pub fn each_view_is_fenced()
+    ensures { EachViewIsFenced }
+{}
+
+/// What comes to a block from a view below its fence, and is of a kind that fences stop, changes
+/// nothing at its host.
+pub fn fenced_signals_change_nothing()
+    ensures { FencedSignalsChangeNothing }
 {}

@@ -15,5 +15,5 @@ pub stamped : (start : Start) → IsStamped (machine start)
 stamped start =
     record {
       sends = λ h log e. stamped_all start (first_membership start) h e.step.stamp (sent_count start h log) (step_after start h log e).effects.sends;
-      closing = λ e j. refl;
+      closing = λ h log e j. refl;
     }

@@ -108,7 +108,7 @@ machine start =
       Fits = λ h log e. FitsRow start h log e;
       sends = λ h log e. signals_of start h log e;
       stops = λ e. false;
-      closing = λ e j. record { to = j; signal = record e.step.taken { stamp = e.step.stamp } };
+      closing = λ h log e j. record { to = j; signal = record e.step.taken { stamp = e.step.stamp } };
       made = λ h. 0;
       Makes = λ h log e. ⊥;
     }

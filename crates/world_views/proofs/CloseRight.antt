@@ -11,7 +11,9 @@ use Rattle.sig_core.specs.declared.member.HostId.{HostId}
 use Rattle.sig_core.specs.declared.outs.Outgoing.{Outgoing}
 use Rattle.sig_core.specs.declared.reply.ApiReply.{ApiReply}
 use Rattle.sig_core.specs.declared.signal.Signal.{Signal}
+use Rattle.sig_core.specs.declared.view.View.{View}
 use Rattle.sig_core.specs.Step.{Effects, Step}
+use Rattle.api_views.specs.Members.{greater_view}
 use Rattle.node_views.specs.declared.host.Host.{Host}
 use Rattle.node_views.specs.Row.{is_cut, is_one_of}
 use Rattle.world_core.proofs.HostNumbers.{members_length}
@@ -20,7 +22,7 @@ use Rattle.world_core.specs.Start.{Start, made}
 use Rattle.world_core.specs.Steps.{Addressed, HostStep}
 use Rattle.world_core.specs.World.{logs_at}
 use Rattle.world_views.specs.Links.{AreLinks, LinkState, Links, close_below, closed_by, link, lose, put_all, without}
-use Rattle.world_views.specs.Machine.{after, closing_signal, has_cut, has_stopped, machine, sender, sent_count, step_by, stops_by, told}
+use Rattle.world_views.specs.Machine.{after, closing_signal, closing_view, has_cut, has_stopped, machine, sender, sent_count, step_by, stops_by, told}
 use Rattle.world_views.specs.Right.{IsHeld, IsLinked, IsOpen, holds_by, on_link, stopped_holds}
 use Rattle.world_views.specs.Sending.{count_routed, routed_all}
 use Rattle.world_views.specs.World.{Whole, is_unclosed, step_made}
@@ -61,17 +63,20 @@ module _ (start : Start) (h j lost : ℕ) (log : List HostStep) (e : HostStep) (
       subst (λ (all : List Addressed). IsPast (on_link j (without lost l) ++ before) all)
       (was ∙ sym (sent_stopping start h j log e stops)) (lost_past j lost l before)
 
+  -- its closing
+  abbrev last : Signal
+  last = closing_signal (made start) (closing_view start h log e) e j
+
   -- and so the link holds what that of a stopped host does
   ended_holds : (cut : Bool)
       → stopped_holds cut start h j (e ∷ log)
-      (on_link j (ended_if cut (closing_signal (made start) e j) (without lost l)) ++ before)
+      (on_link j (ended_if cut last (without lost l)) ++ before)
   ended_holds true = left_past
   ended_holds false =
       record {
         stops = stops;
         rest = on_link j (without lost l) ++ before;
-        is = ap (λ (xs : List Addressed). xs ++ before)
-            (closed_on j (closing_signal (made start) e j) (without lost l));
+        is = ap (λ (xs : List Addressed). xs ++ before) (closed_on j last (without lost l));
         past = left_past;
       }
 
@@ -104,8 +109,11 @@ module _ (start : Start) (given : List ApiReply) (w : Whole) (lost : ℕ) (x : A
   abbrev stays : ℕ → Bool
   stays = is_unclosed x.to (told x.to t).standing
 
+  abbrev last_in : View → ℕ → Signal
+  last_in view j = closing_signal (made start) (greater_view view x.signal.view) e j
+
   abbrev last_to : ℕ → Signal
-  last_to j = closing_signal (made start) e j
+  last_to j = last_in (after start x.to (e ∷ older)).standing.view j
 
   abbrev shorter : Links
   shorter = lose w.links x.to lost
@@ -120,8 +128,10 @@ module _ (start : Start) (given : List ApiReply) (w : Whole) (lost : ℕ) (x : A
       let by = sender (made start) x.to (step_made w x t).stamp standing.view in
       ap (λ (sends : List Outgoing).
       close_below (length (made start) * 3 + 1)
-      (lose (put_all w.links by (routed_all (made start) x.to standing sends)) x.to lost) x.to stays last_to)
+      (lose (put_all w.links by (routed_all (made start) x.to standing sends)) x.to lost) x.to stays
+      (last_in standing.view))
       silent
+      ∙ ap (λ (view : View). close_below (length (made start) * 3 + 1) shorter x.to stays (last_in view)) ready.step.view
 
   shorter_are : AreLinks (hosts start) shorter
   shorter_are = lose_links (hosts start) w.links x.to lost ready.sizes.links

@@ -8,6 +8,7 @@ use Rattle.sig_core.specs.declared.reply.ApiReply.{ApiReply}
 use Rattle.sig_core.specs.declared.signal.Body.TheVariants as body
 use Rattle.sig_core.specs.declared.signal.host.HostSignal.TheVariants.{Closed}
 use Rattle.sig_core.specs.Step.{Step}
+use Rattle.api_views.specs.Members.{greater_view}
 use Rattle.node_views.specs.declared.host.Host.{Host}
 use Rattle.node_views.specs.declared.standing.Standing.{Standing}
 use Rattle.node_views.specs.Fresh.{fresh_shell}
@@ -35,7 +36,7 @@ module _ (w : Whole) (lost : ℕ) (x : Addressed) (t : Step Host) where
   links_by true made standing =
       close_below (length made * 3 + 1) (lose (sent_links made standing) x.to lost) x.to (is_unclosed x.to standing)
       (λ j.
-      headed (sender made x.to (step_made w x t).stamp x.signal.view) 0
+      headed (sender made x.to (step_made w x t).stamp (greater_view standing.view x.signal.view)) 0
       (record { to = front_of made j; body = body.Host (Closed (cause_in t.effects.marks)) }))
   links_by false made standing = sent_links made standing
 

@@ -102,7 +102,8 @@ module _ (n m : ℕ) (h : ℕ) (stays : ℕ → Bool) (closing : ℕ → Signal)
 module _ (start : Start) (given : List ApiReply) (w : Whole) (right : IsRight start given w) (h : ℕ) (there : h < hosts start)
     (runs : has_stopped (logs_at w.logs h) ≡ false) (some : 1 ≤ h) (cause : StopCause) (own : IsOwnCause cause) where
   -- no host but its own is what it wasn't
-  module _ (left : Host) (cut : left.standing.cut ≡ (body_at w.bodies h).standing.cut) where
+  module _ (left : Host) (cut : left.standing.cut ≡ (body_at w.bodies h).standing.cut)
+      (view : left.standing.view ≡ (body_at w.bodies h).standing.view) where
     abbrev pub bodies : List Host
     bodies = slice_set w.bodies h left
 
@@ -125,7 +126,7 @@ module _ (start : Start) (given : List ApiReply) (w : Whole) (right : IsRight st
         (λ k low other. get_or-set_other w.bodies h k left
         (fresh_shell (first_layout (record { nodes = 0; replicas = 0; fragments = 0 })))
         (λ same. absurd (true≢false (sym (eq-eqb h k (sym same)) ∙ other))))
-        (ap (λ (s : Host). s.standing.cut) left_is ∙ cut)
+        (ap (λ (s : Host). s.standing.cut) left_is ∙ cut) (ap (λ (s : Host). s.standing.view) left_is ∙ view)
 
     pub failing_driven : IsDriven start w (halted (with_body w h left) h (body_at w.bodies h).standing.view cause 0)
     failing_driven =
@@ -165,18 +166,18 @@ module _ (start : Start) (given : List ApiReply) (w : Whole) (right : IsRight st
 
   -- the host had no memory, or no stamp, for its step
   pub fail_driven : (t : Whole) → HasFailed w h cause t → IsDriven start w t
-  fail_driven t failed = subst (IsDriven start w) (sym failed.is) (failing_driven failed.left failed.cut)
+  fail_driven t failed = subst (IsDriven start w) (sym failed.is) (failing_driven failed.left failed.cut failed.view)
 
   -- for the step by which it took a signal of a link
   pub lost_driven : (new : Links) (i : ℕ) (t : Whole) → i < hosts start → IsShortened (hosts start) w.links new i h
       → HasFailed (with_links w new) h cause t → IsDriven start w t
   lost_driven new i t i_low short failed =
-      subst (IsDriven start w) (sym failed.is) (losing_driven failed.left failed.cut new i i_low short)
+      subst (IsDriven start w) (sym failed.is) (losing_driven failed.left failed.cut failed.view new i i_low short)
 
   -- a schedule has it stop, with so many signals lost
   pub stop_driven : (lost : ℕ) → IsDriven start w (halted w h (body_at w.bodies h).standing.view cause lost)
   stop_driven lost =
       entered_driven start given w w.bodies w.links lost (asking w h (body.Host (Closed cause)))
       (stopping (body_at w.bodies h) cause) right
-      (λ others was. halt_ready start others w was h there runs w.bodies cause some own was.sizes.bodies (λ k low other. refl) refl)
+      (λ others was. halt_ready start others w was h there runs w.bodies cause some own was.sizes.bodies (λ k low other. refl) refl refl)
       (λ shell. absurd (omega (arith, some, eqb-true h 0 shell)))

@@ -2,7 +2,7 @@
 use Rattle.std.proofs.Common.{◌≡◌, inl, inr, ℕ, zero, suc, ◌<◌, ◌≤◌, List, ◌++◌, length, Bool, true, false, refl, ap, sym, ◌∙◌, subst}
 use Rattle.std.specs.Prelude.{Err, get_or, IfSome, is_some, MatchOption, nat_lt, None, Ok, OnOk, Option, Result, slice_set, Some, ◌^◌}
 use Rattle.std.proofs.lemmas.Bool.{lt-ltb, true≢false}
-use Rattle.std.proofs.lemmas.List.{get_or-set_same, get_or_read, set-set}
+use Rattle.std.proofs.lemmas.List.{get_or-set_same, get_or_read, length-set, set-set}
 use Rattle.frag_map.specs.Layout.{first_layout}
 use Rattle.sig_core.specs.declared.log.HostLog.{HostLog}
 use Rattle.sig_core.specs.declared.mark.Mark.{Mark}
@@ -19,11 +19,15 @@ use Rattle.world_core.specs.Steps.{Addressed}
 use Rattle.world_core.specs.World.{next_stamp, with_step}
 use Rattle.world_views.specs.Machine.{cause_in, own_stop, replies_at, step_by, step_if, stops_by, told}
 use Rattle.world_views.specs.Schedule.{HasTaken, is_discarded, taken_if}
-use Rattle.world_views.specs.World.{body_at, closing, closing_if, entered, halted, handled_by, HasHandled, is_stamp, logged, sending, step_made, telling, Whole, with_body}
+use Rattle.world_views.specs.World.{body_at, closing, closing_if, entered, halted, handled_by, HasHandled, is_stamp, logged, sending, step_made, stopped, telling, Whole, with_body}
 
 -- a host where there is none
 abbrev nobody : Host
 nobody = fresh_shell (first_layout (record { nodes = 0; replicas = 0; fragments = 0 }))
+
+-- what was read of the hosts
+pub body_read : (bodies : List Host) (h : ℕ) (s : Host) → h < length bodies → s ≡ get_or bodies h s → s ≡ body_at bodies h
+body_read bodies h s there is = get_or_read bodies h s there is nobody
 
 -- the world behind a step, where the hosts are these then
 abbrev pub entered_in : Whole → ℕ → Addressed → Step Host → List Host → Whole
@@ -64,20 +68,38 @@ has_moved (Ok done) w u x s out stamp there taken plain is =
     (inl (is ∙ ap (λ (t : Step Host). entered (with_body w x.to s) 0 x t) (row_taken w x s out there taken plain)
     ∙ entered_over w 0 x s (step_by x.to (body_at w.bodies x.to) x.signal)))
 
--- it had no memory, and is this now
-pub has_no_memory : (result : Result (Unit {0}) NoMemory) (w u : Whole) (x : Addressed) (s : Host) (view : View)
-    → is_stamp (next_stamp w.stamps x.to x.signal.stamp) ≡ true
-    → view ≡ (body_at w.bodies x.to).standing.view → s.standing.cut ≡ (body_at w.bodies x.to).standing.cut
-    → OnOk result (1 ≤ x.to) → OnOk result (u ≡ halted (with_body w x.to s) x.to view Memory 0) → OnOk result (HasHandled w x u)
-has_no_memory (Err fault) w u x s view stamp is cut some failed = tt
-has_no_memory (Ok done) w u x s view stamp is cut some failed =
+-- a host with the view that it had before
+abbrev put_back : Host → View → Host
+put_back s view = record s { standing = record s.standing { view = view } }
+
+-- it had no memory, and is this now, in that view
+pub has_no_memory : (result : Result (Unit {0}) NoMemory) (w u : Whole) (x : Addressed) (left again : Host) (view : View)
+    → x.to < length w.bodies → is_stamp (next_stamp w.stamps x.to x.signal.stamp) ≡ true
+    → again ≡ get_or (slice_set w.bodies x.to left) x.to again → view ≡ (body_at w.bodies x.to).standing.view
+    → left.standing.cut ≡ (body_at w.bodies x.to).standing.cut → OnOk result (1 ≤ x.to)
+    → OnOk result (u ≡ stopped (with_body (with_body w x.to left) x.to (put_back again view)) x.to Memory 0)
+    → OnOk result (HasHandled w x u)
+has_no_memory (Err fault) w u x left again view there stamp read seen cut some failed = tt
+has_no_memory (Ok done) w u x left again view there stamp read seen cut some failed =
+    let h = x.to in
+    let s = put_back left view in
+    let in_both : h < length (slice_set w.bodies h left) = subst (λ n. h < n) (sym (length-set w.bodies h left)) there in
+    let same : again ≡ left =
+    body_read (slice_set w.bodies h left) h again in_both read ∙ get_or-set_same w.bodies h left nobody there in
+    let over : slice_set (slice_set w.bodies h left) h (put_back again view) ≡ slice_set w.bodies h s =
+    set-set w.bodies h left (put_back again view) ∙ ap (λ (b : Host). slice_set w.bodies h (put_back b view)) same in
+    let stands : (body_at (slice_set w.bodies h s) h).standing.view ≡ (body_at w.bodies h).standing.view =
+    ap (λ (b : Host). b.standing.view) (get_or-set_same w.bodies h s nobody there) ∙ seen in
     subst (λ b. handled_by b w x u) (sym stamp)
     (inr (
       some,
       record {
         left = s;
         cut = cut;
-        is = failed ∙ ap (λ v. halted (with_body w x.to s) x.to v Memory 0) is;
+        view = seen;
+        is = failed
+            ∙ ap (λ (bodies : List Host). stopped (record w { bodies = bodies }) h Memory 0) over
+            ∙ ap (λ v. halted (with_body w h s) h v Memory 0) stands;
       },
     ))
 
@@ -175,7 +197,3 @@ enters_ok (Ok done) w s v x t stamp lost cause b marks logs at same stops is nam
       stamps = slice_set v.stamps x.to stamp;
       logs = with_step v.logs x.to (record { stamp = stamp; taken = x.signal; marks = ms });
     }) same)
-
--- what was read of the hosts
-pub body_read : (bodies : List Host) (h : ℕ) (s : Host) → h < length bodies → s ≡ get_or bodies h s → s ≡ body_at bodies h
-body_read bodies h s there is = get_or_read bodies h s there is nobody

@@ -49,17 +49,18 @@ pub stops_itself : (made : List Member) (h stamp : ℕ) (view : View) (cause : S
     → own_stop h (own_signal made h stamp view (body.Host (Closed cause))) ≡ Some cause
 stops_itself made h stamp view cause = ap (λ b. if b then Some cause else None) (eq-eqb h h refl)
 
--- it makes the step of the machine, so far as that tells, if it still knows whom it had cut off
+-- it makes the step of the machine, so far as that tells, if it still knows whom it had cut off and what its view is
 stopping_is : (h : ℕ) (s left : Host) (cause : StopCause) → 1 ≤ h → left.standing.cut ≡ s.standing.cut
-    → IsStepOf h (stopping s cause) (stopping left cause)
-stopping_is zero s left cause some cut = absurd (omega (arith, some))
-stopping_is (suc h) s left cause some cut =
-    record { effects = refl; cut = cut; same = λ runs. absurd (true≢false runs); replies = refl }
+    → left.standing.view ≡ s.standing.view → IsStepOf h (stopping s cause) (stopping left cause)
+stopping_is zero s left cause some cut view = absurd (omega (arith, some))
+stopping_is (suc h) s left cause some cut view =
+    record { effects = refl; cut = cut; view = view; same = λ runs. absurd (true≢false runs); replies = refl }
 
 pub stop_step : (h : ℕ) (s left : Host) (x : Signal) (cause : StopCause) → 1 ≤ h → left.standing.cut ≡ s.standing.cut
-    → own_stop h x ≡ Some cause → IsStepOf h (step_by h s x) (stopping left cause)
-stop_step h s left x cause some cut own =
-    subst (λ (o : Option StopCause). IsStepOf h (step_if s x o) (stopping left cause)) (sym own) (stopping_is h s left cause some cut)
+    → left.standing.view ≡ s.standing.view → own_stop h x ≡ Some cause → IsStepOf h (step_by h s x) (stopping left cause)
+stop_step h s left x cause some cut view own =
+    subst (λ (o : Option StopCause). IsStepOf h (step_if s x o) (stopping left cause)) (sym own)
+    (stopping_is h s left cause some cut view)
 
 module _ (start : Start) (given : List ApiReply) (w : Whole) (right : IsRight start given w) (h : ℕ) (there : h < hosts start)
     (runs : has_stopped (logs_at w.logs h) ≡ false) where
@@ -155,10 +156,11 @@ module _ (start : Start) (given : List ApiReply) (w : Whole) (right : IsRight st
   pub halt_ready : (bodies : List Host) (cause : StopCause) → 1 ≤ h → IsOwnCause cause → length bodies ≡ hosts start
       → ((k : ℕ) → k < hosts start → (h == k) ≡ false → body_at bodies k ≡ body_at w.bodies k)
       → (body_at bodies h).standing.cut ≡ (body_at w.bodies h).standing.cut
+      → (body_at bodies h).standing.view ≡ (body_at w.bodies h).standing.view
       → IsReady start given (with_bodies w bodies) (asking w h (body.Host (Closed cause))) (stopping (body_at bodies h) cause)
-  halt_ready bodies cause some own few others cut =
+  halt_ready bodies cause some own few others cut view =
       let x = (asking w h (body.Host (Closed cause))).signal in
       own_ready bodies few others (body.Host (Closed cause)) (some, own) (stopping (body_at bodies h) cause)
       (stop_step h (after start h (logs_at w.logs h)) (body_at bodies h) x cause some
-      (cut ∙ ap (λ (s : Host). s.standing.cut) body_is)
+      (cut ∙ ap (λ (s : Host). s.standing.cut) body_is) (view ∙ ap (λ (s : Host). s.standing.view) body_is)
       (stops_itself w.made h (slice_index_or w.stamps h 0) (body_at w.bodies h).standing.view cause))

@@ -28,10 +28,11 @@ abbrev pub log_with : Whole → Addressed → Step Host → ℕ → List HostSte
 log_with w x t h = if x.to == h then host_step w x t ∷ logs_at w.logs h else logs_at w.logs h
 
 -- What host h did is the step that the machine makes; where it stops, so far as that tells: of a host that wanted memory it
--- isn't known what is left, but for the hosts that it had cut off.
+-- isn't known what is left, but for the hosts that it had cut off and its view.
 pub record IsStepOf (h : ℕ) (machine_step t : Step Host) : Type 0 where
   pub effects : t.effects ≡ machine_step.effects
   pub cut : (told h t).standing.cut ≡ (told h machine_step).standing.cut
+  pub view : (told h t).standing.view ≡ (told h machine_step).standing.view
   pub same : stops_by machine_step.effects.marks ≡ false → t ≡ machine_step
   pub replies : replies_at h t ≡ replies_at h machine_step
 

@@ -145,7 +145,7 @@ module _ (start : Start) where
       subst (Each (λ x. IsBetween i j e.step.stamp x)) (sym c.is)
       (last, each_past (λ x. IsBetween i j e.step.stamp x) c.past (sent_between i j (e ∷ log) local))
     where
-      last : IsBetween i j e.step.stamp (closing (made start) e j)
+      last : IsBetween i j e.step.stamp (closing start i log e j)
       last =
           record {
             from = local.0.at;
@@ -181,5 +181,5 @@ module _ (start : Start) where
         sends = λ h log e.
             stamped_all (sender (made start) h e.step.stamp (after start h (e ∷ log)).standing.view)
             (sent_count start h log) (routed_after start h log e);
-        closing = λ e j. refl;
+        closing = λ h log e j. refl;
       }

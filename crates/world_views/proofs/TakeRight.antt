@@ -34,7 +34,7 @@ use Rattle.world_views.proofs.TakeFacts.{IsTakenFrom}
 pub row_step : (h : ℕ) (s body : Host) (x : Signal) → body ≡ s → IsStepOf h (step_by h s x) (step_by h body x)
 row_step h s body x same =
     subst (λ b. IsStepOf h (step_by h s x) (step_by h b x)) (sym same)
-    (record { effects = refl; cut = refl; same = λ runs. refl; replies = refl })
+    (record { effects = refl; cut = refl; view = refl; same = λ runs. refl; replies = refl })
 
 module _ (start : Start) (given : List ApiReply) (w : Whole) (right : IsRight start given w) (t : Arrival)
     (at : IsTakenFrom (hosts start) w.links t) where

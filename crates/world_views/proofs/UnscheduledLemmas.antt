@@ -102,12 +102,13 @@ module _ (start : Start) (given : List ApiReply) (w : Whole) (lost : ℕ) (x : A
 pub failed_unscheduled : (start : Start) (given : List ApiReply) (w : Whole) → IsRight start given w → (h : ℕ)
     → h < hosts start → has_stopped (logs_at w.logs h) ≡ false → 1 ≤ h → (cause : StopCause) → IsOwnCause cause
     → IsWant start (logs_at w.logs) h (logs_at w.logs h) cause
-    → (left : node.Host) → left.standing.cut ≡ (body_at w.bodies h).standing.cut → AreUnscheduled start (logs_at w.logs)
+    → (left : node.Host) → left.standing.cut ≡ (body_at w.bodies h).standing.cut
+    → left.standing.view ≡ (body_at w.bodies h).standing.view → AreUnscheduled start (logs_at w.logs)
     → AreUnscheduled start (logs_at (halted (with_body w h left) h (body_at w.bodies h).standing.view cause 0).logs)
-failed_unscheduled start given w right h low runs some cause own wanted left cut =
-    let x = wish start given w right h low runs some cause own left cut in
-    let t = stopping (body_at (bodies start given w right h low runs some cause own left cut) h) cause in
-    let ready = fail_ready start given w right h low runs some cause own left cut given right in
+failed_unscheduled start given w right h low runs some cause own wanted left cut view =
+    let x = wish start given w right h low runs some cause own left cut view in
+    let t = stopping (body_at (bodies start given w right h low runs some cause own left cut view) h) cause in
+    let ready = fail_ready start given w right h low runs some cause own left cut view given right in
     entered_unscheduled start given (with_body w h left) 0 x t ready
     (λ asks. want_still start given (with_body w h left) 0 x t ready h (logs_at w.logs h) cause wanted)
 
@@ -127,7 +128,7 @@ module _ (start : Start) (given : List ApiReply) (w : Whole) (right : IsRight st
       failed cause own wanted some is =
           subst (λ (v : Whole). AreUnscheduled start (logs_at v.logs)) (sym is.is)
           (failed_unscheduled start given w right at.to at.to_low (on_open start given w right t at kept).runs some cause
-          own wanted is.left is.cut was)
+          own wanted is.left is.cut is.view was)
 
       -- there was no stamp for the step that takes it
       no_stamp : is_stamp (next_stamp w.stamps at.to at.signal.stamp) ≡ false

@@ -21,6 +21,7 @@ use Rattle.sig_core.specs.declared.signal.host.HostSignal.TheVariants.{Closed, C
 use Rattle.sig_core.specs.declared.signal.host.Work.TheVariants.{Request}
 use Rattle.sig_core.specs.declared.view.View.{View}
 use Rattle.sig_core.specs.Step.{Step}
+use Rattle.api_views.specs.Members.{greater_view}
 use Rattle.node_views.specs.declared.host.Host as node
 use Rattle.node_views.specs.Replies.{with_replies}
 use Rattle.node_views.specs.Replies as host
@@ -112,13 +113,18 @@ signals_of start h log e =
 abbrev pub to_front : List Member → ℕ → Body → Outgoing
 to_front made j body = record { to = front_of made j; body = body }
 
--- the last signal on a link to host j from a host that has stopped by this step: it has the view of the signal that it took
-abbrev pub closing_signal : List Member → HostStep → ℕ → Signal
-closing_signal made e j =
-    headed (sender made e.host e.step.stamp e.step.taken.view) 0 (to_front made j (Host (Closed (cause_in e.step.marks))))
+-- the last signal on a link to host j from a host that has stopped by this step, with this view
+abbrev pub closing_signal : List Member → View → HostStep → ℕ → Signal
+closing_signal made view e j =
+    headed (sender made e.host e.step.stamp view) 0 (to_front made j (Host (Closed (cause_in e.step.marks))))
 
-abbrev pub closing : List Member → HostStep → ℕ → Addressed
-closing made e j = record { to = j; signal = closing_signal made e j }
+-- The view of the closings of host h: the one in which it stands behind its last step, or that of the signal which it took
+-- if that is greater, since the greater one may be what stopped it.
+abbrev pub closing_view : Start → ℕ → List HostStep → HostStep → View
+closing_view start h log e = greater_view (after start h (e ∷ log)).standing.view e.step.taken.view
+
+abbrev pub closing : Start → ℕ → List HostStep → HostStep → ℕ → Addressed
+closing start h log e j = record { to = j; signal = closing_signal (made start) (closing_view start h log e) e j }
 
 -- the signal of host h to itself, after a step of this stamp
 abbrev pub own_signal : List Member → ℕ → ℕ → View → Body → Signal
@@ -181,7 +187,7 @@ machine start =
       Fits = λ h log e. FitsRow start h log e;
       sends = λ h log e. signals_of start h log e;
       stops = λ e. stops_by e.step.marks;
-      closing = λ e j. closing (made start) e j;
+      closing = λ h log e j. closing start h log e j;
       made = λ h. 0;
       Makes = λ h log e. ⊥;
     }

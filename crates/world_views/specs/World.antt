@@ -16,6 +16,7 @@ use Rattle.sig_core.specs.declared.signal.host.HostSignal.TheVariants.{Closed, C
 use Rattle.sig_core.specs.declared.view.Shape.{Shape}
 use Rattle.sig_core.specs.declared.view.View.{View}
 use Rattle.sig_core.specs.Step.{Step}
+use Rattle.api_views.specs.Members.{greater_view}
 use Rattle.node_views.specs.declared.host.Host.{Host}
 use Rattle.node_views.specs.declared.standing.Standing.{Standing}
 use Rattle.node_views.specs.Fresh.{fresh_shell}
@@ -62,18 +63,22 @@ sending w h stamp sends =
           (routed_all w.made h (body_at w.bodies h).standing sends);
     }
 
--- a host that has stopped, by a step of this stamp, loses so many of the youngest signals of each link from it, and closes
--- its links
+-- the greater one of the view in which a host stands and this one
+abbrev pub last_view : Whole → ℕ → View → View
+last_view w h taken = greater_view (body_at w.bodies h).standing.view taken
+
+-- a host that has stopped, by a step of this stamp which took a signal of this view, loses so many of the youngest signals of
+-- each link from it, and closes its links
 abbrev pub closing : Whole → ℕ → ℕ → View → StopCause → ℕ → Whole
-closing w h stamp view cause lost =
+closing w h stamp taken cause lost =
     record w {
       links = close_below (length w.made * 3 + 1) (lose w.links h lost) h (is_unclosed h (body_at w.bodies h).standing)
-          (λ j. headed (sender w.made h stamp view) 0 (to_front w.made j (body.Host (Closed cause))));
+          (λ j. headed (sender w.made h stamp (last_view w h taken)) 0 (to_front w.made j (body.Host (Closed cause))));
     }
 
 abbrev pub closing_if : Bool → Whole → ℕ → ℕ → View → StopCause → ℕ → Whole
-closing_if true w h stamp view cause lost = closing w h stamp view cause lost
-closing_if false w h stamp view cause lost = w
+closing_if true w h stamp taken cause lost = closing w h stamp taken cause lost
+closing_if false w h stamp taken cause lost = w
 
 -- the step that a host makes by a signal
 abbrev pub step_made : Whole → Addressed → Step Host → LogStep
@@ -118,7 +123,7 @@ asking w h work =
 abbrev pub asked : Whole → ApiReq → Whole
 asked w request = moved w 0 (asking w 0 (request_body request))
 
--- a host stops by itself, with so many signals lost, and its closings have this view
+-- a host in this view stops by itself, with so many signals lost
 abbrev pub halting : Whole → ℕ → View → StopCause → Addressed
 halting w h view cause =
     record { to = h; signal = own_signal w.made h (slice_index_or w.stamps h 0) view (body.Host (Closed cause)) }
@@ -134,11 +139,12 @@ stopped w h cause lost = halted w h (body_at w.bodies h).standing.view cause los
 abbrev pub with_body : Whole → ℕ → Host → Whole
 with_body w h s = record w { bodies = slice_set w.bodies h s }
 
--- A host stopped for this cause, whatever was left of it: it still knows which hosts it had cut off, and its closings have
--- the view that it had before.
+-- A host stopped for this cause, whatever was left of it: it still knows which hosts it had cut off, and stands in the view
+-- that it had before.
 pub record HasFailed (w : Whole) (h : ℕ) (cause : StopCause) (t : Whole) : Type 0 where
   pub left : Host
   pub cut : left.standing.cut ≡ (body_at w.bodies h).standing.cut
+  pub view : left.standing.view ≡ (body_at w.bodies h).standing.view
   pub is : t ≡ halted (with_body w h left) h (body_at w.bodies h).standing.view cause 0
 
 -- What becomes of a signal in the hand of a host: where there is a stamp for it, it handles it, or it stops for want of

@@ -1,5 +1,6 @@
 //! How a host closes its links.
 ghost use Rattle.std.specs.Prelude.{◌≡◌, ◌*◌, ◌+◌, OnOk, IfOk, IfSome, is_some, length};
+ghost use Rattle.api_views.specs.Members.{greater_view};
 ghost use Rattle.sig_core.specs.declared.signal.Body.TheVariants as bodies;
 ghost use Rattle.sig_core.specs.declared.signal.host.HostSignal.TheVariants.{Closed};
 ghost use Rattle.world_views.specs.Hosts.{front_of};
@@ -12,7 +13,7 @@ use crate::hosts::Made;
 use crate::network::Network;
 use crate::sender::Sender;
 use node_views::Host;
-use sig_core::{Body, Boxed, HostId, HostSignal, Mark, NoMemory, Signal, StopCause};
+use sig_core::{Body, Boxed, Held, HostId, HostSignal, Mark, NoMemory, Signal, StopCause, View};
 use std::alloc::Global;
 
 /// Why a step stops its host, where it does.
@@ -26,6 +27,21 @@ pub fn stop_of(marks: &[Mark]) -> Option<StopCause>
         }
     }
     None
+}
+
+/// The view of the closings of a host that stands in one and took a signal of the other: the greater
+/// one, which may be what stopped it.
+///
+/// # Errors
+/// `NoMemory`.
+pub fn last_view(own: &Held<View>, taken: &Held<View>) -> Result<Held<View>, NoMemory>
+    ensures { IfOk result (λ view. view ≡ greater_view own.now taken.now) }
+{
+    if own.get().number < taken.get().number {
+        taken.share()
+    } else {
+        own.share()
+    }
 }
 
 /// Closes the links of a host that has stopped for this cause, but for those to itself and to hosts

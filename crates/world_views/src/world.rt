@@ -5,7 +5,7 @@ ghost use Rattle.node_views.specs.Row.{is_cut};
 ghost use Rattle.world_views.specs.Machine.{own_stop};
 ghost use Rattle.world_views.specs.World.{body_at};
 
-use crate::closing::{close_all, first_signal, stop_of};
+use crate::closing::{close_all, first_signal, last_view, stop_of};
 use crate::fresh::fresh_bodies;
 use crate::hosts::Made;
 use crate::logs::Logs;
@@ -53,7 +53,7 @@ impl World {
     ghost use Rattle.world_views.specs.Machine.{own_signal, sender};
     ghost use Rattle.world_views.specs.Schedule.{HasTaken, is_discarded};
     ghost use Rattle.world_views.specs.Unscheduled.{AreUnscheduled};
-    ghost use Rattle.world_views.specs.World.{HasHandled, IsIdle, IsThere, closing, cutting, entered, halted, has_stopped_in, is_down, is_left_open, new_world, sending, stopped};
+    ghost use Rattle.world_views.specs.World.{HasHandled, IsIdle, IsThere, closing, cutting, entered, has_stopped_in, is_down, is_left_open, new_world, sending, stopped};
     ghost use Rattle.world_views.specs.WorldOf.{whole_of};
 
     /// A world in which nothing has happened: a cluster of this shape begins a life in this epoch,
@@ -223,32 +223,29 @@ impl World {
         let before = self.stamps[at].max(signal.get().stamp);
         let view = self.bodies[at].standing.view.share()?;
         if before >= STAMPS_END - 1 {
-            return self.fail(alloc, host, view, StopCause::Clock);
+            return self.fail(alloc, host, StopCause::Clock);
         }
         self.outs.clear();
         match self.bodies[at].step(alloc, signal.get(), &mut self.outs) {
             Ok(()) => self.enter(alloc, host, before + 1, signal, 0),
-            Err(_) => self.fail(alloc, host, view, StopCause::Memory),
+            Err(_) => {
+                self.bodies[at].standing.view = view;
+                self.fail(alloc, host, StopCause::Memory)
+            }
         }
     }
 
-    // A host that can't make its step stops, and then its closings have this view. The shell's doesn't.
-    fn fail(
-        &mut self,
-        alloc: Global,
-        host: u32,
-        view: Held<View>,
-        cause: StopCause,
-    ) -> Result<(), NoMemory>
+    // A host that can't make its step stops. The shell's doesn't.
+    fn fail(&mut self, alloc: Global, host: u32, cause: StopCause) -> Result<(), NoMemory>
         requires { IsThere (whole_of self.old) host }
         ensures some { OnOk result (1 ≤ host) }
-        ensures ok { OnOk result (whole_of self.new ≡ halted (whole_of self.old) host view cause 0) }
+        ensures ok { OnOk result (whole_of self.new ≡ stopped (whole_of self.old) host cause 0) }
         ensures err { OnErr result (self.new.logs ≡ self.old.logs) }
     {
         if host == 0 {
             return Err(NoMemory);
         }
-        self.halt(alloc, host, view, cause, 0)
+        self.stop(alloc, host, cause, 0)
     }
 
     /// A host stops in a step of its own, by which the youngest so many signals of each of its links
@@ -268,22 +265,6 @@ impl World {
         ensures err { OnErr result (self.new.logs ≡ self.old.logs) }
     {
         let view = self.bodies[host as usize].standing.view.share()?;
-        self.halt(alloc, host, view, cause, lost)
-    }
-
-    // The same, where its closings have this view.
-    fn halt(
-        &mut self,
-        alloc: Global,
-        host: u32,
-        view: Held<View>,
-        cause: StopCause,
-        lost: u32,
-    ) -> Result<(), NoMemory>
-        requires { IsThere (whole_of self.old) host }
-        ensures ok { OnOk result (whole_of self.new ≡ halted (whole_of self.old) host view cause lost) }
-        ensures err { OnErr result (self.new.logs ≡ self.old.logs) }
-    {
         let Some(stamp) = self.stamps[host as usize].checked_add(1) else {
             return Err(NoMemory);
         };
@@ -423,12 +404,14 @@ impl World {
         ensures err { OnErr result (self.new.logs ≡ self.old.logs) }
     {
         self.network.lose(host, lost);
-        let by = self.sender(host, stamp, taken.get().view.share()?);
+        let at = host as usize;
+        let view = last_view(&self.bodies[at].standing.view, &taken.get().view)?;
+        let by = self.sender(host, stamp, view);
         close_all(
             alloc,
             &mut self.network,
             &self.made,
-            &self.bodies[host as usize],
+            &self.bodies[at],
             &by,
             cause,
         )

@@ -312,17 +312,35 @@ fn who_is_left_to_be_aborted_need_not_be_asked_for_it(rt: HostRuntime) -> Result
     talk_afresh(&rt, rt.alloc(), &lines)
 }
 
+// An abort could overtake the operation on its way to a backup, which would keep the record.
 #[test]
-fn who_is_aborted_since_is_passed_over(rt: HostRuntime) -> Result<(), Fail> {
+fn who_is_left_to_be_aborted_takes_no_operation(rt: HostRuntime) -> Result<(), Fail> {
     let lines = [
         (Heard::Begin, "api0 begun 1"),
         (Heard::Get(1, b'a'), "lqh1 operate at 0 of 3"),
         (Heard::Missing(1, b'a'), "api0 missing"),
         (Heard::Promise(2, Full::NoFirst), "qmgr3 fenced"),
         (Heard::Install(2, Full::NoFirst), "tc3 resume"),
-        (Heard::Get(1, b'a'), "lqh2 operate at 0 of 2"),
-        (Heard::Refused(1, b'a'), "lqh2 abort a, lqh3 abort a"),
-        (Heard::Resume(2), ""),
+        (Heard::Put(1, b'a'), ""),
+        (Heard::Resume(2), "lqh2 abort a, lqh3 abort a"),
+        (Heard::Aborted(1, b'a'), ""),
+        (Heard::Aborted(1, b'a'), "api0 aborted in view 2"),
+    ];
+    talk_afresh(&rt, rt.alloc(), &lines)
+}
+
+// Its cause stays.
+#[test]
+fn an_abort_for_a_refusal_begins_anew(rt: HostRuntime) -> Result<(), Fail> {
+    let lines = [
+        (Heard::Begin, "api0 begun 1"),
+        (Heard::Put(1, b'a'), "lqh1 operate at 0 of 3"),
+        (
+            Heard::Refused(1, b'a'),
+            "lqh1 abort a, lqh2 abort a, lqh3 abort a",
+        ),
+        (Heard::Install(2, Full::NoFirst), "tc3 resume"),
+        (Heard::Resume(2), "lqh2 abort a, lqh3 abort a"),
         (Heard::Aborted(1, b'a'), ""),
         (Heard::Aborted(1, b'a'), "api0 aborted for timeout"),
     ];

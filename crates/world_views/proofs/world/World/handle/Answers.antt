@@ -33,6 +33,7 @@ returns-in-Err-clause-ok c =
     (search rules) in
     let read = body_read w.bodies h c.index_mut.result.now c.requires.there.bodies c.index_mut.ensures.value in
     let seen = body_read w.bodies h c.index-2.result.now c.requires.there.bodies c.index-2.ensures in
-    has_no_memory c.fail-in-Err.result w (whole_of c.fail-in-Err.new.self) (arriving h c.args.signal) c.step.new.self c.in_ok-view.view
-    at (c.in_ok-view.ensures ∙ ap (λ (s : Host). s.standing.view) seen)
+    has_no_memory c.fail-in-Err.result w (whole_of c.fail-in-Err.new.self) (arriving h c.args.signal) c.step.new.self
+    c.index_mut-in-Err.result.now c.in_ok-view.view c.requires.there.bodies at c.index_mut-in-Err.ensures.value
+    (c.in_ok-view.ensures ∙ ap (λ (s : Host). s.standing.view) seen)
     (c.in-Err.ensures.kept ∙ ap (λ (s : Host). s.standing.cut) read) c.fail-in-Err.ensures.some c.fail-in-Err.ensures.ok

@@ -1,0 +1,171 @@
+-- A step of a host with a coordinator gives the current epoch of its member, while that prepares for none; a step of
+-- another host gives none.
+use Rattle.std.proofs.Common.{◌≡◌, ◌∙◌, ◌≤◌, ℕ, Bool, true, false, List, [], refl, subst}
+use Rattle.std.specs.Prelude.{Option}
+use Rattle.run_theory.specs.Lists.{Each}
+use Rattle.run_theory.proofs.Pasts.{each_append, each_map}
+use Rattle.sig_core.specs.declared.mark.Mark.{Mark}
+use Rattle.sig_core.specs.declared.mark.Mark.TheVariants.{Decided}
+use Rattle.sig_core.specs.declared.member.Member.{Member}
+use Rattle.sig_core.specs.declared.place.BlockId.{BlockId}
+use Rattle.sig_core.specs.declared.place.BlockId.TheVariants as block
+use Rattle.sig_core.specs.declared.signal.Body.{Body}
+use Rattle.sig_core.specs.declared.signal.Body.TheVariants.{Membership}
+use Rattle.sig_core.specs.declared.signal.Signal.{Signal}
+use Rattle.sig_core.specs.declared.signal.membership.MembershipSignal.TheVariants.{ArbitReq}
+use Rattle.sig_core.specs.declared.view.View.{View}
+use Rattle.arbiter_block.specs.Arbiter.{ArbiterState, arbit_if, arbit_row, arbiter_row, arbiter_table, is_granted}
+use Rattle.dih_node.specs.Dih.{dih_row}
+use Rattle.dih_node.specs.Orders as dih
+use Rattle.dih_node.specs.State.{DihState}
+use Rattle.node_views.specs.Blocks.{parts_entered, parts_row, settled_at}
+use Rattle.node_views.specs.declared.host.Host as hosts
+use Rattle.node_views.specs.declared.ldm_part.LdmPart.{LdmPart}
+use Rattle.node_views.specs.declared.main_part.MainPart.{MainPart}
+use Rattle.node_views.specs.declared.parts.Parts.{Parts}
+use Rattle.node_views.specs.declared.parts.Parts.TheVariants.{Shell, Main, Tc, Ldm}
+use Rattle.node_views.specs.declared.shell_part.ShellPart.{ShellPart}
+use Rattle.node_views.specs.declared.tc_part.TcPart.{TcPart}
+use Rattle.node_views.specs.Parts.{ldm_row, main_row, shell_row, tc_entered, tc_row}
+use Rattle.tc_views.specs.Views as coordinator
+use Rattle.world_views.specs.Machine.{step_by}
+use Rattle.epoch_laws.proofs.DihMoves.{Stays, dih_installs_stay, rests}
+use Rattle.epoch_laws.proofs.DihSends.{IsGivenBy, dih_gives}
+use Rattle.epoch_laws.proofs.MarkClient.{client_decides_none}
+use Rattle.epoch_laws.proofs.MarkCoordinator.{coordinator_decides_none, coordinator_installs_decide_none}
+use Rattle.epoch_laws.proofs.MarkMaster.{master_decides_none}
+use Rattle.epoch_laws.proofs.MarkMembership.{membership_decides_none, membership_installs_decide_none}
+use Rattle.epoch_laws.proofs.MarkNone.{DecidesNone, IsNoDecision, is_decision}
+use Rattle.epoch_laws.proofs.MarkRows.{rows_decide_none}
+use Rattle.epoch_laws.proofs.MarkTakeover.{takeover_decides_none}
+use Rattle.epoch_laws.proofs.MarkWalk.{IsMarked, IsOfHost, step_marks}
+
+-- a host without a coordinator
+abbrev pub HasNoTc : Parts → Type 0
+HasNoTc (Tc p) = ⊥
+HasNoTc parts = Unit {0}
+
+entered_none : (parts : Parts) (view : View) → DecidesNone (parts_entered parts view)
+unfolding dih.install_row
+entered_none (Shell p) view = tt
+entered_none (Main p) view = membership_installs_decide_none p.qmgr view
+entered_none (Tc p) view =
+    each_append IsNoDecision (coordinator.install_row p.coordinator view).effects.marks []
+    (coordinator_installs_decide_none p.coordinator view) tt
+entered_none (Ldm p) view = tt
+
+asked_none : (s : ArbiterState) (node number : ℕ) (members : List Member) (joining : Option Member)
+    → DecidesNone (arbit_row s node number members joining)
+unfolding arbit_row
+asked_none s node number members joining = by (is_granted s number members joining)
+  where
+    by : (b : Bool) → DecidesNone (arbit_if s node number members b)
+    by true = tt
+    by false = tt
+
+arbiter_decides_none : (s : ArbiterState) (x : Signal) → DecidesNone (arbiter_row s x)
+arbiter_decides_none s x = by x.body
+  where
+    by : (body : Body) → DecidesNone (arbiter_table s x.member.node body)
+    by (Membership (ArbitReq number members joining)) = asked_none s x.member.node number members joining
+    by _ = tt
+
+shell_none : (p : ShellPart) (b : BlockId) (x : Signal) → DecidesNone (shell_row p b x)
+unfolding shell_row
+shell_none p block.Api x = client_decides_none p.client x
+shell_none p block.Arbiter x = arbiter_decides_none p.arbiter x
+shell_none p _ x = tt
+
+main_none : (p : MainPart) (b : BlockId) (x : Signal) → DecidesNone (main_row p b x)
+unfolding main_row
+main_none p block.Qmgr x = membership_decides_none p.qmgr x
+main_none p block.GcpMaster x = master_decides_none p.master x
+main_none p _ x = tt
+
+ldm_none : (p : LdmPart) (b : BlockId) (x : Signal) → DecidesNone (ldm_row p b x)
+unfolding ldm_row
+ldm_none p block.Lqh x = rows_decide_none p.replica x
+ldm_none p _ x = tt
+
+other_none : (parts : Parts) (x : Signal) → HasNoTc parts → IsMarked IsNoDecision x parts
+other_none parts x other = record { row = by parts other; settles = λ view is. entered_none (parts_row parts x).state view }
+  where
+    by : (parts : Parts) → HasNoTc parts → DecidesNone (parts_row parts x)
+    by (Shell p) other = shell_none p x.to.block x
+    by (Main p) other = main_none p x.to.block x
+    by (Ldm p) other = ldm_none p x.to.block x
+    by (Tc p) other = absurd other
+
+still_other : (parts : Parts) (view : View) → HasNoTc parts → HasNoTc (parts_entered parts view).state
+still_other (Shell p) view other = tt
+still_other (Main p) view other = tt
+still_other (Ldm p) view other = tt
+still_other (Tc p) view other = absurd other
+
+own_none : IsOfHost IsNoDecision
+own_none = record { stops = λ cause. refl; installs = λ view. refl; cuts = λ host. refl }
+
+pub others_decide_none : (h : ℕ) (s : hosts.Host) (x : Signal) → HasNoTc s.parts → DecidesNone (step_by h s x)
+others_decide_none h s x other =
+    step_marks IsNoDecision own_none x h s (record {
+      goes = λ newer barred. other_none s.parts x other;
+      enters = entered_none s.parts x.view;
+      behind = λ newer excluded barred.
+          other_none (parts_entered s.parts x.view).state x (still_other s.parts x.view other);
+    })
+
+-- what tells of no decision gives none
+none_gives : (s : DihState) (mark : Mark) → IsNoDecision mark → IsGivenBy s mark
+none_gives s (Decided tx epoch) none = absurd cc
+none_gives s _ none = tt
+
+gives_from : (s t : DihState) → Stays s t → (mark : Mark) → IsGivenBy t mark → IsGivenBy s mark
+gives_from s t same (Decided tx epoch) (is, rest) = (
+  is ∙ same.current_is,
+  subst (λ n. n ≤ s.current) same.next_is (subst (λ n. t.next ≤ n) same.current_is rest),
+)
+gives_from s t same _ gives = tt
+
+module _ (x : Signal) (s : DihState) where
+  tc_gives : (p : TcPart) → Stays s p.dih → (b : BlockId) → Each (IsGivenBy s) (tc_row p b x).effects.marks
+  unfolding tc_row
+  tc_gives p same block.Tc =
+      each_map IsNoDecision (IsGivenBy s) _ (none_gives s) (coordinator_decides_none p.coordinator x)
+  tc_gives p same block.Takeover =
+      each_map IsNoDecision (IsGivenBy s) _ (none_gives s) (takeover_decides_none p.takeover x)
+  tc_gives p same block.Dih =
+      each_map (IsGivenBy p.dih) (IsGivenBy s) (dih_row p.dih x).effects.marks (gives_from s p.dih same)
+      (dih_gives p.dih x)
+  tc_gives p same _ = tt
+
+  tc_marked : (p : TcPart) → Stays s p.dih → IsMarked (IsGivenBy s) x (Tc p)
+  tc_marked p same = record { row = tc_gives p same x.to.block; settles = λ view is. absurd cc }
+
+-- at a host with a coordinator
+pub tc_steps_give : (h : ℕ) (s : hosts.Host) (x : Signal) (p : TcPart) → s.parts ≡ Tc p
+    → Each (IsGivenBy p.dih) (step_by h s x).effects.marks
+tc_steps_give h s x p is =
+    step_marks (IsGivenBy p.dih) (record { stops = λ cause. tt; installs = λ view. tt; cuts = λ host. tt }) x h s (record {
+      goes = λ newer barred. by s.parts is;
+      enters =
+          each_map IsNoDecision (IsGivenBy p.dih) (parts_entered s.parts x.view).effects.marks (none_gives p.dih)
+          (entered_none s.parts x.view);
+      behind = λ newer excluded barred. behind s.parts is;
+    })
+  where
+    by : (parts : Parts) → parts ≡ Tc p → IsMarked (IsGivenBy p.dih) x parts
+    by (Tc q) is =
+        let same : q ≡ p = cc in
+        tc_marked x p.dih q (subst (λ (r : TcPart). Stays r.dih q.dih) same (rests q.dih))
+    by (Main q) is = absurd cc
+    by (Ldm q) is = absurd cc
+    by (Shell q) is = absurd cc
+
+    behind : (parts : Parts) → parts ≡ Tc p → IsMarked (IsGivenBy p.dih) x (parts_entered parts x.view).state
+    behind (Tc q) is =
+        let same : q ≡ p = cc in
+        tc_marked x p.dih (tc_entered q x.view).state
+        (subst (λ (r : TcPart). Stays r.dih (tc_entered q x.view).state.dih) same (dih_installs_stay q.dih x.view.number))
+    behind (Main q) is = absurd cc
+    behind (Ldm q) is = absurd cc
+    behind (Shell q) is = absurd cc

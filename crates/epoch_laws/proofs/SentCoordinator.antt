@@ -1,0 +1,69 @@
+-- A coordinator sends no order of epochs, whatever it takes and whatever view is installed.
+use Rattle.std.proofs.Common.{◌==◌, ℕ, Bool, true, false, List, [], ◌∷◌, nat_lt, length, refl}
+use Rattle.run_theory.proofs.Pasts.{each_append}
+use Rattle.sig_core.specs.declared.signal.Body.{Body}
+use Rattle.sig_core.specs.declared.signal.Body.TheVariants.{Client, Epoch, Host, Membership}
+use Rattle.sig_core.specs.declared.signal.Signal.{Signal}
+use Rattle.sig_core.specs.declared.signal.client.ClientSignal.TheVariants.{TcKeyReq, TcRollbackReq}
+use Rattle.sig_core.specs.declared.signal.epoch.EpochSignal.TheVariants.{DiVerifyConf}
+use Rattle.sig_core.specs.declared.signal.host.HostSignal.TheVariants.{Continue}
+use Rattle.sig_core.specs.declared.signal.host.Work.TheVariants.{Installation, Transaction}
+use Rattle.sig_core.specs.declared.signal.membership.MembershipSignal.TheVariants.{FenceReq}
+use Rattle.sig_core.specs.declared.view.View.{View}
+use Rattle.tc_block.specs.declared.task.Task.{Task}
+use Rattle.tc_block.specs.Doom.{is_among}
+use Rattle.tc_block.specs.Resume.{resume_step}
+use Rattle.tc_views.specs.Coordinator.{calm_row, calm_unless, coordinator_row, coordinator_table, is_to_fail}
+use Rattle.tc_views.specs.State.{CoordinatorState, go_on_if, within}
+use Rattle.tc_views.specs.Views.{fence_row, install_row, resume_by, resume_first, resume_if, resume_row, tasks_at}
+use Rattle.epoch_laws.proofs.SentNone.{AreNoOrders, IsNoOrder, SendsNoOrder}
+use Rattle.epoch_laws.proofs.SentTurns.{resume_none, tc_none}
+
+more_none : (node : ℕ) (b : Bool) → AreNoOrders (go_on_if node b)
+more_none node true = (refl, tt)
+more_none node false = tt
+
+calm_none : (s : CoordinatorState) (body : Body) → SendsNoOrder (calm_row s body)
+unfolding within
+calm_none s body = tc_none s.tc body
+
+unless_none : (s : CoordinatorState) (body : Body) (b : Bool) → SendsNoOrder (calm_unless s body b)
+unless_none s body true = tt
+unless_none s body false = calm_none s body
+
+first_none : (s : CoordinatorState) (task : Task) → SendsNoOrder (resume_first s task)
+unfolding within
+first_none s task =
+    each_append IsNoOrder (resume_step s.tc task s.number).effects.sends _ (resume_none s.tc task s.number)
+    (more_none _ _)
+
+left_none : (s : CoordinatorState) (left : List Task) → SendsNoOrder (resume_by s left)
+left_none s [] = tt
+left_none s (task ∷ left) = first_none (record s { left = left }) task
+
+resumes_none : (s : CoordinatorState) (number : ℕ) → SendsNoOrder (resume_row s number)
+unfolding resume_row
+resumes_none s number = by (number == s.number)
+  where
+    by : (b : Bool) → SendsNoOrder (resume_if s b)
+    by true = left_none s s.left
+    by false = tt
+
+table_none : (s : CoordinatorState) (number : ℕ) (body : Body) → SendsNoOrder (coordinator_table s number body)
+unfolding fence_row
+table_none s number (Membership (FenceReq proposal)) = (refl, tt)
+table_none s number (Host (Continue Installation at)) = resumes_none s number
+table_none s number (Host (Continue (Transaction tx) at)) =
+    unless_none s (Host (Continue (Transaction tx) at)) (nat_lt number s.number)
+table_none s number (Epoch (DiVerifyConf tx epoch)) =
+    unless_none s (Epoch (DiVerifyConf tx epoch)) (is_among s.doomed tx)
+table_none s number (Client (TcKeyReq tx op)) = unless_none s (Client (TcKeyReq tx op)) (is_to_fail s.left tx)
+table_none s number (Client (TcRollbackReq tx)) = unless_none s (Client (TcRollbackReq tx)) (is_to_fail s.left tx)
+table_none s number body = calm_none s body
+
+pub coordinator_none : (s : CoordinatorState) (x : Signal) → SendsNoOrder (coordinator_row s x)
+coordinator_none s x = table_none s x.view.number x.body
+
+pub coordinator_installs_none : (s : CoordinatorState) (view : View) → SendsNoOrder (install_row s view)
+unfolding install_row
+coordinator_installs_none s view = more_none s.tc.node (nat_lt 0 (length (tasks_at s view.number)))

@@ -1,0 +1,36 @@
+-- What part a host runs it runs along its whole log.
+use Rattle.std.proofs.Common.{◌≡◌, ℕ, List, [], ◌∷◌}
+use Rattle.node_views.specs.declared.main_part.MainPart.{MainPart}
+use Rattle.node_views.specs.declared.parts.Parts.TheVariants.{Main, Tc}
+use Rattle.node_views.specs.declared.tc_part.TcPart.{TcPart}
+use Rattle.world_core.specs.Start.{Start}
+use Rattle.world_core.specs.Steps.{HostStep}
+use Rattle.world_views.specs.Hosts.{started}
+use Rattle.world_views.specs.Machine.{after}
+use Rattle.epoch_laws.proofs.StepMain.{main_steps}
+use Rattle.epoch_laws.proofs.StepTc.{tc_steps}
+
+module _ (start : Start) (h : ℕ) where
+  -- a coordinator and epochs
+  pub record RunsTc (log : List HostStep) : Type 0 where
+    pub part : TcPart
+    pub is : (after start h log).parts ≡ Tc part
+
+  pub runs_tc : (p : TcPart) → (started start h).parts ≡ Tc p → (log : List HostStep) → RunsTc log
+  runs_tc p is [] = record { part = p; is = is }
+  runs_tc p is (e ∷ log) =
+      let before = runs_tc p is log in
+      let step = tc_steps (after start h log) e.step.taken before.part h before.is in
+      record { part = step.part; is = step.is }
+
+  -- a membership and a master
+  pub record RunsMain (log : List HostStep) : Type 0 where
+    pub part : MainPart
+    pub is : (after start h log).parts ≡ Main part
+
+  pub runs_main : (p : MainPart) → (started start h).parts ≡ Main p → (log : List HostStep) → RunsMain log
+  runs_main p is [] = record { part = p; is = is }
+  runs_main p is (e ∷ log) =
+      let before = runs_main p is log in
+      let step = main_steps (after start h log) e.step.taken before.part h before.is in
+      record { part = step.part; is = step.is }

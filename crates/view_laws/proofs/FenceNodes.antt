@@ -1,0 +1,288 @@
+-- The blocks of a host that runs no membership know its member's node, and stay of it.
+use Rattle.std.proofs.Common.{◌≡◌, ◌==◌, ◌%◌, ℕ, zero, suc, Bool, true, false, nat_lt, List, [], ◌∷◌, refl, ap, sym, subst, ◌∙◌}
+use Rattle.std.specs.Map.{values_of}
+use Rattle.std.specs.Prelude.{Option, None, Some, slice_get}
+use Rattle.sig_core.specs.declared.member.Member.{Member}
+use Rattle.sig_core.specs.declared.place.BlockId.{BlockId}
+use Rattle.sig_core.specs.declared.place.BlockId.TheVariants as block
+use Rattle.sig_core.specs.declared.reply.ApiReply.{ApiReply}
+use Rattle.sig_core.specs.declared.rows.PendingRecord.{PendingRecord}
+use Rattle.sig_core.specs.declared.signal.Body.{Body}
+use Rattle.sig_core.specs.declared.signal.Body.TheVariants.{Client, Epoch, Host, Membership, Takeover}
+use Rattle.sig_core.specs.declared.signal.client.ClientSignal.TheVariants.{TcKeyReq, TcRollbackReq}
+use Rattle.sig_core.specs.declared.signal.epoch.EpochSignal.{EpochSignal}
+use Rattle.sig_core.specs.declared.signal.epoch.EpochSignal.TheVariants.{DiVerifyConf, GcpClosed, GcpSaveReq, GcpStateReq}
+use Rattle.sig_core.specs.declared.signal.host.HostSignal.TheVariants.{Continue}
+use Rattle.sig_core.specs.declared.signal.host.Work.TheVariants as work
+use Rattle.sig_core.specs.declared.signal.membership.MembershipSignal.TheVariants.{FenceReq}
+use Rattle.sig_core.specs.declared.signal.Signal.{Signal}
+use Rattle.sig_core.specs.declared.signal.takeover.TakeoverSignal.TheVariants.{LqhTransReq}
+use Rattle.sig_core.specs.declared.view.View.{View}
+use Rattle.sig_core.specs.Step.{Step}
+use Rattle.tc_block.proofs.TurnRows.{PlacedStep, goes, idles, lacks, lost, opens, placed_step, tells, turn_row}
+use Rattle.tc_block.specs.declared.task.Task.{Task}
+use Rattle.tc_block.specs.declared.transaction.Transaction.{Transaction}
+use Rattle.tc_block.specs.Doom.{is_among}
+use Rattle.tc_block.specs.Live.{place_in, turn_place, turn_value, turned_if}
+use Rattle.tc_block.specs.Resume.{resume_row, resume_step}
+use Rattle.tc_block.specs.State.{TcState}
+use Rattle.tc_block.specs.Tc.{tc_table}
+use Rattle.tc_block.specs.Turn.{Turn}
+use Rattle.lqh_block.proofs.LqhForms.{lqh_forms}
+use Rattle.lqh_block.specs.declared.request.Marker.{Marker}
+use Rattle.lqh_block.specs.Lqh.{lqh_table}
+use Rattle.lqh_block.specs.State.{LqhState}
+use Rattle.lqh_views.specs.declared.report.Report as reports
+use Rattle.lqh_views.specs.Epochs.{epoch_table}
+use Rattle.lqh_views.specs.Replica.{is_stale, replica_by, replica_row, serve_if}
+use Rattle.lqh_views.specs.Report.{go_on_by, is_orphaned_marker, is_orphaned_record, last_before, marker_by, record_by, reporting}
+use Rattle.lqh_views.specs.State.{ReplicaState}
+use Rattle.node_views.specs.Blocks.{parts_row}
+use Rattle.node_views.specs.declared.host.Host as hosts
+use Rattle.node_views.specs.declared.ldm_part.LdmPart.{LdmPart}
+use Rattle.node_views.specs.declared.parts.Parts.{Parts}
+use Rattle.node_views.specs.declared.parts.Parts.TheVariants.{Shell, Main, Tc, Ldm}
+use Rattle.node_views.specs.declared.tc_part.TcPart.{TcPart}
+use Rattle.node_views.specs.Parts.{ldm_row, tc_row}
+use Rattle.node_views.specs.Replies.{giving}
+use Rattle.node_views.specs.Row.{entered}
+use Rattle.qmgr_block.specs.Laws.{Event}
+use Rattle.tc_views.specs.Coordinator.{calm_unless, coordinator_row, coordinator_table, is_to_fail}
+use Rattle.tc_views.specs.State.{CoordinatorState, within}
+use Rattle.tc_views.specs.Views as coordinator
+use Rattle.world_core.specs.Hosts.{member_at, part_by}
+use Rattle.world_core.specs.Start.{Start, made}
+use Rattle.world_core.specs.Steps.{HostStep}
+use Rattle.world_views.specs.Hosts.{part_started, started}
+use Rattle.world_views.specs.Machine.{after}
+use Rattle.view_laws.specs.HostEvents.{events_of}
+use Rattle.view_laws.proofs.FenceRows.{dih_node}
+use Rattle.view_laws.proofs.FollowHosts.{started_behind}
+use Rattle.view_laws.proofs.FollowWalk.{IsSeen, along, log_goes}
+use Rattle.view_laws.proofs.VotesOthers.{still_node}
+use Rattle.view_laws.proofs.VotesParts.{own_node}
+
+-- a coordinator's
+turned_node : (s : TcState) (at : ℕ) (turn : Turn) (b : Bool) → (turned_if s at turn b).state.node ≡ s.node
+turned_node s at turn true = refl
+turned_node s at turn false = refl
+
+transactions_node : (s : TcState) (body : Body) → (tc_table s body).state.node ≡ s.node
+transactions_node s body = by (tc_table s body) (placed_step s body)
+  where
+    IsOwn : Step TcState → Type 0
+    IsOwn step = step.state.node ≡ s.node
+
+    by : (step : Step TcState) → PlacedStep s body step → IsOwn step
+    by step (idles off is) = subst IsOwn (sym is) refl
+    by step (lacks name about is) = subst IsOwn (sym is) refl
+    by step (opens name about room is) = subst IsOwn (sym is) refl
+    by step (tells tx ahead about is) = subst IsOwn (sym is) refl
+    by step (lost turn none is) = subst IsOwn (sym is) refl
+    by step (goes turn t at split is) =
+        subst IsOwn (sym is) (turned_node s at (turn_row s body t) (turn_row s body t).over)
+
+resume_node : (s : TcState) (task : Task) (number : ℕ) → (resume_step s task number).state.node ≡ s.node
+unfolding resume_step
+resume_node s task number = at_place (place_in s task.tx)
+  where
+    row : Transaction → Turn
+    row t = resume_row s.node s.layout task.tx t task.verdict number
+
+    at_value : (at : ℕ) (t : Option Transaction) → (turn_value s row at t).state.node ≡ s.node
+    at_value at None = refl
+    at_value at (Some t) = turned_node s at (row t) (row t).over
+
+    at_place : (o : Option ℕ) → (turn_place s row o).state.node ≡ s.node
+    at_place None = refl
+    at_place (Some at) = at_value at (slice_get (values_of s.live) at)
+
+module _ (s : CoordinatorState) where
+  unless_node : (body : Body) (b : Bool) → (calm_unless s body b).state.tc.node ≡ s.tc.node
+  unfolding within
+  unless_node body true = refl
+  unless_node body false = transactions_node s.tc body
+
+  resumes_by : (left : List Task) → (coordinator.resume_by s left).state.tc.node ≡ s.tc.node
+  unfolding within
+  resumes_by [] = refl
+  resumes_by (task ∷ left) = resume_node s.tc task s.number
+
+  resumes_if : (b : Bool) → (coordinator.resume_if s b).state.tc.node ≡ s.tc.node
+  resumes_if true = resumes_by s.left
+  resumes_if false = refl
+
+  resumes_node : (number : ℕ) → (coordinator.resume_row s number).state.tc.node ≡ s.tc.node
+  unfolding coordinator.resume_row
+  resumes_node number = resumes_if (number == s.number)
+
+  coordinator_by : (number : ℕ) (body : Body) → (coordinator_table s number body).state.tc.node ≡ s.tc.node
+  unfolding coordinator.fence_row within
+  coordinator_by number (Membership (FenceReq proposal)) = refl
+  coordinator_by number (Host (Continue work.Installation at)) = resumes_node number
+  coordinator_by number (Host (Continue (work.Transaction tx) at)) =
+      unless_node (Host (Continue (work.Transaction tx) at)) (nat_lt number s.number)
+  coordinator_by number (Epoch (DiVerifyConf tx epoch)) =
+      unless_node (Epoch (DiVerifyConf tx epoch)) (is_among s.doomed tx)
+  coordinator_by number (Client (TcKeyReq tx op)) = unless_node (Client (TcKeyReq tx op)) (is_to_fail s.left tx)
+  coordinator_by number (Client (TcRollbackReq tx)) = unless_node (Client (TcRollbackReq tx)) (is_to_fail s.left tx)
+  coordinator_by number body = transactions_node s.tc body
+
+  coordinator_node : (x : Signal) → (coordinator_row s x).state.tc.node ≡ s.tc.node
+  coordinator_node x = coordinator_by x.view.number x.body
+
+-- that of the rows
+rows_node : (s : LqhState) (body : Body) → (lqh_table s body).state.node ≡ s.node
+rows_node s body =
+    lqh_forms (λ body step. step.state.node ≡ s.node) s (record {
+      asks = λ r. record { granted = λ is. refl; queued = λ ahead is. refl };
+      grants = λ at. record { none = λ is. refl; some = λ place r is here. refl };
+      commits = λ tx key epoch chain at. record {
+        last = λ had st markers applies first. refl;
+        passes = λ had st markers applies first. refl;
+      };
+      completes = λ tx key chain at. record { last = λ first. refl; passes = λ first. refl };
+      aborts = λ tx key. record {
+        none = λ had st gives none. refl;
+        some = λ had st gives at r there here. refl;
+      };
+      acknowledges = λ tx markers. refl;
+      waits = λ tx key. record { none = λ is. refl; some = λ ahead is. refl };
+      dumps = λ at rows next. refl;
+      ages = record {
+        rests = λ is. refl;
+        none = λ tx key is none. refl;
+        some = λ tx key is at r there here. refl;
+      };
+      expires = λ at. record {
+        rests = λ is. refl;
+        none = λ tx key is none. refl;
+        some = λ tx key is place r there here. refl;
+      };
+      rests = λ body is. refl;
+    }) body
+
+module _ (s : ReplicaState) where
+  serve_node : (x : Signal) (b : Bool) → (serve_if s x b).state.lqh.node ≡ s.lqh.node
+  serve_node x true = refl
+  serve_node x false = rows_node s.lqh x.body
+
+  marker_node : (r : reports.Report) (o : Option (ℕ × Marker)) → (marker_by s r o).state.lqh.node ≡ s.lqh.node
+  marker_node r None = refl
+  marker_node r (Some (at, m)) = refl
+
+  record_node : (r : reports.Report) (o : Option (ℕ × PendingRecord)) → (record_by s r o).state.lqh.node ≡ s.lqh.node
+  record_node r None = marker_node r (last_before (is_orphaned_marker s.lqh.layout.view.full) s.lqh.markers r.markers)
+  record_node r (Some (at, one)) = refl
+
+  reports_node : (r : reports.Report) → (reporting s r).state.lqh.node ≡ s.lqh.node
+  unfolding reporting
+  reports_node r =
+      record_node r (last_before (is_orphaned_record s.lqh.layout.view.full) s.lqh.rows.pending r.records)
+
+  goes_on_node : (b : Bool) (o : Option reports.Report) → (go_on_by s b o).state.lqh.node ≡ s.lqh.node
+  goes_on_node true (Some r) = reports_node r
+  goes_on_node true None = refl
+  goes_on_node false o = refl
+
+  epochs_node : (from : ℕ) (signal : EpochSignal) → (epoch_table s from signal).state.lqh.node ≡ s.lqh.node
+  epochs_node from (GcpClosed epoch) = refl
+  epochs_node from (GcpSaveReq epoch) = refl
+  epochs_node from GcpStateReq = refl
+  epochs_node from _ = refl
+
+  replica_by_node : (x : Signal) (body : Body) → (replica_by s x body).state.lqh.node ≡ s.lqh.node
+  replica_by_node x (Membership (FenceReq proposal)) = refl
+  replica_by_node x (Takeover LqhTransReq) = reports_node _
+  replica_by_node x (Host (Continue work.Report at)) =
+      goes_on_node (x.view.number == s.lqh.layout.view.number) s.report
+  replica_by_node x (Host (Continue work.Granted at)) = serve_node x (is_stale s x)
+  replica_by_node x (Host (Continue work.Expired at)) = serve_node x (is_stale s x)
+  replica_by_node x (Epoch signal) = epochs_node x.member.node signal
+  replica_by_node x _ = rows_node s.lqh x.body
+
+  replica_node : (x : Signal) → (replica_row s x).state.lqh.node ≡ s.lqh.node
+  replica_node x = replica_by_node x x.body
+
+-- that of each block
+tc_takes : (p : TcPart) (to b : BlockId) (x : Signal) → own_node (Tc (tc_row p to x).state) b ≡ own_node (Tc p) b
+unfolding tc_row
+tc_takes p block.Tc block.Dih x = refl
+tc_takes p block.Tc _ x = coordinator_node p.coordinator x
+tc_takes p block.Takeover block.Dih x = refl
+tc_takes p block.Takeover _ x = refl
+tc_takes p block.Dih block.Dih x = dih_node p.dih x
+tc_takes p block.Dih _ x = refl
+tc_takes p _ b x = refl
+
+ldm_takes : (p : LdmPart) (to b : BlockId) (x : Signal) → own_node (Ldm (ldm_row p to x).state) b ≡ own_node (Ldm p) b
+unfolding ldm_row
+ldm_takes p block.Lqh b x = replica_node p.replica x
+ldm_takes p _ b x = refl
+
+node_takes : (parts : Parts) (b : BlockId) (x : Signal) → own_node (parts_row parts x).state b ≡ own_node parts b
+node_takes (Shell p) b x = refl
+node_takes (Main p) b x = refl
+node_takes (Tc p) b x = tc_takes p x.to.block b x
+node_takes (Ldm p) b x = ldm_takes p x.to.block b x
+
+node_tells : (parts : Parts) (b : BlockId) (replies : List ApiReply)
+    → own_node (giving parts replies) b ≡ own_node parts b
+node_tells (Shell p) b replies = refl
+node_tells (Main p) b replies = refl
+node_tells (Tc p) b replies = refl
+node_tells (Ldm p) b replies = refl
+
+node_entered : (b : BlockId) (s : hosts.Host) (view : View)
+    → own_node (entered s view).state.parts b ≡ own_node s.parts b
+unfolding entered
+node_entered b s view = still_node s.parts view b
+
+-- no event changes it
+no_block : BlockId → Bool
+no_block block = false
+
+stays_node : ℕ → Event → ℕ
+stays_node node event = node
+
+node_seen : BlockId → hosts.Host → ℕ
+node_seen b s = own_node s.parts b
+
+node_is_seen : (b : BlockId) → IsSeen no_block (node_seen b) stays_node
+unfolding no_block stays_node node_seen
+node_is_seen b = record {
+  enters = node_entered b;
+  takes_by = λ s x. node_takes s.parts b x;
+  stands = λ s standing same. refl;
+  tells = λ s replies. node_tells s.parts b replies;
+}
+
+along_stays : (node : ℕ) (events : List Event) → along stays_node node events ≡ node
+unfolding stays_node
+along_stays node [] = refl
+along_stays node (event ∷ events) = along_stays node events
+
+module _ (start : Start) (k left : ℕ) (part : k % 3 ≡ suc left) where
+  begun_node : (m : Member) (left : ℕ) (b : BlockId)
+      → own_node (part_started start (part_by (suc left)) m).parts b ≡ m.node
+  begun_node m zero block.Dih = refl
+  begun_node m zero _ = refl
+  begun_node m (suc left) b = refl
+
+  begins : (b : BlockId) → node_seen b (started start (suc k)) ≡ (member_at (made start) (suc k)).node
+  unfolding node_seen
+  begins b =
+      let m = member_at (made start) (suc k) in
+      ap (λ (s : hosts.Host). own_node s.parts b) (started_behind start k)
+      ∙ ap (λ r. own_node (part_started start (part_by r) m).parts b) part
+      ∙ begun_node m left b
+
+  -- so it is along the log of a host that runs neither a membership nor the arbitrator
+  pub node_after : (log : List HostStep) (b : BlockId)
+      → own_node (after start (suc k) log).parts b ≡ (member_at (made start) (suc k)).node
+  unfolding node_seen
+  node_after log b =
+      let events = events_of no_block start (suc k) log in
+      log_goes no_block (node_seen b) stays_node (node_is_seen b) start (suc k) log
+      ∙ along_stays (node_seen b (started start (suc k))) events
+      ∙ begins b
