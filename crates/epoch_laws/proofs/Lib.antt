@@ -3,7 +3,6 @@ mod DihRows
 mod DihSends
 pub mod FallAll
 mod FallMarks
-mod FallMoments
 mod MarkClient
 mod MarkCoordinator
 mod MarkMaster
@@ -12,7 +11,6 @@ mod MarkNone
 mod MarkRows
 mod MarkSteps
 mod MarkTakeover
-mod MarkWalk
 mod MasterHears
 mod MasterHosts
 mod MasterKeeps
@@ -25,13 +23,7 @@ mod MasterSends
 mod MasterSpeaks
 mod MemberStays
 mod MomentEvents
-mod MomentHosts
-mod MomentMembers
-mod MomentSignals
 mod MomentSteps
-mod MomentTurns
-mod MomentViews
-mod MomentWalk
 mod OrderKeeps
 mod OrderMoves
 mod OrderOn
@@ -46,7 +38,6 @@ mod SentParts
 mod SentRows
 mod SentTakeover
 mod SentTurns
-mod SentWalk
 mod SignalsOn
 mod StandAll
 mod StandKinds
@@ -59,4 +50,3 @@ mod StandTakes
 mod StepKinds
 mod StepMain
 mod StepTc
-mod StepWalk

@@ -38,12 +38,8 @@ use Rattle.epoch_laws.proofs.MarkMembership.{membership_decides_none, membership
 use Rattle.epoch_laws.proofs.MarkNone.{DecidesNone, IsNoDecision, is_decision}
 use Rattle.epoch_laws.proofs.MarkRows.{rows_decide_none}
 use Rattle.epoch_laws.proofs.MarkTakeover.{takeover_decides_none}
-use Rattle.epoch_laws.proofs.MarkWalk.{IsMarked, IsOfHost, step_marks}
-
--- a host without a coordinator
-abbrev pub HasNoTc : Parts → Type 0
-HasNoTc (Tc p) = ⊥
-HasNoTc parts = Unit {0}
+use Rattle.moment_laws.proofs.MomentHosts.{HasNoTc}
+use Rattle.moment_laws.proofs.MarkWalk.{IsMarked, IsOfHost, step_marks}
 
 entered_none : (parts : Parts) (view : View) → DecidesNone (parts_entered parts view)
 unfolding dih.install_row

@@ -10,7 +10,7 @@ use Rattle.sig_core.specs.declared.place.Part.TheVariants.{Ldm, Tc}
 use Rattle.frag_map.specs.Replicas.{is_member}
 use Rattle.world_core.specs.Hosts.{host_at}
 use Rattle.world_core.specs.Start.{Start, made}
-use Rattle.epoch_laws.specs.Members.{ldm_of, tc_of}
+use Rattle.moment_laws.specs.Places.{ldm_of, tc_of}
 
 is_self : (one other : Member) → one ≡ other → is_member one other ≡ true
 is_self one other e =

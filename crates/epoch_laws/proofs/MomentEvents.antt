@@ -31,18 +31,19 @@ use Rattle.view_laws.proofs.EraShapes.{shape_stays}
 use Rattle.view_laws.proofs.FenceRows.{dih_enters}
 use Rattle.view_laws.proofs.FenceViews.{fences_are_not_below, greater_second}
 use Rattle.epoch_laws.specs.Alike.{IsSound}
-use Rattle.epoch_laws.specs.Members.{dih_in, epochs_of, master_in, master_of, tc_of}
-use Rattle.epoch_laws.specs.Moments.{IsMoment, current, logs_of}
+use Rattle.epoch_laws.specs.Members.{dih_in, epochs_of, master_in, master_of}
+use Rattle.moment_laws.specs.Places.{tc_of}
+use Rattle.moment_laws.specs.Moments.{IsMoment, current, logs_of}
 use Rattle.epoch_laws.specs.Told.{IsTrue, IsTrueOf}
 use Rattle.epoch_laws.proofs.DihMoves.{Moves, Stays, dih_installs_stay, dih_moves, rests}
 use Rattle.epoch_laws.proofs.DihRows.{Rises, dih_installs_sound, dih_sound}
-use Rattle.epoch_laws.proofs.MomentHosts.{part_some}
-use Rattle.epoch_laws.proofs.MomentSignals.{EachSent, epoch_told, sent_below}
+use Rattle.moment_laws.proofs.MomentHosts.{part_some}
+use Rattle.moment_laws.proofs.MomentSignals.{EachSent, epoch_told, sent_below}
 use Rattle.epoch_laws.proofs.MomentSteps.{EpochsMove, EpochsTake, IsTaken, MasterMoves, epochs_move, master_moves}
-use Rattle.epoch_laws.proofs.MomentTurns.{current_rises, old_current, other_log, own_log, taker_stands}
-use Rattle.epoch_laws.proofs.MomentViews.{current_number, moment_less, number_in}
-use Rattle.epoch_laws.proofs.MomentWalk as walk
-use Rattle.epoch_laws.proofs.MomentWalk.{step_moves}
+use Rattle.moment_laws.proofs.MomentTurns.{current_rises, old_current, other_log, own_log, taker_stands}
+use Rattle.moment_laws.proofs.MomentViews.{current_number, moment_less, number_in}
+use Rattle.moment_laws.proofs.MomentWalk as walk
+use Rattle.moment_laws.proofs.MomentWalk.{step_moves}
 use Rattle.epoch_laws.proofs.StepTc.{moves_from}
 
 -- the fence of epochs isn't below a view that is entered

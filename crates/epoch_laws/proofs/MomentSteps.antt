@@ -24,7 +24,7 @@ use Rattle.node_views.specs.Parts.{main_row, main_settled, tc_row}
 use Rattle.node_views.specs.WellFormed.{is_well_formed}
 use Rattle.view_laws.proofs.EraRises.{Follows, entered_follows, settled_above}
 use Rattle.epoch_laws.specs.Members.{dih_in, master_in}
-use Rattle.epoch_laws.proofs.MomentWalk.{IsPassed, Moves, Passes, entering, leaves, plainly, settles, takes}
+use Rattle.moment_laws.proofs.MomentWalk.{IsPassed, Moves, Passes, entering, leaves, plainly, settles, takes}
 
 -- A block of a host takes the signal, and the host stands in this view behind the step: it is none of a greater view, nor,
 -- if it is of a kind that fences stop, of a lesser one.

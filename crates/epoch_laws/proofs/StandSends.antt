@@ -52,8 +52,9 @@ use Rattle.view_laws.proofs.RunMade.{member_main, node_some}
 use Rattle.view_laws.proofs.SetRows.{same_is}
 use Rattle.epoch_laws.specs.Alike.{IsSound}
 use Rattle.epoch_laws.specs.Masters.{HasPrepared}
-use Rattle.epoch_laws.specs.Members.{IsFirst, IsPresident, IsStanding, dih_in, epochs_of, ldm_of, master_in, master_of, tc_of}
-use Rattle.epoch_laws.specs.Moments.{IsMoment, current, logs_of}
+use Rattle.epoch_laws.specs.Members.{IsFirst, IsPresident, IsStanding, dih_in, epochs_of, master_in, master_of}
+use Rattle.moment_laws.specs.Places.{ldm_of, tc_of}
+use Rattle.moment_laws.specs.Moments.{IsMoment, current, logs_of}
 use Rattle.epoch_laws.specs.Stand.{AllStand}
 use Rattle.epoch_laws.specs.Told.{IsTrue, IsTrueOf}
 use Rattle.epoch_laws.proofs.DihMoves.{Moves}
@@ -62,9 +63,9 @@ use Rattle.epoch_laws.proofs.MasterHears.{same_member-is, same_member-self}
 use Rattle.epoch_laws.proofs.MasterSends.{MaySay, master_says}
 use Rattle.epoch_laws.proofs.MasterSpeaks.{says_true}
 use Rattle.epoch_laws.proofs.MomentEvents.{IsTakenNow, fenced_is, order_told}
-use Rattle.epoch_laws.proofs.MomentHosts.{ldm_member, main_number, tc_member, tc_started}
-use Rattle.epoch_laws.proofs.MomentTurns.{host_low, own_behind, own_log, stands_behind, taker_stands}
-use Rattle.epoch_laws.proofs.MomentWalk.{not_barred}
+use Rattle.moment_laws.proofs.MomentHosts.{ldm_member, main_number, tc_member, tc_started}
+use Rattle.moment_laws.proofs.MomentTurns.{host_low, own_behind, own_log, stands_behind, taker_stands}
+use Rattle.moment_laws.proofs.MomentWalk.{not_barred}
 use Rattle.epoch_laws.proofs.SentMembership.{IsOrdering, Orders, OrdersBy}
 use Rattle.epoch_laws.proofs.SentNone.{IsNoOrder, is_order}
 use Rattle.epoch_laws.proofs.SentParts.{rows_send, shell_sends_none}

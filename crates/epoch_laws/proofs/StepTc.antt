@@ -31,7 +31,7 @@ use Rattle.epoch_laws.proofs.SentCoordinator.{coordinator_none}
 use Rattle.epoch_laws.proofs.SentNone.{AreNoOrders, IsNoOrder, is_order}
 use Rattle.epoch_laws.proofs.SentParts.{entered_none}
 use Rattle.epoch_laws.proofs.SentTakeover.{takeover_none}
-use Rattle.epoch_laws.proofs.StepWalk.{IsTaken, IsWalked, Saying, next_comes}
+use Rattle.moment_laws.proofs.StepWalk.{IsTaken, IsWalked, Saying, next_comes}
 
 -- The blocks of a host take the signal, where it stands in this view behind it: the signal's own, which is greater, or the
 -- one before, where the signal isn't below their fence.

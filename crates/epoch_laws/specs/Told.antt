@@ -13,8 +13,9 @@ use Rattle.world_core.specs.Steps.{Addressed, HostStep}
 use Rattle.view_laws.specs.Votes.{main_of}
 use Rattle.epoch_laws.specs.Alike.{EachFull}
 use Rattle.epoch_laws.specs.Masters.{Commits, HasPrepared, IsSilent, Prepares}
-use Rattle.epoch_laws.specs.Members.{IsPresident, IsStanding, epochs_of, ldm_of, master_of, tc_of}
-use Rattle.epoch_laws.specs.Moments.{current}
+use Rattle.epoch_laws.specs.Members.{IsPresident, IsStanding, epochs_of, master_of}
+use Rattle.moment_laws.specs.Places.{ldm_of, tc_of}
+use Rattle.moment_laws.specs.Moments.{current}
 
 module _ (start : Start) (logs : ℕ → List HostStep) where
   -- The president ordered this in the current view: the order is under way, or each member is beyond it.

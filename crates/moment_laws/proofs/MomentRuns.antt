@@ -12,8 +12,9 @@ use Rattle.run_theory.specs.Ranks.{IsByRank, in_order}
 use Rattle.view_laws.specs.Runs.{AreOfCluster, view_after}
 use Rattle.view_laws.proofs.EraOrder.{act_in_greatest, run_in_views}
 use Rattle.view_laws.proofs.RunStep.{started_view}
-use Rattle.epoch_laws.specs.Moments.{IsInOrder, IsMoment, current, logs_of}
-use Rattle.epoch_laws.proofs.MomentViews.{IsSome, current_is, current_number}
+use Rattle.moment_laws.specs.Found.{LogsAreMoments}
+use Rattle.moment_laws.specs.Moments.{IsInOrder, IsMoment, current, logs_of}
+use Rattle.moment_laws.proofs.MomentViews.{IsSome, current_is, current_number}
 
 module _ (start : Start) (logs : ℕ → List HostStep) (are : AreOfCluster start logs) where
   -- each event comes in no lesser view than that which is current before it
@@ -59,3 +60,10 @@ module _ (start : Start) (logs : ℕ → List HostStep) (are : AreOfCluster star
         inside = λ h. subst (IsPast (logs_of start (in_order (by_views start logs)) h)) (ran.has h) (past_self _);
         ordered = orderly [] (by_views start logs) refl ran.placed;
       }
+
+pub have_moments : LogsAreMoments
+have_moments start logs are = record {
+  events = in_order (by_views start logs);
+  is = are_moments start logs are;
+  whole = (run_in_views start logs are).has;
+}

@@ -16,8 +16,8 @@ use Rattle.view_laws.proofs.EraRises.{view_rises}
 use Rattle.view_laws.proofs.RunKept.{have_orderly}
 use Rattle.view_laws.proofs.RunStep.{host_there}
 use Rattle.view_laws.proofs.RunViews.{of_greater, one_view}
-use Rattle.epoch_laws.specs.Moments.{IsMoment, current, logs_of}
-use Rattle.epoch_laws.proofs.MomentViews.{IsSome, current_above, current_is, current_number, first_below, moment_installed, moment_less, moment_within, number_in, stands_in_current}
+use Rattle.moment_laws.specs.Moments.{IsMoment, current, logs_of}
+use Rattle.moment_laws.proofs.MomentViews.{IsSome, current_above, current_is, current_number, first_below, moment_installed, moment_less, moment_within, number_in, stands_in_current}
 
 module _ (start : Start) (all : ℕ → List HostStep) (e : HostStep) (es : List HostStep)
     (moment : IsMoment start all (e ∷ es))

@@ -17,8 +17,7 @@ use Rattle.view_laws.specs.Votes.{main_of}
 use Rattle.view_laws.proofs.FenceHosts.{any_found, block_host, number_some}
 use Rattle.view_laws.proofs.FollowHosts.{first_of, started_behind}
 use Rattle.view_laws.proofs.RunMade.{first_in, made_tested, node_low, node_some}
-use Rattle.epoch_laws.specs.Members.{ldm_of, tc_of}
-use Rattle.epoch_laws.proofs.MarkSteps.{HasNoTc}
+use Rattle.moment_laws.specs.Places.{ldm_of, tc_of}
 
 -- none is the shell's
 pub part_some : (start : Start) (part : Part) (member : Member) → 1 ≤ host_of (made start) part member
@@ -95,6 +94,11 @@ module _ (start : Start) (me : Member) (there : IsIn me (made start)) where
       ∙ ap (λ k. part_started start (part_by k) (member_at (made start) (host_by_number 1)))
       (mod-mul-add (me.node - 1) 3 1 (omega arith))
       ∙ ap (part_started start Tc) (at_number 1 (omega arith))
+
+-- a host without a coordinator
+abbrev pub HasNoTc : Parts → Type 0
+HasNoTc (Tc p) = ⊥
+HasNoTc parts = Unit {0}
 
 -- a host of a part that isn't a coordinating one, or that of a member
 pub data TcHost (start : Start) (h : ℕ) : Type 0 where

@@ -28,8 +28,8 @@ use Rattle.view_laws.specs.Runs.{view_after}
 use Rattle.view_laws.proofs.EraRises.{view_rises}
 use Rattle.view_laws.proofs.EraSound.{each_filter}
 use Rattle.view_laws.proofs.FollowSends.{each_sent}
-use Rattle.epoch_laws.specs.Moments.{IsMoment, logs_of}
-use Rattle.epoch_laws.proofs.MomentViews.{current_above, current_number, moment_within}
+use Rattle.moment_laws.specs.Moments.{IsMoment, logs_of}
+use Rattle.moment_laws.proofs.MomentViews.{current_above, current_number, moment_within}
 
 -- the body closes a link
 pub record IsClosed (body : Body) : Type 0 where

@@ -18,7 +18,7 @@ use Rattle.view_laws.proofs.EraCausal.{greater_own, greater_taken}
 use Rattle.view_laws.proofs.RunKept.{have_orderly}
 use Rattle.view_laws.proofs.RunStep.{started_view}
 use Rattle.view_laws.proofs.RunViews.{of_greater, one_view}
-use Rattle.epoch_laws.specs.Moments.{IsMoment, current, greatest_of, logs_of}
+use Rattle.moment_laws.specs.Moments.{IsMoment, current, greatest_of, logs_of}
 
 module _ (start : Start) where
   -- the number of the view in which a host stands

@@ -20,8 +20,8 @@ use Rattle.view_laws.proofs.RunSound.{IsOfMade, proposed_in}
 use Rattle.view_laws.proofs.RunViews.{installed_chosen}
 use Rattle.view_laws.proofs.SetLemmas.{made_full}
 use Rattle.view_laws.proofs.StandingMembers.{are_of_views}
-use Rattle.epoch_laws.specs.Moments.{IsMoment, current, logs_of}
-use Rattle.epoch_laws.proofs.MomentViews.{current_number, moment_installed, moment_less}
+use Rattle.moment_laws.specs.Moments.{IsMoment, current, logs_of}
+use Rattle.moment_laws.proofs.MomentViews.{current_number, moment_installed, moment_less}
 
 module _ (start : Start) (all : ℕ → List HostStep) (are : AreOfCluster start all) where
   -- a view that was installed is a set of members that were made, of which none is starting

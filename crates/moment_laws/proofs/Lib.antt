@@ -1,0 +1,10 @@
+pub mod MarkWalk
+pub mod MomentHosts
+pub mod MomentMembers
+pub mod MomentRuns
+pub mod MomentSignals
+pub mod MomentTurns
+pub mod MomentViews
+pub mod MomentWalk
+pub mod SentWalk
+pub mod StepWalk

@@ -1,0 +1,12 @@
+//! Right logs as moments in the order of views.
+ghost use Rattle.moment_laws.specs.Found.{LogsAreMoments, TakersStandInTheCurrentView};
+
+/// Right logs have a moment at which all that their hosts do has come.
+pub fn logs_are_moments()
+    ensures { LogsAreMoments }
+{}
+
+/// Whoever takes a signal stands in the current view, if the signal's view isn't greater than its own then.
+pub fn takers_stand_in_the_current_view()
+    ensures { TakersStandInTheCurrentView }
+{}
