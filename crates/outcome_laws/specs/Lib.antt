@@ -1,3 +1,5 @@
 pub mod Tells
 pub mod Known
 pub mod Counts
+pub mod Decided
+pub mod Outcomes
