@@ -1,5 +1,5 @@
 -- What an event sends is true behind it.
-use Rattle.std.proofs.Common.{◌≡◌, ◌≢◌, ◌≤◌, ◌<◌, ◌⊎◌, ◌==◌, ◌++◌, ℕ, Bool, true, false, cond, filter, List, [], ◌∷◌, refl, sym, ap, subst, ◌∙◌, inl, inr, arith, eq-eqb}
+use Rattle.std.proofs.Common.{◌≡◌, ◌≤◌, ◌<◌, ◌⊎◌, ◌==◌, ◌++◌, ℕ, Bool, true, false, cond, filter, List, [], ◌∷◌, refl, sym, ap, subst, ◌∙◌, inl, inr, arith, eq-eqb}
 use Rattle.std.proofs.lemmas.Bool.{cases_Bool, eqb-true, ltb-false, true≢false}
 use Rattle.std.specs.Prelude.{if◌then◌else◌, slice_get, Option, None, Some}
 use Rattle.frag_map.specs.Layout.{first_layout}
@@ -36,7 +36,7 @@ use Rattle.qmgr_block.specs.State.{QmgrState}
 use Rattle.world_core.specs.Hosts.{host_by, member_at, member_of}
 use Rattle.world_core.specs.Start.{Start, made}
 use Rattle.world_core.specs.Steps.{Addressed, HostStep}
-use Rattle.world_views.specs.Hosts.{known, reached, started}
+use Rattle.world_views.specs.Hosts.{reached, started}
 use Rattle.world_views.specs.Machine.{after, own_stop, signals_of, step_after, step_by, step_if, stops_by}
 use Rattle.view_laws.specs.HostEvents.{events_of, is_membership}
 use Rattle.view_laws.specs.Order.{is_sound}

@@ -9,6 +9,8 @@ use Rattle.sig_core.specs.declared.place.BlockId.TheVariants as block
 use Rattle.sig_core.specs.declared.place.Part.{Part}
 use Rattle.sig_core.specs.declared.place.Part.TheVariants.{Ldm, Tc}
 use Rattle.sig_core.specs.Members.{nobody}
+use Rattle.node_views.specs.declared.parts.Parts.{Parts}
+use Rattle.node_views.specs.declared.parts.Parts.TheVariants as part
 use Rattle.world_core.proofs.HostNumbers.{members_at, members_length}
 use Rattle.world_core.specs.Hosts.{host_at, host_of, hosts, member_at, part_by}
 use Rattle.world_core.specs.Start.{Start, made}
@@ -97,7 +99,7 @@ module _ (start : Start) (me : Member) (there : IsIn me (made start)) where
 
 -- a host without a coordinator
 abbrev pub HasNoTc : Parts → Type 0
-HasNoTc (Tc p) = ⊥
+HasNoTc (part.Tc p) = ⊥
 HasNoTc parts = Unit {0}
 
 -- a host of a part that isn't a coordinating one, or that of a member

@@ -1,6 +1,5 @@
 -- Right logs are moments, and who takes a signal stands in the current view.
 use Rattle.std.specs.Prelude.{◌≡◌, ◌≤◌, ℕ, List, ◌∷◌}
-use Rattle.sig_core.specs.declared.view.View.{View}
 use Rattle.world_core.specs.Start.{Start}
 use Rattle.world_core.specs.Steps.{HostStep}
 use Rattle.view_laws.specs.Runs.{AreOfCluster, view_after}

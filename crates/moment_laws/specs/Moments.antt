@@ -1,5 +1,5 @@
 -- Moments of a run in the order of views: at each the greatest view is the one in which things go on.
-use Rattle.std.specs.Prelude.{◌≡◌, ◌≤◌, ℕ, zero, suc, List, [], ◌∷◌}
+use Rattle.std.specs.Prelude.{◌≤◌, ℕ, zero, suc, List, [], ◌∷◌}
 use Rattle.frag_map.specs.Layout.{first_layout}
 use Rattle.run_theory.specs.Cuts.{IsCut}
 use Rattle.run_theory.specs.Runs.{Run, log_of}
