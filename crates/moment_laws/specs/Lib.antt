@@ -1,3 +1,4 @@
 pub mod Moments
 pub mod Places
 pub mod Found
+pub mod Parts

@@ -1,0 +1,33 @@
+-- The blocks of a member, as logs leave them.
+use Rattle.std.specs.Prelude.{ℕ, List, []}
+use Rattle.frag_map.specs.Layout.{first_layout}
+use Rattle.sig_core.specs.declared.member.Member.{Member}
+use Rattle.tc_views.specs.Coordinator.{fresh_coordinator}
+use Rattle.tc_views.specs.State.{CoordinatorState}
+use Rattle.takeover_block.specs.State.{TakeoverState, resting}
+use Rattle.node_views.specs.declared.parts.Parts.{Parts}
+use Rattle.node_views.specs.declared.parts.Parts.TheVariants as part
+use Rattle.world_core.specs.Start.{Start}
+use Rattle.world_core.specs.Steps.{HostStep}
+use Rattle.world_views.specs.Machine.{after}
+use Rattle.moment_laws.specs.Places.{tc_of}
+
+-- the coordinator that a host runs, and its takeover; of a host that runs none, these
+abbrev pub coordinator_in : CoordinatorState → Parts → CoordinatorState
+coordinator_in other (part.Tc p) = p.coordinator
+coordinator_in other parts = other
+
+abbrev pub takeover_in : TakeoverState → Parts → TakeoverState
+takeover_in other (part.Tc p) = p.takeover
+takeover_in other parts = other
+
+module _ (start : Start) (member : Member) where
+  -- the coordinator of a member behind a log of its host
+  abbrev pub coordinator_after : List HostStep → CoordinatorState
+  coordinator_after log =
+      coordinator_in (fresh_coordinator member.node member.start (first_layout start.shape))
+      (after start (tc_of start member) log).parts
+
+  abbrev pub takeover_after : List HostStep → TakeoverState
+  takeover_after log =
+      takeover_in (resting member.node (first_layout start.shape)) (after start (tc_of start member) log).parts
