@@ -1,0 +1,5 @@
+pub mod Blocks
+pub mod Ways
+pub mod Drives
+pub mod Phases
+pub mod Stand
