@@ -1,0 +1,5 @@
+pub mod RowsNone
+pub mod RowsLists
+pub mod RowsKnowledge
+pub mod RowsSends
+pub mod RowsMarks
