@@ -5,3 +5,8 @@ pub mod DihCounts
 pub mod TakeoverKnows
 pub mod TakeoverTells
 pub mod TakeoverMarks
+pub mod RowsNone
+pub mod RowsLists
+pub mod RowsKnowledge
+pub mod RowsSends
+pub mod RowsMarks
