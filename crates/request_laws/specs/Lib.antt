@@ -3,3 +3,4 @@ pub mod Ways
 pub mod Drives
 pub mod Phases
 pub mod Stand
+pub mod Replicas
