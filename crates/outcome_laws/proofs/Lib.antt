@@ -1,0 +1,3 @@
+pub mod TcWalk
+pub mod TcMarks
+pub mod TcTells

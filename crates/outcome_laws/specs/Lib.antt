@@ -1,3 +1,4 @@
 pub mod Tells
 pub mod Known
 pub mod Counts
+pub mod Own
