@@ -1,3 +1,5 @@
 pub mod TcWalk
 pub mod TcMarks
 pub mod TcTells
+pub mod TcLists
+pub mod TcClaims
