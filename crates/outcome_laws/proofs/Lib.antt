@@ -3,3 +3,4 @@ pub mod TcMarks
 pub mod TcTells
 pub mod TcLists
 pub mod TcClaims
+pub mod TcCounts
