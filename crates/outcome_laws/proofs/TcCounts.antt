@@ -297,8 +297,8 @@ module _ (member : Member) (s : TcState) (of : IsOf member s) where
       by : (b : Bool) → same_tx (next_tx s) one ≡ b → Uses s (begin_if s name false) one
       by true same =
           let used : 1 + one_if (nat_le (s.next_seq + 1) one.seq) ≤ one_if (nat_le s.next_seq one.seq) =
-              subst (λ (n : ℕ). 1 + one_if (nat_le (s.next_seq + 1) n) ≤ one_if (nat_le s.next_seq n))
-              (ap (λ (x : TxId). x.seq) (same_tx-is (next_tx s) one same)) (comes_to s.next_seq) in
+          subst (λ (n : ℕ). 1 + one_if (nat_le (s.next_seq + 1) n) ≤ one_if (nat_le s.next_seq n))
+          (ap (λ (x : TxId). x.seq) (same_tx-is (next_tx s) one same)) (comes_to s.next_seq) in
           record {
             begins = omega (arith, used, sent, ap one_if same);
             asks = omega (arith, used, now, ap (λ b. one_if (b && true)) same);
