@@ -1,1 +1,3 @@
 pub mod ClientTurns
+pub mod ClientKnows
+pub mod ClientCounts
