@@ -16,3 +16,6 @@ pub mod TcTells
 pub mod TcLists
 pub mod TcClaims
 pub mod TcCounts
+pub mod ClientTurns
+pub mod ClientKnows
+pub mod ClientCounts
