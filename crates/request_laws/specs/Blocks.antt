@@ -1,5 +1,5 @@
 -- The blocks of a member, as logs leave them.
-use Rattle.std.specs.Prelude.{ℕ, List, []}
+use Rattle.std.specs.Prelude.{List}
 use Rattle.frag_map.specs.Layout.{first_layout}
 use Rattle.sig_core.specs.declared.member.Member.{Member}
 use Rattle.tc_views.specs.Coordinator.{fresh_coordinator}

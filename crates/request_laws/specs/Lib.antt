@@ -5,3 +5,4 @@ pub mod Phases
 pub mod Stand
 pub mod Replicas
 pub mod Strays
+pub mod Routes

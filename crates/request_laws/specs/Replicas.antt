@@ -1,6 +1,5 @@
 -- One key of a node's rows under views: what each signal does to it, and each installation.
 use Rattle.std.specs.Prelude.{◌≡◌, ℕ, Bool, true, false, List, []}
-use Rattle.sig_core.specs.declared.member.Member.{Member}
 use Rattle.sig_core.specs.declared.member.TxId.{TxId}
 use Rattle.sig_core.specs.declared.signal.Body.{Body}
 use Rattle.sig_core.specs.declared.signal.Body.TheVariants.{Epoch, Host, Membership, Takeover}

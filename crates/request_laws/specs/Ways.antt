@@ -1,5 +1,5 @@
 -- Which way a transaction goes at its coordinator: it is committed, or given up.
-use Rattle.std.specs.Prelude.{◌||◌, Bool, false, ℕ, List, [], ◌∷◌, Option, None, Some}
+use Rattle.std.specs.Prelude.{◌||◌, Bool, false, List, [], ◌∷◌, Option, None, Some}
 use Rattle.std.specs.List.{list_any}
 use Rattle.sig_core.specs.declared.member.Member.{Member}
 use Rattle.sig_core.specs.declared.member.TxId.{TxId}
