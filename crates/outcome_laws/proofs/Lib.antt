@@ -1,0 +1,3 @@
+pub mod KnowNothing
+pub mod KnowMembership
+pub mod KnowMaster
