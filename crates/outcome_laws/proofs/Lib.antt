@@ -1,3 +1,9 @@
 pub mod KnowNothing
 pub mod KnowMembership
 pub mod KnowMaster
+pub mod TcWalk
+pub mod TcMarks
+pub mod TcTells
+pub mod TcLists
+pub mod TcClaims
+pub mod TcCounts
