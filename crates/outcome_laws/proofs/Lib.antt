@@ -7,3 +7,4 @@ pub mod TcTells
 pub mod TcLists
 pub mod TcClaims
 pub mod TcCounts
+pub mod ClientTurns
