@@ -8,3 +8,8 @@ pub mod TcLists
 pub mod TcClaims
 pub mod TcCounts
 pub mod ClientTurns
+pub mod RowsNone
+pub mod RowsLists
+pub mod RowsKnowledge
+pub mod RowsSends
+pub mod RowsMarks
