@@ -45,7 +45,7 @@ use Rattle.gcp_master.specs.Resume.{knowing, learned_if, order_by, order_row, re
 use Rattle.gcp_master.specs.Sends.{entering, front_sends, go_on_if, go_on_row, list_effects, listing, master_sends, order_at, orders_at, phase_sends, to_both, to_copying, to_each, told_if}
 use Rattle.gcp_master.specs.State.{MasterState, all_in, at_phase, counted, counts}
 use Rattle.gcp_master.specs.Voices.{is_among}
-use Rattle.outcome_laws.proofs.DihNone.{AreSilent, IsSilent, is_telling}
+use Rattle.outcome_laws.proofs.DihSilent.{AreSilent, IsSilent, is_telling}
 use Rattle.outcome_laws.proofs.KnowNothing.{TellsNothing, portion_silent}
 
 -- the lists

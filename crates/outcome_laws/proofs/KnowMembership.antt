@@ -35,7 +35,7 @@ use Rattle.qmgr_block.specs.Sets.{is_among, is_in, joined_view, members_of, prom
 use Rattle.qmgr_block.specs.Starts.{covers}
 use Rattle.qmgr_block.specs.State.{QmgrState}
 use Rattle.qmgr_block.specs.Suspects.{close_row, has_more, is_kept_suspect, president, presides, report_row, told, told_by, told_if, with_closing, with_suspects}
-use Rattle.outcome_laws.proofs.DihNone.{AreSilent, IsSilent}
+use Rattle.outcome_laws.proofs.DihSilent.{AreSilent, IsSilent}
 use Rattle.outcome_laws.proofs.KnowNothing.{TellsNothing, portion_silent}
 
 -- a proposal, or that suspects are told of

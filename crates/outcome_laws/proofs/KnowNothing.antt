@@ -8,7 +8,7 @@ use Rattle.sig_core.specs.declared.portion.TheConstants.{PORTION}
 use Rattle.sig_core.specs.declared.signal.host.Work.{Work}
 use Rattle.sig_core.specs.Portion.{portion_effects, rest_if}
 use Rattle.sig_core.specs.Step.{Step}
-use Rattle.outcome_laws.proofs.DihNone.{AreSilent, IsSilent}
+use Rattle.outcome_laws.proofs.DihSilent.{AreSilent, IsSilent}
 use Rattle.outcome_laws.proofs.RowsNone.{MarksNone}
 
 abbrev pub TellsNothing : {S : Type 0} → Step S → Type 0

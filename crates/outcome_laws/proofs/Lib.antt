@@ -1,3 +1,5 @@
+pub mod KnowWalk
+pub mod KnowParts
 pub mod KnowNothing
 pub mod KnowMembership
 pub mod KnowMaster
