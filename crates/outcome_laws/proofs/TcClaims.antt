@@ -1,5 +1,5 @@
--- What a coordinator's transactions claim: a turn tells of none that has begun, and an open transaction asks for an epoch
--- once, and isn't open any more.
+-- What a coordinator's transactions claim: no turn tells that one has begun, and an open transaction asks for an epoch
+-- and isn't open any more.
 use Rattle.std.proofs.Common.{◌≡◌, ◌+◌, ℕ, Bool, true, false, List, [], ◌∷◌, take, drop, length, nat_lt, refl, ap}
 use Rattle.std.specs.Prelude.{None}
 use Rattle.std.specs.List.{flat_map}

@@ -28,7 +28,7 @@ use Rattle.tc_block.specs.Tc.{begin_if, begun, next_tx}
 use Rattle.tc_block.specs.Turn.{Turn}
 use Rattle.tc_block.specs.declared.transaction.Transaction.{Transaction}
 use Rattle.tc_block.proofs.EachTurn.{rows_of}
-use Rattle.tc_block.proofs.LiveSplit.{AreOthers, Live, Split, once_gone, once_inserted, once_set}
+use Rattle.tc_block.proofs.LiveSplit.{AreOthers, Split, once_gone, once_inserted, once_set}
 use Rattle.tc_views.specs.Coordinator.{coordinator_row, fresh_coordinator}
 use Rattle.tc_views.specs.Laws.{AreOnce}
 use Rattle.tc_views.specs.State.{CoordinatorState, go_on_if}
@@ -37,7 +37,7 @@ use Rattle.outcome_laws.specs.Counts.{IsCoordinatorOf, coordinator_member, count
 use Rattle.outcome_laws.specs.Own.{IsOwnAt, IsOwnSend}
 use Rattle.outcome_laws.proofs.TcClaims.{AreQuiet, Claims, IsQuiet, asks, is_claim, more_quiet, quiet, resume_claims, turn_claims}
 use Rattle.outcome_laws.proofs.TcLists.{are_once, come_to, comes_to, count_between, count_both, count_more, keys_once, next_is_other, none_counted, put_last}
-use Rattle.outcome_laws.proofs.TcWalk.{CoordinatorForms, coordinator_each, inner}
+use Rattle.outcome_laws.proofs.TcWalk.{coordinator_each, inner}
 
 -- the same of the coordinator within its view as of the one under views
 record IsOf (member : Member) (s : TcState) : Type 0 where
@@ -81,7 +81,8 @@ no_claim member to _ is = tt
 quiet_begins : (tx : TxId) (sends : List Outgoing) → AreQuiet sends → count_sent (is_begin tx) sends ≡ 0
 quiet_begins tx sends all =
     none_counted (is_begin tx) sends
-    (each_map IsQuiet (λ (sent : Outgoing). is_begin tx sent.body ≡ false) sends (λ sent is. no_begin tx sent.body is) all)
+    (each_map IsQuiet (λ (sent : Outgoing). is_begin tx sent.body ≡ false) sends (λ sent is. no_begin tx sent.body is)
+    all)
 
 quiet_asks : (tx : TxId) (sends : List Outgoing) → AreQuiet sends → count_sent (is_asking tx) sends ≡ 0
 quiet_asks tx sends all =
@@ -140,10 +141,11 @@ turn_uses member node tx t turn node_is own (quiet all open_is) = record {
 turn_uses member node tx t turn node_is own (asks ops open_is shut sends_are) = record {
   begins = λ one. ap (count_sent (is_begin one)) sends_are;
   asks = λ one.
+      let asking = to_place (epochs node) (Epoch (DiVerifyReq tx ops)) in
       omega (
         arith,
         ap (count_sent (is_asking one)) sends_are,
-        count_more (λ (sent : Outgoing). is_asking one sent.body) (to_place (epochs node) (Epoch (DiVerifyReq tx ops))) [],
+        count_more (λ (sent : Outgoing). is_asking one sent.body) asking [],
         shut_now (same_tx tx one) (is_open turn.step.state.phase) (is_open t.phase) shut open_is,
       );
   sends = subst (Each (IsOwnSend member)) (sym sends_are) ((own, ap epochs node_is), tt);
@@ -295,8 +297,8 @@ module _ (member : Member) (s : TcState) (of : IsOf member s) where
       by : (b : Bool) → same_tx (next_tx s) one ≡ b → Uses s (begin_if s name false) one
       by true same =
           let used : 1 + one_if (nat_le (s.next_seq + 1) one.seq) ≤ one_if (nat_le s.next_seq one.seq) =
-              subst (λ (n : ℕ). 1 + one_if (nat_le (s.next_seq + 1) n) ≤ one_if (nat_le s.next_seq n))
-              (ap (λ (x : TxId). x.seq) (same_tx-is (next_tx s) one same)) (comes_to s.next_seq) in
+          subst (λ (n : ℕ). 1 + one_if (nat_le (s.next_seq + 1) n) ≤ one_if (nat_le s.next_seq n))
+          (ap (λ (x : TxId). x.seq) (same_tx-is (next_tx s) one same)) (comes_to s.next_seq) in
           record {
             begins = omega (arith, used, sent, ap one_if same);
             asks = omega (arith, used, now, ap (λ b. one_if (b && true)) same);
@@ -413,13 +415,16 @@ module _ (member : Member) where
       let b = nat_lt 0 (length (tasks_at s view.number)) in
       quiet_own member (go_on_if s.tc.node b) (more_quiet s.tc.node b)
 
-  pub coordinator_of_fresh : (layout : Layout) → IsCoordinatorOf member (fresh_coordinator member.node member.start layout)
+  -- as its life begins
+  pub coordinator_of_fresh : (layout : Layout)
+      → IsCoordinatorOf member (fresh_coordinator member.node member.start layout)
   coordinator_of_fresh layout = record { node_is = refl; start_is = refl; own = tt; begun = tt; once = tt }
 
 module _ (tx : TxId) (s : CoordinatorState) (view : View) where
   abbrev more : Bool
   more = nat_lt 0 (length (tasks_at s view.number))
 
+  -- where a view is installed none is told to have begun, and no epoch is asked for
   pub installs_begin_none : count_sent (is_begin tx) (install_row s view).effects.sends ≡ 0
   unfolding install_row
   installs_begin_none = quiet_begins tx (go_on_if s.tc.node more) (more_quiet s.tc.node more)

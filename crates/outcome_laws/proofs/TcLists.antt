@@ -1,6 +1,6 @@
 -- The list of a coordinator's transactions, where none stands twice and their numbers have been come to; and counts of
 -- entries and of signals.
-use Rattle.std.proofs.Common.{◌≡◌, ◌∙◌, ◌+◌, ◌≤◌, ◌<◌, ℕ, Bool, true, false, cond, List, [], ◌∷◌, ◌++◌, arith, refl, sym, ap, subst}
+use Rattle.std.proofs.Common.{◌≡◌, ◌∙◌, ◌+◌, ◌≤◌, ◌<◌, ℕ, Bool, true, false, cond, List, [], ◌∷◌, ◌++◌, arith, refl, ap}
 use Rattle.std.proofs.lemmas.Bool.{leb-false, leb-true}
 use Rattle.std.proofs.lemmas.List.Sums.{sum_by-append, sum_by-cons}
 use Rattle.std.specs.Prelude.{if◌then◌else◌, nat_le}
@@ -22,16 +22,16 @@ use Rattle.outcome_laws.specs.Counts.{count_sent, one_if}
 pub keys_once : (live : Live) → AreOnce live → KeysOnce live
 keys_once [] once = tt
 keys_once (e ∷ es) once = (
-  each_map (λ (x : TxId × Transaction). same_tx e.0 x.0 ≡ false) (λ (x : TxId × Transaction). same_tx x.0 e.0 ≡ false) es
-      (λ x apart. same_tx-swap x.0 e.0 ∙ apart) once.0,
+  each_map (λ (x : TxId × Transaction). same_tx e.0 x.0 ≡ false)
+      (λ (x : TxId × Transaction). same_tx x.0 e.0 ≡ false) es (λ x apart. same_tx-swap x.0 e.0 ∙ apart) once.0,
   keys_once es once.1,
 )
 
 pub are_once : (live : Live) → KeysOnce live → AreOnce live
 are_once [] once = tt
 are_once (e ∷ es) once = (
-  each_map (λ (x : TxId × Transaction). same_tx x.0 e.0 ≡ false) (λ (x : TxId × Transaction). same_tx e.0 x.0 ≡ false) es
-      (λ x apart. same_tx-swap e.0 x.0 ∙ apart) once.0,
+  each_map (λ (x : TxId × Transaction). same_tx x.0 e.0 ≡ false)
+      (λ (x : TxId × Transaction). same_tx e.0 x.0 ≡ false) es (λ x apart. same_tx-swap e.0 x.0 ∙ apart) once.0,
   are_once es once.1,
 )
 
@@ -40,7 +40,9 @@ lower_is_other : (one tx : TxId) → one.seq < tx.seq → same_tx one tx ≡ fal
 lower_is_other one tx lower = by (same_tx one tx) refl
   where
     by : (b : Bool) → same_tx one tx ≡ b → same_tx one tx ≡ false
-    by true same = absurd (let seqs : one.seq ≡ tx.seq = ap (λ (x : TxId). x.seq) (same_tx-is one tx same) in omega (arith, seqs, lower))
+    by true same =
+        let seqs : one.seq ≡ tx.seq = ap (λ (x : TxId). x.seq) (same_tx-is one tx same) in
+        absurd (omega (arith, seqs, lower))
     by false off = off
 
 -- the next number is of another than those that have begun

@@ -1,4 +1,5 @@
--- A coordinator makes no mark, whatever it takes and whatever view is installed: it decides nothing and reports nothing.
+-- A coordinator makes no mark, whatever it takes and whatever view is installed, so it decides nothing and reports
+-- nothing.
 use Rattle.std.proofs.Common.{◌≡◌, ℕ, Bool, true, false, [], ◌++◌, refl, ap, sym, subst}
 use Rattle.std.specs.Prelude.{None}
 use Rattle.run_theory.specs.Lists.{Each}

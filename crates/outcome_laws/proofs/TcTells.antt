@@ -1,6 +1,6 @@
 -- A coordinator that knows the epochs of those that it commits, and is told true things, goes on to know and tells true
 -- things.
-use Rattle.std.proofs.Common.{◌≡◌, ◌+◌, ℕ, Bool, true, false, List, [], ◌∷◌, ◌++◌, take, drop, length, nat_lt, sym, subst}
+use Rattle.std.proofs.Common.{◌+◌, ℕ, Bool, true, false, List, [], ◌∷◌, ◌++◌, take, drop, length, nat_lt, sym, subst}
 use Rattle.std.specs.Prelude.{if◌then◌else◌, None}
 use Rattle.std.specs.List.{flat_map}
 use Rattle.indexmap.specs.IndexMap.{insert_entry}
@@ -37,7 +37,7 @@ use Rattle.tc_views.specs.State.{CoordinatorState, go_on_if}
 use Rattle.tc_views.specs.Views.{install_row, tasks_at}
 use Rattle.outcome_laws.specs.Known.{CoordinatorKnows, IsDecidedIn}
 use Rattle.outcome_laws.specs.Tells.{Tells}
-use Rattle.outcome_laws.proofs.TcWalk.{CoordinatorForms, ResumeForms, coordinator_each, inner}
+use Rattle.outcome_laws.proofs.TcWalk.{ResumeForms, coordinator_each, inner}
 
 module _ (D : TxId → ℕ → Type 0) (B : TxId → Type 0) where
   -- what is sent tells true things

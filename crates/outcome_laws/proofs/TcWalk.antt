@@ -1,5 +1,5 @@
--- What holds of each turn of a coordinator's transactions, also of those that an installation left to do, and of what the
--- coordinator does beside them, holds of each of its steps under views.
+-- What holds of each turn of a coordinator's transactions, those among them that an installation left to do, and of what
+-- it does beside them, holds of each of its steps under views.
 use Rattle.std.proofs.Common.{◌≡◌, ◌==◌, ℕ, Bool, true, false, List, [], ◌∷◌, nat_lt, length, refl, ap}
 use Rattle.std.specs.Prelude.{Option, None, Some, slice_get}
 use Rattle.std.specs.Map.{values_of}
@@ -19,7 +19,7 @@ use Rattle.sig_core.specs.Step.{Step, joined, sending, sends_only, stay}
 use Rattle.frag_map.specs.Layout.{Layout}
 use Rattle.tc_block.specs.Abort.{abort_if, aborted_for, aborts_awaited, replica_count}
 use Rattle.tc_block.specs.Doom.{is_among, is_undecided}
-use Rattle.tc_block.specs.Live.{place_in, turn_place, turn_value, turned}
+use Rattle.tc_block.specs.Live.{place_in, turn_place, turn_value}
 use Rattle.tc_block.specs.Resume.{anew_if, aborted_anew, redriven, resume_by, resume_row, resume_step}
 use Rattle.tc_block.specs.State.{TcState}
 use Rattle.tc_block.specs.Turn.{Turn, asking, going}
@@ -105,9 +105,9 @@ module _ (R : TxId → Transaction → Turn → Type 0) (S : Step TcState → Ty
       at_value at here None there = forms.calm.stays
       at_value at here (Some t) there =
           let split = split_at task.tx s.tc.live at t here there in
+          let own = forms.resumes task.tx t at split in
           forms.calm.turned task.tx t at split (row t)
-          (resumes s.tc.node s.tc.layout task.tx t (R task.tx t) (forms.resumes task.tx t at split) s.number task.verdict
-          t.phase refl)
+          (resumes s.tc.node s.tc.layout task.tx t (R task.tx t) own s.number task.verdict t.phase refl)
 
       at_place : (o : Option ℕ) → place_in s.tc task.tx ≡ o → S (turn_place s.tc row o)
       at_place None here = forms.calm.stays

@@ -10,7 +10,7 @@ use Rattle.sig_core.specs.declared.signal.epoch.EpochSignal.TheVariants.{DiVerif
 use Rattle.sig_core.specs.Place.{epochs}
 use Rattle.outcome_laws.specs.Counts.{coordinator_member}
 
--- That a transaction has begun is told by its own member, and by that one it asks for an epoch: of the epochs of its node.
+-- Its own member tells that a transaction has begun, and asks for its epoch: of the epochs of its own node.
 abbrev pub IsOwnAt : Member → Place → Body → Type 0
 IsOwnAt member to (Client (TcBeginConf name tx)) = coordinator_member tx ≡ member
 IsOwnAt member to (Epoch (DiVerifyReq tx ops)) = (coordinator_member tx ≡ member) × (to ≡ epochs member.node)
