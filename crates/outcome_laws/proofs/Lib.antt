@@ -15,3 +15,10 @@ pub mod RowsLists
 pub mod RowsKnowledge
 pub mod RowsSends
 pub mod RowsMarks
+pub mod DihSilent
+pub mod DihWalk
+pub mod DihKnows
+pub mod DihCounts
+pub mod TakeoverKnows
+pub mod TakeoverTells
+pub mod TakeoverMarks
