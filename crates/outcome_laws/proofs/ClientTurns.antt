@@ -1,7 +1,7 @@
 -- What the client's side does to the transactions that it has opened, with what it sends and marks: what is so of each
 -- form of that is so of each of its steps.
 use Rattle.std.proofs.Common.{◌≡◌, ◌==◌, ◌&&◌, ◌||◌, ◌+◌, ◌++◌, ℕ, Bool, true, false, List, [], ◌∷◌, refl, ap, subst, sym, ◌∙◌}
-use Rattle.std.specs.Prelude.{Option, None, Some, if◌then◌else◌, is_some, not, position, remove, slice_set}
+use Rattle.std.specs.Prelude.{Option, None, Some, if◌then◌else◌, is_some, not, remove, slice_set}
 use Rattle.run_theory.specs.Lists.{Each}
 use Rattle.run_theory.proofs.EachSent.{each_mapped}
 use Rattle.run_theory.proofs.Focus.{IsFocus}
@@ -46,8 +46,8 @@ use Rattle.api_block.specs.Api.{api_table, request_row}
 use Rattle.api_block.specs.Commands.{ticked_if}
 use Rattle.api_block.specs.Members.{everyone, news_body, telling, telling_all}
 use Rattle.api_block.specs.Opened.{answered, asked_for, begins, begins_at, begun, begun_operating, behind, committing, has_tx, is_beginning}
-use Rattle.api_block.specs.Opened.{is_named, is_tx, is_unanswered, operating, own_place, place_named, where_at}
-use Rattle.api_block.specs.Outcome.{abort_report_row, acknowledging, commit_report_row}
+use Rattle.api_block.specs.Opened.{is_named, is_tx, is_unanswered, operating, place_named}
+use Rattle.api_block.specs.Outcome.{abort_report_row, commit_report_row}
 use Rattle.api_block.specs.State.{ApiState}
 use Rattle.api_block.specs.Views.{dump_node}
 use Rattle.api_block.proofs.ApiTurns.{ApiRequestForms, ApiSignalForms, api_turns, request_turns}
@@ -61,9 +61,9 @@ use Rattle.api_views.specs.Commands.{begin_if, begin_row, cut_by, cut_row, kill_
 use Rattle.api_views.specs.Members.{first_start, is_member, noted, president}
 use Rattle.api_views.specs.Pending.{client_pending_row, closing_left, obstacle, obstructed, obstructed_by, waits_by, waits_if}
 use Rattle.api_views.specs.Reports.{begun_verdict, broken_by, complete_row, coordinator_member, down_outcome, dump_breaks, ended_by, failed_by, failed_if, going_on, has_more, is_due}
-use Rattle.api_views.specs.Reports.{more_if, place_due, report_row, stop_row, stop_told_if, told_if, unasked, unasked_if, unbegun_if, verdict, verdict_by, with_stop}
-use Rattle.api_views.specs.Rounds.{all_rounds, four_rounds, is_live, round_effects, rounds_if, rounds_of, tick_row, ticked, ticked_if as last_ticked_if}
-use Rattle.api_views.specs.State.{ClientState, aside}
+use Rattle.api_views.specs.Reports.{more_if, report_row, stop_row, stop_told_if, told_if, unasked, unasked_if, unbegun_if, verdict, verdict_by, with_stop}
+use Rattle.api_views.specs.Rounds.{all_rounds, four_rounds, is_live, round_effects, rounds_if, rounds_of, tick_row, ticked_if as last_ticked_if}
+use Rattle.api_views.specs.State.{ClientState}
 use Rattle.api_views.specs.Stops.{is_down, is_sibling, is_told, runs, tc_stopped}
 use Rattle.outcome_laws.specs.Counts.{is_committing}
 
@@ -188,7 +188,8 @@ module _ (a : ApiState) (body : Body) (R : List OpenTransaction → List Outgoin
         (ap is_committing d) refl;
     answers_none = λ tx answer at f is no. api_rests;
     commits = λ tx epoch at f is.
-        forms.commits (has_tx tx) at f tx epoch _ (own_is tx f.item.tx f.passes) is (all_told (news.Committed tx) a.view);
+        forms.commits (has_tx tx) at f tx epoch _ (own_is tx f.item.tx f.passes) is
+        (all_told (news.Committed tx) a.view);
     acknowledges = λ tx epoch is none. forms.keeps _ (all_told (news.Committed tx) a.view);
     aborts = λ tx cause at f is. forms.aborts (has_tx tx) at f tx cause [] (own_is tx f.item.tx f.passes) is tt;
     waits = λ tx ahead at f is. forms.changes (has_tx tx) at f (behind f.item (Some ahead)) [] refl refl tt;
@@ -204,7 +205,8 @@ module _ (a : ApiState) (body : Body) (R : List OpenTransaction → List Outgoin
   api_goes = api_turns a (λ _. ApiGoes) body (λ r at. asked_forms r) told_forms
 
   -- a takeover tells how a transaction ended
-  committed_late : (tx : TxId) (epoch : ℕ) → body ≡ Client (TcKeyFailConf tx epoch) → ApiGoes (commit_report_row a tx epoch)
+  committed_late : (tx : TxId) (epoch : ℕ) → body ≡ Client (TcKeyFailConf tx epoch)
+      → ApiGoes (commit_report_row a tx epoch)
   unfolding commit_report_row
   committed_late tx epoch is =
       where_found (has_tx tx) a.opened _ _ ApiGoes (λ none. forms.keeps _ (all_told (news.Committed tx) a.view))
@@ -393,8 +395,8 @@ module _ (s : ClientState) (body : Body) (R : List OpenTransaction → List Outg
       by : (b : Bool) → Goes (waits_if s b)
       by true = obstructed_goes None
       by false =
-          where_own s.api.opened (stay s) (λ at t. waits_by s t.name (is_unanswered t.doing) t.ahead) s.api.own Goes rests
-          (λ p at f. waits_goes f.item.name (is_unanswered f.item.doing) f.item.ahead)
+          where_own s.api.opened (stay s) (λ at t. waits_by s t.name (is_unanswered t.doing) t.ahead) s.api.own Goes
+          rests (λ p at f. waits_goes f.item.name (is_unanswered f.item.doing) f.item.ahead)
 
   asked_goes : (r : ApiReq) → Goes (asked_row s r)
   unfolding asked_row
@@ -478,7 +480,7 @@ module _ (s : ClientState) (body : Body) (R : List OpenTransaction → List Outg
   unfolding stop_row
   stop_goes member host cause =
       let same = unasked_opened (with_stop s member host cause) (is_down (with_stop s member host cause))
-          ∙ stop_opened s.api member.node cause (is_sibling cause || is_told s.stops member) in
+      ∙ stop_opened s.api member.node cause (is_sibling cause || is_told s.stops member) in
       subst (λ opened. R opened (more_if (has_more (unasked (with_stop s member host cause)))) []) (sym same)
       (forms.keeps _ (more_plain _))
 

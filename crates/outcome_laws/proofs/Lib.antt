@@ -22,3 +22,5 @@ pub mod DihCounts
 pub mod TakeoverKnows
 pub mod TakeoverTells
 pub mod TakeoverMarks
+pub mod ClientKnows
+pub mod ClientCounts
