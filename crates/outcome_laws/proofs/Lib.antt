@@ -1,0 +1,7 @@
+pub mod OnceArbiter
+pub mod OnceMaster
+pub mod OnceMembership
+pub mod OnceNone
+pub mod OnceRows
+pub mod OnceTakeover
+pub mod OnceWalk
