@@ -5,3 +5,9 @@ pub mod OnceNone
 pub mod OnceRows
 pub mod OnceTakeover
 pub mod OnceWalk
+pub mod TcWalk
+pub mod TcMarks
+pub mod TcTells
+pub mod TcLists
+pub mod TcClaims
+pub mod TcCounts
