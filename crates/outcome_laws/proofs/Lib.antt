@@ -11,3 +11,10 @@ pub mod TcTells
 pub mod TcLists
 pub mod TcClaims
 pub mod TcCounts
+pub mod DihSilent
+pub mod DihWalk
+pub mod DihKnows
+pub mod DihCounts
+pub mod TakeoverKnows
+pub mod TakeoverTells
+pub mod TakeoverMarks
