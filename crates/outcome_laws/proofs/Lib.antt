@@ -18,3 +18,6 @@ pub mod DihCounts
 pub mod TakeoverKnows
 pub mod TakeoverTells
 pub mod TakeoverMarks
+pub mod ClientTurns
+pub mod ClientKnows
+pub mod ClientCounts
