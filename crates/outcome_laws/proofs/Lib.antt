@@ -31,3 +31,8 @@ pub mod RowsMarks
 pub mod ClientTurns
 pub mod ClientKnows
 pub mod ClientCounts
+pub mod DownSends
+pub mod DownTc
+pub mod DownRows
+pub mod DownTakeover
+pub mod DownSilent
