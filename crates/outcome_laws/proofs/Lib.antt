@@ -36,3 +36,5 @@ pub mod DownTc
 pub mod DownRows
 pub mod DownTakeover
 pub mod DownSilent
+pub mod DownParts
+pub mod DownAll
