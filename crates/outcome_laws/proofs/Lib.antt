@@ -1,5 +1,7 @@
 pub mod KnowWalk
 pub mod KnowParts
+pub mod KnowGrows
+pub mod KnowHosts
 pub mod KnowNothing
 pub mod KnowMembership
 pub mod KnowMaster
@@ -29,12 +31,5 @@ pub mod RowsLists
 pub mod RowsKnowledge
 pub mod RowsSends
 pub mod RowsMarks
-pub mod DihSilent
-pub mod DihWalk
-pub mod DihKnows
-pub mod DihCounts
-pub mod TakeoverKnows
-pub mod TakeoverTells
-pub mod TakeoverMarks
 pub mod ClientKnows
 pub mod ClientCounts
