@@ -2,6 +2,7 @@ pub mod KnowWalk
 pub mod KnowParts
 pub mod KnowGrows
 pub mod KnowHosts
+pub mod KnowOwn
 pub mod KnowNothing
 pub mod KnowMembership
 pub mod KnowMaster
