@@ -1,5 +1,5 @@
--- Of the blocks of a host no coordinator aborts a transaction since the cluster is down, and none of them tells anyone that
--- one was aborted so, whatever signal they take that doesn't.
+-- Of the blocks of a host no coordinator aborts a transaction since the cluster is down, and none of them tells anyone
+-- that one was aborted so, whatever signal they take that doesn't tell it.
 use Rattle.std.proofs.Common.{ℕ}
 use Rattle.run_theory.proofs.Pasts.{each_append}
 use Rattle.sig_core.specs.declared.place.BlockId.{BlockId}
@@ -29,9 +29,10 @@ use Rattle.outcome_laws.proofs.DownSilent.{client_down_none, epochs_down_none, e
 use Rattle.outcome_laws.proofs.DownTakeover.{takeover_down_none}
 use Rattle.outcome_laws.proofs.DownTc.{coordinator_down_none, coordinator_installs_down_none}
 use Rattle.outcome_laws.proofs.KnowMaster.{master_tells_nothing}
-use Rattle.outcome_laws.proofs.KnowMembership.{membership_installs_silent, membership_tells_nothing}
+use Rattle.outcome_laws.proofs.KnowMembership.{membership_installs_nothing, membership_tells_nothing}
+use Rattle.outcome_laws.proofs.KnowNothing.{TellsNothing, untold_silent}
 use Rattle.outcome_laws.proofs.KnowParts.{arbiter_tells_nothing}
-use Rattle.outcome_laws.proofs.KnowWalk.{AreKept, IsOfEffects, step_keeps}
+use Rattle.outcome_laws.proofs.KnowWalk.{IsOfEffects, step_keeps}
 
 abbrev HasNoDown : Effects → Type 0
 HasNoDown effects = AreNoDown effects.sends
@@ -46,6 +47,9 @@ effects_none = record {
   hushes = λ effects none. tt;
 }
 
+nothing_none : {S : Type 0} (step : Step S) → TellsNothing step → SendsNoDown step
+nothing_none step nothing = silent_none_all step.effects.sends (untold_silent step.effects.sends nothing.0)
+
 -- they stay so, and send nothing else
 abbrev StayUp : Step Parts → Type 0
 StayUp step = PartsHaveNoDown step.state × SendsNoDown step
@@ -57,7 +61,7 @@ module _ (x : Signal) where
     where
       by : (b : BlockId) → PartsHaveNoDown (Shell (shell_row p b x).state) × SendsNoDown (shell_row p b x)
       by block.Api = (tt, client_down_none p.client x)
-      by block.Arbiter = (tt, silent_none_all (arbiter_row p.arbiter x).effects.sends (arbiter_tells_nothing p.arbiter x).0)
+      by block.Arbiter = (tt, nothing_none (arbiter_row p.arbiter x) (arbiter_tells_nothing p.arbiter x))
       by _ = (tt, tt)
 
   main_up : (p : MainPart) → StayUp (parts_row (Main p) x)
@@ -65,9 +69,8 @@ module _ (x : Signal) where
   main_up p = by x.to.block
     where
       by : (b : BlockId) → PartsHaveNoDown (Main (main_row p b x).state) × SendsNoDown (main_row p b x)
-      by block.Qmgr = (tt, silent_none_all (qmgr_row p.qmgr x).effects.sends (membership_tells_nothing p.qmgr x).0)
-      by block.GcpMaster =
-          (tt, silent_none_all (master_row p.master x).effects.sends (master_tells_nothing p.master x).0)
+      by block.Qmgr = (tt, nothing_none (qmgr_row p.qmgr x) (membership_tells_nothing p.qmgr x))
+      by block.GcpMaster = (tt, nothing_none (master_row p.master x) (master_tells_nothing p.master x))
       by _ = (tt, tt)
 
   tc_up : (p : TcPart) → CoordinatorHasNoDown p.coordinator → TellsNoDown x.body → StayUp (parts_row (Tc p) x)
@@ -97,8 +100,7 @@ module _ (x : Signal) where
 -- where a view is installed
 entered_up : (parts : Parts) (view : View) → PartsHaveNoDown parts → StayUp (parts_entered parts view)
 entered_up (Shell p) view up = (tt, tt)
-entered_up (Main p) view up =
-    (tt, silent_none_all (qmgr_installed p.qmgr view).effects.sends (membership_installs_silent p.qmgr view).0)
+entered_up (Main p) view up = (tt, nothing_none (qmgr_installed p.qmgr view) (membership_installs_nothing p.qmgr view))
 entered_up (Tc p) view up =
     let then = coordinator_installs_down_none p.coordinator view up in (
       then.0,

@@ -1,5 +1,5 @@
--- The rows of a node don't tell that a transaction was aborted since the cluster is down, whatever they take: they refuse an
--- operation for want of room, after its time, or where it is given up.
+-- The rows of a node don't tell that a transaction was aborted since the cluster is down, whatever they take: they
+-- refuse an operation for want of room, after its time, or where it is given up.
 use Rattle.std.proofs.Common.{◌==◌, ℕ, Bool, true, false, List, [], ◌∷◌, map, subst, sym}
 use Rattle.std.specs.Prelude.{Option, None, Some}
 use Rattle.sig_core.specs.declared.outs.Outgoing.{Outgoing}

@@ -1,6 +1,5 @@
--- Neither the client's side nor the epochs of a node tell anyone that a transaction was aborted since the cluster is down.
+-- Neither the client's side nor the epochs of a node tell that a transaction was aborted since the cluster is down.
 use Rattle.std.proofs.Common.{ℕ, List}
-use Rattle.run_theory.specs.Lists.{Each}
 use Rattle.sig_core.specs.declared.mark.Mark.{Mark}
 use Rattle.sig_core.specs.declared.outs.Outgoing.{Outgoing}
 use Rattle.sig_core.specs.declared.signal.Signal.{Signal}

@@ -45,53 +45,52 @@ use Rattle.gcp_master.specs.Resume.{knowing, learned_if, order_by, order_row, re
 use Rattle.gcp_master.specs.Sends.{entering, front_sends, go_on_if, go_on_row, list_effects, listing, master_sends, order_at, orders_at, phase_sends, to_both, to_copying, to_each, told_if}
 use Rattle.gcp_master.specs.State.{MasterState, all_in, at_phase, counted, counts}
 use Rattle.gcp_master.specs.Voices.{is_among}
-use Rattle.outcome_laws.proofs.DihSilent.{AreSilent, IsSilent, is_telling}
-use Rattle.outcome_laws.proofs.KnowNothing.{TellsNothing, portion_silent}
+use Rattle.outcome_laws.proofs.KnowNothing.{AreUntold, IsUntold, TellsNothing, is_tale, portion_untold}
 
 -- the lists
-each_silent : (b : BlockId) (o : Order) (view : View) → is_telling (order_body o) ≡ false → AreSilent (to_each b o view)
+each_untold : (b : BlockId) (o : Order) (view : View) → is_tale (order_body o) ≡ false → AreUntold (to_each b o view)
 unfolding to_each
-each_silent b o view is =
-    each_append IsSilent (orders_at b o view.full) (orders_at b o view.starting)
-    (each_mapped IsSilent (order_at b o) view.full (λ member. is))
-    (each_mapped IsSilent (order_at b o) view.starting (λ member. is))
+each_untold b o view is =
+    each_append IsUntold (orders_at b o view.full) (orders_at b o view.starting)
+    (each_mapped IsUntold (order_at b o) view.full (λ member. is))
+    (each_mapped IsUntold (order_at b o) view.starting (λ member. is))
 
-both_silent : (o : Order) (view : View) → is_telling (order_body o) ≡ false → AreSilent (to_both o view)
+both_untold : (o : Order) (view : View) → is_tale (order_body o) ≡ false → AreUntold (to_both o view)
 unfolding to_both
-both_silent o view is =
-    each_append IsSilent (to_each block.Dih o view) (to_each block.Lqh o view) (each_silent block.Dih o view is)
-    (each_silent block.Lqh o view is)
+both_untold o view is =
+    each_append IsUntold (to_each block.Dih o view) (to_each block.Lqh o view) (each_untold block.Dih o view is)
+    (each_untold block.Lqh o view is)
 
-copying_silent : (node epoch : ℕ) (asked : Bool) → AreSilent (to_copying node epoch asked)
-copying_silent node epoch true = (refl, tt)
-copying_silent node epoch false = tt
+copying_untold : (node epoch : ℕ) (asked : Bool) → AreUntold (to_copying node epoch asked)
+copying_untold node epoch true = (refl, tt)
+copying_untold node epoch false = tt
 
-front_silent : (node : ℕ) (view : View) (front : Option Ended) → AreSilent (front_sends node view front)
+front_untold : (node : ℕ) (view : View) (front : Option Ended) → AreUntold (front_sends node view front)
 unfolding front_sends order_body
-front_silent node view None = tt
-front_silent node view (Some (Micro epoch)) = (refl, tt)
-front_silent node view (Some (Global epoch copy)) =
-    each_append IsSilent (to_both (order.Done epoch) view) _ (both_silent (order.Done epoch) view refl)
-    (refl, copying_silent node epoch copy)
+front_untold node view None = tt
+front_untold node view (Some (Micro epoch)) = (refl, tt)
+front_untold node view (Some (Global epoch copy)) =
+    each_append IsUntold (to_both (order.Done epoch) view) _ (both_untold (order.Done epoch) view refl)
+    (refl, copying_untold node epoch copy)
 
-phase_silent : (view : View) (phase : Phase) → AreSilent (phase_sends view phase)
+phase_untold : (view : View) (phase : Phase) → AreUntold (phase_sends view phase)
 unfolding phase_sends order_body
-phase_silent view Unordered = tt
-phase_silent view (Gathering known) = both_silent order.State view refl
-phase_silent view (Resting current) = tt
-phase_silent view (Preparing run) = each_silent block.Dih (order.Prepare run.epoch run.next) view refl
-phase_silent view (Committing run) = each_silent block.Dih (order.Commit run.epoch run.next) view refl
-phase_silent view (Closing run) = both_silent (order.Close run.epoch) view refl
-phase_silent view (Saving run) = each_silent block.Lqh (order.Save run.epoch) view refl
-phase_silent view (Copying run) = each_silent block.Dih (order.Copy run.epoch (mask_of view.full)) view refl
+phase_untold view Unordered = tt
+phase_untold view (Gathering known) = both_untold order.State view refl
+phase_untold view (Resting current) = tt
+phase_untold view (Preparing run) = each_untold block.Dih (order.Prepare run.epoch run.next) view refl
+phase_untold view (Committing run) = each_untold block.Dih (order.Commit run.epoch run.next) view refl
+phase_untold view (Closing run) = both_untold (order.Close run.epoch) view refl
+phase_untold view (Saving run) = each_untold block.Lqh (order.Save run.epoch) view refl
+phase_untold view (Copying run) = each_untold block.Dih (order.Copy run.epoch (mask_of view.full)) view refl
 
 lists : (s : MasterState) (at : ℕ) → TellsNothing (listing s at)
 unfolding listing list_effects master_sends
 lists s at = (
-  portion_silent (checkpoints s.member.node) Members
+  portion_untold (checkpoints s.member.node) Members
       (front_sends s.member.node s.view s.front ++ phase_sends s.view s.phase) at
-      (each_append IsSilent (front_sends s.member.node s.view s.front) (phase_sends s.view s.phase)
-      (front_silent s.member.node s.view s.front) (phase_silent s.view s.phase)),
+      (each_append IsUntold (front_sends s.member.node s.view s.front) (phase_sends s.view s.phase)
+      (front_untold s.member.node s.view s.front) (phase_untold s.view s.phase)),
   tt,
 )
 

@@ -35,16 +35,15 @@ use Rattle.qmgr_block.specs.Sets.{is_among, is_in, joined_view, members_of, prom
 use Rattle.qmgr_block.specs.Starts.{covers}
 use Rattle.qmgr_block.specs.State.{QmgrState}
 use Rattle.qmgr_block.specs.Suspects.{close_row, has_more, is_kept_suspect, president, presides, report_row, told, told_by, told_if, with_closing, with_suspects}
-use Rattle.outcome_laws.proofs.DihSilent.{AreSilent, IsSilent}
-use Rattle.outcome_laws.proofs.KnowNothing.{TellsNothing, portion_silent}
+use Rattle.outcome_laws.proofs.KnowNothing.{AreUntold, IsUntold, TellsNothing, portion_untold}
 
 -- a proposal, or that suspects are told of
 proposed_quiet : (k : Known) (view : View) (joining : Option Member) → TellsNothing (proposed_view k view joining)
 unfolding proposed_view
 proposed_quiet k view joining = (by (lost_group k.layout.shape view), tt)
   where
-    by : (lost : Option ℕ) → AreSilent (proposal_sends view lost)
-    by None = each_mapped IsSilent (request_of view) (members_of view) (λ member. refl)
+    by : (lost : Option ℕ) → AreUntold (proposal_sends view lost)
+    by None = each_mapped IsUntold (request_of view) (members_of view) (λ member. refl)
     by (Some group) = (refl, tt)
 
 proposed_if_quiet : (k : Known) (view : View) (joining : Option Member) (b : Bool)
@@ -188,8 +187,8 @@ granted_quiet k number = by k.outstanding
 stopping_quiet : (k : Known) (p : Proposal) (cause : StopCause) → TellsNothing (stopping k p cause)
 unfolding stop_sends
 stopping_quiet k p cause = (
-  each_append IsSilent (map (stop_of cause) (without (members_of p.view) (k.me ∷ []))) (stop_of cause k.me ∷ [])
-      (each_mapped IsSilent (stop_of cause) (without (members_of p.view) (k.me ∷ [])) (λ member. refl))
+  each_append IsUntold (map (stop_of cause) (without (members_of p.view) (k.me ∷ []))) (stop_of cause k.me ∷ [])
+      (each_mapped IsUntold (stop_of cause) (without (members_of p.view) (k.me ∷ [])) (λ member. refl))
       (refl, tt),
   tt,
 )
@@ -255,21 +254,21 @@ works_quiet k number = by (is_of_view k number && is_some_suspect k.suspects)
     by false = (tt, tt)
 
 -- what a membership orders where it installed a view first
-orders_silent : (k : Known) → AreSilent (orders k)
+orders_untold : (k : Known) → AreUntold (orders k)
 unfolding orders
-orders_silent k =
-    each_append IsSilent
+orders_untold k =
+    each_append IsUntold
     (map commit_of (members_of k.layout.view) ++ own_orders k.me.node ++ map (copy_of k.me.node) k.layout.view.starting)
     (work_if k.me (is_some_suspect k.suspects))
-    (each_append IsSilent (map commit_of (members_of k.layout.view) ++ own_orders k.me.node)
+    (each_append IsUntold (map commit_of (members_of k.layout.view) ++ own_orders k.me.node)
     (map (copy_of k.me.node) k.layout.view.starting)
-    (each_append IsSilent (map commit_of (members_of k.layout.view)) (own_orders k.me.node)
-    (each_mapped IsSilent commit_of (members_of k.layout.view) (λ member. refl))
+    (each_append IsUntold (map commit_of (members_of k.layout.view)) (own_orders k.me.node)
+    (each_mapped IsUntold commit_of (members_of k.layout.view) (λ member. refl))
     (refl, (refl, (refl, tt))))
-    (each_mapped IsSilent (copy_of k.me.node) k.layout.view.starting (λ member. refl)))
+    (each_mapped IsUntold (copy_of k.me.node) k.layout.view.starting (λ member. refl)))
     (works (is_some_suspect k.suspects))
   where
-    works : (b : Bool) → AreSilent (work_if k.me b)
+    works : (b : Bool) → AreUntold (work_if k.me b)
     works true = (refl, tt)
     works false = tt
 
@@ -278,7 +277,7 @@ unfolding order_row
 order_quiet k number at = by (is_of_view k number && is_oldest k && nat_lt at ORDERS)
   where
     by : (b : Bool) → TellsNothing (order_if k at b)
-    by true = (portion_silent (membership k.me.node) Members (orders k) at (orders_silent k), tt)
+    by true = (portion_untold (membership k.me.node) Members (orders k) at (orders_untold k), tt)
     by false = (tt, tt)
 
 hosts_quiet : (k : Known) (member : Member) (number : ℕ) (signal : HostSignal)
@@ -300,12 +299,12 @@ table_quiet s host member number _ = (tt, tt)
 pub membership_tells_nothing : (s : QmgrState) (x : Signal) → TellsNothing (qmgr_row s x)
 membership_tells_nothing s x = table_quiet s x.from.0 x.member x.view.number x.body
 
-left_silent : (me : Member) (b c : Bool) → AreSilent (left_by me b c)
-left_silent me true c = (refl, tt)
-left_silent me false true = (refl, tt)
-left_silent me false false = tt
+left_untold : (me : Member) (b c : Bool) → AreUntold (left_by me b c)
+left_untold me true c = (refl, tt)
+left_untold me false true = (refl, tt)
+left_untold me false false = tt
 
-pub membership_installs_silent : (s : QmgrState) (view : View) → TellsNothing (qmgr_installed s view)
+pub membership_installs_nothing : (s : QmgrState) (view : View) → TellsNothing (qmgr_installed s view)
 unfolding installed_row
-membership_installs_silent s view =
-    let k = installing s.known view in (left_silent k.me (is_oldest k) (is_some_suspect k.suspects), tt)
+membership_installs_nothing s view =
+    let k = installing s.known view in (left_untold k.me (is_oldest k) (is_some_suspect k.suspects), tt)

@@ -40,8 +40,8 @@ use Rattle.outcome_laws.proofs.DihKnows.{epochs_install_know, epochs_install_tel
 use Rattle.outcome_laws.proofs.DihSilent.{silent_tell}
 use Rattle.outcome_laws.proofs.DihWalk.{dih_installs_quiet}
 use Rattle.outcome_laws.proofs.KnowMaster.{master_tells_nothing}
-use Rattle.outcome_laws.proofs.KnowMembership.{membership_installs_silent, membership_tells_nothing}
-use Rattle.outcome_laws.proofs.KnowNothing.{TellsNothing}
+use Rattle.outcome_laws.proofs.KnowMembership.{membership_installs_nothing, membership_tells_nothing}
+use Rattle.outcome_laws.proofs.KnowNothing.{TellsNothing, untold_silent}
 use Rattle.outcome_laws.proofs.KnowWalk.{AreKept, IsOfEffects}
 use Rattle.outcome_laws.proofs.RowsKnowledge.{rows_know, rows_know_installed}
 use Rattle.outcome_laws.proofs.RowsMarks.{rows_mark_none}
@@ -54,7 +54,7 @@ use Rattle.outcome_laws.proofs.TcMarks.{coordinator_installs_mark, coordinator_m
 use Rattle.outcome_laws.proofs.TcTells.{coordinator_installs_know, coordinator_installs_tell, coordinator_knows, coordinator_tells}
 
 -- the arbitrator tells nothing
-arbiter_tells_nothing : (s : ArbiterState) (x : Signal) → TellsNothing (arbiter_row s x)
+pub arbiter_tells_nothing : (s : ArbiterState) (x : Signal) → TellsNothing (arbiter_row s x)
 unfolding arbit_row
 arbiter_tells_nothing s x = by x.body
   where
@@ -96,7 +96,7 @@ module _ (D : TxId → ℕ → Type 0) (B : TxId → Type 0) where
   nothing_true : {S : Type 0} (step : Step S) → TellsNothing step → AreTrue step.effects
   nothing_true step nothing = record {
     right = each_map IsNoOutcome (IsRightMark D B) step.effects.marks (none_right D B) nothing.1;
-    tell = λ decided. silent_tell D B step.effects.sends nothing.0;
+    tell = λ decided. silent_tell D B step.effects.sends (untold_silent step.effects.sends nothing.0);
   }
 
   -- a client's side learns who has begun by the signal
@@ -188,7 +188,7 @@ module _ (D : TxId → ℕ → Type 0) (B : TxId → Type 0) where
 
     entered_true : (parts : Parts) (view : View) → AreTold x.body parts → Are (parts_entered parts view)
     entered_true (Shell p) view knows = ((noted_knows D B p.client view knows.0, knows.1), true_effects.none)
-    entered_true (Main p) view knows = ((tt, tt), nothing_true (qmgr_installed p.qmgr view) (membership_installs_silent p.qmgr view))
+    entered_true (Main p) view knows = ((tt, tt), nothing_true (qmgr_installed p.qmgr view) (membership_installs_nothing p.qmgr view))
     entered_true (Tc p) view ((knows, (takeover, held)), taught) = (
       (
         (

@@ -1,5 +1,8 @@
 pub mod KnowWalk
 pub mod KnowParts
+pub mod KnowGrows
+pub mod KnowHosts
+pub mod KnowOwn
 pub mod KnowNothing
 pub mod KnowMembership
 pub mod KnowMaster

@@ -1,4 +1,5 @@
--- No coordinator tells its client that a transaction was aborted since the cluster is down: only the client's side says so.
+-- No coordinator tells its client that a transaction was aborted since the cluster is down: only the client's side
+-- reports it.
 use Rattle.std.specs.Prelude.{ℕ, List}
 use Rattle.run_theory.specs.Lists.{Each}
 use Rattle.sig_core.specs.declared.member.TxId.{TxId}
