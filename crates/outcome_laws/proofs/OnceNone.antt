@@ -1,0 +1,72 @@
+-- Signals that count: what only a coordinator tells a client, or asks the epochs of its node, and what only a client asks a
+-- coordinator; and lists of sends, of which one event sends a part.
+use Rattle.std.proofs.Common.{◌≡◌, ◌+◌, ℕ, Bool, true, false, List, [], ◌∷◌, cond, take, drop, length, nat_lt, ap, arith, refl}
+use Rattle.std.proofs.lemmas.List.Sums.{sum_by-cons}
+use Rattle.std.specs.List.{count_by}
+use Rattle.run_theory.specs.Lists.{Each}
+use Rattle.run_theory.proofs.EachSent.{each_drop, each_take}
+use Rattle.run_theory.proofs.Pasts.{each_append}
+use Rattle.sig_core.specs.declared.member.TxId.{TxId}
+use Rattle.sig_core.specs.declared.outs.Outgoing.{Outgoing}
+use Rattle.sig_core.specs.declared.place.Place.{Place}
+use Rattle.sig_core.specs.declared.portion.TheConstants.{PORTION}
+use Rattle.sig_core.specs.declared.signal.Body.{Body}
+use Rattle.sig_core.specs.declared.signal.Body.TheVariants.{Client, Epoch}
+use Rattle.sig_core.specs.declared.signal.client.ClientSignal.TheVariants.{TcBeginConf, TcCommitReq, TcRollbackRep}
+use Rattle.sig_core.specs.declared.signal.epoch.EpochSignal.TheVariants.{DiVerifyReq}
+use Rattle.sig_core.specs.declared.signal.host.Work.{Work}
+use Rattle.sig_core.specs.Portion.{portion_effects, rest_if}
+use Rattle.sig_core.specs.Step.{Step}
+use Rattle.outcome_laws.specs.Counts.{count_sent, is_asking, is_begin, is_wish}
+
+abbrev pub is_counted : Body → Bool
+is_counted (Client (TcBeginConf name tx)) = true
+is_counted (Client (TcCommitReq tx)) = true
+is_counted (Client (TcRollbackRep tx cause)) = true
+is_counted (Epoch (DiVerifyReq tx ops)) = true
+is_counted body = false
+
+-- it is none of them
+abbrev pub IsUncounted : Outgoing → Type 0
+IsUncounted send = is_counted send.body ≡ false
+
+abbrev pub AreUncounted : List Outgoing → Type 0
+AreUncounted sends = Each IsUncounted sends
+
+-- a step sends none
+abbrev pub SendsUncounted : {S : Type 0} → Step S → Type 0
+SendsUncounted step = AreUncounted step.effects.sends
+
+pub rest_none : (by : Place) (work : Work) (at : ℕ) (b : Bool) → AreUncounted (rest_if by work at b)
+rest_none by work at true = (refl, tt)
+rest_none by work at false = tt
+
+-- of a list without them no event sends one
+pub portion_none : (by : Place) (work : Work) (sends : List Outgoing) (at : ℕ) → AreUncounted sends
+    → AreUncounted (portion_effects by work sends at).sends
+portion_none by work sends at all =
+    each_append IsUncounted (take PORTION (drop at sends)) (rest_if by work at (nat_lt (at + PORTION) (length sends)))
+    (each_take IsUncounted PORTION (drop at sends) (each_drop IsUncounted at sends all))
+    (rest_none by work at (nat_lt (at + PORTION) (length sends)))
+
+-- where none passes a test there are 0 of them
+pub none_counted : {A : Type 0} (p : A → Bool) (xs : List A) → Each (λ x. p x ≡ false) xs → count_by p xs ≡ 0
+none_counted p [] none = refl
+none_counted p (x ∷ xs) none =
+    let more = sum_by-cons (λ x. cond (p x) 1 0) x xs in
+    let first : ◌≡◌ {A = ℕ} (cond (p x) 1 0) 0 = ap (λ b. cond b 1 0) none.0 in
+    let rest = none_counted p xs none.1 in
+    omega (arith, more, first, rest)
+
+-- so it is with each kind
+pub uncounted_begin : (tx : TxId) (body : Body) → is_counted body ≡ false → is_begin tx body ≡ false
+uncounted_begin tx (Client (TcBeginConf name other)) none = absurd cc
+uncounted_begin tx body none = refl
+
+pub uncounted_wish : (tx : TxId) (body : Body) → is_counted body ≡ false → is_wish tx body ≡ false
+uncounted_wish tx (Client (TcCommitReq other)) none = absurd cc
+uncounted_wish tx body none = refl
+
+pub uncounted_asking : (tx : TxId) (body : Body) → is_counted body ≡ false → is_asking tx body ≡ false
+uncounted_asking tx (Epoch (DiVerifyReq other ops)) none = absurd cc
+uncounted_asking tx body none = refl
