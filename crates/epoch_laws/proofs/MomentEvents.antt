@@ -189,7 +189,8 @@ module _ (start : Start) (all : ℕ → List HostStep) (e : HostStep) (es : List
           by (inr (entered, above)) (inl is) = enters at (rose above) (is ∙ entered)
           by entered (inr (inl (is, above))) = installs at (rose above) moves.between is
           by (inl same) (inr (inr (taken, is))) =
-              takes at (taken_now start all e es moment block.GcpMaster taken) (is ∙ ap (λ (s : MasterState). (master_row s x).state) same)
+              takes at (taken_now start all e es moment block.GcpMaster taken)
+              (is ∙ ap (λ (s : MasterState). (master_row s x).state) same)
           by (inr (entered, above)) (inr (inr (taken, is))) =
               enters_takes at (rose above) (taken_now start all e es moment block.GcpMaster taken)
               (is ∙ ap (λ (s : MasterState). (master_row s x).state) entered)
@@ -225,8 +226,8 @@ module _ (start : Start) (all : ℕ → List HostStep) (e : HostStep) (es : List
       pub is_true : IsTrueOf start old (record { to = e.host; signal = x }) (Epoch signal)
       pub view : current start new ≡ current start old
 
-    pub order_told : (at : BlockId) → IsTakenNow start all e es moment at → (signal : EpochSignal) → x.body ≡ Epoch signal
-        → is_fenced x ≡ true → EachSent start (IsTrue start old) old → IsTold signal
+    pub order_told : (at : BlockId) → IsTakenNow start all e es moment at → (signal : EpochSignal)
+        → x.body ≡ Epoch signal → is_fenced x ≡ true → EachSent start (IsTrue start old) old → IsTold signal
     order_told at taken signal is fenced each =
         let low : x.view.number ≤ current_number start old =
         epoch_told start (λ (y : Addressed). y.signal.view.number ≤ current_number start old) all e es moment

@@ -57,7 +57,8 @@ pub step_moves : (x : Signal) (h : ℕ) (s : hosts.Host)
     → Moves s.standing.shape s.parts s.standing.view x (step_by h s x).state.parts (step_by h s x).state.standing.view
 step_moves x h s =
     let t = step_by h s x in
-    moves_of s.standing.shape x t.state.parts t.state.standing.view s.parts s.standing.view t.effects.sends (parts_do s x h)
+    moves_of s.standing.shape x t.state.parts t.state.standing.view s.parts s.standing.view t.effects.sends
+    (parts_do s x h)
 
 -- a host of a node, and the signal of its step
 pub after_moves : (start : Start) (h : ℕ) → 1 ≤ h → (log : List HostStep) (e : HostStep)

@@ -1,5 +1,5 @@
--- Whose signal the blocks of a host take at an event of a moment: the host stands in the current view then, and a signal of
--- a kind that fences stop has that view.
+-- A host whose blocks take the signal at an event of a moment stands in the current view then, and a signal of a kind
+-- that fences stop has that view.
 use Rattle.std.proofs.Common.{◌≡◌, ◌≤◌, ℕ, true, List, ◌∷◌, refl, sym, ap, subst, ◌∙◌, arith}
 use Rattle.sig_core.specs.declared.outs.Outgoing.{Outgoing}
 use Rattle.sig_core.specs.declared.place.BlockId.{BlockId}
@@ -25,8 +25,8 @@ use Rattle.moment_laws.proofs.MomentTurns.{taker_stands}
 use Rattle.moment_laws.proofs.MomentViews.{current_number}
 use Rattle.moment_laws.proofs.PartKinds.{IsKind, parts_enter}
 
--- A block of a host takes the signal, and the host stands in this view behind the step: it is none of a greater view, nor,
--- if it is of a kind that fences stop, of a lesser one.
+-- A block of a host takes the signal, and the host stands in this view behind the step: it is none of a greater view,
+-- nor, if it is of a kind that fences stop, of a lesser one.
 pub record IsTaken (shape : Shape) (at : BlockId) (x : Signal) (seen : View) : Type 0 where
   pub block : x.to.block ≡ at
   pub sound : is_well_formed shape x ≡ true
@@ -104,8 +104,8 @@ module _ (start : Start) (all : ℕ → List HostStep) (e : HostStep) (es : List
     abbrev x : Signal
     x = e.step.taken
 
-    -- A block takes the signal of the event, whose host stands in the current view then; its header is that view, if it is
-    -- of a kind that fences stop.
+    -- A block takes the signal of the event, whose host stands in the current view then; its header is that view, if it
+    -- is of a kind that fences stop.
     pub record IsTakenNow (at : BlockId) : Type 0 where
       pub block : x.to.block ≡ at
       pub sound : is_well_formed start.shape x ≡ true

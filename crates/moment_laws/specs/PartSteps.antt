@@ -29,7 +29,7 @@ ldm_kind = record { within = part.Ldm; enter = ldm_entered; row = ldm_row }
 abbrev pub shell_kind : Kind ShellPart
 shell_kind = record { within = part.Shell; enter = shell_entered; row = shell_row }
 
--- the view of the signal is installed in the part, if it is greater than the one in which the host stands; or nothing is
+-- the view of the signal is installed in the part, if it is greater than that in which the host stands; or nothing is
 pub data PartEnters {P : Type 0} (kind : Kind P) (p : P) (view : View) (x : Signal) (between : P) (stood : View)
     (front : List Outgoing) : Type 0 where
   remains : between ≡ p → stood ≡ view → front ≡ [] → PartEnters kind p view x between stood front
