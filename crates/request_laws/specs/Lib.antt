@@ -4,3 +4,4 @@ pub mod Drives
 pub mod Phases
 pub mod Stand
 pub mod Replicas
+pub mod Waiting
