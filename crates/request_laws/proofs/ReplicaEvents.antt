@@ -1,5 +1,6 @@
--- One key of a node's rows under views: a signal does to it what its event says, and an installation leaves some holders.
-use Rattle.std.proofs.Common.{◌≡◌, ◌==◌, ◌∙◌, ℕ, Bool, true, false, List, refl, sym, ap, subst}
+-- One key of a node's rows under views: a signal does to it what its event says, and an installation leaves some of its
+-- holders.
+use Rattle.std.proofs.Common.{◌≡◌, ◌==◌, ℕ, Bool, true, false, List, refl, sym, ap, subst}
 use Rattle.std.specs.Prelude.{Option, None, Some}
 use Rattle.sig_core.specs.declared.rows.PendingRecord.{PendingRecord}
 use Rattle.sig_core.specs.declared.signal.Body.{Body}
@@ -20,7 +21,7 @@ use Rattle.lqh_views.specs.Epochs.{epoch_table}
 use Rattle.lqh_views.specs.Replica.{is_stale, replica_by, serve_if}
 use Rattle.lqh_views.specs.Report.{go_on_by, is_orphaned_marker, is_orphaned_record, last_before, marker_by, record_by, reporting}
 use Rattle.lqh_views.specs.State.{ReplicaState}
-use Rattle.key_laws.specs.Replica.{Event, at_key, event_at, key_after}
+use Rattle.key_laws.specs.Replica.{at_key, event_at, key_after}
 use Rattle.key_laws.proofs.KeyAfter.{replica_is}
 use Rattle.host_laws.specs.ReplicaLaws.{IsWell}
 use Rattle.host_laws.proofs.Replicas.{signals_are_events as rows_are_events, signals_keep_well as rows_keep_well}

@@ -1,5 +1,5 @@
 -- The requests that wait for a key, and the waits in the queue of its lock, event by event.
-use Rattle.std.proofs.Common.{◌≡◌, ◌⊎◌, ◌∙◌, ◌||◌, ℕ, ◌+◌, Bool, true, false, not, List, [], ◌∷◌, ◌++◌, refl, sym, ap, subst, inl, inr}
+use Rattle.std.proofs.Common.{◌≡◌, ◌∙◌, ◌||◌, ℕ, ◌+◌, Bool, true, false, not, List, [], ◌∷◌, ◌++◌, refl, sym, ap, subst, inl, inr}
 use Rattle.std.proofs.lemmas.Bool.{or_left, or_right, true≢false}
 use Rattle.std.specs.Prelude.{if◌then◌else◌, Option, None, Some}
 use Rattle.std.specs.FinMap as finite
@@ -11,7 +11,6 @@ use Rattle.sig_core.specs.declared.signal.Signal.{Signal}
 use Rattle.sig_core.specs.declared.view.View.{View}
 use Rattle.sig_core.specs.Firsts.{drop_first, first}
 use Rattle.sig_core.specs.Same.{same_tx}
-use Rattle.sig_core.proofs.Firsts.{first_passes}
 use Rattle.sig_core.proofs.Keys.{same_tx-self}
 use Rattle.sig_core.proofs.TxLemmas.{same_tx-is, same_tx-swap}
 use Rattle.row_locks.specs.declared.claim.Holder.{Holder}
@@ -31,18 +30,19 @@ use Rattle.lqh_block.specs.Work.{work_mode}
 use Rattle.lqh_views.specs.Replica.{installed, replica_row}
 use Rattle.lqh_views.specs.State.{ReplicaState}
 use Rattle.key_laws.specs.LockLaws.{is_attended}
-use Rattle.key_laws.specs.PrimaryEvents.{AreAlone, NoneOf}
+use Rattle.key_laws.specs.PrimaryEvents.{NoneOf}
 use Rattle.key_laws.specs.Replica.{Replica, aborts, ageing, ages, asked_by, asks, at_key, commits, completes, expires, expiring, is_by, is_let_in, key_after, letting_go, rests, served_by, serves}
 use Rattle.key_laws.proofs.LockHolding.{any_last, any_longer}
 use Rattle.key_laws.proofs.LockWaiting.{expiries_attend, queued_wait, releases_attend, requests_attend, rounds_attend}
 use Rattle.key_laws.proofs.Waiting.{alone-drop_first, alone-end, each-drop_first, none-dropped}
-use Rattle.world_core.specs.Start.{Start}
 use Rattle.host_laws.specs.ReplicaLaws.{IsWell}
 use Rattle.request_laws.specs.Blocks.{rows_after}
 use Rattle.request_laws.specs.Replicas.{event_under}
 use Rattle.request_laws.proofs.ReplicaEvents.{installations_are_events, installations_keep_well, signals_are_events, signals_keep_well}
 use Rattle.request_laws.proofs.RowsAlong.{always, first_rows, first_well}
-use Rattle.request_laws.specs.Waiting.{AreAttended, EventsKeepAttended, EventsKeepRequests, HaveRequests, InstallationsKeepAttended, InstallationsKeepRequests, IsOneByOne, WaitsHaveRequests}
+use Rattle.request_laws.specs.Waiting.{AreAttended, EventsKeepAttended, EventsKeepRequests, HaveRequests}
+use Rattle.request_laws.specs.Waiting.{InstallationsKeepAttended, InstallationsKeepRequests, InstalledAreAttended}
+use Rattle.request_laws.specs.Waiting.{SignalsKeepAttended, WaitsHaveRequests}
 
 -- what is so of each wait, whatever its mode and its rounds
 
@@ -328,6 +328,14 @@ events_keep_attended (ages (Some tx)) r orderly one all =
 
 pub installations_keep_attended : InstallationsKeepAttended
 installations_keep_attended stays r = record { attended = tt; alone = tt }
+
+pub signals_keep_attended : SignalsKeepAttended
+signals_keep_attended s x key well one all =
+    subst AreAttended (sym (signals_are_events s x key well))
+    (events_keep_attended (event_under key s x) (at_key key s.lqh) (well.orderly.each key) one all)
+
+pub installed_are_attended : InstalledAreAttended
+installed_are_attended s view key = record { attended = tt; alone = tt }
 
 -- along logs
 

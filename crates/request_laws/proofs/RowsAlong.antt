@@ -1,7 +1,7 @@
--- What is so of the rows of a member as they begin, and stays so at each signal and each installation, is so after every
--- log of their host.
-use Rattle.std.proofs.Common.{◌≡◌, ◌++◌, ◌∙◌, ℕ, true, false, nat_lt, List, [], ◌∷◌, refl, sym, ap, subst}
-use Rattle.std.specs.Prelude.{Option, None, Some}
+-- What is so of the rows of a member as they begin, and stays so at each signal and each installation, is so after
+-- every log of their host.
+use Rattle.std.proofs.Common.{◌≡◌, ◌∙◌, ℕ, true, List, [], ◌∷◌, refl, sym, ap, subst}
+use Rattle.std.specs.Prelude.{None, Some}
 use Rattle.run_theory.specs.Lists.{Each, IsIn}
 use Rattle.sig_core.specs.declared.member.Member.{Member}
 use Rattle.sig_core.specs.declared.outs.Outgoing.{Outgoing}
@@ -29,11 +29,11 @@ use Rattle.world_views.specs.Hosts.{epoch_before}
 use Rattle.world_views.specs.Machine.{after, step_by, told}
 use Rattle.moment_laws.specs.Places.{ldm_of}
 use Rattle.moment_laws.proofs.MomentHosts.{ldm_started}
-use Rattle.moment_laws.proofs.StepWalk.{IsTaken, IsWalked, Saying, next_comes}
+use Rattle.moment_laws.proofs.StepWalk.{IsTaken, Saying, next_comes}
 use Rattle.key_laws.specs.Placed.{AreApart, IsPlaced, has_place}
 use Rattle.key_laws.proofs.PlacesAt.{apart-set_row, apart-with_place}
 use Rattle.host_laws.specs.ReplicaLaws.{IsWell}
-use Rattle.request_laws.specs.Blocks.{rows_after, rows_in}
+use Rattle.request_laws.specs.Blocks.{no_replica, rows_after, rows_in}
 use Rattle.request_laws.specs.Waiting.{RowsAreWell}
 use Rattle.request_laws.proofs.ReplicaEvents.{installations_keep_well, signals_keep_well}
 
@@ -45,7 +45,7 @@ first_rows start member =
     (record { used = 0; reserved = 0 }) (epoch_before start.epoch)
 
 module _ (So : ReplicaState → Type 0) (row : (s : ReplicaState) (x : Signal) → So s → So (replica_row s x).state)
-      (install : (s : ReplicaState) (view : View) → So s → So (installed s view)) where
+    (install : (s : ReplicaState) (view : View) → So s → So (installed s view)) where
   -- a host runs rows of which it is so
   record AreRows (parts : Parts) : Type 0 where
     part : LdmPart
@@ -73,7 +73,8 @@ module _ (So : ReplicaState → Type 0) (row : (s : ReplicaState) (x : Signal) �
         → IsTaken Says x stood parts before
     taken stood parts before rows = record {
       row = λ none. subst (λ (q : Parts). AreRows (parts_row q x).state) (sym rows.is) (taken_so rows.part rows.so);
-      settles = λ view is. absurd (let none : None ≡ Some view = ap (λ (q : Parts). settled_at q x) (sym rows.is) ∙ is in cc);
+      settles = λ view is.
+          absurd (let none : None ≡ Some view = ap (λ (q : Parts). settled_at q x) (sym rows.is) ∙ is in cc);
     }
 
     step_so : (h : ℕ) (s : hosts.Host) → AreRows s.parts → AreRows (told h (step_by h s x)).parts
@@ -87,22 +88,22 @@ module _ (So : ReplicaState → Type 0) (row : (s : ReplicaState) (x : Signal) �
               taken x.view (parts_entered s.parts x.view).state (parts_entered s.parts x.view).effects.sends
               (entered_so x.view s.parts rows);
         }) (λ view parts sends says.
-            subst (λ (q : Parts). AreRows (giving q [])) (sym says.is)
-            (record { part = says.part; is = refl; so = says.so }))
+        subst (λ (q : Parts). AreRows (giving q [])) (sym says.is)
+        (record { part = says.part; is = refl; so = says.so }))
 
-  module _ (start : Start) (member : Member) (there : IsIn member (made start)) (first : So (first_rows start member)) where
-    rows_so : (log : List HostStep) → AreRows (after start (ldm_of start member) log).parts
-    rows_so [] =
-        subst (λ (s : hosts.Host). AreRows s.parts) (sym (ldm_started start member there))
-        (record { part = _; is = refl; so = first })
-    rows_so (e ∷ log) =
-        step_so e.step.taken (ldm_of start member) (after start (ldm_of start member) log) (rows_so log)
+  module _ (start : Start) (member : Member) (there : IsIn member (made start)) (first : So (first_rows start member))
+    where
+      rows_so : (log : List HostStep) → AreRows (after start (ldm_of start member) log).parts
+      rows_so [] =
+          subst (λ (s : hosts.Host). AreRows s.parts) (sym (ldm_started start member there))
+          (record { part = _; is = refl; so = first })
+      rows_so (e ∷ log) =
+          step_so e.step.taken (ldm_of start member) (after start (ldm_of start member) log) (rows_so log)
 
-    pub always : (log : List HostStep) → So (rows_after start member log)
-    always log =
-        let rows = rows_so log in
-        subst (λ (q : Parts). So (rows_in
-        (fresh_replica member.node (first_layout start.shape) no_rows (record { used = 0; reserved = 0 }) start.epoch) q)) (sym rows.is) rows.so
+      pub always : (log : List HostStep) → So (rows_after start member log)
+      always log =
+          let rows = rows_so log in
+          subst (λ (q : Parts). So (rows_in (no_replica start member) q)) (sym rows.is) rows.so
 
 -- the rows of the start have their places, and no lock is there
 put_placed : (s : RowsState) (rows : List (List ℕ × List ℕ)) (epoch : ℕ) → AreApart s.places → s.pending ≡ []

@@ -1,5 +1,5 @@
 -- The blocks of a member, as logs leave them.
-use Rattle.std.specs.Prelude.{ℕ, List, []}
+use Rattle.std.specs.Prelude.{List}
 use Rattle.frag_map.specs.Layout.{first_layout}
 use Rattle.sig_core.specs.declared.member.Member.{Member}
 use Rattle.sig_core.specs.Rows.{no_rows}
@@ -29,6 +29,11 @@ abbrev pub rows_in : ReplicaState → Parts → ReplicaState
 rows_in other (part.Ldm p) = p.replica
 rows_in other parts = other
 
+-- rows of the member, of which there are none
+abbrev pub no_replica : Start → Member → ReplicaState
+no_replica start member =
+    fresh_replica member.node (first_layout start.shape) no_rows (record { used = 0; reserved = 0 }) start.epoch
+
 module _ (start : Start) (member : Member) where
   -- the coordinator of a member behind a log of its host
   abbrev pub coordinator_after : List HostStep → CoordinatorState
@@ -42,7 +47,4 @@ module _ (start : Start) (member : Member) where
 
   -- the rows of a member behind a log of their host
   abbrev pub rows_after : List HostStep → ReplicaState
-  rows_after log =
-      rows_in
-      (fresh_replica member.node (first_layout start.shape) no_rows (record { used = 0; reserved = 0 }) start.epoch)
-      (after start (ldm_of start member) log).parts
+  rows_after log = rows_in (no_replica start member) (after start (ldm_of start member) log).parts

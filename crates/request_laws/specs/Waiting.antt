@@ -1,13 +1,18 @@
--- What stands of the rows of a member after every log, and of the requests that wait there beside the queues of the locks.
-use Rattle.std.specs.Prelude.{◌≡◌, ℕ, Bool, true, false, List}
+-- What stands of the rows of a member after every log, and of the requests that wait there beside the queues of their
+-- locks.
+use Rattle.std.specs.Prelude.{◌≡◌, ℕ, Bool, true, List}
 use Rattle.std.specs.List.{list_any}
 use Rattle.run_theory.specs.Lists.{Each, IsIn}
 use Rattle.sig_core.specs.declared.member.Member.{Member}
 use Rattle.sig_core.specs.declared.member.TxId.{TxId}
+use Rattle.sig_core.specs.declared.signal.Signal.{Signal}
+use Rattle.sig_core.specs.declared.view.View.{View}
 use Rattle.row_locks.specs.declared.claim.Wait.{Wait}
 use Rattle.row_locks.specs.Orderly.{IsOrderly}
 use Rattle.lqh_block.specs.declared.request.Request.{Request}
 use Rattle.lqh_block.specs.Work.{work_mode}
+use Rattle.lqh_views.specs.Replica.{installed, replica_row}
+use Rattle.lqh_views.specs.State.{ReplicaState}
 use Rattle.key_laws.specs.LockLaws.{is_attended}
 use Rattle.key_laws.specs.PrimaryEvents.{AreAlone, NoneOf}
 use Rattle.key_laws.specs.Replica.{Event, Replica, asks, at_key, commits, completes, is_by, key_after}
@@ -15,7 +20,7 @@ use Rattle.host_laws.specs.ReplicaLaws.{IsWell}
 use Rattle.world_core.specs.Start.{Start, made}
 use Rattle.world_core.specs.Steps.{HostStep}
 use Rattle.request_laws.specs.Blocks.{rows_after}
-use Rattle.request_laws.specs.Replicas.{key_installed}
+use Rattle.request_laws.specs.Replicas.{event_under, key_installed}
 
 abbrev pub RowsAreWell : Type 0
 RowsAreWell =
@@ -39,8 +44,8 @@ WaitsHaveRequests =
     (start : Start) (member : Member) → IsIn member (made start) → (log : List HostStep) (key : List ℕ)
     → HaveRequests (at_key key (rows_after start member log).lqh)
 
--- The request's transaction holds the key's lock as it needs to, or waits for it; and no two requests for the key are of
--- one transaction.
+-- The transaction of each request holds the key's lock as it needs to, or waits for it; and no two requests for the key
+-- are of one transaction.
 pub record AreAttended (r : Replica) : Type 0 where
   pub attended : Each (λ (q : Request). is_attended r.lock q.tx (work_mode q.work) ≡ true) r.waiting
   pub alone : AreAlone r.waiting
@@ -60,3 +65,13 @@ EventsKeepAttended =
 
 abbrev pub InstallationsKeepAttended : Type 0
 InstallationsKeepAttended = (stays : TxId → Bool) (r : Replica) → AreAttended (key_installed stays r)
+
+-- the same of the rows' steps
+abbrev pub SignalsKeepAttended : Type 0
+SignalsKeepAttended =
+    (s : ReplicaState) (x : Signal) (key : List ℕ) → IsWell s.lqh
+    → IsOneByOne (at_key key s.lqh) (event_under key s x) → AreAttended (at_key key s.lqh)
+    → AreAttended (at_key key (replica_row s x).state.lqh)
+
+abbrev pub InstalledAreAttended : Type 0
+InstalledAreAttended = (s : ReplicaState) (view : View) (key : List ℕ) → AreAttended (at_key key (installed s view).lqh)
