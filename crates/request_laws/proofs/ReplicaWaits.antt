@@ -367,4 +367,5 @@ waits_have_requests start member there log key =
 
     first : (key : List ℕ) → HaveRequests (at_key key (first_rows start member).lqh)
     first key =
-        subst (λ (lock : RowLock). OfEach (HasRequest []) lock.queue) (sym (ap or_unlocked (finite.get-empty key_cmp key))) tt
+        subst (λ (lock : RowLock). OfEach (HasRequest []) lock.queue)
+        (sym (ap or_unlocked (finite.get-empty key_cmp key))) tt
