@@ -1,0 +1,3 @@
+pub mod ReplicaEvents
+pub mod RowsAlong
+pub mod ReplicaWaits

@@ -6,3 +6,4 @@ pub mod Stand
 pub mod Replicas
 pub mod Strays
 pub mod Routes
+pub mod Waiting
