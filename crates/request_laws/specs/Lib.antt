@@ -5,5 +5,6 @@ pub mod Phases
 pub mod Stand
 pub mod Replicas
 pub mod Strays
+pub mod Tokens
 pub mod Routes
 pub mod Waiting

@@ -1,5 +1,5 @@
 -- The operations of a transaction are under way one at a time, in each view.
-use Rattle.std.specs.Prelude.{◌≡◌, ◌≤◌, ◌+◌, ◌&&◌, ◌==◌, ◌||◌, if◌then◌else◌, ℕ, zero, suc, Bool, true, false, List, [], ◌∷◌, Option, None, Some, is_some, filter}
+use Rattle.std.specs.Prelude.{◌≡◌, ◌≤◌, ◌+◌, ◌&&◌, ◌==◌, ◌||◌, if◌then◌else◌, ℕ, Bool, true, false, List, [], ◌∷◌, Option, None, Some, is_some}
 use Rattle.std.specs.List.{count_by}
 use Rattle.run_theory.specs.Counts.{total}
 use Rattle.run_theory.specs.Lists.{IsIn}
