@@ -3,6 +3,7 @@ pub mod KnowParts
 pub mod KnowGrows
 pub mod KnowHosts
 pub mod KnowOwn
+pub mod KnowPlaces
 pub mod KnowNothing
 pub mod KnowMembership
 pub mod KnowMaster
