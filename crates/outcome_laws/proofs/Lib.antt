@@ -4,6 +4,8 @@ pub mod KnowGrows
 pub mod KnowHosts
 pub mod KnowOwn
 pub mod KnowPlaces
+pub mod KnowAll
+pub mod KnowReports
 pub mod KnowNothing
 pub mod KnowMembership
 pub mod KnowMaster

@@ -4,3 +4,4 @@ pub mod Counts
 pub mod Decided
 pub mod Outcomes
 pub mod Own
+pub mod Know
