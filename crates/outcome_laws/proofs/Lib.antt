@@ -9,6 +9,7 @@ pub mod OnceArbiter
 pub mod OnceClient
 pub mod OnceMaster
 pub mod OnceMembership
+pub mod OnceNobody
 pub mod OnceNone
 pub mod OnceParts
 pub mod OnceRows
