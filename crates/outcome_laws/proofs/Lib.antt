@@ -7,6 +7,7 @@ pub mod DihSilent
 pub mod DihWalk
 pub mod OnceArbiter
 pub mod OnceClient
+pub mod OnceMarks
 pub mod OnceMaster
 pub mod OnceMembership
 pub mod OnceNobody
