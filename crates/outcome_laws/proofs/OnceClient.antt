@@ -1,8 +1,9 @@
--- The client's side sends nothing that counts but wishes to commit.
+-- The client's side sends nothing that counts but wishes to commit, and decides nothing.
 use Rattle.std.proofs.Common.{◌≡◌, Bool, true, false, List, [], ◌∷◌, refl}
 use Rattle.run_theory.specs.Lists.{Each}
 use Rattle.run_theory.proofs.Pasts.{each_map}
 use Rattle.sig_core.specs.declared.mark.Mark.{Mark}
+use Rattle.sig_core.specs.declared.member.TxId.{TxId}
 use Rattle.sig_core.specs.declared.outs.Outgoing.{Outgoing}
 use Rattle.sig_core.specs.declared.signal.Body.{Body}
 use Rattle.sig_core.specs.declared.signal.Body.TheVariants.{Client, Epoch}
@@ -12,6 +13,7 @@ use Rattle.sig_core.specs.declared.signal.Signal.{Signal}
 use Rattle.api_block.specs.declared.opened.OpenTransaction.{OpenTransaction}
 use Rattle.api_views.specs.Client.{client_row}
 use Rattle.api_views.specs.State.{ClientState}
+use Rattle.outcome_laws.specs.Counts.{is_decision}
 use Rattle.outcome_laws.proofs.ClientTurns.{ArePlain, ClientForms, IsPlain, client_turns, is_plain}
 
 -- what only coordinators send
@@ -58,3 +60,30 @@ forms opened body = record {
 pub client_sends : (s : ClientState) (x : Signal)
     → Each (λ (sent : Outgoing). is_coordinators sent.body ≡ false) (client_row s x).effects.sends
 client_sends s x = client_turns s x SendsAllowed (forms s.api.opened x.body)
+
+-- and decides none
+abbrev IsOfNoDecision : Mark → Type 0
+IsOfNoDecision mark = (tx : TxId) → is_decision tx mark ≡ false
+
+abbrev DecidesNone : List OpenTransaction → List Outgoing → List Mark → Type 0
+DecidesNone opened sends marks = Each IsOfNoDecision marks
+
+undecided : (opened : List OpenTransaction) (body : Body) → ClientForms opened body DecidesNone
+undecided opened body = record {
+  keeps = λ sends plain. tt;
+  opens = λ name node op sends plain. tt;
+  begins = λ p at f u name tx sends is own plain. tt;
+  changes = λ p at f u sends same doing plain. tt;
+  wishes = λ p at f u tx own same undone committing. tt;
+  drops = λ p at f sends plain. tt;
+  commits = λ p at f tx epoch sends own is plain. (λ other. refl, tt);
+  commits_late = λ p at f tx epoch sends own is plain. (λ other. refl, tt);
+  aborts = λ p at f tx cause sends own is plain. (λ other. refl, tt);
+  fails = λ p at f tx number sends own plain. (λ other. refl, tt);
+  goes_down = λ p at f tx sends own undone plain. (λ other. refl, tt);
+  loses = λ p at f tx sends own plain. (λ other. refl, tt);
+}
+
+pub client_decides_none : (s : ClientState) (x : Signal)
+    → Each (λ (mark : Mark). (tx : TxId) → is_decision tx mark ≡ false) (client_row s x).effects.marks
+client_decides_none s x = client_turns s x DecidesNone (undecided s.api.opened x.body)

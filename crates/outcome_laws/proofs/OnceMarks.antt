@@ -5,7 +5,7 @@ use Rattle.std.proofs.lemmas.Bool.{true≢false}
 use Rattle.run_theory.specs.Lists.{Each}
 use Rattle.run_theory.proofs.Pasts.{each_map}
 use Rattle.sig_core.specs.declared.mark.Mark.{Mark}
-use Rattle.sig_core.specs.declared.mark.Mark.TheVariants.{CutOff, Decided, Installed, Stopped}
+use Rattle.sig_core.specs.declared.mark.Mark.TheVariants.{CutOff, Installed, Stopped}
 use Rattle.sig_core.specs.declared.member.HostId.{HostId}
 use Rattle.sig_core.specs.declared.member.Member.{Member}
 use Rattle.sig_core.specs.declared.member.TxId.{TxId}
@@ -30,23 +30,29 @@ use Rattle.dih_node.specs.Dih.{dih_row}
 use Rattle.dih_node.specs.Orders as dih
 use Rattle.node_views.specs.Blocks.{parts_entered, parts_row}
 use Rattle.node_views.specs.Replies.{giving}
-use Rattle.node_views.specs.Parts.{shell_row, tc_entered, tc_row}
+use Rattle.node_views.specs.Parts.{ldm_row, main_row, shell_row, tc_entered, tc_row}
+use Rattle.node_views.specs.declared.ldm_part.LdmPart.{LdmPart}
+use Rattle.node_views.specs.declared.main_part.MainPart.{MainPart}
 use Rattle.node_views.specs.declared.parts.Parts.{Parts}
 use Rattle.node_views.specs.declared.parts.Parts.TheVariants.{Ldm, Main, Shell, Tc}
 use Rattle.node_views.specs.declared.shell_part.ShellPart.{ShellPart}
 use Rattle.node_views.specs.declared.tc_part.TcPart.{TcPart}
 use Rattle.takeover_block.specs.Takeover.{takeover_row}
 use Rattle.tc_views.specs.Coordinator.{coordinator_row}
-use Rattle.view_laws.proofs.EraMarks.{IsUndecided}
-use Rattle.view_laws.proofs.EraMarks as era
-use Rattle.view_laws.proofs.EraParts.{entered_bare, others_none}
+use Rattle.tc_views.specs.Views as coordinator
 use Rattle.outcome_laws.specs.Counts.{count_held, count_open, count_sent, count_unwished, is_asking, is_begin, is_decision, is_report, is_wish, one_if}
 use Rattle.outcome_laws.proofs.ClientCounts.{is_down_answer, is_down_report, noted_open, noted_unwished, reports_few, wishes_or_downs_few}
 use Rattle.outcome_laws.proofs.DihCounts.{decides_few, installs_count_held}
-use Rattle.outcome_laws.proofs.OnceArbiter.{arbiter_none}
+use Rattle.outcome_laws.proofs.KnowMaster.{master_tells_nothing}
+use Rattle.outcome_laws.proofs.KnowMembership.{membership_installs_nothing, membership_tells_nothing}
+use Rattle.outcome_laws.proofs.KnowNothing.{untold_uncounted}
+use Rattle.outcome_laws.proofs.KnowParts.{arbiter_tells_nothing}
+use Rattle.outcome_laws.proofs.OnceClient.{client_decides_none}
 use Rattle.outcome_laws.proofs.OnceNone.{count_none, is_counted, uncounted_wish}
 use Rattle.outcome_laws.proofs.OnceParts.{no_body, no_sends, uncounted_none}
 use Rattle.outcome_laws.proofs.OnceWalk.{AreLight, IsLight, Scale, count_marked}
+use Rattle.outcome_laws.proofs.RowsMarks.{rows_mark_none}
+use Rattle.outcome_laws.proofs.RowsNone.{IsNoOutcome, none_decided}
 use Rattle.outcome_laws.proofs.TakeoverMarks.{takeover_marks_nothing}
 use Rattle.outcome_laws.proofs.TcMarks.{coordinator_marks_none}
 
@@ -66,17 +72,41 @@ module _ (tx : TxId) where
   abbrev Decides : ℕ → Effects → Parts → Type 0
   Decides limit effects parts = IsLight (of_decisions tx) IsAny limit effects parts
 
-  undecided_none : (marks : List Mark) → Each IsUndecided marks → count_marked (is_decision tx) marks ≡ 0
+  undecided_none : (marks : List Mark) → Each IsNoOutcome marks → count_marked (is_decision tx) marks ≡ 0
   undecided_none marks none =
       count_none (is_decision tx) marks
-      (each_map IsUndecided (λ mark. is_decision tx mark ≡ false) marks (λ mark is. by mark is) none)
-    where
-      by : (mark : Mark) → era.is_decision mark ≡ false → is_decision tx mark ≡ false
-      by (Decided other epoch) is = absurd cc
-      by mark is = refl
+      (each_map IsNoOutcome (λ mark. is_decision tx mark ≡ false) marks (λ mark is. none_decided tx mark is) none)
+
+  shell_undecided : (q : ShellPart) (b : BlockId) (x : Signal)
+      → count_marked (is_decision tx) (shell_row q b x).effects.marks ≡ 0
+  unfolding shell_row
+  shell_undecided q block.Api x =
+      let marks = (client_row q.client x).effects.marks in
+      count_none (is_decision tx) marks
+      (each_map (λ (mark : Mark). (tx : TxId) → is_decision tx mark ≡ false) (λ mark. is_decision tx mark ≡ false) marks
+      (λ mark is. is tx) (client_decides_none q.client x))
+  shell_undecided q block.Arbiter x = undecided_none _ (arbiter_tells_nothing q.arbiter x).1
+  shell_undecided q _ x = refl
+
+  main_undecided : (q : MainPart) (b : BlockId) (x : Signal)
+      → count_marked (is_decision tx) (main_row q b x).effects.marks ≡ 0
+  unfolding main_row
+  main_undecided q block.Qmgr x = undecided_none _ (membership_tells_nothing q.qmgr x).1
+  main_undecided q block.GcpMaster x = undecided_none _ (master_tells_nothing q.master x).1
+  main_undecided q _ x = refl
+
+  ldm_undecided : (q : LdmPart) (b : BlockId) (x : Signal)
+      → count_marked (is_decision tx) (ldm_row q b x).effects.marks ≡ 0
+  unfolding ldm_row
+  ldm_undecided q block.Lqh x = undecided_none _ (rows_mark_none q.replica x)
+  ldm_undecided q _ x = refl
 
   bare : (effects : Effects) → effects.marks ≡ [] → count_marked (is_decision tx) effects.marks ≡ 0
   bare effects is = ap (count_marked (is_decision tx)) is
+
+  tc_bare : (q : TcPart) (view : View) → count_marked (is_decision tx) (tc_entered q view).effects.marks ≡ 0
+  unfolding coordinator.install_row dih.install_row
+  tc_bare q view = refl
 
   tc_decides : (q : TcPart) (b : BlockId) (x : Signal)
       → Decides (count_held tx q.dih + one_if (is_asking tx x.body)) (tc_row q b x).effects (Tc (tc_row q b x).state)
@@ -120,9 +150,9 @@ module _ (tx : TxId) where
           → Decides (may_decide tx parts + one_if (is_asking tx x.body)) (parts_row parts x).effects
           (parts_row parts x).state
       row (Tc q) x = tc_decides q x.to.block x
-      row (Shell q) x = other_decides _ _ _ refl (undecided_none _ (others_none (Shell q) x refl))
-      row (Main q) x = other_decides _ _ _ refl (undecided_none _ (others_none (Main q) x refl))
-      row (Ldm q) x = other_decides _ _ _ refl (undecided_none _ (others_none (Ldm q) x refl))
+      row (Shell q) x = other_decides _ _ _ refl (shell_undecided q x.to.block x)
+      row (Main q) x = other_decides _ _ _ refl (main_undecided q x.to.block x)
+      row (Ldm q) x = other_decides _ _ _ refl (ldm_undecided q x.to.block x)
 
       enters : (parts : Parts) (view : View)
           → Decides (may_decide tx parts) (parts_entered parts view).effects (parts_entered parts view).state
@@ -134,13 +164,13 @@ module _ (tx : TxId) where
                 omega (
                   arith,
                   no_sends effects.sends,
-                  bare effects (entered_bare (Tc q) view),
+                  tc_bare q view,
                   installs_count_held tx q.dih view.number,
                 );
           }
-      enters (Shell q) view = other_decides _ _ 0 refl (bare _ (entered_bare (Shell q) view))
-      enters (Main q) view = other_decides _ _ 0 refl (bare _ (entered_bare (Main q) view))
-      enters (Ldm q) view = other_decides _ _ 0 refl (bare _ (entered_bare (Ldm q) view))
+      enters (Shell q) view = other_decides _ _ 0 refl refl
+      enters (Main q) view = other_decides _ _ 0 refl (undecided_none _ (membership_installs_nothing q.qmgr view).1)
+      enters (Ldm q) view = other_decides _ _ 0 refl refl
 
       tells_same : (parts : Parts) → may_decide tx (giving parts []) ≡ may_decide tx parts
       tells_same (Tc q) = refl
@@ -203,7 +233,7 @@ module _ (sent : Body → Bool) (marked : Mark → Bool) (may : ClientState → 
               omega (
                 arith,
                 ap (count_marked marked) (arbiter_bare q.arbiter x),
-                uncounted_none sent is.counts effects.sends (arbiter_none q.arbiter x),
+                uncounted_none sent is.counts effects.sends (untold_uncounted _ (arbiter_tells_nothing q.arbiter x).0),
               );
         }
     shell_is q _ x = record { keeps = tt; below = omega arith }

@@ -32,10 +32,11 @@ use Rattle.tc_views.specs.Views as coordinator
 use Rattle.moment_laws.proofs.MomentHosts.{HasNoTc}
 use Rattle.outcome_laws.specs.Counts.{IsCoordinatorOf, coordinator_member, count_sent, is_asking, is_begin, is_wish}
 use Rattle.outcome_laws.specs.Own.{IsOwnAt, IsOwnSend}
-use Rattle.outcome_laws.proofs.OnceArbiter.{arbiter_none}
+use Rattle.outcome_laws.proofs.KnowMaster.{master_tells_nothing}
+use Rattle.outcome_laws.proofs.KnowMembership.{membership_installs_nothing, membership_tells_nothing}
+use Rattle.outcome_laws.proofs.KnowNothing.{untold_uncounted}
+use Rattle.outcome_laws.proofs.KnowParts.{arbiter_tells_nothing}
 use Rattle.outcome_laws.proofs.OnceClient.{client_sends, is_coordinators}
-use Rattle.outcome_laws.proofs.OnceMaster.{master_none}
-use Rattle.outcome_laws.proofs.OnceMembership.{membership_installs_none, qmgr_none}
 use Rattle.outcome_laws.proofs.OnceNone.{AreUncounted, IsUncounted, count_none, is_counted}
 use Rattle.outcome_laws.proofs.OnceParts.{IsTcOf, coordinator_light, no_body, no_mark, no_marks, of_coordinator}
 use Rattle.outcome_laws.proofs.OnceRows.{replica_none}
@@ -117,8 +118,8 @@ IsBeside parts = ⊥
 
 main_uncounted : (q : MainPart) (b : BlockId) (x : Signal) → AreUncounted (main_row q b x).effects.sends
 unfolding main_row
-main_uncounted q block.Qmgr x = qmgr_none q.qmgr x
-main_uncounted q block.GcpMaster x = master_none q.master x
+main_uncounted q block.Qmgr x = untold_uncounted _ (membership_tells_nothing q.qmgr x).0
+main_uncounted q block.GcpMaster x = untold_uncounted _ (master_tells_nothing q.master x).0
 main_uncounted q _ x = tt
 
 ldm_uncounted : (q : LdmPart) (b : BlockId) (x : Signal) → AreUncounted (ldm_row q b x).effects.sends
@@ -154,7 +155,7 @@ module _ (p : Body → Bool) (counts : (body : Body) → is_counted body ≡ fal
       → IsLight (of_nobody p) IsBeside 0 (parts_entered parts view).effects (parts_entered parts view).state
   beside_enters (Main q) view beside =
       light IsBeside (parts_entered (Main q) view).state (parts_entered (Main q) view).effects.sends
-      (parts_entered (Main q) view).effects.marks tt (not_counted _ (membership_installs_none q.qmgr view))
+      (parts_entered (Main q) view).effects.marks tt (not_counted _ (untold_uncounted _ (membership_installs_nothing q.qmgr view).0))
   beside_enters (Ldm q) view beside = light IsBeside (parts_entered (Ldm q) view).state [] [] tt tt
   beside_enters (Shell q) view beside = absurd beside
   beside_enters (Tc q) view beside = absurd beside
@@ -184,7 +185,7 @@ module _ (p : Body → Bool) (counts : (body : Body) → is_counted body ≡ fal
     shell_none q block.Api x =
         each_map (λ (sent : Outgoing). is_coordinators sent.body ≡ false) (λ (sent : Outgoing). p sent.body ≡ false) _
         (λ sent is. coordinators sent.body is) (client_sends q.client x)
-    shell_none q block.Arbiter x = not_counted _ (arbiter_none q.arbiter x)
+    shell_none q block.Arbiter x = not_counted _ (untold_uncounted _ (arbiter_tells_nothing q.arbiter x).0)
     shell_none q _ x = tt
 
     pub no_tc_light : AreLight (of_nobody p) HasNoTc
