@@ -13,6 +13,8 @@ pub mod KnowNothing
 pub mod KnowParts
 pub mod KnowWalk
 pub mod OnceClient
+pub mod OnceLinks
+pub mod OnceLogs
 pub mod OnceMarks
 pub mod OnceNobody
 pub mod OnceNone

@@ -2,5 +2,6 @@ pub mod Tells
 pub mod Known
 pub mod Counts
 pub mod Decided
+pub mod Once
 pub mod Outcomes
 pub mod Own
