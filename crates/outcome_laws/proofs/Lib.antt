@@ -12,6 +12,7 @@ pub mod KnowMembership
 pub mod KnowNothing
 pub mod KnowParts
 pub mod KnowWalk
+pub mod OnceBegins
 pub mod OnceClient
 pub mod OnceLinks
 pub mod OnceLogs
@@ -20,6 +21,7 @@ pub mod OnceNobody
 pub mod OnceNone
 pub mod OnceParts
 pub mod OnceRows
+pub mod OnceReported
 pub mod OnceTakeover
 pub mod OnceWalk
 pub mod RowsKnowledge
