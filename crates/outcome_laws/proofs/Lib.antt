@@ -5,12 +5,16 @@ pub mod DihCounts
 pub mod DihKnows
 pub mod DihSilent
 pub mod DihWalk
+pub mod KnowAll
 pub mod KnowGrows
 pub mod KnowHosts
 pub mod KnowMaster
 pub mod KnowMembership
 pub mod KnowNothing
+pub mod KnowOwn
 pub mod KnowParts
+pub mod KnowPlaces
+pub mod KnowReports
 pub mod KnowWalk
 pub mod OnceBegins
 pub mod OnceClient
@@ -20,8 +24,8 @@ pub mod OnceMarks
 pub mod OnceNobody
 pub mod OnceNone
 pub mod OnceParts
-pub mod OnceRows
 pub mod OnceReported
+pub mod OnceRows
 pub mod OnceTakeover
 pub mod OnceWalk
 pub mod RowsKnowledge

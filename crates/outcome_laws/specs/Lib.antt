@@ -5,3 +5,4 @@ pub mod Decided
 pub mod Once
 pub mod Outcomes
 pub mod Own
+pub mod Know
