@@ -18,6 +18,7 @@ pub mod KnowReports
 pub mod KnowWalk
 pub mod OnceBegins
 pub mod OnceClient
+pub mod OnceDecided
 pub mod OnceLinks
 pub mod OnceLogs
 pub mod OnceMarks
@@ -28,6 +29,7 @@ pub mod OnceReported
 pub mod OnceRows
 pub mod OnceTakeover
 pub mod OnceWalk
+pub mod OnceWished
 pub mod RowsKnowledge
 pub mod RowsLists
 pub mod RowsMarks
