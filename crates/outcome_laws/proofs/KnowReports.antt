@@ -44,11 +44,10 @@ in_front x (y ∷ xs) ys (inr there) = inr (in_front x xs ys there)
 
 pub in_turned : {A : Type 0} (x : A) (xs : List A) → IsIn x xs → IsIn x (reverse xs)
 in_turned x [] there = absurd there
-in_turned {A} x (y ∷ xs) there = subst (IsIn x) (sym (reverse-append (y ∷ []) xs)) (by there)
-  where
-    by : (x ≡ y) ⊎ IsIn x xs → IsIn x (reverse xs ++ y ∷ [])
-    by (inl is) = in_append x (reverse xs) (y ∷ []) (inl is)
-    by (inr older) = in_front x (reverse xs) (y ∷ []) (in_turned x xs older)
+in_turned x (y ∷ xs) (inl is) =
+    subst (IsIn x) (sym (reverse-append (y ∷ []) xs)) (in_append x (reverse xs) (y ∷ []) (inl is))
+in_turned x (y ∷ xs) (inr there) =
+    subst (IsIn x) (sym (reverse-append (y ∷ []) xs)) (in_front x (reverse xs) (y ∷ []) (in_turned x xs there))
 
 -- the entries of a step
 module _ (h stamp : ℕ) (log : List HostStep) where
@@ -79,27 +78,29 @@ module _ (start : Start) where
   pub decided_entry : (tx : TxId) (epoch h : ℕ) (es : List HostStep) → IsMarked (Decided tx epoch) (logs_of start es h)
       → HasEntry tx epoch (decisions start es)
   decided_entry tx epoch h [] is = absurd is
-  decided_entry tx epoch h (e ∷ es) is = by (cases_eq e.host h)
+  decided_entry tx epoch h (e ∷ es) is = by (cases_eq e.host h) (decided_entry tx epoch h es)
     where
-      older : IsMarked (Decided tx epoch) (logs_of start es h) → HasEntry tx epoch (decisions start (e ∷ es))
-      older is =
-          let has = decided_entry tx epoch h es is in
-          record {
-            entry = has.entry;
-            there = in_before e.host e.step.stamp (e ∷ logs_of start es e.host) has.entry e.step.marks
-                (decisions start es) has.there;
-            tx_is = has.tx_is;
-            epoch_is = has.epoch_is;
-          }
+      more : HasEntry tx epoch (decisions start es) → HasEntry tx epoch (decisions start (e ∷ es))
+      more has = record {
+        entry = has.entry;
+        there = in_before e.host e.step.stamp (e ∷ logs_of start es e.host) has.entry e.step.marks
+            (decisions start es) has.there;
+        tx_is = has.tx_is;
+        epoch_is = has.epoch_is;
+      }
 
-      own : IsMarked (Decided tx epoch) (e ∷ logs_of start es h) → HasEntry tx epoch (decisions start (e ∷ es))
-      own (inl there) =
+      own : IsMarked (Decided tx epoch) (e ∷ logs_of start es h)
+          → (IsMarked (Decided tx epoch) (logs_of start es h) → HasEntry tx epoch (decisions start es))
+          → HasEntry tx epoch (decisions start (e ∷ es))
+      own (inl there) older =
           one_entry e.host e.step.stamp (e ∷ logs_of start es e.host) tx epoch e.step.marks (decisions start es) there
-      own (inr is) = older is
+      own (inr is) older = more (older is)
 
-      by : (e.host ≡ h) ⊎ (e.host ≢ h) → HasEntry tx epoch (decisions start (e ∷ es))
-      by (inl at) = own (subst (IsMarked (Decided tx epoch)) (log_of-own (machine start) e es h at) is)
-      by (inr other) = older (subst (IsMarked (Decided tx epoch)) (log_of-other (machine start) e es h other) is)
+      by : (e.host ≡ h) ⊎ (e.host ≢ h)
+          → (IsMarked (Decided tx epoch) (logs_of start es h) → HasEntry tx epoch (decisions start es))
+          → HasEntry tx epoch (decisions start (e ∷ es))
+      by (inl at) older = own (subst (IsMarked (Decided tx epoch)) (log_of-own (machine start) e es h at) is) older
+      by (inr other) older = more (older (subst (IsMarked (Decided tx epoch)) (log_of-other (machine start) e es h other) is))
 
   -- at a moment who was reported committed has one
   pub reported_entry : (all : ℕ → List HostStep) (es : List HostStep) → IsMoment start all es → (tx : TxId) (epoch : ℕ)
