@@ -1,7 +1,6 @@
 -- At each moment all that hosts know, tell and mark of transactions is true.
 use Rattle.std.proofs.Common.{◌≡◌, ◌≢◌, ◌⊎◌, ◌∙◌, ◌%◌, ℕ, zero, suc, Bool, true, false, List, [], ◌∷◌, refl, sym, ap, subst, inl, inr}
 use Rattle.std.proofs.lemmas.Bool.{cases_eq}
-use Rattle.std.specs.Prelude.{Option}
 use Rattle.run_theory.proofs.Pasts.{each_from, each_in, each_map}
 use Rattle.run_theory.proofs.Runs.{log_of-other, log_of-own}
 use Rattle.run_theory.specs.Lists.{Each, IsIn}
@@ -17,7 +16,6 @@ use Rattle.sig_core.specs.declared.signal.client.ClientSignal.TheVariants.{TcBeg
 use Rattle.sig_core.specs.declared.signal.host.HostSignal.TheVariants.{Closed}
 use Rattle.sig_core.specs.declared.rows.PendingRecord.{PendingRecord}
 use Rattle.sig_core.specs.Rows.{no_rows}
-use Rattle.sig_core.specs.Step.{Step}
 use Rattle.node_core.specs.Fresh.{own_rows, with_rows}
 use Rattle.node_views.specs.declared.host.Host as node
 use Rattle.node_views.specs.WellFormed.{is_well_formed}
@@ -43,7 +41,7 @@ use Rattle.outcome_laws.specs.Known.{IsDecidedIf, PartsKnow}
 use Rattle.outcome_laws.specs.Tells.{Decides, IsRightMark, Teaches, Tells}
 use Rattle.outcome_laws.proofs.KnowGrows.{parts_grow, right_grows, tells_grow}
 use Rattle.outcome_laws.proofs.KnowHosts.{HasNoShell, IsTrueStep, never_shell, others_are_true, steps_are_true}
-use Rattle.outcome_laws.proofs.KnowPlaces.{AllOwn, AreDecidedHere, IsDecidedHere, all_own}
+use Rattle.outcome_laws.proofs.KnowPlaces.{AreDecidedHere, IsDecidedHere, all_own}
 
 -- a signal of the hosts themselves
 abbrev is_host : Body → Bool

@@ -1,5 +1,5 @@
 -- A membership tells nothing of transactions, whatever it takes.
-use Rattle.std.proofs.Common.{◌≡◌, ◌==◌, ◌&&◌, ◌++◌, ◌||◌, ℕ, Bool, true, false, List, [], ◌∷◌, map, nat_lt, refl}
+use Rattle.std.proofs.Common.{◌==◌, ◌&&◌, ◌++◌, ◌||◌, ℕ, Bool, true, false, List, [], ◌∷◌, map, nat_lt, refl}
 use Rattle.std.specs.Prelude.{if◌then◌else◌, is_some, not, Option, None, Some, position, slice_get}
 use Rattle.run_theory.proofs.EachSent.{each_mapped}
 use Rattle.run_theory.proofs.Pasts.{each_append}

@@ -1,6 +1,6 @@
 -- Only the coordinator that began a transaction asks for its epoch, and asks the epochs of its own node; so these decide
 -- only its transactions.
-use Rattle.std.proofs.Common.{◌≡◌, ◌∷◌, ◌++◌, ℕ, Bool, true, false, List, [], refl, sym, subst, inl, inr}
+use Rattle.std.proofs.Common.{◌≡◌, ◌∷◌, true, false, List, [], sym, subst, inl, inr}
 use Rattle.run_theory.specs.Lists.{Each}
 use Rattle.run_theory.proofs.EachSent.{each_get, each_removed}
 use Rattle.run_theory.proofs.Pasts.{each_append, each_map}
@@ -59,7 +59,7 @@ use Rattle.outcome_laws.proofs.OnceNone.{AreUncounted, IsUncounted, is_counted}
 use Rattle.outcome_laws.proofs.OnceRows.{replica_none}
 use Rattle.outcome_laws.proofs.OnceTakeover.{takeover_none}
 use Rattle.outcome_laws.proofs.RowsMarks.{rows_mark_none}
-use Rattle.outcome_laws.proofs.RowsNone.{IsNoOutcome, MarksNone, is_outcome}
+use Rattle.outcome_laws.proofs.RowsNone.{IsNoOutcome}
 use Rattle.outcome_laws.proofs.TakeoverMarks.{takeover_marks_nothing}
 use Rattle.outcome_laws.proofs.TcCounts.{coordinator_installs_own, coordinator_of_installed, coordinator_of_stays, coordinator_own}
 use Rattle.outcome_laws.proofs.TcMarks.{coordinator_installs_mark, coordinator_marks}

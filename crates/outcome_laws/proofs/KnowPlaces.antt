@@ -1,5 +1,5 @@
 -- At each moment a transaction was decided only at the host of its coordinator's member, if anywhere.
-use Rattle.std.proofs.Common.{◌≡◌, ◌≢◌, ◌⊎◌, ◌<◌, ◌∙◌, ◌+◌, ◌-◌, ◌*◌, ℕ, zero, suc, Bool, true, false, filter, List, [], ◌∷◌, refl, sym, ap, subst, inl, inr, arith}
+use Rattle.std.proofs.Common.{◌≡◌, ◌≢◌, ◌⊎◌, ◌∙◌, ◌+◌, ◌-◌, ◌*◌, ℕ, zero, suc, true, List, [], ◌∷◌, sym, ap, subst, inl, inr}
 use Rattle.std.proofs.lemmas.Bool.{cases_eq}
 use Rattle.run_theory.proofs.Pasts.{each_in, each_map}
 use Rattle.run_theory.proofs.Runs.{log_of-other, log_of-own}
@@ -20,9 +20,8 @@ use Rattle.sig_core.specs.declared.signal.Signal.{Signal}
 use Rattle.sig_core.specs.declared.signal.epoch.EpochSignal.TheVariants.{DiVerifyReq}
 use Rattle.sig_core.specs.declared.view.View.{View}
 use Rattle.sig_core.specs.Place.{epochs}
-use Rattle.sig_core.specs.Step.{Effects, Step}
+use Rattle.sig_core.specs.Step.{Step}
 use Rattle.frag_map.specs.Layout.{first_layout}
-use Rattle.node_views.specs.Blocks.{parts_entered, parts_row}
 use Rattle.node_views.specs.declared.host.Host as node
 use Rattle.node_views.specs.declared.parts.Parts.{Parts}
 use Rattle.node_views.specs.declared.parts.Parts.TheVariants.{Shell, Main, Tc, Ldm}
@@ -44,7 +43,7 @@ use Rattle.moment_laws.proofs.MomentSignals.{EachSent, epoch_told, sent_next}
 use Rattle.moment_laws.proofs.MomentTurns.{host_low}
 use Rattle.moment_laws.proofs.MomentViews.{moment_less}
 use Rattle.outcome_laws.specs.Counts.{coordinator_member}
-use Rattle.outcome_laws.proofs.KnowOwn.{AreOwn, AreSo, AskSo, IsAskedSo, IsDecidedSo, IsOf, IsOfOwn, OwnParts, others_so, own_kept, so_effects}
+use Rattle.outcome_laws.proofs.KnowOwn.{AreOwn, AreSo, IsAskedSo, IsDecidedSo, IsOf, IsOfOwn, OwnParts, others_so, own_kept, so_effects}
 use Rattle.outcome_laws.proofs.KnowWalk.{step_keeps}
 use Rattle.outcome_laws.proofs.TcCounts.{coordinator_of_fresh}
 

@@ -1,5 +1,5 @@
 -- Whoever is reported committed was decided, in the epoch that is reported, and so has an entry.
-use Rattle.std.proofs.Common.{◌≡◌, ◌≢◌, ◌⊎◌, ◌∙◌, ◌++◌, ℕ, List, [], ◌∷◌, reverse, refl, sym, ap, subst, inl, inr}
+use Rattle.std.proofs.Common.{◌≡◌, ◌≢◌, ◌⊎◌, ◌++◌, ℕ, List, [], ◌∷◌, reverse, refl, sym, subst, inl, inr}
 use Rattle.std.proofs.lemmas.Bool.{cases_eq}
 use Rattle.std.proofs.lemmas.List.{reverse-append}
 use Rattle.run_theory.proofs.Pasts.{each_in, in_append}
@@ -12,7 +12,6 @@ use Rattle.sig_core.specs.declared.mark.Mark.TheVariants.{Decided, Reported}
 use Rattle.sig_core.specs.declared.member.TxId.{TxId}
 use Rattle.sig_core.specs.declared.outcome.Outcome.TheVariants as outcome
 use Rattle.world_core.specs.Entries.{entries_in, entry_of}
-use Rattle.world_core.specs.Hosts.{hosts}
 use Rattle.world_core.specs.Start.{Start}
 use Rattle.world_core.specs.Steps.{HostStep}
 use Rattle.world_views.specs.Machine.{machine}
@@ -24,7 +23,6 @@ use Rattle.moment_laws.specs.Places.{tc_of}
 use Rattle.moment_laws.proofs.MomentRuns.{are_moments}
 use Rattle.outcome_laws.specs.Counts.{coordinator_member}
 use Rattle.outcome_laws.specs.Decided.{IsBegun, IsDecided, IsMarked}
-use Rattle.outcome_laws.specs.Know.{AllKnow}
 use Rattle.outcome_laws.specs.Outcomes.{CommitsWereDecided, HasEntry}
 use Rattle.outcome_laws.specs.Tells.{IsRightMark}
 use Rattle.outcome_laws.proofs.KnowAll.{moments_know}

@@ -26,17 +26,6 @@ pub mod DihCounts
 pub mod DihKnows
 pub mod DihSilent
 pub mod DihWalk
-pub mod KnowAll
-pub mod KnowGrows
-pub mod KnowHosts
-pub mod KnowMaster
-pub mod KnowMembership
-pub mod KnowNothing
-pub mod KnowOwn
-pub mod KnowParts
-pub mod KnowPlaces
-pub mod KnowReports
-pub mod KnowWalk
 pub mod OnceBegins
 pub mod OnceClient
 pub mod OnceDecided
@@ -46,9 +35,6 @@ pub mod OnceMarks
 pub mod OnceNobody
 pub mod OnceParts
 pub mod OnceReported
-pub mod OnceRows
-pub mod OnceTakeover
-pub mod OnceWalk
 pub mod OnceWished
 pub mod RowsKnowledge
 pub mod RowsLists

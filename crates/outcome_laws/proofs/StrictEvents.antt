@@ -7,7 +7,6 @@ use Rattle.run_theory.specs.Lists.{IsIn, IsPast}
 use Rattle.sig_core.specs.declared.entry.Entry.{Entry}
 use Rattle.sig_core.specs.declared.mark.Mark.{Mark}
 use Rattle.sig_core.specs.declared.mark.Mark.TheVariants.{Decided}
-use Rattle.sig_core.specs.declared.member.TxId.{TxId}
 use Rattle.world_core.specs.Entries.{entries_in, entry_of}
 use Rattle.world_core.specs.Start.{Start}
 use Rattle.world_core.specs.Steps.{HostStep}

@@ -1,12 +1,11 @@
 -- What was reported before another transaction was asked for was decided before it, and so stands before it in the
 -- history.
-use Rattle.std.proofs.Common.{◌≡◌, ◌⊎◌, ◌≤◌, ◌+◌, ◌∙◌, ◌++◌, ◌||◌, ℕ, Bool, true, false, List, [], ◌∷◌, reverse, append_assoc, refl, sym, ap, subst, inl, inr, arith}
+use Rattle.std.proofs.Common.{◌≡◌, ◌⊎◌, ◌≤◌, ◌∙◌, ◌++◌, ◌||◌, ℕ, Bool, true, false, List, [], ◌∷◌, reverse, append_assoc, refl, sym, ap, subst, inl, inr, arith}
 use Rattle.std.proofs.lemmas.Bool.{true≢false}
 use Rattle.std.proofs.lemmas.List.{reverse-append, reverse-reverse}
 use Rattle.std.specs.List.{list_any}
-use Rattle.std.specs.Prelude.{Option}
 use Rattle.run_theory.proofs.Pasts.{each_in, in_append}
-use Rattle.run_theory.specs.Lists.{Each, IsIn, IsPast}
+use Rattle.run_theory.specs.Lists.{IsIn, IsPast}
 use Rattle.run_theory.specs.Ranks.{in_order}
 use Rattle.sig_core.proofs.Keys.{same_tx-self}
 use Rattle.sig_core.proofs.TxLemmas.{same_tx-is}
@@ -34,12 +33,13 @@ use Rattle.moment_laws.proofs.MomentRuns.{are_moments}
 use Rattle.outcome_laws.specs.Counts.{is_begin, one_if}
 use Rattle.outcome_laws.specs.Decided.{HasToldOfBegin, IsBegun, IsDecided, IsMarked, TellsOfBegin}
 use Rattle.outcome_laws.specs.Once.{takes_in}
-use Rattle.outcome_laws.specs.Outcomes.{AreOnce, DecisionsKeepStrictOrder, HasEntry, HistoriesKeepStrictOrder, TransactionsAreDecidedOnce}
+use Rattle.outcome_laws.specs.Outcomes.{AreOnce, DecisionsKeepStrictOrder, HasEntry, HistoriesKeepStrictOrder}
 use Rattle.outcome_laws.specs.Tells.{IsRightMark}
 use Rattle.outcome_laws.proofs.KnowAll.{moments_know}
 use Rattle.outcome_laws.proofs.KnowReports.{in_turned, marked_so, reported_entry}
 use Rattle.outcome_laws.proofs.OnceBegins.{begin_once}
-use Rattle.outcome_laws.proofs.StrictEvents.{IsDecidedThere, IsUpTo, decisions_past, entry_decided, events_up_to, moment_before}
+use Rattle.outcome_laws.proofs.OnceDecided.{decided_once}
+use Rattle.outcome_laws.proofs.StrictEvents.{IsUpTo, decisions_past, entry_decided, events_up_to, moment_before}
 use Rattle.outcome_laws.proofs.StrictLists.{in_either, kept_in, stands_by, stands_kept}
 
 -- the mark by which a transaction was reported committed
@@ -109,112 +109,111 @@ once_apart e a (x ∷ xs) ys once (inl same) there_a =
     (each_in (λ (b : Entry). same_tx b.tx x.tx ≡ false) a (xs ++ ys) once.0 (in_append a xs ys there_a))
 once_apart e a (x ∷ xs) ys once (inr there_e) there_a = once_apart e a xs ys once.1 there_e there_a
 
-module _ (decided_once : TransactionsAreDecidedOnce) where
-  module _ (start : Start) (logs : ℕ → List HostStep) (are : AreOfCluster start logs) (a b : Entry)
-      (before : List HostStep) (asked : IsAskedFor start b.tx (logs 0) before)
-      (reported : has_mark (is_reported a.tx) before ≡ true)
-    where
-      moment : IsMoment start logs (in_order (by_views start logs))
-      moment = are_moments start logs are
+module _ (start : Start) (logs : ℕ → List HostStep) (are : AreOfCluster start logs) (a b : Entry)
+    (before : List HostStep) (asked : IsAskedFor start b.tx (logs 0) before)
+    (reported : has_mark (is_reported a.tx) before ≡ true)
+  where
+    moment : IsMoment start logs (in_order (by_views start logs))
+    moment = are_moments start logs are
 
-      -- the log up to where the other is told to have begun
-      whole : logs 0 ≡ asked.newer ++ asked.told ∷ (asked.between ++ asked.asking ∷ before)
-      whole = asked.is ∙ append_assoc asked.newer (asked.told ∷ asked.between) (asked.asking ∷ before)
+    -- the log up to where the other is told to have begun
+    whole : logs 0 ≡ asked.newer ++ asked.told ∷ (asked.between ++ asked.asking ∷ before)
+    whole = asked.is ∙ append_assoc asked.newer (asked.told ∷ asked.between) (asked.asking ∷ before)
 
-      up_to : IsUpTo start 0 asked.told (asked.between ++ asked.asking ∷ before) (in_order (by_views start logs))
-      up_to =
-          events_up_to start 0 asked.told (asked.between ++ asked.asking ∷ before) asked.newer
-          (in_order (by_views start logs)) ((run_in_views start logs are).has 0 ∙ whole)
+    up_to : IsUpTo start 0 asked.told (asked.between ++ asked.asking ∷ before) (in_order (by_views start logs))
+    up_to =
+        events_up_to start 0 asked.told (asked.between ++ asked.asking ∷ before) asked.newer
+        (in_order (by_views start logs)) ((run_in_views start logs are).has 0 ∙ whole)
 
-      older_moment : IsMoment start logs up_to.before
-      older_moment =
-          moment_before start logs (up_to.newer ++ asked.told ∷ []) up_to.before
-          (subst (IsMoment start logs) (up_to.is ∙ sym (append_assoc up_to.newer (asked.told ∷ []) up_to.before)) moment)
+    older_moment : IsMoment start logs up_to.before
+    older_moment =
+        moment_before start logs (up_to.newer ++ asked.told ∷ []) up_to.before
+        (subst (IsMoment start logs) (up_to.is ∙ sym (append_assoc up_to.newer (asked.told ∷ []) up_to.before)) moment)
 
-      past : IsPast (decisions start up_to.before) (decisions start (in_order (by_views start logs)))
-      past =
-          subst (λ es. IsPast (decisions start up_to.before) (decisions start es))
-          (sym (up_to.is ∙ sym (append_assoc up_to.newer (asked.told ∷ []) up_to.before)))
-          (decisions_past start (up_to.newer ++ asked.told ∷ []) up_to.before)
+    past : IsPast (decisions start up_to.before) (decisions start (in_order (by_views start logs)))
+    past =
+        subst (λ es. IsPast (decisions start up_to.before) (decisions start es))
+        (sym (up_to.is ∙ sym (append_assoc up_to.newer (asked.told ∷ []) up_to.before)))
+        (decisions_past start (up_to.newer ++ asked.told ∷ []) up_to.before)
 
-      -- who was reported had an entry by then
-      has : HasEntry a.tx (reported_in a.tx before reported).epoch (decisions start up_to.before)
-      has =
-          let one = reported_in a.tx before reported in
-          let mark = Reported a.tx (outcome.Committed one.epoch) in
-          reported_entry start logs up_to.before older_moment a.tx one.epoch
-          (subst (IsMarked mark) (sym up_to.older)
-          (marked_behind mark asked.between (asked.asking ∷ before) (inr one.is)))
+    -- who was reported had an entry by then
+    has : HasEntry a.tx (reported_in a.tx before reported).epoch (decisions start up_to.before)
+    has =
+        let one = reported_in a.tx before reported in
+        let mark = Reported a.tx (outcome.Committed one.epoch) in
+        reported_entry start logs up_to.before older_moment a.tx one.epoch
+        (subst (IsMarked mark) (sym up_to.older)
+        (marked_behind mark asked.between (asked.asking ∷ before) (inr one.is)))
 
-      -- the other had none
-      none : IsIn b (decisions start up_to.before) → ⊥
-      none there =
-          let decided = entry_decided start b up_to.before there in
-          let known = moments_know start logs up_to.before older_moment in
-          let begun : IsBegun start (logs_of start up_to.before) b.tx =
-          marked_so (IsRightMark (IsDecided start (logs_of start up_to.before)) (IsBegun start (logs_of start up_to.before)))
-          (Decided b.tx b.epoch) (logs_of start up_to.before decided.host) (known.right decided.host) decided.is in
-          let first =
-          begun_counts b.tx (asked.between ++ asked.asking ∷ before) (subst (HasToldOfBegin b.tx) up_to.older begun) in
-          let second = begin_counts b.tx asked.told (record { name = asked.name; is = asked.begun }) in
-          let all =
-          older_counts (is_begin b.tx) asked.newer (asked.told ∷ (asked.between ++ asked.asking ∷ before)) in
-          let once : takes_in (is_begin b.tx) (asked.newer ++ asked.told ∷ (asked.between ++ asked.asking ∷ before)) ≤ 1 =
-          subst (λ log. takes_in (is_begin b.tx) log ≤ 1) whole (begin_once b.tx start logs are 0) in
-          absurd (omega (arith, first, second, all, once))
+    -- the other had none
+    none : IsIn b (decisions start up_to.before) → ⊥
+    none there =
+        let decided = entry_decided start b up_to.before there in
+        let known = moments_know start logs up_to.before older_moment in
+        let begun : IsBegun start (logs_of start up_to.before) b.tx =
+        marked_so (IsRightMark (IsDecided start (logs_of start up_to.before)) (IsBegun start (logs_of start up_to.before)))
+        (Decided b.tx b.epoch) (logs_of start up_to.before decided.host) (known.right decided.host) decided.is in
+        let first =
+        begun_counts b.tx (asked.between ++ asked.asking ∷ before) (subst (HasToldOfBegin b.tx) up_to.older begun) in
+        let second = begin_counts b.tx asked.told (record { name = asked.name; is = asked.begun }) in
+        let all =
+        older_counts (is_begin b.tx) asked.newer (asked.told ∷ (asked.between ++ asked.asking ∷ before)) in
+        let once : takes_in (is_begin b.tx) (asked.newer ++ asked.told ∷ (asked.between ++ asked.asking ∷ before)) ≤ 1 =
+        subst (λ log. takes_in (is_begin b.tx) log ≤ 1) whole (begin_once b.tx start logs are 0) in
+        absurd (omega (arith, first, second, all, once))
 
-      -- so the entries part there
-      parted : entries (hosts start) logs ≡ reverse (decisions start up_to.before) ++ reverse past.newer
-      parted =
-          stand_in_order start logs are
-          ∙ ap (λ (list : List Entry). reverse list) past.is
-          ∙ reverse-append past.newer (decisions start up_to.before)
+    -- so the entries part there
+    parted : entries (hosts start) logs ≡ reverse (decisions start up_to.before) ++ reverse past.newer
+    parted =
+        stand_in_order start logs are
+        ∙ ap (λ (list : List Entry). reverse list) past.is
+        ∙ reverse-append past.newer (decisions start up_to.before)
 
-      turned_back : (one : Entry) → IsIn one (reverse (decisions start up_to.before))
-          → IsIn one (decisions start up_to.before)
-      turned_back one there =
-          subst (IsIn one) (reverse-reverse (decisions start up_to.before))
-          (in_turned one (reverse (decisions start up_to.before)) there)
+    turned_back : (one : Entry) → IsIn one (reverse (decisions start up_to.before))
+        → IsIn one (decisions start up_to.before)
+    turned_back one there =
+        subst (IsIn one) (reverse-reverse (decisions start up_to.before))
+        (in_turned one (reverse (decisions start up_to.before)) there)
 
-      a_front : IsIn a (entries (hosts start) logs) → IsIn a (reverse (decisions start up_to.before))
-      a_front there = by (in_either a (reverse (decisions start up_to.before)) (reverse past.newer) (subst (IsIn a) parted there))
-        where
-          once : AreOnce (reverse (decisions start up_to.before) ++ reverse past.newer)
-          once = subst AreOnce parted (decided_once start logs are)
+    a_front : IsIn a (entries (hosts start) logs) → IsIn a (reverse (decisions start up_to.before))
+    a_front there = by (in_either a (reverse (decisions start up_to.before)) (reverse past.newer) (subst (IsIn a) parted there))
+      where
+        once : AreOnce (reverse (decisions start up_to.before) ++ reverse past.newer)
+        once = subst AreOnce parted (decided_once start logs are)
 
-          by : IsIn a (reverse (decisions start up_to.before)) ⊎ IsIn a (reverse past.newer)
-              → IsIn a (reverse (decisions start up_to.before))
-          by (inl there) = there
-          by (inr late) =
-              let apart =
-              once_apart has.entry a (reverse (decisions start up_to.before)) (reverse past.newer) once
-              (in_turned has.entry (decisions start up_to.before) has.there) late in
-              let same : same_tx a.tx has.entry.tx ≡ true =
-              ap (λ tx. same_tx a.tx tx) has.tx_is ∙ same_tx-self a.tx in
-              absurd (true≢false (sym same ∙ apart))
+        by : IsIn a (reverse (decisions start up_to.before)) ⊎ IsIn a (reverse past.newer)
+            → IsIn a (reverse (decisions start up_to.before))
+        by (inl there) = there
+        by (inr late) =
+            let apart =
+            once_apart has.entry a (reverse (decisions start up_to.before)) (reverse past.newer) once
+            (in_turned has.entry (decisions start up_to.before) has.there) late in
+            let same : same_tx a.tx has.entry.tx ≡ true =
+            ap (λ tx. same_tx a.tx tx) has.tx_is ∙ same_tx-self a.tx in
+            absurd (true≢false (sym same ∙ apart))
 
-      b_back : IsIn b (entries (hosts start) logs) → IsIn b (reverse past.newer)
-      b_back there = by (in_either b (reverse (decisions start up_to.before)) (reverse past.newer) (subst (IsIn b) parted there))
-        where
-          by : IsIn b (reverse (decisions start up_to.before)) ⊎ IsIn b (reverse past.newer) → IsIn b (reverse past.newer)
-          by (inl early) = absurd (none (turned_back b early))
-          by (inr there) = there
+    b_back : IsIn b (entries (hosts start) logs) → IsIn b (reverse past.newer)
+    b_back there = by (in_either b (reverse (decisions start up_to.before)) (reverse past.newer) (subst (IsIn b) parted there))
+      where
+        by : IsIn b (reverse (decisions start up_to.before)) ⊎ IsIn b (reverse past.newer) → IsIn b (reverse past.newer)
+        by (inl early) = absurd (none (turned_back b early))
+        by (inr there) = there
 
-      strict : IsIn a (entries (hosts start) logs) → IsIn b (entries (hosts start) logs)
-          → StandsBefore a b (entries (hosts start) logs)
-      strict there_a there_b =
-          subst (StandsBefore a b) (sym parted)
-          (stands_by a b (reverse (decisions start up_to.before)) (reverse past.newer) (a_front there_a) (b_back there_b))
+    strict : IsIn a (entries (hosts start) logs) → IsIn b (entries (hosts start) logs)
+        → StandsBefore a b (entries (hosts start) logs)
+    strict there_a there_b =
+        subst (StandsBefore a b) (sym parted)
+        (stands_by a b (reverse (decisions start up_to.before)) (reverse past.newer) (a_front there_a) (b_back there_b))
 
-  pub decisions_in_strict_order : DecisionsKeepStrictOrder
-  decisions_in_strict_order start logs are a b before there_a there_b asked reported =
-      strict start logs are a b before asked reported there_a there_b
+pub decisions_in_strict_order : DecisionsKeepStrictOrder
+decisions_in_strict_order start logs are a b before there_a there_b asked reported =
+    strict start logs are a b before asked reported there_a there_b
 
-  pub histories_in_strict_order : HistoriesKeepStrictOrder
-  histories_in_strict_order start logs are a b before there_a there_b asked reported =
-      let kept = is_kept (hosts start) logs in
-      let list = entries (hosts start) logs in
-      let one = kept_in kept a list there_a in
-      let other = kept_in kept b list there_b in
-      stands_kept kept a b list one.passes other.passes
-      (decisions_in_strict_order start logs are a b before one.there other.there asked reported)
+pub histories_in_strict_order : HistoriesKeepStrictOrder
+histories_in_strict_order start logs are a b before there_a there_b asked reported =
+    let kept = is_kept (hosts start) logs in
+    let list = entries (hosts start) logs in
+    let one = kept_in kept a list there_a in
+    let other = kept_in kept b list there_b in
+    stands_kept kept a b list one.passes other.passes
+    (decisions_in_strict_order start logs are a b before one.there other.there asked reported)
