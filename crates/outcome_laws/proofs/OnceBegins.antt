@@ -99,6 +99,12 @@ module _ (p : Body → Bool) (counts : (body : Body) → is_counted body ≡ fal
     pub nowhere_sends : (h : ℕ) → hosts start ≤ h → sends_in p start h (logs h) ≡ 0
     nowhere_sends h high = ap (sends_in p start h) (are.within h high)
 
+-- how often a coordinator may ask for the epoch of a transaction
+pub ask_light : (tx : TxId) (me : Member) → AreLight (of_coordinator (is_asking tx) (λ s. may_ask s tx)) (IsTcOf me)
+ask_light tx me =
+    coordinator_light (is_asking tx) (uncounted_asking tx) me (λ s. may_ask s tx) (λ s x of. asks_once me tx s x of)
+    (λ s view of. asks_once_installed tx s view)
+
 module _ (tx : TxId) (start : Start) (logs : ℕ → List HostStep) (are : AreOfCluster start logs) where
   -- what the coordinator of a member alone sends, once
   record IsOnce (p : Body → Bool) : Type 0 where
@@ -175,18 +181,13 @@ module _ (tx : TxId) (start : Start) (logs : ℕ → List HostStep) (are : AreOf
     first = λ me. few_ones (is_unborn (fresh_coordinator me.node me.start (first_layout start.shape)) tx);
   }
 
-  ask_light : (me : Member) → AreLight (of_coordinator (is_asking tx) (λ s. may_ask s tx)) (IsTcOf me)
-  ask_light me =
-      coordinator_light (is_asking tx) (uncounted_asking tx) me (λ s. may_ask s tx) (λ s x of. asks_once me tx s x of)
-      (λ s view of. asks_once_installed tx s view)
-
   asks_are : IsOnce (is_asking tx)
   asks_are = record {
     counts = uncounted_asking tx;
     coordinators = asking_coordinators tx;
     apart = asks_apart tx;
     may = λ s. may_ask s tx;
-    light = ask_light;
+    light = ask_light tx;
     first = λ me.
         let ones = few_ones (is_unborn (fresh_coordinator me.node me.start (first_layout start.shape)) tx) in
         omega (arith, ones);

@@ -76,7 +76,7 @@ module _ (p : Body → Bool) where
         )
 
     -- and nothing where the host stops
-    sent_by_count : (h : ℕ) (log : List HostStep) (e : HostStep)
+    pub sent_by_count : (h : ℕ) (log : List HostStep) (e : HostStep)
         → count_on p (sent_by (machine start) h log e) ≤ count_sent p (step_after start h log e).effects.sends
     sent_by_count h log e = by ((machine start).stops e)
       where
