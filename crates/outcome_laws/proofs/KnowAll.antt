@@ -79,7 +79,12 @@ module _ (start : Start) where
               let rows = with_rows no_rows (own_rows start.shape member.node start.rows) (epoch_before start.epoch) in
               let none : rows.pending ≡ [] =
               none_pending no_rows (own_rows start.shape member.node start.rows) (epoch_before start.epoch) in
-              record { records = subst (Each (λ (r : PendingRecord). IsDecidedIf (IsDecided start (λ h. [])) (IsBegun start (λ h. [])) r r.committed)) (sym none) tt; markers = tt }
+              record {
+                records = subst
+                    (Each (λ (r : PendingRecord).
+                    IsDecidedIf (IsDecided start (λ h. [])) (IsBegun start (λ h. [])) r r.committed)) (sym none) tt;
+                markers = tt;
+              }
 
   module _ (all : ℕ → List HostStep) (e : HostStep) (es : List HostStep) (moment : IsMoment start all (e ∷ es))
       (known : AllKnow start (logs_of start es))
@@ -196,7 +201,8 @@ module _ (start : Start) where
           decided mark there =
               by mark there (each_in (IsDecidedHere start e.host) mark e.step.marks here there)
 
-      sends_true : Each (λ (sent : Outgoing). Tells D B sent.body) (step_after start e.host (old e.host) e).effects.sends
+      sends_true : Each (λ (sent : Outgoing). Tells D B sent.body)
+          (step_after start e.host (old e.host) e).effects.sends
       sends_true = step_true.effects.tell (subst (Each (Decides D B)) marks_are decides)
 
       parts_next : (h : ℕ) → HostKnows start new h

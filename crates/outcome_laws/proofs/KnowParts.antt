@@ -1,4 +1,4 @@
--- What the blocks of a host know of transactions, and what they tell and mark, is true of whoever tells them true things.
+-- Blocks that know only true things of transactions, and are told only true ones, know, tell and mark only true ones.
 use Rattle.std.proofs.Common.{ℕ, Bool, true, false, List, sym, subst, refl}
 use Rattle.std.specs.Prelude.{Option}
 use Rattle.run_theory.specs.Lists.{Each}
@@ -183,7 +183,8 @@ module _ (D : TxId → ℕ → Type 0) (B : TxId → Type 0) where
 
     entered_true : (parts : Parts) (view : View) → AreTold x.body parts → Are (parts_entered parts view)
     entered_true (Shell p) view knows = ((noted_knows D B p.client view knows.0, knows.1), true_effects.none)
-    entered_true (Main p) view knows = ((tt, tt), nothing_true (qmgr_installed p.qmgr view) (membership_installs_nothing p.qmgr view))
+    entered_true (Main p) view knows =
+        ((tt, tt), nothing_true (qmgr_installed p.qmgr view) (membership_installs_nothing p.qmgr view))
     entered_true (Tc p) view ((knows, (takeover, held)), taught) = (
       (
         (

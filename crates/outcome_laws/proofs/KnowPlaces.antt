@@ -161,8 +161,8 @@ module _ (start : Start) where
 
       comes_none : HasNoTc (started start e.host).parts → AreSo NoneAsk NoneOf step.effects
       comes_none none =
-          (step_keeps HasNoTc (AreSo NoneAsk NoneOf) (so_effects NoneAsk NoneOf) x e.host (after start e.host (old e.host))
-          (λ sound. others_so NoneAsk NoneOf x) (never_tc e.host (old e.host) none)).1
+          (step_keeps HasNoTc (AreSo NoneAsk NoneOf) (so_effects NoneAsk NoneOf) x e.host
+          (after start e.host (old e.host)) (λ sound. others_so NoneAsk NoneOf x) (never_tc e.host (old e.host) none)).1
 
       parts_next : (me : Member) → IsIn me (made start)
           → OwnParts me (after start (tc_of start me) (new (tc_of start me))).parts
@@ -242,7 +242,8 @@ module _ (start : Start) where
             view = (after start e.host (e ∷ old e.host)).standing.view;
             there = subst (λ (m : Member). IsIn m (made start)) (sym is) there;
             is = one.to
-                ∙ ap (λ (to : Place). reached (made start) e.host (after start e.host (e ∷ old e.host)).standing.view to)
+                ∙ ap
+                (λ (to : Place). reached (made start) e.host (after start e.host (e ∷ old e.host)).standing.view to)
                 (place ∙ ap (λ (m : Member). epochs m.node) (sym is))
                 ∙ ap
                 (λ h. reached (made start) h (after start e.host (e ∷ old e.host)).standing.view

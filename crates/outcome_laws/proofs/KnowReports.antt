@@ -28,8 +28,8 @@ use Rattle.outcome_laws.specs.Tells.{IsRightMark}
 use Rattle.outcome_laws.proofs.KnowAll.{moments_know}
 
 -- what is so of each mark of a log is so of one that it has
-pub marked_so : (P : Mark → Type 0) (mark : Mark) (log : List HostStep) → Each (λ (e : HostStep). Each P e.step.marks) log
-    → IsMarked mark log → P mark
+pub marked_so : (P : Mark → Type 0) (mark : Mark) (log : List HostStep)
+    → Each (λ (e : HostStep). Each P e.step.marks) log → IsMarked mark log → P mark
 marked_so P mark [] all is = absurd is
 marked_so P mark (e ∷ log) all (inl there) = each_in P mark e.step.marks all.0 there
 marked_so P mark (e ∷ log) all (inr older) = marked_so P mark log all.1 older
@@ -98,7 +98,8 @@ module _ (start : Start) where
           → (IsMarked (Decided tx epoch) (logs_of start es h) → HasEntry tx epoch (decisions start es))
           → HasEntry tx epoch (decisions start (e ∷ es))
       by (inl at) older = own (subst (IsMarked (Decided tx epoch)) (log_of-own (machine start) e es h at) is) older
-      by (inr other) older = more (older (subst (IsMarked (Decided tx epoch)) (log_of-other (machine start) e es h other) is))
+      by (inr other) older =
+          more (older (subst (IsMarked (Decided tx epoch)) (log_of-other (machine start) e es h other) is))
 
   -- at a moment who was reported committed has one
   pub reported_entry : (all : ℕ → List HostStep) (es : List HostStep) → IsMoment start all es → (tx : TxId) (epoch : ℕ)

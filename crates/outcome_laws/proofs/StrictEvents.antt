@@ -73,10 +73,12 @@ module _ (start : Start) where
               subst (IsMarked (Decided a.tx a.epoch)) (sym (log_of-own (machine start) e es older.host same))
               (inr older.is)
           at (inr other) =
-              subst (IsMarked (Decided a.tx a.epoch)) (sym (log_of-other (machine start) e es older.host other)) older.is
+              subst (IsMarked (Decided a.tx a.epoch)) (sym (log_of-other (machine start) e es older.host other))
+              older.is
 
       by : IsIn (Decided a.tx a.epoch) e.step.marks ⊎ IsIn a (decisions start es)
-          → (IsIn a (decisions start es) → IsDecidedThere a (logs_of start es)) → IsDecidedThere a (logs_of start (e ∷ es))
+          → (IsIn a (decisions start es) → IsDecidedThere a (logs_of start es))
+          → IsDecidedThere a (logs_of start (e ∷ es))
       by (inl marked) older = record {
         host = e.host;
         is = subst (IsMarked (Decided a.tx a.epoch)) (sym (log_of-own (machine start) e es e.host refl)) (inl marked);

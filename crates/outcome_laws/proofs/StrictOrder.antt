@@ -151,7 +151,8 @@ module _ (start : Start) (logs : ℕ → List HostStep) (are : AreOfCluster star
         let decided = entry_decided start b up_to.before there in
         let known = moments_know start logs up_to.before older_moment in
         let begun : IsBegun start (logs_of start up_to.before) b.tx =
-        marked_so (IsRightMark (IsDecided start (logs_of start up_to.before)) (IsBegun start (logs_of start up_to.before)))
+        marked_so
+        (IsRightMark (IsDecided start (logs_of start up_to.before)) (IsBegun start (logs_of start up_to.before)))
         (Decided b.tx b.epoch) (logs_of start up_to.before decided.host) (known.right decided.host) decided.is in
         let first =
         begun_counts b.tx (asked.between ++ asked.asking ∷ before) (subst (HasToldOfBegin b.tx) up_to.older begun) in
@@ -176,7 +177,8 @@ module _ (start : Start) (logs : ℕ → List HostStep) (are : AreOfCluster star
         (in_turned one (reverse (decisions start up_to.before)) there)
 
     a_front : IsIn a (entries (hosts start) logs) → IsIn a (reverse (decisions start up_to.before))
-    a_front there = by (in_either a (reverse (decisions start up_to.before)) (reverse past.newer) (subst (IsIn a) parted there))
+    a_front there =
+        by (in_either a (reverse (decisions start up_to.before)) (reverse past.newer) (subst (IsIn a) parted there))
       where
         once : AreOnce (reverse (decisions start up_to.before) ++ reverse past.newer)
         once = subst AreOnce parted (decided_once start logs are)
@@ -193,7 +195,8 @@ module _ (start : Start) (logs : ℕ → List HostStep) (are : AreOfCluster star
             absurd (true≢false (sym same ∙ apart))
 
     b_back : IsIn b (entries (hosts start) logs) → IsIn b (reverse past.newer)
-    b_back there = by (in_either b (reverse (decisions start up_to.before)) (reverse past.newer) (subst (IsIn b) parted there))
+    b_back there =
+        by (in_either b (reverse (decisions start up_to.before)) (reverse past.newer) (subst (IsIn b) parted there))
       where
         by : IsIn b (reverse (decisions start up_to.before)) ⊎ IsIn b (reverse past.newer) → IsIn b (reverse past.newer)
         by (inl early) = absurd (none (turned_back b early))
