@@ -8,13 +8,14 @@ use Rattle.sig_core.specs.declared.outs.Outgoing.{Outgoing}
 use Rattle.sig_core.specs.declared.signal.Body.{Body}
 use Rattle.sig_core.specs.declared.signal.Body.TheVariants.{Chain, Client, Epoch, Takeover}
 use Rattle.sig_core.specs.declared.signal.chain.ChainSignal.TheVariants.{Commit, LqhKeyRef}
-use Rattle.sig_core.specs.declared.signal.client.ClientSignal.TheVariants.{TcCommitConf, TcCommitReq, TcKeyFailConf, TcRollbackRep}
+use Rattle.sig_core.specs.declared.signal.client.ClientSignal.TheVariants.{TcBeginConf, TcCommitConf, TcCommitReq, TcKeyFailConf, TcRollbackRep}
 use Rattle.sig_core.specs.declared.signal.epoch.EpochSignal.TheVariants.{DiVerifyConf, DiVerifyReq}
 use Rattle.sig_core.specs.declared.signal.takeover.TakeoverSignal.TheVariants.{LqhTransConf}
 use Rattle.outcome_laws.specs.Tells.{Tells}
 
 -- it tells that a transaction has begun, in which epoch one was decided, or why one is aborted
 abbrev pub is_telling : Body → Bool
+is_telling (Client (TcBeginConf name tx)) = true
 is_telling (Client (TcCommitReq tx)) = true
 is_telling (Epoch (DiVerifyReq tx ops)) = true
 is_telling (Epoch (DiVerifyConf tx epoch)) = true
@@ -26,7 +27,7 @@ is_telling (Client (TcRollbackRep tx cause)) = true
 is_telling (Chain (LqhKeyRef tx key cause)) = true
 is_telling body = false
 
--- it tells none of that
+-- it tells none of these
 abbrev pub IsSilent : Outgoing → Type 0
 IsSilent sent = is_telling sent.body ≡ false
 
