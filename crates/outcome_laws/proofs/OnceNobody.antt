@@ -11,7 +11,8 @@ use Rattle.sig_core.specs.declared.place.BlockId.{BlockId}
 use Rattle.sig_core.specs.declared.place.BlockId.TheVariants as block
 use Rattle.sig_core.specs.declared.place.Place.{Place}
 use Rattle.sig_core.specs.declared.signal.Body.{Body}
-use Rattle.sig_core.specs.declared.signal.Body.TheVariants.{Client, Epoch}
+use Rattle.sig_core.specs.declared.signal.Body.TheVariants.{Chain, Client, Epoch}
+use Rattle.sig_core.specs.declared.signal.chain.ChainSignal.TheVariants.{LqhKeyRef}
 use Rattle.sig_core.specs.declared.signal.client.ClientSignal.TheVariants.{TcBeginConf, TcCommitReq, TcRollbackRep}
 use Rattle.sig_core.specs.declared.signal.epoch.EpochSignal.TheVariants.{DiVerifyReq}
 use Rattle.sig_core.specs.declared.signal.Signal.{Signal}
@@ -96,6 +97,7 @@ pub counted_coordinators : (body : Body) → is_counted body ≡ false → is_co
 counted_coordinators (Client (TcBeginConf name tx)) none = absurd cc
 counted_coordinators (Client (TcRollbackRep tx cause)) none = absurd cc
 counted_coordinators (Epoch (DiVerifyReq tx ops)) none = absurd cc
+counted_coordinators (Chain (LqhKeyRef tx key cause)) none = none
 counted_coordinators body none = refl
 
 pub begin_coordinators : (tx : TxId) (body : Body) → is_coordinators body ≡ false → is_begin tx body ≡ false
