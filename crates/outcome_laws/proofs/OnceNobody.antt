@@ -118,13 +118,13 @@ IsBeside (Main p) = Unit {0}
 IsBeside (Ldm p) = Unit {0}
 IsBeside parts = ⊥
 
-main_uncounted : (q : MainPart) (b : BlockId) (x : Signal) → AreUncounted (main_row q b x).effects.sends
+pub main_uncounted : (q : MainPart) (b : BlockId) (x : Signal) → AreUncounted (main_row q b x).effects.sends
 unfolding main_row
 main_uncounted q block.Qmgr x = untold_uncounted _ (membership_tells_nothing q.qmgr x).0
 main_uncounted q block.GcpMaster x = untold_uncounted _ (master_tells_nothing q.master x).0
 main_uncounted q _ x = tt
 
-ldm_uncounted : (q : LdmPart) (b : BlockId) (x : Signal) → AreUncounted (ldm_row q b x).effects.sends
+pub ldm_uncounted : (q : LdmPart) (b : BlockId) (x : Signal) → AreUncounted (ldm_row q b x).effects.sends
 unfolding ldm_row
 ldm_uncounted q block.Lqh x = replica_none q.replica x
 ldm_uncounted q _ x = tt
@@ -181,7 +181,7 @@ module _ (p : Body → Bool) (counts : (body : Body) → is_counted body ≡ fal
 
   -- also the shell's, where only coordinators send it
   module _ (coordinators : (body : Body) → is_coordinators body ≡ false → p body ≡ false) where
-    shell_none : (q : ShellPart) (b : BlockId) (x : Signal)
+    pub shell_none : (q : ShellPart) (b : BlockId) (x : Signal)
         → Each (λ (sent : Outgoing). p sent.body ≡ false) (shell_row q b x).effects.sends
     unfolding shell_row
     shell_none q block.Api x =
