@@ -19,6 +19,7 @@ pub mod KnowWalk
 pub mod OnceBegins
 pub mod OnceClient
 pub mod OnceDecided
+pub mod OnceDown
 pub mod OnceDownHosts
 pub mod OnceDownTc
 pub mod OnceLinks
