@@ -19,12 +19,12 @@ is_telling (Client (TcBeginConf name tx)) = true
 is_telling (Client (TcCommitReq tx)) = true
 is_telling (Epoch (DiVerifyReq tx ops)) = true
 is_telling (Epoch (DiVerifyConf tx epoch)) = true
+is_telling (Chain (LqhKeyRef tx key cause)) = true
 is_telling (Chain (Commit tx key epoch chain at)) = true
 is_telling (Client (TcCommitConf tx epoch)) = true
 is_telling (Client (TcKeyFailConf tx epoch)) = true
 is_telling (Takeover (LqhTransConf tx key told epoch)) = true
 is_telling (Client (TcRollbackRep tx cause)) = true
-is_telling (Chain (LqhKeyRef tx key cause)) = true
 is_telling body = false
 
 -- it tells none of these

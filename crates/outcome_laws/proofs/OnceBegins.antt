@@ -40,7 +40,7 @@ use Rattle.outcome_laws.proofs.OnceParts.{IsTcOf, coordinator_light, no_body, of
 use Rattle.outcome_laws.proofs.TcCounts.{asks_once, asks_once_installed, begins_once, begins_once_installed, coordinator_of_fresh}
 
 -- no signal adds to what may be sent
-none_taken : (log : List HostStep) → takes_in no_body log ≡ 0
+pub none_taken : (log : List HostStep) → takes_in no_body log ≡ 0
 none_taken [] = refl
 none_taken (e ∷ log) = let more = none_taken log in omega (arith, more)
 

@@ -11,7 +11,8 @@ use Rattle.sig_core.specs.declared.place.BlockId.{BlockId}
 use Rattle.sig_core.specs.declared.place.BlockId.TheVariants as block
 use Rattle.sig_core.specs.declared.place.Place.{Place}
 use Rattle.sig_core.specs.declared.signal.Body.{Body}
-use Rattle.sig_core.specs.declared.signal.Body.TheVariants.{Client, Epoch}
+use Rattle.sig_core.specs.declared.signal.Body.TheVariants.{Chain, Client, Epoch}
+use Rattle.sig_core.specs.declared.signal.chain.ChainSignal.TheVariants.{LqhKeyRef}
 use Rattle.sig_core.specs.declared.signal.client.ClientSignal.TheVariants.{TcBeginConf, TcCommitReq, TcRollbackRep}
 use Rattle.sig_core.specs.declared.signal.epoch.EpochSignal.TheVariants.{DiVerifyReq}
 use Rattle.sig_core.specs.declared.signal.Signal.{Signal}
@@ -96,6 +97,7 @@ pub counted_coordinators : (body : Body) → is_counted body ≡ false → is_co
 counted_coordinators (Client (TcBeginConf name tx)) none = absurd cc
 counted_coordinators (Client (TcRollbackRep tx cause)) none = absurd cc
 counted_coordinators (Epoch (DiVerifyReq tx ops)) none = absurd cc
+counted_coordinators (Chain (LqhKeyRef tx key cause)) none = none
 counted_coordinators body none = refl
 
 pub begin_coordinators : (tx : TxId) (body : Body) → is_coordinators body ≡ false → is_begin tx body ≡ false
@@ -116,13 +118,13 @@ IsBeside (Main p) = Unit {0}
 IsBeside (Ldm p) = Unit {0}
 IsBeside parts = ⊥
 
-main_uncounted : (q : MainPart) (b : BlockId) (x : Signal) → AreUncounted (main_row q b x).effects.sends
+pub main_uncounted : (q : MainPart) (b : BlockId) (x : Signal) → AreUncounted (main_row q b x).effects.sends
 unfolding main_row
 main_uncounted q block.Qmgr x = untold_uncounted _ (membership_tells_nothing q.qmgr x).0
 main_uncounted q block.GcpMaster x = untold_uncounted _ (master_tells_nothing q.master x).0
 main_uncounted q _ x = tt
 
-ldm_uncounted : (q : LdmPart) (b : BlockId) (x : Signal) → AreUncounted (ldm_row q b x).effects.sends
+pub ldm_uncounted : (q : LdmPart) (b : BlockId) (x : Signal) → AreUncounted (ldm_row q b x).effects.sends
 unfolding ldm_row
 ldm_uncounted q block.Lqh x = replica_none q.replica x
 ldm_uncounted q _ x = tt
@@ -179,7 +181,7 @@ module _ (p : Body → Bool) (counts : (body : Body) → is_counted body ≡ fal
 
   -- also the shell's, where only coordinators send it
   module _ (coordinators : (body : Body) → is_coordinators body ≡ false → p body ≡ false) where
-    shell_none : (q : ShellPart) (b : BlockId) (x : Signal)
+    pub shell_none : (q : ShellPart) (b : BlockId) (x : Signal)
         → Each (λ (sent : Outgoing). p sent.body ≡ false) (shell_row q b x).effects.sends
     unfolding shell_row
     shell_none q block.Api x =

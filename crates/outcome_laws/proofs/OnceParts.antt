@@ -11,7 +11,8 @@ use Rattle.sig_core.specs.declared.outs.Outgoing.{Outgoing}
 use Rattle.sig_core.specs.declared.place.BlockId.{BlockId}
 use Rattle.sig_core.specs.declared.place.BlockId.TheVariants as block
 use Rattle.sig_core.specs.declared.signal.Body.{Body}
-use Rattle.sig_core.specs.declared.signal.Body.TheVariants.{Client, Epoch}
+use Rattle.sig_core.specs.declared.signal.Body.TheVariants.{Chain, Client, Epoch}
+use Rattle.sig_core.specs.declared.signal.chain.ChainSignal.TheVariants.{LqhKeyRef}
 use Rattle.sig_core.specs.declared.signal.client.ClientSignal.TheVariants.{TcBeginConf, TcCommitReq, TcRollbackRep}
 use Rattle.sig_core.specs.declared.signal.epoch.EpochSignal.TheVariants.{DiVerifyReq}
 use Rattle.sig_core.specs.declared.signal.Signal.{Signal}
@@ -78,6 +79,7 @@ silent_uncounted sends all = each_map IsSilent IsUncounted sends (λ sent is. by
     by (Client (TcBeginConf name tx)) is = absurd cc
     by (Client (TcCommitReq tx)) is = absurd cc
     by (Client (TcRollbackRep tx cause)) is = absurd cc
+    by (Chain (LqhKeyRef tx key cause)) is = absurd cc
     by (Epoch (DiVerifyReq tx ops)) is = absurd cc
     by body is = refl
 
