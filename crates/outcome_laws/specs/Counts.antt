@@ -1,5 +1,5 @@
 -- How often a transaction may still begin, ask for an epoch, be decided and be reported.
-use Rattle.std.specs.Prelude.{◌≡◌, ◌<◌, ◌+◌, ◌&&◌, not, nat_le, if◌then◌else◌, ℕ, Bool, true, false, List, [], ◌∷◌, Option, None, Some}
+use Rattle.std.specs.Prelude.{◌≡◌, ◌<◌, ◌+◌, ◌&&◌, not, nat_le, ℕ, Bool, true, false, List}
 use Rattle.std.specs.List.{count_by}
 use Rattle.run_theory.specs.Lists.{Each}
 use Rattle.sig_core.specs.declared.mark.Mark.{Mark}

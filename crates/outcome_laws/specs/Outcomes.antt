@@ -1,5 +1,5 @@
 -- What is so of decisions and outcomes in all right logs.
-use Rattle.std.specs.Prelude.{◌≡◌, ◌≤◌, ◌+◌, ℕ, true, false, List, [], ◌∷◌}
+use Rattle.std.specs.Prelude.{◌≡◌, ◌≤◌, ◌+◌, ℕ, false, List, [], ◌∷◌}
 use Rattle.std.specs.List.{count_by}
 use Rattle.run_theory.specs.Lists.{Each, IsIn}
 use Rattle.sig_core.specs.declared.entry.Entry.{Entry}
