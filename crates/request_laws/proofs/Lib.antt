@@ -1,0 +1,6 @@
+pub mod StrayRows
+pub mod StrayDoomed
+pub mod StrayWalk
+pub mod StrayNumbers
+pub mod StrayFences
+pub mod StrayPromises

@@ -54,7 +54,7 @@ module _ (start : Start) where
       abbrev new : ℕ → List HostStep
       new = log_of (machine start) (e ∷ es)
 
-      old_taken : WasInstalled start old e.step.taken.view
+      pub old_taken : WasInstalled start old e.step.taken.view
       old_taken = by (is_asked e.host e.step.taken) refl come.happens.step.fits.comes
         where
           by : (asked : Bool) → is_asked e.host e.step.taken ≡ asked
