@@ -4,3 +4,5 @@ pub mod StrayWalk
 pub mod StrayNumbers
 pub mod StrayFences
 pub mod StrayPromises
+pub mod StrayHeaders
+pub mod StrayInstalled

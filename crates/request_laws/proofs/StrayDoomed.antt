@@ -124,8 +124,10 @@ module _ (view : View) (before : List TxId) where
   dooms [] e there is = absurd there
   dooms (one ∷ live) e (inl same) is =
       among_if e.0 one.0 (is_among before one.0 || is_doomed_by view one.1) (doomed_in view before live)
-      (inl (ap (λ (o : TxId × transactions.Transaction). same_tx e.0 o.0) (sym same) ∙ same_self e.0,
-      ap (λ (o : TxId × transactions.Transaction). is_among before o.0 || is_doomed_by view o.1) (sym same) ∙ is))
+      (inl (
+        ap (λ (o : TxId × transactions.Transaction). same_tx e.0 o.0) (sym same) ∙ same_self e.0,
+        ap (λ (o : TxId × transactions.Transaction). is_among before o.0 || is_doomed_by view o.1) (sym same) ∙ is,
+      ))
   dooms (one ∷ live) e (inr behind) is =
       among_if e.0 one.0 (is_among before one.0 || is_doomed_by view one.1) (doomed_in view before live)
       (inr (dooms live e behind is))
