@@ -1,9 +1,7 @@
 -- What a step of a coordinator makes of its number, its fence and whom it has doomed.
-use Rattle.std.proofs.Common.{◌≡◌, ◌⊎◌, ◌∙◌, ◌||◌, ◌&&◌, ◌==◌, ℕ, Bool, true, false, cond, filter, nat_lt, List, [], ◌∷◌, ◌++◌, refl, sym, ap, subst, inl, inr}
+use Rattle.std.proofs.Common.{◌≡◌, ◌⊎◌, ◌∙◌, ◌||◌, ◌&&◌, ◌==◌, ℕ, Bool, true, false, cond, nat_lt, List, [], ◌∷◌, ◌++◌, refl, sym, ap, inl, inr}
 use Rattle.std.proofs.lemmas.Bool.{eq-eqb}
-use Rattle.std.specs.List.{flat_map, list_any}
-use Rattle.std.specs.Map.{keys_of}
-use Rattle.std.specs.Prelude.{Option, None, Some, is_some, position}
+use Rattle.std.specs.Prelude.{Option, None, Some, is_some}
 use Rattle.run_theory.specs.Lists.{IsIn}
 use Rattle.run_theory.proofs.Pasts.{each_in}
 use Rattle.sig_core.specs.declared.member.TxId.{TxId}
@@ -20,10 +18,10 @@ use Rattle.sig_core.specs.Same.{same_tx}
 use Rattle.sig_core.proofs.TxLemmas.{same_tx-is}
 use Rattle.tc_block.specs.declared.task.Task.{Task}
 use Rattle.tc_block.specs.declared.transaction.Transaction as transactions
-use Rattle.tc_block.specs.Doom.{doomed_if, doomed_in, doomed_of, is_among, is_doomed_by}
+use Rattle.tc_block.specs.Doom.{doomed_if, doomed_in, is_among, is_doomed_by}
 use Rattle.tc_block.specs.Live.{is_live, place_in}
 use Rattle.tc_block.specs.State.{TcState}
-use Rattle.tc_block.proofs.LiveSplit.{AreOthers, Live, no_place}
+use Rattle.tc_block.proofs.LiveSplit.{Live, no_place}
 use Rattle.tc_views.specs.Coordinator.{calm_unless, coordinator_row, coordinator_table, is_to_fail}
 use Rattle.tc_views.specs.State.{CoordinatorState, still_live, within}
 use Rattle.tc_views.specs.Views as coordinator

@@ -1,6 +1,6 @@
 -- A coordinator that is fenced above its view is so by a set that its member has promised, to which all keep that are
 -- undecided, aren't doomed and have no operation unanswered.
-use Rattle.std.proofs.Common.{◌≡◌, ◌≢◌, ◌⊎◌, ◌≤◌, ◌<◌, ◌∙◌, ℕ, true, List, [], ◌∷◌, refl, sym, subst, arith, inl, inr}
+use Rattle.std.proofs.Common.{◌≡◌, ◌≢◌, ◌⊎◌, ◌≤◌, ◌<◌, ℕ, true, List, [], ◌∷◌, sym, subst, arith, inl, inr}
 use Rattle.std.proofs.lemmas.Bool.{cases_eq, cases_lt}
 use Rattle.frag_map.specs.Layout.{first_layout}
 use Rattle.run_theory.proofs.Links.{put_each, sent_by_each}
@@ -31,7 +31,7 @@ use Rattle.moment_laws.proofs.MomentHosts.{part_some}
 use Rattle.moment_laws.proofs.MomentSignals.{taken_told}
 use Rattle.moment_laws.proofs.MomentTurns.{other_log, own_log}
 use Rattle.moment_laws.proofs.MomentViews.{moment_less, moment_within}
-use Rattle.request_laws.specs.Strays.{FencesSpareNoStrays, IsFencedBy}
+use Rattle.request_laws.specs.Strays.{FencesSpareNoStrays}
 use Rattle.request_laws.proofs.StrayNumbers.{begins_standing, stands_of}
 use Rattle.request_laws.proofs.StrayWalk.{StandsIn, stands_more, step_stands}
 

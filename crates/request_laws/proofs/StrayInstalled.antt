@@ -1,6 +1,6 @@
--- Where the host of a coordinator comes to stand in a greater view, all keep to it that are undecided, aren't doomed and
--- have no operation unanswered: a set with the number of the fence is that view, or a part of it.
-use Rattle.std.proofs.Common.{◌≡◌, ◌≢◌, ◌⊎◌, ◌≤◌, ◌<◌, ◌∙◌, ◌||◌, ℕ, Bool, true, false, List, [], ◌∷◌, refl, sym, ap, subst, arith, inl, inr}
+-- Where the host of a coordinator comes to stand in a greater view, all keep to it that are undecided, aren't doomed
+-- and have no operation unanswered: a promised set with the number of the fence is that view, or a part of it.
+use Rattle.std.proofs.Common.{◌≡◌, ◌⊎◌, ◌≤◌, ◌<◌, ◌∙◌, ◌||◌, ℕ, Bool, true, false, List, [], ◌∷◌, refl, sym, ap, subst, arith, inl, inr}
 use Rattle.std.proofs.lemmas.Bool.{cases_lt}
 use Rattle.std.specs.List.{list_any}
 use Rattle.std.specs.Prelude.{not}
@@ -52,6 +52,7 @@ use Rattle.request_laws.proofs.StrayHeaders.{IsHeaded, headed}
 use Rattle.request_laws.proofs.StrayNumbers.{fence_is, have_the_number}
 use Rattle.request_laws.proofs.StrayPromises.{orderly, promise_part}
 
+-- the coordinator of each member of a view that was installed is fenced at it
 each_view_is_fenced : EachViewIsFenced
 each_view_is_fenced = each_view_by (confirmed_fenced confirmations_are_few requests_are_high fences_are_there)
 
@@ -195,7 +196,8 @@ module _ (start : Start) (all : ℕ → List HostStep) (e : HostStep) (es : List
 
     -- the view isn't the first
     not_before : (newer : List HostStep) → (first_view start.shape.nodes).number ≤ (view_after start h newer).number
-    not_before [] = let is = ap (λ (v : View). v.number) (started_view start moment.cluster.shape h) in omega (arith, is)
+    not_before [] =
+        let is = ap (λ (v : View). v.number) (started_view start moment.cluster.shape h) in omega (arith, is)
     not_before (f ∷ newer) =
         let up = view_rises start h newer f in let low = not_before newer in omega (arith, up, low)
 

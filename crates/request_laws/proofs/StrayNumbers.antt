@@ -1,5 +1,5 @@
 -- A coordinator has the number of the view in which its host stands.
-use Rattle.std.proofs.Common.{◌≡◌, ◌≤◌, ◌<◌, ℕ, List, [], ◌∷◌, refl, sym, subst, arith}
+use Rattle.std.proofs.Common.{◌≡◌, ◌≤◌, ℕ, List, [], ◌∷◌, refl, sym, subst, arith}
 use Rattle.sig_core.specs.declared.member.Member.{Member}
 use Rattle.sig_core.specs.declared.place.BlockId.TheVariants as block
 use Rattle.sig_core.specs.declared.place.Part.TheVariants.{Tc}
@@ -69,7 +69,9 @@ pub fence_above : (start : Start) (me : Member) → IsIn me (made start) → (lo
 fence_above start me there log =
     let view = view_after start (tc_of start me) log in
     let parts = (after start (tc_of start me) log).parts in
-    let fence = fence_is Any (fresh_coordinator me.node me.start (first_layout start.shape)) view parts view.number (log_stands start me there log) in
+    let fence =
+    fence_is Any (fresh_coordinator me.node me.start (first_layout start.shape)) view parts view.number
+    (log_stands start me there log) in
     let number = have_the_number start me log there in
     let above = fences_are_not_below start (tc_of start me) log block.Tc in
     omega (arith, fence, number, above)

@@ -17,7 +17,7 @@ use Rattle.world_core.specs.Start.{Start, made}
 use Rattle.world_core.specs.Steps.{HostStep}
 use Rattle.view_laws.specs.Ballots.{Ballots, IsChosen, Promised}
 use Rattle.view_laws.specs.Members.{is_adopted, known_of, promised_at, promises_of, state_of}
-use Rattle.view_laws.specs.Orderly.{AreOrderly, ArePromises, IsAskedFor, IsBehind, IsSpecial}
+use Rattle.view_laws.specs.Orderly.{AreOrderly, ArePromises, IsBehind, IsSpecial}
 use Rattle.view_laws.specs.Runs.{AreOfCluster, ballots_of, events_in}
 use Rattle.view_laws.specs.Sets.{IsPart, shrinks}
 use Rattle.view_laws.proofs.EventLemmas.{steps}
@@ -136,7 +136,8 @@ module _ (start : Start) (logs : ℕ → List HostStep) (are : AreOfCluster star
         by (cases_lt one.number special.base.number)
       where
         base_chosen : IsChosen start.shape b special.base
-        base_chosen = each_in (IsChosen start.shape b) special.base (b.installed me) (orderly.installed me) special.installed
+        base_chosen =
+            each_in (IsChosen start.shape b) special.base (b.installed me) (orderly.installed me) special.installed
 
         from_base : IsPart special.base set
         from_base =

@@ -1,7 +1,6 @@
--- A coordinator along the steps of its host: it has the number of the view in which that stands, and a fence above that is
--- of a set that was asked of it, to which all keep that it hasn't doomed.
+-- A coordinator along the steps of its host: it has the number of the view in which that stands, and a fence above that
+-- is of a set that was asked of it, to which all keep that are undecided, aren't doomed and have nothing unanswered.
 use Rattle.std.proofs.Common.{◌≡◌, ◌⊎◌, ◌≤◌, ◌<◌, ◌∙◌, ◌&&◌, ◌||◌, ℕ, Bool, true, false, nat_lt, List, [], ◌∷◌, refl, sym, ap, subst, arith, inl, inr}
-use Rattle.std.proofs.lemmas.Bool.{ltb-false, ltb-true, true≢false}
 use Rattle.std.specs.List.{list_any}
 use Rattle.std.specs.Prelude.{if◌then◌else◌, is_some, Option, None, Some}
 use Rattle.run_theory.specs.Lists.{Each, IsIn}
@@ -10,7 +9,6 @@ use Rattle.sig_core.specs.declared.member.TxId.{TxId}
 use Rattle.sig_core.specs.declared.outs.Outgoing.{Outgoing}
 use Rattle.sig_core.specs.declared.place.BlockId.{BlockId}
 use Rattle.sig_core.specs.declared.place.BlockId.TheVariants as block
-use Rattle.sig_core.specs.declared.signal.Body.{Body}
 use Rattle.sig_core.specs.declared.signal.Body.TheVariants.{Membership}
 use Rattle.sig_core.specs.declared.signal.membership.MembershipSignal.TheVariants.{FenceReq}
 use Rattle.sig_core.specs.declared.signal.Signal.{Signal}
@@ -33,7 +31,6 @@ use Rattle.world_core.specs.Start.{Start}
 use Rattle.world_core.specs.Steps.{HostStep}
 use Rattle.world_views.specs.Machine.{after}
 use Rattle.view_laws.specs.Runs.{view_after}
-use Rattle.moment_laws.specs.Parts.{IsPassed}
 use Rattle.moment_laws.specs.PartSteps.{PartEnters, PartTakes, TcDoes, handles, ignores, installs, remains, tc_kind}
 use Rattle.moment_laws.proofs.PartKinds.{tc_after}
 use Rattle.request_laws.specs.Strays.{HaleKeepTo, IsHale, KeepsTo}
@@ -64,7 +61,7 @@ promise_spares view s e there off =
     not_either (is_among s.doomed e.0) (is_doomed_by view e.1) (is_among (doomed_in view s.doomed s.tc.live) e.0)
     (dooms view s.doomed s.tc.live e there) off
 
--- a signal of a kind that fences stop brings no answer from below a fence
+-- a signal that is of no kind that fences stop answers no operation
 chain_fenced : (x : Signal) → (is_fenced x ≡ true → ⊥) → IsNoAnswer x.body
 unfolding is_fenced
 chain_fenced x free tx key answer is = free (ap (is_body_fenced x) is)

@@ -10,7 +10,6 @@ use Rattle.tc_block.specs.Doom.{is_among, is_undecided, strays}
 use Rattle.tc_views.specs.State.{CoordinatorState}
 use Rattle.world_core.specs.Start.{Start, made}
 use Rattle.world_core.specs.Steps.{HostStep}
-use Rattle.view_laws.specs.Ballots.{Promised}
 use Rattle.view_laws.specs.Runs.{ballots_of, view_after}
 use Rattle.moment_laws.specs.Moments.{IsMoment, logs_of}
 use Rattle.moment_laws.specs.Places.{tc_of}
