@@ -1,3 +1,11 @@
 pub mod ReplicaEvents
-pub mod RowsAlong
 pub mod ReplicaWaits
+pub mod RowsAlong
+pub mod StrayDoomed
+pub mod StrayFences
+pub mod StrayHeaders
+pub mod StrayInstalled
+pub mod StrayNumbers
+pub mod StrayPromises
+pub mod StrayRows
+pub mod StrayWalk
