@@ -29,6 +29,8 @@ pub struct Views {
     installed: IndexMap<u64, View>,
     /// The least stamp of a step that installed the view of a number.
     first: IndexMap<u64, u64>,
+    /// The views in headers of signals that were taken, by their numbers; without the first one.
+    headers: IndexMap<u64, View>,
     promises: Vec<Promise>,
     /// When transactions were decided, and rows applied.
     deeds: Vec<Moment>,
@@ -40,6 +42,7 @@ impl Views {
         Views {
             installed: IndexMap::new(alloc),
             first: IndexMap::new(alloc),
+            headers: IndexMap::new(alloc),
             promises: Vec::new(alloc),
             deeds: Vec::new(alloc),
         }
@@ -49,11 +52,14 @@ impl Views {
     /// of the last of them.
     ///
     /// # Errors
-    /// `ViewsGrow` or `OneViewANumber`, where it is broken, or `NoMemory`.
-    pub fn install(&mut self, before: u64, step: &LogStep) -> Result<u64, Fault> {
+    /// `ViewsGrow`, `OneViewANumber` or `HostsAreOfTheirViews`, where it is broken, or `NoMemory`.
+    pub fn install(&mut self, host: u32, before: u64, step: &LogStep) -> Result<u64, Fault> {
         let mut number = before;
         for mark in step.marks.as_slice() {
             if let Mark::Installed { view } = mark {
+                if host > 0 && !has_node(view.get(), node_of(host)) {
+                    return Err(Fault::Broken(Law::HostsAreOfTheirViews));
+                }
                 number = self.add_view(number, step.stamp, view.get())?;
             }
         }
@@ -71,6 +77,17 @@ impl Views {
         let first = self.first_of(view.number).min(stamp);
         self.first.insert(view.number, first)?;
         Ok(view.number)
+    }
+
+    /// The view in the header of a signal that was taken.
+    ///
+    /// # Errors
+    /// `NoMemory`.
+    pub fn add_header(&mut self, view: &View) -> Result<(), Fault> {
+        if view.number > FIRST_VIEW && self.headers.get(&view.number).is_none() {
+            self.headers.insert(view.number, *view)?;
+        }
+        Ok(())
     }
 
     // The least stamp so far of a step that installed the view of this number.
@@ -158,6 +175,30 @@ impl Views {
         false
     }
 
+    // Whether a view is installed.
+    fn is_installed(&self, view: &View) -> bool {
+        match self.installed.get(&view.number) {
+            Some(other) => is_same(other, view),
+            None => false,
+        }
+    }
+
+    // Whether each view is a part of those with lesser numbers.
+    fn do_shrink(&self) -> bool {
+        for at in 0..self.installed.len() {
+            for other in 0..self.installed.len() {
+                if let Some((_, before)) = self.installed.get_index(at)
+                    && let Some((_, view)) = self.installed.get_index(other)
+                    && before.number < view.number
+                    && !is_part(before, view)
+                {
+                    return false;
+                }
+            }
+        }
+        true
+    }
+
     fn judge_view(&self, shape: &Shape, number: u64, view: &View) -> Result<(), Fault>
         requires { IsShape shape.now }
     {
@@ -174,7 +215,8 @@ impl Views {
 }
 
 /// Judges the views of a cut: each has a full member in each group and was promised by all its members
-/// before it was installed, and nobody decides or applies anything in a lesser view than its node promised.
+/// before it was installed, each with a greater number is a part of the others, and nobody decides or
+/// applies anything in a lesser view than its node promised. The view of each header is installed.
 ///
 /// # Errors
 /// The first of these laws that is broken.
@@ -184,6 +226,16 @@ pub fn judge_views(views: &Views, shape: &Shape) -> Result<(), Fault>
     for at in 0..views.installed.len() {
         if let Some((number, view)) = views.installed.get_index(at) {
             views.judge_view(shape, *number, view)?;
+        }
+    }
+    if !views.do_shrink() {
+        return Err(Fault::Broken(Law::ViewsShrink));
+    }
+    for at in 0..views.headers.len() {
+        if let Some((_, view)) = views.headers.get_index(at)
+            && !views.is_installed(view)
+        {
+            return Err(Fault::Broken(Law::HeadersAreInstalled));
         }
     }
     for moment in views.deeds.as_slice() {
@@ -220,6 +272,21 @@ fn are_same(one: &[Member], other: &[Member]) -> bool {
     }
     for at in 0..one.len() {
         if one[at].node != other[at].node || one[at].start != other[at].start {
+            return false;
+        }
+    }
+    true
+}
+
+// Whether a node has a member in a view.
+fn has_node(view: &View, node: u32) -> bool {
+    is_among(node, view.full.as_slice()) || is_among(node, view.starting.as_slice())
+}
+
+// Whether all full members of a view are full in another one.
+fn is_part(before: &View, view: &View) -> bool {
+    for member in view.full.as_slice() {
+        if !is_among(u32::from(member.node), before.full.as_slice()) {
             return false;
         }
     }
