@@ -46,7 +46,7 @@ impl Facts {
                 return Ok(());
             }
             self.views.add_header(step.taken.get().view.get())?;
-            view = self.views.install(log.host.0, view, step)?;
+            view = self.views.install(log, view, step)?;
             let moment = Moment {
                 host: log.host.0,
                 view,
