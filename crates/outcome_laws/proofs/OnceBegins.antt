@@ -1,17 +1,13 @@
 -- The host of a transaction's coordinator tells of its begin once, and asks for its epoch once, and no other host does: so
 -- each host is told of it, and asked, once at most.
-use Rattle.std.proofs.Common.{◌≡◌, ◌≢◌, ◌≤◌, ◌<◌, ◌+◌, ◌⊎◌, ◌∙◌, ℕ, Bool, true, false, List, [], ◌∷◌, ap, arith, inl, inr, refl, subst, sym}
-use Rattle.std.proofs.lemmas.Bool.{cases_eq, cases_lt}
-use Rattle.run_theory.specs.Links.{sent}
+use Rattle.std.proofs.Common.{◌≡◌, ◌≢◌, ◌≤◌, ◌<◌, ◌⊎◌, ◌∙◌, ℕ, Bool, true, false, List, [], ◌∷◌, ap, arith, inl, inr, refl, subst, sym}
+use Rattle.std.proofs.lemmas.Bool.{cases_lt}
 use Rattle.run_theory.specs.Lists.{IsIn}
-use Rattle.run_theory.specs.Logs.{IsLog}
 use Rattle.sig_core.specs.declared.member.Member.{Member}
 use Rattle.sig_core.specs.declared.member.TxId.{TxId}
 use Rattle.sig_core.specs.declared.place.Place.{Place}
 use Rattle.sig_core.specs.declared.signal.Body.{Body}
 use Rattle.sig_core.specs.declared.signal.Body.TheVariants.{Host}
-use Rattle.sig_core.specs.declared.signal.Signal.{Signal}
-use Rattle.sig_core.specs.declared.view.View.{View}
 use Rattle.frag_map.specs.Layout.{first_layout}
 use Rattle.node_views.specs.declared.host.Host as node
 use Rattle.node_views.specs.declared.parts.Parts.{Parts}
@@ -21,17 +17,15 @@ use Rattle.tc_views.specs.State.{CoordinatorState}
 use Rattle.world_core.specs.Hosts.{hosts}
 use Rattle.world_core.specs.Start.{Start, made}
 use Rattle.world_core.specs.Steps.{HostStep}
-use Rattle.world_views.specs.Hosts.{part_started, started}
-use Rattle.world_views.specs.Machine.{machine}
-use Rattle.world_views.specs.Sending.{is_own_work}
+use Rattle.world_views.specs.Hosts.{started}
 use Rattle.view_laws.specs.Runs.{AreOfCluster}
 use Rattle.moment_laws.proofs.MomentHosts.{HasNoTc, TcHost, of_none, of_tc, tc_host_is, tc_started}
 use Rattle.moment_laws.specs.Places.{tc_of}
-use Rattle.outcome_laws.specs.Counts.{IsCoordinatorOf, coordinator_member, count_sent, is_asking, is_begin, is_unborn, may_ask, one_if}
+use Rattle.outcome_laws.specs.Counts.{coordinator_member, is_asking, is_begin, is_unborn, may_ask, one_if}
 use Rattle.outcome_laws.specs.Once.{takes_in}
 use Rattle.outcome_laws.specs.Own.{IsOwnAt}
 use Rattle.outcome_laws.proofs.OnceLinks.{AreSentOnly, takes_few}
-use Rattle.outcome_laws.proofs.OnceLogs.{count_on, link_count, log_light, sends_in}
+use Rattle.outcome_laws.proofs.OnceLogs.{link_count, log_light, sends_in}
 use Rattle.outcome_laws.proofs.OnceNobody.{apart_light, asking_coordinators, asks_apart, begin_coordinators, begins_apart, no_tc_light, nothing, of_nobody}
 use Rattle.outcome_laws.proofs.OnceNone.{is_counted, uncounted_asking, uncounted_begin}
 use Rattle.outcome_laws.proofs.OnceClient.{is_coordinators}

@@ -1,9 +1,8 @@
 -- Whoever is reported aborted since the cluster is down is never decided: no commit of it is asked for, so no epoch either.
 use Rattle.std.proofs.Common.{◌≡◌, ◌≢◌, ◌≤◌, ◌<◌, ◌+◌, ◌⊎◌, ◌||◌, ◌%◌, ℕ, zero, suc, Bool, true, false, List, [], ◌∷◌, ap, arith, inl, inr, refl, subst, sym}
-use Rattle.std.proofs.lemmas.Bool.{cases_eq, cases_lt}
+use Rattle.std.proofs.lemmas.Bool.{cases_lt}
 use Rattle.std.specs.List.{count_by}
-use Rattle.run_theory.specs.Links.{sent}
-use Rattle.run_theory.specs.Lists.{Each, IsIn}
+use Rattle.run_theory.specs.Lists.{IsIn}
 use Rattle.sig_core.specs.declared.mark.Mark.{Mark}
 use Rattle.sig_core.specs.declared.mark.Mark.TheVariants.{Reported}
 use Rattle.sig_core.specs.declared.member.Member.{Member}
@@ -20,7 +19,6 @@ use Rattle.world_core.specs.Hosts.{hosts, member_at, part_by}
 use Rattle.world_core.specs.Start.{Start, made}
 use Rattle.world_core.specs.Steps.{HostStep}
 use Rattle.world_views.specs.Hosts.{part_started, started}
-use Rattle.world_views.specs.Machine.{machine}
 use Rattle.view_laws.specs.Runs.{AreOfCluster}
 use Rattle.moment_laws.proofs.MomentHosts.{HasNoTc, TcHost, of_none, of_tc, tc_host_is}
 use Rattle.moment_laws.specs.Places.{tc_of}
@@ -33,7 +31,7 @@ use Rattle.outcome_laws.proofs.OnceBegins.{apart_sends, asks_elsewhere, begin_on
 use Rattle.outcome_laws.proofs.OnceDecided.{decides_asked, entries_are, none_has}
 use Rattle.outcome_laws.proofs.OnceDownHosts.{no_answers}
 use Rattle.outcome_laws.proofs.OnceLinks.{AreSentOnly, takes_few}
-use Rattle.outcome_laws.proofs.OnceLogs.{count_on, link_count, log_light, sends_in}
+use Rattle.outcome_laws.proofs.OnceLogs.{link_count, log_light, sends_in}
 use Rattle.outcome_laws.proofs.OnceMarks.{IsShell, begins_or_downs, client_light, in_client, of_client, wishes_client}
 use Rattle.outcome_laws.proofs.OnceNobody.{IsBeside, asking_coordinators, beside_light, of_nobody, wishes_apart}
 use Rattle.outcome_laws.proofs.OnceNone.{uncounted_asking, uncounted_wish}

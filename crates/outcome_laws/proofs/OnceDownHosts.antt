@@ -1,5 +1,5 @@
 -- No host tells another that a transaction is aborted since the cluster is down.
-use Rattle.std.proofs.Common.{◌≡◌, ◌≢◌, ◌≤◌, ◌<◌, ◌+◌, ◌⊎◌, ◌&&◌, ◌==◌, ◌%◌, ◌∙◌, ℕ, zero, suc, Bool, true, false, List, [], ◌∷◌, ap, arith, inl, inr, refl, subst, sym}
+use Rattle.std.proofs.Common.{◌≡◌, ◌≢◌, ◌≤◌, ◌⊎◌, ◌==◌, ◌%◌, ℕ, zero, suc, Bool, true, false, List, [], ◌∷◌, arith, inl, inr, refl, subst, sym}
 use Rattle.std.proofs.lemmas.Bool.{cases_eq, and_parts}
 use Rattle.run_theory.specs.Along.{AllHold, Comes, IsKept}
 use Rattle.run_theory.specs.Links.{sent}
@@ -25,7 +25,7 @@ use Rattle.sig_core.specs.declared.view.View.{View}
 use Rattle.sig_core.specs.Step.{Effects, Step}
 use Rattle.dih_node.specs.Orders as dih
 use Rattle.node_views.specs.Blocks.{parts_entered, parts_row}
-use Rattle.node_views.specs.Parts.{tc_entered, tc_row}
+use Rattle.node_views.specs.Parts.{tc_row}
 use Rattle.node_views.specs.Replies.{giving}
 use Rattle.node_views.specs.declared.host.Host as hosts
 use Rattle.node_views.specs.declared.parts.Parts.{Parts}

@@ -1,5 +1,5 @@
 -- A coordinator asks for an epoch only where it is asked for the commit.
-use Rattle.std.proofs.Common.{◌≡◌, ◌≤◌, ◌+◌, ℕ, Bool, true, false, List, [], ◌∷◌, arith, nat_lt, refl, subst, sym}
+use Rattle.std.proofs.Common.{◌≡◌, ◌≤◌, ℕ, Bool, true, false, List, [], ◌∷◌, arith, nat_lt, refl, subst, sym}
 use Rattle.run_theory.specs.Lists.{Each, IsIn}
 use Rattle.run_theory.proofs.Pasts.{each_append, each_map}
 use Rattle.sig_core.specs.declared.member.TxId.{TxId}
@@ -20,7 +20,7 @@ use Rattle.tc_block.specs.declared.transaction.Transaction.{Transaction}
 use Rattle.tc_views.specs.Coordinator.{coordinator_row, coordinator_table}
 use Rattle.tc_views.specs.State.{CoordinatorState, go_on_if, within}
 use Rattle.outcome_laws.specs.Counts.{is_asking, is_wish, may_ask, one_if}
-use Rattle.outcome_laws.specs.Known.{CoordinatorKnows, IsDecidedIn}
+use Rattle.outcome_laws.specs.Known.{IsDecidedIn}
 use Rattle.outcome_laws.specs.Tells.{Tells, TellsOfRecord}
 use Rattle.std.specs.Prelude.{length}
 use Rattle.run_theory.specs.Logs.{IsLog}
