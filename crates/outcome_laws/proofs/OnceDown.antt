@@ -1,4 +1,5 @@
--- Whoever is reported aborted since the cluster is down is never decided: no commit of it is asked for, so no epoch either.
+-- Whoever is reported aborted since the cluster is down is never decided: no commit of it is asked for, so no epoch
+-- either.
 use Rattle.std.proofs.Common.{◌≡◌, ◌≢◌, ◌≤◌, ◌<◌, ◌+◌, ◌⊎◌, ◌||◌, ◌%◌, ℕ, zero, suc, Bool, true, false, List, [], ◌∷◌, ap, arith, inl, inr, refl, subst, sym}
 use Rattle.std.proofs.lemmas.Bool.{cases_lt}
 use Rattle.std.specs.List.{count_by}
@@ -40,7 +41,8 @@ use Rattle.outcome_laws.proofs.OnceWished.{asks_wished}
 use Rattle.outcome_laws.proofs.TcLists.{count_more}
 
 -- a mark that passes a test counts
-marked_some : (p : Mark → Bool) (mark : Mark) → p mark ≡ true → (marks : List Mark) → IsIn mark marks → 1 ≤ count_by p marks
+marked_some : (p : Mark → Bool) (mark : Mark) → p mark ≡ true → (marks : List Mark) → IsIn mark marks
+    → 1 ≤ count_by p marks
 marked_some p mark is [] there = absurd there
 marked_some p mark is (other ∷ marks) (inl same) =
     omega (arith, count_more p other marks, ap one_if (subst (λ (m : Mark). p m ≡ true) same is))
@@ -132,7 +134,9 @@ module _ (start : Start) (logs : ℕ → List HostStep) (are : AreOfCluster star
         )
 
     -- so nobody asks for an epoch
-    its_asks : sends_in (is_asking tx) start (tc_of start (coordinator_member tx)) (logs (tc_of start (coordinator_member tx)))
+    its_asks :
+        sends_in (is_asking tx) start (tc_of start (coordinator_member tx))
+        (logs (tc_of start (coordinator_member tx)))
         ≡ 0
     its_asks = by (cases_lt h (hosts start))
       where

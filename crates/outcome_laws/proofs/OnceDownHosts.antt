@@ -91,7 +91,8 @@ module _ (x : Signal) (up : is_downfall x.body ≡ false) where
   tc_up : (q : TcPart) (b : BlockId) → IsCoordinatorUp q.coordinator
       → IsHostUp (Tc (tc_row q b x).state) × TellUp (tc_row q b x).effects
   unfolding tc_row
-  tc_up q block.Tc stays = (coordinator_stays_up q.coordinator x stays up, coordinator_tells_up q.coordinator x stays up)
+  tc_up q block.Tc stays =
+      (coordinator_stays_up q.coordinator x stays up, coordinator_tells_up q.coordinator x stays up)
   tc_up q block.Takeover stays = (stays, uncounted_up _ (takeover_none q.takeover x))
   tc_up q block.Dih stays = (stays, uncounted_up _ (dih_none q.dih x))
   tc_up q _ stays = (stays, tt)
@@ -211,8 +212,8 @@ module _ (start : Start) where
 
   pub all_up : (logs : ℕ → List HostStep) → AreOfCluster start logs → AllHold (machine start) IsSignalUp AreUp logs
   all_up logs are =
-      along_signals_of_logs (machine start) (is_stamped start) IsSignalUp AreUp kept_up (world.hosts start) logs are.within
-      are.right
+      along_signals_of_logs (machine start) (is_stamped start) IsSignalUp AreUp kept_up (world.hosts start) logs
+      are.within are.right
 
 -- so no client is told of it
 answer_up : (tx : TxId) (body : Body) → is_downfall body ≡ false → is_down_answer tx body ≡ false

@@ -1,4 +1,5 @@
--- A coordinator aborts no transaction for the reason that the cluster is down, unless a replica says so, and tells of none.
+-- A coordinator aborts no transaction for the reason that the cluster is down, unless a replica says so, and tells of
+-- none.
 use Rattle.std.proofs.Common.{◌≡◌, ◌+◌, ℕ, Bool, true, false, List, [], ◌∷◌, ◌++◌, take, drop, length, nat_lt, refl, sym, subst}
 use Rattle.std.specs.Prelude.{if◌then◌else◌, None}
 use Rattle.std.specs.List.{flat_map}
