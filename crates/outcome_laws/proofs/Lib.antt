@@ -27,8 +27,6 @@ pub mod OnceBegins
 pub mod OnceClient
 pub mod OnceDecided
 pub mod OnceDown
-pub mod OnceDownHosts
-pub mod OnceDownTc
 pub mod OnceLinks
 pub mod OnceLogs
 pub mod OnceMarks

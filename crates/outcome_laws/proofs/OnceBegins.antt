@@ -1,5 +1,5 @@
--- The host of a transaction's coordinator tells of its begin once, and asks for its epoch once, and no other host does: so
--- each host is told of it, and asked, once at most.
+-- The host of a transaction's coordinator tells of its begin once, and asks for its epoch once, and no other host does:
+-- so each host is told of it, and asked, once at most.
 use Rattle.std.proofs.Common.{◌≡◌, ◌≢◌, ◌≤◌, ◌<◌, ◌⊎◌, ◌∙◌, ℕ, Bool, true, false, List, [], ◌∷◌, ap, arith, inl, inr, refl, subst, sym}
 use Rattle.std.proofs.lemmas.Bool.{cases_lt}
 use Rattle.run_theory.specs.Lists.{IsIn}
@@ -125,7 +125,8 @@ module _ (tx : TxId) (start : Start) (logs : ℕ → List HostStep) (are : AreOf
         by (inl low) = of_host (tc_host_is start h low)
         by (inr high) = nowhere_sends p once.counts start logs are h high
 
-    its_own_sends : sends_in p start (tc_of start (coordinator_member tx)) (logs (tc_of start (coordinator_member tx))) ≤ 1
+    its_own_sends :
+        sends_in p start (tc_of start (coordinator_member tx)) (logs (tc_of start (coordinator_member tx))) ≤ 1
     its_own_sends = by (cases_lt h (hosts start))
       where
         h : ℕ

@@ -71,7 +71,8 @@ module _ (start : Start) (logs : ℕ → List HostStep) (are : AreOfCluster star
       )
     where
       apart : (u : TxId) → h ≡ tc_of start (coordinator_member u) → (b : Bool) → same_tx u tx ≡ b → b ≡ false
-      apart u at true is = absurd (other (at ∙ ap (λ (v : TxId). tc_of start (coordinator_member v)) (same_tx-is u tx is)))
+      apart u at true is =
+          absurd (other (at ∙ ap (λ (v : TxId). tc_of start (coordinator_member v)) (same_tx-is u tx is)))
       apart u at false is = refl
 
       by : (mark : Mark) → IsDecidedHere start h mark → is_decision tx mark ≡ false
@@ -92,9 +93,6 @@ module _ (start : Start) (logs : ℕ → List HostStep) (are : AreOfCluster star
       omega (arith, decides_asked tx start h (logs h) (are.right.local h), ask_once tx start logs are h)
 
   -- so it has one entry at most
-  abbrev has_it : Entry → Bool
-  has_it a = same_tx a.tx tx
-
   step_entries : (h stamp : ℕ) (log : List HostStep) (marks : List Mark) (before : List Entry)
       → count_by (λ (a : Entry). same_tx a.tx tx) (entries_in h stamp log marks before)
       ≡ count_by (is_decision tx) marks + count_by (λ (a : Entry). same_tx a.tx tx) before

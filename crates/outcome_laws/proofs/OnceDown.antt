@@ -1,8 +1,9 @@
--- Whoever is reported aborted since the cluster is down is never decided: no commit of it is asked for, so no epoch either.
+-- Whoever is reported aborted since the cluster is down is never decided: no commit of it is asked for, so no epoch
+-- either.
 use Rattle.std.proofs.Common.{◌≡◌, ◌≢◌, ◌≤◌, ◌<◌, ◌+◌, ◌⊎◌, ◌||◌, ◌%◌, ℕ, zero, suc, Bool, true, false, List, [], ◌∷◌, ap, arith, inl, inr, refl, subst, sym}
 use Rattle.std.proofs.lemmas.Bool.{cases_lt}
 use Rattle.std.specs.List.{count_by}
-use Rattle.run_theory.specs.Lists.{IsIn}
+use Rattle.run_theory.specs.Lists.{Each, IsIn}
 use Rattle.sig_core.specs.declared.mark.Mark.{Mark}
 use Rattle.sig_core.specs.declared.mark.Mark.TheVariants.{Reported}
 use Rattle.sig_core.specs.declared.member.Member.{Member}
@@ -12,7 +13,8 @@ use Rattle.sig_core.specs.declared.outcome.Outcome.TheVariants as outcome
 use Rattle.sig_core.specs.declared.place.Part.{Part}
 use Rattle.sig_core.specs.declared.place.Part.TheVariants as kind
 use Rattle.sig_core.specs.declared.signal.Body.{Body}
-use Rattle.sig_core.specs.declared.signal.Body.TheVariants.{Host}
+use Rattle.sig_core.specs.declared.signal.Body.TheVariants.{Client, Host}
+use Rattle.sig_core.specs.declared.signal.client.ClientSignal.TheVariants.{TcRollbackRep}
 use Rattle.sig_core.proofs.Keys.{same_tx-self}
 use Rattle.world_core.specs.Entries.{entries}
 use Rattle.world_core.specs.Hosts.{hosts, member_at, part_by}
@@ -24,12 +26,13 @@ use Rattle.moment_laws.proofs.MomentHosts.{HasNoTc, TcHost, of_none, of_tc, tc_h
 use Rattle.moment_laws.specs.Places.{tc_of}
 use Rattle.outcome_laws.specs.Counts.{coordinator_member, count_unwished, is_asking, is_begin, is_wish, one_if}
 use Rattle.outcome_laws.specs.Decided.{IsMarked}
+use Rattle.outcome_laws.specs.Down.{TakesNoDown, TellsNoDown}
 use Rattle.outcome_laws.specs.Once.{marks_in, takes_in}
 use Rattle.outcome_laws.specs.Outcomes.{NoneThatWasDownWasDecided}
 use Rattle.outcome_laws.proofs.ClientCounts.{is_down_answer, is_down_report}
 use Rattle.outcome_laws.proofs.OnceBegins.{apart_sends, asks_elsewhere, begin_once, no_tc_sends, nowhere_sends, none_taken, only_asks}
 use Rattle.outcome_laws.proofs.OnceDecided.{decides_asked, entries_are, none_has}
-use Rattle.outcome_laws.proofs.OnceDownHosts.{no_answers}
+use Rattle.outcome_laws.proofs.DownAll.{no_down_is_told}
 use Rattle.outcome_laws.proofs.OnceLinks.{AreSentOnly, takes_few}
 use Rattle.outcome_laws.proofs.OnceLogs.{link_count, log_light, sends_in}
 use Rattle.outcome_laws.proofs.OnceMarks.{IsShell, begins_or_downs, client_light, in_client, of_client, wishes_client}
@@ -39,8 +42,19 @@ use Rattle.outcome_laws.proofs.OnceReported.{shell_begins}
 use Rattle.outcome_laws.proofs.OnceWished.{asks_wished}
 use Rattle.outcome_laws.proofs.TcLists.{count_more}
 
+-- who is told of no such abort isn't told of one of this transaction
+no_answer : (tx : TxId) (body : Body) → TellsNoDown body → is_down_answer tx body ≡ false
+no_answer tx (Client (TcRollbackRep other cause.Down)) none = absurd none
+no_answer tx _ none = refl
+
+takes_none : (tx : TxId) (log : List HostStep) → Each TakesNoDown log → takes_in (is_down_answer tx) log ≡ 0
+takes_none tx [] none = refl
+takes_none tx (e ∷ log) none =
+    omega (arith, ap one_if (no_answer tx e.step.taken.body none.0), takes_none tx log none.1)
+
 -- a mark that passes a test counts
-marked_some : (p : Mark → Bool) (mark : Mark) → p mark ≡ true → (marks : List Mark) → IsIn mark marks → 1 ≤ count_by p marks
+marked_some : (p : Mark → Bool) (mark : Mark) → p mark ≡ true → (marks : List Mark) → IsIn mark marks
+    → 1 ≤ count_by p marks
 marked_some p mark is [] there = absurd there
 marked_some p mark is (other ∷ marks) (inl same) =
     omega (arith, count_more p other marks, ap one_if (subst (λ (m : Mark). p m ≡ true) same is))
@@ -117,7 +131,7 @@ module _ (start : Start) (logs : ℕ → List HostStep) (are : AreOfCluster star
           none_unwished,
           either_few (is_begin tx) (is_down_answer tx) (logs 0),
           begin_once tx start logs are 0,
-          no_answers tx start logs are 0,
+          takes_none tx (logs 0) (no_down_is_told start logs are 0),
           marks_some (is_down_report tx) (Reported tx (outcome.Aborted cause.Down)) (same_tx-self tx) (logs 0) down,
         )
 
@@ -132,7 +146,9 @@ module _ (start : Start) (logs : ℕ → List HostStep) (are : AreOfCluster star
         )
 
     -- so nobody asks for an epoch
-    its_asks : sends_in (is_asking tx) start (tc_of start (coordinator_member tx)) (logs (tc_of start (coordinator_member tx)))
+    its_asks :
+        sends_in (is_asking tx) start (tc_of start (coordinator_member tx))
+        (logs (tc_of start (coordinator_member tx)))
         ≡ 0
     its_asks = by (cases_lt h (hosts start))
       where

@@ -1,5 +1,5 @@
--- What decides and reports a transaction: the epochs of a node decide as many as are held and asked for, and the client's
--- side reports, and asks for the commit of, as many as are open and begin.
+-- What decides and reports a transaction: the epochs of a node decide as many as are held and asked for, and the
+-- client's side reports, and asks for the commit of, as many as are open and begin.
 use Rattle.std.proofs.Common.{◌≡◌, ◌≤◌, ◌+◌, ◌||◌, ℕ, Bool, true, false, List, [], ap, arith, refl}
 use Rattle.std.proofs.lemmas.Bool.{true≢false}
 use Rattle.run_theory.specs.Lists.{Each}

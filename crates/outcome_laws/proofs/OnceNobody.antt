@@ -1,5 +1,5 @@
--- Hosts that send none: a coordinator of another member tells of no begin of the transaction and asks for no epoch for it,
--- hosts without a coordinator do neither, and none but the shell's asks for a commit.
+-- Hosts that send none: a coordinator of another member tells of no begin of the transaction and asks for no epoch for
+-- it, hosts without a coordinator do neither, and none but the shell's asks for a commit.
 use Rattle.std.proofs.Common.{◌≡◌, ◌≤◌, ◌+◌, ◌∙◌, ℕ, Bool, true, false, List, [], ap, arith, refl, sym}
 use Rattle.run_theory.specs.Lists.{Each}
 use Rattle.run_theory.proofs.Pasts.{each_map}
@@ -68,7 +68,8 @@ module _ (me : Member) (p : Body → Bool) (counts : (body : Body) → is_counte
         installs : (s : CoordinatorState) (view : View) → IsCoordinatorOf me s
             → count_sent p (coordinator.install_row s view).effects.sends + 0 ≤ 0
         installs s view of =
-            omega (arith, apart_none (coordinator.install_row s view).effects.sends (coordinator_installs_own me s view))
+            let sends = (coordinator.install_row s view).effects.sends in
+            omega (arith, apart_none sends (coordinator_installs_own me s view))
 
 -- what only a transaction's own member sends
 module _ (tx : TxId) (me : Member) (other : coordinator_member tx ≡ me → ⊥) where
@@ -157,7 +158,8 @@ module _ (p : Body → Bool) (counts : (body : Body) → is_counted body ≡ fal
       → IsLight (of_nobody p) IsBeside 0 (parts_entered parts view).effects (parts_entered parts view).state
   beside_enters (Main q) view beside =
       light IsBeside (parts_entered (Main q) view).state (parts_entered (Main q) view).effects.sends
-      (parts_entered (Main q) view).effects.marks tt (not_counted _ (untold_uncounted _ (membership_installs_nothing q.qmgr view).0))
+      (parts_entered (Main q) view).effects.marks tt
+      (not_counted _ (untold_uncounted _ (membership_installs_nothing q.qmgr view).0))
   beside_enters (Ldm q) view beside = light IsBeside (parts_entered (Ldm q) view).state [] [] tt tt
   beside_enters (Shell q) view beside = absurd beside
   beside_enters (Tc q) view beside = absurd beside

@@ -1,5 +1,5 @@
--- Signals that count: what only a coordinator tells a client, or asks the epochs of its node, and what only a client asks a
--- coordinator; that the cluster is down no replica says. And lists of sends, of which one event sends a part.
+-- Signals that count: what only a coordinator tells a client, or asks the epochs of its node, and what only a client asks
+-- a coordinator; that the cluster is down no replica says. And lists of sends, of which one event sends a part.
 use Rattle.std.proofs.Common.{◌≡◌, ◌+◌, ℕ, Bool, true, false, List, [], ◌∷◌, take, drop, length, nat_lt, ap, arith, refl}
 use Rattle.std.specs.List.{count_by}
 use Rattle.run_theory.specs.Lists.{Each}

@@ -1,5 +1,5 @@
--- What the parts of hosts weigh: of one transaction how often its coordinator may still tell of its begin and ask for its
--- epoch, how often epochs may decide it, and how often the client's side may ask for its commit and report it.
+-- What the part of a coordinator weighs: how often it may still send what only coordinators send, as that a transaction
+-- has begun, or that it asks for an epoch.
 use Rattle.std.proofs.Common.{◌≡◌, ◌≤◌, ◌+◌, ℕ, Bool, false, List, [], ◌∷◌, ap, arith, refl, subst, sym}
 use Rattle.run_theory.specs.Lists.{Each}
 use Rattle.run_theory.proofs.Pasts.{each_map}

@@ -1,5 +1,5 @@
--- Scales: what the blocks of a host weigh, with what they send and mark of a kind, grows in a step of the host by no more
--- than where they take its signal.
+-- Scales: what the blocks of a host weigh, with what they send and mark of a kind, grows in a step of the host by no
+-- more than where they take its signal.
 use Rattle.std.proofs.Common.{◌≡◌, ◌≤◌, ◌+◌, ◌||◌, ℕ, zero, suc, Bool, true, false, nat_lt, List, [], ◌∷◌, ap, arith}
 use Rattle.std.specs.List.{count_by, list_any}
 use Rattle.std.specs.Prelude.{not, Option, None, Some}

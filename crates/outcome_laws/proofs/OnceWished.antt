@@ -159,7 +159,8 @@ module _ (tx : TxId) where
     kept : AreKept HasTc EffectsAskNone x
     kept = record { row = row; enters = enters }
       where
-        row : (parts : Parts) → HasTc parts → HasTc (parts_row parts x).state × EffectsAskNone (parts_row parts x).effects
+        row : (parts : Parts) → HasTc parts
+            → HasTc (parts_row parts x).state × EffectsAskNone (parts_row parts x).effects
         row (Tc q) has = (tt, tc_asks q x.to.block)
         row (Shell q) has = absurd has
         row (Main q) has = absurd has
