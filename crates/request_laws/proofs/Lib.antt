@@ -1,0 +1,2 @@
+pub mod RouteRefused
+pub mod RouteRows
