@@ -1,2 +1,3 @@
 pub mod RouteRefused
 pub mod RouteRows
+pub mod RouteTakeover
