@@ -1,3 +1,4 @@
 pub mod RouteRefused
 pub mod RouteRows
 pub mod RouteTakeover
+pub mod RouteChains
