@@ -1,7 +1,9 @@
 pub mod RouteRefused
 pub mod RouteRows
+pub mod RouteWaiters
 pub mod RouteTakeover
 pub mod RouteChains
 pub mod RouteTurns
 pub mod RouteDoomed
 pub mod RouteTc
+pub mod RouteAnswered

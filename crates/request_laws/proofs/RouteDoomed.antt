@@ -1,9 +1,9 @@
 -- Whoever is doomed stays so until it is forgotten.
-use Rattle.std.proofs.Common.{◌≡◌, ◌==◌, ℕ, Bool, true, false, cond, List, [], ◌∷◌, ◌++◌, inl, inr, nat_lt, refl, sym, ap, ◌∙◌}
+use Rattle.std.proofs.Common.{◌≡◌, ◌==◌, ℕ, Bool, true, false, cond, List, [], ◌∷◌, inl, inr, nat_lt, refl, sym, ap, ◌∙◌}
 use Rattle.std.proofs.lemmas.Bool.{true≢false}
 use Rattle.std.proofs.lemmas.List.Folds.{list_any-append}
 use Rattle.std.specs.Prelude.{◌||◌, filter, is_some, position, Option, None, Some}
-use Rattle.std.specs.List.{flat_map, list_any}
+use Rattle.std.specs.List.{flat_map}
 use Rattle.std.specs.Map.{keys_of}
 use Rattle.run_theory.specs.Lists.{IsIn}
 use Rattle.sig_core.specs.declared.member.TxId.{TxId}
@@ -29,8 +29,8 @@ use Rattle.tc_block.specs.Tc.{tc_table}
 use Rattle.tc_block.specs.declared.task.Task.{Task}
 use Rattle.tc_block.specs.declared.transaction.Transaction.{Transaction}
 use Rattle.tc_views.specs.Coordinator.{calm_row, calm_unless, coordinator_row, coordinator_table, is_to_fail}
-use Rattle.tc_views.specs.State.{CoordinatorState, still_live, within}
-use Rattle.tc_views.specs.Views.{fence_row, resume_by as tasks_by, resume_first, resume_if, resume_row as tasks_row}
+use Rattle.tc_views.specs.State.{CoordinatorState, within}
+use Rattle.tc_views.specs.Views.{fence_row, resume_by as tasks_by, resume_if, resume_row as tasks_row}
 
 any_or : (a b : Bool) → b ≡ true → (a || b) ≡ true
 any_or true b is = refl

@@ -1,5 +1,5 @@
 -- Of each transaction that rows refuse a request waited, or has just come.
-use Rattle.std.proofs.Common.{◌≡◌, ◌+◌, ◌≤◌, ℕ, zero, suc, Bool, true, false, List, refl, ap, subst, arith, ◌∙◌, sym}
+use Rattle.std.proofs.Common.{◌≡◌, ◌+◌, ◌≤◌, ℕ, zero, suc, Bool, true, false, List, refl, ap, subst, arith, ◌∙◌}
 use Rattle.std.specs.Prelude.{◌&&◌}
 use Rattle.run_theory.specs.Lists.{Each, IsIn}
 use Rattle.run_theory.specs.Counts.{one_if}

@@ -5,7 +5,6 @@ use Rattle.std.specs.Prelude.{Option, None, Some, remove, slice_get}
 use Rattle.run_theory.specs.Lists.{Each}
 use Rattle.run_theory.proofs.EachSent.{each_drop, each_flat, each_get, each_mapped, each_removed, each_take}
 use Rattle.run_theory.proofs.Pasts.{each_after, each_append, each_before}
-use Rattle.sig_core.specs.declared.member.Member.{Member}
 use Rattle.sig_core.specs.declared.member.TxId.{TxId}
 use Rattle.sig_core.specs.declared.outs.Outgoing.{Outgoing}
 use Rattle.sig_core.specs.declared.place.Place.{Place}
@@ -32,7 +31,7 @@ use Rattle.takeover_block.proofs.EachTakeover.{takeover_each}
 use Rattle.takeover_block.proofs.LawLemmas.{first_found}
 use Rattle.takeover_block.proofs.NotedLemmas.{IsMore, IsNew, noted_is}
 use Rattle.run_laws.proofs.RoutesChain.{last_inside}
-use Rattle.request_laws.specs.Routes.{IsRouted, IsSentRouted}
+use Rattle.request_laws.specs.Routes.{IsSentRouted}
 
 -- each key has a replica
 abbrev pub ChainsAreSome : Layout → Type 0

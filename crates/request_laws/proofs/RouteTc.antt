@@ -1,21 +1,21 @@
 -- A coordinator whose transactions have their routes sends only what is routed in its view, and they go on to have them.
-use Rattle.std.proofs.Common.{◌≡◌, ◌||◌, ℕ, Bool, true, false, List, [], ◌∷◌, ◌++◌, length, nat_lt, refl, sym, ap, ◌∙◌, subst}
+use Rattle.std.proofs.Common.{◌≡◌, ℕ, Bool, true, false, List, [], ◌∷◌, ◌++◌, length, nat_lt, refl, sym, ap, ◌∙◌, subst}
 use Rattle.std.proofs.lemmas.Bool.{true≢false}
 use Rattle.std.specs.Prelude.{if◌then◌else◌}
 use Rattle.indexmap.specs.IndexMap.{insert_entry}
-use Rattle.run_theory.specs.Lists.{Each, IsIn}
+use Rattle.run_theory.specs.Lists.{Each}
 use Rattle.run_theory.proofs.Pasts.{each_after, each_append, each_before, each_from, each_in}
 use Rattle.sig_core.specs.declared.member.TxId.{TxId}
 use Rattle.sig_core.specs.declared.outs.Outgoing.{Outgoing}
 use Rattle.sig_core.specs.declared.signal.Body.{Body}
-use Rattle.sig_core.specs.declared.signal.Body.TheVariants.{Client, Epoch, Host, Membership}
+use Rattle.sig_core.specs.declared.signal.Body.TheVariants.{Epoch, Host}
 use Rattle.sig_core.specs.declared.signal.Signal.{Signal}
 use Rattle.sig_core.specs.declared.signal.epoch.EpochSignal.TheVariants.{DiVerifyConf}
 use Rattle.sig_core.specs.declared.signal.host.HostSignal.TheVariants.{Continue}
 use Rattle.sig_core.specs.declared.signal.host.Work.TheVariants as work
 use Rattle.sig_core.specs.declared.view.View.{View}
 use Rattle.sig_core.specs.Same.{same_tx}
-use Rattle.sig_core.specs.Step.{Step, joined, sends_only, stay}
+use Rattle.sig_core.specs.Step.{Step, stay}
 use Rattle.frag_map.specs.Layout.{Layout}
 use Rattle.tc_block.specs.Doom.{is_among}
 use Rattle.tc_block.specs.Live.{turned, turned_if, without}
@@ -35,7 +35,7 @@ use Rattle.outcome_laws.proofs.TcWalk.{coordinator_each, inner}
 use Rattle.request_laws.specs.Routes.{CoordinatorHasRoutes, HasRoutesIn, IsRouted, IsSentRouted}
 use Rattle.request_laws.proofs.RouteDoomed.{doomed_stay}
 use Rattle.request_laws.proofs.RouteTakeover.{ChainsAreSome}
-use Rattle.request_laws.proofs.RouteTurns.{IsAnsweredIn, IsGiven, IsMade, MakesTurn, Routes, TurnRoutes, resume_forms, turn_forms}
+use Rattle.request_laws.proofs.RouteTurns.{IsAnsweredIn, IsGiven, IsMade, Routes, resume_forms, turn_forms}
 
 -- what a coordinator sends is of transactions that it asks for, or drives, in this view; of those that it has, who is
 -- aborted is given up, and who is decided isn't

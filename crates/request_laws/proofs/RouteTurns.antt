@@ -1,6 +1,6 @@
 -- What a transaction does at a signal, or for what an installation left, is routed in the view of its coordinator, and it
 -- has its routes behind it, if what it sends is its own of this view.
-use Rattle.std.proofs.Common.{◌≡◌, ◌≢◌, ◌<◌, ◌⊎◌, ◌==◌, ◌+◌, ℕ, Bool, true, false, List, [], ◌∷◌, ◌++◌, drop, inl, inr, length, map, nat_lt, refl, sym, ap, ◌∙◌, subst, arith, take}
+use Rattle.std.proofs.Common.{◌≡◌, ◌<◌, ◌⊎◌, ◌==◌, ◌+◌, ℕ, Bool, true, false, List, [], ◌∷◌, drop, inl, inr, length, map, nat_lt, refl, sym, ap, ◌∙◌, subst, arith, take}
 use Rattle.std.proofs.lemmas.Bool.{eqb-true, true≢false}
 use Rattle.std.specs.List.{flat_map}
 use Rattle.std.specs.Prelude.{◌&&◌, Option, None, Some}
@@ -31,9 +31,8 @@ use Rattle.tc_block.specs.Part.{part_effects, rest_if}
 use Rattle.tc_block.specs.Phases.{is_aborting, is_decided}
 use Rattle.tc_block.specs.Resume.{anew_if, rechained, rechained_if, redriven}
 use Rattle.tc_block.specs.Sends.{abort_of, complete_if, entering, front_sends, key_sends, phase_sends, wait_of}
-use Rattle.tc_block.specs.Touched.{fits, place_of, touched_by, unwritten, write, written, written_by}
+use Rattle.tc_block.specs.Touched.{fits, place_of, touched_by, unwritten, written, written_by}
 use Rattle.tc_block.specs.Turn.{Turn, asking, at_phase}
-use Rattle.tc_block.specs.declared.phase.Asked.{Asked}
 use Rattle.tc_block.specs.declared.phase.Phase.{Phase}
 use Rattle.tc_block.specs.declared.phase.Phase.TheVariants.{Open, Verifying, Committing, Completing, Aborting}
 use Rattle.tc_block.specs.declared.touched.Touched.{Touched}
