@@ -7,3 +7,4 @@ pub mod RouteTurns
 pub mod RouteDoomed
 pub mod RouteTc
 pub mod RouteAnswered
+pub mod RouteViable

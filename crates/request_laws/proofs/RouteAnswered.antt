@@ -1,12 +1,11 @@
 -- A transaction has an operation unanswered only while it takes operations, or is aborted.
-use Rattle.std.proofs.Common.{◌≡◌, ◌==◌, ℕ, Bool, true, false, List, [], ◌∷◌, ◌++◌, length, refl, sym, ap, ◌∙◌, subst}
+use Rattle.std.proofs.Common.{◌≡◌, ℕ, Bool, true, false, [], ◌∷◌, ◌++◌, refl, sym, ap, ◌∙◌, subst}
 use Rattle.std.proofs.lemmas.Bool.{true≢false}
 use Rattle.std.specs.Prelude.{if◌then◌else◌, ◌&&◌, None}
 use Rattle.indexmap.specs.IndexMap.{insert_entry}
 use Rattle.run_theory.specs.Lists.{Each}
 use Rattle.run_theory.proofs.Pasts.{each_after, each_append, each_before}
 use Rattle.sig_core.specs.declared.member.TxId.{TxId}
-use Rattle.sig_core.specs.declared.op.Op.{Op}
 use Rattle.sig_core.specs.declared.outcome.AbortCause.{AbortCause}
 use Rattle.sig_core.specs.declared.signal.Body.{Body}
 use Rattle.sig_core.specs.declared.signal.Signal.{Signal}
@@ -16,7 +15,7 @@ use Rattle.sig_core.specs.Same.{same_tx}
 use Rattle.sig_core.specs.Step.{Step}
 use Rattle.frag_map.specs.Layout.{Layout}
 use Rattle.tc_block.specs.Live.{turned, turned_if, without}
-use Rattle.tc_block.specs.Operate.{can_operate, fresh, is_ready}
+use Rattle.tc_block.specs.Operate.{fresh, is_ready}
 use Rattle.tc_block.specs.Resume.{anew_if}
 use Rattle.tc_block.specs.Sends.{entering}
 use Rattle.tc_block.specs.State.{TcState}
@@ -29,7 +28,7 @@ use Rattle.tc_block.proofs.LiveSplit.{Live, Split}
 use Rattle.tc_views.specs.Coordinator.{coordinator_row}
 use Rattle.tc_views.specs.State.{CoordinatorState}
 use Rattle.tc_views.specs.Views.{install_row}
-use Rattle.outcome_laws.proofs.TcWalk.{ResumeForms, coordinator_each, inner}
+use Rattle.outcome_laws.proofs.TcWalk.{ResumeForms, coordinator_each}
 use Rattle.request_laws.proofs.RouteTc.{AreAnswered}
 use Rattle.request_laws.proofs.RouteTurns.{IsAnsweredIn}
 

@@ -29,7 +29,7 @@ pub record NobodyLater (view : View) : Type 0 where
   pub starting : view.starting ≡ []
 
 -- the member is full in the view
-abbrev is_full : View → Member → Bool
+abbrev pub is_full : View → Member → Bool
 is_full view m = list_any (is_member m) view.full
 
 -- of the first view it is so
@@ -67,7 +67,7 @@ nobody_later_part before set part first = record {
 }
 
 -- who is full in a part is so in the whole
-any_in : (test : Member → Bool) (x : Member) (ys : List Member) → IsIn x ys → test x ≡ true → list_any test ys ≡ true
+pub any_in : (test : Member → Bool) (x : Member) (ys : List Member) → IsIn x ys → test x ≡ true → list_any test ys ≡ true
 any_in test x [] inside passes = absurd inside
 any_in test x (y ∷ ys) (inl same) passes = ap (λ b. b || list_any test ys) (ap test (sym same) ∙ passes)
 any_in test x (y ∷ ys) (inr inside) passes = by (test y) (any_in test x ys inside passes)
@@ -105,10 +105,10 @@ none_later shape group (m ∷ full) all =
     is_false m at = rw at (and_false (is_of_group shape group m))
 
 module _ (layout : Layout) (key : List ℕ) where
-  abbrev turns : View → List Member
+  abbrev pub turns : View → List Member
   turns view = in_turn layout.shape view (frag_of layout.shape key) layout.shape.replicas
 
-  chain_is : (view : View) → NobodyLater view → chain_of (in_view layout view) key ≡ take 8 (turns view)
+  pub chain_is : (view : View) → NobodyLater view → chain_of (in_view layout view) key ≡ take 8 (turns view)
   unfolding chain_of replicas_of
   chain_is view first =
       let group = group_of_fragment layout.shape (frag_of layout.shape key) in
@@ -163,8 +163,7 @@ all_full : (view : View) (chain : List Member) → view.starting ≡ [] → list
     → Each (λ (m : Member). is_full view m ≡ true) chain
 all_full view [] none inside = tt
 all_full view (m ∷ chain) none inside =
-    let parts = both (is_outside view m) (list_any (is_outside view) chain) inside in
-    (
+    let parts = both (is_outside view m) (list_any (is_outside view) chain) inside in (
       is_in (is_full view m)
           (subst (λ (ms : List Member). not (is_full view m || list_any (is_member m) ms) ≡ false) none parts.0),
       all_full view chain none parts.1,
@@ -185,7 +184,7 @@ module _ (layout : Layout) (set : View) (first : NobodyLater layout.view) (part 
   within : (m : Member) → is_full set m ≡ true → is_full layout.view m ≡ true
   within m there = any_part (is_member m) set.full layout.view.full part.full there
 
-  turns_left : (key : List ℕ) → turns layout key set ≡ filter (is_full set) (turns layout key layout.view)
+  pub turns_left : (key : List ℕ) → turns layout key set ≡ filter (is_full set) (turns layout key layout.view)
   turns_left key = left layout.shape layout.view set within (frag_of layout.shape key) layout.shape.replicas
 
   -- a chain none of which is outside the set is the chain in it

@@ -91,16 +91,15 @@ module _ (layout : Layout) (A D G : TxId → Type 0) where
       → ((tx : TxId) (key : List ℕ) (why : AbortCause) → IsIn (refusal tx key why) all → A tx)
       → ((sent : Outgoing) → IsIn sent sends → IsIn sent all) → Each IsAlmost sends → Each IsAddressed sends
   tightened all [] asked within loose = tt
-  tightened all (sent ∷ sends) asked within loose =
-      (
-        by sent.body refl loose.0,
-        tightened all sends asked (λ other inside. within other (inr inside)) loose.1,
-      )
+  tightened all (sent ∷ sends) asked within loose = (
+    by sent.body refl loose.0,
+    tightened all sends asked (λ other inside. within other (inr inside)) loose.1,
+  )
     where
       by : (body : Body) → sent.body ≡ body → IsLoose sent body → IsAddressed sent
       by (Chain (LqhKeyRef tx key why)) is place =
           let whole : sent ≡ refusal tx key why =
-              ap (λ (to : Place). to_place to sent.body) place ∙ ap (λ (b : Body). to_place (coordinator_of tx) b) is in
+          ap (λ (to : Place). to_place to sent.body) place ∙ ap (λ (b : Body). to_place (coordinator_of tx) b) is in
           subst IsAddressed (sym whole)
           (refused tx key why (asked tx key why (subst (λ (o : Outgoing). IsIn o all) whole (within sent (inl refl)))))
       by _ is own = own

@@ -142,7 +142,7 @@ module _ (A D G : TxId → Type 0) (s : CoordinatorState) (some : ChainsAreSome 
           }
       by false on makes =
           let given = (each_after Given split.front ((tx, turn.step.state) ∷ split.back)
-              (subst (Each Given) (split.set turn.step.state) makes.given)).0 in
+          (subst (Each Given) (split.set turn.step.state) makes.given)).0 in
           let own = goes (record { sends = makes.sends_own; given = λ on. given }) in
           record {
             has = subst (Each HasEntry) (sym (split.set turn.step.state))
@@ -214,11 +214,11 @@ module _ (A D G : TxId → Type 0) (s : CoordinatorState) (x : Signal) where
             has =
                 each_from
                 (λ (e : TxId × Transaction).
-                    HasRoutesIn s.tc.layout A D G (coordinator_row s x).state e.0 e.1 e.1.phase)
+                HasRoutesIn s.tc.layout A D G (coordinator_row s x).state e.0 e.1 e.1.phase)
                 (coordinator_row s x).state.tc.live
                 (λ e inside.
-                    undoomed s.tc.layout A D G s (coordinator_row s x).state e.0 e.1 (doomed_stay s x e inside) e.1.phase
-                    (each_in (HasEntry A D G s some) e (coordinator_row s x).state.tc.live step.has inside));
+                undoomed s.tc.layout A D G s (coordinator_row s x).state e.0 e.1 (doomed_stay s x e inside) e.1.phase
+                (each_in (HasEntry A D G s some) e (coordinator_row s x).state.tc.live step.has inside));
             sends = step.sends;
           }
 

@@ -133,11 +133,10 @@ module _ (layout : Layout) (A D G : TxId → Type 0) (some : ChainsAreSome layou
     keys_sent (Committing epoch awaited) touched needs =
         each_flat_of (IsTouchedRouted layout A D G) IsSent (key_sends layout tx (Committing epoch awaited)) touched
         (λ t is.
-            let along = along_of t t.written is in
-            (
-              (record { along = along; inside = last_inside t.chain (some_of t along); place = refl }, needs.0),
-              tt,
-            ))
+        let along = along_of t t.written is in (
+          (record { along = along; inside = last_inside t.chain (some_of t along); place = refl }, needs.0),
+          tt,
+        ))
         needs.1
     keys_sent (Completing epoch awaited) touched needs =
         each_flat_of (IsTouchedRouted layout A D G) IsSent (key_sends layout tx (Completing epoch awaited)) touched
