@@ -53,7 +53,8 @@ entry_live (one ∷ live) e inside =
         → is_some (place_by b (position (same_tx e.0) (keys_of live))) ≡ true
     by true own inside more = refl
     by false other (inl same) more =
-        absurd (true≢false (sym (ap (λ (o : TxId × Transaction). same_tx e.0 o.0) (sym same) ∙ same_tx-self e.0) ∙ other))
+        absurd
+        (true≢false (sym (ap (λ (o : TxId × Transaction). same_tx e.0 o.0) (sym same) ∙ same_tx-self e.0) ∙ other))
     by false other (inr inside) more = some_by (position (same_tx e.0) (keys_of live)) (more inside)
 
 -- who passes stays among those that do

@@ -1,4 +1,5 @@
--- A coordinator whose transactions have their routes sends only what is routed in its view, and they go on to have them.
+-- A coordinator whose transactions have their routes sends only what is routed in its view, and they go on to have
+-- them.
 use Rattle.std.proofs.Common.{◌≡◌, ℕ, Bool, true, false, List, [], ◌∷◌, ◌++◌, length, nat_lt, refl, sym, ap, ◌∙◌, subst}
 use Rattle.std.proofs.lemmas.Bool.{true≢false}
 use Rattle.std.specs.Prelude.{if◌then◌else◌}
@@ -192,7 +193,8 @@ pub record CoordinatorRoutes (layout : Layout) (A D G : TxId → Type 0) (step :
   pub sends : Each (IsSentRouted layout A D G) step.effects.sends
 
 -- that it takes is routed, unless it is idle at it
-abbrev pub TakesRouted : Layout → (TxId → Type 0) → (TxId → Type 0) → (TxId → Type 0) → CoordinatorState → Signal → Type 0
+abbrev pub TakesRouted : Layout → (TxId → Type 0) → (TxId → Type 0) → (TxId → Type 0) → CoordinatorState → Signal
+    → Type 0
 TakesRouted layout A D G s x = is_idle s x.view.number x.body ≡ false → IsRouted layout A D G x.to x.body
 
 module _ (A D G : TxId → Type 0) (s : CoordinatorState) (x : Signal) where

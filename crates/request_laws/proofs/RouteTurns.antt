@@ -1,5 +1,5 @@
--- What a transaction does at a signal, or for what an installation left, is routed in the view of its coordinator, and it
--- has its routes behind it, if what it sends is its own of this view.
+-- What a transaction does at a signal, or for what an installation left, is routed in the view of its coordinator, and
+-- it has its routes behind it, if what it sends is its own of this view.
 use Rattle.std.proofs.Common.{◌≡◌, ◌<◌, ◌⊎◌, ◌==◌, ◌+◌, ℕ, Bool, true, false, List, [], ◌∷◌, drop, inl, inr, length, map, nat_lt, refl, sym, ap, ◌∙◌, subst, arith, take}
 use Rattle.std.proofs.lemmas.Bool.{eqb-true, true≢false}
 use Rattle.std.specs.List.{flat_map}
@@ -301,7 +301,8 @@ module _ (layout : Layout) (A D G : TxId → Type 0) (some : ChainsAreSome layou
       enters = λ left. over_now (sym (ap (λ ts. written_count ts == 0) is) ∙ left);
       ends = λ none makes. record { has = over_now; sends = (tt, (tt, tt)) };
     }
-    commits_nothing node t epoch (one ∷ touched) is none = absurd (omega (arith, eqb-true (length (one ∷ touched)) 0 none))
+    commits_nothing node t epoch (one ∷ touched) is none =
+        absurd (omega (arith, eqb-true (length (one ∷ touched)) 0 none))
 
     -- it goes on with what it sends in its phase
     on_sent : (node : ℕ) (t : Transaction) (at : ℕ) → Has t → D tx ⊎ G tx

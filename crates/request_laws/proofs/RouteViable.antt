@@ -109,8 +109,8 @@ same_member a b nodes one other =
     ap (λ c. c && (a.start == b.start)) (eq-eqb a.node b.node nodes) ∙ eq-eqb a.start b.start (one ∙ sym other)
 
 -- no group of a viable view is lost
-manned_at : (shape : Shape) (view : View) (n from beyond : ℕ) → beyond < n → not (is_some (lost_from shape view from n)) ≡ true
-    → is_manned shape view (from + beyond) ≡ true
+manned_at : (shape : Shape) (view : View) (n from beyond : ℕ) → beyond < n
+    → not (is_some (lost_from shape view from n)) ≡ true → is_manned shape view (from + beyond) ≡ true
 manned_at shape view zero from beyond below none = absurd (omega (arith, below))
 manned_at shape view (suc n) from beyond below none =
     by (is_manned shape view from) refl none beyond below (λ at low rest. manned_at shape view n (from + 1) at low rest)
