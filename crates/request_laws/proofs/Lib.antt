@@ -1,5 +1,15 @@
 pub mod ReplicaEvents
 pub mod ReplicaWaits
+pub mod RouteAnswered
+pub mod RouteChains
+pub mod RouteDoomed
+pub mod RouteRefused
+pub mod RouteRows
+pub mod RouteTakeover
+pub mod RouteTc
+pub mod RouteTurns
+pub mod RouteViable
+pub mod RouteWaiters
 pub mod RowsAlong
 pub mod StrayDoomed
 pub mod StrayFences
