@@ -8,3 +8,4 @@ pub mod Strays
 pub mod Tokens
 pub mod Routes
 pub mod Waiting
+pub mod Routed
