@@ -1,2 +1,12 @@
-//! What a coordinator has of its transactions, and along which replicas their operations go, whatever stops and is cut off.
+//! What coordinators and rows have of transactions, view by view, whatever stops and is cut off.
 #![tactic(auto)]
+
+mod replica_laws;
+mod stray_laws;
+
+pub use replica_laws::{
+    attended_one_by_one, keys_follow_events, rows_of_members_are_well, waiters_have_requests,
+};
+pub use stray_laws::{
+    coordinators_have_the_number, fences_spare_no_strays, installations_spare_no_strays,
+};
