@@ -10,3 +10,9 @@ pub mod RowsLists
 pub mod RowsKnowledge
 pub mod RowsSends
 pub mod RowsMarks
+pub mod TcWalk
+pub mod TcMarks
+pub mod TcTells
+pub mod TcLists
+pub mod TcClaims
+pub mod TcCounts

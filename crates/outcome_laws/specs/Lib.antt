@@ -3,3 +3,4 @@ pub mod Known
 pub mod Counts
 pub mod Decided
 pub mod Outcomes
+pub mod Own
