@@ -1,0 +1,3 @@
+pub mod PhaseSends
+pub mod PhaseWalk
+pub mod PhaseTurns
