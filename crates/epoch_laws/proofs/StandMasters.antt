@@ -48,12 +48,14 @@ use Rattle.epoch_laws.proofs.MasterMoves.{voice_of}
 use Rattle.epoch_laws.proofs.MasterRows.{master_goes}
 use Rattle.epoch_laws.proofs.MasterSpeaks.{installed}
 use Rattle.epoch_laws.proofs.MemberStays.{right_stays}
-use Rattle.epoch_laws.proofs.MomentEvents.{IsTakenNow, MasterDoes, after_moves, enters, enters_takes, fenced_is, installs, master_does, order_told, takes, unmoved}
+use Rattle.epoch_laws.proofs.MomentEvents.{MasterDoes, enters, enters_takes, fenced_is, installs, master_does, order_told, takes, unmoved}
 use Rattle.moment_laws.proofs.MomentHosts.{main_low, main_number, part_some, tc_apart, tc_number}
 use Rattle.moment_laws.proofs.MomentMembers.{current_made}
 use Rattle.moment_laws.proofs.MomentTurns.{Turn, current_rises, keeps, number_rises, raises, turn}
 use Rattle.moment_laws.proofs.MomentViews.{current_above, current_number, moment_less, number_in, stands_in_current}
 use Rattle.moment_laws.proofs.MomentWalk as walk
+use Rattle.moment_laws.proofs.MomentWalk.{after_moves}
+use Rattle.moment_laws.proofs.PartTaken.{IsTakenNow}
 use Rattle.epoch_laws.proofs.OrderKeeps.{commit_keeps, prepare_keeps}
 use Rattle.epoch_laws.proofs.StandMarks.{marks_by}
 use Rattle.epoch_laws.proofs.StandTakes.{Carries, carries, others_same, taken_true, taker_made}

@@ -62,10 +62,11 @@ use Rattle.epoch_laws.proofs.DihSends.{IsTaken, TellsOf, taken_prepared}
 use Rattle.epoch_laws.proofs.MasterHears.{same_member-is, same_member-self}
 use Rattle.epoch_laws.proofs.MasterSends.{MaySay, master_says}
 use Rattle.epoch_laws.proofs.MasterSpeaks.{says_true}
-use Rattle.epoch_laws.proofs.MomentEvents.{IsTakenNow, fenced_is, order_told}
+use Rattle.epoch_laws.proofs.MomentEvents.{fenced_is, order_told}
 use Rattle.moment_laws.proofs.MomentHosts.{ldm_member, main_number, tc_member, tc_started}
 use Rattle.moment_laws.proofs.MomentTurns.{host_low, own_behind, own_log, stands_behind, taker_stands}
-use Rattle.moment_laws.proofs.MomentWalk.{not_barred}
+use Rattle.moment_laws.proofs.PartSteps.{not_barred}
+use Rattle.moment_laws.proofs.PartTaken.{IsTakenNow}
 use Rattle.epoch_laws.proofs.SentMembership.{IsOrdering, Orders, OrdersBy}
 use Rattle.epoch_laws.proofs.SentNone.{IsNoOrder, is_order}
 use Rattle.epoch_laws.proofs.SentParts.{rows_send, shell_sends_none}
@@ -107,7 +108,7 @@ passed_fresh s x stood fence (inl (newer, is)) fenced = sym (ap (λ (v : View). 
 passed_fresh s x stood fence (inr (older, is, clear)) fenced =
     let same : stood.number ≡ s.standing.view.number = ap (λ (v : View). v.number) is in
     let low = ltb-false s.standing.view.number x.view.number older in
-    let above = not_barred x s clear fenced in
+    let above = not_barred s x clear fenced in
     omega (arith, same, low, fence, above)
 
 -- a member is the first of a list, or not

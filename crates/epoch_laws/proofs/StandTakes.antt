@@ -25,10 +25,11 @@ use Rattle.epoch_laws.specs.Stand.{AllStand}
 use Rattle.epoch_laws.specs.Told.{IsOrdered, IsTrueOf}
 use Rattle.epoch_laws.proofs.DihMoves.{IsAt, Moves, Stays}
 use Rattle.epoch_laws.proofs.DihRows.{Rises}
-use Rattle.epoch_laws.proofs.MomentEvents.{EpochsDo, IsTakenNow, epochs_do, fenced_is, leave, order_told, take}
+use Rattle.epoch_laws.proofs.MomentEvents.{EpochsDo, epochs_do, fenced_is, leave, order_told, take}
 use Rattle.moment_laws.proofs.MomentHosts.{host_made, part_some, tc_member}
 use Rattle.moment_laws.proofs.MomentMembers.{current_host}
 use Rattle.moment_laws.proofs.MomentTurns.{host_low, other_log, own_behind}
+use Rattle.moment_laws.proofs.PartTaken.{IsTakenNow}
 
 module _ (start : Start) (all : ℕ → List HostStep) (e : HostStep) (es : List HostStep)
     (moment : IsMoment start all (e ∷ es)) (stand : AllStand start (logs_of start es))

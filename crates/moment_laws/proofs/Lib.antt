@@ -6,5 +6,9 @@ pub mod MomentSignals
 pub mod MomentTurns
 pub mod MomentViews
 pub mod MomentWalk
+pub mod PartKinds
+pub mod PartSent
+pub mod PartSteps
+pub mod PartTaken
 pub mod SentWalk
 pub mod StepWalk

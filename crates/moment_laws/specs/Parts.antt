@@ -1,5 +1,5 @@
 -- What a step of a host comes to for its blocks.
-use Rattle.std.specs.Prelude.{◌≡◌, ◌≤◌, ◌<◌, ℕ, true, List, [], ◌++◌, ◌⊎◌, Option, None, Some}
+use Rattle.std.specs.Prelude.{◌≡◌, ◌≤◌, ◌<◌, true, List, [], ◌++◌, ◌⊎◌, None, Some}
 use Rattle.sig_core.specs.declared.outs.Outgoing.{Outgoing}
 use Rattle.sig_core.specs.declared.signal.Signal.{Signal}
 use Rattle.sig_core.specs.declared.view.Shape.{Shape}
@@ -9,16 +9,17 @@ use Rattle.node_views.specs.declared.parts.Parts.{Parts}
 use Rattle.node_views.specs.Fence.{is_fenced}
 use Rattle.node_views.specs.WellFormed.{is_well_formed}
 
--- The blocks of a host that stands in this view may take the signal: it is well formed and of no greater view, nor of one
--- below the fence of its block, if it is of a kind that fences stop.
+-- The blocks of a host that stands in this view may take the signal: it is well formed and of no greater view, nor of
+-- one below the fence of its block, if it is of a kind that fences stop.
 pub record IsPassed (shape : Shape) (parts : Parts) (view : View) (x : Signal) : Type 0 where
   pub sound : is_well_formed shape x ≡ true
   pub low : x.view.number ≤ view.number
   pub fresh : is_fenced x ≡ true → fence_at parts x.to.block view.number ≤ x.view.number
 
--- The view of the signal is installed in the blocks, if it is greater than the one in which the host stands; or nothing is.
--- This is the view then, and this is sent.
-pub data Enters (parts : Parts) (view : View) (x : Signal) (now : Parts) (seen : View) (sends : List Outgoing) : Type 0 where
+-- The view of the signal is installed in the blocks, if it is greater than the one in which the host stands; or nothing
+-- is. This is the view then, and this is sent.
+pub data Enters (parts : Parts) (view : View) (x : Signal) (now : Parts) (seen : View)
+    (sends : List Outgoing) : Type 0 where
   stays : now ≡ parts → seen ≡ view → sends ≡ [] → Enters parts view x now seen sends
   enters : view.number < x.view.number → now ≡ (parts_entered parts x.view).state → seen ≡ x.view
       → sends ≡ (parts_entered parts x.view).effects.sends → Enters parts view x now seen sends
