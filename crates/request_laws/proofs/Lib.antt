@@ -4,3 +4,4 @@ pub mod PhaseTurns
 pub mod PhaseFates
 pub mod PhaseWords
 pub mod PhaseHosts
+pub mod PhaseKeyed
