@@ -5,3 +5,5 @@ pub mod PhaseFates
 pub mod PhaseWords
 pub mod PhaseHosts
 pub mod PhaseKeyed
+pub mod PhaseMoves
+pub mod PhaseHolds
