@@ -7,3 +7,4 @@ pub mod PhaseHosts
 pub mod PhaseKeyed
 pub mod PhaseMoves
 pub mod PhaseHolds
+pub mod PhaseEvents

@@ -64,7 +64,7 @@ pub data Comes (member : Member) (s : CoordinatorState) (x : Signal) (sound : Ty
       → Comes member s x sound tx now sends
 
 -- signals without a word
-word_still : (sends : List Outgoing) → AreWordless sends → IsStill sends
+pub word_still : (sends : List Outgoing) → AreWordless sends → IsStill sends
 word_still sends all = record {
   commits = each_map IsWordless (IsSpared is_commit_told) sends (λ o is. commits o.body is) all;
   aborts = each_map IsWordless (IsSpared is_abort_told) sends (λ o is. aborts o.body is) all;
