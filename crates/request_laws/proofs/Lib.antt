@@ -8,3 +8,6 @@ pub mod PhaseKeyed
 pub mod PhaseMoves
 pub mod PhaseHolds
 pub mod PhaseEvents
+pub mod PhaseAlong
+pub mod PhaseGone
+pub mod PhaseWays
