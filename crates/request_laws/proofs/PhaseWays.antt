@@ -1,20 +1,23 @@
 -- Each transaction of a coordinator goes one way, along every log of its host: it is given up, or committed, and none is
 -- forgotten before.
-use Rattle.std.proofs.Common.{◌≡◌, ◌⊎◌, ◌∙◌, ◌+◌, ◌≤◌, ◌<◌, ◌++◌, ℕ, Bool, true, false, List, [], ◌∷◌, refl, sym, ap, subst, inl, inr, arith}
+use Rattle.std.proofs.Common.{◌≡◌, ◌⊎◌, ◌∙◌, ◌+◌, ◌≤◌, ◌<◌, ◌++◌, ◌||◌, ℕ, Bool, true, false, List, [], ◌∷◌, refl, sym, ap, subst, inl, inr, arith}
 use Rattle.std.proofs.lemmas.Bool.{leb-true, leb-false, true≢false}
 use Rattle.std.specs.Prelude.{if◌then◌else◌, nat_le, Option, None, Some}
 use Rattle.run_theory.specs.Lists.{IsIn}
-use Rattle.run_theory.proofs.Pasts.{each_append}
+use Rattle.run_theory.proofs.Pasts.{each_append, each_map}
 use Rattle.sig_core.specs.declared.member.Member.{Member}
 use Rattle.sig_core.specs.declared.member.TxId.{TxId}
 use Rattle.sig_core.specs.declared.outs.Outgoing.{Outgoing}
 use Rattle.sig_core.specs.declared.signal.Body.{Body}
+use Rattle.sig_core.specs.declared.signal.Body.TheVariants.{Client}
+use Rattle.sig_core.specs.declared.signal.client.ClientSignal.TheVariants.{TcCommitConf, TcRollbackRep}
 use Rattle.host_laws.proofs.OfLive.{each_found}
 use Rattle.tc_block.specs.declared.phase.Phase.{Phase}
 use Rattle.tc_block.specs.declared.phase.Phase.TheVariants.{Aborting, Committing, Completing, Open, Verifying}
 use Rattle.tc_block.specs.declared.transaction.Transaction.{Transaction}
 use Rattle.tc_block.specs.Operate.{fresh}
 use Rattle.tc_block.specs.Phases.{is_aborting, is_decided}
+use Rattle.tc_block.specs.Tc.{next_tx}
 use Rattle.tc_block.specs.Turn.{Turn}
 use Rattle.tc_views.specs.State.{CoordinatorState}
 use Rattle.node_views.specs.WellFormed.{is_well_formed}
@@ -110,3 +113,148 @@ aborting_not_decided Verifying is = refl
 aborting_not_decided (Committing epoch awaited) is = absurd cc
 aborting_not_decided (Completing epoch awaited) is = absurd cc
 aborting_not_decided (Aborting why verifying awaited) is = refl
+
+-- what is sent among others
+sent_before : (p : Body → Bool) (xs more : List Outgoing) → is_sent p xs ≡ true → is_sent p (xs ++ more) ≡ true
+sent_before p [] more is = absurd (true≢false (sym is))
+sent_before p (o ∷ xs) more is = by (p o.body) is (sent_before p xs more)
+  where
+    by : (b : Bool) → (b || is_sent p xs) ≡ true → (is_sent p xs ≡ true → is_sent p (xs ++ more) ≡ true)
+        → (b || is_sent p (xs ++ more)) ≡ true
+    by true is rest = refl
+    by false is rest = rest is
+
+sent_behind : (p : Body → Bool) (front xs : List Outgoing) → is_sent p xs ≡ true → is_sent p (front ++ xs) ≡ true
+sent_behind p [] xs is = is
+sent_behind p (o ∷ front) xs is = by (p o.body) (sent_behind p front xs is)
+  where
+    by : (b : Bool) → is_sent p (front ++ xs) ≡ true → (b || is_sent p (front ++ xs)) ≡ true
+    by true rest = refl
+    by false rest = rest
+
+commits_untold : (tx : TxId) (sends : List Outgoing) → AreSpared turns.is_commit_told sends
+    → AreSpared (tells_commit tx) sends
+commits_untold tx sends all =
+    each_map (IsSpared turns.is_commit_told) (IsSpared (tells_commit tx)) sends (λ o is. by o.body is) all
+  where
+    by : (body : Body) → turns.is_commit_told body ≡ false → tells_commit tx body ≡ false
+    by (Client (TcCommitConf other epoch)) is = absurd (true≢false is)
+    by body is = refl
+
+aborts_untold : (tx : TxId) (sends : List Outgoing) → AreSpared turns.is_abort_told sends
+    → AreSpared (tells_abort tx) sends
+aborts_untold tx sends all =
+    each_map (IsSpared turns.is_abort_told) (IsSpared (tells_abort tx)) sends (λ o is. by o.body is) all
+  where
+    by : (body : Body) → turns.is_abort_told body ≡ false → tells_abort tx body ≡ false
+    by (Client (TcRollbackRep other cause)) is = absurd (true≢false is)
+    by body is = refl
+
+itself_come : (n : ℕ) → nat_le n n ≡ true
+itself_come n = by (nat_le n n) refl
+  where
+    by : (b : Bool) → nat_le n n ≡ b → b ≡ true
+    by true is = refl
+    by false is = absurd (omega (arith, leb-false n n is))
+
+lower_come : (q n : ℕ) → q < n → nat_le n q ≡ false
+lower_come q n low = by (nat_le n q) refl
+  where
+    by : (b : Bool) → nat_le n q ≡ b → b ≡ false
+    by true is = absurd (omega (arith, low, leb-true n q is))
+    by false is = refl
+
+module _ (start : Start) (member : Member) (there : IsIn member (made start)) (tx : TxId) where
+  abbrev c : List HostStep → CoordinatorState
+  c log = coordinator_after start member log
+
+  abbrev f : List HostStep → Bool
+  f log = has_gone_forth start member tx log
+
+  abbrev b : List HostStep → Bool
+  b log = has_gone_back start member tx log
+
+  abbrev o : List HostStep → Option Transaction
+  o log = entry_of (c log) tx
+
+  abbrev Own : Type 0
+  Own = coordinator_member tx ≡ member
+
+  abbrev pub Way : List HostStep → Type 0
+  Way log = IsWay (coordinator_member tx ≡ member) (1 ≤ tx.seq) (has_gone_forth start member tx log)
+      (has_gone_back start member tx log) (entry_of (coordinator_after start member log) tx)
+      (is_unborn (coordinator_after start member log) tx)
+
+  module _ (log : List HostStep) (e : HostStep) (way : Way log) where
+    abbrev sends : List Outgoing
+    sends = (step_after start (tc_of start member) log e).effects.sends
+
+    counted_forth : is_at is_decided (o log) ≡ true → f log ≡ true
+    counted_forth = by (o log) refl
+      where
+        by : (x : Option Transaction) → o log ≡ x → is_at is_decided x ≡ true → f log ≡ true
+        by None at is = absurd (true≢false (sym is))
+        by (Some t) at is = at_decided t.phase (f log) (b log) (way.says t at) is
+
+    counted_back : is_at is_aborting (o log) ≡ true → b log ≡ true
+    counted_back = by (o log) refl
+      where
+        by : (x : Option Transaction) → o log ≡ x → is_at is_aborting x ≡ true → b log ≡ true
+        by None at is = absurd (true≢false (sym is))
+        by (Some t) at is = at_aborting t.phase (f log) (b log) (way.says t at) is
+
+    -- its entry stays
+    module _ (is : o (e ∷ log) ≡ o log) (commits : AreSpared (tells_commit tx) sends)
+        (aborts : AreSpared (tells_abort tx) sends) where
+      forth_same : f (e ∷ log) ≡ f log
+      forth_same = gone_same start member tx is_decided (tells_commit tx) log e is commits counted_forth
+
+      back_same : b (e ∷ log) ≡ b log
+      back_same = gone_same start member tx is_aborting (tells_abort tx) log e is aborts counted_back
+
+      same_way : (Own → is_unborn (c (e ∷ log)) tx ≡ is_unborn (c log) tx) → Way (e ∷ log)
+      same_way unborn = record {
+        says = λ t at.
+            subst (λ x. WaySays x (b (e ∷ log)) t.phase) (sym forth_same)
+            (subst (λ x. WaySays (f log) x t.phase) (sym back_same) (way.says t (sym is ∙ at)));
+        one_way = λ on. back_same ∙ way.one_way (sym forth_same ∙ on);
+        gone = λ own born some none. lift (way.gone own (sym (unborn own) ∙ born) some (sym is ∙ none));
+        nowhere = λ own yet.
+            let was = way.nowhere own (sym (unborn own) ∙ yet) in (forth_same ∙ was.0, back_same ∙ was.1);
+      }
+        where
+          lift : (f log ≡ true) ⊎ (b log ≡ true) → (f (e ∷ log) ≡ true) ⊎ (b (e ∷ log) ≡ true)
+          lift (inl is) = inl (forth_same ∙ is)
+          lift (inr is) = inr (back_same ∙ is)
+
+    -- it begins
+    begun_way : o (e ∷ log) ≡ Some fresh → next_tx (c log).tc ≡ tx → (c (e ∷ log)).tc.next_seq ≡ (c log).tc.next_seq + 1
+        → AreSpared (tells_commit tx) sends → AreSpared (tells_abort tx) sends → Way (e ∷ log)
+    begun_way some is next commits aborts = record {
+      says = λ t at.
+          let fresh_is : fresh ≡ t = cc (sym some ∙ at) in
+          subst (λ (u : Transaction). WaySays (f (e ∷ log)) (b (e ∷ log)) u.phase) fresh_is (forth, back);
+      one_way = λ on. back;
+      gone = λ own born low none. absurd (let nothing : Some fresh ≡ None = sym some ∙ none in cc);
+      nowhere = λ own yet.
+          absurd (omega (arith, leb-true (c (e ∷ log)).tc.next_seq tx.seq yet, next, number));
+    }
+      where
+        own : Own
+        own =
+            let fits = coordinator_of start member there log in
+            subst (λ v. coordinator_member v ≡ member) is (λ i. record { node = fits.node_is i; start = fits.start_is i })
+
+        number : (c log).tc.next_seq ≡ tx.seq
+        number = ap (λ (v : TxId). v.seq) is
+
+        was : (f log ≡ false) × (b log ≡ false)
+        was = way.nowhere own (ap (nat_le (c log).tc.next_seq) (sym number) ∙ itself_come (c log).tc.next_seq)
+
+        forth : f (e ∷ log) ≡ false
+        forth =
+            gone_nowhere start member tx is_decided (tells_commit tx) log e (ap (is_at is_decided) some) commits was.0
+
+        back : b (e ∷ log) ≡ false
+        back =
+            gone_nowhere start member tx is_aborting (tells_abort tx) log e (ap (is_at is_aborting) some) aborts was.1
