@@ -142,3 +142,7 @@ module _ (start : Start) (member : Member) (there : IsIn member (made start)) wh
       (λ (s : CoordinatorState). Comes member at.own.coordinator e.step.taken
       (is_well_formed start.shape e.step.taken ≡ true) tx s (step_after start h log e).effects.sends)
       (sym (coordinator_is (e ∷ log) after_it.run)) (after_it.comes tx))
+
+  -- and as its life begins
+  pub coordinator_first : coordinator_after start member [] ≡ other
+  coordinator_first = ap (λ (s : hosts.Host). coordinator_in other s.parts) (tc_started start member there)

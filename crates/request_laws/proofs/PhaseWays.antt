@@ -19,6 +19,8 @@ use Rattle.tc_block.specs.Operate.{fresh}
 use Rattle.tc_block.specs.Phases.{is_aborting, is_decided}
 use Rattle.tc_block.specs.Tc.{next_tx}
 use Rattle.tc_block.specs.Turn.{Turn}
+use Rattle.frag_map.specs.Layout.{first_layout}
+use Rattle.tc_views.specs.Coordinator.{fresh_coordinator}
 use Rattle.tc_views.specs.State.{CoordinatorState}
 use Rattle.node_views.specs.WellFormed.{is_well_formed}
 use Rattle.world_core.specs.Start.{Start, made}
@@ -28,7 +30,7 @@ use Rattle.moment_laws.specs.Places.{tc_of}
 use Rattle.outcome_laws.specs.Counts.{coordinator_member, is_unborn}
 use Rattle.request_laws.specs.Blocks.{coordinator_after}
 use Rattle.request_laws.specs.Ways.{entry_of, has_gone_back, has_gone_forth, is_at, is_sent, tells_abort, tells_commit}
-use Rattle.request_laws.proofs.PhaseAlong.{coordinator_comes, coordinator_of}
+use Rattle.request_laws.proofs.PhaseAlong.{coordinator_comes, coordinator_first, coordinator_of}
 use Rattle.request_laws.proofs.PhaseGone.{gone_here, gone_nowhere, gone_same, gone_stays, gone_told}
 use Rattle.request_laws.proofs.PhaseMoves.{Comes, begun, changed, same, still_untold}
 use Rattle.request_laws.proofs.PhaseSends.{AreSpared, IsSpared}
@@ -258,3 +260,199 @@ module _ (start : Start) (member : Member) (there : IsIn member (made start)) (t
         back : b (e ∷ log) ≡ false
         back =
             gone_nowhere start member tx is_aborting (tells_abort tx) log e (ap (is_at is_aborting) some) aborts was.1
+
+    -- it takes a turn
+    module _ (t : Transaction) (found : o log ≡ Some t) (turn : Turn) (left : o (e ∷ log) ≡ left_of turn)
+        (next : (c (e ∷ log)).tc.next_seq ≡ (c log).tc.next_seq) (front more : List Outgoing) (before : IsStill front)
+        (behind : IsStill more) (all : sends ≡ front ++ (turn.step.effects.sends ++ more)) where
+      was : WaySays (f log) (b log) t.phase
+      was = way.says t found
+
+      born : is_unborn (c (e ∷ log)) tx ≡ false
+      born =
+          ap (λ n. nat_le n tx.seq) next
+          ∙ lower_come tx.seq (c log).tc.next_seq
+          (each_found (λ (e : TxId × Transaction). e.0.seq < (c log).tc.next_seq) (c log).tc.live tx t
+          (coordinator_of start member there log).begun found)
+
+      spared : (p : Body → Bool) → AreSpared p front → AreSpared p turn.step.effects.sends → AreSpared p more
+          → AreSpared p sends
+      spared p one two three =
+          subst (AreSpared p) (sym all)
+          (each_append (IsSpared p) front (turn.step.effects.sends ++ more) one
+          (each_append (IsSpared p) turn.step.effects.sends more two three))
+
+      no_commit : AreSpared turns.is_commit_told turn.step.effects.sends → AreSpared (tells_commit tx) sends
+      no_commit own =
+          commits_untold tx sends (spared turns.is_commit_told before.commits own behind.commits)
+
+      no_abort : AreSpared turns.is_abort_told turn.step.effects.sends → AreSpared (tells_abort tx) sends
+      no_abort own = aborts_untold tx sends (spared turns.is_abort_told before.aborts own behind.aborts)
+
+      among : (p : Body → Bool) → is_sent p turn.step.effects.sends ≡ true → is_sent p sends ≡ true
+      among p is =
+          ap (is_sent p) all
+          ∙ sent_behind p front (turn.step.effects.sends ++ more) (sent_before p turn.step.effects.sends more is)
+
+      over_none : turn.over ≡ true → o (e ∷ log) ≡ None
+      over_none over = left ∙ ap (λ b. if b then None else Some turn.step.state) over
+
+      on_some : turn.over ≡ false → o (e ∷ log) ≡ Some turn.step.state
+      on_some over = left ∙ ap (λ b. if b then None else Some turn.step.state) over
+
+      -- as the phase says where it goes on, and one way where it is over
+      ways : (over : Bool) → turn.over ≡ over
+          → (turn.over ≡ false → WaySays (f (e ∷ log)) (b (e ∷ log)) turn.step.state.phase)
+          → (f (e ∷ log) ≡ true → b (e ∷ log) ≡ false)
+          → (turn.over ≡ true → (f (e ∷ log) ≡ true) ⊎ (b (e ∷ log) ≡ true)) → Way (e ∷ log)
+      ways over is on one_way ends = record {
+        says = says over is;
+        one_way = one_way;
+        gone = λ own late low none. gone over is none;
+        nowhere = λ own yet. absurd (true≢false (sym yet ∙ born));
+      }
+        where
+          says : (over : Bool) → turn.over ≡ over → (u : Transaction) → o (e ∷ log) ≡ Some u
+              → WaySays (f (e ∷ log)) (b (e ∷ log)) u.phase
+          says true is u at = absurd (let nothing : None ≡ Some u = sym (over_none is) ∙ at in cc)
+          says false is u at =
+              let same : turn.step.state ≡ u = cc (sym (on_some is) ∙ at) in
+              subst (λ (v : Transaction). WaySays (f (e ∷ log)) (b (e ∷ log)) v.phase) same (on is)
+
+          gone : (over : Bool) → turn.over ≡ over → o (e ∷ log) ≡ None
+              → (f (e ∷ log) ≡ true) ⊎ (b (e ∷ log) ≡ true)
+          gone true is none = ends is
+          gone false is none = absurd (let nothing : Some turn.step.state ≡ None = sym (on_some is) ∙ none in cc)
+
+      -- it stays undecided, in this phase
+      open_way : (phase : Phase) → turn.over ≡ false → turn.step.state.phase ≡ phase → is_decided phase ≡ false
+          → is_aborting phase ≡ false → f log ≡ false → b log ≡ false → AreSpared turns.is_commit_told turn.step.effects.sends
+          → AreSpared turns.is_abort_told turn.step.effects.sends
+          → ((f (e ∷ log) ≡ false) → (b (e ∷ log) ≡ false) → WaySays (f (e ∷ log)) (b (e ∷ log)) phase)
+          → Way (e ∷ log)
+      open_way phase on at undecided unaborted forth_was back_was commits aborts so =
+          ways false on (λ over. subst (WaySays (f (e ∷ log)) (b (e ∷ log))) (sym at) (so forth back)) (λ one. back)
+          (λ over. absurd (true≢false (sym over ∙ on)))
+        where
+          forth : f (e ∷ log) ≡ false
+          forth =
+              gone_nowhere start member tx is_decided (tells_commit tx) log e
+              (ap (is_at is_decided) (on_some on) ∙ (ap is_decided at ∙ undecided)) (no_commit commits) forth_was
+
+          back : b (e ∷ log) ≡ false
+          back =
+              gone_nowhere start member tx is_aborting (tells_abort tx) log e
+              (ap (is_at is_aborting) (on_some on) ∙ (ap is_aborting at ∙ unaborted)) (no_abort aborts) back_was
+
+      -- it goes forth
+      forth_way : (epoch : ℕ) → turns.Forth tx t epoch turn → (is_decided t.phase ≡ true → f log ≡ true)
+          → b log ≡ false → Way (e ∷ log)
+      forth_way epoch goes forth_was back_was = by turn.over refl
+        where
+          by : (over : Bool) → turn.over ≡ over → Way (e ∷ log)
+          by false on =
+              let is = goes.on on in
+              let forth =
+              gone_here start member tx is_decided (tells_commit tx) log e
+              (ap (is_at is_decided) (on_some on) ∙ is_decided_as turn.step.state.phase epoch is) in
+              let back =
+              gone_nowhere start member tx is_aborting (tells_abort tx) log e
+              (ap (is_at is_aborting) (on_some on) ∙ decided_not_aborting turn.step.state.phase epoch is)
+              (no_abort goes.aborts) back_was in
+              ways false on (λ over. decided_way turn.step.state.phase epoch _ _ is forth back) (λ one. back)
+              (λ over. inl forth)
+          by true over =
+              let back =
+              gone_nowhere start member tx is_aborting (tells_abort tx) log e
+              (ap (is_at is_aborting) (over_none over)) (no_abort goes.aborts) back_was in
+              ways true over (λ on. absurd (true≢false (sym over ∙ on))) (λ one. back) (λ over. inl (forth (goes.ends over)))
+            where
+              forth : (is_decided t.phase ≡ true) ⊎ (is_sent (tells_commit tx) turn.step.effects.sends ≡ true)
+                  → f (e ∷ log) ≡ true
+              forth (inl is) = gone_stays start member tx is_decided (tells_commit tx) log e (forth_was is)
+              forth (inr is) =
+                  gone_told start member tx is_decided (tells_commit tx) log e (among (tells_commit tx) is)
+
+      -- it goes back
+      back_way : turns.Back tx t turn → f log ≡ false → (is_aborting t.phase ≡ true → b log ≡ true) → Way (e ∷ log)
+      back_way goes forth_was back_was = by turn.over refl
+        where
+          by : (over : Bool) → turn.over ≡ over → Way (e ∷ log)
+          by false on =
+              let is = goes.on on in
+              let back =
+              gone_here start member tx is_aborting (tells_abort tx) log e (ap (is_at is_aborting) (on_some on) ∙ is) in
+              let forth =
+              gone_nowhere start member tx is_decided (tells_commit tx) log e
+              (ap (is_at is_decided) (on_some on) ∙ aborting_not_decided turn.step.state.phase is)
+              (no_commit goes.commits) forth_was in
+              ways false on (λ over. aborting_way turn.step.state.phase _ _ is forth back)
+              (λ one. absurd (true≢false (sym one ∙ forth))) (λ over. inr back)
+          by true over =
+              let forth =
+              gone_nowhere start member tx is_decided (tells_commit tx) log e (ap (is_at is_decided) (over_none over))
+              (no_commit goes.commits) forth_was in
+              ways true over (λ on. absurd (true≢false (sym over ∙ on)))
+              (λ one. absurd (true≢false (sym one ∙ forth))) (λ over. inr (back (goes.ends over)))
+            where
+              back : (is_aborting t.phase ≡ true) ⊎ (is_sent (tells_abort tx) turn.step.effects.sends ≡ true)
+                  → b (e ∷ log) ≡ true
+              back (inl is) = gone_stays start member tx is_aborting (tells_abort tx) log e (back_was is)
+              back (inr is) =
+                  gone_told start member tx is_aborting (tells_abort tx) log e (among (tells_abort tx) is)
+
+      at_phase : (phase : Phase) → t.phase ≡ phase → WaySays (f log) (b log) phase
+      at_phase phase at = subst (WaySays (f log) (b log)) at was
+
+      changed_way : (body : Body) → Changes (c log).tc.node tx t body turn → Way (e ∷ log)
+      changed_way body (turns.opens at on now answered still) =
+          open_way Open on now refl refl (at_phase Open at).0 (at_phase Open at).1 still.commits still.aborts (λ forth back. (forth, back))
+      changed_way body (turns.asks at none about is) =
+          open_way Verifying (ap (λ (u : Turn). u.over) is) (ap (λ (u : Turn). u.step.state.phase) is) refl refl
+          (at_phase Open at).0 (at_phase Open at).1
+          (subst (λ (u : Turn). AreSpared turns.is_commit_told u.step.effects.sends) (sym is) (refl, tt))
+          (subst (λ (u : Turn). AreSpared turns.is_abort_told u.step.effects.sends) (sym is) (refl, tt)) (λ forth back. (forth, back))
+      changed_way body (turns.waits at on now still) =
+          open_way Verifying on (ap (λ (u : Transaction). u.phase) now ∙ at) refl refl (at_phase Verifying at).0
+          (at_phase Verifying at).1 still.commits still.aborts (λ forth back. (forth, back))
+      changed_way body (turns.decides epoch at about goes) =
+          forth_way epoch goes (λ is. at_decided t.phase (f log) (b log) was is) (at_phase Verifying at).1
+      changed_way body (turns.forth epoch is goes) =
+          forth_way epoch goes (λ is. at_decided t.phase (f log) (b log) was is)
+          (back_of t.phase epoch (f log) (b log) is was)
+      changed_way body (turns.back undecided goes) =
+          back_way goes (forth_of t.phase (f log) (b log) undecided was)
+          (λ is. at_aborting t.phase (f log) (b log) was is)
+
+    next_way : Way (e ∷ log)
+    next_way = by (coordinator_comes start member there log e tx)
+      where
+        by : Comes member (c log) e.step.taken (is_well_formed start.shape e.step.taken ≡ true) tx (c (e ∷ log)) sends
+            → Way (e ∷ log)
+        by (same is unborn untold) = same_way is untold.commits untold.aborts unborn
+        by (begun none some is next untold) = begun_way some is next untold.commits untold.aborts
+        by (changed well t found turn changes left next front more before behind all) =
+            changed_way t found turn left next front more before behind all e.step.taken.body changes
+
+  -- as its life begins
+  first_way : Way []
+  first_way = record {
+    says = λ t at. absurd (let nothing : None ≡ Some t = sym none ∙ at in cc);
+    one_way = λ on. refl;
+    gone = λ own born low is. absurd (omega (arith, low, leb-false (c []).tc.next_seq tx.seq born, one));
+    nowhere = λ own yet. (refl, refl);
+  }
+    where
+      fresh_is : c [] ≡ fresh_coordinator member.node member.start (first_layout start.shape)
+      fresh_is = coordinator_first start member there
+
+      none : o [] ≡ None
+      none = ap (λ (s : CoordinatorState). entry_of s tx) fresh_is
+
+      one : (c []).tc.next_seq ≡ 1
+      one = ap (λ (s : CoordinatorState). s.tc.next_seq) fresh_is
+
+  -- it goes one way along each log
+  pub goes_one_way : (log : List HostStep) → Way log
+  goes_one_way [] = first_way
+  goes_one_way (e ∷ log) = next_way log e (goes_one_way log)
