@@ -1,3 +1,16 @@
+pub mod PhaseAlong
+pub mod PhaseEvents
+pub mod PhaseFates
+pub mod PhaseGone
+pub mod PhaseHolds
+pub mod PhaseHosts
+pub mod PhaseKeyed
+pub mod PhaseMoves
+pub mod PhaseSends
+pub mod PhaseTurns
+pub mod PhaseWalk
+pub mod PhaseWays
+pub mod PhaseWords
 pub mod ReplicaEvents
 pub mod ReplicaWaits
 pub mod RouteAnswered
