@@ -3,7 +3,6 @@
 use Rattle.std.proofs.Common.{◌≡◌, ◌≤◌, ◌∙◌, ℕ, zero, suc, true, List, [], ◌∷◌, refl, sym, ap, subst, arith}
 use Rattle.run_theory.specs.Lists.{Each, IsIn}
 use Rattle.frag_map.specs.Layout.{first_layout}
-use Rattle.sig_core.specs.declared.mark.Mark.TheVariants.{Decided}
 use Rattle.sig_core.specs.declared.member.Member.{Member}
 use Rattle.sig_core.specs.declared.member.TxId.{TxId}
 use Rattle.sig_core.specs.declared.op.Answer.{Answer}
@@ -17,7 +16,6 @@ use Rattle.tc_views.specs.State.{CoordinatorState}
 use Rattle.dih_node.specs.Dih.{fresh_dih}
 use Rattle.takeover_block.specs.State.{resting}
 use Rattle.node_views.specs.declared.host.Host as hosts
-use Rattle.node_views.specs.declared.parts.Parts.{Parts}
 use Rattle.node_views.specs.declared.parts.Parts.TheVariants as part
 use Rattle.node_views.specs.declared.tc_part.TcPart.{TcPart}
 use Rattle.node_views.specs.WellFormed.{is_well_formed}
@@ -30,7 +28,7 @@ use Rattle.moment_laws.proofs.MomentHosts.{part_some, tc_started}
 use Rattle.outcome_laws.specs.Counts.{IsCoordinatorOf}
 use Rattle.outcome_laws.proofs.TcCounts.{coordinator_of_fresh}
 use Rattle.request_laws.specs.Blocks.{coordinator_after, coordinator_in}
-use Rattle.request_laws.proofs.PhaseEvents.{HasMoved, Moves, Said, moves_by}
+use Rattle.request_laws.proofs.PhaseEvents.{HasMoved, Said, moves_by}
 use Rattle.request_laws.proofs.PhaseHosts.{tc_goes}
 use Rattle.request_laws.proofs.PhaseKeyed.{IsKeyed}
 use Rattle.request_laws.proofs.PhaseMoves.{Comes}

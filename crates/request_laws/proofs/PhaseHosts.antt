@@ -1,15 +1,14 @@
 -- What a step of a host that runs a coordinating part comes to: a view is installed in the part, or nothing is; and behind
 -- that the part takes the signal, all of what it sends is sent, and its marks are the host's; or the part leaves it alone.
-use Rattle.std.proofs.Common.{◌≡◌, ◌⊎◌, ◌||◌, ◌≤◌, ◌∙◌, ℕ, zero, suc, Bool, true, false, nat_lt, List, [], ◌∷◌, ◌++◌, refl, sym, ap, subst, inl, inr, arith}
+use Rattle.std.proofs.Common.{◌≡◌, ◌⊎◌, ◌||◌, ◌∙◌, ℕ, zero, suc, Bool, true, false, nat_lt, List, [], ◌∷◌, refl, sym, ap, subst, inl, inr}
 use Rattle.std.specs.Prelude.{not, Option, None, Some}
 use Rattle.std.specs.List.{list_any}
 use Rattle.run_theory.specs.Lists.{Each}
-use Rattle.run_theory.proofs.Pasts.{each_append, each_map}
+use Rattle.run_theory.proofs.Pasts.{each_append}
 use Rattle.sig_core.specs.declared.mark.Mark.{Mark}
-use Rattle.sig_core.specs.declared.mark.Mark.TheVariants.{CutOff, Decided, Installed, Stopped}
+use Rattle.sig_core.specs.declared.mark.Mark.TheVariants.{Decided, Installed}
 use Rattle.sig_core.specs.declared.member.HostId.{HostId}
 use Rattle.sig_core.specs.declared.outcome.StopCause.{StopCause}
-use Rattle.sig_core.specs.declared.outs.Outgoing.{Outgoing}
 use Rattle.sig_core.specs.declared.place.BlockId.{BlockId}
 use Rattle.sig_core.specs.declared.place.BlockId.TheVariants as block
 use Rattle.sig_core.specs.declared.signal.Body.{Body}
@@ -32,7 +31,7 @@ use Rattle.node_views.specs.declared.parts.Parts.TheVariants as part
 use Rattle.node_views.specs.declared.standing.Standing.{Standing}
 use Rattle.node_views.specs.declared.tc_part.TcPart.{TcPart}
 use Rattle.node_views.specs.Parts.{tc_entered, tc_row}
-use Rattle.node_views.specs.Row.{behind, blocks_row, closed_if, counted_row, cut_if, entered, entering_if, headed_if, headed_row, host_row, host_table, hushed, in_view, is_barred, is_cut, is_excluded, is_stop, kill_row, killed_after, marks_only, passed_if, passed_row, standing_at, taken_if, unless_stopped}
+use Rattle.node_views.specs.Row.{behind, blocks_row, closed_if, counted_row, cut_if, entered, entering_if, headed_if, headed_row, host_row, host_table, hushed, in_view, is_barred, is_cut, is_excluded, is_stop, kill_row, killed_after, marks_only, passed_if, passed_row, taken_if, unless_stopped}
 use Rattle.node_views.specs.WellFormed.{is_first, is_well_formed}
 use Rattle.world_core.specs.Start.{Start}
 use Rattle.world_core.specs.Steps.{HostStep}

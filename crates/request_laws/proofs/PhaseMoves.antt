@@ -1,19 +1,11 @@
 -- What an event of the host of a member's coordinator comes to: for each transaction of the coordinator, and for the
 -- requests that the epochs beside it hold.
-use Rattle.std.proofs.Common.{◌≡◌, ◌⊎◌, ◌∙◌, ◌+◌, ◌≤◌, ◌++◌, ℕ, zero, suc, Bool, true, false, List, [], ◌∷◌, refl, sym, ap, subst, inl, inr, arith}
+use Rattle.std.proofs.Common.{◌≡◌, ◌∙◌, ◌+◌, ◌++◌, false, List, [], ◌∷◌, refl, sym, ap, subst, inl, inr}
 use Rattle.std.proofs.lemmas.Bool.{true≢false}
-use Rattle.std.proofs.lemmas.List.{append-nil}
 use Rattle.std.specs.Prelude.{nat_le, None, Some}
-use Rattle.run_theory.specs.Lists.{Each, IsIn}
 use Rattle.run_theory.proofs.Pasts.{each_append, each_map}
-use Rattle.run_theory.proofs.EachSent.{each_get, each_removed}
-use Rattle.frag_map.specs.Layout.{first_layout}
-use Rattle.sig_core.specs.declared.mark.Mark.{Mark}
-use Rattle.sig_core.specs.declared.mark.Mark.TheVariants.{Decided}
 use Rattle.sig_core.specs.declared.member.Member.{Member}
 use Rattle.sig_core.specs.declared.member.TxId.{TxId}
-use Rattle.sig_core.specs.declared.op.Answer.{Answer}
-use Rattle.sig_core.specs.declared.op.Op.{Op}
 use Rattle.sig_core.specs.declared.outs.Outgoing.{Outgoing}
 use Rattle.sig_core.specs.declared.place.BlockId.{BlockId}
 use Rattle.sig_core.specs.declared.place.BlockId.TheVariants as block
@@ -27,26 +19,23 @@ use Rattle.tc_block.specs.declared.transaction.Transaction.{Transaction}
 use Rattle.tc_block.specs.Operate.{fresh}
 use Rattle.tc_block.specs.Tc.{next_tx}
 use Rattle.tc_block.specs.Turn.{Turn}
-use Rattle.tc_views.specs.Coordinator.{coordinator_row, fresh_coordinator}
+use Rattle.tc_views.specs.Coordinator.{coordinator_row}
 use Rattle.tc_views.specs.State.{CoordinatorState}
 use Rattle.tc_views.specs.Views.{install_row}
 use Rattle.dih_node.specs.Dih.{dih_row}
 use Rattle.dih_node.specs.State.{DihState, go_on_if}
 use Rattle.dih_node.specs.Verify.{given}
 use Rattle.takeover_block.specs.Takeover.{takeover_row}
-use Rattle.node_views.specs.declared.parts.Parts.{Parts}
-use Rattle.node_views.specs.declared.parts.Parts.TheVariants as part
 use Rattle.node_views.specs.declared.tc_part.TcPart.{TcPart}
-use Rattle.node_views.specs.Parts.{tc_entered, tc_row}
-use Rattle.node_views.specs.WellFormed.{is_well_formed}
+use Rattle.node_views.specs.Parts.{tc_row}
 use Rattle.outcome_laws.specs.Counts.{IsCoordinatorOf, is_asking}
 use Rattle.outcome_laws.proofs.DihSilent.{AreSilent, IsSilent, is_telling}
 use Rattle.outcome_laws.proofs.DihWalk.{dih_each, goes_on_silent}
-use Rattle.outcome_laws.proofs.TcCounts.{coordinator_of_installed, coordinator_of_stays}
+use Rattle.outcome_laws.proofs.TcCounts.{coordinator_of_installed}
 use Rattle.request_laws.specs.Ways.{entry_of, tells_abort, tells_commit}
 use Rattle.request_laws.proofs.PhaseFates.{Fate, IsUntold, changes, coordinator_fates, keeps, starts}
 use Rattle.request_laws.proofs.PhaseHosts.{IsEntered}
-use Rattle.request_laws.proofs.PhaseSends.{AreSpared, IsSpared}
+use Rattle.request_laws.proofs.PhaseSends.{IsSpared}
 use Rattle.request_laws.proofs.PhaseTurns.{Changes, IsStill, is_abort_told, is_commit_told, is_epoch_asked}
 use Rattle.request_laws.proofs.PhaseWalk.{StaysUnborn, left_of}
 use Rattle.request_laws.proofs.PhaseWords.{AreWordless, IsWordless, is_word, takeover_wordless}

@@ -1,12 +1,11 @@
 -- What a step of a coordinator does to one of its transactions: nothing, and nothing is sent about it; or it begins, or
 -- takes its turn, at a signal about it or since an installation left it to do.
-use Rattle.std.proofs.Common.{◌≡◌, ◌∙◌, ◌==◌, ◌+◌, ◌<◌, ℕ, Bool, true, false, List, [], ◌∷◌, ◌++◌, arith, length, nat_lt, refl, sym, ap, subst}
+use Rattle.std.proofs.Common.{◌≡◌, ◌∙◌, ◌==◌, ◌+◌, ℕ, Bool, true, false, List, [], ◌∷◌, ◌++◌, arith, nat_lt, refl, sym, ap, subst}
 use Rattle.std.proofs.lemmas.Bool.{leb-false, leb-true, true≢false}
 use Rattle.std.proofs.lemmas.List.{append-nil}
 use Rattle.std.specs.Prelude.{if◌then◌else◌, nat_le, remove, slice_get, Option, None, Some}
 use Rattle.std.specs.Map.{values_of}
 use Rattle.indexmap.specs.IndexMap.{set_value_at}
-use Rattle.run_theory.specs.Lists.{Each}
 use Rattle.run_theory.proofs.Pasts.{each_append}
 use Rattle.sig_core.specs.declared.member.Member.{Member}
 use Rattle.sig_core.specs.declared.member.TxId.{TxId}
@@ -40,7 +39,7 @@ use Rattle.tc_block.specs.State.{TcState}
 use Rattle.tc_block.specs.Tc.{begin_if, begun, is_full, next_tx, pass_if, tc_table}
 use Rattle.tc_block.specs.Turn.{Turn}
 use Rattle.tc_block.proofs.EachTurn.{rows_of}
-use Rattle.tc_block.proofs.LiveSplit.{AreOthers, KeysOnce, Live, Split, no_place, no_value, once_back, once_front, split_at}
+use Rattle.tc_block.proofs.LiveSplit.{AreOthers, KeysOnce, Live, Split, once_back, once_front, split_at}
 use Rattle.tc_block.proofs.TurnRows.{PlacedStep, goes, idles, is_turn, lacks, lost, opens, placed_step, tells, turn_for, turn_row, turn_with, tx_in}
 use Rattle.tc_views.specs.Coordinator.{calm_row, calm_unless, coordinator_row, coordinator_table, is_to_fail}
 use Rattle.tc_views.specs.State.{CoordinatorState, go_on_if, go_on_with, within}

@@ -28,11 +28,12 @@ use Rattle.world_core.specs.Steps.{HostStep}
 use Rattle.world_views.specs.Machine.{step_after}
 use Rattle.moment_laws.specs.Places.{tc_of}
 use Rattle.outcome_laws.specs.Counts.{coordinator_member, is_unborn}
+use Rattle.request_laws.specs.OneWay.{TransactionsGoOneWay}
 use Rattle.request_laws.specs.Blocks.{coordinator_after}
 use Rattle.request_laws.specs.Ways.{entry_of, has_gone_back, has_gone_forth, is_at, is_sent, tells_abort, tells_commit}
 use Rattle.request_laws.proofs.PhaseAlong.{coordinator_comes, coordinator_first, coordinator_of}
 use Rattle.request_laws.proofs.PhaseGone.{gone_here, gone_nowhere, gone_same, gone_stays, gone_told}
-use Rattle.request_laws.proofs.PhaseMoves.{Comes, begun, changed, same, still_untold}
+use Rattle.request_laws.proofs.PhaseMoves.{Comes, begun, changed, same}
 use Rattle.request_laws.proofs.PhaseSends.{AreSpared, IsSpared}
 use Rattle.request_laws.proofs.PhaseTurns.{Changes, IsDecidedAs, IsStill}
 use Rattle.request_laws.proofs.PhaseTurns as turns
@@ -456,3 +457,8 @@ module _ (start : Start) (member : Member) (there : IsIn member (made start)) (t
   pub goes_one_way : (log : List HostStep) → Way log
   goes_one_way [] = first_way
   goes_one_way (e ∷ log) = next_way log e (goes_one_way log)
+
+pub transactions_go_one_way : TransactionsGoOneWay
+transactions_go_one_way start member there tx log =
+    let way = goes_one_way start member there tx log in
+    record { one_way = way.one_way; forgotten = way.gone }

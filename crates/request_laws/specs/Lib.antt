@@ -9,3 +9,4 @@ pub mod Tokens
 pub mod Routes
 pub mod Waiting
 pub mod Routed
+pub mod OneWay
