@@ -59,6 +59,12 @@ mod HeardAnswers
 mod HeardAsking
 mod HeardRows
 mod HeardWaiting
+pub mod KindsApi
+pub mod KindsClient
+pub mod KindsCoordinator
+pub mod KindsSent
+pub mod KindsTakeover
+pub mod KindsTurns
 mod MadeLemmas
 mod Origins
 pub mod PromiseLemmas
@@ -89,20 +95,16 @@ pub mod StandingMembers
 mod StandingNumbers
 mod StandingSettled
 pub mod StepLemmas
-mod VotesApi
-mod VotesClient
-mod VotesCoordinator
 mod VotesEpochs
+mod VotesKinds
 mod VotesLists
 mod VotesMain
 mod VotesMaster
-mod VotesNone
+pub mod VotesNone
 mod VotesOthers
 mod VotesParts
 mod VotesRows
 mod VotesShell
-mod VotesTakeover
-mod VotesTurns
 mod VotesWalk
 mod Walk
 mod WalkLemmas
