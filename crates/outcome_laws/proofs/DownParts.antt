@@ -26,13 +26,13 @@ use Rattle.outcome_laws.specs.Down.{CoordinatorHasNoDown, PartsHaveNoDown, Tells
 use Rattle.outcome_laws.proofs.DownRows.{rows_down_none}
 use Rattle.outcome_laws.proofs.DownSends.{AreNoDown, IsNoDown, SendsNoDown, silent_none_all}
 use Rattle.outcome_laws.proofs.DownSilent.{client_down_none, epochs_down_none, epochs_install_down_none}
-use Rattle.outcome_laws.proofs.DownTakeover.{takeover_down_none}
 use Rattle.outcome_laws.proofs.DownTc.{coordinator_down_none, coordinator_installs_down_none}
 use Rattle.outcome_laws.proofs.KnowMaster.{master_tells_nothing}
 use Rattle.outcome_laws.proofs.KnowMembership.{membership_installs_nothing, membership_tells_nothing}
 use Rattle.outcome_laws.proofs.KnowNothing.{TellsNothing, untold_silent}
 use Rattle.outcome_laws.proofs.KnowParts.{arbiter_tells_nothing}
 use Rattle.outcome_laws.proofs.KnowWalk.{IsOfEffects, step_keeps}
+use Rattle.outcome_laws.proofs.OnceTakeover.{takeover_down_none}
 
 abbrev HasNoDown : Effects → Type 0
 HasNoDown effects = AreNoDown effects.sends

@@ -10,7 +10,6 @@ pub mod DownParts
 pub mod DownRows
 pub mod DownSends
 pub mod DownSilent
-pub mod DownTakeover
 pub mod DownTc
 pub mod KnowAll
 pub mod KnowGrows

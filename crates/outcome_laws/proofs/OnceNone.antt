@@ -1,23 +1,17 @@
 -- Signals that count: what only a coordinator tells a client, or asks the epochs of its node, and what only a client asks
--- a coordinator; that the cluster is down no replica says. And lists of sends, of which one event sends a part.
-use Rattle.std.proofs.Common.{◌≡◌, ◌+◌, ℕ, Bool, true, false, List, [], ◌∷◌, take, drop, length, nat_lt, ap, arith, refl}
+-- a coordinator; that the cluster is down no replica says.
+use Rattle.std.proofs.Common.{◌≡◌, Bool, true, false, List, [], ◌∷◌, ap, arith, refl}
 use Rattle.std.specs.List.{count_by}
 use Rattle.run_theory.specs.Lists.{Each}
-use Rattle.run_theory.proofs.EachSent.{each_drop, each_take}
-use Rattle.run_theory.proofs.Pasts.{each_append}
 use Rattle.sig_core.specs.declared.member.TxId.{TxId}
 use Rattle.sig_core.specs.declared.outcome.AbortCause.{AbortCause}
 use Rattle.sig_core.specs.declared.outcome.AbortCause.TheVariants.{Down}
 use Rattle.sig_core.specs.declared.outs.Outgoing.{Outgoing}
-use Rattle.sig_core.specs.declared.place.Place.{Place}
-use Rattle.sig_core.specs.declared.portion.TheConstants.{PORTION}
 use Rattle.sig_core.specs.declared.signal.Body.{Body}
 use Rattle.sig_core.specs.declared.signal.Body.TheVariants.{Chain, Client, Epoch}
 use Rattle.sig_core.specs.declared.signal.chain.ChainSignal.TheVariants.{LqhKeyRef}
 use Rattle.sig_core.specs.declared.signal.client.ClientSignal.TheVariants.{TcBeginConf, TcCommitReq, TcRollbackRep}
 use Rattle.sig_core.specs.declared.signal.epoch.EpochSignal.TheVariants.{DiVerifyReq}
-use Rattle.sig_core.specs.declared.signal.host.Work.{Work}
-use Rattle.sig_core.specs.Portion.{portion_effects, rest_if}
 use Rattle.sig_core.specs.Step.{Step}
 use Rattle.outcome_laws.specs.Counts.{is_asking, is_begin, is_wish, one_if}
 use Rattle.outcome_laws.proofs.TcLists.{count_more}
@@ -51,18 +45,6 @@ AreUncounted sends = Each IsUncounted sends
 -- a step sends none
 abbrev pub SendsUncounted : {S : Type 0} → Step S → Type 0
 SendsUncounted step = AreUncounted step.effects.sends
-
-pub rest_none : (by : Place) (work : Work) (at : ℕ) (b : Bool) → AreUncounted (rest_if by work at b)
-rest_none by work at true = (refl, tt)
-rest_none by work at false = tt
-
--- of a list without them no event sends one
-pub portion_none : (by : Place) (work : Work) (sends : List Outgoing) (at : ℕ) → AreUncounted sends
-    → AreUncounted (portion_effects by work sends at).sends
-portion_none by work sends at all =
-    each_append IsUncounted (take PORTION (drop at sends)) (rest_if by work at (nat_lt (at + PORTION) (length sends)))
-    (each_take IsUncounted PORTION (drop at sends) (each_drop IsUncounted at sends all))
-    (rest_none by work at (nat_lt (at + PORTION) (length sends)))
 
 -- where none passes a test there are 0 of them
 pub count_none : {A : Type 0} (p : A → Bool) (xs : List A) → Each (λ x. p x ≡ false) xs → count_by p xs ≡ 0

@@ -236,7 +236,8 @@ reports_kinds s = going_kinds (told_if s (dump_breaks s)) (by (dump_breaks s))
         (λ at t. ended_kinds s at t.name t.node (verdict s t)) (place_due s)
 
 -- signals of who may be gone
-vouched_kinds : (s : ClientState) (x : Signal) (body : Body) (b : Bool) → SendsOf is_of_client (vouched_table s x body b)
+vouched_kinds : (s : ClientState) (x : Signal) (body : Body) (b : Bool)
+    → SendsOf is_of_client (vouched_table s x body b)
 unfolding complete_row
 vouched_kinds s x (Client (TcBeginConf name tx)) false = tt
 vouched_kinds s x (Client (TcKeyFailConf tx epoch)) true = api_kinds s.api (Client (TcCommitConf tx epoch))

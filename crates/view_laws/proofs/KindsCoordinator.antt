@@ -41,8 +41,8 @@ unless_kinds s body false = calm_kinds s body
 first_kinds : (s : CoordinatorState) (task : Task) → SendsOf is_of_coordinator (resume_first s task)
 unfolding within
 first_kinds s task =
-    each_append (IsOf is_of_coordinator) (resume_step s.tc task s.number).effects.sends _ (resume_kinds s.tc task s.number)
-    (more_kinds _ _)
+    each_append (IsOf is_of_coordinator) (resume_step s.tc task s.number).effects.sends _
+    (resume_kinds s.tc task s.number) (more_kinds _ _)
 
 left_kinds : (s : CoordinatorState) (left : List Task) → SendsOf is_of_coordinator (resume_by s left)
 left_kinds s [] = tt
