@@ -82,7 +82,7 @@ module _ {P : Type 0} (kind : Kind P) (fits : IsKind kind) (shape : Shape) (x : 
   part_does p view now seen sends did =
       let inside = has_entered p view did.between did.stood did.front did.enters in
       let behind = has_taken inside.between did.stood now seen did.rest
-          (subst (λ parts. Takes shape parts did.stood x now seen did.rest) inside.is did.takes) in
+      (subst (λ parts. Takes shape parts did.stood x now seen did.rest) inside.is did.takes) in
       record {
         between = inside.between;
         front = did.front;

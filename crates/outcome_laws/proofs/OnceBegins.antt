@@ -61,8 +61,8 @@ module _ (p : Body → Bool) (counts : (body : Body) → is_counted body ≡ fal
     apart_sends me there apart =
         let h = tc_of start me in
         let is =
-            log_light (of_coordinator p nothing) (IsTcOf me) (apart_light me p counts apart) start h
-            (tc_begins start me there) (logs h) (are.right.local h) in
+        log_light (of_coordinator p nothing) (IsTcOf me) (apart_light me p counts apart) start h
+        (tc_begins start me there) (logs h) (are.right.local h) in
         omega (arith, is.below, none_taken (logs h), none_fresh p (started start h).parts)
 
     -- and one that may send it once at first
@@ -73,11 +73,11 @@ module _ (p : Body → Bool) (counts : (body : Body) → is_counted body ≡ fal
     own_sends me there may light once =
         let h = tc_of start me in
         let is =
-            log_light (of_coordinator p may) (IsTcOf me) light start h (tc_begins start me there) (logs h)
-            (are.right.local h) in
+        log_light (of_coordinator p may) (IsTcOf me) light start h (tc_begins start me there) (logs h)
+        (are.right.local h) in
         let fresh : (of_coordinator p may).may (started start h).parts
-            ≡ may (fresh_coordinator me.node me.start (first_layout start.shape)) =
-            ap (λ (s : node.Host). (of_coordinator p may).may s.parts) (tc_started start me there) in
+        ≡ may (fresh_coordinator me.node me.start (first_layout start.shape)) =
+        ap (λ (s : node.Host). (of_coordinator p may).may s.parts) (tc_started start me there) in
         omega (arith, is.below, none_taken (logs h), fresh, once)
 
     -- a host without a coordinator
@@ -85,8 +85,8 @@ module _ (p : Body → Bool) (counts : (body : Body) → is_counted body ≡ fal
         → HasNoTc (started start h).parts → sends_in p start h (logs h) ≡ 0
     no_tc_sends coordinators h none =
         let is =
-            log_light (of_nobody p) HasNoTc (no_tc_light p counts coordinators) start h none (logs h)
-            (are.right.local h) in
+        log_light (of_nobody p) HasNoTc (no_tc_light p counts coordinators) start h none (logs h)
+        (are.right.local h) in
         omega (arith, is.below, none_taken (logs h))
 
     -- a host that isn't there

@@ -105,8 +105,8 @@ module _ (start : Start) (logs : ℕ → List HostStep) (are : AreOfCluster star
           (apart_sends (is_wish tx) (uncounted_wish tx) start logs are me there (wishes_apart tx me))
       of_host (of_none none) =
           let is =
-              log_light (of_nobody (is_wish tx)) IsBeside (beside_light (is_wish tx) (uncounted_wish tx)) start (suc k)
-              (beside_is start k none) (logs (suc k)) (are.right.local (suc k)) in
+          log_light (of_nobody (is_wish tx)) IsBeside (beside_light (is_wish tx) (uncounted_wish tx)) start (suc k)
+          (beside_is start k none) (logs (suc k)) (are.right.local (suc k)) in
           omega (arith, is.below, none_taken (logs (suc k)))
 
       by : (suc k < hosts start) ⊎ (hosts start ≤ suc k) → sends_in (is_wish tx) start (suc k) (logs (suc k)) ≡ 0
@@ -122,9 +122,9 @@ module _ (start : Start) (logs : ℕ → List HostStep) (are : AreOfCluster star
     client_wishes : sends_in (is_wish tx) start 0 (logs 0) ≡ 0
     client_wishes =
         let light =
-            log_light (of_client (is_wish tx) (is_down_report tx) (count_unwished tx) (begins_or_downs tx)) IsShell
-            (client_light (is_wish tx) (is_down_report tx) (count_unwished tx) (begins_or_downs tx) (wishes_client tx))
-            start 0 (shell_begins start) (logs 0) (are.right.local 0) in
+        log_light (of_client (is_wish tx) (is_down_report tx) (count_unwished tx) (begins_or_downs tx)) IsShell
+        (client_light (is_wish tx) (is_down_report tx) (count_unwished tx) (begins_or_downs tx) (wishes_client tx))
+        start 0 (shell_begins start) (logs 0) (are.right.local 0) in
         omega (
           arith,
           light.below,

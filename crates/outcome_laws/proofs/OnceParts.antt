@@ -107,10 +107,10 @@ module _ (p : Body → Bool) (counts : (body : Body) → is_counted body ≡ fal
 
   module _ (me : Member) (may : CoordinatorState → ℕ)
       (rows : (s : CoordinatorState) (x : Signal) → IsCoordinatorOf me s
-          → count_sent p (coordinator_row s x).effects.sends + may (coordinator_row s x).state ≤ may s)
+      → count_sent p (coordinator_row s x).effects.sends + may (coordinator_row s x).state ≤ may s)
       (installs : (s : CoordinatorState) (view : View) → IsCoordinatorOf me s
-          → count_sent p (coordinator.install_row s view).effects.sends + may (coordinator.install_row s view).state
-          ≤ may s)
+      → count_sent p (coordinator.install_row s view).effects.sends + may (coordinator.install_row s view).state
+      ≤ may s)
     where
       abbrev scale : Scale
       scale = of_coordinator p may

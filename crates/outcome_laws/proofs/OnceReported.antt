@@ -33,9 +33,9 @@ pub reports_begun : (tx : TxId) (start : Start) (log : List HostStep) → IsLog 
     → reports_in tx log ≤ takes_in (is_begin tx) log
 reports_begun tx start log is =
     let light =
-        log_light (of_client no_body (is_report tx) (count_open tx) (is_begin tx)) IsShell
-        (client_light no_body (is_report tx) (count_open tx) (is_begin tx) (reports_client tx)) start 0
-        (shell_begins start) log is in
+    log_light (of_client no_body (is_report tx) (count_open tx) (is_begin tx)) IsShell
+    (client_light no_body (is_report tx) (count_open tx) (is_begin tx) (reports_client tx)) start 0
+    (shell_begins start) log is in
     omega (arith, light.below, none_open tx start, reports_are tx log)
 
 pub reported_once : TransactionsAreReportedOnce

@@ -181,14 +181,14 @@ module _ (scale : Scale) (Q : Parts → Type 0) where
           enters : Rightly s keeps (entering_if s x false)
           enters =
               let first =
-                  both (scale.may s.parts + 0) 0 (marks_only (Installed x.view ∷ []))
-                  (parts_entered s.parts x.view).effects s.parts behind installed entering in
+              both (scale.may s.parts + 0) 0 (marks_only (Installed x.view ∷ []))
+              (parts_entered s.parts x.view).effects s.parts behind installed entering in
               let all =
-                  both (scale.may s.parts + 0 + 0) gain
-                  (joined (marks_only (Installed x.view ∷ [])) (parts_entered s.parts x.view).effects)
-                  (passed_row (entered s x.view).state x).effects behind
-                  (passed_row (entered s x.view).state x).state.parts first
-                  (passed (entered s x.view).state entering.keeps) in
+              both (scale.may s.parts + 0 + 0) gain
+              (joined (marks_only (Installed x.view ∷ [])) (parts_entered s.parts x.view).effects)
+              (passed_row (entered s x.view).state x).effects behind
+              (passed_row (entered s x.view).state x).state.parts first
+              (passed (entered s x.view).state entering.keeps) in
               record { keeps = all.keeps; below = omega (arith, all.below) }
 
           unless_excluded : (b : Bool) → Rightly s keeps (entering_if s x b)

@@ -190,8 +190,8 @@ module _ (tx : TxId) where
   asks_wished start me there (e ∷ log) is none =
       let h = tc_of start me in
       let old =
-          log_light (of_coordinator (is_asking tx) (λ s. may_ask s tx)) (IsTcOf me) (ask_light tx me) start h
-          (tc_begins start me there) log is.1 in
+      log_light (of_coordinator (is_asking tx) (λ s. may_ask s tx)) (IsTcOf me) (ask_light tx me) start h
+      (tc_begins start me there) log is.1 in
       omega (
         arith,
         asks_wished start me there log is.1 (omega (arith, none)),

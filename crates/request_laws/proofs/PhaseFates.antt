@@ -61,13 +61,13 @@ away_untold tx sends all = record {
 -- what becomes of the transaction
 pub data Fate (member : Member) (s : CoordinatorState) (body : Body) (tx : TxId) (step : Step CoordinatorState) : Type 0
   where
-  keeps : entry_of step.state tx ≡ entry_of s tx → StaysUnborn member tx s step.state
-      → IsUntold tx step.effects.sends → Fate member s body tx step
-  starts : entry_of s tx ≡ None → entry_of step.state tx ≡ Some fresh → next_tx s.tc ≡ tx
-      → step.state.tc.next_seq ≡ s.tc.next_seq + 1 → IsUntold tx step.effects.sends → Fate member s body tx step
-  changes : (t : Transaction) → entry_of s tx ≡ Some t → (turn : Turn) → Changes s.tc.node tx t body turn
-      → entry_of step.state tx ≡ left_of turn → step.state.tc.next_seq ≡ s.tc.next_seq → (more : List Outgoing)
-      → IsStill more → step.effects.sends ≡ turn.step.effects.sends ++ more → Fate member s body tx step
+    keeps : entry_of step.state tx ≡ entry_of s tx → StaysUnborn member tx s step.state
+        → IsUntold tx step.effects.sends → Fate member s body tx step
+    starts : entry_of s tx ≡ None → entry_of step.state tx ≡ Some fresh → next_tx s.tc ≡ tx
+        → step.state.tc.next_seq ≡ s.tc.next_seq + 1 → IsUntold tx step.effects.sends → Fate member s body tx step
+    changes : (t : Transaction) → entry_of s tx ≡ Some t → (turn : Turn) → Changes s.tc.node tx t body turn
+        → entry_of step.state tx ≡ left_of turn → step.state.tc.next_seq ≡ s.tc.next_seq → (more : List Outgoing)
+        → IsStill more → step.effects.sends ≡ turn.step.effects.sends ++ more → Fate member s body tx step
 
 -- each turn changes its transaction rightly
 turn_changed : (node : ℕ) (layout : Layout) (tx : TxId) (t : Transaction) (body : Body) → is_turn body ≡ true

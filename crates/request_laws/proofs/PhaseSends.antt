@@ -59,7 +59,6 @@ module _ (p : Body → Bool) where
   SparesIn tx (Completing epoch awaited) = p (Client (TcCommitConf tx epoch)) ≡ false
   SparesIn tx phase = Unit {0}
 
-
 module _ (p : Body → Bool) (node : ℕ) (layout : Layout) (tx : TxId) (spares : Spares p tx) where
   rest_spared : (at : ℕ) (b : Bool) → AreSpared p (rest_if node tx at b)
   rest_spared at true = (spares.goes_on _, tt)
