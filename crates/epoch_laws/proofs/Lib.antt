@@ -12,7 +12,6 @@ mod MarkRows
 mod MarkSteps
 mod MarkTakeover
 mod MasterHears
-mod MasterHosts
 mod MasterKeeps
 mod MasterKnows
 mod MasterMoves
@@ -31,7 +30,6 @@ mod SentArbiter
 mod SentKinds
 mod SentMembership
 mod SentNone
-mod SentOwn
 mod SentParts
 mod SentRows
 mod SignalsOn

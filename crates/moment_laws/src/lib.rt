@@ -3,4 +3,6 @@
 
 mod moment_laws;
 
-pub use moment_laws::{logs_are_moments, takers_stand_in_the_current_view};
+pub use moment_laws::{
+    logs_are_moments, steps_come_to_parts, takers_stand_in_the_current_view,
+};
