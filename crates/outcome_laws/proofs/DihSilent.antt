@@ -8,13 +8,17 @@ use Rattle.sig_core.specs.declared.outs.Outgoing.{Outgoing}
 use Rattle.sig_core.specs.declared.signal.Body.{Body}
 use Rattle.sig_core.specs.declared.signal.Body.TheVariants.{Chain, Client, Epoch, Takeover}
 use Rattle.sig_core.specs.declared.signal.chain.ChainSignal.TheVariants.{Commit, LqhKeyRef}
-use Rattle.sig_core.specs.declared.signal.client.ClientSignal.TheVariants.{TcCommitConf, TcCommitReq, TcKeyFailConf, TcRollbackRep}
+use Rattle.sig_core.specs.declared.signal.client.ClientSignal.TheVariants.{TcBeginConf, TcCommitConf, TcCommitReq, TcKeyConf, TcKeyFailConf, TcKeyReq, TcRollbackRep}
 use Rattle.sig_core.specs.declared.signal.epoch.EpochSignal.TheVariants.{DiVerifyConf, DiVerifyReq}
 use Rattle.sig_core.specs.declared.signal.takeover.TakeoverSignal.TheVariants.{LqhTransConf}
 use Rattle.outcome_laws.specs.Tells.{Tells}
 
--- it tells that a transaction has begun, in which epoch one was decided, or why one is aborted
+-- it tells that a transaction has begun, what it is to do or was answered, in which epoch one was decided, or why one is
+-- aborted
 abbrev pub is_telling : Body → Bool
+is_telling (Client (TcBeginConf name tx)) = true
+is_telling (Client (TcKeyReq tx op)) = true
+is_telling (Client (TcKeyConf tx answer)) = true
 is_telling (Client (TcCommitReq tx)) = true
 is_telling (Epoch (DiVerifyReq tx ops)) = true
 is_telling (Epoch (DiVerifyConf tx epoch)) = true

@@ -1,7 +1,6 @@
 -- Signals that count: what only a coordinator tells a client, or asks the epochs of its node, and what only a client asks a
 -- coordinator; and lists of sends, of which one event sends a part.
-use Rattle.std.proofs.Common.{◌≡◌, ◌+◌, ℕ, Bool, true, false, List, [], ◌∷◌, cond, take, drop, length, nat_lt, ap, arith, refl}
-use Rattle.std.proofs.lemmas.List.Sums.{sum_by-cons}
+use Rattle.std.proofs.Common.{◌≡◌, ◌+◌, ℕ, Bool, true, false, List, [], ◌∷◌, take, drop, length, nat_lt, ap, arith, refl}
 use Rattle.std.specs.List.{count_by}
 use Rattle.run_theory.specs.Lists.{Each}
 use Rattle.run_theory.proofs.EachSent.{each_drop, each_take}
@@ -12,15 +11,18 @@ use Rattle.sig_core.specs.declared.place.Place.{Place}
 use Rattle.sig_core.specs.declared.portion.TheConstants.{PORTION}
 use Rattle.sig_core.specs.declared.signal.Body.{Body}
 use Rattle.sig_core.specs.declared.signal.Body.TheVariants.{Client, Epoch}
-use Rattle.sig_core.specs.declared.signal.client.ClientSignal.TheVariants.{TcBeginConf, TcCommitReq, TcRollbackRep}
+use Rattle.sig_core.specs.declared.signal.client.ClientSignal.TheVariants.{TcBeginConf, TcCommitReq, TcKeyConf, TcKeyReq, TcRollbackRep}
 use Rattle.sig_core.specs.declared.signal.epoch.EpochSignal.TheVariants.{DiVerifyReq}
 use Rattle.sig_core.specs.declared.signal.host.Work.{Work}
 use Rattle.sig_core.specs.Portion.{portion_effects, rest_if}
 use Rattle.sig_core.specs.Step.{Step}
-use Rattle.outcome_laws.specs.Counts.{count_sent, is_asking, is_begin, is_wish}
+use Rattle.outcome_laws.specs.Counts.{is_asking, is_begin, is_wish, one_if}
+use Rattle.outcome_laws.proofs.TcLists.{count_more}
 
 abbrev pub is_counted : Body → Bool
 is_counted (Client (TcBeginConf name tx)) = true
+is_counted (Client (TcKeyReq tx op)) = true
+is_counted (Client (TcKeyConf tx answer)) = true
 is_counted (Client (TcCommitReq tx)) = true
 is_counted (Client (TcRollbackRep tx cause)) = true
 is_counted (Epoch (DiVerifyReq tx ops)) = true
@@ -50,13 +52,10 @@ portion_none by work sends at all =
     (rest_none by work at (nat_lt (at + PORTION) (length sends)))
 
 -- where none passes a test there are 0 of them
-pub none_counted : {A : Type 0} (p : A → Bool) (xs : List A) → Each (λ x. p x ≡ false) xs → count_by p xs ≡ 0
-none_counted p [] none = refl
-none_counted p (x ∷ xs) none =
-    let more = sum_by-cons (λ x. cond (p x) 1 0) x xs in
-    let first : ◌≡◌ {A = ℕ} (cond (p x) 1 0) 0 = ap (λ b. cond b 1 0) none.0 in
-    let rest = none_counted p xs none.1 in
-    omega (arith, more, first, rest)
+pub count_none : {A : Type 0} (p : A → Bool) (xs : List A) → Each (λ x. p x ≡ false) xs → count_by p xs ≡ 0
+count_none p [] none = refl
+count_none p (x ∷ xs) none =
+    omega (arith, count_more p x xs, ap one_if none.0, count_none p xs none.1)
 
 -- so it is with each kind
 pub uncounted_begin : (tx : TxId) (body : Body) → is_counted body ≡ false → is_begin tx body ≡ false

@@ -1,7 +1,6 @@
 -- Scales: what the blocks of a host weigh, with what they send and mark of a kind, grows in a step of the host by no more
 -- than where they take its signal.
-use Rattle.std.proofs.Common.{◌≡◌, ◌≤◌, ◌+◌, ◌||◌, ◌++◌, ℕ, zero, suc, Bool, true, false, nat_lt, cond, List, [], ◌∷◌, ap, arith, refl, subst}
-use Rattle.std.proofs.lemmas.List.Sums.{sum_by-append, sum_by-cons}
+use Rattle.std.proofs.Common.{◌≡◌, ◌≤◌, ◌+◌, ◌||◌, ◌++◌, ℕ, zero, suc, Bool, true, false, nat_lt, List, [], ◌∷◌, ap, arith}
 use Rattle.std.specs.List.{count_by, list_any}
 use Rattle.std.specs.Prelude.{not, Option, None, Some}
 use Rattle.sig_core.specs.declared.mark.Mark.{Mark}
@@ -24,6 +23,7 @@ use Rattle.node_views.specs.Row.{blocks_row, closed_if, counted_row, cut_if, ent
 use Rattle.node_views.specs.WellFormed.{is_first, is_well_formed}
 use Rattle.world_views.specs.Machine.{own_stop, step_by, step_if, told}
 use Rattle.outcome_laws.specs.Counts.{count_sent, one_if}
+use Rattle.outcome_laws.proofs.TcLists.{count_both, count_more}
 
 -- which signals and marks count, what blocks weigh by themselves, and which signals that they take add one
 pub record Scale : Type 0 where
@@ -35,9 +35,6 @@ pub record Scale : Type 0 where
 -- how many of these marks pass a test
 abbrev pub count_marked : (Mark → Bool) → List Mark → ℕ
 count_marked p marks = count_by p marks
-
-pub count-append : {A : Type 0} (p : A → Bool) (xs ys : List A) → count_by p (xs ++ ys) ≡ count_by p xs + count_by p ys
-count-append p xs ys = sum_by-append (λ x. cond (p x) 1 0) xs ys
 
 -- effects, and blocks behind them, together
 abbrev pub weighs : Scale → Effects → Parts → ℕ
@@ -68,8 +65,8 @@ module _ (scale : Scale) (Q : Parts → Type 0) where
   both limit more first then between now one other = record {
     keeps = other.keeps;
     below =
-        let marks = count-append scale.marked first.marks then.marks in
-        let sends = count-append (λ (sent : Outgoing). scale.sent sent.body) first.sends then.sends in
+        let marks = count_both scale.marked first.marks then.marks in
+        let sends = count_both (λ (sent : Outgoing). scale.sent sent.body) first.sends then.sends in
         omega (arith, marks, sends, one.below, other.below);
   }
 
@@ -81,9 +78,7 @@ module _ (scale : Scale) (Q : Parts → Type 0) where
     unmarked : (mark : Mark) → scale.marked mark ≡ false → (more : List Mark)
         → count_marked scale.marked (mark ∷ more) ≡ count_marked scale.marked more
     unmarked mark none more =
-        let first = sum_by-cons (λ m. cond (scale.marked m) 1 0) mark more in
-        let is : ◌≡◌ {A = ℕ} (cond (scale.marked mark) 1 0) 0 = ap (λ b. cond b 1 0) none in
-        omega (arith, first, is)
+        omega (arith, count_more scale.marked mark more, ap one_if none)
 
     stopped : (more : ℕ) (cause : StopCause) (parts : Parts) → Q parts
         → IsLight (scale.may parts + more) (marks_only (Stopped cause ∷ [])) parts

@@ -13,7 +13,7 @@ use Rattle.sig_core.specs.declared.outcome.AbortCause.{AbortCause}
 use Rattle.sig_core.specs.declared.outs.Outgoing.{Outgoing}
 use Rattle.sig_core.specs.declared.signal.Body.{Body}
 use Rattle.sig_core.specs.declared.signal.Body.TheVariants.{Client, Epoch}
-use Rattle.sig_core.specs.declared.signal.client.ClientSignal.TheVariants.{TcBeginConf}
+use Rattle.sig_core.specs.declared.signal.client.ClientSignal.TheVariants.{TcBeginConf, TcCommitReq}
 use Rattle.sig_core.specs.declared.signal.epoch.EpochSignal.TheVariants.{DiVerifyReq}
 use Rattle.sig_core.specs.Op.{key_of}
 use Rattle.sig_core.specs.Place.{epochs}
@@ -33,9 +33,10 @@ use Rattle.tc_block.proofs.EachTurn.{AbortForms, CommittedForms, TurnForms, read
 use Rattle.tc_views.specs.State.{go_on_if}
 use Rattle.outcome_laws.proofs.TcWalk.{ResumeForms}
 
--- the signal tells that a transaction has begun, or asks for an epoch
+-- the signal tells that a transaction has begun, asks for an epoch, or asks a coordinator for the commit
 abbrev pub is_claim : Body → Bool
 is_claim (Client (TcBeginConf name tx)) = true
+is_claim (Client (TcCommitReq tx)) = true
 is_claim (Epoch (DiVerifyReq tx ops)) = true
 is_claim body = false
 

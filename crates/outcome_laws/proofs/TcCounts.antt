@@ -12,7 +12,7 @@ use Rattle.sig_core.specs.declared.place.Place.{Place}
 use Rattle.sig_core.specs.declared.signal.Body.{Body}
 use Rattle.sig_core.specs.declared.signal.Body.TheVariants.{Client, Epoch}
 use Rattle.sig_core.specs.declared.signal.Signal.{Signal}
-use Rattle.sig_core.specs.declared.signal.client.ClientSignal.TheVariants.{TcBeginConf}
+use Rattle.sig_core.specs.declared.signal.client.ClientSignal.TheVariants.{TcBeginConf, TcCommitReq}
 use Rattle.sig_core.specs.declared.signal.epoch.EpochSignal.TheVariants.{DiVerifyReq}
 use Rattle.sig_core.specs.declared.view.View.{View}
 use Rattle.sig_core.specs.Place.{client, epochs}
@@ -75,6 +75,7 @@ no_asking tx _ is = refl
 
 no_claim : (member : Member) (to : Place) (body : Body) → is_claim body ≡ false → IsOwnAt member to body
 no_claim member to (Client (TcBeginConf name tx)) is = absurd cc
+no_claim member to (Client (TcCommitReq tx)) is = absurd cc
 no_claim member to (Epoch (DiVerifyReq tx ops)) is = absurd cc
 no_claim member to _ is = tt
 
