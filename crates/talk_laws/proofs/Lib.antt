@@ -1,0 +1,4 @@
+pub mod Among
+pub mod Links
+pub mod Picks
+pub mod TcTalks
