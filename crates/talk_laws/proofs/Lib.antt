@@ -3,6 +3,7 @@ pub mod ClientTalks
 pub mod ClientTrack
 pub mod Links
 pub mod Picks
+pub mod TcLogs
 pub mod TcSteps
 pub mod TcTalks
 pub mod TcTrack

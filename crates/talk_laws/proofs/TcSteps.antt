@@ -41,7 +41,7 @@ module _ (tx : TxId) where
       by false = omega arith
   verified_count body before = omega arith
 
-  gave_count : (sends : List Outgoing) (before : List (List (Op × Answer)))
+  pub gave_count : (sends : List Outgoing) (before : List (List (Op × Answer)))
       → length (pick_sends (verified_by tx) sends before) ≡ count_sent (is_asking tx) sends + length before
   gave_count [] before = omega arith
   gave_count (one ∷ sends) before =
@@ -142,3 +142,9 @@ module _ (tx : TxId) where
               (subst (Talked tx (install_row s view).state told took)
               (sym (mute_picks tx (verified_by tx) (mute_verified tx) sends gave mute))
               (record { unborn = talked.unborn; fits = talked.fits; gives = talked.gives; few = talked.few }))
+
+  pub installs_verify_none : (s : CoordinatorState) (view : View) (gave : List (List (Op × Answer)))
+      → pick_sends (verified_by tx) (install_row s view).effects.sends gave ≡ gave
+  unfolding install_row
+  installs_verify_none s view gave =
+      mute_picks tx (verified_by tx) (mute_verified tx) (go_on_if s.tc.node _) gave (more_mute s.tc.node _)
