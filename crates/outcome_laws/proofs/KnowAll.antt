@@ -1,7 +1,6 @@
 -- At each moment all that hosts know, tell and mark of transactions is true.
 use Rattle.std.proofs.Common.{◌≡◌, ◌≢◌, ◌⊎◌, ◌∙◌, ◌%◌, ℕ, zero, suc, Bool, true, false, List, [], ◌∷◌, refl, sym, ap, subst, inl, inr}
 use Rattle.std.proofs.lemmas.Bool.{cases_eq}
-use Rattle.std.specs.Prelude.{Option}
 use Rattle.run_theory.proofs.Pasts.{each_from, each_in, each_map}
 use Rattle.run_theory.proofs.Runs.{log_of-other, log_of-own}
 use Rattle.run_theory.specs.Lists.{Each, IsIn}
@@ -17,7 +16,6 @@ use Rattle.sig_core.specs.declared.signal.client.ClientSignal.TheVariants.{TcBeg
 use Rattle.sig_core.specs.declared.signal.host.HostSignal.TheVariants.{Closed}
 use Rattle.sig_core.specs.declared.rows.PendingRecord.{PendingRecord}
 use Rattle.sig_core.specs.Rows.{no_rows}
-use Rattle.sig_core.specs.Step.{Step}
 use Rattle.node_core.specs.Fresh.{own_rows, with_rows}
 use Rattle.node_views.specs.declared.host.Host as node
 use Rattle.node_views.specs.WellFormed.{is_well_formed}
@@ -43,7 +41,7 @@ use Rattle.outcome_laws.specs.Known.{IsDecidedIf, PartsKnow}
 use Rattle.outcome_laws.specs.Tells.{Decides, IsRightMark, Teaches, Tells}
 use Rattle.outcome_laws.proofs.KnowGrows.{parts_grow, right_grows, tells_grow}
 use Rattle.outcome_laws.proofs.KnowHosts.{HasNoShell, IsTrueStep, never_shell, others_are_true, steps_are_true}
-use Rattle.outcome_laws.proofs.KnowPlaces.{AllOwn, AreDecidedHere, IsDecidedHere, all_own}
+use Rattle.outcome_laws.proofs.KnowPlaces.{AreDecidedHere, IsDecidedHere, all_own}
 
 -- a signal of the hosts themselves
 abbrev is_host : Body → Bool
@@ -81,7 +79,12 @@ module _ (start : Start) where
               let rows = with_rows no_rows (own_rows start.shape member.node start.rows) (epoch_before start.epoch) in
               let none : rows.pending ≡ [] =
               none_pending no_rows (own_rows start.shape member.node start.rows) (epoch_before start.epoch) in
-              record { records = subst (Each (λ (r : PendingRecord). IsDecidedIf (IsDecided start (λ h. [])) (IsBegun start (λ h. [])) r r.committed)) (sym none) tt; markers = tt }
+              record {
+                records = subst
+                    (Each (λ (r : PendingRecord).
+                    IsDecidedIf (IsDecided start (λ h. [])) (IsBegun start (λ h. [])) r r.committed)) (sym none) tt;
+                markers = tt;
+              }
 
   module _ (all : ℕ → List HostStep) (e : HostStep) (es : List HostStep) (moment : IsMoment start all (e ∷ es))
       (known : AllKnow start (logs_of start es))
@@ -198,7 +201,8 @@ module _ (start : Start) where
           decided mark there =
               by mark there (each_in (IsDecidedHere start e.host) mark e.step.marks here there)
 
-      sends_true : Each (λ (sent : Outgoing). Tells D B sent.body) (step_after start e.host (old e.host) e).effects.sends
+      sends_true : Each (λ (sent : Outgoing). Tells D B sent.body)
+          (step_after start e.host (old e.host) e).effects.sends
       sends_true = step_true.effects.tell (subst (Each (Decides D B)) marks_are decides)
 
       parts_next : (h : ℕ) → HostKnows start new h

@@ -1,5 +1,5 @@
 -- What is known, told and marked of transactions stays true where more are decided and more have begun.
-use Rattle.std.proofs.Common.{ℕ, List}
+use Rattle.std.proofs.Common.{ℕ}
 use Rattle.std.specs.Prelude.{Bool, true, false, Option, None, Some, slice_get}
 use Rattle.run_theory.proofs.Pasts.{each_map}
 use Rattle.sig_core.specs.declared.mark.Mark.{Mark}

@@ -1,27 +1,20 @@
 -- A master of checkpoints tells nothing of transactions, whatever it takes.
-use Rattle.std.proofs.Common.{◌≡◌, ◌+◌, ℕ, ◌==◌, ◌&&◌, Bool, true, false, not, nat_lt, List, ◌++◌, take, drop, length, refl}
+use Rattle.std.proofs.Common.{◌≡◌, ℕ, ◌==◌, ◌&&◌, Bool, true, false, not, nat_lt, ◌++◌, refl}
 use Rattle.std.specs.Prelude.{Option, None, Some, is_some}
-use Rattle.run_theory.specs.Lists.{Each}
-use Rattle.run_theory.proofs.EachSent.{each_drop, each_mapped, each_take}
+use Rattle.run_theory.proofs.EachSent.{each_mapped}
 use Rattle.run_theory.proofs.Pasts.{each_append}
-use Rattle.sig_core.specs.declared.outs.Outgoing.{Outgoing}
 use Rattle.sig_core.specs.declared.place.BlockId.{BlockId}
 use Rattle.sig_core.specs.declared.place.BlockId.TheVariants as block
-use Rattle.sig_core.specs.declared.place.Place.{Place}
-use Rattle.sig_core.specs.declared.portion.TheConstants.{PORTION}
 use Rattle.sig_core.specs.declared.signal.Body.{Body}
 use Rattle.sig_core.specs.declared.signal.Body.TheVariants.{Host, Takeover, Epoch}
 use Rattle.sig_core.specs.declared.signal.Signal.{Signal}
 use Rattle.sig_core.specs.declared.signal.epoch.EpochSignal.{EpochSignal}
-use Rattle.sig_core.specs.declared.signal.epoch.EpochSignal.TheVariants.{GcpCommit, GcpReq, MicroReq, GcpPrepare, GcpPrepareConf, GcpNodeFinish, GcpClosedConf, GcpSaveConf, CopyGciConf, GcpOrd, GcpStateConf}
+use Rattle.sig_core.specs.declared.signal.epoch.EpochSignal.TheVariants.{GcpReq, MicroReq, GcpPrepareConf, GcpNodeFinish, GcpClosedConf, GcpSaveConf, CopyGciConf, GcpOrd, GcpStateConf}
 use Rattle.sig_core.specs.declared.signal.host.HostSignal.TheVariants.{Continue}
-use Rattle.sig_core.specs.declared.signal.host.Work.{Work}
 use Rattle.sig_core.specs.declared.signal.host.Work.TheVariants.{Members}
 use Rattle.sig_core.specs.declared.signal.takeover.TakeoverSignal.TheVariants.{TakeoverEnd}
 use Rattle.sig_core.specs.declared.view.View.{View}
 use Rattle.sig_core.specs.Place.{checkpoints}
-use Rattle.sig_core.specs.Portion.{rest_if}
-use Rattle.sig_core.specs.Step.{Step}
 use Rattle.gcp_master.specs.declared.known.Known.{Known}
 use Rattle.gcp_master.specs.declared.known.Told.{Told}
 use Rattle.gcp_master.specs.declared.orders.Ended.{Ended}
@@ -42,7 +35,7 @@ use Rattle.gcp_master.specs.Numbers.{is_first}
 use Rattle.gcp_master.specs.Orders.{mask_of, order_body}
 use Rattle.gcp_master.specs.Requests.{asked_by, asked_row, global_asked, micro_asked}
 use Rattle.gcp_master.specs.Resume.{knowing, learned_if, order_by, order_row, resume_at, state_by, state_if, state_row, told_all_if}
-use Rattle.gcp_master.specs.Sends.{entering, front_sends, go_on_if, go_on_row, list_effects, listing, master_sends, order_at, orders_at, phase_sends, to_both, to_copying, to_each, told_if}
+use Rattle.gcp_master.specs.Sends.{entering, front_sends, go_on_if, go_on_row, list_effects, listing, master_sends, order_at, orders_at, phase_sends, to_both, to_copying, to_each}
 use Rattle.gcp_master.specs.State.{MasterState, all_in, at_phase, counted, counts}
 use Rattle.gcp_master.specs.Voices.{is_among}
 use Rattle.outcome_laws.proofs.KnowNothing.{AreUntold, IsUntold, TellsNothing, is_tale, portion_untold}

@@ -1,5 +1,5 @@
 -- A membership tells nothing of transactions, whatever it takes.
-use Rattle.std.proofs.Common.{◌≡◌, ◌==◌, ◌&&◌, ◌++◌, ◌||◌, ℕ, Bool, true, false, List, [], ◌∷◌, map, nat_lt, refl}
+use Rattle.std.proofs.Common.{◌==◌, ◌&&◌, ◌++◌, ◌||◌, ℕ, Bool, true, false, List, [], ◌∷◌, map, nat_lt, refl}
 use Rattle.std.specs.Prelude.{if◌then◌else◌, is_some, not, Option, None, Some, position, slice_get}
 use Rattle.run_theory.proofs.EachSent.{each_mapped}
 use Rattle.run_theory.proofs.Pasts.{each_append}
@@ -88,7 +88,8 @@ round_quiet k = by (sides k).next (sides k).before
   where
     by : (o p : Option Member) → TellsNothing (round_by k o p)
     by (Some next) (Some before) =
-        let rest = told_if_quiet (with_missing (with_round k) before) (has_more k (with_missing (with_round k) before)) in
+        let now = with_missing (with_round k) before in
+        let rest = told_if_quiet now (has_more k now) in
         ((refl, rest.0), rest.1)
     by (Some next) None = (tt, tt)
     by None p = (tt, tt)
@@ -106,7 +107,8 @@ start_quiet k member =
     by false false false seen = (tt, tt)
     by false false true true = ((refl, tt), tt)
     by false false true false =
-        proposed_if_quiet k (joined_view k.layout.view (next_number k) member) (Some member) (presides k && has_number k)
+        proposed_if_quiet k (joined_view k.layout.view (next_number k) member) (Some member)
+        (presides k && has_number k)
 
 promote_quiet : (k : Known) (member : Member) → TellsNothing (promote_row k member)
 unfolding promote_row

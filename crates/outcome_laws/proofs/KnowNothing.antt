@@ -52,6 +52,7 @@ body_silent body none = refl
 body_uncounted : (body : Body) → is_tale body ≡ false → is_counted body ≡ false
 body_uncounted (Client ViewRep) none = refl
 body_uncounted (Client signal) none = absurd cc
+body_uncounted (Chain signal) none = absurd cc
 body_uncounted (Epoch (DiVerifyReq tx ops)) none = absurd cc
 body_uncounted body none = refl
 

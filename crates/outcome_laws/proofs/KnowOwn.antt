@@ -1,6 +1,6 @@
--- Only the coordinator that began a transaction asks for its epoch, and asks the epochs of its own node; so these decide
--- only its transactions.
-use Rattle.std.proofs.Common.{◌≡◌, ◌∷◌, ◌++◌, ℕ, Bool, true, false, List, [], refl, sym, subst, inl, inr}
+-- Only the coordinator that began a transaction asks for its epoch, and asks the epochs of its own node; so these
+-- decide only its transactions.
+use Rattle.std.proofs.Common.{◌≡◌, ◌∷◌, true, false, List, [], sym, subst, inl, inr}
 use Rattle.run_theory.specs.Lists.{Each}
 use Rattle.run_theory.proofs.EachSent.{each_get, each_removed}
 use Rattle.run_theory.proofs.Pasts.{each_append, each_map}
@@ -59,7 +59,7 @@ use Rattle.outcome_laws.proofs.OnceNone.{AreUncounted, IsUncounted, is_counted}
 use Rattle.outcome_laws.proofs.OnceRows.{replica_none}
 use Rattle.outcome_laws.proofs.OnceTakeover.{takeover_none}
 use Rattle.outcome_laws.proofs.RowsMarks.{rows_mark_none}
-use Rattle.outcome_laws.proofs.RowsNone.{IsNoOutcome, MarksNone, is_outcome}
+use Rattle.outcome_laws.proofs.RowsNone.{IsNoOutcome}
 use Rattle.outcome_laws.proofs.TakeoverMarks.{takeover_marks_nothing}
 use Rattle.outcome_laws.proofs.TcCounts.{coordinator_installs_own, coordinator_of_installed, coordinator_of_stays, coordinator_own}
 use Rattle.outcome_laws.proofs.TcMarks.{coordinator_installs_mark, coordinator_marks}
@@ -113,7 +113,8 @@ module _ (P : TxId → Place → Type 0) (Q : TxId → Type 0) where
 
   silent_so : (sends : List Outgoing) → AreSilent sends → AskSo sends
   silent_so sends none =
-      each_map IsSilent (λ (sent : Outgoing). IsAskedSo sent.to sent.body) sends (λ sent is. by sent.to sent.body is) none
+      each_map IsSilent (λ (sent : Outgoing). IsAskedSo sent.to sent.body) sends
+      (λ sent is. by sent.to sent.body is) none
     where
       by : (to : Place) (body : Body) → is_telling body ≡ false → IsAskedSo to body
       by to (Epoch (DiVerifyReq tx ops)) none = absurd cc
@@ -128,7 +129,8 @@ module _ (P : TxId → Place → Type 0) (Q : TxId → Type 0) where
   -- a client's side asks for none and decides none
   plain_so : (sends : List Outgoing) → ArePlain sends → AskSo sends
   plain_so sends plain =
-      each_map IsPlain (λ (sent : Outgoing). IsAskedSo sent.to sent.body) sends (λ sent is. by sent.to sent.body is) plain
+      each_map IsPlain (λ (sent : Outgoing). IsAskedSo sent.to sent.body) sends
+      (λ sent is. by sent.to sent.body is) plain
     where
       by : (to : Place) (body : Body) → is_plain body ≡ true → IsAskedSo to body
       by to (Epoch (DiVerifyReq tx ops)) plain = absurd cc
@@ -263,7 +265,8 @@ module _ (me : Member) where
             };
           })
 
-      tc_own : (p : TcPart) (b : BlockId) → OwnParts (Tc p) → OwnParts (Tc (tc_row p b x).state) × AreOwn (tc_row p b x).effects
+      tc_own : (p : TcPart) (b : BlockId) → OwnParts (Tc p)
+          → OwnParts (Tc (tc_row p b x).state) × AreOwn (tc_row p b x).effects
       unfolding tc_row
       tc_own p block.Tc own = (
         (coordinator_of_stays me p.coordinator x own.0, own.1),
@@ -306,7 +309,8 @@ module _ (me : Member) where
       pub own_kept : AreKept OwnParts AreOwn x
       own_kept = record { row = row; enters = enters }
         where
-          row : (parts : Parts) → OwnParts parts → OwnParts (parts_row parts x).state × AreOwn (parts_row parts x).effects
+          row : (parts : Parts) → OwnParts parts
+              → OwnParts (parts_row parts x).state × AreOwn (parts_row parts x).effects
           row (Tc p) own = tc_own p x.to.block own
           row (Shell p) own = absurd own
           row (Main p) own = absurd own

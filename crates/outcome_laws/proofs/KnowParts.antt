@@ -1,9 +1,8 @@
--- What the blocks of a host know of transactions, and what they tell and mark, is true of whoever tells them true things.
-use Rattle.std.proofs.Common.{◌≡◌, ◌++◌, ℕ, Bool, true, false, List, [], sym, subst, refl}
+-- Blocks that know only true things of transactions, and are told only true ones, know, tell and mark only true ones.
+use Rattle.std.proofs.Common.{ℕ, Bool, true, false, List, sym, subst, refl}
 use Rattle.std.specs.Prelude.{Option}
 use Rattle.run_theory.specs.Lists.{Each}
 use Rattle.run_theory.proofs.Pasts.{each_after, each_append, each_before, each_map}
-use Rattle.sig_core.specs.declared.mark.Mark.{Mark}
 use Rattle.sig_core.specs.declared.member.Member.{Member}
 use Rattle.sig_core.specs.declared.member.TxId.{TxId}
 use Rattle.sig_core.specs.declared.outs.Outgoing.{Outgoing}
@@ -16,14 +15,10 @@ use Rattle.sig_core.specs.declared.signal.membership.MembershipSignal.TheVariant
 use Rattle.sig_core.specs.declared.view.View.{View}
 use Rattle.sig_core.specs.Step.{Effects, Step}
 use Rattle.arbiter_block.specs.Arbiter.{ArbiterState, arbit_if, arbit_row, arbiter_row, arbiter_table, is_granted}
-use Rattle.api_views.specs.Client.{client_row}
-use Rattle.dih_node.specs.Dih.{dih_row}
 use Rattle.dih_node.specs.Orders as dih
 use Rattle.gcp_master.specs.Master.{master_row}
 use Rattle.lqh_views.specs.Replica.{replica_row}
 use Rattle.qmgr_block.specs.Qmgr.{qmgr_installed, qmgr_row}
-use Rattle.takeover_block.specs.Takeover.{takeover_row}
-use Rattle.tc_views.specs.Coordinator.{coordinator_row}
 use Rattle.tc_views.specs.Views as coordinator
 use Rattle.node_views.specs.Blocks.{parts_entered, parts_row}
 use Rattle.node_views.specs.declared.ldm_part.LdmPart.{LdmPart}
@@ -32,7 +27,7 @@ use Rattle.node_views.specs.declared.parts.Parts.{Parts}
 use Rattle.node_views.specs.declared.parts.Parts.TheVariants.{Shell, Main, Tc, Ldm}
 use Rattle.node_views.specs.declared.shell_part.ShellPart.{ShellPart}
 use Rattle.node_views.specs.declared.tc_part.TcPart.{TcPart}
-use Rattle.node_views.specs.Parts.{ldm_row, main_row, shell_row, tc_entered, tc_row}
+use Rattle.node_views.specs.Parts.{ldm_row, main_row, shell_row, tc_row}
 use Rattle.outcome_laws.specs.Known.{PartsKnow}
 use Rattle.outcome_laws.specs.Tells.{Decides, IsRightMark, Teaches, Tells}
 use Rattle.outcome_laws.proofs.ClientKnows.{client_knows, client_marks, client_tells, noted_knows}
@@ -188,7 +183,8 @@ module _ (D : TxId → ℕ → Type 0) (B : TxId → Type 0) where
 
     entered_true : (parts : Parts) (view : View) → AreTold x.body parts → Are (parts_entered parts view)
     entered_true (Shell p) view knows = ((noted_knows D B p.client view knows.0, knows.1), true_effects.none)
-    entered_true (Main p) view knows = ((tt, tt), nothing_true (qmgr_installed p.qmgr view) (membership_installs_nothing p.qmgr view))
+    entered_true (Main p) view knows =
+        ((tt, tt), nothing_true (qmgr_installed p.qmgr view) (membership_installs_nothing p.qmgr view))
     entered_true (Tc p) view ((knows, (takeover, held)), taught) = (
       (
         (

@@ -1,5 +1,5 @@
 -- At each moment a transaction was decided only at the host of its coordinator's member, if anywhere.
-use Rattle.std.proofs.Common.{◌≡◌, ◌≢◌, ◌⊎◌, ◌<◌, ◌∙◌, ◌+◌, ◌-◌, ◌*◌, ℕ, zero, suc, Bool, true, false, filter, List, [], ◌∷◌, refl, sym, ap, subst, inl, inr, arith}
+use Rattle.std.proofs.Common.{◌≡◌, ◌≢◌, ◌⊎◌, ◌∙◌, ◌+◌, ◌-◌, ◌*◌, ℕ, zero, suc, true, List, [], ◌∷◌, sym, ap, subst, inl, inr}
 use Rattle.std.proofs.lemmas.Bool.{cases_eq}
 use Rattle.run_theory.proofs.Pasts.{each_in, each_map}
 use Rattle.run_theory.proofs.Runs.{log_of-other, log_of-own}
@@ -20,9 +20,8 @@ use Rattle.sig_core.specs.declared.signal.Signal.{Signal}
 use Rattle.sig_core.specs.declared.signal.epoch.EpochSignal.TheVariants.{DiVerifyReq}
 use Rattle.sig_core.specs.declared.view.View.{View}
 use Rattle.sig_core.specs.Place.{epochs}
-use Rattle.sig_core.specs.Step.{Effects, Step}
+use Rattle.sig_core.specs.Step.{Step}
 use Rattle.frag_map.specs.Layout.{first_layout}
-use Rattle.node_views.specs.Blocks.{parts_entered, parts_row}
 use Rattle.node_views.specs.declared.host.Host as node
 use Rattle.node_views.specs.declared.parts.Parts.{Parts}
 use Rattle.node_views.specs.declared.parts.Parts.TheVariants.{Shell, Main, Tc, Ldm}
@@ -44,7 +43,7 @@ use Rattle.moment_laws.proofs.MomentSignals.{EachSent, epoch_told, sent_next}
 use Rattle.moment_laws.proofs.MomentTurns.{host_low}
 use Rattle.moment_laws.proofs.MomentViews.{moment_less}
 use Rattle.outcome_laws.specs.Counts.{coordinator_member}
-use Rattle.outcome_laws.proofs.KnowOwn.{AreOwn, AreSo, AskSo, IsAskedSo, IsDecidedSo, IsOf, IsOfOwn, OwnParts, others_so, own_kept, so_effects}
+use Rattle.outcome_laws.proofs.KnowOwn.{AreOwn, AreSo, IsAskedSo, IsDecidedSo, IsOf, IsOfOwn, OwnParts, others_so, own_kept, so_effects}
 use Rattle.outcome_laws.proofs.KnowWalk.{step_keeps}
 use Rattle.outcome_laws.proofs.TcCounts.{coordinator_of_fresh}
 
@@ -162,8 +161,8 @@ module _ (start : Start) where
 
       comes_none : HasNoTc (started start e.host).parts → AreSo NoneAsk NoneOf step.effects
       comes_none none =
-          (step_keeps HasNoTc (AreSo NoneAsk NoneOf) (so_effects NoneAsk NoneOf) x e.host (after start e.host (old e.host))
-          (λ sound. others_so NoneAsk NoneOf x) (never_tc e.host (old e.host) none)).1
+          (step_keeps HasNoTc (AreSo NoneAsk NoneOf) (so_effects NoneAsk NoneOf) x e.host
+          (after start e.host (old e.host)) (λ sound. others_so NoneAsk NoneOf x) (never_tc e.host (old e.host) none)).1
 
       parts_next : (me : Member) → IsIn me (made start)
           → OwnParts me (after start (tc_of start me) (new (tc_of start me))).parts
@@ -243,7 +242,8 @@ module _ (start : Start) where
             view = (after start e.host (e ∷ old e.host)).standing.view;
             there = subst (λ (m : Member). IsIn m (made start)) (sym is) there;
             is = one.to
-                ∙ ap (λ (to : Place). reached (made start) e.host (after start e.host (e ∷ old e.host)).standing.view to)
+                ∙ ap
+                (λ (to : Place). reached (made start) e.host (after start e.host (e ∷ old e.host)).standing.view to)
                 (place ∙ ap (λ (m : Member). epochs m.node) (sym is))
                 ∙ ap
                 (λ h. reached (made start) h (after start e.host (e ∷ old e.host)).standing.view

@@ -1,5 +1,5 @@
 -- Whoever is reported committed was decided, in the epoch that is reported, and so has an entry.
-use Rattle.std.proofs.Common.{◌≡◌, ◌≢◌, ◌⊎◌, ◌∙◌, ◌++◌, ℕ, List, [], ◌∷◌, reverse, refl, sym, ap, subst, inl, inr}
+use Rattle.std.proofs.Common.{◌≡◌, ◌≢◌, ◌⊎◌, ◌++◌, ℕ, List, [], ◌∷◌, reverse, refl, sym, subst, inl, inr}
 use Rattle.std.proofs.lemmas.Bool.{cases_eq}
 use Rattle.std.proofs.lemmas.List.{reverse-append}
 use Rattle.run_theory.proofs.Pasts.{each_in, in_append}
@@ -12,7 +12,6 @@ use Rattle.sig_core.specs.declared.mark.Mark.TheVariants.{Decided, Reported}
 use Rattle.sig_core.specs.declared.member.TxId.{TxId}
 use Rattle.sig_core.specs.declared.outcome.Outcome.TheVariants as outcome
 use Rattle.world_core.specs.Entries.{entries_in, entry_of}
-use Rattle.world_core.specs.Hosts.{hosts}
 use Rattle.world_core.specs.Start.{Start}
 use Rattle.world_core.specs.Steps.{HostStep}
 use Rattle.world_views.specs.Machine.{machine}
@@ -24,14 +23,13 @@ use Rattle.moment_laws.specs.Places.{tc_of}
 use Rattle.moment_laws.proofs.MomentRuns.{are_moments}
 use Rattle.outcome_laws.specs.Counts.{coordinator_member}
 use Rattle.outcome_laws.specs.Decided.{IsBegun, IsDecided, IsMarked}
-use Rattle.outcome_laws.specs.Know.{AllKnow}
 use Rattle.outcome_laws.specs.Outcomes.{CommitsWereDecided, HasEntry}
 use Rattle.outcome_laws.specs.Tells.{IsRightMark}
 use Rattle.outcome_laws.proofs.KnowAll.{moments_know}
 
 -- what is so of each mark of a log is so of one that it has
-pub marked_so : (P : Mark → Type 0) (mark : Mark) (log : List HostStep) → Each (λ (e : HostStep). Each P e.step.marks) log
-    → IsMarked mark log → P mark
+pub marked_so : (P : Mark → Type 0) (mark : Mark) (log : List HostStep)
+    → Each (λ (e : HostStep). Each P e.step.marks) log → IsMarked mark log → P mark
 marked_so P mark [] all is = absurd is
 marked_so P mark (e ∷ log) all (inl there) = each_in P mark e.step.marks all.0 there
 marked_so P mark (e ∷ log) all (inr older) = marked_so P mark log all.1 older
@@ -100,7 +98,8 @@ module _ (start : Start) where
           → (IsMarked (Decided tx epoch) (logs_of start es h) → HasEntry tx epoch (decisions start es))
           → HasEntry tx epoch (decisions start (e ∷ es))
       by (inl at) older = own (subst (IsMarked (Decided tx epoch)) (log_of-own (machine start) e es h at) is) older
-      by (inr other) older = more (older (subst (IsMarked (Decided tx epoch)) (log_of-other (machine start) e es h other) is))
+      by (inr other) older =
+          more (older (subst (IsMarked (Decided tx epoch)) (log_of-other (machine start) e es h other) is))
 
   -- at a moment who was reported committed has one
   pub reported_entry : (all : ℕ → List HostStep) (es : List HostStep) → IsMoment start all es → (tx : TxId) (epoch : ℕ)

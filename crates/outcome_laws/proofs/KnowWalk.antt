@@ -1,6 +1,6 @@
 -- What the blocks of a host know, and what is so of the effects of a step: where both are kept whenever they take a
 -- signal and whenever a view is installed, both are kept by a step of the host.
-use Rattle.std.proofs.Common.{◌≡◌, ◌||◌, ℕ, zero, suc, Bool, true, false, nat_lt, List, [], ◌∷◌, refl}
+use Rattle.std.proofs.Common.{◌≡◌, ◌||◌, ℕ, zero, suc, Bool, true, false, nat_lt, [], ◌∷◌, refl}
 use Rattle.std.specs.Prelude.{not, Option, None, Some}
 use Rattle.std.specs.List.{list_any}
 use Rattle.sig_core.specs.declared.mark.Mark.TheVariants.{Installed, Stopped}
@@ -16,7 +16,7 @@ use Rattle.api_views.specs.Members.{same_member}
 use Rattle.node_views.specs.Blocks.{parts_entered, parts_row, settled_at}
 use Rattle.node_views.specs.declared.host.Host as hosts
 use Rattle.node_views.specs.declared.parts.Parts.{Parts}
-use Rattle.node_views.specs.Row.{blocks_row, closed_if, counted_row, cut_if, cut_marks, entered, entering_if, headed_if, headed_row, host_row, host_table, hushed, is_barred, is_cut, is_excluded, is_stop, kill_row, killed_after, marks_only, passed_if, passed_row, settle, standing_at, taken_if, unless_stopped, with_parts}
+use Rattle.node_views.specs.Row.{blocks_row, closed_if, counted_row, cut_if, cut_marks, entered, entering_if, headed_if, headed_row, host_row, host_table, hushed, is_barred, is_cut, is_excluded, is_stop, killed_after, marks_only, passed_if, passed_row, settle, standing_at, taken_if, unless_stopped, with_parts}
 use Rattle.node_views.specs.WellFormed.{is_first, is_well_formed}
 use Rattle.world_views.specs.Machine.{own_stop, step_by, step_if}
 

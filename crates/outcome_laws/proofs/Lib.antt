@@ -26,6 +26,9 @@ pub mod KnowWalk
 pub mod OnceBegins
 pub mod OnceClient
 pub mod OnceDecided
+pub mod OnceDown
+pub mod OnceDownHosts
+pub mod OnceDownTc
 pub mod OnceLinks
 pub mod OnceLogs
 pub mod OnceMarks
@@ -42,6 +45,9 @@ pub mod RowsLists
 pub mod RowsMarks
 pub mod RowsNone
 pub mod RowsSends
+pub mod StrictEvents
+pub mod StrictLists
+pub mod StrictOrder
 pub mod TakeoverKnows
 pub mod TakeoverMarks
 pub mod TakeoverTells

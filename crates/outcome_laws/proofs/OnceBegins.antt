@@ -1,17 +1,13 @@
--- The host of a transaction's coordinator tells of its begin once, and asks for its epoch once, and no other host does: so
--- each host is told of it, and asked, once at most.
-use Rattle.std.proofs.Common.{◌≡◌, ◌≢◌, ◌≤◌, ◌<◌, ◌+◌, ◌⊎◌, ◌∙◌, ℕ, Bool, true, false, List, [], ◌∷◌, ap, arith, inl, inr, refl, subst, sym}
-use Rattle.std.proofs.lemmas.Bool.{cases_eq, cases_lt}
-use Rattle.run_theory.specs.Links.{sent}
+-- The host of a transaction's coordinator tells of its begin once, and asks for its epoch once, and no other host does:
+-- so each host is told of it, and asked, once at most.
+use Rattle.std.proofs.Common.{◌≡◌, ◌≢◌, ◌≤◌, ◌<◌, ◌⊎◌, ◌∙◌, ℕ, Bool, true, false, List, [], ◌∷◌, ap, arith, inl, inr, refl, subst, sym}
+use Rattle.std.proofs.lemmas.Bool.{cases_lt}
 use Rattle.run_theory.specs.Lists.{IsIn}
-use Rattle.run_theory.specs.Logs.{IsLog}
 use Rattle.sig_core.specs.declared.member.Member.{Member}
 use Rattle.sig_core.specs.declared.member.TxId.{TxId}
 use Rattle.sig_core.specs.declared.place.Place.{Place}
 use Rattle.sig_core.specs.declared.signal.Body.{Body}
 use Rattle.sig_core.specs.declared.signal.Body.TheVariants.{Host}
-use Rattle.sig_core.specs.declared.signal.Signal.{Signal}
-use Rattle.sig_core.specs.declared.view.View.{View}
 use Rattle.frag_map.specs.Layout.{first_layout}
 use Rattle.node_views.specs.declared.host.Host as node
 use Rattle.node_views.specs.declared.parts.Parts.{Parts}
@@ -21,17 +17,15 @@ use Rattle.tc_views.specs.State.{CoordinatorState}
 use Rattle.world_core.specs.Hosts.{hosts}
 use Rattle.world_core.specs.Start.{Start, made}
 use Rattle.world_core.specs.Steps.{HostStep}
-use Rattle.world_views.specs.Hosts.{part_started, started}
-use Rattle.world_views.specs.Machine.{machine}
-use Rattle.world_views.specs.Sending.{is_own_work}
+use Rattle.world_views.specs.Hosts.{started}
 use Rattle.view_laws.specs.Runs.{AreOfCluster}
 use Rattle.moment_laws.proofs.MomentHosts.{HasNoTc, TcHost, of_none, of_tc, tc_host_is, tc_started}
 use Rattle.moment_laws.specs.Places.{tc_of}
-use Rattle.outcome_laws.specs.Counts.{IsCoordinatorOf, coordinator_member, count_sent, is_asking, is_begin, is_unborn, may_ask, one_if}
+use Rattle.outcome_laws.specs.Counts.{coordinator_member, is_asking, is_begin, is_unborn, may_ask, one_if}
 use Rattle.outcome_laws.specs.Once.{takes_in}
 use Rattle.outcome_laws.specs.Own.{IsOwnAt}
 use Rattle.outcome_laws.proofs.OnceLinks.{AreSentOnly, takes_few}
-use Rattle.outcome_laws.proofs.OnceLogs.{count_on, link_count, log_light, sends_in}
+use Rattle.outcome_laws.proofs.OnceLogs.{link_count, log_light, sends_in}
 use Rattle.outcome_laws.proofs.OnceNobody.{apart_light, asking_coordinators, asks_apart, begin_coordinators, begins_apart, no_tc_light, nothing, of_nobody}
 use Rattle.outcome_laws.proofs.OnceNone.{is_counted, uncounted_asking, uncounted_begin}
 use Rattle.outcome_laws.proofs.OnceClient.{is_coordinators}
@@ -40,7 +34,7 @@ use Rattle.outcome_laws.proofs.OnceParts.{IsTcOf, coordinator_light, no_body, of
 use Rattle.outcome_laws.proofs.TcCounts.{asks_once, asks_once_installed, begins_once, begins_once_installed, coordinator_of_fresh}
 
 -- no signal adds to what may be sent
-none_taken : (log : List HostStep) → takes_in no_body log ≡ 0
+pub none_taken : (log : List HostStep) → takes_in no_body log ≡ 0
 none_taken [] = refl
 none_taken (e ∷ log) = let more = none_taken log in omega (arith, more)
 
@@ -99,6 +93,12 @@ module _ (p : Body → Bool) (counts : (body : Body) → is_counted body ≡ fal
     pub nowhere_sends : (h : ℕ) → hosts start ≤ h → sends_in p start h (logs h) ≡ 0
     nowhere_sends h high = ap (sends_in p start h) (are.within h high)
 
+-- how often a coordinator may ask for the epoch of a transaction
+pub ask_light : (tx : TxId) (me : Member) → AreLight (of_coordinator (is_asking tx) (λ s. may_ask s tx)) (IsTcOf me)
+ask_light tx me =
+    coordinator_light (is_asking tx) (uncounted_asking tx) me (λ s. may_ask s tx) (λ s x of. asks_once me tx s x of)
+    (λ s view of. asks_once_installed tx s view)
+
 module _ (tx : TxId) (start : Start) (logs : ℕ → List HostStep) (are : AreOfCluster start logs) where
   -- what the coordinator of a member alone sends, once
   record IsOnce (p : Body → Bool) : Type 0 where
@@ -125,7 +125,8 @@ module _ (tx : TxId) (start : Start) (logs : ℕ → List HostStep) (are : AreOf
         by (inl low) = of_host (tc_host_is start h low)
         by (inr high) = nowhere_sends p once.counts start logs are h high
 
-    its_own_sends : sends_in p start (tc_of start (coordinator_member tx)) (logs (tc_of start (coordinator_member tx))) ≤ 1
+    its_own_sends :
+        sends_in p start (tc_of start (coordinator_member tx)) (logs (tc_of start (coordinator_member tx))) ≤ 1
     its_own_sends = by (cases_lt h (hosts start))
       where
         h : ℕ
@@ -175,18 +176,13 @@ module _ (tx : TxId) (start : Start) (logs : ℕ → List HostStep) (are : AreOf
     first = λ me. few_ones (is_unborn (fresh_coordinator me.node me.start (first_layout start.shape)) tx);
   }
 
-  ask_light : (me : Member) → AreLight (of_coordinator (is_asking tx) (λ s. may_ask s tx)) (IsTcOf me)
-  ask_light me =
-      coordinator_light (is_asking tx) (uncounted_asking tx) me (λ s. may_ask s tx) (λ s x of. asks_once me tx s x of)
-      (λ s view of. asks_once_installed tx s view)
-
   asks_are : IsOnce (is_asking tx)
   asks_are = record {
     counts = uncounted_asking tx;
     coordinators = asking_coordinators tx;
     apart = asks_apart tx;
     may = λ s. may_ask s tx;
-    light = ask_light;
+    light = ask_light tx;
     first = λ me.
         let ones = few_ones (is_unborn (fresh_coordinator me.node me.start (first_layout start.shape)) tx) in
         omega (arith, ones);

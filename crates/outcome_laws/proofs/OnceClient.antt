@@ -1,12 +1,13 @@
 -- The client's side sends nothing that counts but wishes to commit, and decides nothing.
-use Rattle.std.proofs.Common.{◌≡◌, Bool, true, false, List, [], ◌∷◌, refl}
+use Rattle.std.proofs.Common.{◌≡◌, Bool, true, false, List, refl}
 use Rattle.run_theory.specs.Lists.{Each}
 use Rattle.run_theory.proofs.Pasts.{each_map}
 use Rattle.sig_core.specs.declared.mark.Mark.{Mark}
 use Rattle.sig_core.specs.declared.member.TxId.{TxId}
 use Rattle.sig_core.specs.declared.outs.Outgoing.{Outgoing}
 use Rattle.sig_core.specs.declared.signal.Body.{Body}
-use Rattle.sig_core.specs.declared.signal.Body.TheVariants.{Client, Epoch}
+use Rattle.sig_core.specs.declared.signal.Body.TheVariants.{Chain, Client, Epoch}
+use Rattle.sig_core.specs.declared.signal.chain.ChainSignal.TheVariants.{LqhKeyRef}
 use Rattle.sig_core.specs.declared.signal.client.ClientSignal.TheVariants.{TcBeginConf, TcCommitReq, TcKeyConf, TcRollbackRep}
 use Rattle.sig_core.specs.declared.signal.epoch.EpochSignal.TheVariants.{DiVerifyReq}
 use Rattle.sig_core.specs.declared.signal.Signal.{Signal}
@@ -15,13 +16,15 @@ use Rattle.api_views.specs.Client.{client_row}
 use Rattle.api_views.specs.State.{ClientState}
 use Rattle.outcome_laws.specs.Counts.{is_decision}
 use Rattle.outcome_laws.proofs.ClientTurns.{ArePlain, ClientForms, IsPlain, client_turns, is_plain}
+use Rattle.outcome_laws.proofs.OnceNone.{is_down_cause}
 
--- what only coordinators send
+-- what only coordinators send, or replicas never
 abbrev pub is_coordinators : Body → Bool
 is_coordinators (Client (TcBeginConf name tx)) = true
 is_coordinators (Client (TcKeyConf tx answer)) = true
 is_coordinators (Client (TcRollbackRep tx cause)) = true
 is_coordinators (Epoch (DiVerifyReq tx ops)) = true
+is_coordinators (Chain (LqhKeyRef tx key cause)) = is_down_cause cause
 is_coordinators body = false
 
 abbrev IsAllowed : Outgoing → Type 0
@@ -35,6 +38,7 @@ plain_allowed sent plain = by sent.body plain
     by (Client (TcKeyConf tx answer)) plain = absurd cc
     by (Client (TcRollbackRep tx cause)) plain = absurd cc
     by (Epoch (DiVerifyReq tx ops)) plain = absurd cc
+    by (Chain signal) plain = absurd cc
     by body plain = refl
 
 abbrev SendsAllowed : List OpenTransaction → List Outgoing → List Mark → Type 0

@@ -1,6 +1,6 @@
 -- A transaction is decided once at most, and stands once at most among the entries.
-use Rattle.std.proofs.Common.{◌≡◌, ◌≢◌, ◌≤◌, ◌<◌, ◌+◌, ◌⊎◌, ◌∙◌, ◌%◌, ℕ, zero, suc, Bool, true, false, List, [], ◌∷◌, ap, arith, inl, inr, refl, subst, sym}
-use Rattle.std.proofs.lemmas.Bool.{cases_eq, true≢false}
+use Rattle.std.proofs.Common.{◌≡◌, ◌≢◌, ◌≤◌, ◌+◌, ◌⊎◌, ◌∙◌, ◌%◌, ℕ, zero, suc, Bool, true, false, List, [], ◌∷◌, ap, arith, inl, inr, refl, subst}
+use Rattle.std.proofs.lemmas.Bool.{cases_eq}
 use Rattle.std.specs.List.{count_by}
 use Rattle.std.specs.Prelude.{if◌then◌else◌}
 use Rattle.run_theory.specs.Lists.{Each}
@@ -15,7 +15,6 @@ use Rattle.sig_core.specs.declared.place.Part.TheVariants.{Ldm, Main, Tc}
 use Rattle.sig_core.specs.Same.{same_tx}
 use Rattle.sig_core.proofs.Keys.{same_tx-self}
 use Rattle.sig_core.proofs.TxLemmas.{same_tx-is}
-use Rattle.node_views.specs.declared.parts.Parts.{Parts}
 use Rattle.world_core.specs.Entries.{entries, entries_in, entries_of, entry_of, insert, insert_all, is_before}
 use Rattle.world_core.specs.Hosts.{hosts, member_at, part_by}
 use Rattle.world_core.specs.Start.{Start, made}
@@ -24,7 +23,6 @@ use Rattle.world_views.specs.Hosts.{part_started, started}
 use Rattle.world_views.specs.Machine.{machine}
 use Rattle.view_laws.specs.Runs.{AreOfCluster}
 use Rattle.moment_laws.proofs.MomentRuns.{have_moments}
-use Rattle.moment_laws.specs.Moments.{logs_of}
 use Rattle.moment_laws.specs.Places.{tc_of}
 use Rattle.outcome_laws.specs.Counts.{coordinator_member, is_asking, is_decision, one_if}
 use Rattle.outcome_laws.specs.Once.{marks_in, takes_in}
@@ -73,7 +71,8 @@ module _ (start : Start) (logs : ℕ → List HostStep) (are : AreOfCluster star
       )
     where
       apart : (u : TxId) → h ≡ tc_of start (coordinator_member u) → (b : Bool) → same_tx u tx ≡ b → b ≡ false
-      apart u at true is = absurd (other (at ∙ ap (λ (v : TxId). tc_of start (coordinator_member v)) (same_tx-is u tx is)))
+      apart u at true is =
+          absurd (other (at ∙ ap (λ (v : TxId). tc_of start (coordinator_member v)) (same_tx-is u tx is)))
       apart u at false is = refl
 
       by : (mark : Mark) → IsDecidedHere start h mark → is_decision tx mark ≡ false
@@ -94,9 +93,6 @@ module _ (start : Start) (logs : ℕ → List HostStep) (are : AreOfCluster star
       omega (arith, decides_asked tx start h (logs h) (are.right.local h), ask_once tx start logs are h)
 
   -- so it has one entry at most
-  abbrev has_it : Entry → Bool
-  has_it a = same_tx a.tx tx
-
   step_entries : (h stamp : ℕ) (log : List HostStep) (marks : List Mark) (before : List Entry)
       → count_by (λ (a : Entry). same_tx a.tx tx) (entries_in h stamp log marks before)
       ≡ count_by (is_decision tx) marks + count_by (λ (a : Entry). same_tx a.tx tx) before

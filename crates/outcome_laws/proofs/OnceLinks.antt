@@ -1,17 +1,13 @@
--- What a host takes of a kind from a link its sender has sent there; so where one host alone sends it, no more is taken than
--- that has sent.
-use Rattle.std.proofs.Common.{◌≡◌, ◌≢◌, ◌≤◌, ◌+◌, ◌⊎◌, ◌∙◌, ◌&&◌, ◌==◌, not, ℕ, Bool, true, false, List, [], ◌∷◌, ◌++◌, ap, arith, inl, inr, refl, sym, subst}
+-- What a host takes of a kind from a link its sender has sent there; so where one host alone sends it, no more is taken
+-- than that has sent.
+use Rattle.std.proofs.Common.{◌≡◌, ◌≢◌, ◌≤◌, ◌+◌, ◌⊎◌, ◌∙◌, ◌&&◌, ◌==◌, ℕ, Bool, true, false, List, [], ◌∷◌, ap, arith, inl, inr, refl, sym, subst}
 use Rattle.std.proofs.lemmas.Bool.{cases_eq, true≢false}
-use Rattle.std.specs.List.{count_by}
-use Rattle.run_theory.specs.Links.{Closes, IsGiven, put, sent, sent_by, taken}
-use Rattle.run_theory.specs.Lists.{Each, IsPast}
+use Rattle.run_theory.specs.Links.{IsGiven, sent, taken}
+use Rattle.run_theory.specs.Lists.{IsPast}
 use Rattle.run_theory.specs.Runs.{AreLogs}
 use Rattle.run_theory.proofs.Runs.{TakenCases, same, taken-step, taken_cases, took}
-use Rattle.sig_core.specs.declared.outcome.StopCause.{StopCause}
 use Rattle.sig_core.specs.declared.signal.Body.{Body}
-use Rattle.sig_core.specs.declared.signal.Body.TheVariants.{Host}
 use Rattle.sig_core.specs.declared.signal.Signal.{Signal}
-use Rattle.sig_core.specs.declared.signal.host.HostSignal.TheVariants.{Closed}
 use Rattle.world_core.specs.Start.{Start}
 use Rattle.world_core.specs.Steps.{Addressed, HostStep}
 use Rattle.world_views.specs.Machine.{machine}

@@ -1,5 +1,5 @@
 -- Along a log what a host sends and marks of a kind is no more than it may at first, and takes signals that add to it.
-use Rattle.std.proofs.Common.{◌≡◌, ◌≤◌, ◌+◌, ◌==◌, ℕ, Bool, true, false, List, [], ◌∷◌, ap, arith, cond, refl, sym}
+use Rattle.std.proofs.Common.{◌≡◌, ◌≤◌, ◌+◌, ◌==◌, ℕ, Bool, true, false, List, [], ◌∷◌, ap, arith, refl}
 use Rattle.std.specs.List.{count_by}
 use Rattle.std.specs.Prelude.{if◌then◌else◌}
 use Rattle.run_theory.specs.Links.{put, sent, sent_by}
@@ -18,7 +18,7 @@ use Rattle.world_views.specs.Machine.{after, machine, routed_after, sender, sent
 use Rattle.world_views.specs.Sending.{Routed, all_addressed, addressed, is_kept_back, routed, routed_all, routed_if}
 use Rattle.outcome_laws.specs.Counts.{count_sent, one_if}
 use Rattle.outcome_laws.specs.Once.{marks_in, takes_in}
-use Rattle.outcome_laws.proofs.OnceWalk.{AreLight, IsLight, Scale, step_light}
+use Rattle.outcome_laws.proofs.OnceWalk.{AreLight, Scale, step_light}
 use Rattle.outcome_laws.proofs.TcLists.{count_more}
 
 -- signals on their way
@@ -76,7 +76,7 @@ module _ (p : Body → Bool) where
         )
 
     -- and nothing where the host stops
-    sent_by_count : (h : ℕ) (log : List HostStep) (e : HostStep)
+    pub sent_by_count : (h : ℕ) (log : List HostStep) (e : HostStep)
         → count_on p (sent_by (machine start) h log e) ≤ count_sent p (step_after start h log e).effects.sends
     sent_by_count h log e = by ((machine start).stops e)
       where

@@ -1,5 +1,5 @@
--- What decides and reports a transaction: the epochs of a node decide as many as are held and asked for, and the client's
--- side reports, and asks for the commit of, as many as are open and begin.
+-- What decides and reports a transaction: the epochs of a node decide as many as are held and asked for, and the
+-- client's side reports, and asks for the commit of, as many as are open and begin.
 use Rattle.std.proofs.Common.{◌≡◌, ◌≤◌, ◌+◌, ◌||◌, ℕ, Bool, true, false, List, [], ap, arith, refl}
 use Rattle.std.proofs.lemmas.Bool.{true≢false}
 use Rattle.run_theory.specs.Lists.{Each}
@@ -10,7 +10,6 @@ use Rattle.sig_core.specs.declared.member.HostId.{HostId}
 use Rattle.sig_core.specs.declared.member.Member.{Member}
 use Rattle.sig_core.specs.declared.member.TxId.{TxId}
 use Rattle.sig_core.specs.declared.outcome.StopCause.{StopCause}
-use Rattle.sig_core.specs.declared.outs.Outgoing.{Outgoing}
 use Rattle.sig_core.specs.declared.place.BlockId.{BlockId}
 use Rattle.sig_core.specs.declared.place.BlockId.TheVariants as block
 use Rattle.sig_core.specs.declared.signal.Body.{Body}

@@ -1,5 +1,5 @@
--- Hosts that send none: a coordinator of another member tells of no begin of the transaction and asks for no epoch for it,
--- hosts without a coordinator do neither, and none but the shell's asks for a commit.
+-- Hosts that send none: a coordinator of another member tells of no begin of the transaction and asks for no epoch for
+-- it, hosts without a coordinator do neither, and none but the shell's asks for a commit.
 use Rattle.std.proofs.Common.{◌≡◌, ◌≤◌, ◌+◌, ◌∙◌, ℕ, Bool, true, false, List, [], ap, arith, refl, sym}
 use Rattle.run_theory.specs.Lists.{Each}
 use Rattle.run_theory.proofs.Pasts.{each_map}
@@ -11,7 +11,8 @@ use Rattle.sig_core.specs.declared.place.BlockId.{BlockId}
 use Rattle.sig_core.specs.declared.place.BlockId.TheVariants as block
 use Rattle.sig_core.specs.declared.place.Place.{Place}
 use Rattle.sig_core.specs.declared.signal.Body.{Body}
-use Rattle.sig_core.specs.declared.signal.Body.TheVariants.{Client, Epoch}
+use Rattle.sig_core.specs.declared.signal.Body.TheVariants.{Chain, Client, Epoch}
+use Rattle.sig_core.specs.declared.signal.chain.ChainSignal.TheVariants.{LqhKeyRef}
 use Rattle.sig_core.specs.declared.signal.client.ClientSignal.TheVariants.{TcBeginConf, TcCommitReq, TcKeyConf, TcRollbackRep}
 use Rattle.sig_core.specs.declared.signal.epoch.EpochSignal.TheVariants.{DiVerifyReq}
 use Rattle.sig_core.specs.declared.signal.Signal.{Signal}
@@ -67,7 +68,8 @@ module _ (me : Member) (p : Body → Bool) (counts : (body : Body) → is_counte
         installs : (s : CoordinatorState) (view : View) → IsCoordinatorOf me s
             → count_sent p (coordinator.install_row s view).effects.sends + 0 ≤ 0
         installs s view of =
-            omega (arith, apart_none (coordinator.install_row s view).effects.sends (coordinator_installs_own me s view))
+            let sends = (coordinator.install_row s view).effects.sends in
+            omega (arith, apart_none sends (coordinator_installs_own me s view))
 
 -- what only a transaction's own member sends
 module _ (tx : TxId) (me : Member) (other : coordinator_member tx ≡ me → ⊥) where
@@ -97,6 +99,7 @@ counted_coordinators (Client (TcBeginConf name tx)) none = absurd cc
 counted_coordinators (Client (TcKeyConf tx answer)) none = absurd cc
 counted_coordinators (Client (TcRollbackRep tx cause)) none = absurd cc
 counted_coordinators (Epoch (DiVerifyReq tx ops)) none = absurd cc
+counted_coordinators (Chain (LqhKeyRef tx key cause)) none = none
 counted_coordinators body none = refl
 
 pub begin_coordinators : (tx : TxId) (body : Body) → is_coordinators body ≡ false → is_begin tx body ≡ false
@@ -117,13 +120,13 @@ IsBeside (Main p) = Unit {0}
 IsBeside (Ldm p) = Unit {0}
 IsBeside parts = ⊥
 
-main_uncounted : (q : MainPart) (b : BlockId) (x : Signal) → AreUncounted (main_row q b x).effects.sends
+pub main_uncounted : (q : MainPart) (b : BlockId) (x : Signal) → AreUncounted (main_row q b x).effects.sends
 unfolding main_row
 main_uncounted q block.Qmgr x = untold_uncounted _ (membership_tells_nothing q.qmgr x).0
 main_uncounted q block.GcpMaster x = untold_uncounted _ (master_tells_nothing q.master x).0
 main_uncounted q _ x = tt
 
-ldm_uncounted : (q : LdmPart) (b : BlockId) (x : Signal) → AreUncounted (ldm_row q b x).effects.sends
+pub ldm_uncounted : (q : LdmPart) (b : BlockId) (x : Signal) → AreUncounted (ldm_row q b x).effects.sends
 unfolding ldm_row
 ldm_uncounted q block.Lqh x = replica_none q.replica x
 ldm_uncounted q _ x = tt
@@ -156,7 +159,8 @@ module _ (p : Body → Bool) (counts : (body : Body) → is_counted body ≡ fal
       → IsLight (of_nobody p) IsBeside 0 (parts_entered parts view).effects (parts_entered parts view).state
   beside_enters (Main q) view beside =
       light IsBeside (parts_entered (Main q) view).state (parts_entered (Main q) view).effects.sends
-      (parts_entered (Main q) view).effects.marks tt (not_counted _ (untold_uncounted _ (membership_installs_nothing q.qmgr view).0))
+      (parts_entered (Main q) view).effects.marks tt
+      (not_counted _ (untold_uncounted _ (membership_installs_nothing q.qmgr view).0))
   beside_enters (Ldm q) view beside = light IsBeside (parts_entered (Ldm q) view).state [] [] tt tt
   beside_enters (Shell q) view beside = absurd beside
   beside_enters (Tc q) view beside = absurd beside
@@ -180,7 +184,7 @@ module _ (p : Body → Bool) (counts : (body : Body) → is_counted body ≡ fal
 
   -- also the shell's, where only coordinators send it
   module _ (coordinators : (body : Body) → is_coordinators body ≡ false → p body ≡ false) where
-    shell_none : (q : ShellPart) (b : BlockId) (x : Signal)
+    pub shell_none : (q : ShellPart) (b : BlockId) (x : Signal)
         → Each (λ (sent : Outgoing). p sent.body ≡ false) (shell_row q b x).effects.sends
     unfolding shell_row
     shell_none q block.Api x =

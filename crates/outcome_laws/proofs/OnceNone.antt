@@ -1,16 +1,19 @@
--- Signals that count: what only a coordinator tells a client, or asks the epochs of its node, and what only a client asks a
--- coordinator; and lists of sends, of which one event sends a part.
+-- Signals that count: what only a coordinator tells a client, or asks the epochs of its node, and what only a client asks
+-- a coordinator; that the cluster is down no replica says. And lists of sends, of which one event sends a part.
 use Rattle.std.proofs.Common.{◌≡◌, ◌+◌, ℕ, Bool, true, false, List, [], ◌∷◌, take, drop, length, nat_lt, ap, arith, refl}
 use Rattle.std.specs.List.{count_by}
 use Rattle.run_theory.specs.Lists.{Each}
 use Rattle.run_theory.proofs.EachSent.{each_drop, each_take}
 use Rattle.run_theory.proofs.Pasts.{each_append}
 use Rattle.sig_core.specs.declared.member.TxId.{TxId}
+use Rattle.sig_core.specs.declared.outcome.AbortCause.{AbortCause}
+use Rattle.sig_core.specs.declared.outcome.AbortCause.TheVariants.{Down}
 use Rattle.sig_core.specs.declared.outs.Outgoing.{Outgoing}
 use Rattle.sig_core.specs.declared.place.Place.{Place}
 use Rattle.sig_core.specs.declared.portion.TheConstants.{PORTION}
 use Rattle.sig_core.specs.declared.signal.Body.{Body}
-use Rattle.sig_core.specs.declared.signal.Body.TheVariants.{Client, Epoch}
+use Rattle.sig_core.specs.declared.signal.Body.TheVariants.{Chain, Client, Epoch}
+use Rattle.sig_core.specs.declared.signal.chain.ChainSignal.TheVariants.{LqhKeyRef}
 use Rattle.sig_core.specs.declared.signal.client.ClientSignal.TheVariants.{TcBeginConf, TcCommitReq, TcKeyConf, TcKeyReq, TcRollbackRep}
 use Rattle.sig_core.specs.declared.signal.epoch.EpochSignal.TheVariants.{DiVerifyReq}
 use Rattle.sig_core.specs.declared.signal.host.Work.{Work}
@@ -19,6 +22,11 @@ use Rattle.sig_core.specs.Step.{Step}
 use Rattle.outcome_laws.specs.Counts.{is_asking, is_begin, is_wish, one_if}
 use Rattle.outcome_laws.proofs.TcLists.{count_more}
 
+-- the cluster is down
+abbrev pub is_down_cause : AbortCause → Bool
+is_down_cause Down = true
+is_down_cause cause = false
+
 abbrev pub is_counted : Body → Bool
 is_counted (Client (TcBeginConf name tx)) = true
 is_counted (Client (TcKeyReq tx op)) = true
@@ -26,7 +34,14 @@ is_counted (Client (TcKeyConf tx answer)) = true
 is_counted (Client (TcCommitReq tx)) = true
 is_counted (Client (TcRollbackRep tx cause)) = true
 is_counted (Epoch (DiVerifyReq tx ops)) = true
+is_counted (Chain (LqhKeyRef tx key cause)) = is_down_cause cause
 is_counted body = false
+
+-- it tells a client, or a coordinator, that a transaction is aborted since the cluster is down
+abbrev pub is_downfall : Body → Bool
+is_downfall (Client (TcRollbackRep tx cause)) = is_down_cause cause
+is_downfall (Chain (LqhKeyRef tx key cause)) = is_down_cause cause
+is_downfall body = false
 
 -- it is none of them
 abbrev pub IsUncounted : Outgoing → Type 0
@@ -69,3 +84,8 @@ uncounted_wish tx body none = refl
 pub uncounted_asking : (tx : TxId) (body : Body) → is_counted body ≡ false → is_asking tx body ≡ false
 uncounted_asking tx (Epoch (DiVerifyReq other ops)) none = absurd cc
 uncounted_asking tx body none = refl
+
+pub uncounted_downfall : (body : Body) → is_counted body ≡ false → is_downfall body ≡ false
+uncounted_downfall (Client (TcRollbackRep tx cause)) none = absurd cc
+uncounted_downfall (Chain (LqhKeyRef tx key cause)) none = none
+uncounted_downfall body none = refl

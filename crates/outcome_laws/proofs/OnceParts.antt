@@ -1,52 +1,42 @@
--- What the parts of hosts weigh: of one transaction how often its coordinator may still tell of its begin and ask for its
--- epoch, how often epochs may decide it, and how often the client's side may ask for its commit and report it.
-use Rattle.std.proofs.Common.{◌≡◌, ◌≤◌, ◌+◌, ◌++◌, ◌||◌, ℕ, zero, suc, Bool, true, false, List, [], ◌∷◌, ap, arith, refl, subst, sym}
+-- What the part of a coordinator weighs: how often it may still send what only coordinators send, as that a transaction
+-- has begun, or that it asks for an epoch.
+use Rattle.std.proofs.Common.{◌≡◌, ◌≤◌, ◌+◌, ℕ, Bool, false, List, [], ◌∷◌, ap, arith, refl, subst, sym}
 use Rattle.run_theory.specs.Lists.{Each}
 use Rattle.run_theory.proofs.Pasts.{each_map}
 use Rattle.sig_core.specs.declared.mark.Mark.{Mark}
-use Rattle.sig_core.specs.declared.mark.Mark.TheVariants.{Decided}
 use Rattle.sig_core.specs.declared.member.Member.{Member}
-use Rattle.sig_core.specs.declared.member.TxId.{TxId}
 use Rattle.sig_core.specs.declared.outs.Outgoing.{Outgoing}
 use Rattle.sig_core.specs.declared.place.BlockId.{BlockId}
 use Rattle.sig_core.specs.declared.place.BlockId.TheVariants as block
 use Rattle.sig_core.specs.declared.signal.Body.{Body}
-use Rattle.sig_core.specs.declared.signal.Body.TheVariants.{Client, Epoch}
+use Rattle.sig_core.specs.declared.signal.Body.TheVariants.{Chain, Client, Epoch}
+use Rattle.sig_core.specs.declared.signal.chain.ChainSignal.TheVariants.{LqhKeyRef}
 use Rattle.sig_core.specs.declared.signal.client.ClientSignal.TheVariants.{TcBeginConf, TcCommitReq, TcKeyConf, TcKeyReq, TcRollbackRep}
 use Rattle.sig_core.specs.declared.signal.epoch.EpochSignal.TheVariants.{DiVerifyReq}
 use Rattle.sig_core.specs.declared.signal.Signal.{Signal}
 use Rattle.sig_core.specs.declared.view.View.{View}
 use Rattle.sig_core.specs.Step.{Effects}
-use Rattle.arbiter_block.specs.Arbiter.{arbiter_row}
 use Rattle.dih_node.specs.Dih.{dih_row}
 use Rattle.dih_node.specs.Orders as dih
 use Rattle.dih_node.specs.State.{DihState, go_on_if}
 use Rattle.dih_node.specs.Verify.{given}
-use Rattle.gcp_master.specs.Master.{master_row}
-use Rattle.lqh_views.specs.Replica.{replica_row}
 use Rattle.node_views.specs.Blocks.{parts_entered, parts_row}
 use Rattle.node_views.specs.Replies.{giving}
-use Rattle.node_views.specs.Parts.{ldm_row, main_entered, main_row, shell_row, tc_entered, tc_row}
-use Rattle.node_views.specs.declared.ldm_part.LdmPart.{LdmPart}
-use Rattle.node_views.specs.declared.main_part.MainPart.{MainPart}
+use Rattle.node_views.specs.Parts.{tc_entered, tc_row}
 use Rattle.node_views.specs.declared.parts.Parts.{Parts}
 use Rattle.node_views.specs.declared.parts.Parts.TheVariants.{Ldm, Main, Shell, Tc}
-use Rattle.node_views.specs.declared.shell_part.ShellPart.{ShellPart}
 use Rattle.node_views.specs.declared.tc_part.TcPart.{TcPart}
-use Rattle.qmgr_block.specs.Qmgr.{qmgr_row}
 use Rattle.takeover_block.specs.Takeover.{takeover_row}
 use Rattle.tc_views.specs.Coordinator.{coordinator_row}
 use Rattle.tc_views.specs.State.{CoordinatorState}
 use Rattle.tc_views.specs.Views as coordinator
-use Rattle.outcome_laws.specs.Counts.{IsCoordinatorOf, count_held, count_open, count_sent, is_asking, is_begin, is_decision, is_report, is_unborn, may_ask, one_if}
-use Rattle.outcome_laws.proofs.DihCounts.{decides_few, installs_count_held, installs_decide_none}
+use Rattle.outcome_laws.specs.Counts.{IsCoordinatorOf, count_sent}
 use Rattle.outcome_laws.proofs.DihSilent.{AreSilent, IsSilent, is_telling}
 use Rattle.outcome_laws.proofs.DihWalk.{dih_each, dih_installs_quiet, goes_on_silent}
 use Rattle.outcome_laws.proofs.OnceNone.{AreUncounted, IsUncounted, count_none, is_counted}
 use Rattle.outcome_laws.proofs.OnceTakeover.{takeover_none}
 use Rattle.outcome_laws.proofs.OnceWalk.{AreLight, IsLight, Scale, count_marked}
-use Rattle.outcome_laws.proofs.TakeoverMarks.{takeover_marks_nothing}
-use Rattle.outcome_laws.proofs.TcCounts.{asks_once, asks_once_installed, begins_once, begins_once_installed, coordinator_of_installed, coordinator_of_stays}
+use Rattle.outcome_laws.proofs.TcCounts.{coordinator_of_installed, coordinator_of_stays}
 use Rattle.outcome_laws.proofs.TcLists.{count_both}
 
 -- nothing that counts
@@ -80,6 +70,7 @@ silent_uncounted sends all = each_map IsSilent IsUncounted sends (λ sent is. by
     by (Client (TcKeyConf tx answer)) is = absurd cc
     by (Client (TcCommitReq tx)) is = absurd cc
     by (Client (TcRollbackRep tx cause)) is = absurd cc
+    by (Chain (LqhKeyRef tx key cause)) is = absurd cc
     by (Epoch (DiVerifyReq tx ops)) is = absurd cc
     by body is = refl
 

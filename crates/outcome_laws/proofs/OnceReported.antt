@@ -1,5 +1,5 @@
 -- A transaction is reported once at most.
-use Rattle.std.proofs.Common.{◌≡◌, ◌≤◌, ◌+◌, ℕ, List, [], ◌∷◌, ap, arith, refl}
+use Rattle.std.proofs.Common.{◌≡◌, ◌≤◌, ◌+◌, List, [], ◌∷◌, ap, arith, refl}
 use Rattle.std.specs.List.{count_by}
 use Rattle.run_theory.specs.Logs.{IsLog}
 use Rattle.sig_core.specs.declared.member.TxId.{TxId}
@@ -7,7 +7,6 @@ use Rattle.world_core.specs.Start.{Start}
 use Rattle.world_core.specs.Steps.{HostStep}
 use Rattle.world_views.specs.Hosts.{started}
 use Rattle.world_views.specs.Machine.{machine}
-use Rattle.node_views.specs.declared.parts.Parts.{Parts}
 use Rattle.outcome_laws.specs.Counts.{count_open, is_begin, is_report}
 use Rattle.outcome_laws.specs.Once.{marks_in, takes_in}
 use Rattle.outcome_laws.specs.Outcomes.{TransactionsAreReportedOnce, reports_in}

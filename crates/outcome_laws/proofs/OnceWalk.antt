@@ -1,6 +1,6 @@
--- Scales: what the blocks of a host weigh, with what they send and mark of a kind, grows in a step of the host by no more
--- than where they take its signal.
-use Rattle.std.proofs.Common.{◌≡◌, ◌≤◌, ◌+◌, ◌||◌, ◌++◌, ℕ, zero, suc, Bool, true, false, nat_lt, List, [], ◌∷◌, ap, arith}
+-- Scales: what the blocks of a host weigh, with what they send and mark of a kind, grows in a step of the host by no
+-- more than where they take its signal.
+use Rattle.std.proofs.Common.{◌≡◌, ◌≤◌, ◌+◌, ◌||◌, ℕ, zero, suc, Bool, true, false, nat_lt, List, [], ◌∷◌, ap, arith}
 use Rattle.std.specs.List.{count_by, list_any}
 use Rattle.std.specs.Prelude.{not, Option, None, Some}
 use Rattle.sig_core.specs.declared.mark.Mark.{Mark}
@@ -19,7 +19,7 @@ use Rattle.node_views.specs.Blocks.{parts_entered, parts_row, settled_at}
 use Rattle.node_views.specs.declared.host.Host as hosts
 use Rattle.node_views.specs.declared.parts.Parts.{Parts}
 use Rattle.node_views.specs.Replies.{giving}
-use Rattle.node_views.specs.Row.{blocks_row, closed_if, counted_row, cut_if, entered, entering_if, headed_if, headed_row, host_row, host_table, hushed, is_barred, is_cut, is_excluded, is_stop, kill_row, killed_after, marks_only, passed_if, passed_row, settle, standing_at, stopping, taken_if, unless_stopped, with_parts}
+use Rattle.node_views.specs.Row.{blocks_row, closed_if, counted_row, cut_if, entered, entering_if, headed_if, headed_row, host_row, host_table, hushed, is_barred, is_cut, is_excluded, is_stop, kill_row, killed_after, marks_only, passed_if, passed_row, settle, standing_at, taken_if, unless_stopped, with_parts}
 use Rattle.node_views.specs.WellFormed.{is_first, is_well_formed}
 use Rattle.world_views.specs.Machine.{own_stop, step_by, step_if, told}
 use Rattle.outcome_laws.specs.Counts.{count_sent, one_if}

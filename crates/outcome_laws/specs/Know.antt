@@ -12,7 +12,7 @@ use Rattle.outcome_laws.specs.Known.{PartsKnow}
 use Rattle.outcome_laws.specs.Tells.{IsRightMark, Tells}
 
 module _ (start : Start) (logs : ℕ → List HostStep) where
-  -- what is known by a host, told by a signal and marked by a step, of what these logs say to be decided and to have begun
+  -- what is known by a host, told by a signal and marked by a step, where these logs say who was decided and has begun
   abbrev pub HostKnows : ℕ → Type 0
   HostKnows h = PartsKnow (IsDecided start logs) (IsBegun start logs) (after start h (logs h)).parts
 
