@@ -22,7 +22,6 @@ is_telling (Client (TcKeyConf tx answer)) = true
 is_telling (Client (TcCommitReq tx)) = true
 is_telling (Epoch (DiVerifyReq tx ops)) = true
 is_telling (Epoch (DiVerifyConf tx epoch)) = true
-is_telling (Chain (LqhKeyRef tx key cause)) = true
 is_telling (Chain (Commit tx key epoch chain at)) = true
 is_telling (Client (TcCommitConf tx epoch)) = true
 is_telling (Client (TcKeyFailConf tx epoch)) = true

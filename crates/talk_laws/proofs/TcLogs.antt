@@ -21,35 +21,38 @@ use Rattle.sig_core.specs.declared.view.View.{View}
 use Rattle.sig_core.specs.Same.{same_tx}
 use Rattle.report_laws.specs.Asked.{asked_by}
 use Rattle.frag_map.specs.Layout.{first_layout}
+use Rattle.frag_map.specs.Shape.{Shape}
 use Rattle.dih_node.specs.Orders as dih
+use Rattle.dih_node.specs.Dih.{fresh_dih}
+use Rattle.takeover_block.specs.State.{resting}
+use Rattle.node_views.specs.declared.host.Host as node
 use Rattle.node_views.specs.declared.parts.Parts.{Parts}
 use Rattle.node_views.specs.declared.parts.Parts.TheVariants as part
 use Rattle.node_views.specs.declared.tc_part.TcPart.{TcPart}
 use Rattle.node_views.specs.Parts.{tc_entered, tc_row}
 use Rattle.tc_block.specs.declared.transaction.Transaction.{Transaction}
-use Rattle.tc_views.specs.Coordinator.{coordinator_row}
+use Rattle.tc_views.specs.Coordinator.{coordinator_row, fresh_coordinator}
 use Rattle.tc_views.specs.State.{CoordinatorState}
 use Rattle.tc_views.specs.Views as coordinator
 use Rattle.world_core.specs.Entries.{verified_by}
 use Rattle.world_core.specs.Start.{Start, made}
 use Rattle.world_core.specs.Steps.{HostStep}
-use Rattle.world_views.specs.Hosts.{started}
+use Rattle.world_views.specs.Hosts.{epoch_before, part_started, started}
 use Rattle.world_views.specs.Machine.{after, step_after}
 use Rattle.view_laws.specs.Runs.{view_after}
 use Rattle.moment_laws.specs.PartSteps.{PartEnters, PartTakes, TcDoes, handles, ignores, installs, remains, tc_kind}
 use Rattle.moment_laws.specs.Places.{tc_of}
+use Rattle.moment_laws.proofs.MomentHosts.{tc_started}
 use Rattle.moment_laws.proofs.PartKinds.{tc_after}
-use Rattle.outcome_laws.specs.Counts.{IsCoordinatorOf, count_sent, is_asking, is_unborn, is_wish, one_if}
-use Rattle.outcome_laws.specs.Once.{takes_in}
+use Rattle.outcome_laws.specs.Counts.{IsCoordinatorOf, is_unborn, one_if}
 use Rattle.outcome_laws.proofs.OnceBegins.{tc_begins}
 use Rattle.outcome_laws.proofs.OnceNone.{AreUncounted, IsUncounted, is_counted}
 use Rattle.outcome_laws.proofs.OnceParts.{IsTcOf, dih_installs_none, dih_none}
 use Rattle.outcome_laws.proofs.OnceTakeover.{takeover_none}
-use Rattle.outcome_laws.proofs.OnceWished.{unwished_none}
 use Rattle.outcome_laws.proofs.TcCounts.{coordinator_of_installed, coordinator_of_stays}
 use Rattle.talk_laws.proofs.Among.{AreAmong, among_none, among_same, among_trans}
 use Rattle.talk_laws.proofs.Picks.{pick_sends, picked, picked_both, picked_more, picked_none, sent_of, taken_of}
-use Rattle.talk_laws.proofs.TcSteps.{gave_count, installs_talked, installs_verify_none, row_talked}
+use Rattle.talk_laws.proofs.TcSteps.{gave_count, installs_talked, row_talked}
 use Rattle.talk_laws.proofs.TcTrack.{Fits, Gives, IsFit, Talked, more_gives, more_took, told_by}
 
 uncounted_told : (tx : TxId) (body : Body) → is_counted body ≡ false → told_by tx body ≡ None
@@ -59,11 +62,6 @@ uncounted_told tx body none = refl
 uncounted_verified : (tx : TxId) (body : Body) → is_counted body ≡ false → verified_by tx body ≡ None
 uncounted_verified tx (Epoch (DiVerifyReq other ops)) none = absurd cc
 uncounted_verified tx body none = refl
-
-unasked_verified : (tx : TxId) (body : Body) → is_asking tx body ≡ false → verified_by tx body ≡ None
-unasked_verified tx (Epoch (DiVerifyReq other ops)) off =
-    ap (λ (b : Bool). if b then Some ops else None) off
-unasked_verified tx body off = refl
 
 each_picked : {A : Type 0} (P : A → Type 0) (f : Body → Option A) (sends : List Outgoing) (before : List A)
     → Each P (pick_sends f sends before) → Each P before
@@ -162,23 +160,6 @@ module _ (tx : TxId) (me : Member) where
         (dih_none p.dih x)
     row_is p to x is = beside p p [] (asked_by tx x.body) is refl tt
 
-    -- nor is an epoch asked for where the commit wasn't
-    row_asks : (p : TcPart) (to : BlockId) (x : Signal) → is_wish tx x.body ≡ false
-        → pick_sends (verified_by tx) (tc_row p to x).effects.sends gave ≡ gave
-    unfolding tc_row
-    row_asks p block.Tc x off =
-        picked_none (λ (sent : Outgoing). verified_by tx sent.body) (coordinator_row p.coordinator x).effects.sends gave
-        (each_map (λ (sent : Outgoing). is_asking tx sent.body ≡ false)
-        (λ (sent : Outgoing). verified_by tx sent.body ≡ None) (coordinator_row p.coordinator x).effects.sends
-        (λ sent is. unasked_verified tx sent.body is) (unwished_none tx p.coordinator x off))
-    row_asks p block.Takeover x off =
-        uncounted_picks (verified_by tx) (uncounted_verified tx) (tc_row p block.Takeover x).effects.sends gave
-        (takeover_none p.takeover x)
-    row_asks p block.Dih x off =
-        uncounted_picks (verified_by tx) (uncounted_verified tx) (tc_row p block.Dih x).effects.sends gave
-        (dih_none p.dih x)
-    row_asks p to x off = refl
-
     enters_is : (p : TcPart) (view : View) → IsTalked p told took gave
         → After (tc_entered p view).state (tc_entered p view).effects.sends took
     enters_is p view is = record {
@@ -204,23 +185,127 @@ module _ (tx : TxId) (me : Member) where
             picked_both (λ (sent : Outgoing). f sent.body) own other before
             ∙ uncounted_picks f silent other (pick_sends f own before) (dih_installs_none p.dih view.number)
 
-    enters_asks : (p : TcPart) (view : View) → pick_sends (verified_by tx) (tc_entered p view).effects.sends gave ≡ gave
-    enters_asks p view =
-        picked_both (λ (sent : Outgoing). verified_by tx sent.body)
-        (coordinator.install_row p.coordinator view).effects.sends (dih.install_row p.dih view.number).effects.sends gave
-        ∙ uncounted_picks (verified_by tx) (uncounted_verified tx) (dih.install_row p.dih view.number).effects.sends
-        (pick_sends (verified_by tx) (coordinator.install_row p.coordinator view).effects.sends gave)
-        (dih_installs_none p.dih view.number)
-        ∙ installs_verify_none tx p.coordinator view gave
+  -- a step of its part
+  module _ (p : TcPart) (x : Signal) (told : List Answer) (took : List Op) (gave : List (List (Op × Answer)))
+      (is : IsTalked p told took gave)
+    where
+    entered : (between : TcPart) (view stood : View) (front : List Outgoing)
+        → PartEnters tc_kind p view x between stood front → After told took gave between front took
+    entered between view stood front (remains same stands none) =
+        subst (λ q. After told took gave q front took) (sym same)
+        (subst (λ sends. After told took gave p sends took) (sym none) is)
+    entered between view stood front (installs above same stands sends) =
+        subst (λ q. After told took gave q front took) (sym same)
+        (subst (λ sends. After told took gave (tc_entered p x.view).state sends took) (sym sends)
+        (enters_is told took gave p x.view is))
 
-  -- along the log of its host
+    takes_it : (shape : Shape) (between own : TcPart) (stood : View) (front rest : List Outgoing)
+        → After told took gave between front took → PartTakes tc_kind shape between stood x own rest
+        → IsTalked own (pick_sends (told_by tx) (front ++ rest) told) (cons_option (asked_by tx x.body) took)
+        (pick_sends (verified_by tx) (front ++ rest) gave)
+    takes_it shape between own stood front rest before takes =
+        subst (λ some. IsTalked own some (cons_option (asked_by tx x.body) took)
+        (pick_sends (verified_by tx) (front ++ rest) gave))
+        (sym (picked_both (λ (sent : Outgoing). told_by tx sent.body) front rest told))
+        (subst (IsTalked own (pick_sends (told_by tx) rest (pick_sends (told_by tx) front told))
+        (cons_option (asked_by tx x.body) took))
+        (sym (picked_both (λ (sent : Outgoing). verified_by tx sent.body) front rest gave)) (by takes))
+      where
+        first : List Answer
+        first = pick_sends (told_by tx) front told
+
+        then : List (List (Op × Answer))
+        then = pick_sends (verified_by tx) front gave
+
+        by : PartTakes tc_kind shape between stood x own rest
+            → After first took then own rest (cons_option (asked_by tx x.body) took)
+        by (ignores same none) =
+            subst (λ q. After first took then q rest (cons_option (asked_by tx x.body) took)) (sym same)
+            (subst (λ sends. After first took then between sends (cons_option (asked_by tx x.body) took)) (sym none)
+            (record {
+              of = before.of;
+              talked = takes_more between.coordinator first took then (asked_by tx x.body) before.talked;
+            }))
+        by (handles passed same sends) =
+            subst (λ q. After first took then q rest (cons_option (asked_by tx x.body) took)) (sym same)
+            (subst
+            (λ list. After first took then (tc_row between x.to.block x).state list
+            (cons_option (asked_by tx x.body) took))
+            (sym sends) (row_is first took then between x.to.block x before))
+
+    goes_or_not : (own : TcPart) (all sends : List Outgoing) (asked : List Op) → After told took gave own all asked
+        → (sends ≡ all) ⊎ (sends ≡ []) → After told took gave own sends asked
+    goes_or_not own all sends asked after (inl same) =
+        subst (λ list. After told took gave own list asked) (sym same) after
+    goes_or_not own all sends asked after (inr none) =
+        subst (λ list. After told took gave own list asked) (sym none)
+        (record { of = after.of; talked = hushes own.coordinator told asked gave all after.talked })
+
+  -- along the log of its host, which begins with a part of its member
   module _ (start : Start) (there : IsIn me (made start)) where
-    c : ℕ
-    c = tc_of start me
-
     pub record TalkedLog (log : List HostStep) : Type 0 where
-      pub part : TcPart
-      pub runs : (after start (tc_of start me) log).parts ≡ part.Tc part
-      pub is : IsTalked part (sent_of (told_by tx) start (tc_of start me) log) (taken_of (asked_by tx) log)
+      pub own : TcPart
+      pub runs : (after start (tc_of start me) log).parts ≡ part.Tc own
+      pub is : IsTalked own (sent_of (told_by tx) start (tc_of start me) log) (taken_of (asked_by tx) log)
           (sent_of (verified_by tx) start (tc_of start me) log)
-      pub unwished : takes_in (is_wish tx) log ≡ 0 → sent_of (verified_by tx) start (tc_of start me) log ≡ []
+
+    abbrev first_part : TcPart
+    first_part = record {
+      coordinator = fresh_coordinator me.node me.start (first_layout start.shape);
+      takeover = resting me.node (first_layout start.shape);
+      dih = fresh_dih me.node (first_layout start.shape).view.number start.epoch (epoch_before start.epoch);
+    }
+
+    at_first : TalkedLog []
+    at_first = record {
+      own = first_part;
+      runs = ap (λ (s : node.Host). s.parts) (tc_started start me there);
+      is = record {
+        of = subst (IsTcOf me) (ap (λ (s : node.Host). s.parts) (tc_started start me there)) (tc_begins start me there);
+        talked = record {
+          unborn = λ born. refl;
+          fits = tt;
+          gives = tt;
+          few = ones (is_unborn first_part.coordinator tx);
+        };
+      };
+    }
+      where
+        ones : (b : Bool) → length {A = List (Op × Answer)} [] + (one_if b + 0) ≤ 1
+        ones true = omega arith
+        ones false = omega arith
+
+    log_talked : 1 ≤ tc_of start me → (log : List HostStep) → TalkedLog log
+    log_talked some [] = at_first
+    log_talked some (e ∷ log) = by (log_talked some log)
+      where
+        h : ℕ
+        h = tc_of start me
+
+        by : TalkedLog log → TalkedLog (e ∷ log)
+        by old = step (tc_after start h log e some old.own old.runs)
+          where
+            told : List Answer
+            told = sent_of (told_by tx) start h log
+
+            took : List Op
+            took = taken_of (asked_by tx) log
+
+            gave : List (List (Op × Answer))
+            gave = sent_of (verified_by tx) start h log
+
+            step : TcDoes start.shape old.own (view_after start h log) e.step.taken (after start h (e ∷ log)).parts
+                (view_after start h (e ∷ log)) (step_after start h log e).effects.sends → TalkedLog (e ∷ log)
+            step did = record {
+              own = did.own;
+              runs = did.is;
+              is =
+                  goes_or_not old.own e.step.taken told took gave old.is did.own (did.front ++ did.rest)
+                  (step_after start h log e).effects.sends (cons_option (asked_by tx e.step.taken.body) took)
+                  (takes_it old.own e.step.taken told took gave old.is start.shape did.between did.own
+                  (view_after start h (e ∷ log)) did.front did.rest
+                  (entered old.own e.step.taken told took gave old.is did.between (view_after start h log)
+                  (view_after start h (e ∷ log)) did.front did.enters)
+                  did.takes)
+                  did.sent;
+            }

@@ -36,8 +36,9 @@ use Rattle.tc_block.proofs.EachTurn.{AbortForms, CommittedForms, TurnForms, read
 use Rattle.tc_views.specs.State.{go_on_if}
 use Rattle.outcome_laws.proofs.TcWalk.{ResumeForms}
 
--- the signal answers an operation, or asks for an epoch with them all
+-- the signal asks for an operation or answers one, or asks for an epoch with them all
 abbrev pub is_talk : Body → Bool
+is_talk (Client (TcKeyReq tx op)) = true
 is_talk (Client (TcKeyConf tx answer)) = true
 is_talk (Epoch (DiVerifyReq tx ops)) = true
 is_talk body = false
