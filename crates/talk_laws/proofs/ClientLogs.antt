@@ -26,11 +26,20 @@ use Rattle.api_block.specs.declared.opened.OpenTransaction.{OpenTransaction}
 use Rattle.api_block.specs.Api.{api_table}
 use Rattle.api_block.specs.Opened.{has_tx}
 use Rattle.api_block.specs.Operate.{answer_by, answer_row}
-use Rattle.api_block.specs.State.{ApiState}
 use Rattle.api_block.proofs.WhereFound.{where_found}
 use Rattle.api_views.specs.Client.{client_row, client_table}
 use Rattle.api_views.specs.Members.{noted}
-use Rattle.api_views.specs.State.{ClientState, within}
+use Rattle.api_block.specs.State.{ApiState, with_replies}
+use Rattle.api_views.specs.State.{ClientState, with_api, within}
+use Rattle.frag_map.specs.Shape.{Shape}
+use Rattle.moment_laws.specs.PartSteps.{PartEnters, PartTakes, ShellDoes, handles, ignores, installs, remains, shell_kind}
+use Rattle.moment_laws.proofs.PartKinds.{shell_after}
+use Rattle.node_views.specs.declared.parts.Parts.TheVariants as part
+use Rattle.node_views.specs.Replies.{giving, replies_in}
+use Rattle.outcome_laws.specs.Once.{takes_in}
+use Rattle.talk_laws.proofs.TcTrack.{told_by}
+use Rattle.view_laws.specs.Runs.{view_after}
+use Rattle.world_views.specs.Hosts.{started}
 use Rattle.report_laws.specs.Answered.{answers_among, is_answered}
 use Rattle.report_laws.specs.Asked.{asked_by, asked_in}
 use Rattle.talk_laws.specs.Talks.{asked_of, told_of}
@@ -41,13 +50,13 @@ use Rattle.outcome_laws.proofs.OnceNone.{is_counted, uncounted_wish}
 use Rattle.outcome_laws.proofs.OnceParts.{uncounted_none}
 use Rattle.outcome_laws.proofs.TcLists.{count_more}
 use Rattle.node_views.specs.declared.shell_part.ShellPart.{ShellPart}
-use Rattle.node_views.specs.Parts.{shell_row}
+use Rattle.node_views.specs.Parts.{shell_entered, shell_row}
 use Rattle.talk_laws.proofs.Among.{AreAmong, among_more}
 use Rattle.talk_laws.proofs.ClientTrack.{ClientTalked, IsPaid, client_talked, is_key, news_of}
-use Rattle.talk_laws.proofs.Picks.{pick_sends, sent_of}
+use Rattle.talk_laws.proofs.Picks.{pick_sends, sent_of, taken_of}
 use Rattle.world_core.specs.Start.{Start}
 use Rattle.world_core.specs.Steps.{HostStep}
-use Rattle.world_views.specs.Machine.{step_after}
+use Rattle.world_views.specs.Machine.{after, step_after}
 
 -- what an answer makes the client's side reply is that answer, or nothing
 module _ (one : TxId) (answer : Answer) where
@@ -134,7 +143,7 @@ module _ (tx : TxId) where
       asked_picks (step_after start 0 log e).effects.sends (asked_of start tx log)
       ∙ ap (pick_sends (asked_by tx) (step_after start 0 log e).effects.sends) (asked_is start log)
 
-  wish_count : (body : Body) (before : List TxId)
+  pub wish_count : (body : Body) (before : List TxId)
       → length (cons_option (wished_by tx body) before) ≡ one_if (is_wish tx body) + length before
   wish_count (Client (TcCommitReq other)) before = by (same_tx other tx)
     where
@@ -209,3 +218,127 @@ module _ (tx : TxId) where
           leaves (shell_row p block.Arbiter x).state sends refl (uncounted_none (is_key tx) (uncounted_key tx) sends bare)
           (uncounted_none (is_wish tx) (uncounted_wish tx) sends bare)
       row_goes to = leaves p [] refl refl refl
+
+      -- the view of the header is installed before, or isn't
+      handled : (shape : Shape) (stood : View) (own : ShellPart) (rest : List Outgoing)
+          → PartTakes shell_kind shape p stood x own rest → Goes own rest
+      handled shape stood own rest (ignores same empty) =
+          leaves own rest (ap (λ (q : ShellPart). q.client) same) (ap (count_sent (is_key tx)) empty)
+          (ap (count_sent (is_wish tx)) empty)
+      handled shape stood own rest (handles passed same sends) =
+          subst (λ q. Goes q rest) (sym same)
+          (subst (λ list. Goes (shell_row p x.to.block x).state list) (sym sends) (row_goes x.to.block))
+
+    module _ (p : ShellPart) (none : p.client.api.replies ≡ [])
+        (talked : ClientTalked tx p.client.api.opened asked told wished begun)
+      where
+      entered_goes : (shape : Shape) (between own : ShellPart) (view stood : View) (front rest : List Outgoing)
+          → PartEnters shell_kind p view x between stood front → PartTakes shell_kind shape between stood x own rest
+          → Goes own rest × (front ≡ [])
+      unfolding noted
+      entered_goes shape between own view stood front rest (remains same stands empty) takes =
+          (handled p none talked shape stood own rest
+          (subst (λ q. PartTakes shell_kind shape q stood x own rest) same takes), empty)
+      entered_goes shape between own view stood front rest (installs above same stands empty) takes =
+          (handled (shell_entered p x.view).state none talked shape stood own rest
+          (subst (λ q. PartTakes shell_kind shape q stood x own rest) same takes), empty)
+
+  -- along the log of the shell's host, which is told once at most that the transaction has begun
+  module _ (start : Start) where
+    pub record ClientLog (log : List HostStep) : Type 0 where
+      pub own : ShellPart
+      pub runs : (after start 0 log).parts ≡ part.Shell own
+      pub none : own.client.api.replies ≡ []
+      pub talked : ClientTalked tx own.client.api.opened (length (asked_of start tx log))
+          (length (told_of start tx log)) (length (sent_of (wished_by tx) start 0 log)) (takes_in (is_begin tx) log)
+      pub among : AreAmong (told_of start tx log) (taken_of (told_by tx) log)
+
+    few_sent : (q : Body → Bool) (front rest sends : List Outgoing) → front ≡ []
+        → (sends ≡ front ++ rest) ⊎ (sends ≡ []) → count_sent q sends ≤ count_sent q rest
+    few_sent q front rest sends empty (inl same) =
+        omega (arith, ap (count_sent q) (same ∙ ap (λ list. list ++ rest) empty))
+    few_sent q front rest sends empty (inr none) = omega (arith, ap (count_sent q) none)
+
+    module _ (e : HostStep) (log : List HostStep) (few : one_if (is_begin tx e.step.taken.body) + takes_in (is_begin tx) log ≤ 1)
+        (old : ClientLog log)
+      where
+      body : Body
+      body = e.step.taken.body
+
+      told_now : (own : ShellPart) → (step_after start 0 log e).state.parts ≡ part.Shell own
+          → told_of start tx (e ∷ log)
+          ≡ (if is_answered tx e.step.taken.body then reverse (answers_among own.client.api.replies) else [])
+          ++ told_of start tx log
+      told_now own is =
+          ap (λ parts. (if is_answered tx e.step.taken.body then reverse (answers_among (replies_in parts)) else [])
+          ++ told_of start tx log) is
+
+      among_now : (own : ShellPart)
+          → ((one : TxId) (answer : Answer) → e.step.taken.body ≡ Client (TcKeyConf one answer)
+              → AreAmong (reverse (answers_among own.client.api.replies)) (answer ∷ []))
+          → AreAmong
+          ((if is_answered tx e.step.taken.body then reverse (answers_among own.client.api.replies) else [])
+          ++ told_of start tx log)
+          (cons_option (told_by tx e.step.taken.body) (taken_of (told_by tx) log))
+      among_now own only = by e.step.taken.body refl
+        where
+          replied : List Answer
+          replied = reverse (answers_among own.client.api.replies)
+
+          which : (answer : Answer) → AreAmong replied (answer ∷ []) → (b : Bool)
+              → AreAmong ((if b then replied else []) ++ told_of start tx log)
+              (cons_option (if b then Some answer else None) (taken_of (told_by tx) log))
+          which answer that true = in_front replied answer (told_of start tx log) (taken_of (told_by tx) log) that old.among
+          which answer that false = old.among
+
+          by : (b : Body) → e.step.taken.body ≡ b
+              → AreAmong ((if is_answered tx b then replied else []) ++ told_of start tx log)
+              (cons_option (told_by tx b) (taken_of (told_by tx) log))
+          by (Client (TcKeyConf one answer)) is = which answer (only one answer is) (same_tx one tx)
+          by b is = old.among
+
+      stepped : ShellDoes start.shape old.own (view_after start 0 log) e.step.taken (step_after start 0 log e).state.parts
+          (view_after start 0 (e ∷ log)) (step_after start 0 log e).effects.sends → ClientLog (e ∷ log)
+      stepped did = record {
+        own = record { client = with_api did.own.client (with_replies did.own.client.api []); arbiter = did.own.arbiter };
+        runs = ap (λ parts. giving parts []) did.is;
+        none = refl;
+        talked =
+            weaker did.own.client.api.opened _ _ _ _ _ _ _ _ goes.talked
+            (omega (arith, asked_count (step_after start 0 log e).effects.sends (asked_of start tx log),
+            few_sent (is_key tx) did.front did.rest (step_after start 0 log e).effects.sends both.1 did.sent))
+            (omega (arith, ap (λ (list : List Answer). length list) (told_now did.own did.is),
+            news_count (is_answered tx e.step.taken.body) did.own.client.api.replies (told_of start tx log)))
+            (omega (arith, wishes_count (step_after start 0 log e).effects.sends (sent_of (wished_by tx) start 0 log),
+            few_sent (is_wish tx) did.front did.rest (step_after start 0 log e).effects.sends both.1 did.sent))
+            (omega arith);
+        among =
+            subst (λ list. AreAmong list (cons_option (told_by tx e.step.taken.body) (taken_of (told_by tx) log)))
+            (sym (told_now did.own did.is)) (among_now did.own goes.only);
+      }
+        where
+          both : Goes e.step.taken (length (asked_of start tx log)) (length (told_of start tx log))
+              (length (sent_of (wished_by tx) start 0 log)) (takes_in (is_begin tx) log) few did.own did.rest
+              × (did.front ≡ [])
+          both =
+              entered_goes e.step.taken (length (asked_of start tx log)) (length (told_of start tx log))
+              (length (sent_of (wished_by tx) start 0 log)) (takes_in (is_begin tx) log) few old.own old.none old.talked
+              start.shape did.between did.own (view_after start 0 log) (view_after start 0 (e ∷ log)) did.front did.rest
+              did.enters did.takes
+
+          goes : Goes e.step.taken (length (asked_of start tx log)) (length (told_of start tx log))
+              (length (sent_of (wished_by tx) start 0 log)) (takes_in (is_begin tx) log) few did.own did.rest
+          goes = both.0
+
+    pub client_log : (log : List HostStep) → takes_in (is_begin tx) log ≤ 1 → ClientLog log
+    unfolding started
+    client_log [] few = record {
+      own = _;
+      runs = refl;
+      none = refl;
+      talked = record { paid = tt; open_few = omega arith; wish_few = omega arith; unbegun = λ none. refl; wished_paid = λ some. omega arith };
+      among = tt;
+    }
+    client_log (e ∷ log) few =
+        let old = client_log log (omega (arith, few)) in
+        stepped e log (omega (arith, few)) old (shell_after start log e old.own old.runs)
