@@ -31,7 +31,7 @@ use Rattle.api_views.specs.Client.{client_row, client_table}
 use Rattle.api_views.specs.Members.{noted}
 use Rattle.api_block.specs.State.{ApiState, with_replies}
 use Rattle.api_views.specs.State.{ClientState, with_api, within}
-use Rattle.frag_map.specs.Shape.{Shape}
+use Rattle.sig_core.specs.declared.view.Shape.{Shape}
 use Rattle.moment_laws.specs.PartSteps.{PartEnters, PartTakes, ShellDoes, handles, ignores, installs, remains, shell_kind}
 use Rattle.moment_laws.proofs.PartKinds.{shell_after}
 use Rattle.node_views.specs.declared.parts.Parts.TheVariants as part

@@ -21,7 +21,7 @@ use Rattle.sig_core.specs.declared.view.View.{View}
 use Rattle.sig_core.specs.Same.{same_tx}
 use Rattle.report_laws.specs.Asked.{asked_by}
 use Rattle.frag_map.specs.Layout.{first_layout}
-use Rattle.frag_map.specs.Shape.{Shape}
+use Rattle.sig_core.specs.declared.view.Shape.{Shape}
 use Rattle.dih_node.specs.Orders as dih
 use Rattle.dih_node.specs.Dih.{fresh_dih}
 use Rattle.takeover_block.specs.State.{resting}
@@ -65,8 +65,8 @@ uncounted_verified tx body none = refl
 
 each_picked : {A : Type 0} (P : A → Type 0) (f : Body → Option A) (sends : List Outgoing) (before : List A)
     → Each P (pick_sends f sends before) → Each P before
-each_picked P f [] before all = all
-each_picked P f (one ∷ sends) before all =
+each_picked {A} P f [] before all = all
+each_picked {A} P f (one ∷ sends) before all =
     by (f one.body) (each_picked P f sends (cons_option (f one.body) before) all)
   where
     by : (o : Option A) → Each P (cons_option o before) → Each P before
@@ -214,24 +214,24 @@ module _ (tx : TxId) (me : Member) where
         first : List Answer
         first = pick_sends (told_by tx) front told
 
-        then : List (List (Op × Answer))
-        then = pick_sends (verified_by tx) front gave
+        given : List (List (Op × Answer))
+        given = pick_sends (verified_by tx) front gave
 
         by : PartTakes tc_kind shape between stood x own rest
-            → After first took then own rest (cons_option (asked_by tx x.body) took)
+            → After first took given own rest (cons_option (asked_by tx x.body) took)
         by (ignores same none) =
-            subst (λ q. After first took then q rest (cons_option (asked_by tx x.body) took)) (sym same)
-            (subst (λ sends. After first took then between sends (cons_option (asked_by tx x.body) took)) (sym none)
+            subst (λ q. After first took given q rest (cons_option (asked_by tx x.body) took)) (sym same)
+            (subst (λ sends. After first took given between sends (cons_option (asked_by tx x.body) took)) (sym none)
             (record {
               of = before.of;
-              talked = takes_more between.coordinator first took then (asked_by tx x.body) before.talked;
+              talked = takes_more between.coordinator first took given (asked_by tx x.body) before.talked;
             }))
         by (handles passed same sends) =
-            subst (λ q. After first took then q rest (cons_option (asked_by tx x.body) took)) (sym same)
+            subst (λ q. After first took given q rest (cons_option (asked_by tx x.body) took)) (sym same)
             (subst
-            (λ list. After first took then (tc_row between x.to.block x).state list
+            (λ list. After first took given (tc_row between x.to.block x).state list
             (cons_option (asked_by tx x.body) took))
-            (sym sends) (row_is first took then between x.to.block x before))
+            (sym sends) (row_is first took given between x.to.block x before))
 
     goes_or_not : (own : TcPart) (all sends : List Outgoing) (asked : List Op) → After told took gave own all asked
         → (sends ≡ all) ⊎ (sends ≡ []) → After told took gave own sends asked
@@ -275,7 +275,7 @@ module _ (tx : TxId) (me : Member) where
         ones true = omega arith
         ones false = omega arith
 
-    log_talked : 1 ≤ tc_of start me → (log : List HostStep) → TalkedLog log
+    pub log_talked : 1 ≤ tc_of start me → (log : List HostStep) → TalkedLog log
     log_talked some [] = at_first
     log_talked some (e ∷ log) = by (log_talked some log)
       where

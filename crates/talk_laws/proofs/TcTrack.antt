@@ -106,7 +106,7 @@ module _ (tx : TxId) where
       pub gives : Each (Gives told took) gave
       pub few : length gave + may_ask s tx ≤ 1
 
-  more_took : (told : List Answer) (took : List Op) (o : Option Op) (e : TxId × Transaction) → IsFit told took e
+  pub more_took : (told : List Answer) (took : List Op) (o : Option Op) (e : TxId × Transaction) → IsFit told took e
       → IsFit told (cons_option o took) e
   more_took told took o e fit same opened =
       let is = fit same opened in
@@ -115,7 +115,7 @@ module _ (tx : TxId) where
         ops_are = cons_more o (with_asked e.1.asked (newest_ops e.1.ops [])) took is.ops_are;
       }
 
-  more_gives : (told : List Answer) (took : List Op) (o : Option Op) (ops : List (Op × Answer)) → Gives told took ops
+  pub more_gives : (told : List Answer) (took : List Op) (o : Option Op) (ops : List (Op × Answer)) → Gives told took ops
       → Gives told (cons_option o took) ops
   more_gives told took o ops gives =
       record { answers_are = gives.answers_are; ops_are = cons_more o (newest_ops ops []) took gives.ops_are }

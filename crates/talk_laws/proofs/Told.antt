@@ -19,7 +19,7 @@ use Rattle.sig_core.specs.declared.signal.Body.TheVariants.{Client, Epoch, Host}
 use Rattle.sig_core.specs.declared.signal.client.ClientSignal.TheVariants.{TcCommitReq, TcKeyConf, TcKeyReq}
 use Rattle.sig_core.specs.declared.signal.epoch.EpochSignal.TheVariants.{DiVerifyReq}
 use Rattle.sig_core.specs.Same.{same_tx}
-use Rattle.sig_core.proofs.TxLemmas.{same_tx-self}
+use Rattle.sig_core.proofs.Keys.{same_tx-self}
 use Rattle.report_laws.specs.Answered.{answers_of, is_answered}
 use Rattle.report_laws.specs.Asked.{asked_by, operations_of}
 use Rattle.report_laws.proofs.Confs.{newest, newest_is}
@@ -154,7 +154,7 @@ module _ (tx : TxId) where
       omega (arith, wish_count tx e.step.taken.body (taken_of (wished_by tx) log), wishes_taken log)
 
   module _ (start : Start) (logs : ℕ → List HostStep) (are : AreOfCluster start logs) where
-    c : ℕ
+    abbrev c : ℕ
     c = tc_of start (coordinator_member tx)
 
     link_none : {A : Type 0} (f : Body → Option A) (p : Body → Bool) → ((body : Body) → p body ≡ false → f body ≡ None)
