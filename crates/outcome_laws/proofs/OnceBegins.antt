@@ -45,7 +45,7 @@ tc_begins start me there =
     (coordinator_of_fresh me (first_layout start.shape))
 
 -- what may be sent at first where nothing ever is
-none_fresh : (p : Body → Bool) (parts : Parts) → (of_coordinator p nothing).may parts ≡ 0
+pub none_fresh : (p : Body → Bool) (parts : Parts) → (of_coordinator p nothing).may parts ≡ 0
 none_fresh p (part.Tc q) = refl
 none_fresh p (part.Shell q) = refl
 none_fresh p (part.Main q) = refl

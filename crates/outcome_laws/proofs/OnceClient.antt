@@ -8,7 +8,7 @@ use Rattle.sig_core.specs.declared.outs.Outgoing.{Outgoing}
 use Rattle.sig_core.specs.declared.signal.Body.{Body}
 use Rattle.sig_core.specs.declared.signal.Body.TheVariants.{Chain, Client, Epoch}
 use Rattle.sig_core.specs.declared.signal.chain.ChainSignal.TheVariants.{LqhKeyRef}
-use Rattle.sig_core.specs.declared.signal.client.ClientSignal.TheVariants.{TcBeginConf, TcRollbackRep}
+use Rattle.sig_core.specs.declared.signal.client.ClientSignal.TheVariants.{TcBeginConf, TcCommitReq, TcKeyConf, TcRollbackRep}
 use Rattle.sig_core.specs.declared.signal.epoch.EpochSignal.TheVariants.{DiVerifyReq}
 use Rattle.sig_core.specs.declared.signal.Signal.{Signal}
 use Rattle.api_block.specs.declared.opened.OpenTransaction.{OpenTransaction}
@@ -21,6 +21,7 @@ use Rattle.outcome_laws.proofs.OnceNone.{is_down_cause}
 -- what only coordinators send, or replicas never
 abbrev pub is_coordinators : Body → Bool
 is_coordinators (Client (TcBeginConf name tx)) = true
+is_coordinators (Client (TcKeyConf tx answer)) = true
 is_coordinators (Client (TcRollbackRep tx cause)) = true
 is_coordinators (Epoch (DiVerifyReq tx ops)) = true
 is_coordinators (Chain (LqhKeyRef tx key cause)) = is_down_cause cause
@@ -34,6 +35,7 @@ plain_allowed sent plain = by sent.body plain
   where
     by : (body : Body) → is_plain body ≡ true → is_coordinators body ≡ false
     by (Client (TcBeginConf name tx)) plain = absurd cc
+    by (Client (TcKeyConf tx answer)) plain = absurd cc
     by (Client (TcRollbackRep tx cause)) plain = absurd cc
     by (Epoch (DiVerifyReq tx ops)) plain = absurd cc
     by (Chain signal) plain = absurd cc

@@ -79,7 +79,7 @@ either_few p q (e ∷ log) = omega (arith, either_few p q log, by (p e.step.take
     by false b = omega arith
 
 -- a host of a node without a coordinator runs its membership, or its rows
-beside_is : (start : Start) (k : ℕ) → HasNoTc (started start (suc k)).parts → IsBeside (started start (suc k)).parts
+pub beside_is : (start : Start) (k : ℕ) → HasNoTc (started start (suc k)).parts → IsBeside (started start (suc k)).parts
 unfolding started
 beside_is start k none = by (part_by (k % 3)) (member_at (made start) (suc k)) none
   where
@@ -90,12 +90,12 @@ beside_is start k none = by (part_by (k % 3)) (member_at (made start) (suc k)) n
     by kind.Ldm me none = tt
 
 module _ (start : Start) (logs : ℕ → List HostStep) (are : AreOfCluster start logs) (tx : TxId) where
-  only_wishes : AreSentOnly (is_wish tx)
+  pub only_wishes : AreSentOnly (is_wish tx)
   only_wishes (Host signal) own = refl
   only_wishes body own = absurd cc
 
   -- no node asks for a commit
-  nodes_wish : (h : ℕ) → h ≢ 0 → sends_in (is_wish tx) start h (logs h) ≡ 0
+  pub nodes_wish : (h : ℕ) → h ≢ 0 → sends_in (is_wish tx) start h (logs h) ≡ 0
   nodes_wish zero other = absurd (other refl)
   nodes_wish (suc k) other = by (cases_lt (suc k) (hosts start))
     where

@@ -13,7 +13,7 @@ use Rattle.sig_core.specs.declared.place.Place.{Place}
 use Rattle.sig_core.specs.declared.signal.Body.{Body}
 use Rattle.sig_core.specs.declared.signal.Body.TheVariants.{Chain, Client, Epoch}
 use Rattle.sig_core.specs.declared.signal.chain.ChainSignal.TheVariants.{LqhKeyRef}
-use Rattle.sig_core.specs.declared.signal.client.ClientSignal.TheVariants.{TcBeginConf, TcCommitReq, TcRollbackRep}
+use Rattle.sig_core.specs.declared.signal.client.ClientSignal.TheVariants.{TcBeginConf, TcCommitReq, TcKeyConf, TcRollbackRep}
 use Rattle.sig_core.specs.declared.signal.epoch.EpochSignal.TheVariants.{DiVerifyReq}
 use Rattle.sig_core.specs.declared.signal.Signal.{Signal}
 use Rattle.sig_core.specs.declared.view.View.{View}
@@ -96,6 +96,7 @@ wishes_apart tx me to body own = refl
 -- signals that only coordinators send, and only they and clients
 pub counted_coordinators : (body : Body) → is_counted body ≡ false → is_coordinators body ≡ false
 counted_coordinators (Client (TcBeginConf name tx)) none = absurd cc
+counted_coordinators (Client (TcKeyConf tx answer)) none = absurd cc
 counted_coordinators (Client (TcRollbackRep tx cause)) none = absurd cc
 counted_coordinators (Epoch (DiVerifyReq tx ops)) none = absurd cc
 counted_coordinators (Chain (LqhKeyRef tx key cause)) none = none

@@ -10,7 +10,7 @@ use Rattle.sig_core.specs.declared.outs.Outgoing.{Outgoing}
 use Rattle.sig_core.specs.declared.signal.Body.{Body}
 use Rattle.sig_core.specs.declared.signal.Body.TheVariants.{Chain, Client, Epoch}
 use Rattle.sig_core.specs.declared.signal.chain.ChainSignal.TheVariants.{LqhKeyRef}
-use Rattle.sig_core.specs.declared.signal.client.ClientSignal.TheVariants.{TcBeginConf, TcCommitReq, TcRollbackRep}
+use Rattle.sig_core.specs.declared.signal.client.ClientSignal.TheVariants.{TcBeginConf, TcCommitReq, TcKeyConf, TcKeyReq, TcRollbackRep}
 use Rattle.sig_core.specs.declared.signal.epoch.EpochSignal.TheVariants.{DiVerifyReq}
 use Rattle.sig_core.specs.Step.{Step}
 use Rattle.outcome_laws.specs.Counts.{is_asking, is_begin, is_wish, one_if}
@@ -23,6 +23,8 @@ is_down_cause cause = false
 
 abbrev pub is_counted : Body → Bool
 is_counted (Client (TcBeginConf name tx)) = true
+is_counted (Client (TcKeyReq tx op)) = true
+is_counted (Client (TcKeyConf tx answer)) = true
 is_counted (Client (TcCommitReq tx)) = true
 is_counted (Client (TcRollbackRep tx cause)) = true
 is_counted (Epoch (DiVerifyReq tx ops)) = true

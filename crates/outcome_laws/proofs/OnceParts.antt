@@ -11,7 +11,7 @@ use Rattle.sig_core.specs.declared.place.BlockId.TheVariants as block
 use Rattle.sig_core.specs.declared.signal.Body.{Body}
 use Rattle.sig_core.specs.declared.signal.Body.TheVariants.{Chain, Client, Epoch}
 use Rattle.sig_core.specs.declared.signal.chain.ChainSignal.TheVariants.{LqhKeyRef}
-use Rattle.sig_core.specs.declared.signal.client.ClientSignal.TheVariants.{TcBeginConf, TcCommitReq, TcRollbackRep}
+use Rattle.sig_core.specs.declared.signal.client.ClientSignal.TheVariants.{TcBeginConf, TcCommitReq, TcKeyConf, TcKeyReq, TcRollbackRep}
 use Rattle.sig_core.specs.declared.signal.epoch.EpochSignal.TheVariants.{DiVerifyReq}
 use Rattle.sig_core.specs.declared.signal.Signal.{Signal}
 use Rattle.sig_core.specs.declared.view.View.{View}
@@ -66,6 +66,8 @@ silent_uncounted sends all = each_map IsSilent IsUncounted sends (λ sent is. by
   where
     by : (body : Body) → is_telling body ≡ false → is_counted body ≡ false
     by (Client (TcBeginConf name tx)) is = absurd cc
+    by (Client (TcKeyReq tx op)) is = absurd cc
+    by (Client (TcKeyConf tx answer)) is = absurd cc
     by (Client (TcCommitReq tx)) is = absurd cc
     by (Client (TcRollbackRep tx cause)) is = absurd cc
     by (Chain (LqhKeyRef tx key cause)) is = absurd cc
