@@ -4,7 +4,7 @@ use Rattle.sig_core.specs.declared.signal.Body.{Body}
 use Rattle.sig_core.specs.declared.signal.Body.TheVariants.{Chain, Client, Epoch}
 use Rattle.sig_core.specs.declared.signal.Signal.{Signal}
 use Rattle.sig_core.specs.declared.signal.chain.ChainSignal.TheVariants.{LqhKeyRef}
-use Rattle.sig_core.specs.declared.signal.client.ClientSignal.TheVariants.{TcBeginConf, TcCommitReq, TcRollbackRep}
+use Rattle.sig_core.specs.declared.signal.client.ClientSignal.TheVariants.{TcBeginConf, TcCommitReq, TcKeyConf, TcKeyReq, TcRollbackRep}
 use Rattle.takeover_block.specs.State.{TakeoverState}
 use Rattle.takeover_block.specs.Takeover.{takeover_row}
 use Rattle.view_laws.proofs.KindsSent.{each_of_kinds}
@@ -15,6 +15,8 @@ use Rattle.outcome_laws.proofs.OnceNone.{SendsUncounted, is_counted}
 
 uncounted : (body : Body) → is_of_takeover body ≡ true → is_counted body ≡ false
 uncounted (Client (TcBeginConf name tx)) is = absurd cc
+uncounted (Client (TcKeyReq tx op)) is = absurd cc
+uncounted (Client (TcKeyConf tx answer)) is = absurd cc
 uncounted (Client (TcCommitReq tx)) is = absurd cc
 uncounted (Client (TcRollbackRep tx cause)) is = absurd cc
 uncounted (Epoch signal) is = absurd cc

@@ -20,6 +20,7 @@ use Rattle.outcome_laws.proofs.OnceDecided.{decided_once}
 use Rattle.outcome_laws.proofs.OnceDown.{none_down_decided}
 use Rattle.outcome_laws.proofs.OnceReported.{reported_once}
 use Rattle.outcome_laws.proofs.StrictOrder.{histories_in_strict_order}
+use Rattle.talk_laws.proofs.Told.{decided_as_told}
 use Rattle.shell_top.specs.Safe.{IsSafe}
 
 module _ (start : Start) (inside logs : ℕ → List HostStep) (some : 1 ≤ start.epoch) (shape : IsShape start.shape)
@@ -43,6 +44,7 @@ module _ (start : Start) (inside logs : ℕ → List HostStep) (some : 1 ≤ sta
           strict = histories_in_strict_order start inside of_cluster;
           decided_once = decided_once start inside of_cluster;
           reported_once = reported_once start inside of_cluster;
+          answered = decided_as_told start inside of_cluster;
           committed = commits_were_decided start inside of_cluster;
           down = none_down_decided start inside of_cluster;
         }

@@ -1,5 +1,5 @@
 -- Lists of which one has the entries of the other, in their order, and maybe more.
-use Rattle.std.proofs.Common.{◌≡◌, ◌≤◌, ◌∙◌, ◌⊎◌, ℕ, suc, List, [], ◌∷◌, ◌++◌, length, ap, arith, inl, inr, refl, subst, sym}
+use Rattle.std.proofs.Common.{◌≡◌, ◌≤◌, ◌∙◌, ◌⊎◌, List, [], ◌∷◌, ◌++◌, length, ap, arith, inl, inr, refl, subst, sym}
 use Rattle.run_theory.specs.Lists.{IsIn, IsPast}
 
 -- the entries of the first are among those of the second, in their order

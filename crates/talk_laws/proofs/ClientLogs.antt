@@ -1,9 +1,8 @@
 -- Along the log of the shell's host: how many operations of a transaction it asked for and how many answers it told.
 use Rattle.std.proofs.Common.{◌≡◌, ◌≤◌, ◌+◌, ◌∙◌, ◌++◌, ◌⊎◌, ℕ, Bool, true, false, List, [], ◌∷◌, length, reverse, ap, arith, inl, inr, refl, subst, sym}
 use Rattle.std.proofs.lemmas.List.{length-append, length-reverse}
-use Rattle.std.specs.List.{cons_option, count_by}
+use Rattle.std.specs.List.{cons_option}
 use Rattle.std.specs.Prelude.{if◌then◌else◌, Option, None, Some}
-use Rattle.run_theory.specs.Lists.{Each}
 use Rattle.run_theory.proofs.Pasts.{each_map}
 use Rattle.sig_core.specs.declared.member.TxId.{TxId}
 use Rattle.sig_core.specs.declared.op.Answer.{Answer}
@@ -19,7 +18,7 @@ use Rattle.sig_core.specs.declared.signal.Signal.{Signal}
 use Rattle.sig_core.specs.declared.signal.client.ClientSignal.TheVariants.{TcCommitReq, TcKeyConf, TcKeyReq}
 use Rattle.sig_core.specs.declared.view.View.{View}
 use Rattle.sig_core.specs.Same.{same_tx}
-use Rattle.sig_core.specs.Step.{Step, stay}
+use Rattle.sig_core.specs.Step.{stay}
 use Rattle.api_block.specs.declared.opened.Doing.{Doing}
 use Rattle.api_block.specs.declared.opened.Doing.TheVariants as doing
 use Rattle.api_block.specs.declared.opened.OpenTransaction.{OpenTransaction}
@@ -43,7 +42,7 @@ use Rattle.world_views.specs.Hosts.{started}
 use Rattle.report_laws.specs.Answered.{answers_among, is_answered}
 use Rattle.report_laws.specs.Asked.{asked_by, asked_in}
 use Rattle.talk_laws.specs.Talks.{asked_of, told_of}
-use Rattle.outcome_laws.specs.Counts.{count_sent, is_begin, is_unwished, is_wish, one_if}
+use Rattle.outcome_laws.specs.Counts.{count_sent, is_begin, is_wish, one_if}
 use Rattle.outcome_laws.proofs.KnowNothing.{untold_uncounted}
 use Rattle.outcome_laws.proofs.KnowParts.{arbiter_tells_nothing}
 use Rattle.outcome_laws.proofs.OnceNone.{is_counted, uncounted_wish}

@@ -11,9 +11,7 @@ use Rattle.sig_core.specs.declared.member.Member.{Member}
 use Rattle.sig_core.specs.declared.member.TxId.{TxId}
 use Rattle.sig_core.specs.declared.op.Answer.{Answer}
 use Rattle.sig_core.specs.declared.op.Op.{Op}
-use Rattle.sig_core.specs.declared.outcome.AbortCause.{AbortCause}
-use Rattle.sig_core.specs.declared.outcome.AbortCause.TheVariants.{Down, NodeFail}
-use Rattle.sig_core.specs.declared.outcome.Outcome.TheVariants as outcome
+use Rattle.sig_core.specs.declared.outcome.AbortCause.TheVariants.{NodeFail}
 use Rattle.sig_core.specs.declared.outcome.StopCause.{StopCause}
 use Rattle.sig_core.specs.declared.outs.Outgoing.{Outgoing}
 use Rattle.sig_core.specs.declared.place.BlockId.{BlockId}
@@ -66,7 +64,6 @@ use Rattle.api_views.specs.Reports.{more_if, report_row, stop_row, stop_told_if,
 use Rattle.api_views.specs.Rounds.{all_rounds, four_rounds, is_live, round_effects, rounds_if, rounds_of, tick_row, ticked_if as last_ticked_if}
 use Rattle.api_views.specs.State.{ClientState}
 use Rattle.api_views.specs.Stops.{is_down, is_sibling, is_told, runs, tc_stopped}
-use Rattle.outcome_laws.specs.Counts.{is_committing}
 
 -- a signal of the client's side that asks for no operation and no commit
 abbrev pub is_plain : Body → Bool

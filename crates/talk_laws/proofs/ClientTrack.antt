@@ -2,7 +2,7 @@
 -- than it asked for, and none is missing where it has asked for the commit.
 use Rattle.std.proofs.Common.{◌≡◌, ◌≤◌, ◌+◌, ◌∙◌, ◌++◌, ◌&&◌, ℕ, Bool, true, false, List, [], ◌∷◌, length, ap, arith, refl, subst, sym}
 use Rattle.std.specs.List.{count_by}
-use Rattle.std.specs.Prelude.{if◌then◌else◌, not, remove, slice_set, Option, None, Some}
+use Rattle.std.specs.Prelude.{if◌then◌else◌, not, remove, slice_set, Option, Some}
 use Rattle.run_theory.specs.Lists.{Each}
 use Rattle.run_theory.proofs.Focus.{IsFocus}
 use Rattle.run_theory.proofs.Pasts.{each_after, each_append, each_before, each_map}
@@ -26,7 +26,7 @@ use Rattle.api_block.specs.Opened.{asked_for, has_tx, is_tx}
 use Rattle.api_views.specs.Client.{client_row}
 use Rattle.api_views.specs.State.{ClientState}
 use Rattle.report_laws.specs.Answered.{answers_among, is_answered}
-use Rattle.outcome_laws.specs.Counts.{count_open, count_sent, count_unwished, is_begin, is_committing, is_unwished, is_wish, one_if}
+use Rattle.outcome_laws.specs.Counts.{count_sent, is_begin, is_committing, is_unwished, is_wish, one_if}
 use Rattle.outcome_laws.proofs.ClientCounts.{reports_few, wishes_few}
 use Rattle.outcome_laws.proofs.TcLists.{count_between, count_more, none_counted}
 use Rattle.talk_laws.proofs.ClientTalks.{ArePlain, IsPlain, TalkForms, client_talks, is_plain}

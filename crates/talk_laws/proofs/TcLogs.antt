@@ -1,8 +1,8 @@
 -- Along the log of a coordinator's host: what it gives with a request for an epoch are operations that it took, and their
 -- answers, all that it has told.
-use Rattle.std.proofs.Common.{◌≡◌, ◌≤◌, ◌+◌, ◌∙◌, ◌++◌, ◌⊎◌, ℕ, zero, suc, Bool, true, false, List, [], ◌∷◌, length, ap, arith, inl, inr, refl, subst, sym}
+use Rattle.std.proofs.Common.{◌≡◌, ◌≤◌, ◌+◌, ◌∙◌, ◌++◌, ◌⊎◌, ℕ, Bool, true, false, List, [], ◌∷◌, length, ap, arith, inl, inr, refl, subst, sym}
 use Rattle.std.specs.List.{cons_option}
-use Rattle.std.specs.Prelude.{if◌then◌else◌, Option, None, Some}
+use Rattle.std.specs.Prelude.{Option, None, Some}
 use Rattle.run_theory.specs.Lists.{Each, IsIn}
 use Rattle.run_theory.proofs.Pasts.{each_map}
 use Rattle.sig_core.specs.declared.member.Member.{Member}
@@ -18,7 +18,6 @@ use Rattle.sig_core.specs.declared.signal.Signal.{Signal}
 use Rattle.sig_core.specs.declared.signal.client.ClientSignal.TheVariants.{TcKeyConf}
 use Rattle.sig_core.specs.declared.signal.epoch.EpochSignal.TheVariants.{DiVerifyReq}
 use Rattle.sig_core.specs.declared.view.View.{View}
-use Rattle.sig_core.specs.Same.{same_tx}
 use Rattle.report_laws.specs.Asked.{asked_by}
 use Rattle.frag_map.specs.Layout.{first_layout}
 use Rattle.sig_core.specs.declared.view.Shape.{Shape}
@@ -26,18 +25,16 @@ use Rattle.dih_node.specs.Orders as dih
 use Rattle.dih_node.specs.Dih.{fresh_dih}
 use Rattle.takeover_block.specs.State.{resting}
 use Rattle.node_views.specs.declared.host.Host as node
-use Rattle.node_views.specs.declared.parts.Parts.{Parts}
 use Rattle.node_views.specs.declared.parts.Parts.TheVariants as part
 use Rattle.node_views.specs.declared.tc_part.TcPart.{TcPart}
 use Rattle.node_views.specs.Parts.{tc_entered, tc_row}
-use Rattle.tc_block.specs.declared.transaction.Transaction.{Transaction}
-use Rattle.tc_views.specs.Coordinator.{coordinator_row, fresh_coordinator}
+use Rattle.tc_views.specs.Coordinator.{fresh_coordinator}
 use Rattle.tc_views.specs.State.{CoordinatorState}
 use Rattle.tc_views.specs.Views as coordinator
 use Rattle.world_core.specs.Entries.{verified_by}
 use Rattle.world_core.specs.Start.{Start, made}
 use Rattle.world_core.specs.Steps.{HostStep}
-use Rattle.world_views.specs.Hosts.{epoch_before, part_started, started}
+use Rattle.world_views.specs.Hosts.{epoch_before}
 use Rattle.world_views.specs.Machine.{after, step_after}
 use Rattle.view_laws.specs.Runs.{view_after}
 use Rattle.moment_laws.specs.PartSteps.{PartEnters, PartTakes, TcDoes, handles, ignores, installs, remains, tc_kind}
@@ -51,9 +48,9 @@ use Rattle.outcome_laws.proofs.OnceParts.{IsTcOf, dih_installs_none, dih_none}
 use Rattle.outcome_laws.proofs.OnceTakeover.{takeover_none}
 use Rattle.outcome_laws.proofs.TcCounts.{coordinator_of_installed, coordinator_of_stays}
 use Rattle.talk_laws.proofs.Among.{AreAmong, among_none, among_same, among_trans}
-use Rattle.talk_laws.proofs.Picks.{pick_sends, picked, picked_both, picked_more, picked_none, sent_of, taken_of}
+use Rattle.talk_laws.proofs.Picks.{pick_sends, picked_both, picked_more, picked_none, sent_of, taken_of}
 use Rattle.talk_laws.proofs.TcSteps.{gave_count, installs_talked, row_talked}
-use Rattle.talk_laws.proofs.TcTrack.{Fits, Gives, IsFit, Talked, more_gives, more_took, told_by}
+use Rattle.talk_laws.proofs.TcTrack.{Gives, IsFit, Talked, more_gives, more_took, told_by}
 
 uncounted_told : (tx : TxId) (body : Body) → is_counted body ≡ false → told_by tx body ≡ None
 uncounted_told tx (Client (TcKeyConf other answer)) none = absurd cc

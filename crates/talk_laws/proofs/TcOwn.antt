@@ -1,6 +1,6 @@
 -- A coordinator asks for no operations, and answers only those of its own transactions; so of the hosts only that of the
 -- coordinator which began a transaction answers its operations, and only the shell's asks for them.
-use Rattle.std.proofs.Common.{◌≡◌, ◌≢◌, ◌≤◌, ◌<◌, ◌+◌, ◌⊎◌, ◌∙◌, ◌++◌, ℕ, zero, suc, Bool, true, false, List, [], ◌∷◌, ap, arith, inl, inr, refl, subst, sym}
+use Rattle.std.proofs.Common.{◌≡◌, ◌≢◌, ◌≤◌, ◌<◌, ◌⊎◌, ◌∙◌, ℕ, zero, suc, Bool, true, false, List, ◌∷◌, ap, arith, inl, inr, refl, subst, sym}
 use Rattle.std.proofs.lemmas.Bool.{cases_lt}
 use Rattle.run_theory.specs.Lists.{Each, IsIn}
 use Rattle.run_theory.proofs.Pasts.{each_after, each_append, each_map}
@@ -13,11 +13,9 @@ use Rattle.sig_core.specs.declared.signal.Signal.{Signal}
 use Rattle.sig_core.specs.declared.signal.client.ClientSignal.TheVariants.{TcKeyConf, TcKeyReq}
 use Rattle.sig_core.specs.declared.view.View.{View}
 use Rattle.sig_core.specs.Same.{same_tx}
-use Rattle.sig_core.specs.Step.{Step, joined, sends_only}
 use Rattle.sig_core.proofs.TxLemmas.{same_tx-is}
 use Rattle.report_laws.specs.Answered.{is_answered}
-use Rattle.tc_block.specs.Live.{turned, turned_if}
-use Rattle.tc_block.specs.State.{TcState}
+use Rattle.tc_block.specs.Live.{turned_if}
 use Rattle.tc_block.specs.Turn.{Turn}
 use Rattle.tc_block.specs.declared.transaction.Transaction.{Transaction}
 use Rattle.tc_block.proofs.EachTurn.{rows_of}
@@ -31,7 +29,7 @@ use Rattle.world_core.specs.Steps.{HostStep}
 use Rattle.world_views.specs.Hosts.{started}
 use Rattle.view_laws.specs.Runs.{AreOfCluster}
 use Rattle.moment_laws.specs.Places.{tc_of}
-use Rattle.moment_laws.proofs.MomentHosts.{HasNoTc, TcHost, of_none, of_tc, tc_host_is}
+use Rattle.moment_laws.proofs.MomentHosts.{TcHost, of_none, of_tc, tc_host_is}
 use Rattle.outcome_laws.specs.Counts.{IsCoordinatorOf, coordinator_member, count_sent}
 use Rattle.outcome_laws.proofs.OnceBegins.{no_tc_sends, none_fresh, none_taken, nowhere_sends, tc_begins}
 use Rattle.outcome_laws.proofs.OnceClient.{is_coordinators}
@@ -41,7 +39,7 @@ use Rattle.outcome_laws.proofs.OnceNobody.{IsBeside, beside_light, nothing, of_n
 use Rattle.outcome_laws.proofs.OnceNone.{count_none, is_counted}
 use Rattle.outcome_laws.proofs.OnceParts.{IsTcOf, coordinator_light, of_coordinator}
 use Rattle.outcome_laws.proofs.OnceWalk.{AreLight}
-use Rattle.outcome_laws.proofs.TcWalk.{coordinator_each, inner}
+use Rattle.outcome_laws.proofs.TcWalk.{coordinator_each}
 use Rattle.talk_laws.proofs.ClientLogs.{uncounted_key}
 use Rattle.talk_laws.proofs.ClientTrack.{is_key}
 use Rattle.talk_laws.proofs.TcTalks.{AreMute, IsMute, Talks, answers, asks, is_talk, more_mute, operates, rests, resume_talks, turn_talks}

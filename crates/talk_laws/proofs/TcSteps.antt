@@ -1,7 +1,7 @@
 -- So it stays with whatever a coordinator takes, and where a view is installed.
-use Rattle.std.proofs.Common.{◌≡◌, ◌≤◌, ◌+◌, ◌∙◌, ◌++◌, ℕ, Bool, true, false, List, [], ◌∷◌, length, nat_lt, ap, arith, refl, subst, sym}
+use Rattle.std.proofs.Common.{◌≡◌, ◌+◌, ◌∙◌, ◌++◌, ℕ, Bool, true, false, List, [], ◌∷◌, length, arith, refl, subst, sym}
 use Rattle.std.specs.List.{cons_option}
-use Rattle.std.specs.Prelude.{if◌then◌else◌, Option, None, Some}
+use Rattle.std.specs.Prelude.{if◌then◌else◌, None, Some}
 use Rattle.run_theory.specs.Lists.{Each}
 use Rattle.sig_core.specs.declared.member.Member.{Member}
 use Rattle.sig_core.specs.declared.member.TxId.{TxId}
@@ -9,7 +9,7 @@ use Rattle.sig_core.specs.declared.op.Answer.{Answer}
 use Rattle.sig_core.specs.declared.op.Op.{Op}
 use Rattle.sig_core.specs.declared.outs.Outgoing.{Outgoing}
 use Rattle.sig_core.specs.declared.signal.Body.{Body}
-use Rattle.sig_core.specs.declared.signal.Body.TheVariants.{Client, Epoch}
+use Rattle.sig_core.specs.declared.signal.Body.TheVariants.{Epoch}
 use Rattle.sig_core.specs.declared.signal.Signal.{Signal}
 use Rattle.sig_core.specs.declared.signal.epoch.EpochSignal.TheVariants.{DiVerifyReq}
 use Rattle.sig_core.specs.declared.view.View.{View}
@@ -23,7 +23,7 @@ use Rattle.tc_views.specs.State.{CoordinatorState, go_on_if}
 use Rattle.tc_views.specs.Views.{install_row}
 use Rattle.world_core.specs.Entries.{verified_by}
 use Rattle.outcome_laws.specs.Counts.{IsCoordinatorOf, count_sent, is_asking, one_if}
-use Rattle.outcome_laws.proofs.TcCounts.{asks_once, asks_once_installed}
+use Rattle.outcome_laws.proofs.TcCounts.{asks_once}
 use Rattle.outcome_laws.proofs.TcLists.{count_more, keys_once}
 use Rattle.outcome_laws.proofs.TcWalk.{coordinator_each, inner}
 use Rattle.talk_laws.proofs.Picks.{pick_sends, picked_both}

@@ -6,19 +6,17 @@ use Rattle.std.specs.List.{cons_option, count_by}
 use Rattle.std.specs.Prelude.{if◌then◌else◌, nat_le, Option, None, Some}
 use Rattle.run_theory.specs.Lists.{Each}
 use Rattle.run_theory.proofs.Pasts.{each_after, each_append, each_before, each_map}
-use Rattle.sig_core.specs.declared.member.Member.{Member}
 use Rattle.sig_core.specs.declared.member.TxId.{TxId}
 use Rattle.sig_core.specs.declared.op.Answer.{Answer}
 use Rattle.sig_core.specs.declared.op.Op.{Op}
 use Rattle.sig_core.specs.declared.outs.Outgoing.{Outgoing}
 use Rattle.sig_core.specs.declared.signal.Body.{Body}
 use Rattle.sig_core.specs.declared.signal.Body.TheVariants.{Client, Epoch}
-use Rattle.sig_core.specs.declared.signal.Signal.{Signal}
 use Rattle.sig_core.specs.declared.signal.client.ClientSignal.TheVariants.{TcKeyConf, TcKeyReq}
 use Rattle.sig_core.specs.declared.signal.epoch.EpochSignal.TheVariants.{DiVerifyReq}
 use Rattle.sig_core.specs.Place.{client, epochs}
 use Rattle.sig_core.specs.Same.{same_tx}
-use Rattle.sig_core.specs.Step.{Step, joined, sends_only, to_place}
+use Rattle.sig_core.specs.Step.{Step, to_place}
 use Rattle.sig_core.proofs.TxLemmas.{same_tx-is}
 use Rattle.report_laws.specs.Asked.{asked_by}
 use Rattle.report_laws.proofs.Confs.{newest, newest_more}
@@ -31,19 +29,14 @@ use Rattle.tc_block.specs.Tc.{begin_if, begun, next_tx}
 use Rattle.tc_block.specs.Turn.{Turn}
 use Rattle.tc_block.specs.declared.phase.Asked.{Asked}
 use Rattle.tc_block.specs.declared.transaction.Transaction.{Transaction}
-use Rattle.tc_block.proofs.EachTurn.{rows_of}
 use Rattle.tc_block.proofs.LiveSplit.{KeysOnce, Live, Split, once_back, once_front}
-use Rattle.tc_views.specs.Coordinator.{coordinator_row}
-use Rattle.tc_views.specs.State.{CoordinatorState, go_on_if}
-use Rattle.tc_views.specs.Views.{install_row}
+use Rattle.tc_views.specs.State.{CoordinatorState}
 use Rattle.world_core.specs.Entries.{verified_by}
-use Rattle.outcome_laws.specs.Counts.{IsCoordinatorOf, count_sent, is_asking, is_open_of, is_unborn, may_ask, one_if}
-use Rattle.outcome_laws.proofs.TcCounts.{asks_once, asks_once_installed}
-use Rattle.outcome_laws.proofs.TcLists.{count_between, count_more, keys_once, next_is_other, put_last}
-use Rattle.outcome_laws.proofs.TcWalk.{coordinator_each, inner}
+use Rattle.outcome_laws.specs.Counts.{is_open_of, is_unborn, may_ask, one_if}
+use Rattle.outcome_laws.proofs.TcLists.{count_between, next_is_other, put_last}
 use Rattle.talk_laws.proofs.Among.{AreAmong, among_more, among_same, among_trans}
-use Rattle.talk_laws.proofs.Picks.{cons_more, pick_sends, picked, picked_both, picked_none}
-use Rattle.talk_laws.proofs.TcTalks.{AreMute, IsMute, Rests, Talks, answers, asks, is_talk, more_mute, operates, rests, resume_talks, turn_talks}
+use Rattle.talk_laws.proofs.Picks.{cons_more, pick_sends, picked_none}
+use Rattle.talk_laws.proofs.TcTalks.{AreMute, IsMute, Rests, Talks, answers, asks, is_talk, operates, rests}
 
 -- the answer for the client that the signal has, of this transaction
 abbrev pub told_by : TxId → Body → Option Answer

@@ -1,14 +1,13 @@
 -- Whoever is decided has the operations that its client asked for, and the answers that it was told: all, and no others.
-use Rattle.std.proofs.Common.{◌≡◌, ◌≢◌, ◌≤◌, ◌<◌, ◌+◌, ◌⊎◌, ◌∙◌, ◌++◌, ℕ, zero, suc, Bool, true, false, List, [], ◌∷◌, length, map, reverse, ap, arith, inl, inr, refl, subst, sym}
+use Rattle.std.proofs.Common.{◌≡◌, ◌≤◌, ◌<◌, ◌+◌, ◌⊎◌, ◌∙◌, ◌++◌, ℕ, zero, suc, Bool, true, false, List, [], ◌∷◌, length, map, reverse, ap, arith, inl, inr, refl, subst, sym}
 use Rattle.std.proofs.lemmas.Bool.{cases_lt}
-use Rattle.std.specs.List.{cons_option, count_by}
+use Rattle.std.specs.List.{count_by}
 use Rattle.std.specs.Prelude.{if◌then◌else◌, Option, None, Some}
 use Rattle.run_theory.specs.Links.{sent}
-use Rattle.run_theory.specs.Lists.{Each, IsIn, IsPast}
+use Rattle.run_theory.specs.Lists.{IsIn}
 use Rattle.run_theory.specs.Logs.{IsLog}
 use Rattle.run_theory.proofs.Pasts.{each_in}
 use Rattle.sig_core.specs.declared.entry.Entry.{Entry}
-use Rattle.sig_core.specs.declared.mark.Mark.{Mark}
 use Rattle.sig_core.specs.declared.mark.Mark.TheVariants.{Decided}
 use Rattle.sig_core.specs.declared.member.Member.{Member}
 use Rattle.sig_core.specs.declared.member.TxId.{TxId}
@@ -20,12 +19,12 @@ use Rattle.sig_core.specs.declared.signal.client.ClientSignal.TheVariants.{TcCom
 use Rattle.sig_core.specs.declared.signal.epoch.EpochSignal.TheVariants.{DiVerifyReq}
 use Rattle.sig_core.specs.Same.{same_tx}
 use Rattle.sig_core.proofs.Keys.{same_tx-self}
-use Rattle.report_laws.specs.Answered.{answers_of, is_answered}
-use Rattle.report_laws.specs.Asked.{asked_by, operations_of}
+use Rattle.report_laws.specs.Answered.{is_answered}
+use Rattle.report_laws.specs.Asked.{asked_by}
 use Rattle.report_laws.proofs.Confs.{newest, newest_is}
 use Rattle.report_laws.proofs.Keys.{newest_ops, newest_ops_is}
 use Rattle.report_laws.proofs.Answers.{append_none}
-use Rattle.world_core.specs.Entries.{entries, ops_of, verified_by}
+use Rattle.world_core.specs.Entries.{ops_of, verified_by}
 use Rattle.world_core.specs.Hosts.{hosts}
 use Rattle.world_core.specs.Start.{Start, made}
 use Rattle.world_core.specs.Steps.{HostStep}
@@ -35,8 +34,8 @@ use Rattle.world_views.specs.Sending.{is_own_work}
 use Rattle.view_laws.specs.Runs.{AreOfCluster}
 use Rattle.moment_laws.specs.Places.{tc_of}
 use Rattle.moment_laws.proofs.MomentHosts.{TcHost, of_none, of_tc, tc_host_is}
-use Rattle.outcome_laws.specs.Counts.{coordinator_member, is_asking, is_begin, is_decision, is_wish, one_if}
-use Rattle.outcome_laws.specs.Once.{marks_in, takes_in}
+use Rattle.outcome_laws.specs.Counts.{coordinator_member, is_asking, is_decision, is_wish, one_if}
+use Rattle.outcome_laws.specs.Once.{takes_in}
 use Rattle.outcome_laws.proofs.OnceBegins.{asks_elsewhere, begin_once, no_tc_sends, nowhere_sends, only_asks, tc_begins}
 use Rattle.outcome_laws.proofs.OnceDecided.{decides_asked}
 use Rattle.outcome_laws.proofs.OnceDown.{nodes_wish}
@@ -46,7 +45,7 @@ use Rattle.outcome_laws.proofs.OnceParts.{IsTcOf}
 use Rattle.outcome_laws.proofs.OnceWished.{asks_wished}
 use Rattle.outcome_laws.proofs.TcLists.{count_more}
 use Rattle.outcome_laws.proofs.OnceLinks.{takes_few}
-use Rattle.outcome_laws.proofs.OnceLogs.{count_on, link_count, sends_in}
+use Rattle.outcome_laws.proofs.OnceLogs.{link_count, sends_in}
 use Rattle.talk_laws.specs.Talks.{DecidedAsAskedAndTold, asked_of, told_of}
 use Rattle.talk_laws.proofs.Among.{AreAmong, among_all, among_in, among_length, among_same, among_trans}
 use Rattle.talk_laws.proofs.Links.{none_on, takes_among}
