@@ -191,56 +191,60 @@ module _ (tx : TxId) where
     module _ (p : ShellPart) (none : p.client.api.replies ≡ [])
         (talked : ClientTalked tx p.client.api.opened asked told wished begun)
       where
-      leaves : (now : ShellPart) (sends : List Outgoing) → now.client ≡ p.client
-          → count_sent (is_key tx) sends ≡ 0 → count_sent (is_wish tx) sends ≡ 0 → Goes now sends
-      leaves now sends same no_key no_wish = record {
-        talked =
-            subst (λ (c : ClientState). ClientTalked tx c.api.opened (count_sent (is_key tx) sends + asked)
-            (news_of tx x.body c.api.replies + told) (count_sent (is_wish tx) sends + wished)
-            (one_if (is_begin tx x.body) + begun)) (sym same)
-            (weaker p.client.api.opened asked told wished begun _ _ _ _ talked (omega (arith, no_key)) (omega arith)
-            (omega (arith, no_wish)) (omega arith));
-        only = λ one answer is.
-            subst (λ replies. AreAmong (reverse (answers_among replies)) (answer ∷ []))
-            (sym (ap (λ (c : ClientState). c.api.replies) same ∙ none)) tt;
-      }
+        leaves : (now : ShellPart) (sends : List Outgoing) → now.client ≡ p.client
+            → count_sent (is_key tx) sends ≡ 0 → count_sent (is_wish tx) sends ≡ 0 → Goes now sends
+        leaves now sends same no_key no_wish = record {
+          talked =
+              subst (λ (c : ClientState). ClientTalked tx c.api.opened (count_sent (is_key tx) sends + asked)
+              (news_of tx x.body c.api.replies + told) (count_sent (is_wish tx) sends + wished)
+              (one_if (is_begin tx x.body) + begun)) (sym same)
+              (weaker p.client.api.opened asked told wished begun _ _ _ _ talked (omega (arith, no_key)) (omega arith)
+              (omega (arith, no_wish)) (omega arith));
+          only = λ one answer is.
+              subst (λ replies. AreAmong (reverse (answers_among replies)) (answer ∷ []))
+              (sym (ap (λ (c : ClientState). c.api.replies) same ∙ none)) tt;
+        }
 
-      row_goes : (to : BlockId) → Goes (shell_row p to x).state (shell_row p to x).effects.sends
-      unfolding shell_row
-      row_goes block.Api = record {
-        talked = client_talked tx p.client x asked told wished begun none few talked;
-        only = λ one answer is. client_only one answer p.client x is none;
-      }
-      row_goes block.Arbiter =
-          let sends = (shell_row p block.Arbiter x).effects.sends in
-          let bare = untold_uncounted sends (arbiter_tells_nothing p.arbiter x).0 in
-          leaves (shell_row p block.Arbiter x).state sends refl (uncounted_none (is_key tx) (uncounted_key tx) sends bare)
-          (uncounted_none (is_wish tx) (uncounted_wish tx) sends bare)
-      row_goes to = leaves p [] refl refl refl
+        row_goes : (to : BlockId) → Goes (shell_row p to x).state (shell_row p to x).effects.sends
+        unfolding shell_row
+        row_goes block.Api = record {
+          talked = client_talked tx p.client x asked told wished begun none few talked;
+          only = λ one answer is. client_only one answer p.client x is none;
+        }
+        row_goes block.Arbiter =
+            let sends = (shell_row p block.Arbiter x).effects.sends in
+            let bare = untold_uncounted sends (arbiter_tells_nothing p.arbiter x).0 in
+            leaves (shell_row p block.Arbiter x).state sends refl (uncounted_none (is_key tx) (uncounted_key tx) sends bare)
+            (uncounted_none (is_wish tx) (uncounted_wish tx) sends bare)
+        row_goes to = leaves p [] refl refl refl
 
-      -- the view of the header is installed before, or isn't
-      handled : (shape : Shape) (stood : View) (own : ShellPart) (rest : List Outgoing)
-          → PartTakes shell_kind shape p stood x own rest → Goes own rest
-      handled shape stood own rest (ignores same empty) =
-          leaves own rest (ap (λ (q : ShellPart). q.client) same) (ap (count_sent (is_key tx)) empty)
-          (ap (count_sent (is_wish tx)) empty)
-      handled shape stood own rest (handles passed same sends) =
-          subst (λ q. Goes q rest) (sym same)
-          (subst (λ list. Goes (shell_row p x.to.block x).state list) (sym sends) (row_goes x.to.block))
+        -- the view of the header is installed before, or isn't
+        handled : (shape : Shape) (stood : View) (own : ShellPart) (rest : List Outgoing)
+            → PartTakes shell_kind shape p stood x own rest → Goes own rest
+        handled shape stood own rest (ignores same empty) =
+            leaves own rest (ap (λ (q : ShellPart). q.client) same) (ap (count_sent (is_key tx)) empty)
+            (ap (count_sent (is_wish tx)) empty)
+        handled shape stood own rest (handles passed same sends) =
+            subst (λ q. Goes q rest) (sym same)
+            (subst (λ list. Goes (shell_row p x.to.block x).state list) (sym sends) (row_goes x.to.block))
 
     module _ (p : ShellPart) (none : p.client.api.replies ≡ [])
         (talked : ClientTalked tx p.client.api.opened asked told wished begun)
       where
-      entered_goes : (shape : Shape) (between own : ShellPart) (view stood : View) (front rest : List Outgoing)
-          → PartEnters shell_kind p view x between stood front → PartTakes shell_kind shape between stood x own rest
-          → Goes own rest × (front ≡ [])
-      unfolding noted
-      entered_goes shape between own view stood front rest (remains same stands empty) takes =
-          (handled p none talked shape stood own rest
-          (subst (λ q. PartTakes shell_kind shape q stood x own rest) same takes), empty)
-      entered_goes shape between own view stood front rest (installs above same stands empty) takes =
-          (handled (shell_entered p x.view).state none talked shape stood own rest
-          (subst (λ q. PartTakes shell_kind shape q stood x own rest) same takes), empty)
+        entered_goes : (shape : Shape) (between own : ShellPart) (view stood : View) (front rest : List Outgoing)
+            → PartEnters shell_kind p view x between stood front → PartTakes shell_kind shape between stood x own rest
+            → Goes own rest × (front ≡ [])
+        unfolding noted
+        entered_goes shape between own view stood front rest (remains same stands empty) takes = (
+          handled p none talked shape stood own rest
+              (subst (λ q. PartTakes shell_kind shape q stood x own rest) same takes),
+          empty,
+        )
+        entered_goes shape between own view stood front rest (installs above same stands empty) takes = (
+          handled (shell_entered p x.view).state none talked shape stood own rest
+              (subst (λ q. PartTakes shell_kind shape q stood x own rest) same takes),
+          empty,
+        )
 
   -- along the log of the shell's host, which is told once at most that the transaction has begun
   module _ (start : Start) where
@@ -261,73 +265,82 @@ module _ (tx : TxId) where
     module _ (e : HostStep) (log : List HostStep) (few : one_if (is_begin tx e.step.taken.body) + takes_in (is_begin tx) log ≤ 1)
         (old : ClientLog log)
       where
-      body : Body
-      body = e.step.taken.body
+        body : Body
+        body = e.step.taken.body
 
-      told_now : (own : ShellPart) → (step_after start 0 log e).state.parts ≡ part.Shell own
-          → told_of start tx (e ∷ log)
-          ≡ (if is_answered tx e.step.taken.body then reverse (answers_among own.client.api.replies) else [])
-          ++ told_of start tx log
-      told_now own is =
-          ap (λ parts. (if is_answered tx e.step.taken.body then reverse (answers_among (replies_in parts)) else [])
-          ++ told_of start tx log) is
+        told_now : (own : ShellPart) → (step_after start 0 log e).state.parts ≡ part.Shell own
+            → told_of start tx (e ∷ log)
+            ≡ (if is_answered tx e.step.taken.body then reverse (answers_among own.client.api.replies) else [])
+            ++ told_of start tx log
+        told_now own is =
+            ap (λ parts. (if is_answered tx e.step.taken.body then reverse (answers_among (replies_in parts)) else [])
+            ++ told_of start tx log) is
 
-      among_now : (own : ShellPart)
-          → ((one : TxId) (answer : Answer) → e.step.taken.body ≡ Client (TcKeyConf one answer)
-              → AreAmong (reverse (answers_among own.client.api.replies)) (answer ∷ []))
-          → AreAmong
-          ((if is_answered tx e.step.taken.body then reverse (answers_among own.client.api.replies) else [])
-          ++ told_of start tx log)
-          (cons_option (told_by tx e.step.taken.body) (taken_of (told_by tx) log))
-      among_now own only = by e.step.taken.body refl
-        where
-          replied : List Answer
-          replied = reverse (answers_among own.client.api.replies)
+        among_now : (own : ShellPart)
+            → ((one : TxId) (answer : Answer) → e.step.taken.body ≡ Client (TcKeyConf one answer)
+            → AreAmong (reverse (answers_among own.client.api.replies)) (answer ∷ []))
+            → AreAmong
+            ((if is_answered tx e.step.taken.body then reverse (answers_among own.client.api.replies) else [])
+            ++ told_of start tx log)
+            (cons_option (told_by tx e.step.taken.body) (taken_of (told_by tx) log))
+        among_now own only = by e.step.taken.body refl
+          where
+            replied : List Answer
+            replied = reverse (answers_among own.client.api.replies)
 
-          which : (answer : Answer) → AreAmong replied (answer ∷ []) → (b : Bool)
-              → AreAmong ((if b then replied else []) ++ told_of start tx log)
-              (cons_option (if b then Some answer else None) (taken_of (told_by tx) log))
-          which answer that true = in_front replied answer (told_of start tx log) (taken_of (told_by tx) log) that old.among
-          which answer that false = old.among
+            which : (answer : Answer) → AreAmong replied (answer ∷ []) → (b : Bool)
+                → AreAmong ((if b then replied else []) ++ told_of start tx log)
+                (cons_option (if b then Some answer else None) (taken_of (told_by tx) log))
+            which answer that true = in_front replied answer (told_of start tx log) (taken_of (told_by tx) log) that old.among
+            which answer that false = old.among
 
-          by : (b : Body) → e.step.taken.body ≡ b
-              → AreAmong ((if is_answered tx b then replied else []) ++ told_of start tx log)
-              (cons_option (told_by tx b) (taken_of (told_by tx) log))
-          by (Client (TcKeyConf one answer)) is = which answer (only one answer is) (same_tx one tx)
-          by b is = old.among
+            by : (b : Body) → e.step.taken.body ≡ b
+                → AreAmong ((if is_answered tx b then replied else []) ++ told_of start tx log)
+                (cons_option (told_by tx b) (taken_of (told_by tx) log))
+            by (Client (TcKeyConf one answer)) is = which answer (only one answer is) (same_tx one tx)
+            by b is = old.among
 
-      stepped : ShellDoes start.shape old.own (view_after start 0 log) e.step.taken (step_after start 0 log e).state.parts
-          (view_after start 0 (e ∷ log)) (step_after start 0 log e).effects.sends → ClientLog (e ∷ log)
-      stepped did = record {
-        own = record { client = with_api did.own.client (with_replies did.own.client.api []); arbiter = did.own.arbiter };
-        runs = ap (λ parts. giving parts []) did.is;
-        none = refl;
-        talked =
-            weaker did.own.client.api.opened _ _ _ _ _ _ _ _ goes.talked
-            (omega (arith, asked_count (step_after start 0 log e).effects.sends (asked_of start tx log),
-            few_sent (is_key tx) did.front did.rest (step_after start 0 log e).effects.sends both.1 did.sent))
-            (omega (arith, ap (λ (list : List Answer). length list) (told_now did.own did.is),
-            news_count (is_answered tx e.step.taken.body) did.own.client.api.replies (told_of start tx log)))
-            (omega (arith, wishes_count (step_after start 0 log e).effects.sends (sent_of (wished_by tx) start 0 log),
-            few_sent (is_wish tx) did.front did.rest (step_after start 0 log e).effects.sends both.1 did.sent))
-            (omega arith);
-        among =
-            subst (λ list. AreAmong list (cons_option (told_by tx e.step.taken.body) (taken_of (told_by tx) log)))
-            (sym (told_now did.own did.is)) (among_now did.own goes.only);
-      }
-        where
-          both : Goes e.step.taken (length (asked_of start tx log)) (length (told_of start tx log))
-              (length (sent_of (wished_by tx) start 0 log)) (takes_in (is_begin tx) log) few did.own did.rest
-              × (did.front ≡ [])
-          both =
-              entered_goes e.step.taken (length (asked_of start tx log)) (length (told_of start tx log))
-              (length (sent_of (wished_by tx) start 0 log)) (takes_in (is_begin tx) log) few old.own old.none old.talked
-              start.shape did.between did.own (view_after start 0 log) (view_after start 0 (e ∷ log)) did.front did.rest
-              did.enters did.takes
+        stepped : ShellDoes start.shape old.own (view_after start 0 log) e.step.taken (step_after start 0 log e).state.parts
+            (view_after start 0 (e ∷ log)) (step_after start 0 log e).effects.sends → ClientLog (e ∷ log)
+        stepped did = record {
+          own = record { client = with_api did.own.client (with_replies did.own.client.api []); arbiter = did.own.arbiter };
+          runs = ap (λ parts. giving parts []) did.is;
+          none = refl;
+          talked =
+              weaker did.own.client.api.opened _ _ _ _ _ _ _ _ goes.talked
+              (omega (
+                arith,
+                asked_count (step_after start 0 log e).effects.sends (asked_of start tx log),
+                few_sent (is_key tx) did.front did.rest (step_after start 0 log e).effects.sends both.1 did.sent,
+              ))
+              (omega (
+                arith,
+                ap (λ (list : List Answer). length list) (told_now did.own did.is),
+                news_count (is_answered tx e.step.taken.body) did.own.client.api.replies (told_of start tx log),
+              ))
+              (omega (
+                arith,
+                wishes_count (step_after start 0 log e).effects.sends (sent_of (wished_by tx) start 0 log),
+                few_sent (is_wish tx) did.front did.rest (step_after start 0 log e).effects.sends both.1 did.sent,
+              ))
+              (omega arith);
+          among =
+              subst (λ list. AreAmong list (cons_option (told_by tx e.step.taken.body) (taken_of (told_by tx) log)))
+              (sym (told_now did.own did.is)) (among_now did.own goes.only);
+        }
+          where
+            both : Goes e.step.taken (length (asked_of start tx log)) (length (told_of start tx log))
+                (length (sent_of (wished_by tx) start 0 log)) (takes_in (is_begin tx) log) few did.own did.rest
+                × (did.front ≡ [])
+            both =
+                entered_goes e.step.taken (length (asked_of start tx log)) (length (told_of start tx log))
+                (length (sent_of (wished_by tx) start 0 log)) (takes_in (is_begin tx) log) few old.own old.none old.talked
+                start.shape did.between did.own (view_after start 0 log) (view_after start 0 (e ∷ log)) did.front did.rest
+                did.enters did.takes
 
-          goes : Goes e.step.taken (length (asked_of start tx log)) (length (told_of start tx log))
-              (length (sent_of (wished_by tx) start 0 log)) (takes_in (is_begin tx) log) few did.own did.rest
-          goes = both.0
+            goes : Goes e.step.taken (length (asked_of start tx log)) (length (told_of start tx log))
+                (length (sent_of (wished_by tx) start 0 log)) (takes_in (is_begin tx) log) few did.own did.rest
+            goes = both.0
 
     pub client_log : (log : List HostStep) → takes_in (is_begin tx) log ≤ 1 → ClientLog log
     unfolding started

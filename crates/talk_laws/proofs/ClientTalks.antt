@@ -142,7 +142,6 @@ module _ (a : ApiState) (body : Body) (R : List OpenTransaction → List Outgoin
   abbrev ApiGoes : Step ApiState → Type 0
   ApiGoes step = R step.state.opened step.effects.sends step.state.replies
 
-
   asked_forms : (r : ApiReq) → ApiRequestForms a r ApiGoes
   asked_forms r = record {
     opens = λ name node at is new. forms.opens (Some name) node None _ (refl, tt);
@@ -262,7 +261,6 @@ module _ (s : ClientState) (body : Body) (R : List OpenTransaction → List Outg
     (forms : TalkForms s.api.opened s.api.replies body R) where
   abbrev Goes : Step ClientState → Type 0
   Goes step = R step.state.api.opened step.effects.sends step.state.api.replies
-
 
   -- commands
   api_takes : (r : ApiReq) → Goes (on_api s r)
@@ -403,7 +401,6 @@ module _ (s : ClientState) (body : Body) (R : List OpenTransaction → List Outg
   -- what gets no answer any more
   more : (t : ClientState) → ArePlain (more_if (has_more t))
   more t = more_plain (has_more t)
-
 
   ended_goes : (p : OpenTransaction → Bool) (at : ℕ) (f : IsFocus p s.api.opened at) (does : Doing) (tx : Option TxId)
       → f.item.doing ≡ does → f.item.tx ≡ tx

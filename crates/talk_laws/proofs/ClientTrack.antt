@@ -360,9 +360,9 @@ module _ (tx : TxId) where
       (count_sent (is_wish tx) (client_row s x).effects.sends + wished) (one_if (is_begin tx x.body) + begun)
   client_talked s x asked told wished begun none few talked =
       let pays =
-          client_talks s x (Pays s.api.opened asked told wished begun talked x.body few)
-          (subst (λ before. TalkForms s.api.opened before x.body (Pays s.api.opened asked told wished begun talked x.body few))
-          (sym none) (pays_forms s.api.opened asked told wished begun talked x.body few)) in
+      client_talks s x (Pays s.api.opened asked told wished begun talked x.body few)
+      (subst (λ before. TalkForms s.api.opened before x.body (Pays s.api.opened asked told wished begun talked x.body few))
+      (sym none) (pays_forms s.api.opened asked told wished begun talked x.body few)) in
       record {
         paid = pays.paid;
         open_few = omega (arith, reports_few tx s x, talked.open_few);

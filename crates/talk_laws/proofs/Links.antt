@@ -51,7 +51,7 @@ module _ {A : Type 0} (f : Body → Option A) where
 
       by : (b : Bool)
           → ((few all : List A) → AreAmong few all
-              → AreAmong (picked (λ (r : Routed). f r.sent.body) more few) (pick_sends f sends all))
+          → AreAmong (picked (λ (r : Routed). f r.sent.body) more few) (pick_sends f sends all))
           → AreAmong (picked (λ (r : Routed). f r.sent.body) (routed_if b (routed to one) more) few)
           (pick_sends f sends (cons_option (f one.body) all))
       by true rest = rest few (cons_option (f one.body) all) (cons_more (f one.body) few all among)
@@ -76,8 +76,8 @@ module _ {A : Type 0} (f : Body → Option A) where
       where
         by : (b : Bool)
             → ((before : List Addressed) (all : List A) → AreAmong (on_link f before) all
-                → AreAmong (on_link f (put (machine start) j xs before))
-                (picked (λ (x : Addressed). f x.signal.body) xs all))
+            → AreAmong (on_link f (put (machine start) j xs before))
+            (picked (λ (x : Addressed). f x.signal.body) xs all))
             → AreAmong (on_link f (put (machine start) j xs (if b then x ∷ before else before)))
             (picked (λ (x : Addressed). f x.signal.body) xs (cons_option (f x.signal.body) all))
         by true rest =

@@ -186,57 +186,57 @@ module _ (tx : TxId) (me : Member) where
   module _ (p : TcPart) (x : Signal) (told : List Answer) (took : List Op) (gave : List (List (Op × Answer)))
       (is : IsTalked p told took gave)
     where
-    entered : (between : TcPart) (view stood : View) (front : List Outgoing)
-        → PartEnters tc_kind p view x between stood front → After told took gave between front took
-    entered between view stood front (remains same stands none) =
-        subst (λ q. After told took gave q front took) (sym same)
-        (subst (λ sends. After told took gave p sends took) (sym none) is)
-    entered between view stood front (installs above same stands sends) =
-        subst (λ q. After told took gave q front took) (sym same)
-        (subst (λ sends. After told took gave (tc_entered p x.view).state sends took) (sym sends)
-        (enters_is told took gave p x.view is))
+      entered : (between : TcPart) (view stood : View) (front : List Outgoing)
+          → PartEnters tc_kind p view x between stood front → After told took gave between front took
+      entered between view stood front (remains same stands none) =
+          subst (λ q. After told took gave q front took) (sym same)
+          (subst (λ sends. After told took gave p sends took) (sym none) is)
+      entered between view stood front (installs above same stands sends) =
+          subst (λ q. After told took gave q front took) (sym same)
+          (subst (λ sends. After told took gave (tc_entered p x.view).state sends took) (sym sends)
+          (enters_is told took gave p x.view is))
 
-    takes_it : (shape : Shape) (between own : TcPart) (stood : View) (front rest : List Outgoing)
-        → After told took gave between front took → PartTakes tc_kind shape between stood x own rest
-        → IsTalked own (pick_sends (told_by tx) (front ++ rest) told) (cons_option (asked_by tx x.body) took)
-        (pick_sends (verified_by tx) (front ++ rest) gave)
-    takes_it shape between own stood front rest before takes =
-        subst (λ some. IsTalked own some (cons_option (asked_by tx x.body) took)
-        (pick_sends (verified_by tx) (front ++ rest) gave))
-        (sym (picked_both (λ (sent : Outgoing). told_by tx sent.body) front rest told))
-        (subst (IsTalked own (pick_sends (told_by tx) rest (pick_sends (told_by tx) front told))
-        (cons_option (asked_by tx x.body) took))
-        (sym (picked_both (λ (sent : Outgoing). verified_by tx sent.body) front rest gave)) (by takes))
-      where
-        first : List Answer
-        first = pick_sends (told_by tx) front told
+      takes_it : (shape : Shape) (between own : TcPart) (stood : View) (front rest : List Outgoing)
+          → After told took gave between front took → PartTakes tc_kind shape between stood x own rest
+          → IsTalked own (pick_sends (told_by tx) (front ++ rest) told) (cons_option (asked_by tx x.body) took)
+          (pick_sends (verified_by tx) (front ++ rest) gave)
+      takes_it shape between own stood front rest before takes =
+          subst (λ some. IsTalked own some (cons_option (asked_by tx x.body) took)
+          (pick_sends (verified_by tx) (front ++ rest) gave))
+          (sym (picked_both (λ (sent : Outgoing). told_by tx sent.body) front rest told))
+          (subst (IsTalked own (pick_sends (told_by tx) rest (pick_sends (told_by tx) front told))
+          (cons_option (asked_by tx x.body) took))
+          (sym (picked_both (λ (sent : Outgoing). verified_by tx sent.body) front rest gave)) (by takes))
+        where
+          first : List Answer
+          first = pick_sends (told_by tx) front told
 
-        given : List (List (Op × Answer))
-        given = pick_sends (verified_by tx) front gave
+          given : List (List (Op × Answer))
+          given = pick_sends (verified_by tx) front gave
 
-        by : PartTakes tc_kind shape between stood x own rest
-            → After first took given own rest (cons_option (asked_by tx x.body) took)
-        by (ignores same none) =
-            subst (λ q. After first took given q rest (cons_option (asked_by tx x.body) took)) (sym same)
-            (subst (λ sends. After first took given between sends (cons_option (asked_by tx x.body) took)) (sym none)
-            (record {
-              of = before.of;
-              talked = takes_more between.coordinator first took given (asked_by tx x.body) before.talked;
-            }))
-        by (handles passed same sends) =
-            subst (λ q. After first took given q rest (cons_option (asked_by tx x.body) took)) (sym same)
-            (subst
-            (λ list. After first took given (tc_row between x.to.block x).state list
-            (cons_option (asked_by tx x.body) took))
-            (sym sends) (row_is first took given between x.to.block x before))
+          by : PartTakes tc_kind shape between stood x own rest
+              → After first took given own rest (cons_option (asked_by tx x.body) took)
+          by (ignores same none) =
+              subst (λ q. After first took given q rest (cons_option (asked_by tx x.body) took)) (sym same)
+              (subst (λ sends. After first took given between sends (cons_option (asked_by tx x.body) took)) (sym none)
+              (record {
+                of = before.of;
+                talked = takes_more between.coordinator first took given (asked_by tx x.body) before.talked;
+              }))
+          by (handles passed same sends) =
+              subst (λ q. After first took given q rest (cons_option (asked_by tx x.body) took)) (sym same)
+              (subst
+              (λ list. After first took given (tc_row between x.to.block x).state list
+              (cons_option (asked_by tx x.body) took))
+              (sym sends) (row_is first took given between x.to.block x before))
 
-    goes_or_not : (own : TcPart) (all sends : List Outgoing) (asked : List Op) → After told took gave own all asked
-        → (sends ≡ all) ⊎ (sends ≡ []) → After told took gave own sends asked
-    goes_or_not own all sends asked after (inl same) =
-        subst (λ list. After told took gave own list asked) (sym same) after
-    goes_or_not own all sends asked after (inr none) =
-        subst (λ list. After told took gave own list asked) (sym none)
-        (record { of = after.of; talked = hushes own.coordinator told asked gave all after.talked })
+      goes_or_not : (own : TcPart) (all sends : List Outgoing) (asked : List Op) → After told took gave own all asked
+          → (sends ≡ all) ⊎ (sends ≡ []) → After told took gave own sends asked
+      goes_or_not own all sends asked after (inl same) =
+          subst (λ list. After told took gave own list asked) (sym same) after
+      goes_or_not own all sends asked after (inr none) =
+          subst (λ list. After told took gave own list asked) (sym none)
+          (record { of = after.of; talked = hushes own.coordinator told asked gave all after.talked })
 
   -- along the log of its host, which begins with a part of its member
   module _ (start : Start) (there : IsIn me (made start)) where

@@ -112,25 +112,25 @@ module _ (me : Member) where
   module _ (p : Body → Bool) (counts : (body : Body) → is_counted body ≡ false → p body ≡ false)
       (apart : (body : Body) → IsOwnTalk me body → p body ≡ false)
     where
-    none_of : (sends : List Outgoing) → Each (OwnTalk me) sends → count_sent p sends ≡ 0
-    none_of sends own =
-        count_none (λ (sent : Outgoing). p sent.body) sends
-        (each_map (OwnTalk me) (λ (sent : Outgoing). p sent.body ≡ false) sends (λ sent is. apart sent.body is) own)
+      none_of : (sends : List Outgoing) → Each (OwnTalk me) sends → count_sent p sends ≡ 0
+      none_of sends own =
+          count_none (λ (sent : Outgoing). p sent.body) sends
+          (each_map (OwnTalk me) (λ (sent : Outgoing). p sent.body ≡ false) sends (λ sent is. apart sent.body is) own)
 
-    light : AreLight (of_coordinator p nothing) (IsTcOf me)
-    light =
-        coordinator_light p counts me nothing
-        (λ s x of. omega (arith, none_of (coordinator_row s x).effects.sends (row_own s x of)))
-        (λ s view of. omega (arith, none_of (install_row s view).effects.sends (installs_own s view)))
+      light : AreLight (of_coordinator p nothing) (IsTcOf me)
+      light =
+          coordinator_light p counts me nothing
+          (λ s x of. omega (arith, none_of (coordinator_row s x).effects.sends (row_own s x of)))
+          (λ s view of. omega (arith, none_of (install_row s view).effects.sends (installs_own s view)))
 
-    pub tc_sends_none : (start : Start) (logs : ℕ → List HostStep) → AreOfCluster start logs → IsIn me (made start)
-        → sends_in p start (tc_of start me) (logs (tc_of start me)) ≡ 0
-    tc_sends_none start logs are there =
-        let h = tc_of start me in
-        let is =
-            log_light (of_coordinator p nothing) (IsTcOf me) light start h (tc_begins start me there) (logs h)
-            (are.right.local h) in
-        omega (arith, is.below, none_taken (logs h), none_fresh p (started start h).parts)
+      pub tc_sends_none : (start : Start) (logs : ℕ → List HostStep) → AreOfCluster start logs → IsIn me (made start)
+          → sends_in p start (tc_of start me) (logs (tc_of start me)) ≡ 0
+      tc_sends_none start logs are there =
+          let h = tc_of start me in
+          let is =
+          log_light (of_coordinator p nothing) (IsTcOf me) light start h (tc_begins start me there) (logs h)
+          (are.right.local h) in
+          omega (arith, is.below, none_taken (logs h), none_fresh p (started start h).parts)
 
 uncounted_answered : (tx : TxId) (body : Body) → is_counted body ≡ false → is_answered tx body ≡ false
 uncounted_answered tx (Client (TcKeyConf other answer)) none = absurd cc
@@ -156,8 +156,8 @@ module _ (start : Start) (logs : ℕ → List HostStep) (are : AreOfCluster star
           (tc_sends_none me (is_key tx) (uncounted_key tx) (key_apart tx me) start logs are there)
       of_host (of_none none) =
           let is =
-              log_light (of_nobody (is_key tx)) IsBeside (beside_light (is_key tx) (uncounted_key tx)) start (suc k)
-              (beside_is start k none) (logs (suc k)) (are.right.local (suc k)) in
+          log_light (of_nobody (is_key tx)) IsBeside (beside_light (is_key tx) (uncounted_key tx)) start (suc k)
+          (beside_is start k none) (logs (suc k)) (are.right.local (suc k)) in
           omega (arith, is.below, none_taken (logs (suc k)))
 
       by : (suc k < hosts start) ⊎ (hosts start ≤ suc k) → sends_in (is_key tx) start (suc k) (logs (suc k)) ≡ 0

@@ -345,9 +345,10 @@ module _ (tx : TxId) where
                     unborn = unborn;
                     fits = from_all turn.step.state (IsFit told took_then) closed old_fits b;
                     gives =
-                        subst (Each (Gives told took_then)) (sym gave_is)
-                        (more_gives told took (asked_by tx body) t.ops (fits_gives told took t (own_fit same opened)),
-                        old_gives);
+                        subst (Each (Gives told took_then)) (sym gave_is) (
+                          more_gives told took (asked_by tx body) t.ops (fits_gives told took t (own_fit same opened)),
+                          old_gives,
+                        );
                   }
 
           pub turned_says : (turn : Turn) → Talks s.node u t body turn → SaysBy (turned s at turn)

@@ -76,7 +76,7 @@ pub all_told : (asked took : List Op) (told heard gave : List Answer) (ops : Lis
     → (asked ≡ newest_ops ops []) × (told ≡ newest ops [])
 all_told asked took told heard gave ops paid one two three four five = (
   sym (among_all (newest_ops ops []) asked asks
-  (omega (arith, paid, among_length told (newest ops []) tells, newest_length ops [], newest_ops_length ops []))),
+      (omega (arith, paid, among_length told (newest ops []) tells, newest_length ops [], newest_ops_length ops []))),
   among_all told (newest ops []) tells
       (omega (arith, paid, among_length (newest_ops ops []) asked asks, newest_length ops [], newest_ops_length ops [])),
 )
@@ -191,62 +191,62 @@ module _ (tx : TxId) where
     module _ (ops : List (Op × Answer)) (there : IsIn ops (sent_of (verified_by tx) start c (logs c)))
         (some : 1 ≤ sends_in (is_asking tx) start c (logs c))
       where
-      abbrev Done : Type 0
-      Done = (asked_of start tx (logs 0) ≡ newest_ops ops []) × (told_of start tx (logs 0) ≡ newest ops [])
+        abbrev Done : Type 0
+        Done = (asked_of start tx (logs 0) ≡ newest_ops ops []) × (told_of start tx (logs 0) ≡ newest ops [])
 
-      of_member : (me : Member) → IsIn me (made start) → c ≡ tc_of start me → Done
-      of_member me made_is at = by (cases_lt 0 (takes_in (is_wish tx) (logs (tc_of start me))))
-        where
-          talked : TalkedLog tx me start made_is (logs (tc_of start me))
-          talked =
-              log_talked tx me start made_is (tc_behind start me (tc_of start me) (tc_begins start me made_is))
-              (logs (tc_of start me))
+        of_member : (me : Member) → IsIn me (made start) → c ≡ tc_of start me → Done
+        of_member me made_is at = by (cases_lt 0 (takes_in (is_wish tx) (logs (tc_of start me))))
+          where
+            talked : TalkedLog tx me start made_is (logs (tc_of start me))
+            talked =
+                log_talked tx me start made_is (tc_behind start me (tc_of start me) (tc_begins start me made_is))
+                (logs (tc_of start me))
 
-          gives : Gives (sent_of (told_by tx) start (tc_of start me) (logs (tc_of start me)))
-              (taken_of (asked_by tx) (logs (tc_of start me))) ops
-          gives =
-              each_in _ ops (sent_of (verified_by tx) start (tc_of start me) (logs (tc_of start me)))
-              talked.is.talked.gives
-              (subst (λ (h : ℕ). IsIn ops (sent_of (verified_by tx) start h (logs h))) at there)
+            gives : Gives (sent_of (told_by tx) start (tc_of start me) (logs (tc_of start me)))
+                (taken_of (asked_by tx) (logs (tc_of start me))) ops
+            gives =
+                each_in _ ops (sent_of (verified_by tx) start (tc_of start me) (logs (tc_of start me)))
+                talked.is.talked.gives
+                (subst (λ (h : ℕ). IsIn ops (sent_of (verified_by tx) start h (logs h))) at there)
 
-          by : (0 < takes_in (is_wish tx) (logs (tc_of start me)))
-              ⊎ (takes_in (is_wish tx) (logs (tc_of start me)) ≤ 0) → Done
-          by (inl wish) =
-              let client = client_log tx start (logs 0) (begin_once tx start logs are 0) in
-              all_told (asked_of start tx (logs 0)) (taken_of (asked_by tx) (logs (tc_of start me)))
-              (told_of start tx (logs 0)) (taken_of (told_by tx) (logs 0))
-              (sent_of (told_by tx) start (tc_of start me) (logs (tc_of start me))) ops
-              (client.talked.wished_paid (omega (arith, wish, wished (tc_of start me)))) client.among
-              (subst (λ (h : ℕ). AreAmong (taken_of (told_by tx) (logs 0)) (sent_of (told_by tx) start h (logs h))) at
-              heard)
-              gives.answers_are gives.ops_are (took (tc_of start me))
-          by (inr none) =
-              let bare = asks_wished tx start me made_is (logs (tc_of start me)) (are.right.local (tc_of start me)) none in
-              let same = ap (λ (h : ℕ). sends_in (is_asking tx) start h (logs h)) at in
-              absurd (omega (arith, some, bare, same))
+            by : (0 < takes_in (is_wish tx) (logs (tc_of start me)))
+                ⊎ (takes_in (is_wish tx) (logs (tc_of start me)) ≤ 0) → Done
+            by (inl wish) =
+                let client = client_log tx start (logs 0) (begin_once tx start logs are 0) in
+                all_told (asked_of start tx (logs 0)) (taken_of (asked_by tx) (logs (tc_of start me)))
+                (told_of start tx (logs 0)) (taken_of (told_by tx) (logs 0))
+                (sent_of (told_by tx) start (tc_of start me) (logs (tc_of start me))) ops
+                (client.talked.wished_paid (omega (arith, wish, wished (tc_of start me)))) client.among
+                (subst (λ (h : ℕ). AreAmong (taken_of (told_by tx) (logs 0)) (sent_of (told_by tx) start h (logs h))) at
+                heard)
+                gives.answers_are gives.ops_are (took (tc_of start me))
+            by (inr none) =
+                let bare = asks_wished tx start me made_is (logs (tc_of start me)) (are.right.local (tc_of start me)) none in
+                let same = ap (λ (h : ℕ). sends_in (is_asking tx) start h (logs h)) at in
+                absurd (omega (arith, some, bare, same))
 
-      all_done : Done
-      all_done = by (cases_lt c (hosts start))
-        where
-          of_host : TcHost start c → Done
-          of_host (of_tc me made_is at) = of_member me made_is at
-          of_host (of_none none) =
-              let bare =
-              no_tc_sends (is_asking tx) (uncounted_asking tx) start logs are (asking_coordinators tx) c none in
-              absurd (omega (arith, some, bare))
+        all_done : Done
+        all_done = by (cases_lt c (hosts start))
+          where
+            of_host : TcHost start c → Done
+            of_host (of_tc me made_is at) = of_member me made_is at
+            of_host (of_none none) =
+                let bare =
+                no_tc_sends (is_asking tx) (uncounted_asking tx) start logs are (asking_coordinators tx) c none in
+                absurd (omega (arith, some, bare))
 
-          by : (c < hosts start) ⊎ (hosts start ≤ c) → Done
-          by (inl low) = of_host (tc_host_is start c low)
-          by (inr high) =
-              let bare = nowhere_sends (is_asking tx) (uncounted_asking tx) start logs are c high in
-              absurd (omega (arith, some, bare))
+            by : (c < hosts start) ⊎ (hosts start ≤ c) → Done
+            by (inl low) = of_host (tc_host_is start c low)
+            by (inr high) =
+                let bare = nowhere_sends (is_asking tx) (uncounted_asking tx) start logs are c high in
+                absurd (omega (arith, some, bare))
 
     -- the request for an epoch that a host took before it decided it
     asked_before : (h : ℕ) (a : Entry) → a.tx ≡ tx → (is : IsEntryOf a (logs h))
         → 1 ≤ takes_in (is_asking tx) (is.step ∷ is.before)
     asked_before h a same is =
         let right = older_log start h is.past.newer (is.step ∷ is.before)
-            (subst (IsLog (machine start) h) is.past.is (are.right.local h)) in
+        (subst (IsLog (machine start) h) is.past.is (are.right.local h)) in
         omega (
           arith,
           decides_asked tx start h (is.step ∷ is.before) right,
