@@ -3,6 +3,4 @@
 
 mod moment_laws;
 
-pub use moment_laws::{
-    logs_are_moments, steps_come_to_parts, takers_stand_in_the_current_view,
-};
+pub use moment_laws::{logs_are_moments, steps_come_to_parts, takers_stand_in_the_current_view};
