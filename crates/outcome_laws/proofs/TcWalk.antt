@@ -67,7 +67,7 @@ module _ (node : ℕ) (layout : Layout) (tx : TxId) (t : Transaction) (R : Turn 
   unfolding aborted_anew
   anew why verifying awaited at = forms.anew why verifying awaited at (replica_count layout t.touched == 0)
 
-  resumes : (number : ℕ) (verdict : Verdict) (phase : Phase) → t.phase ≡ phase
+  pub resumes : (number : ℕ) (verdict : Verdict) (phase : Phase) → t.phase ≡ phase
       → R (resume_by node layout tx t number verdict phase)
   resumes number Fail Open at = fails number (ap is_undecided at)
   resumes number Fail Verifying at = fails number (ap is_undecided at)
