@@ -5,3 +5,4 @@ pub mod PhaseSends
 pub mod PhaseWalk
 pub mod PhaseTurns
 pub mod TokenRows
+pub mod TokenSums

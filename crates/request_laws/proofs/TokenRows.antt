@@ -53,7 +53,8 @@ use Rattle.request_laws.specs.Tokens.{count_waiting, is_token}
 use Rattle.request_laws.proofs.ReplicaEvents.{epoch_same, go_on_same, reporting_same}
 use Rattle.request_laws.proofs.RowsAlong.{always, first_rows}
 
-one_same : (b : Bool) → plain_one b ≡ one_if b
+-- two ways to say one where a test passes
+pub one_same : (b : Bool) → plain_one b ≡ one_if b
 one_same true = refl
 one_same false = refl
 
