@@ -6,3 +6,4 @@ pub mod PhaseWalk
 pub mod PhaseTurns
 pub mod TokenRows
 pub mod TokenSums
+pub mod TokenTurns

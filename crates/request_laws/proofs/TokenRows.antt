@@ -72,7 +72,7 @@ module _ (tx : TxId) where
   token_same (Chain (LqhKeyRef other key cause)) = refl
   token_same _ = refl
 
-  out_same : (sends : List Outgoing) → tokens_out tx sends ≡ count_sent (is_token tx) sends
+  pub out_same : (sends : List Outgoing) → tokens_out tx sends ≡ count_sent (is_token tx) sends
   out_same = tally_count (λ (o : Outgoing). plain.is_token tx o.body) (λ (o : Outgoing). is_token tx o.body)
       (λ o. token_same o.body)
 
