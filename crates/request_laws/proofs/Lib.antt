@@ -7,3 +7,5 @@ pub mod PhaseTurns
 pub mod TokenRows
 pub mod TokenSums
 pub mod TokenTurns
+pub mod TokenSteps
+pub mod TokenViews
