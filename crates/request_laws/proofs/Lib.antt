@@ -9,3 +9,4 @@ pub mod TokenSums
 pub mod TokenTurns
 pub mod TokenSteps
 pub mod TokenViews
+pub mod TokenHosts

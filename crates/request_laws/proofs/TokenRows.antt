@@ -41,6 +41,9 @@ use Rattle.lqh_views.specs.Replica.{installed, is_stale, passed, replica_by, rep
 use Rattle.lqh_views.specs.Report.{go_on_by, is_orphaned_marker, is_orphaned_record, last_before, marker_by, record_by, reporting, telling, told_record_if}
 use Rattle.lqh_views.specs.State.{ReplicaState}
 use Rattle.lqh_views.proofs.AddressLemmas.{same-body}
+use Rattle.node_views.specs.declared.parts.Parts.{Parts}
+use Rattle.world_views.specs.Machine.{after}
+use Rattle.moment_laws.specs.Places.{ldm_of}
 use Rattle.run_laws.specs.Tokens as plain
 use Rattle.run_laws.proofs.LqhTokens.{is_own, lqh_tokens, tokens_out}
 use Rattle.run_laws.proofs.LqhWaits.{WaitersAsk, lqh_asks}
@@ -51,7 +54,7 @@ use Rattle.outcome_laws.proofs.TcLists.{count_more}
 use Rattle.request_laws.specs.Blocks.{rows_after}
 use Rattle.request_laws.specs.Tokens.{count_waiting, is_token}
 use Rattle.request_laws.proofs.ReplicaEvents.{epoch_same, go_on_same, reporting_same}
-use Rattle.request_laws.proofs.RowsAlong.{always, first_rows}
+use Rattle.request_laws.proofs.RowsAlong.{AreRows, always, first_rows, rows_so}
 
 -- two ways to say one where a test passes
 pub one_same : (b : Bool) → plain_one b ≡ one_if b
@@ -172,7 +175,7 @@ pub installed_none : (s : ReplicaState) (view : View) (tx : TxId) → count_wait
 installed_none s view tx = refl
 
 -- so it is of the rows of a member along logs
-signal_ask : (s : ReplicaState) (x : Signal) → WaitersAsk s.lqh → WaitersAsk (replica_row s x).state.lqh
+pub signal_ask : (s : ReplicaState) (x : Signal) → WaitersAsk s.lqh → WaitersAsk (replica_row s x).state.lqh
 signal_ask s x ask = by x.body
   where
     same : (now : LqhState) → now ≡ s.lqh → WaitersAsk now
@@ -197,13 +200,28 @@ none_ask s none = record {
   asks = λ key tx is. absurd (true≢false (sym is ∙ ap (waits tx) (none key)));
 }
 
+pub installed_asks : (s : ReplicaState) (view : View) → WaitersAsk (installed s view).lqh
+installed_asks s view =
+    none_ask (installed s view).lqh
+    (λ key. ap (λ (lock : RowLock). lock.queue) (lock-left (goes_on_holding s.lqh.rows view.full) s.lqh.locks key))
+
+first_asks : (start : Start) (member : Member) → WaitersAsk (first_rows start member).lqh
+first_asks start member =
+    none_ask (first_rows start member).lqh
+    (λ key. ap (λ (lock : RowLock). lock.queue) (ap or_unlocked (finite.get-empty key_cmp key)))
+
+-- a host runs rows in which each wait has a request
+abbrev pub RunsRows : Parts → Type 0
+RunsRows = AreRows (λ (s : ReplicaState). WaitersAsk s.lqh) signal_ask (λ s view ask. installed_asks s view)
+
+pub rows_run : (start : Start) (member : Member) → IsIn member (made start) → (log : List HostStep)
+    → RunsRows (after start (ldm_of start member) log).parts
+rows_run start member there log =
+    rows_so (λ (s : ReplicaState). WaitersAsk s.lqh) signal_ask (λ s view ask. installed_asks s view) start member there
+    (first_asks start member) log
+
 pub waiters_ask : (start : Start) (member : Member) → IsIn member (made start) → (log : List HostStep)
     → WaitersAsk (rows_after start member log).lqh
 waiters_ask start member there =
-    always (λ (s : ReplicaState). WaitersAsk s.lqh) signal_ask
-    (λ s view ask.
-    none_ask (installed s view).lqh
-    (λ key. ap (λ (lock : RowLock). lock.queue) (lock-left (goes_on_holding s.lqh.rows view.full) s.lqh.locks key)))
-    start member there
-    (none_ask (first_rows start member).lqh
-    (λ key. ap (λ (lock : RowLock). lock.queue) (ap or_unlocked (finite.get-empty key_cmp key))))
+    always (λ (s : ReplicaState). WaitersAsk s.lqh) signal_ask (λ s view ask. installed_asks s view) start member there
+    (first_asks start member)
