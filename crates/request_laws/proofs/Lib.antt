@@ -10,3 +10,4 @@ pub mod TokenTurns
 pub mod TokenSteps
 pub mod TokenViews
 pub mod TokenHosts
+pub mod TokenNone
