@@ -1,10 +1,15 @@
+pub mod PhaseSends
 pub mod ReplicaEvents
 pub mod ReplicaWaits
 pub mod RouteAnswered
+pub mod RouteApart
 pub mod RouteChains
 pub mod RouteDoomed
+pub mod RouteDrives
+pub mod RouteLayouts
 pub mod RouteRefused
 pub mod RouteRows
+pub mod RouteSends
 pub mod RouteTakeover
 pub mod RouteTc
 pub mod RouteTurns

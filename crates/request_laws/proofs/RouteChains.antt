@@ -9,7 +9,6 @@ use Rattle.std.proofs.lemmas.List.Elements.{filter-append}
 use Rattle.run_theory.specs.Lists.{Each, IsIn}
 use Rattle.run_theory.proofs.Pasts.{each_append, each_in}
 use Rattle.sig_core.specs.declared.member.Member.{Member}
-use Rattle.sig_core.specs.declared.member.TxId.{TxId}
 use Rattle.sig_core.specs.declared.view.Shape.{Shape}
 use Rattle.sig_core.specs.declared.view.View.{View}
 use Rattle.sig_core.specs.Chain.{primary_of}
@@ -210,29 +209,28 @@ module _ (layout : Layout) (set : View) (first : NobodyLater layout.view) (part 
       (subst (λ (chain : List Member). list_any (is_outside set) (primary_of chain) ≡ false) was inside))
       ∙ sym (ap primary_of was)
 
-  module _ (A D G : TxId → Type 0) where
-    touched_stays : (t : Touched) → strays set t ≡ false → (b : Bool) → t.chain ≡ touched_chain layout A D G t b
-        → t.chain ≡ touched_chain (in_view layout set) A D G t b
-    touched_stays t inside true is =
-        is ∙ sym (chain_stays t.key (subst (λ (c : List Member). list_any (is_outside set) c ≡ false) is inside))
-    touched_stays t inside false is =
-        is ∙ sym (primary_stays t.key (subst (λ (c : List Member). list_any (is_outside set) c ≡ false) is inside))
+  touched_stays : (t : Touched) → strays set t ≡ false → (b : Bool) → t.chain ≡ touched_chain layout t b
+      → t.chain ≡ touched_chain (in_view layout set) t b
+  touched_stays t inside true is =
+      is ∙ sym (chain_stays t.key (subst (λ (c : List Member). list_any (is_outside set) c ≡ false) is inside))
+  touched_stays t inside false is =
+      is ∙ sym (primary_stays t.key (subst (λ (c : List Member). list_any (is_outside set) c ≡ false) is inside))
 
-    all_touched_stay : (keys : List Touched) → list_any (strays set) keys ≡ false
-        → Each (IsTouchedRouted layout A D G) keys → Each (IsTouchedRouted (in_view layout set) A D G) keys
-    all_touched_stay [] keep all = tt
-    all_touched_stay (t ∷ keys) keep all =
-        let parts = both (strays set t) (list_any (strays set) keys) keep in
-        (touched_stays t parts.0 t.written all.0, all_touched_stay keys parts.1 all.1)
-      where
-        both : (a b : Bool) → (a || b) ≡ false → (a ≡ false) × (b ≡ false)
-        both true b is = absurd (true≢false is)
-        both false b is = (refl, is)
+  all_touched_stay : (keys : List Touched) → list_any (strays set) keys ≡ false
+      → Each (IsTouchedRouted layout) keys → Each (IsTouchedRouted (in_view layout set)) keys
+  all_touched_stay [] keep all = tt
+  all_touched_stay (t ∷ keys) keep all =
+      let parts = both (strays set t) (list_any (strays set) keys) keep in
+      (touched_stays t parts.0 t.written all.0, all_touched_stay keys parts.1 all.1)
+    where
+      both : (a b : Bool) → (a || b) ≡ false → (a ≡ false) × (b ≡ false)
+      both true b is = absurd (true≢false is)
+      both false b is = (refl, is)
 
-    -- the routes of a transaction that keeps to the set, and has no operation unanswered, are those in it
-    pub routes_stay : (t : Transaction) → t.asked ≡ None → KeepsTo set t → HasRoutes layout A D G t
-        → HasRoutes (in_view layout set) A D G t
-    routes_stay t answered keeps has = record {
-      touched = all_touched_stay t.touched keeps has.touched;
-      asked = subst (IsAskedRouted (in_view layout set) A D G) (sym answered) tt;
-    }
+  -- the routes of a transaction that keeps to the set, and has no operation unanswered, are those in it
+  pub routes_stay : (t : Transaction) → t.asked ≡ None → KeepsTo set t → HasRoutes layout t
+      → HasRoutes (in_view layout set) t
+  routes_stay t answered keeps has = record {
+    touched = all_touched_stay t.touched keeps has.touched;
+    asked = subst (IsAskedRouted (in_view layout set)) (sym answered) tt;
+  }

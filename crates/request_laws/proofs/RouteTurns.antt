@@ -25,14 +25,14 @@ use Rattle.sig_core.specs.Step.{stay}
 use Rattle.frag_map.specs.Layout.{Layout, chain_of}
 use Rattle.tc_block.specs.Abort.{abort_end, is_verifying}
 use Rattle.tc_block.specs.Complete.{written_count}
-use Rattle.tc_block.specs.Doom.{is_among}
+use Rattle.tc_block.specs.Doom.{is_among, is_undecided}
 use Rattle.tc_block.specs.Operate.{answered as answered_as, can_operate, is_ready, operating, touched_after}
 use Rattle.tc_block.specs.Part.{part_effects, rest_if}
 use Rattle.tc_block.specs.Phases.{is_aborting, is_decided}
 use Rattle.tc_block.specs.Resume.{anew_if, rechained, rechained_if, redriven}
-use Rattle.tc_block.specs.Sends.{abort_of, complete_if, entering, front_sends, key_sends, phase_sends, wait_of}
+use Rattle.tc_block.specs.Sends.{abort_of, complete_if, entering, go_on_if, front_sends, key_sends, phase_sends, wait_of, waits_of}
 use Rattle.tc_block.specs.Touched.{fits, place_of, touched_by, unwritten, written, written_by}
-use Rattle.tc_block.specs.Turn.{Turn, asking, at_phase}
+use Rattle.tc_block.specs.Turn.{Turn, asking, at_phase, going}
 use Rattle.tc_block.specs.declared.phase.Phase.{Phase}
 use Rattle.tc_block.specs.declared.phase.Phase.TheVariants.{Open, Verifying, Committing, Completing, Aborting}
 use Rattle.tc_block.specs.declared.touched.Touched.{Touched}
@@ -42,28 +42,60 @@ use Rattle.tc_views.specs.State.{CoordinatorState}
 use Rattle.outcome_laws.proofs.TcWalk.{ResumeForms}
 use Rattle.run_laws.proofs.RoutesChain.{last_inside, primary_length}
 use Rattle.run_laws.proofs.RoutesSends.{each_flat_of}
+use Rattle.request_laws.specs.Drives.{is_commit, is_request}
 use Rattle.request_laws.specs.Routes.{HasRoutes, HasRoutesIn, IsAskedRouted, IsRouted, IsSentRouted, IsTouchedRouted, touched_chain}
+use Rattle.request_laws.specs.Ways.{is_sent}
+use Rattle.request_laws.proofs.RouteSends.{IsMade, Needs, Nobody, answered_routed, commits_sent, going_unasked, none_asked, none_driven, part_sent, phase_sent, rechained_routed, touched_routed}
 use Rattle.request_laws.proofs.RouteTakeover.{ChainsAreSome}
-
--- what is sent is of a transaction that is asked for, or driven, in this view
-abbrev pub IsMade : (TxId → Type 0) → (TxId → Type 0) → Body → Type 0
-IsMade A D (Chain (LqhKeyReq tx work chain at)) = A tx
-IsMade A D (Chain (Commit tx key epoch chain at)) = D tx
-IsMade A D body = Unit {0}
 
 -- who is aborted is given up, and who is decided isn't
 pub record IsGiven (G : TxId → Type 0) (tx : TxId) (phase : Phase) : Type 0 where
   pub aborting : is_aborting phase ≡ true → G tx
   pub decided : is_decided phase ≡ true → G tx → ⊥
 
+-- behind a step a transaction is asked for, or driven, where it was so before it, or where the step sends that
+pub record Renews (A0 D0 A D : TxId → Type 0) (tx : TxId) (sends : List Outgoing) : Type 0 where
+  pub asked : A tx → A0 tx ⊎ (is_sent (is_request tx) sends ≡ true)
+  pub driven : D tx → D0 tx ⊎ (is_sent (is_commit tx) sends ≡ true)
+
+-- and what is so stays so
+pub record Grows (A0 D0 G0 A D G : TxId → Type 0) : Type 0 where
+  pub asked : (tx : TxId) → A0 tx → A tx
+  pub driven : (tx : TxId) → D0 tx → D tx
+  pub given : (tx : TxId) → G0 tx → G tx
+
 -- so it is with what a turn sends and leaves
-pub record MakesTurn (A D G : TxId → Type 0) (tx : TxId) (turn : Turn) : Type 0 where
+pub record MakesTurn (A0 D0 A D G : TxId → Type 0) (tx : TxId) (turn : Turn) : Type 0 where
   pub sends : Each (λ (sent : Outgoing). IsMade A D sent.body) turn.step.effects.sends
   pub given : turn.over ≡ false → IsGiven G tx turn.step.state.phase
+  pub renews : Renews A0 D0 A D tx turn.step.effects.sends
 
 -- an operation is unanswered only where the transaction takes operations or is aborted
 abbrev pub IsAnsweredIn : Transaction → Type 0
 IsAnsweredIn t = may_ask t.phase ≡ false → t.asked ≡ None
+
+-- what isn't so by what is sent was so
+pub was_so : {P : Type 0} (b : Bool) → b ≡ false → P ⊎ (b ≡ true) → P
+was_so b none (inl was) = was
+was_so b none (inr is) = absurd (true≢false (sym is ∙ none))
+
+-- an entry that stays has its routes, where nothing is asked for, or driven, anew
+pub has_stays : (layout : Layout) (A0 D0 G0 A D G : TxId → Type 0) (s : CoordinatorState) (tx : TxId) (t : Transaction)
+    (phase : Phase) → (A tx → A0 tx) → (D tx → D0 tx) → IsGiven G tx phase
+    → HasRoutesIn layout A0 D0 G0 s tx t phase → HasRoutesIn layout A D G s tx t phase
+has_stays layout A0 D0 G0 A D G s tx t phase asked driven given has = by phase given has
+  where
+    before : (t.asked ≡ None) ⊎ A tx → (t.asked ≡ None) ⊎ A0 tx
+    before (inl none) = inl none
+    before (inr on) = inr (asked on)
+
+    by : (phase : Phase) → IsGiven G tx phase → HasRoutesIn layout A0 D0 G0 s tx t phase
+        → HasRoutesIn layout A D G s tx t phase
+    by Open given has = λ spared on. has spared (before on)
+    by Verifying given has = λ spared on. has spared (before on)
+    by (Committing epoch awaited) given has = (λ on. has.0 (driven on), given.decided refl)
+    by (Completing epoch awaited) given has = (λ on. has.0 (driven on), given.decided refl)
+    by (Aborting why verifying awaited) given has = given.aborting refl
 
 module _ (layout : Layout) (A D G : TxId → Type 0) (some : ChainsAreSome layout) where
   abbrev IsSent : Outgoing → Type 0
@@ -72,145 +104,14 @@ module _ (layout : Layout) (A D G : TxId → Type 0) (some : ChainsAreSome layou
   abbrev AreSent : List Outgoing → Type 0
   AreSent sends = Each (IsSentRouted layout A D G) sends
 
-  abbrev AreTouched : List Touched → Type 0
-  AreTouched touched = Each (IsTouchedRouted layout A D G) touched
+  abbrev AreKeys : List Touched → Type 0
+  AreKeys touched = Each (IsTouchedRouted layout) touched
 
-  module _ (tx : TxId) where
-    -- where a commit goes
-    along_of : (t : Touched) (b : Bool) → t.chain ≡ touched_chain layout A D G t b
-        → (t.chain ≡ chain_of layout t.key) ⊎ (t.chain ≡ primary_of (chain_of layout t.key))
-    along_of t true is = inl is
-    along_of t false is = inr is
+  module _ (A0 D0 G0 : TxId → Type 0) (grows : Grows A0 D0 G0 A D G) (s : CoordinatorState) (tx : TxId) where
+    -- the routes of its entry before the step, and behind it
+    abbrev Had : Transaction → Type 0
+    Had t = HasRoutesIn layout A0 D0 G0 s tx t t.phase
 
-    some_of : (t : Touched) → (t.chain ≡ chain_of layout t.key) ⊎ (t.chain ≡ primary_of (chain_of layout t.key))
-        → 0 < length t.chain
-    some_of t (inl is) = omega (arith, ap length is, some t.key)
-    some_of t (inr is) = omega (arith, ap length is, primary_length (chain_of layout t.key) (some t.key))
-
-    complete_sent : D tx → (t : Touched) (b : Bool) → t.chain ≡ touched_chain layout A D G t b
-        → AreSent (complete_if tx t b)
-    complete_sent driven t true is = (
-      (
-        record {
-          along = is;
-          inside = last_inside t.chain (omega (arith, ap length is, some t.key));
-          place = refl;
-        },
-        driven,
-      ),
-      tt,
-    )
-    complete_sent driven t false is = tt
-
-    -- what a transaction needs for what it sends in a phase
-    abbrev Needs : Phase → List Touched → Type 0
-    Needs Open touched = Unit {0}
-    Needs Verifying touched = Unit {0}
-    Needs (Committing epoch awaited) touched = D tx × AreTouched touched
-    Needs (Completing epoch awaited) touched = D tx × AreTouched touched
-    Needs (Aborting why verifying awaited) touched = Unit {0}
-
-    front_sent : (phase : Phase) → AreSent (front_sends tx phase)
-    unfolding front_sends
-    front_sent Open = tt
-    front_sent Verifying = tt
-    front_sent (Committing epoch awaited) = tt
-    front_sent (Completing epoch awaited) = (tt, tt)
-    front_sent (Aborting why verifying awaited) = tt
-
-    none_sent : (phase : Phase) (touched : List Touched) → ((t : Touched) → AreSent (key_sends layout tx phase t))
-        → AreSent (flat_map (key_sends layout tx phase) touched)
-    none_sent phase [] each = tt
-    none_sent phase (t ∷ touched) each =
-        each_append IsSent (key_sends layout tx phase t) (flat_map (key_sends layout tx phase) touched) (each t)
-        (none_sent phase touched each)
-
-    keys_sent : (phase : Phase) (touched : List Touched) → Needs phase touched
-        → AreSent (flat_map (key_sends layout tx phase) touched)
-    unfolding key_sends
-    keys_sent Open touched needs = none_sent Open touched (λ t. tt)
-    keys_sent Verifying touched needs = none_sent Verifying touched (λ t. tt)
-    keys_sent (Committing epoch awaited) touched needs =
-        each_flat_of (IsTouchedRouted layout A D G) IsSent (key_sends layout tx (Committing epoch awaited)) touched
-        (λ t is.
-        let along = along_of t t.written is in (
-          (record { along = along; inside = last_inside t.chain (some_of t along); place = refl }, needs.0),
-          tt,
-        ))
-        needs.1
-    keys_sent (Completing epoch awaited) touched needs =
-        each_flat_of (IsTouchedRouted layout A D G) IsSent (key_sends layout tx (Completing epoch awaited)) touched
-        (λ t is. complete_sent needs.0 t t.written is) needs.1
-    keys_sent (Aborting why verifying awaited) touched needs =
-        none_sent (Aborting why verifying awaited) touched
-        (λ t. each_mapped IsSent (abort_of tx t.key) (chain_of layout t.key) (λ r. refl))
-
-    phase_sent : (phase : Phase) (touched : List Touched) → Needs phase touched
-        → AreSent (phase_sends layout tx phase touched)
-    unfolding phase_sends
-    phase_sent phase touched needs =
-        each_append IsSent (front_sends tx phase) (flat_map (key_sends layout tx phase) touched) (front_sent phase)
-        (keys_sent phase touched needs)
-
-    module _ (node : ℕ) where
-      rest_sent : (at : ℕ) (b : Bool) → D tx ⊎ G tx → AreSent (rest_if node tx at b)
-      rest_sent at true own = (own, tt)
-      rest_sent at false own = tt
-
-      part_sent : (sends : List Outgoing) (at : ℕ) → D tx ⊎ G tx → AreSent sends
-          → AreSent (part_effects node tx sends at).sends
-      unfolding part_effects
-      part_sent sends at own all =
-          each_append IsSent (take 8 (drop at sends)) (rest_if node tx at (nat_lt (at + 8) (length sends)))
-          (each_take IsSent 8 (drop at sends) (each_drop IsSent at sends all))
-          (rest_sent at (nat_lt (at + 8) (length sends)) own)
-
-      -- it drives whom it commits
-      abbrev AreMade : List Outgoing → Type 0
-      AreMade sends = Each (λ (sent : Outgoing). IsMade A D sent.body) sends
-
-      commits_sent : (epoch awaited : ℕ) (touched : List Touched) → (D tx → AreTouched touched)
-          → AreMade (part_effects node tx (phase_sends layout tx (Committing epoch awaited) touched) 0).sends
-          → AreSent (part_effects node tx (phase_sends layout tx (Committing epoch awaited) touched) 0).sends
-      unfolding part_effects phase_sends key_sends front_sends
-      commits_sent epoch awaited [] routes made = tt
-      commits_sent epoch awaited (t ∷ touched) routes made =
-          let driven : D tx = made.0 in
-          part_sent (phase_sends layout tx (Committing epoch awaited) (t ∷ touched)) 0 (inl driven)
-          (phase_sent (Committing epoch awaited) (t ∷ touched) (driven, routes driven))
-
-  -- the routes where a key is touched, is written, and is chained anew
-  touched_routed : (keys : List Touched) (key : List ℕ) (place : Option ℕ) → AreTouched keys
-      → AreTouched (touched_by keys key (chain_of layout key) place)
-  touched_routed keys key None all =
-      each_append (IsTouchedRouted layout A D G) keys (unwritten key (chain_of layout key) ∷ []) all (refl, tt)
-  touched_routed keys key (Some at) all = all
-
-  written_routed : (keys : List Touched) (key : List ℕ) (chain : List Member) (place : Option ℕ)
-      → chain ≡ chain_of layout key → AreTouched keys → AreTouched (written_by keys key chain place)
-  written_routed keys key chain None is all = all
-  written_routed keys key chain (Some at) is all =
-      each_set (IsTouchedRouted layout A D G) keys at (written key chain) all is
-
-  answered_routed : (keys : List Touched) (answer : Answer) (op : Op) (chain : List Member)
-      → chain ≡ chain_of layout (key_of op) → AreTouched keys → AreTouched (touched_after answer keys op chain)
-  answered_routed keys answer.Done op chain is all =
-      written_routed keys (key_of op) chain (place_of keys (key_of op)) is all
-  answered_routed keys (answer.Found value) op chain is all = all
-  answered_routed keys answer.Missing op chain is all = all
-  answered_routed keys answer.E626 op chain is all = all
-  answered_routed keys answer.E630 op chain is all = all
-
-  rechained_routed : (keys : List Touched) → AreTouched (map (rechained layout) keys)
-  unfolding rechained
-  rechained_routed [] = tt
-  rechained_routed (t ∷ keys) = (by t.written, rechained_routed keys)
-    where
-      by : (b : Bool) → IsTouchedRouted layout A D G (rechained_if t b layout)
-      by true = refl
-      by false = refl
-
-  module _ (s : CoordinatorState) (tx : TxId) where
     abbrev Has : Transaction → Type 0
     Has t = HasRoutesIn layout A D G s tx t t.phase
 
@@ -220,21 +121,37 @@ module _ (layout : Layout) (A D G : TxId → Type 0) (some : ChainsAreSome layou
       pub sends : AreSent turn.step.effects.sends
 
     -- a turn that sends its own
+    abbrev pub Makes : Turn → Type 0
+    Makes turn = MakesTurn A0 D0 A D G tx turn
+
     abbrev pub Routes : Turn → Type 0
-    Routes turn = MakesTurn A D G tx turn → TurnRoutes turn
+    Routes turn = Makes turn → TurnRoutes turn
 
     -- the same in another phase or with another unanswered operation
-    in_phase : (t : Transaction) (phase : Phase) → t.phase ≡ phase → Has t → HasRoutesIn layout A D G s tx t phase
-    in_phase t phase at has = subst (HasRoutesIn layout A D G s tx t) at has
+    in_phase : (t : Transaction) (phase : Phase) → t.phase ≡ phase → Had t → HasRoutesIn layout A0 D0 G0 s tx t phase
+    in_phase t phase at has = subst (HasRoutesIn layout A0 D0 G0 s tx t) at has
 
     to_phase : (t : Transaction) (phase : Phase) → t.phase ≡ phase → HasRoutesIn layout A D G s tx t phase → Has t
     to_phase t phase at has = subst (HasRoutesIn layout A D G s tx t) (sym at) has
 
-    same_routes : (t w : Transaction) → w.touched ≡ t.touched → w.asked ≡ t.asked → HasRoutes layout A D G t
-        → HasRoutes layout A D G w
+    -- an entry that stays, by a turn that sends nothing of this
+    stays_as : (t : Transaction) (sends : List Outgoing) → Renews A0 D0 A D tx sends
+        → is_sent (is_request tx) sends ≡ false → is_sent (is_commit tx) sends ≡ false → IsGiven G tx t.phase → Had t
+        → Has t
+    stays_as t sends renews unasked undriven given has =
+        has_stays layout A0 D0 G0 A D G s tx t t.phase
+        (λ on. was_so (is_sent (is_request tx) sends) unasked (renews.asked on))
+        (λ on. was_so (is_sent (is_commit tx) sends) undriven (renews.driven on)) given has
+
+    now : D0 tx ⊎ G0 tx → D tx ⊎ G tx
+    now (inl driven) = inl (grows.driven tx driven)
+    now (inr given) = inr (grows.given tx given)
+
+    same_routes : (t w : Transaction) → w.touched ≡ t.touched → w.asked ≡ t.asked → HasRoutes layout t
+        → HasRoutes layout w
     same_routes t w touched asked has = record {
-      touched = subst AreTouched (sym touched) has.touched;
-      asked = subst (IsAskedRouted layout A D G) (sym asked) has.asked;
+      touched = subst AreKeys (sym touched) has.touched;
+      asked = subst (IsAskedRouted layout) (sym asked) has.asked;
     }
 
     enters_aborting : (node : ℕ) (t : Transaction) (why : AbortCause) (verifying : Bool) (awaited : ℕ)
@@ -245,11 +162,11 @@ module _ (layout : Layout) (A D G : TxId → Type 0) (some : ChainsAreSome layou
         record {
           has = λ on. given;
           sends =
-              part_sent tx node (phase_sends layout tx (Aborting why verifying awaited) t.touched) 0 (inr given)
-              (phase_sent tx (Aborting why verifying awaited) t.touched tt);
+              part_sent layout A D G some tx node (phase_sends layout tx (Aborting why verifying awaited) t.touched) 0 (inr given)
+              (phase_sent layout A D G some tx (Aborting why verifying awaited) t.touched tt);
         }
 
-    enters_committing : (node : ℕ) (t : Transaction) (epoch awaited : ℕ) → (D tx → HasRoutes layout A D G t)
+    enters_committing : (node : ℕ) (t : Transaction) (epoch awaited : ℕ) → (D tx → HasRoutes layout t)
         → Routes (record { step = entering node layout tx t (Committing epoch awaited); over = false })
     unfolding entering
     enters_committing node t epoch awaited routes makes = record {
@@ -257,10 +174,10 @@ module _ (layout : Layout) (A D G : TxId → Type 0) (some : ChainsAreSome layou
         λ driven. same_routes t (at_phase t (Committing epoch awaited)) refl refl (routes driven),
         (makes.given refl).decided refl,
       );
-      sends = commits_sent tx node epoch awaited t.touched (λ driven. (routes driven).touched) makes.sends;
+      sends = commits_sent layout A D G some tx node epoch awaited t.touched (λ driven. (routes driven).touched) makes.sends;
     }
 
-    enters_completing : (node : ℕ) (t : Transaction) (epoch awaited : ℕ) → D tx → (D tx → HasRoutes layout A D G t)
+    enters_completing : (node : ℕ) (t : Transaction) (epoch awaited : ℕ) → D tx → (D tx → HasRoutes layout t)
         → Routes (record { step = entering node layout tx t (Completing epoch awaited); over = false })
     unfolding entering
     enters_completing node t epoch awaited driven routes makes = record {
@@ -269,8 +186,8 @@ module _ (layout : Layout) (A D G : TxId → Type 0) (some : ChainsAreSome layou
         (makes.given refl).decided refl,
       );
       sends =
-          part_sent tx node (phase_sends layout tx (Completing epoch awaited) t.touched) 0 (inl driven)
-          (phase_sent tx (Completing epoch awaited) t.touched (driven, (routes driven).touched));
+          part_sent layout A D G some tx node (phase_sends layout tx (Completing epoch awaited) t.touched) 0 (inl driven)
+          (phase_sent layout A D G some tx (Completing epoch awaited) t.touched (driven, (routes driven).touched));
     }
 
     end_sent : (node : ℕ) (why : AbortCause) (b : Bool) → AreSent (abort_end node tx why b)
@@ -287,7 +204,7 @@ module _ (layout : Layout) (A D G : TxId → Type 0) (some : ChainsAreSome layou
       ends = λ none makes. record { has = over_now; sends = end_sent node why (is_verifying t.phase) };
     }
 
-    all_committed : (node : ℕ) (t : Transaction) (epoch : ℕ) → D tx → (D tx → HasRoutes layout A D G t)
+    all_committed : (node : ℕ) (t : Transaction) (epoch : ℕ) → D tx → (D tx → HasRoutes layout t)
         → CommittedForms node layout tx t epoch Routes
     all_committed node t epoch driven routes = record {
       enters = λ left. enters_completing node t epoch _ driven routes;
@@ -305,27 +222,60 @@ module _ (layout : Layout) (A D G : TxId → Type 0) (some : ChainsAreSome layou
         absurd (omega (arith, eqb-true (length (one ∷ touched)) 0 none))
 
     -- it goes on with what it sends in its phase
-    on_sent : (node : ℕ) (t : Transaction) (at : ℕ) → Has t → D tx ⊎ G tx
+    on_sent : (node : ℕ) (t : Transaction) (at : ℕ) → Had t → D0 tx ⊎ G0 tx
         → AreSent (part_effects node tx (phase_sends layout tx t.phase t.touched) at).sends
     on_sent node t at has own =
-        part_sent tx node (phase_sends layout tx t.phase t.touched) at own
-        (phase_sent tx t.phase t.touched (by t.phase has own))
+        part_sent layout A D G some tx node (phase_sends layout tx t.phase t.touched) at (now own)
+        (phase_sent layout A D G some tx t.phase t.touched (by t.phase has own))
       where
-        by : (phase : Phase) → HasRoutesIn layout A D G s tx t phase → D tx ⊎ G tx → Needs tx phase t.touched
+        by : (phase : Phase) → HasRoutesIn layout A0 D0 G0 s tx t phase → D0 tx ⊎ G0 tx → Needs layout A D G some tx phase t.touched
         by Open has own = tt
         by Verifying has own = tt
-        by (Committing epoch awaited) has (inl driven) = (driven, (has.0 driven).touched)
+        by (Committing epoch awaited) has (inl driven) = (grows.driven tx driven, (has.0 driven).touched)
         by (Committing epoch awaited) has (inr given) = absurd (has.1 given)
-        by (Completing epoch awaited) has (inl driven) = (driven, (has.0 driven).touched)
+        by (Completing epoch awaited) has (inl driven) = (grows.driven tx driven, (has.0 driven).touched)
         by (Completing epoch awaited) has (inr given) = absurd (has.1 given)
         by (Aborting why verifying awaited) has own = tt
+
+    on_has : (node : ℕ) (t : Transaction) (at : ℕ) → Had t → D0 tx ⊎ G0 tx
+        → Makes (going (go_on_if node layout tx t at true)) → Has t
+    on_has node t at has own makes = by t.phase refl own has
+      where
+        unasked : is_undecided t.phase ≡ true → A tx → A0 tx
+        unasked undecided on =
+            was_so (is_sent (is_request tx) (part_effects node tx (phase_sends layout tx t.phase t.touched) at).sends)
+            (going_unasked layout some node tx t.touched at t.phase undecided) (makes.renews.asked on)
+
+        before : is_undecided t.phase ≡ true → (t.asked ≡ None) ⊎ A tx → (t.asked ≡ None) ⊎ A0 tx
+        before undecided (inl none) = inl none
+        before undecided (inr on) = inr (unasked undecided on)
+
+        decided : (D0 tx → HasRoutes layout t) × (G0 tx → ⊥) → D0 tx ⊎ G0 tx → HasRoutes layout t
+        decided has (inl driven) = has.0 driven
+        decided has (inr given) = absurd (has.1 given)
+
+        by : (phase : Phase) → t.phase ≡ phase → D0 tx ⊎ G0 tx → Had t → Has t
+        by Open at own has = to_phase t Open at (λ spared on.
+            in_phase t Open at has spared (before (ap is_undecided at) on))
+        by Verifying at own has = to_phase t Verifying at (λ spared on.
+            in_phase t Verifying at has spared (before (ap is_undecided at) on))
+        by (Committing epoch awaited) at own has = to_phase t (Committing epoch awaited) at (
+          λ on. decided (in_phase t (Committing epoch awaited) at has) own,
+          (makes.given refl).decided (ap is_decided at),
+        )
+        by (Completing epoch awaited) at own has = to_phase t (Completing epoch awaited) at (
+          λ on. decided (in_phase t (Completing epoch awaited) at has) own,
+          (makes.given refl).decided (ap is_decided at),
+        )
+        by (Aborting why verifying awaited) at own has =
+            to_phase t (Aborting why verifying awaited) at ((makes.given refl).aborting (ap is_aborting at))
 
     -- an operation can go to the replicas only where the transaction is open with nothing unanswered
     ready_of : (a b : Bool) → (a && b) ≡ true → a ≡ true
     ready_of true b can = refl
     ready_of false b can = over_now (sym can)
 
-    operates : (t : Transaction) (op : Op) → Has t → can_operate t op ≡ true
+    operates : (t : Transaction) (op : Op) → Had t → can_operate t op ≡ true
         → Routes (record { step = operating tx t op (chain_of layout (key_of op)); over = false })
     operates t op has can makes =
         let is = ready_is t.phase t.asked (ready_of (is_ready t.phase t.asked) (fits t.touched (key_of op)) can) in
@@ -333,7 +283,7 @@ module _ (layout : Layout) (A D G : TxId → Type 0) (some : ChainsAreSome layou
           has = λ on. to_phase (operating tx t op (chain_of layout (key_of op))).state Open is.0 (λ spared asked.
               let routes = in_phase t Open is.0 has spared (inl is.1) in
               record {
-                touched = touched_routed t.touched (key_of op) (place_of t.touched (key_of op)) routes.touched;
+                touched = touched_routed layout A D G some t.touched (key_of op) (place_of t.touched (key_of op)) routes.touched;
                 asked = refl;
               });
           sends = (
@@ -342,49 +292,58 @@ module _ (layout : Layout) (A D G : TxId → Type 0) (some : ChainsAreSome layou
           );
         }
 
-    module _ (node : ℕ) (to : Place) (body : Body) (t : Transaction) (has : Has t) (answered : IsAnsweredIn t)
-        (is : IsRouted layout A D G to body)
+    module _ (node : ℕ) (to : Place) (body : Body) (t : Transaction) (has : Had t) (answered : IsAnsweredIn t)
+        (is : IsRouted layout A0 D0 G0 to body)
         (spared : (epoch : ℕ) → body ≡ Epoch (DiVerifyConf tx epoch) → is_among s.doomed tx ≡ false) where
       -- it does nothing
-      rests : TurnRoutes (record { step = stay t; over = false })
-      rests = record { has = λ on. has; sends = tt }
+      rests : Routes (going (stay t))
+      rests makes = record { has = λ on. stays_as t [] makes.renews refl refl (makes.given refl) has; sends = tt }
+
+      routed_as : (b : Body) → body ≡ b → IsRouted layout A0 D0 G0 to b
+      routed_as b same = subst (IsRouted layout A0 D0 G0 to) same is
 
       -- one that verifies and is spared has its routes
       verifying_routes : (epoch : ℕ) → body ≡ Epoch (DiVerifyConf tx epoch) → t.phase ≡ Verifying
-          → HasRoutes layout A D G t
+          → HasRoutes layout t
       verifying_routes epoch same at =
           in_phase t Verifying at has (spared epoch same) (inl (answered (ap may_ask at)))
 
-      decided_routes : (epoch awaited : ℕ) → t.phase ≡ Committing epoch awaited → D tx → HasRoutes layout A D G t
+      decided_routes : (epoch awaited : ℕ) → t.phase ≡ Committing epoch awaited → D0 tx → HasRoutes layout t
       decided_routes epoch awaited at driven = (in_phase t (Committing epoch awaited) at has).0 driven
 
       pub turn_forms : TurnFormsAt node layout tx t body Routes
       turn_forms = record {
-        stays = λ other missed makes. rests;
-        stops = λ at same high makes. rests;
+        stays = λ other missed. rests;
+        stops = λ at same high. rests;
         goes_on = λ at same low makes. record {
-          has = λ on. has;
-          sends = on_sent node t at has (subst (IsRouted layout A D G to) same is);
+          has = λ on. on_has node t at has (routed_as _ same) makes;
+          sends = on_sent node t at has (routed_as _ same);
         };
         operates = λ op same can. operates t op has can;
         answers = λ key answer asked same own at makes. record {
           has = λ on. to_phase (answered_as t asked answer) Open at (λ spared none.
-              let routes = in_phase t Open at has spared (inr (subst (IsRouted layout A D G to) same is).1) in
+              let routes = in_phase t Open at has spared (inr (routed_as _ same).1) in
               record {
                 touched =
-                    answered_routed t.touched answer asked.op asked.chain
-                    (subst (IsAskedRouted layout A D G) own.is routes.asked) routes.touched;
+                    answered_routed layout A D G some t.touched answer asked.op asked.chain
+                    (subst (IsAskedRouted layout) own.is routes.asked) routes.touched;
                 asked = tt;
               });
           sends = (tt, tt);
         };
         late = λ key asked why verifying awaited same own at makes. record {
           has = λ on. to_phase (asking t None) (Aborting why verifying awaited) at
-              (in_phase t (Aborting why verifying awaited) at has);
+              ((makes.given refl).aborting (ap is_aborting at));
           sends = each_mapped IsSent (abort_of tx key) (chain_of layout key) (λ r. refl);
         };
         waits = λ asked same own makes. record {
-          has = λ on. has;
+          has = λ on.
+              stays_as t (waits_of tx (key_of asked.op) asked.chain) makes.renews
+              (none_asked layout G tx D _
+              (each_mapped (IsSentRouted layout Nobody D G) (wait_of tx (key_of asked.op)) asked.chain (λ r. tt)))
+              (none_driven layout G tx A _
+              (each_mapped (IsSentRouted layout A Nobody G) (wait_of tx (key_of asked.op)) asked.chain (λ r. tt)))
+              (makes.given refl) has;
           sends = each_mapped IsSent (wait_of tx (key_of asked.op)) asked.chain (λ r. tt);
         };
         decides = λ same ready makes.
@@ -399,17 +358,19 @@ module _ (layout : Layout) (A D G : TxId → Type 0) (some : ChainsAreSome layou
         commits_none = λ epoch same at none. commits_nothing node t epoch t.touched refl none;
         committed = λ key epoch awaited same at more makes. record {
           has = λ on. (
-            λ driven. same_routes t _ refl refl (decided_routes epoch awaited at driven),
-            (in_phase t (Committing epoch awaited) at has).1,
+            λ driven. same_routes t _ refl refl (decided_routes epoch awaited at (routed_as _ same).1),
+            (makes.given refl).decided refl,
           );
           sends = tt;
         };
         committed_all = λ key epoch awaited same at last.
-            all_committed node t epoch (subst (IsRouted layout A D G to) same is).1 (decided_routes epoch awaited at);
+            let driven = (routed_as _ same).1 in
+            all_committed node t epoch (grows.driven tx driven) (λ on. decided_routes epoch awaited at driven);
         completed = λ key epoch awaited same at more makes. record {
           has = λ on. (
-            λ driven. same_routes t _ refl refl ((in_phase t (Completing epoch awaited) at has).0 driven),
-            (in_phase t (Completing epoch awaited) at has).1,
+            λ driven.
+            same_routes t _ refl refl ((in_phase t (Completing epoch awaited) at has).0 (routed_as _ same).1),
+            (makes.given refl).decided refl,
           );
           sends = tt;
         };
@@ -417,7 +378,7 @@ module _ (layout : Layout) (A D G : TxId → Type 0) (some : ChainsAreSome layou
         rolls_back = λ same undecided unaborted. aborts node t _;
         refuses = λ key why asked same own at. aborts node (asking t None) why;
         aborted = λ key why verifying awaited same at more makes. record {
-          has = λ on. in_phase t (Aborting why verifying awaited) at has;
+          has = λ on. (makes.given refl).aborting refl;
           sends = tt;
         };
         aborted_all = λ key why verifying awaited same at last makes. record {
@@ -427,9 +388,12 @@ module _ (layout : Layout) (A D G : TxId → Type 0) (some : ChainsAreSome layou
       }
 
     -- for what an installation left
-    pub resume_forms : (node : ℕ) (t : Transaction) → Has t → IsAnsweredIn t → ResumeForms node layout tx t Routes
+    pub resume_forms : (node : ℕ) (t : Transaction) → Had t → IsAnsweredIn t → ResumeForms node layout tx t Routes
     resume_forms node t has answered = record {
-      stays = λ makes. record { has = λ on. has; sends = tt };
+      stays = λ makes. record {
+        has = λ on. stays_as t [] makes.renews refl refl (makes.given refl) has;
+        sends = tt;
+      };
       fails = λ number undecided. aborts node (asking t None) _;
       anew = λ why verifying awaited at b. anew why verifying b;
       recommits = λ epoch awaited at. redrives epoch (answered (ap may_ask at));
@@ -446,6 +410,6 @@ module _ (layout : Layout) (A D G : TxId → Type 0) (some : ChainsAreSome layou
         redrives epoch none =
             enters_committing node (record t { touched = map (rechained layout) t.touched }) epoch _
             (λ driven. record {
-              touched = rechained_routed t.touched;
-              asked = subst (IsAskedRouted layout A D G) (sym none) tt;
+              touched = rechained_routed layout A D G some t.touched;
+              asked = subst (IsAskedRouted layout) (sym none) tt;
             })

@@ -61,6 +61,23 @@ owner_if (oldest ∷ others) tx false = takeover oldest.node
 abbrev pub owner_of : List Member → TxId → Place
 owner_of full tx = owner_if full tx (is_coordinated full tx)
 
+module _ (layout : Layout) where
+  -- a coordinator has the replicas of each key that was written, and the primary of each other one
+  abbrev pub touched_chain : Touched → Bool → List Member
+  touched_chain t true = chain_of layout t.key
+  touched_chain t false = primary_of (chain_of layout t.key)
+
+  abbrev pub IsTouchedRouted : Touched → Type 0
+  IsTouchedRouted t = t.chain ≡ touched_chain t t.written
+
+  abbrev pub IsAskedRouted : Option Asked → Type 0
+  IsAskedRouted None = Unit {0}
+  IsAskedRouted (Some asked) = asked.chain ≡ chain_of layout (key_of asked.op)
+
+  pub record HasRoutes (t : Transaction) : Type 0 where
+    pub touched : Each IsTouchedRouted t.touched
+    pub asked : IsAskedRouted t.asked
+
 module _ (layout : Layout) (A D : TxId → Type 0) (G : TxId → Type 0) where
   -- A: asked for in this view; D: driven in it by its coordinator, if that is a full member; G: given up
   abbrev pub IsRouted : Place → Body → Type 0
@@ -84,29 +101,13 @@ module _ (layout : Layout) (A D : TxId → Type 0) (G : TxId → Type 0) where
   abbrev pub WaitsRouted : ReplicaState → Type 0
   WaitsRouted s = Each (λ (q : Request). IsRequestRouted layout (rows_of s.lqh.node) q × A q.tx) s.lqh.waiting
 
-  -- a coordinator has the replicas of each key that was written, and the primary of each other one
-  abbrev pub touched_chain : Touched → Bool → List Member
-  touched_chain t true = chain_of layout t.key
-  touched_chain t false = primary_of (chain_of layout t.key)
-
-  abbrev pub IsTouchedRouted : Touched → Type 0
-  IsTouchedRouted t = t.chain ≡ touched_chain t t.written
-
-  abbrev pub IsAskedRouted : Option Asked → Type 0
-  IsAskedRouted None = Unit {0}
-  IsAskedRouted (Some asked) = asked.chain ≡ chain_of layout (key_of asked.op)
-
-  pub record HasRoutes (t : Transaction) : Type 0 where
-    pub touched : Each IsTouchedRouted t.touched
-    pub asked : IsAskedRouted t.asked
-
   -- Of one that isn't doomed they are those of this view where none of its operations is unanswered, or the unanswered one
   -- was asked for in this view; of one that is committed, where it is driven in this view; it isn't given up then.
   abbrev pub HasRoutesIn : CoordinatorState → TxId → Transaction → Phase → Type 0
-  HasRoutesIn s tx t Open = (is_among s.doomed tx ≡ false) → ((t.asked ≡ None) ⊎ A tx) → HasRoutes t
-  HasRoutesIn s tx t Verifying = (is_among s.doomed tx ≡ false) → ((t.asked ≡ None) ⊎ A tx) → HasRoutes t
-  HasRoutesIn s tx t (Committing epoch awaited) = (D tx → HasRoutes t) × (G tx → ⊥)
-  HasRoutesIn s tx t (Completing epoch awaited) = (D tx → HasRoutes t) × (G tx → ⊥)
+  HasRoutesIn s tx t Open = (is_among s.doomed tx ≡ false) → ((t.asked ≡ None) ⊎ A tx) → HasRoutes layout t
+  HasRoutesIn s tx t Verifying = (is_among s.doomed tx ≡ false) → ((t.asked ≡ None) ⊎ A tx) → HasRoutes layout t
+  HasRoutesIn s tx t (Committing epoch awaited) = (D tx → HasRoutes layout t) × (G tx → ⊥)
+  HasRoutesIn s tx t (Completing epoch awaited) = (D tx → HasRoutes layout t) × (G tx → ⊥)
   HasRoutesIn s tx t (Aborting why verifying awaited) = G tx
 
   abbrev pub CoordinatorHasRoutes : CoordinatorState → Type 0
