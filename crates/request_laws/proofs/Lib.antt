@@ -6,14 +6,17 @@ pub mod RouteApart
 pub mod RouteChains
 pub mod RouteDoomed
 pub mod RouteDrives
+pub mod RouteInstalled
 pub mod RouteLayouts
 pub mod RouteRefused
 pub mod RouteRows
 pub mod RouteSends
+pub mod RouteStands
 pub mod RouteTakeover
 pub mod RouteTc
 pub mod RouteTurns
 pub mod RouteViable
+pub mod RouteViews
 pub mod RouteWaiters
 pub mod RowsAlong
 pub mod StrayDoomed

@@ -1,6 +1,6 @@
 -- What a transaction sends in its phases is routed in the view of its coordinator, where its keys have their routes, and it
 -- is driven where it is committed.
-use Rattle.std.proofs.Common.{◌≡◌, ◌<◌, ◌⊎◌, ◌==◌, ◌+◌, ℕ, Bool, true, false, List, [], ◌∷◌, drop, inl, inr, length, map, nat_lt, refl, sym, ap, ◌∙◌, subst, arith, take}
+use Rattle.std.proofs.Common.{◌≡◌, ◌<◌, ◌⊎◌, ◌||◌, ◌==◌, ◌+◌, ℕ, Bool, true, false, List, [], ◌∷◌, drop, inl, inr, length, map, nat_lt, refl, sym, ap, ◌∙◌, subst, arith, take}
 use Rattle.std.proofs.lemmas.Bool.{eqb-true, true≢false}
 use Rattle.std.specs.List.{flat_map}
 use Rattle.std.specs.Prelude.{◌&&◌, Option, None, Some}
@@ -28,7 +28,6 @@ use Rattle.tc_block.specs.Complete.{written_count}
 use Rattle.tc_block.specs.Doom.{is_undecided}
 use Rattle.tc_block.specs.Operate.{answered as answered_as, can_operate, is_ready, operating, touched_after}
 use Rattle.tc_block.specs.Part.{part_effects, rest_if}
-
 use Rattle.tc_block.specs.Resume.{anew_if, rechained, rechained_if, redriven}
 use Rattle.tc_block.specs.Sends.{abort_of, complete_if, entering, front_sends, key_sends, phase_sends, wait_of}
 use Rattle.tc_block.specs.Touched.{fits, place_of, touched_by, unwritten, written, written_by}

@@ -160,18 +160,18 @@ module _ (A0 D0 G0 A D G : TxId → Type 0) (grows : Grows A0 D0 G0 A D G) (s : 
   unsent_all (e ∷ es) sends none = (none e.0, unsent_all es sends none)
 
   -- and so do all where nothing is sent of anybody
-  same_has : (sends : List Outgoing) → ((tx : TxId) → IsUnsent tx sends) → Each HadEntry s.tc.live
-      → Own s.tc.live sends → Each HasEntry s.tc.live
-  same_has sends none all makes =
+  same_has : (sends : List Outgoing) → Own s.tc.live sends → ((tx : TxId) → IsUnsent tx sends)
+      → Each HadEntry s.tc.live → Each HasEntry s.tc.live
+  same_has sends makes none all =
       all_stay s.tc.live sends (unsent_all s.tc.live sends none) makes.renews makes.given all
 
   -- a transaction begins without any key
-  begun_has : (live : Live) (tx : TxId) (sends : List Outgoing) → ((one : TxId) → IsUnsent one sends)
-      → Each (Renewed sends) live → Each Given (insert_entry same_tx live tx fresh) → Each HadEntry live
+  begun_has : (live : Live) (tx : TxId) (sends : List Outgoing) → Each (Renewed sends) live
+      → ((one : TxId) → IsUnsent one sends) → Each Given (insert_entry same_tx live tx fresh) → Each HadEntry live
       → Each HasEntry (insert_entry same_tx live tx fresh)
-  begun_has [] tx sends none renews given all = (λ spared asked. record { touched = tt; asked = tt }, tt)
-  begun_has (e ∷ es) tx sends none renews given all =
-      by (same_tx tx e.0) given (λ rest. begun_has es tx sends none renews.1 rest all.1)
+  begun_has [] tx sends renews none given all = (λ spared asked. record { touched = tt; asked = tt }, tt)
+  begun_has (e ∷ es) tx sends renews none given all =
+      by (same_tx tx e.0) given (λ rest. begun_has es tx sends renews.1 none rest all.1)
     where
       by : (b : Bool) → Each Given (if b then (e.0, fresh) ∷ es else e ∷ insert_entry same_tx es tx fresh)
           → (Each Given (insert_entry same_tx es tx fresh) → Each HasEntry (insert_entry same_tx es tx fresh))
@@ -321,24 +321,24 @@ module _ (A0 D0 G0 A D G : TxId → Type 0) (grows : Grows A0 D0 G0 A D G) (s : 
           calm = record {
             turns = turns_go;
             turned = λ tx t at split turn goes. turned_goes tx t at split once all turn goes;
-            stays = λ makes. record { has = same_has [] nothing_sent all makes; sends = tt };
+            stays = λ makes. record { has = same_has [] makes nothing_sent all; sends = tt };
             full = λ name makes. record {
-              has = same_has _ (λ tx. record { unasked = refl; undriven = refl }) all makes;
+              has = same_has _ makes (λ tx. record { unasked = refl; undriven = refl }) all;
               sends = (tt, tt);
             };
             begins = λ name makes. record {
-              has = begun_has s.tc.live (next_tx s.tc) _ (λ tx. record { unasked = refl; undriven = refl })
-                  makes.renews makes.given all;
+              has = begun_has s.tc.live (next_tx s.tc) _ makes.renews
+                  (λ tx. record { unasked = refl; undriven = refl }) makes.given all;
               sends = (tt, tt);
             };
             passes = λ tx ahead makes. record {
-              has = same_has _ (λ tx. record { unasked = refl; undriven = refl }) all makes;
+              has = same_has _ makes (λ tx. record { unasked = refl; undriven = refl }) all;
               sends = (tt, tt);
             };
           };
           resumes = resumes_go;
           promises = λ makes. record {
-            has = same_has _ (λ tx. record { unasked = refl; undriven = refl }) all makes;
+            has = same_has _ makes (λ tx. record { unasked = refl; undriven = refl }) all;
             sends = (tt, tt);
           };
           goes_on = λ step node b so_far makes.
@@ -363,21 +363,21 @@ module _ (A0 D0 G0 A D G : TxId → Type 0) (grows : Grows A0 D0 G0 A D G) (s : 
   abbrev Now : Layout → Type 0
   Now layout = CoordinatorRoutes layout A D G (coordinator_row s x)
 
-  abbrev Own : Step CoordinatorState → Type 0
-  Own step = Makes A0 D0 A D G s.tc.live step.state.tc.live step.effects.sends
+  abbrev OwnStep : Step CoordinatorState → Type 0
+  OwnStep step = Makes A0 D0 A D G s.tc.live step.state.tc.live step.effects.sends
 
   own_routed : ChainsAreSome s.tc.layout → AreOnce s.tc.live → CoordinatorHasRoutes s.tc.layout A0 D0 G0 s
-      → AreAnswered s → TakesRouted s.tc.layout A0 D0 G0 s x → Own (coordinator_row s x) → Now s.tc.layout
+      → AreAnswered s → TakesRouted s.tc.layout A0 D0 G0 s x → OwnStep (coordinator_row s x) → Now s.tc.layout
   own_routed some once all answered is makes = by (is_idle s x.view.number x.body) refl
     where
-      at_rest : (step : Step CoordinatorState) → step ≡ stay s → Own step
+      at_rest : (step : Step CoordinatorState) → step ≡ stay s → OwnStep step
           → CoordinatorRoutes s.tc.layout A D G step
       at_rest step same makes =
           subst (CoordinatorRoutes s.tc.layout A D G) (sym same)
           (record {
             has =
-                same_has A0 D0 G0 A D G grows s some [] (λ tx. record { unasked = refl; undriven = refl }) all
-                (subst Own same makes);
+                same_has A0 D0 G0 A D G grows s some [] (subst OwnStep same makes)
+                (λ tx. record { unasked = refl; undriven = refl }) all;
             sends = tt;
           })
 
@@ -400,7 +400,7 @@ module _ (A0 D0 G0 A D G : TxId → Type 0) (grows : Grows A0 D0 G0 A D G) (s : 
 
   pub coordinator_routed : (layout : Layout) → s.tc.layout ≡ layout → ChainsAreSome layout → AreOnce s.tc.live
       → CoordinatorHasRoutes layout A0 D0 G0 s → AreAnswered s → TakesRouted layout A0 D0 G0 s x
-      → Own (coordinator_row s x) → CoordinatorRoutes layout A D G (coordinator_row s x)
+      → OwnStep (coordinator_row s x) → CoordinatorRoutes layout A D G (coordinator_row s x)
   coordinator_routed layout same some once all answered is makes =
       subst
       (λ (l : Layout). ChainsAreSome l → CoordinatorHasRoutes l A0 D0 G0 s → TakesRouted l A0 D0 G0 s x → Now l) same
