@@ -6,6 +6,9 @@ pub mod RouteApart
 pub mod RouteChains
 pub mod RouteDoomed
 pub mod RouteDrives
+pub mod RouteElsewhere
+pub mod RouteEnters
+pub mod RouteGoes
 pub mod RouteInstalled
 pub mod RouteLayouts
 pub mod RouteRefused

@@ -49,7 +49,7 @@ or_left true b is = refl
 or_left false b is = absurd (true≢false (sym is))
 
 -- what passes is among what is sent
-sent_among : (p : Body → Bool) (sends : List Outgoing) (o : Outgoing) → IsIn o sends → p o.body ≡ true
+pub sent_among : (p : Body → Bool) (sends : List Outgoing) (o : Outgoing) → IsIn o sends → p o.body ≡ true
     → is_sent p sends ≡ true
 sent_among p [] o inside passes = absurd inside
 sent_among p (one ∷ sends) o (inl same) passes =

@@ -182,7 +182,7 @@ module _ (start : Start) where
   abbrev laid : View → Layout
   laid view = layout_in start view
 
-  tc_enters : (p : TcPart) (view : View) (x : Signal) (between : TcPart) (stood : View) (front : List Outgoing)
+  pub tc_enters : (p : TcPart) (view : View) (x : Signal) (between : TcPart) (stood : View) (front : List Outgoing)
       → PartEnters tc_kind p view x between stood front → IsLaid (laid view) p → IsLaid (laid stood) between
   unfolding install_row
   tc_enters p view x between stood front (remains same stands none) own =
@@ -216,7 +216,7 @@ module _ (start : Start) where
   tc_takes between stood x now rest (handles passed same sends) own =
       subst (IsLaid (laid stood)) (sym same) (tc_rows between (laid stood) x own x.to.block)
 
-  ldm_enters : (p : LdmPart) (view : View) (x : Signal) (between : LdmPart) (stood : View) (front : List Outgoing)
+  pub ldm_enters : (p : LdmPart) (view : View) (x : Signal) (between : LdmPart) (stood : View) (front : List Outgoing)
       → PartEnters ldm_kind p view x between stood front → AreLaid (laid view) p → AreLaid (laid stood) between
   ldm_enters p view x between stood front (remains same stands none) own =
       subst (λ (v : View). AreLaid (laid v) between) (sym stands) (subst (AreLaid (laid view)) (sym same) own)
