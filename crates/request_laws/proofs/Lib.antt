@@ -16,6 +16,7 @@ pub mod RouteRows
 pub mod RouteSends
 pub mod RouteStands
 pub mod RouteTakeover
+pub mod RouteTakes
 pub mod RouteTc
 pub mod RouteTurns
 pub mod RouteViable

@@ -1,6 +1,6 @@
 -- At an event of the host of a coordinator it has its routes, in the view in which the host stands then, before it takes the
 -- signal.
-use Rattle.std.proofs.Common.{◌≡◌, ◌<◌, ◌≤◌, ℕ, true, List, [], ◌∷◌, refl, sym, ap, ◌∙◌, subst, arith}
+use Rattle.std.proofs.Common.{◌≡◌, ◌<◌, ◌≤◌, ℕ, Bool, true, List, ◌∷◌, sym, ap, ◌∙◌, subst, arith}
 use Rattle.run_theory.specs.Lists.{Each, IsIn, IsPast}
 use Rattle.run_theory.proofs.Pasts.{each_map}
 use Rattle.sig_core.specs.declared.member.Member.{Member}
@@ -8,7 +8,7 @@ use Rattle.sig_core.specs.declared.member.TxId.{TxId}
 use Rattle.sig_core.specs.declared.outs.Outgoing.{Outgoing}
 use Rattle.sig_core.specs.declared.signal.Body.{Body}
 use Rattle.sig_core.specs.declared.view.View.{View}
-use Rattle.frag_map.specs.Layout.{Layout, first_layout}
+use Rattle.frag_map.specs.Layout.{first_layout}
 use Rattle.tc_block.specs.declared.transaction.Transaction.{Transaction}
 use Rattle.tc_views.specs.Coordinator.{fresh_coordinator}
 use Rattle.tc_views.specs.State.{CoordinatorState}
@@ -19,7 +19,6 @@ use Rattle.world_core.specs.Start.{Start, made}
 use Rattle.world_core.specs.Steps.{HostStep}
 use Rattle.world_views.specs.Machine.{after}
 use Rattle.view_laws.specs.Runs.{view_after}
-use Rattle.view_laws.specs.Sets.{IsPart}
 use Rattle.view_laws.proofs.RunShrink.{views_shrink}
 use Rattle.moment_laws.specs.Moments.{IsMoment, logs_of}
 use Rattle.moment_laws.specs.PartSteps.{PartEnters, installs, remains, tc_kind}

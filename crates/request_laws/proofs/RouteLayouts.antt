@@ -15,10 +15,8 @@ use Rattle.sig_core.specs.declared.signal.host.Work.TheVariants as work
 use Rattle.sig_core.specs.declared.signal.membership.MembershipSignal.TheVariants.{FenceReq}
 use Rattle.sig_core.specs.declared.signal.takeover.TakeoverSignal.TheVariants.{LqhTransReq}
 use Rattle.sig_core.specs.declared.view.View.{View}
-use Rattle.sig_core.specs.Step.{Step}
 use Rattle.frag_map.specs.Layout.{Layout, first_layout, in_view}
 use Rattle.tc_block.specs.Live.{turned_if}
-use Rattle.tc_block.specs.State.{TcState}
 use Rattle.tc_block.specs.Turn.{Turn}
 use Rattle.tc_views.specs.Coordinator.{coordinator_row, fresh_coordinator}
 use Rattle.tc_views.specs.State.{CoordinatorState}
@@ -44,10 +42,10 @@ use Rattle.world_core.specs.Steps.{HostStep}
 use Rattle.world_views.specs.Machine.{after, step_after}
 use Rattle.view_laws.specs.Runs.{view_after}
 use Rattle.moment_laws.specs.Places.{ldm_of, tc_of}
-use Rattle.moment_laws.specs.PartSteps.{Kind, LdmDoes, PartEnters, PartTakes, TcDoes, handles, ignores, installs, ldm_kind, remains, tc_kind}
+use Rattle.moment_laws.specs.PartSteps.{LdmDoes, PartEnters, PartTakes, TcDoes, handles, ignores, installs, ldm_kind, remains, tc_kind}
 use Rattle.moment_laws.proofs.MomentHosts.{ldm_started, part_some, tc_started}
 use Rattle.moment_laws.proofs.PartKinds.{ldm_after, tc_after}
-use Rattle.outcome_laws.proofs.TcWalk.{coordinator_each, inner}
+use Rattle.outcome_laws.proofs.TcWalk.{coordinator_each}
 use Rattle.request_laws.specs.Blocks.{coordinator_after, coordinator_in, no_replica, rows_after, rows_in, takeover_after, takeover_in}
 use Rattle.request_laws.specs.Routed.{layout_in}
 use Rattle.request_laws.proofs.ReplicaEvents.{epoch_same, go_on_same, reporting_same}

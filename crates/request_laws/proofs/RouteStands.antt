@@ -1,7 +1,7 @@
 -- What stands of a coordinator says of its transactions which are given up, and which have nothing unanswered.
 use Rattle.std.proofs.Common.{◌≡◌, ◌||◌, Bool, true, false, List, [], ◌∷◌, inl, inr, refl, sym, ap, ◌∙◌, subst, ℕ}
 use Rattle.std.proofs.lemmas.Bool.{true≢false}
-use Rattle.std.specs.Prelude.{if◌then◌else◌, None, Option, Some}
+use Rattle.std.specs.Prelude.{if◌then◌else◌, None, Some}
 use Rattle.run_theory.specs.Lists.{Each, IsIn}
 use Rattle.run_theory.proofs.Pasts.{each_from, each_in, each_map}
 use Rattle.sig_core.specs.declared.member.Member.{Member}

@@ -1,37 +1,30 @@
 -- What a transaction does at a signal, or for what an installation left, is routed in the view of its coordinator, and
 -- it has its routes behind it, if what it sends is its own of this view.
-use Rattle.std.proofs.Common.{◌≡◌, ◌<◌, ◌⊎◌, ◌==◌, ◌+◌, ℕ, Bool, true, false, List, [], ◌∷◌, drop, inl, inr, length, map, nat_lt, refl, sym, ap, ◌∙◌, subst, arith, take}
+use Rattle.std.proofs.Common.{◌≡◌, ◌⊎◌, ◌==◌, ℕ, Bool, true, false, List, [], ◌∷◌, inl, inr, length, map, refl, sym, ap, ◌∙◌, subst, arith}
 use Rattle.std.proofs.lemmas.Bool.{eqb-true, true≢false}
-use Rattle.std.specs.List.{flat_map}
-use Rattle.std.specs.Prelude.{◌&&◌, Option, None, Some}
+use Rattle.std.specs.Prelude.{◌&&◌, None}
 use Rattle.run_theory.specs.Lists.{Each}
-use Rattle.run_theory.proofs.EachSent.{each_drop, each_mapped, each_set, each_take}
-use Rattle.run_theory.proofs.Pasts.{each_append}
-use Rattle.sig_core.specs.declared.member.Member.{Member}
+use Rattle.run_theory.proofs.EachSent.{each_mapped}
 use Rattle.sig_core.specs.declared.member.TxId.{TxId}
-use Rattle.sig_core.specs.declared.op.Answer.{Answer}
-use Rattle.sig_core.specs.declared.op.Answer.TheVariants as answer
 use Rattle.sig_core.specs.declared.op.Op.{Op}
 use Rattle.sig_core.specs.declared.outcome.AbortCause.{AbortCause}
 use Rattle.sig_core.specs.declared.outs.Outgoing.{Outgoing}
 use Rattle.sig_core.specs.declared.place.Place.{Place}
 use Rattle.sig_core.specs.declared.signal.Body.{Body}
-use Rattle.sig_core.specs.declared.signal.Body.TheVariants.{Chain, Epoch}
-use Rattle.sig_core.specs.declared.signal.chain.ChainSignal.TheVariants.{Commit, LqhKeyReq}
+use Rattle.sig_core.specs.declared.signal.Body.TheVariants.{Epoch}
 use Rattle.sig_core.specs.declared.signal.epoch.EpochSignal.TheVariants.{DiVerifyConf}
 use Rattle.sig_core.specs.Op.{key_of}
-use Rattle.sig_core.specs.Chain.{primary_of}
 use Rattle.sig_core.specs.Step.{stay}
 use Rattle.frag_map.specs.Layout.{Layout, chain_of}
 use Rattle.tc_block.specs.Abort.{abort_end, is_verifying}
 use Rattle.tc_block.specs.Complete.{written_count}
 use Rattle.tc_block.specs.Doom.{is_among, is_undecided}
-use Rattle.tc_block.specs.Operate.{answered as answered_as, can_operate, is_ready, operating, touched_after}
-use Rattle.tc_block.specs.Part.{part_effects, rest_if}
+use Rattle.tc_block.specs.Operate.{answered as answered_as, can_operate, is_ready, operating}
+use Rattle.tc_block.specs.Part.{part_effects}
 use Rattle.tc_block.specs.Phases.{is_aborting, is_decided}
-use Rattle.tc_block.specs.Resume.{anew_if, rechained, rechained_if, redriven}
-use Rattle.tc_block.specs.Sends.{abort_of, complete_if, entering, go_on_if, front_sends, key_sends, phase_sends, wait_of, waits_of}
-use Rattle.tc_block.specs.Touched.{fits, place_of, touched_by, unwritten, written, written_by}
+use Rattle.tc_block.specs.Resume.{anew_if, rechained, redriven}
+use Rattle.tc_block.specs.Sends.{abort_of, entering, go_on_if, phase_sends, wait_of, waits_of}
+use Rattle.tc_block.specs.Touched.{fits, place_of}
 use Rattle.tc_block.specs.Turn.{Turn, asking, at_phase, going}
 use Rattle.tc_block.specs.declared.phase.Phase.{Phase}
 use Rattle.tc_block.specs.declared.phase.Phase.TheVariants.{Open, Verifying, Committing, Completing, Aborting}
@@ -40,10 +33,8 @@ use Rattle.tc_block.specs.declared.transaction.Transaction.{Transaction}
 use Rattle.tc_block.proofs.EachTurn.{AbortForms, CommittedForms, TurnFormsAt, may_ask, ready_is}
 use Rattle.tc_views.specs.State.{CoordinatorState}
 use Rattle.outcome_laws.proofs.TcWalk.{ResumeForms}
-use Rattle.run_laws.proofs.RoutesChain.{last_inside, primary_length}
-use Rattle.run_laws.proofs.RoutesSends.{each_flat_of}
 use Rattle.request_laws.specs.Drives.{is_commit, is_request}
-use Rattle.request_laws.specs.Routes.{HasRoutes, HasRoutesIn, IsAskedRouted, IsRouted, IsSentRouted, IsTouchedRouted, touched_chain}
+use Rattle.request_laws.specs.Routes.{HasRoutes, HasRoutesIn, IsAskedRouted, IsRouted, IsSentRouted, IsTouchedRouted}
 use Rattle.request_laws.specs.Ways.{is_sent}
 use Rattle.request_laws.proofs.RouteSends.{IsMade, Needs, Nobody, answered_routed, commits_sent, going_unasked, none_asked, none_driven, part_sent, phase_sent, rechained_routed, touched_routed}
 use Rattle.request_laws.proofs.RouteTakeover.{ChainsAreSome}
