@@ -1,4 +1,5 @@
--- A step of a coordinator, where behind it a transaction is asked for, or driven, if it was so before or the step sends that.
+-- A step of a coordinator, where behind it a transaction is asked for, or driven, if it was so before or the step sends
+-- that.
 use Rattle.std.proofs.Common.{◌≡◌, ◌⊎◌, Bool, true, List, [], ◌∷◌, inl, inr}
 use Rattle.run_theory.specs.Lists.{Each}
 use Rattle.run_theory.proofs.Pasts.{each_from}
