@@ -27,18 +27,19 @@ use Rattle.view_laws.specs.Runs.{view_after}
 use Rattle.view_laws.proofs.EraSound.{each_filter}
 use Rattle.epoch_laws.specs.Alike.{AreTogether, AreUpTo, GivesUpTo, IsAcross, Waits}
 use Rattle.epoch_laws.specs.Falls.{EpochsNeverFall, EpochsOfHistoriesNeverFall}
-use Rattle.epoch_laws.specs.Members.{dih_in, epochs_of, tc_of}
-use Rattle.epoch_laws.specs.Moments.{IsMoment, current, logs_of}
+use Rattle.epoch_laws.specs.Members.{dih_in, epochs_of}
+use Rattle.moment_laws.specs.Places.{tc_of}
+use Rattle.moment_laws.specs.Moments.{IsMoment, current, logs_of}
 use Rattle.epoch_laws.specs.Stand.{AllStand}
 use Rattle.epoch_laws.proofs.DihSends.{IsGivenBy}
 use Rattle.epoch_laws.proofs.FallMarks.{DecidesLow, tc_low}
-use Rattle.epoch_laws.proofs.FallMoments.{are_moments}
+use Rattle.moment_laws.proofs.MomentRuns.{are_moments}
 use Rattle.epoch_laws.proofs.MarkNone.{DecidesNone, IsNoDecision}
 use Rattle.epoch_laws.proofs.MarkSteps.{others_decide_none, tc_steps_give}
-use Rattle.epoch_laws.proofs.MomentHosts.{TcHost, of_none, of_tc, part_some, tc_host_is, tc_member, tc_started}
-use Rattle.epoch_laws.proofs.MomentMembers.{current_host}
-use Rattle.epoch_laws.proofs.MomentTurns.{host_low, own_behind, taker_stands}
-use Rattle.epoch_laws.proofs.MomentViews.{moment_less}
+use Rattle.moment_laws.proofs.MomentHosts.{TcHost, of_none, of_tc, part_some, tc_host_is, tc_member, tc_started}
+use Rattle.moment_laws.proofs.MomentMembers.{current_host}
+use Rattle.moment_laws.proofs.MomentTurns.{host_low, own_behind, taker_stands}
+use Rattle.moment_laws.proofs.MomentViews.{moment_less}
 use Rattle.epoch_laws.proofs.OrderKeeps.{AreGivenTo}
 use Rattle.epoch_laws.proofs.StandAll.{epochs_stand}
 use Rattle.epoch_laws.proofs.StandMarks.{full_before, marks_are, never_tc}

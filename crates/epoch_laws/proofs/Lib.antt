@@ -3,7 +3,6 @@ mod DihRows
 mod DihSends
 pub mod FallAll
 mod FallMarks
-mod FallMoments
 mod MarkClient
 mod MarkCoordinator
 mod MarkMaster
@@ -12,9 +11,7 @@ mod MarkNone
 mod MarkRows
 mod MarkSteps
 mod MarkTakeover
-mod MarkWalk
 mod MasterHears
-mod MasterHosts
 mod MasterKeeps
 mod MasterKnows
 mod MasterMoves
@@ -25,28 +22,16 @@ mod MasterSends
 mod MasterSpeaks
 mod MemberStays
 mod MomentEvents
-mod MomentHosts
-mod MomentMembers
-mod MomentSignals
 mod MomentSteps
-mod MomentTurns
-mod MomentViews
-mod MomentWalk
 mod OrderKeeps
 mod OrderMoves
 mod OrderOn
-mod SentApi
 mod SentArbiter
-mod SentClient
-mod SentCoordinator
+mod SentKinds
 mod SentMembership
 mod SentNone
-mod SentOwn
 mod SentParts
 mod SentRows
-mod SentTakeover
-mod SentTurns
-mod SentWalk
 mod SignalsOn
 mod StandAll
 mod StandKinds
@@ -59,4 +44,3 @@ mod StandTakes
 mod StepKinds
 mod StepMain
 mod StepTc
-mod StepWalk

@@ -1,13 +1,10 @@
 -- The client's side marks no decision, whatever it takes.
-use Rattle.std.proofs.Common.{◌==◌, ◌&&◌, ◌||◌, ◌+◌, ◌++◌, ℕ, Bool, true, false, List, [], refl}
+use Rattle.std.proofs.Common.{◌==◌, ◌&&◌, ◌||◌, ℕ, Bool, true, false, List, [], refl}
 use Rattle.std.specs.Prelude.{Option, None, Some, is_some, not, slice_get}
 use Rattle.run_theory.proofs.Pasts.{each_append}
 use Rattle.sig_core.specs.declared.member.TxId.{TxId}
 use Rattle.sig_core.specs.declared.op.Op.{Op}
 use Rattle.sig_core.specs.declared.outcome.AbortCause.TheVariants.{NodeFail}
-use Rattle.sig_core.specs.declared.place.BlockId.{BlockId}
-use Rattle.sig_core.specs.declared.place.BlockId.TheVariants.{Lqh, Qmgr}
-use Rattle.sig_core.specs.declared.place.Place.{Place}
 use Rattle.sig_core.specs.declared.reply.Waiting.{Waiting}
 use Rattle.sig_core.specs.declared.request.ApiReq.{ApiReq}
 use Rattle.sig_core.specs.declared.request.ApiReq.TheVariants as request
@@ -20,7 +17,7 @@ use Rattle.sig_core.specs.declared.signal.host.HostSignal.TheVariants.{Closed, C
 use Rattle.sig_core.specs.declared.signal.host.Work.{Work}
 use Rattle.sig_core.specs.declared.signal.host.Work.TheVariants.{Request, Report}
 use Rattle.sig_core.specs.declared.view.View.{View}
-use Rattle.sig_core.specs.Step.{Step, stay}
+use Rattle.sig_core.specs.Step.{Step}
 use Rattle.api_block.specs.Api.{api_table, request_row}
 use Rattle.api_block.specs.State.{ApiState}
 use Rattle.api_block.proofs.EachApi.{api_marks_each}
@@ -31,12 +28,12 @@ use Rattle.api_views.specs.declared.closings.Closing.TheVariants.{Gcp, Micro}
 use Rattle.api_views.specs.declared.reports.Verdict.{Verdict}
 use Rattle.api_views.specs.declared.reports.Verdict.TheVariants.{NeverBegins, Ends}
 use Rattle.api_views.specs.Client.{asked_row, client_row, client_table, command_if, command_row, is_known, up_row, vouched_table, work_table}
-use Rattle.api_views.specs.Closings.{anew, ask_at, asked_if, closed_row, closing_row, view_row}
+use Rattle.api_views.specs.Closings.{asked_if, closed_row, closing_row, view_row}
 use Rattle.api_views.specs.Commands.{begin_if, begin_row, cut_by, cut_row, kill_if, kill_row, lone_by, lone_row, lowest, node_for, on_api, rows_if, rows_row, serves, show_row}
-use Rattle.api_views.specs.Members.{noted, president}
+use Rattle.api_views.specs.Members.{noted}
 use Rattle.api_views.specs.Pending.{client_pending_row, closing_left, obstacle, obstructed, obstructed_by, waits_by, waits_if}
-use Rattle.api_views.specs.Reports.{complete_row, dump_breaks, ended_by, going_on, greater_of, has_more, more_if, place_due, report_row, stop_row, told_if, unasked, verdict, with_stop}
-use Rattle.api_views.specs.Rounds.{all_rounds, four_rounds, is_live, round_effects, rounds_if, rounds_of, tick_row, ticked}
+use Rattle.api_views.specs.Reports.{complete_row, dump_breaks, ended_by, going_on, place_due, report_row, stop_row, told_if, verdict}
+use Rattle.api_views.specs.Rounds.{round_effects, tick_row}
 use Rattle.api_views.specs.State.{ClientState, aside}
 use Rattle.api_views.specs.Stops.{is_down, runs}
 use Rattle.epoch_laws.proofs.MarkNone.{DecidesNone, IsNoDecision}

@@ -1,5 +1,5 @@
 -- A coordinator marks no decision, whatever it takes and whatever view is installed.
-use Rattle.std.proofs.Common.{◌==◌, ℕ, Bool, true, false, List, [], ◌∷◌, nat_lt, length}
+use Rattle.std.proofs.Common.{◌==◌, ℕ, Bool, true, false, List, [], ◌∷◌, nat_lt}
 use Rattle.std.specs.Prelude.{Option, None, Some, slice_get}
 use Rattle.std.specs.Map.{values_of}
 use Rattle.run_theory.proofs.Pasts.{each_append}

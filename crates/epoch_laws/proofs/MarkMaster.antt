@@ -1,11 +1,6 @@
 -- A master of checkpoints marks no decision, whatever it takes.
 use Rattle.std.proofs.Common.{◌==◌, ◌&&◌, ℕ, Bool, true, false, nat_lt, refl}
-use Rattle.std.specs.Prelude.{Option, None, Some, is_some, not}
-use Rattle.run_theory.proofs.EachSent.{each_mapped}
-use Rattle.run_theory.proofs.Pasts.{each_append}
-use Rattle.sig_core.specs.declared.member.Member.{Member}
-use Rattle.sig_core.specs.declared.place.BlockId.{BlockId}
-use Rattle.sig_core.specs.declared.place.BlockId.TheVariants as block
+use Rattle.std.specs.Prelude.{is_some, not}
 use Rattle.sig_core.specs.declared.signal.Body.{Body}
 use Rattle.sig_core.specs.declared.signal.Body.TheVariants.{Host, Takeover, Epoch}
 use Rattle.sig_core.specs.declared.signal.Signal.{Signal}
@@ -14,14 +9,10 @@ use Rattle.sig_core.specs.declared.signal.epoch.EpochSignal.TheVariants.{GcpReq,
 use Rattle.sig_core.specs.declared.signal.host.HostSignal.TheVariants.{Continue}
 use Rattle.sig_core.specs.declared.signal.host.Work.TheVariants.{Members}
 use Rattle.sig_core.specs.declared.signal.takeover.TakeoverSignal.TheVariants.{TakeoverEnd}
-use Rattle.sig_core.specs.declared.view.View.{View}
-use Rattle.sig_core.specs.Place.{checkpoints}
 use Rattle.gcp_master.specs.declared.known.Known.{Known}
 use Rattle.gcp_master.specs.declared.known.Told.{Told}
 use Rattle.gcp_master.specs.declared.orders.Ended.{Ended}
 use Rattle.gcp_master.specs.declared.orders.Ended.TheVariants.{Micro, Global}
-use Rattle.gcp_master.specs.declared.orders.Order.{Order}
-use Rattle.gcp_master.specs.declared.orders.Order.TheVariants as order
 use Rattle.gcp_master.specs.declared.phase.Asked.{Asked}
 use Rattle.gcp_master.specs.declared.phase.Phase.{Phase}
 use Rattle.gcp_master.specs.declared.phase.Phase.TheVariants.{Unordered, Gathering, Resting, Preparing, Committing, Closing, Saving, Copying}
@@ -33,13 +24,12 @@ use Rattle.gcp_master.specs.Closing.{close_if_all, closed_if, copied_if, copy_by
 use Rattle.gcp_master.specs.Known.{nothing_known, resumed}
 use Rattle.gcp_master.specs.Master.{epoch_table, master_row, master_table, told}
 use Rattle.gcp_master.specs.Numbers.{is_first}
-use Rattle.gcp_master.specs.Orders.{order_body}
 use Rattle.gcp_master.specs.Requests.{asked_by, asked_row, global_asked, micro_asked}
 use Rattle.gcp_master.specs.Resume.{knowing, learned_if, order_by, order_row, resume_at, state_by, state_if, state_row, told_all_if}
-use Rattle.gcp_master.specs.Sends.{entering, front_sends, go_on_if, go_on_row, list_effects, listing, master_sends, order_at, orders_at, phase_sends, to_both, to_copying, to_each}
+use Rattle.gcp_master.specs.Sends.{entering, go_on_if, go_on_row, list_effects, listing}
 use Rattle.gcp_master.specs.State.{MasterState, all_in, at_phase, counted, counts}
 use Rattle.gcp_master.specs.Voices.{is_among}
-use Rattle.epoch_laws.proofs.MarkNone.{DecidesNone, IsNoDecision}
+use Rattle.epoch_laws.proofs.MarkNone.{DecidesNone}
 
 lists : (s : MasterState) (at : ℕ) → DecidesNone (listing s at)
 unfolding listing list_effects

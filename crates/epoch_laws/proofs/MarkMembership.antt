@@ -1,19 +1,12 @@
 -- A membership marks no decision, whatever it takes.
-use Rattle.std.proofs.Common.{◌≡◌, ◌==◌, ◌+◌, ◌&&◌, ◌++◌, ◌||◌, ℕ, Bool, true, false, List, [], ◌∷◌, drop, length, map, nat_lt, refl}
+use Rattle.std.proofs.Common.{◌==◌, ◌&&◌, ◌||◌, ℕ, Bool, true, false, List, [], ◌∷◌, nat_lt, refl}
 use Rattle.std.specs.Prelude.{if◌then◌else◌, is_some, not, Option, None, Some, position, slice_get}
-use Rattle.run_theory.specs.Lists.{Each}
-use Rattle.run_theory.proofs.EachSent.{each_drop, each_mapped, each_take}
-use Rattle.run_theory.proofs.Pasts.{each_append, each_map}
 use Rattle.sig_core.specs.declared.member.Member.{Member}
 use Rattle.sig_core.specs.declared.outcome.StopCause.{StopCause}
 use Rattle.sig_core.specs.declared.outcome.StopCause.TheVariants.{Clock, Disk, Excluded, Killed, Memory, NoGroup, Sibling}
-use Rattle.sig_core.specs.declared.outs.Outgoing.{Outgoing}
-use Rattle.sig_core.specs.declared.place.Place.{Place}
-use Rattle.sig_core.specs.declared.portion.TheConstants.{PORTION}
 use Rattle.sig_core.specs.declared.signal.Body.{Body}
-use Rattle.sig_core.specs.declared.signal.Body.TheVariants.{Epoch, Host, Joining, Membership}
+use Rattle.sig_core.specs.declared.signal.Body.TheVariants.{Host, Joining, Membership}
 use Rattle.sig_core.specs.declared.signal.Signal.{Signal}
-use Rattle.sig_core.specs.declared.signal.epoch.EpochSignal.TheVariants.{GcpOrd}
 use Rattle.sig_core.specs.declared.signal.host.HostSignal.{HostSignal}
 use Rattle.sig_core.specs.declared.signal.host.HostSignal.TheVariants.{Closed, Continue, Round}
 use Rattle.sig_core.specs.declared.signal.host.Work.TheVariants.{Installation, Members}
@@ -22,27 +15,23 @@ use Rattle.sig_core.specs.declared.signal.joining.JoiningSignal.TheVariants.{Pro
 use Rattle.sig_core.specs.declared.signal.membership.MembershipSignal.{MembershipSignal}
 use Rattle.sig_core.specs.declared.signal.membership.MembershipSignal.TheVariants.{ArbitConf, ArbitRef, FailRep, FenceConf, Heartbeat, PrepFailConf, PrepFailRef, PrepFailReq, StopSet}
 use Rattle.sig_core.specs.declared.view.View.{View}
-use Rattle.sig_core.specs.Place.{checkpoints, membership}
-use Rattle.sig_core.specs.Portion.{portion, rest}
 use Rattle.sig_core.specs.Step.{stay}
-use Rattle.frag_map.specs.Groups.{lost_group}
-use Rattle.node_views.specs.Parts.{may_settle}
 use Rattle.qmgr_block.specs.declared.install.TheConstants.{ORDERS}
 use Rattle.qmgr_block.specs.declared.known.Known.{Known}
 use Rattle.qmgr_block.specs.declared.known.Proposal.{Proposal}
 use Rattle.qmgr_block.specs.declared.promise.Promise.{Promise}
 use Rattle.qmgr_block.specs.Decide.{awaits, confirm_by, confirm_if, confirm_row, confirmed_all, confirmed_one, granted_by, granted_if, granted_row, heard, is_asked, needs_no_grant, refused_by, refused_cause, refused_if, refused_row, stop_row, stopping, unpromised_by, unpromised_if, unpromised_row, with_unlike}
-use Rattle.qmgr_block.specs.Install.{commit_of, copy_of, installed_row, installing, is_of_view, is_oldest, is_some_suspect, left_by, order_effects, order_if, order_row, orders, own_orders, work_by, work_if, work_row}
+use Rattle.qmgr_block.specs.Install.{installed_row, is_of_view, is_oldest, is_some_suspect, order_if, order_row, work_by, work_row}
 use Rattle.qmgr_block.specs.Join.{has_node, is_settled, promote_row, start_by, start_row}
 use Rattle.qmgr_block.specs.Promise.{confirmed_at, confirmed_if, confirmed_place, fence_row, is_fenced, is_ldm, less, may_promise, promise_by, promise_row, promising, waits_for, with_absent}
-use Rattle.qmgr_block.specs.Propose.{has_number, next_number, proposal_sends, proposed_if, proposed_view, propose, remaining_view, request_of, stop_of, stop_sends}
+use Rattle.qmgr_block.specs.Propose.{has_number, next_number, proposed_if, proposed_view, propose, remaining_view, stop_sends}
 use Rattle.qmgr_block.specs.Qmgr.{host_table, joining_table, membership_table, qmgr_installed, qmgr_row, qmgr_table}
 use Rattle.qmgr_block.specs.Ring.{heartbeat_row, round_by, round_row, sides, with_missing, with_round}
-use Rattle.qmgr_block.specs.Sets.{is_among, is_in, joined_view, members_of, promoted_view, without}
+use Rattle.qmgr_block.specs.Sets.{is_among, is_in, joined_view, members_of, promoted_view}
 use Rattle.qmgr_block.specs.Starts.{covers}
 use Rattle.qmgr_block.specs.State.{QmgrState}
 use Rattle.qmgr_block.specs.Suspects.{close_row, has_more, is_kept_suspect, president, presides, report_row, told, told_by, told_if, with_closing, with_suspects}
-use Rattle.epoch_laws.proofs.MarkNone.{DecidesNone, IsNoDecision}
+use Rattle.epoch_laws.proofs.MarkNone.{DecidesNone}
 
 -- a proposal, or that suspects are told of
 proposed_none : (k : Known) (view : View) (joining : Option Member) → DecidesNone (proposed_view k view joining)

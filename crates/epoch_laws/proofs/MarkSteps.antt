@@ -18,7 +18,7 @@ use Rattle.arbiter_block.specs.Arbiter.{ArbiterState, arbit_if, arbit_row, arbit
 use Rattle.dih_node.specs.Dih.{dih_row}
 use Rattle.dih_node.specs.Orders as dih
 use Rattle.dih_node.specs.State.{DihState}
-use Rattle.node_views.specs.Blocks.{parts_entered, parts_row, settled_at}
+use Rattle.node_views.specs.Blocks.{parts_entered, parts_row}
 use Rattle.node_views.specs.declared.host.Host as hosts
 use Rattle.node_views.specs.declared.ldm_part.LdmPart.{LdmPart}
 use Rattle.node_views.specs.declared.main_part.MainPart.{MainPart}
@@ -35,15 +35,11 @@ use Rattle.epoch_laws.proofs.MarkClient.{client_decides_none}
 use Rattle.epoch_laws.proofs.MarkCoordinator.{coordinator_decides_none, coordinator_installs_decide_none}
 use Rattle.epoch_laws.proofs.MarkMaster.{master_decides_none}
 use Rattle.epoch_laws.proofs.MarkMembership.{membership_decides_none, membership_installs_decide_none}
-use Rattle.epoch_laws.proofs.MarkNone.{DecidesNone, IsNoDecision, is_decision}
+use Rattle.epoch_laws.proofs.MarkNone.{DecidesNone, IsNoDecision}
 use Rattle.epoch_laws.proofs.MarkRows.{rows_decide_none}
 use Rattle.epoch_laws.proofs.MarkTakeover.{takeover_decides_none}
-use Rattle.epoch_laws.proofs.MarkWalk.{IsMarked, IsOfHost, step_marks}
-
--- a host without a coordinator
-abbrev pub HasNoTc : Parts → Type 0
-HasNoTc (Tc p) = ⊥
-HasNoTc parts = Unit {0}
+use Rattle.moment_laws.proofs.MomentHosts.{HasNoTc}
+use Rattle.moment_laws.proofs.MarkWalk.{IsMarked, IsOfHost, step_marks}
 
 entered_none : (parts : Parts) (view : View) → DecidesNone (parts_entered parts view)
 unfolding dih.install_row

@@ -1,5 +1,4 @@
 -- A takeover marks no decision, whatever it takes.
-use Rattle.std.proofs.Common.{ℕ, List}
 use Rattle.std.specs.Prelude.{Option, None, Some, remove, slice_get}
 use Rattle.sig_core.specs.declared.signal.Signal.{Signal}
 use Rattle.takeover_block.specs.declared.gathered.Gathered.{Gathered}
@@ -9,7 +8,7 @@ use Rattle.takeover_block.specs.Sends.{ask_effects, stage_effects}
 use Rattle.takeover_block.specs.State.{TakeoverState, with_gathered}
 use Rattle.takeover_block.specs.Takeover.{takeover_row}
 use Rattle.takeover_block.proofs.EachTakeover.{takeover_each}
-use Rattle.epoch_laws.proofs.MarkNone.{DecidesNone, IsNoDecision}
+use Rattle.epoch_laws.proofs.MarkNone.{DecidesNone}
 
 enters : (s : TakeoverState) (g : Gathered) (stage : Stage) → DecidesNone (entering s g stage)
 unfolding entering stage_effects

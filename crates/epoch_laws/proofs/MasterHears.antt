@@ -10,7 +10,8 @@ use Rattle.gcp_master.specs.Voices.{is_among, is_heard, is_of, same_member, same
 use Rattle.world_core.specs.Start.{Start}
 use Rattle.world_core.specs.Steps.{HostStep}
 use Rattle.epoch_laws.specs.Masters.{AreOnce, EachHeard, IsOfHosts}
-use Rattle.epoch_laws.specs.Members.{epochs_of, ldm_of, tc_of}
+use Rattle.epoch_laws.specs.Members.{epochs_of}
+use Rattle.moment_laws.specs.Places.{ldm_of, tc_of}
 use Rattle.epoch_laws.proofs.MasterMoves.{with_one}
 use Rattle.dih_node.specs.State.{DihState}
 

@@ -20,8 +20,9 @@ use Rattle.world_core.specs.Start.{Start}
 use Rattle.world_core.specs.Steps.{Addressed, HostStep}
 use Rattle.epoch_laws.specs.Alike.{AreAlike, EachFull, IsAcross, IsReady, IsSound, Rests, Waits}
 use Rattle.epoch_laws.specs.Masters.{EachHeard, HasPrepared, IsOfHosts, IsRight, IsRightIn, IsSilent, IsUnderWay, IsWithin}
-use Rattle.epoch_laws.specs.Members.{epochs_of, ldm_of, tc_of}
-use Rattle.epoch_laws.specs.Moments.{current}
+use Rattle.epoch_laws.specs.Members.{epochs_of}
+use Rattle.moment_laws.specs.Places.{ldm_of, tc_of}
+use Rattle.moment_laws.specs.Moments.{current}
 use Rattle.epoch_laws.specs.Told.{IsAllSilent, IsTrueOf, IsTrueState}
 use Rattle.epoch_laws.proofs.MasterHears.{all_by_one, heard_epochs, once_more}
 use Rattle.epoch_laws.proofs.MasterKnows.{known_more, nothing_is_known}

@@ -18,8 +18,9 @@ use Rattle.world_core.specs.Start.{Start}
 use Rattle.world_core.specs.Steps.{HostStep}
 use Rattle.epoch_laws.specs.Alike.{IsSound}
 use Rattle.epoch_laws.specs.Masters.{IsHad, IsKnown, IsWithin}
-use Rattle.epoch_laws.specs.Members.{epochs_of, ldm_of, tc_of}
-use Rattle.epoch_laws.specs.Moments.{current}
+use Rattle.epoch_laws.specs.Members.{epochs_of}
+use Rattle.moment_laws.specs.Places.{ldm_of, tc_of}
+use Rattle.moment_laws.specs.Moments.{current}
 use Rattle.epoch_laws.specs.Told.{IsAllSilent, IsAsTold, IsTrueState}
 use Rattle.epoch_laws.proofs.MasterHears.{among_in, among_out}
 use Rattle.epoch_laws.proofs.MasterMoves.{known_with, voice_of, with_one}

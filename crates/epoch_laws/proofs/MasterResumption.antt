@@ -15,7 +15,7 @@ use Rattle.world_core.specs.Steps.{HostStep}
 use Rattle.epoch_laws.specs.Alike.{AreAlike, AreTogether, EachFull, IsAcross, IsReady, IsSound, Rests, Waits}
 use Rattle.epoch_laws.specs.Masters.{IsHad, IsKnown, IsRightIn, IsUnderWay, IsWithin}
 use Rattle.epoch_laws.specs.Members.{epochs_of}
-use Rattle.epoch_laws.specs.Moments.{current}
+use Rattle.moment_laws.specs.Moments.{current}
 use Rattle.epoch_laws.proofs.MasterMoves.{BeginsFrom, GoesOn, from_commit, from_copy, from_prepare, with_none}
 
 -- one member by itself

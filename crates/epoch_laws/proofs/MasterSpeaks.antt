@@ -18,7 +18,7 @@ use Rattle.world_core.specs.Steps.{Addressed, HostStep}
 use Rattle.epoch_laws.specs.Alike.{EachFull, Rests}
 use Rattle.epoch_laws.specs.Masters.{Commits, IsRightIn, IsSilent, Prepares}
 use Rattle.epoch_laws.specs.Members.{IsPresident, IsStanding, epochs_of, master_of}
-use Rattle.epoch_laws.specs.Moments.{current}
+use Rattle.moment_laws.specs.Moments.{current}
 use Rattle.epoch_laws.specs.Told.{IsTrueOf}
 use Rattle.epoch_laws.proofs.MasterMoves.{BeginsFrom, IsLate, Moved}
 use Rattle.epoch_laws.proofs.MasterMoves.{closes, closes_owed, commits, ends, goes_late, hears_finished, hears_prepared, is_ordered, learns, resumes, stays, takes_up}

@@ -14,7 +14,7 @@ use Rattle.world_core.specs.Steps.{HostStep}
 use Rattle.epoch_laws.specs.Alike.{EachFull, IsAcross, Rests, Waits}
 use Rattle.epoch_laws.specs.Masters.{EachHeard, HasPrepared, IsHad, IsKnown, IsRightIn, IsUnderWay, IsWithin}
 use Rattle.epoch_laws.specs.Members.{epochs_of}
-use Rattle.epoch_laws.specs.Moments.{current}
+use Rattle.moment_laws.specs.Moments.{current}
 use Rattle.epoch_laws.proofs.DihMoves.{Stays}
 
 -- of one member

@@ -1,5 +1,5 @@
 -- What an event comes to for the epochs and the master of each member that was made.
-use Rattle.std.proofs.Common.{◌≡◌, ◌≢◌, ◌≤◌, ◌<◌, ◌⊎◌, ℕ, zero, suc, true, List, ◌∷◌, sym, ap, subst, ◌∙◌, inl, inr, arith}
+use Rattle.std.proofs.Common.{◌≡◌, ◌≢◌, ◌≤◌, ◌<◌, ◌⊎◌, ℕ, true, List, ◌∷◌, sym, ap, subst, ◌∙◌, inl, inr, arith}
 use Rattle.std.proofs.lemmas.Bool.{cases_eq}
 use Rattle.frag_map.specs.Layout.{first_layout}
 use Rattle.sig_core.specs.declared.member.Member.{Member}
@@ -16,63 +16,39 @@ use Rattle.dih_node.specs.State.{DihState}
 use Rattle.gcp_master.specs.Master.{fresh_master, master_row}
 use Rattle.gcp_master.specs.Resume.{in_view}
 use Rattle.gcp_master.specs.State.{MasterState}
-use Rattle.node_views.specs.Blocks.{fence_at, parts_entered}
-use Rattle.node_views.specs.declared.parts.Parts.{Parts}
-use Rattle.node_views.specs.declared.parts.Parts.TheVariants as part
 use Rattle.node_views.specs.Fence.{is_body_fenced, is_epoch_fenced, is_fenced}
-use Rattle.node_views.specs.WellFormed.{is_well_formed}
 use Rattle.world_core.specs.Start.{Start}
 use Rattle.world_core.specs.Steps.{Addressed, HostStep}
 use Rattle.world_views.specs.Machine.{after}
 use Rattle.view_laws.specs.Runs.{view_after}
 use Rattle.view_laws.specs.Votes.{main_of}
 use Rattle.view_laws.proofs.EraRises.{host_follows}
-use Rattle.view_laws.proofs.EraShapes.{shape_stays}
-use Rattle.view_laws.proofs.FenceRows.{dih_enters}
-use Rattle.view_laws.proofs.FenceViews.{fences_are_not_below, greater_second}
+use Rattle.view_laws.proofs.FenceViews.{fences_are_not_below}
 use Rattle.epoch_laws.specs.Alike.{IsSound}
-use Rattle.epoch_laws.specs.Members.{dih_in, epochs_of, master_in, master_of, tc_of}
-use Rattle.epoch_laws.specs.Moments.{IsMoment, current, logs_of}
+use Rattle.epoch_laws.specs.Members.{dih_in, epochs_of, master_in, master_of}
+use Rattle.moment_laws.specs.Places.{tc_of}
+use Rattle.moment_laws.specs.Moments.{IsMoment, current, logs_of}
 use Rattle.epoch_laws.specs.Told.{IsTrue, IsTrueOf}
 use Rattle.epoch_laws.proofs.DihMoves.{Moves, Stays, dih_installs_stay, dih_moves, rests}
 use Rattle.epoch_laws.proofs.DihRows.{Rises, dih_installs_sound, dih_sound}
-use Rattle.epoch_laws.proofs.MomentHosts.{part_some}
-use Rattle.epoch_laws.proofs.MomentSignals.{EachSent, epoch_told, sent_below}
-use Rattle.epoch_laws.proofs.MomentSteps.{EpochsMove, EpochsTake, IsTaken, MasterMoves, epochs_move, master_moves}
-use Rattle.epoch_laws.proofs.MomentTurns.{current_rises, old_current, other_log, own_log, taker_stands}
-use Rattle.epoch_laws.proofs.MomentViews.{current_number, moment_less, number_in}
-use Rattle.epoch_laws.proofs.MomentWalk as walk
-use Rattle.epoch_laws.proofs.MomentWalk.{step_moves}
+use Rattle.moment_laws.proofs.MomentHosts.{part_some}
+use Rattle.moment_laws.proofs.MomentSignals.{EachSent, epoch_told, sent_below}
+use Rattle.epoch_laws.proofs.MomentSteps.{EpochsMove, EpochsTake, MasterMoves, epochs_move, master_moves}
+use Rattle.moment_laws.proofs.MomentTurns.{current_rises, old_current, other_log, own_log}
+use Rattle.moment_laws.proofs.MomentViews.{current_number, moment_less, number_in}
+use Rattle.moment_laws.proofs.MomentWalk.{after_moves}
+use Rattle.moment_laws.proofs.PartTaken.{IsTaken, IsTakenNow, entered_fence, taken_now}
 use Rattle.epoch_laws.proofs.StepTc.{moves_from}
-
--- the fence of epochs isn't below a view that is entered
-entered_fence : (parts : Parts) (view : View)
-    → view.number ≤ fence_at (parts_entered parts view).state block.Dih view.number
-entered_fence (part.Tc p) view =
-    subst (λ fence. view.number ≤ fence) (sym (dih_enters p.dih view.number)) (greater_second p.dih.fence view.number)
-entered_fence (part.Shell p) view = omega arith
-entered_fence (part.Main p) view = omega arith
-entered_fence (part.Ldm p) view = omega arith
 
 -- a host of a node, and the signal of its step
 module _ (start : Start) where
-  pub after_moves : (h : ℕ) → 1 ≤ h → (log : List HostStep) (e : HostStep)
-      → walk.Moves start.shape (after start h log).parts (view_after start h log) e.step.taken
-      (after start h (e ∷ log)).parts (view_after start h (e ∷ log))
-  after_moves zero some log e = absurd (omega (arith, some))
-  after_moves (suc k) some log e =
-      subst
-      (λ shape. walk.Moves shape (after start (suc k) log).parts (view_after start (suc k) log) e.step.taken
-      (after start (suc k) (e ∷ log)).parts (view_after start (suc k) (e ∷ log)))
-      (shape_stays start (suc k) log) (step_moves e.step.taken (suc k) (after start (suc k) log))
-
   pub host_epochs : (other : DihState) (h : ℕ) → 1 ≤ h → (log : List HostStep) (e : HostStep)
       → EpochsMove start.shape (dih_in other (after start h log).parts) e.step.taken (view_after start h (e ∷ log))
       (dih_in other (after start h (e ∷ log)).parts)
   host_epochs other h some log e =
       epochs_move other start.shape e.step.taken (after start h log).parts (view_after start h log)
       (after start h (e ∷ log)).parts (view_after start h (e ∷ log)) (fences_are_not_below start h log block.Dih)
-      (entered_fence (after start h log).parts e.step.taken.view) (after_moves h some log e)
+      (entered_fence (after start h log).parts e.step.taken.view block.Dih) (after_moves start h some log e)
 
   pub host_master : (other : MasterState) (h : ℕ) → 1 ≤ h → (log : List HostStep) (e : HostStep)
       → MasterMoves start.shape (master_in other (after start h log).parts) (view_after start h log) e.step.taken
@@ -80,7 +56,7 @@ module _ (start : Start) where
   host_master other h some log e =
       master_moves other start.shape e.step.taken (view_after start h (e ∷ log)) (first_layout start.shape)
       (after start h log).parts (view_after start h log) (after start h (e ∷ log)).parts (host_follows start h log)
-      (after_moves h some log e)
+      (after_moves start h some log e)
 
 module _ (start : Start) (all : ℕ → List HostStep) (e : HostStep) (es : List HostStep)
     (moment : IsMoment start all (e ∷ es))
@@ -94,30 +70,11 @@ module _ (start : Start) (all : ℕ → List HostStep) (e : HostStep) (es : List
     abbrev x : Signal
     x = e.step.taken
 
-    -- A block takes the signal of the event, whose host stands in the current view then; its header is that view, if it is
-    -- of a kind that fences stop.
-    pub record IsTakenNow (at : BlockId) : Type 0 where
-      pub block : x.to.block ≡ at
-      pub sound : is_well_formed start.shape x ≡ true
-      pub stands : view_after start e.host (e ∷ old e.host) ≡ current start new
-      pub fresh : is_fenced x ≡ true → x.view.number ≡ current_number start new
-
-    taken_now : (at : BlockId) → IsTaken start.shape at x (view_after start e.host (e ∷ old e.host)) → IsTakenNow at
-    taken_now at taken =
-        let stands : view_after start e.host (e ∷ old e.host) ≡ current start new =
-        taker_stands start all e es moment taken.low in
-        record {
-          block = taken.block;
-          sound = taken.sound;
-          stands = stands;
-          fresh = λ is. taken.fresh is ∙ ap (λ (v : View). v.number) stands;
-        }
-
     -- epochs stay where they are, or carry out what the signal says
     pub data EpochsDo (member : Member) : Type 0 where
       leave : Stays (epochs_of start old member) (epochs_of start new member)
           → (IsSound (epochs_of start old member) → IsSound (epochs_of start new member)) → EpochsDo member
-      take : e.host ≡ tc_of start member → IsTakenNow block.Dih
+      take : e.host ≡ tc_of start member → IsTakenNow start all e es moment block.Dih
           → Moves (epochs_of start old member) x.body (epochs_of start new member)
           → (Rises x.body → IsSound (epochs_of start old member) → IsSound (epochs_of start new member)) → EpochsDo member
 
@@ -146,7 +103,7 @@ module _ (start : Start) (all : ℕ → List HostStep) (e : HostStep) (es : List
           leave (subst (Stays before_it) (sym same) entered.stays)
           (λ sound. subst IsSound (sym same) (entered.sound sound))
       did at between entered (inr (taken, is)) =
-          take at (taken_now block.Dih taken)
+          take at (taken_now start all e es moment block.Dih taken)
           (subst (Moves before_it x.body) (sym is)
           (moves_from before_it between (dih_row between x).state x.body entered.stays (dih_moves between x)))
           (λ rises sound. subst IsSound (sym is) (dih_sound between x rises (entered.sound sound)))
@@ -190,11 +147,11 @@ module _ (start : Start) (all : ℕ → List HostStep) (e : HostStep) (es : List
       enters : e.host ≡ main_of start member
           → number_in start old (main_of start member) < number_in start new (main_of start member)
           → master_of start new member ≡ in_view (master_of start old member) x.view → MasterDoes member
-      takes : e.host ≡ main_of start member → IsTakenNow block.GcpMaster
+      takes : e.host ≡ main_of start member → IsTakenNow start all e es moment block.GcpMaster
           → master_of start new member ≡ (master_row (master_of start old member) x).state → MasterDoes member
       enters_takes : e.host ≡ main_of start member
           → number_in start old (main_of start member) < number_in start new (main_of start member)
-          → IsTakenNow block.GcpMaster
+          → IsTakenNow start all e es moment block.GcpMaster
           → master_of start new member ≡ (master_row (in_view (master_of start old member) x.view) x).state
           → MasterDoes member
 
@@ -232,9 +189,10 @@ module _ (start : Start) (all : ℕ → List HostStep) (e : HostStep) (es : List
           by (inr (entered, above)) (inl is) = enters at (rose above) (is ∙ entered)
           by entered (inr (inl (is, above))) = installs at (rose above) moves.between is
           by (inl same) (inr (inr (taken, is))) =
-              takes at (taken_now block.GcpMaster taken) (is ∙ ap (λ (s : MasterState). (master_row s x).state) same)
+              takes at (taken_now start all e es moment block.GcpMaster taken)
+              (is ∙ ap (λ (s : MasterState). (master_row s x).state) same)
           by (inr (entered, above)) (inr (inr (taken, is))) =
-              enters_takes at (rose above) (taken_now block.GcpMaster taken)
+              enters_takes at (rose above) (taken_now start all e es moment block.GcpMaster taken)
               (is ∙ ap (λ (s : MasterState). (master_row s x).state) entered)
 
       abbrev fresh : MasterState
@@ -268,8 +226,8 @@ module _ (start : Start) (all : ℕ → List HostStep) (e : HostStep) (es : List
       pub is_true : IsTrueOf start old (record { to = e.host; signal = x }) (Epoch signal)
       pub view : current start new ≡ current start old
 
-    pub order_told : (at : BlockId) → IsTakenNow at → (signal : EpochSignal) → x.body ≡ Epoch signal
-        → is_fenced x ≡ true → EachSent start (IsTrue start old) old → IsTold signal
+    pub order_told : (at : BlockId) → IsTakenNow start all e es moment at → (signal : EpochSignal)
+        → x.body ≡ Epoch signal → is_fenced x ≡ true → EachSent start (IsTrue start old) old → IsTold signal
     order_told at taken signal is fenced each =
         let low : x.view.number ≤ current_number start old =
         epoch_told start (λ (y : Addressed). y.signal.view.number ≤ current_number start old) all e es moment

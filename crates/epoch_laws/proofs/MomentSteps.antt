@@ -21,18 +21,10 @@ use Rattle.node_views.specs.declared.parts.Parts.TheVariants as part
 use Rattle.node_views.specs.declared.tc_part.TcPart.{TcPart}
 use Rattle.node_views.specs.Fence.{is_fenced}
 use Rattle.node_views.specs.Parts.{main_row, main_settled, tc_row}
-use Rattle.node_views.specs.WellFormed.{is_well_formed}
 use Rattle.view_laws.proofs.EraRises.{Follows, entered_follows, settled_above}
 use Rattle.epoch_laws.specs.Members.{dih_in, master_in}
-use Rattle.epoch_laws.proofs.MomentWalk.{IsPassed, Moves, Passes, entering, leaves, plainly, settles, takes}
-
--- A block of a host takes the signal, and the host stands in this view behind the step: it is none of a greater view, nor,
--- if it is of a kind that fences stop, of a lesser one.
-pub record IsTaken (shape : Shape) (at : BlockId) (x : Signal) (seen : View) : Type 0 where
-  pub block : x.to.block ≡ at
-  pub sound : is_well_formed shape x ≡ true
-  pub low : x.view.number ≤ seen.number
-  pub fresh : is_fenced x ≡ true → x.view.number ≡ seen.number
+use Rattle.moment_laws.proofs.MomentWalk.{Moves, Passes, entering, leaves, plainly, settles, takes}
+use Rattle.moment_laws.proofs.PartTaken.{IsTaken, passed_taken}
 
 -- Epochs stay, or the view of a header is installed; then they may take the signal.
 abbrev pub EpochsTake : Shape → DihState → Signal → View → DihState → Type 0
@@ -55,25 +47,6 @@ pub record MasterMoves (shape : Shape) (s : MasterState) (view : View) (x : Sign
     pub between : MasterState
     pub entered : (between ≡ s) ⊎ ((between ≡ in_view s x.view) × (view.number < seen.number))
     pub comes : MasterTakes shape between view x seen now
-
--- the signal is passed to the blocks of a host, which stands in this view then
-module _ (shape : Shape) (at : BlockId) (parts : Parts) (view : View) (x : Signal) (seen : View)
-    (stands : seen ≡ view)
-    (fenced : is_fenced x ≡ true → x.to.block ≡ at → view.number ≤ fence_at parts x.to.block view.number)
-  where
-    passed_taken : IsPassed shape parts view x → x.to.block ≡ at → IsTaken shape at x seen
-    passed_taken passed to =
-        let same : seen.number ≡ view.number = ap (λ (v : View). v.number) stands in
-        let low = passed.low in
-        record {
-          block = to;
-          sound = passed.sound;
-          low = omega (arith, same, low);
-          fresh = λ is.
-              let above = passed.fresh is in
-              let fence = fenced is to in
-              omega (arith, same, low, above, fence);
-        }
 
 -- the epochs of a part
 tc_takes : (p : TcPart) (to : BlockId) (x : Signal)

@@ -14,7 +14,7 @@ use Rattle.world_core.specs.Steps.{HostStep}
 use Rattle.epoch_laws.specs.Alike.{AreAlike, AreTogether, AreUpTo, EachFull, GivesUpTo, IsAcross, Waits}
 use Rattle.epoch_laws.specs.Masters.{Commits, HasPrepared, IsRightIn, Prepares}
 use Rattle.epoch_laws.specs.Members.{epochs_of}
-use Rattle.epoch_laws.specs.Moments.{current}
+use Rattle.moment_laws.specs.Moments.{current}
 use Rattle.epoch_laws.proofs.DihMoves.{IsAt}
 use Rattle.epoch_laws.proofs.OrderMoves.{across_commit, across_own, across_prepare, beyond_commit, beyond_prepare, full_moves, heard_moves, prepared_prepare, up_to_moves, waits_prepare}
 

@@ -12,7 +12,7 @@ use Rattle.world_core.specs.Steps.{HostStep}
 use Rattle.epoch_laws.specs.Alike.{AreUpTo, EachFull, GivesUpTo, IsAcross, Waits}
 use Rattle.epoch_laws.specs.Masters.{EachHeard, HasPrepared}
 use Rattle.epoch_laws.specs.Members.{epochs_of}
-use Rattle.epoch_laws.specs.Moments.{current}
+use Rattle.moment_laws.specs.Moments.{current}
 use Rattle.epoch_laws.proofs.DihMoves.{IsAt}
 use Rattle.epoch_laws.proofs.MasterHears.{same_member-is, same_member-self}
 

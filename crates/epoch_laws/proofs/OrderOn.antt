@@ -9,7 +9,7 @@ use Rattle.world_core.specs.Start.{Start}
 use Rattle.world_core.specs.Steps.{HostStep}
 use Rattle.epoch_laws.specs.Masters.{Commits, HasPrepared, IsRight, IsSilent, Prepares}
 use Rattle.epoch_laws.specs.Members.{IsPresident, IsStanding, epochs_of, master_of}
-use Rattle.epoch_laws.specs.Moments.{current}
+use Rattle.moment_laws.specs.Moments.{current}
 use Rattle.epoch_laws.specs.Told.{IsAllSilent}
 use Rattle.epoch_laws.proofs.DihMoves.{Stays}
 use Rattle.epoch_laws.proofs.MasterMoves.{Moved}

@@ -14,7 +14,7 @@ use Rattle.world_core.specs.Steps.{Addressed, HostStep}
 use Rattle.epoch_laws.specs.Alike.{EachFull}
 use Rattle.epoch_laws.specs.Masters.{Commits, HasPrepared, IsSilent, Prepares}
 use Rattle.epoch_laws.specs.Members.{IsFirst, IsPresident, IsStanding, epochs_of, master_of}
-use Rattle.epoch_laws.specs.Moments.{current}
+use Rattle.moment_laws.specs.Moments.{current}
 use Rattle.epoch_laws.specs.Told.{IsAllSilent, IsAsTold, IsOrdered, IsTrue, IsTrueOf, IsTrueState}
 use Rattle.epoch_laws.proofs.DihMoves.{Stays}
 

@@ -2,11 +2,11 @@
 use Rattle.std.proofs.Common.{ℕ, List, [], ◌∷◌}
 use Rattle.world_core.specs.Start.{Start}
 use Rattle.world_core.specs.Steps.{HostStep}
-use Rattle.epoch_laws.specs.Moments.{IsMoment, logs_of}
+use Rattle.moment_laws.specs.Moments.{IsMoment, logs_of}
 use Rattle.epoch_laws.specs.Stand.{AllStand, EpochsStand}
 use Rattle.epoch_laws.specs.Told.{IsTrue}
-use Rattle.epoch_laws.proofs.MomentSignals.{sent_next}
-use Rattle.epoch_laws.proofs.MomentViews.{moment_less}
+use Rattle.moment_laws.proofs.MomentSignals.{sent_next}
+use Rattle.moment_laws.proofs.MomentViews.{moment_less}
 use Rattle.epoch_laws.proofs.StandMarks.{alike_next}
 use Rattle.epoch_laws.proofs.StandMasters.{others_next, president_next}
 use Rattle.epoch_laws.proofs.StandOn.{old_true}

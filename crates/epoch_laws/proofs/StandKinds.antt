@@ -25,9 +25,9 @@ use Rattle.world_views.specs.Machine.{after, step_by, told}
 use Rattle.view_laws.specs.Votes.{main_of}
 use Rattle.view_laws.proofs.FollowHosts.{main_started}
 use Rattle.view_laws.proofs.RunMade.{first_in}
-use Rattle.epoch_laws.specs.Members.{ldm_of, tc_of}
-use Rattle.epoch_laws.proofs.MomentHosts.{ldm_number, ldm_started, main_number, tc_number}
-use Rattle.epoch_laws.proofs.MomentWalk.{Moves, Passes, entering, leaves, plainly, settles, step_moves, takes}
+use Rattle.moment_laws.specs.Places.{ldm_of, tc_of}
+use Rattle.moment_laws.proofs.MomentHosts.{ldm_number, ldm_started, main_number, tc_number}
+use Rattle.moment_laws.proofs.MomentWalk.{Moves, Passes, entering, leaves, plainly, settles, step_moves, takes}
 
 -- the part that a host runs; none is the shell
 abbrev pub part_in : Parts → Option Part

@@ -7,7 +7,6 @@ use Rattle.run_theory.specs.Runs.{Happens}
 use Rattle.sig_core.specs.declared.mark.Mark.{Mark}
 use Rattle.sig_core.specs.declared.mark.Mark.TheVariants.{Decided}
 use Rattle.sig_core.specs.declared.member.Member.{Member}
-use Rattle.sig_core.specs.declared.place.Part.TheVariants.{Tc}
 use Rattle.sig_core.specs.declared.signal.Signal.{Signal}
 use Rattle.sig_core.specs.declared.view.Shape.{Shape}
 use Rattle.sig_core.specs.declared.view.View.{View}
@@ -24,18 +23,20 @@ use Rattle.world_views.specs.Hosts.{started}
 use Rattle.world_views.specs.Machine.{after, machine, step_after, step_by, told}
 use Rattle.view_laws.specs.Order.{sound_machine}
 use Rattle.epoch_laws.specs.Alike.{AreAlike, AreTogether, AreUpTo, EachFull, GivesUpTo, IsAcross, Waits}
-use Rattle.epoch_laws.specs.Members.{dih_in, epochs_of, master_of, tc_of}
-use Rattle.epoch_laws.specs.Moments.{IsMoment, current, logs_of}
+use Rattle.epoch_laws.specs.Members.{dih_in, epochs_of, master_of}
+use Rattle.moment_laws.specs.Places.{tc_of}
+use Rattle.moment_laws.specs.Moments.{IsMoment, current, logs_of}
 use Rattle.epoch_laws.specs.Stand.{AllStand}
 use Rattle.epoch_laws.proofs.DihMoves.{Stays}
 use Rattle.epoch_laws.proofs.DihSends.{IsGivenBy}
 use Rattle.epoch_laws.proofs.MarkNone.{IsNoDecision}
-use Rattle.epoch_laws.proofs.MarkSteps.{HasNoTc, others_decide_none, tc_steps_give}
+use Rattle.moment_laws.proofs.MomentHosts.{HasNoTc}
+use Rattle.epoch_laws.proofs.MarkSteps.{others_decide_none, tc_steps_give}
 use Rattle.epoch_laws.proofs.MemberStays.{across_stays, waits_stays}
-use Rattle.epoch_laws.proofs.MomentHosts.{TcHost, of_none, of_tc, tc_host_is, tc_started}
-use Rattle.epoch_laws.proofs.MomentMembers.{full_less}
-use Rattle.epoch_laws.proofs.MomentTurns.{Turn, host_low, keeps, raises, turn}
-use Rattle.epoch_laws.proofs.MomentWalk.{Moves, Passes, entering, leaves, plainly, settles, step_moves, takes}
+use Rattle.moment_laws.proofs.MomentHosts.{TcHost, of_none, of_tc, tc_host_is, tc_started}
+use Rattle.moment_laws.proofs.MomentMembers.{full_less}
+use Rattle.moment_laws.proofs.MomentTurns.{Turn, host_low, keeps, raises, turn}
+use Rattle.moment_laws.proofs.MomentWalk.{Moves, Passes, entering, leaves, plainly, settles, step_moves, takes}
 use Rattle.epoch_laws.proofs.OrderKeeps.{AreGivenTo, commit_keeps, prepare_keeps}
 use Rattle.epoch_laws.proofs.StandTakes.{Carries, carries, commits, one_taker, others_same, prepares, stay, taker_made}
 use Rattle.epoch_laws.proofs.StepKinds.{RunsTc, runs_tc}

@@ -35,8 +35,9 @@ use Rattle.view_laws.specs.Votes.{main_of}
 use Rattle.view_laws.proofs.FollowHosts.{main_started}
 use Rattle.view_laws.proofs.RunMade.{main_same}
 use Rattle.epoch_laws.specs.Masters.{IsRight, IsRightIn, IsSilent}
-use Rattle.epoch_laws.specs.Members.{IsFirst, IsPresident, IsStanding, epochs_of, master_in, master_of, tc_of}
-use Rattle.epoch_laws.specs.Moments.{IsMoment, current, logs_of}
+use Rattle.epoch_laws.specs.Members.{IsFirst, IsPresident, IsStanding, epochs_of, master_in, master_of}
+use Rattle.moment_laws.specs.Places.{tc_of}
+use Rattle.moment_laws.specs.Moments.{IsMoment, current, logs_of}
 use Rattle.epoch_laws.specs.Stand.{AllStand}
 use Rattle.epoch_laws.proofs.DihMoves.{Stays}
 use Rattle.epoch_laws.proofs.MasterKeeps.{IsBefore, master_right}
@@ -47,12 +48,14 @@ use Rattle.epoch_laws.proofs.MasterMoves.{voice_of}
 use Rattle.epoch_laws.proofs.MasterRows.{master_goes}
 use Rattle.epoch_laws.proofs.MasterSpeaks.{installed}
 use Rattle.epoch_laws.proofs.MemberStays.{right_stays}
-use Rattle.epoch_laws.proofs.MomentEvents.{IsTakenNow, MasterDoes, after_moves, enters, enters_takes, fenced_is, installs, master_does, order_told, takes, unmoved}
-use Rattle.epoch_laws.proofs.MomentHosts.{main_low, main_number, part_some, tc_apart, tc_number}
-use Rattle.epoch_laws.proofs.MomentMembers.{current_made}
-use Rattle.epoch_laws.proofs.MomentTurns.{Turn, current_rises, keeps, number_rises, raises, turn}
-use Rattle.epoch_laws.proofs.MomentViews.{current_above, current_number, moment_less, number_in, stands_in_current}
-use Rattle.epoch_laws.proofs.MomentWalk as walk
+use Rattle.epoch_laws.proofs.MomentEvents.{MasterDoes, enters, enters_takes, fenced_is, installs, master_does, order_told, takes, unmoved}
+use Rattle.moment_laws.proofs.MomentHosts.{main_low, main_number, part_some, tc_apart, tc_number}
+use Rattle.moment_laws.proofs.MomentMembers.{current_made}
+use Rattle.moment_laws.proofs.MomentTurns.{Turn, current_rises, keeps, number_rises, raises, turn}
+use Rattle.moment_laws.proofs.MomentViews.{current_above, current_number, moment_less, number_in, stands_in_current}
+use Rattle.moment_laws.proofs.MomentWalk as walk
+use Rattle.moment_laws.proofs.MomentWalk.{after_moves}
+use Rattle.moment_laws.proofs.PartTaken.{IsTakenNow}
 use Rattle.epoch_laws.proofs.OrderKeeps.{commit_keeps, prepare_keeps}
 use Rattle.epoch_laws.proofs.StandMarks.{marks_by}
 use Rattle.epoch_laws.proofs.StandTakes.{Carries, carries, others_same, taken_true, taker_made}

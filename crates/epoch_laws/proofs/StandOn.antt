@@ -25,19 +25,20 @@ use Rattle.view_laws.specs.Runs.{view_after}
 use Rattle.view_laws.specs.Votes.{main_of}
 use Rattle.epoch_laws.specs.Alike.{EachFull}
 use Rattle.epoch_laws.specs.Masters.{Commits, IsRight, IsRightIn, IsSilent, Prepares}
-use Rattle.epoch_laws.specs.Members.{IsFirst, IsPresident, IsStanding, epochs_of, master_in, master_of, tc_of}
-use Rattle.epoch_laws.specs.Moments.{IsMoment, current, logs_of}
+use Rattle.epoch_laws.specs.Members.{IsFirst, IsPresident, IsStanding, epochs_of, master_in, master_of}
+use Rattle.moment_laws.specs.Places.{tc_of}
+use Rattle.moment_laws.specs.Moments.{IsMoment, current, logs_of}
 use Rattle.epoch_laws.specs.Stand.{AllStand}
 use Rattle.epoch_laws.specs.Told.{IsAllSilent, IsOrdered, IsTrue}
 use Rattle.epoch_laws.proofs.MasterMoves.{Moved, voice_of}
 use Rattle.epoch_laws.proofs.MasterMoves as moves
 use Rattle.epoch_laws.proofs.MasterRows.{master_goes}
 use Rattle.epoch_laws.proofs.MomentEvents.{MasterDoes, enters, enters_takes, installs, master_does, takes, unmoved}
-use Rattle.epoch_laws.proofs.MomentHosts.{host_made, main_low}
-use Rattle.epoch_laws.proofs.MomentMembers.{current_made}
-use Rattle.epoch_laws.proofs.MomentSignals.{EachSent, sent_below}
-use Rattle.epoch_laws.proofs.MomentTurns.{Turn, host_low, keeps, number_rises, other_log, raises, turn}
-use Rattle.epoch_laws.proofs.MomentViews.{current_above, moment_less, number_in}
+use Rattle.moment_laws.proofs.MomentHosts.{host_made, main_low}
+use Rattle.moment_laws.proofs.MomentMembers.{current_made}
+use Rattle.moment_laws.proofs.MomentSignals.{EachSent, sent_below}
+use Rattle.moment_laws.proofs.MomentTurns.{Turn, host_low, keeps, number_rises, other_log, raises, turn}
+use Rattle.moment_laws.proofs.MomentViews.{current_above, moment_less, number_in}
 use Rattle.epoch_laws.proofs.OrderMoves.{across_own, prepared_commit, prepared_prepare}
 use Rattle.epoch_laws.proofs.OrderOn.{master_on, member_on}
 use Rattle.epoch_laws.proofs.SignalsOn.{GoOn, true_on}

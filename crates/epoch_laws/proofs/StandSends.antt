@@ -1,5 +1,5 @@
 -- What an event sends is true behind it.
-use Rattle.std.proofs.Common.{◌≡◌, ◌≢◌, ◌≤◌, ◌<◌, ◌⊎◌, ◌==◌, ◌++◌, ℕ, Bool, true, false, cond, filter, List, [], ◌∷◌, refl, sym, ap, subst, ◌∙◌, inl, inr, arith, eq-eqb}
+use Rattle.std.proofs.Common.{◌≡◌, ◌≤◌, ◌<◌, ◌⊎◌, ◌==◌, ◌++◌, ℕ, Bool, true, false, cond, filter, List, [], ◌∷◌, refl, sym, ap, subst, ◌∙◌, inl, inr, arith, eq-eqb}
 use Rattle.std.proofs.lemmas.Bool.{cases_Bool, eqb-true, ltb-false, true≢false}
 use Rattle.std.specs.Prelude.{if◌then◌else◌, slice_get, Option, None, Some}
 use Rattle.frag_map.specs.Layout.{first_layout}
@@ -36,7 +36,7 @@ use Rattle.qmgr_block.specs.State.{QmgrState}
 use Rattle.world_core.specs.Hosts.{host_by, member_at, member_of}
 use Rattle.world_core.specs.Start.{Start, made}
 use Rattle.world_core.specs.Steps.{Addressed, HostStep}
-use Rattle.world_views.specs.Hosts.{known, reached, started}
+use Rattle.world_views.specs.Hosts.{reached, started}
 use Rattle.world_views.specs.Machine.{after, own_stop, signals_of, step_after, step_by, step_if, stops_by}
 use Rattle.view_laws.specs.HostEvents.{events_of, is_membership}
 use Rattle.view_laws.specs.Order.{is_sound}
@@ -52,8 +52,9 @@ use Rattle.view_laws.proofs.RunMade.{member_main, node_some}
 use Rattle.view_laws.proofs.SetRows.{same_is}
 use Rattle.epoch_laws.specs.Alike.{IsSound}
 use Rattle.epoch_laws.specs.Masters.{HasPrepared}
-use Rattle.epoch_laws.specs.Members.{IsFirst, IsPresident, IsStanding, dih_in, epochs_of, ldm_of, master_in, master_of, tc_of}
-use Rattle.epoch_laws.specs.Moments.{IsMoment, current, logs_of}
+use Rattle.epoch_laws.specs.Members.{IsFirst, IsPresident, IsStanding, dih_in, epochs_of, master_in, master_of}
+use Rattle.moment_laws.specs.Places.{ldm_of, tc_of}
+use Rattle.moment_laws.specs.Moments.{IsMoment, current, logs_of}
 use Rattle.epoch_laws.specs.Stand.{AllStand}
 use Rattle.epoch_laws.specs.Told.{IsTrue, IsTrueOf}
 use Rattle.epoch_laws.proofs.DihMoves.{Moves}
@@ -61,10 +62,11 @@ use Rattle.epoch_laws.proofs.DihSends.{IsTaken, TellsOf, taken_prepared}
 use Rattle.epoch_laws.proofs.MasterHears.{same_member-is, same_member-self}
 use Rattle.epoch_laws.proofs.MasterSends.{MaySay, master_says}
 use Rattle.epoch_laws.proofs.MasterSpeaks.{says_true}
-use Rattle.epoch_laws.proofs.MomentEvents.{IsTakenNow, fenced_is, order_told}
-use Rattle.epoch_laws.proofs.MomentHosts.{ldm_member, main_number, tc_member, tc_started}
-use Rattle.epoch_laws.proofs.MomentTurns.{host_low, own_behind, own_log, stands_behind, taker_stands}
-use Rattle.epoch_laws.proofs.MomentWalk.{not_barred}
+use Rattle.epoch_laws.proofs.MomentEvents.{fenced_is, order_told}
+use Rattle.moment_laws.proofs.MomentHosts.{ldm_member, main_number, tc_member, tc_started}
+use Rattle.moment_laws.proofs.MomentTurns.{host_low, own_behind, own_log, stands_behind, taker_stands}
+use Rattle.moment_laws.proofs.PartSteps.{not_barred}
+use Rattle.moment_laws.proofs.PartTaken.{IsTakenNow}
 use Rattle.epoch_laws.proofs.SentMembership.{IsOrdering, Orders, OrdersBy}
 use Rattle.epoch_laws.proofs.SentNone.{IsNoOrder, is_order}
 use Rattle.epoch_laws.proofs.SentParts.{rows_send, shell_sends_none}
@@ -106,7 +108,7 @@ passed_fresh s x stood fence (inl (newer, is)) fenced = sym (ap (λ (v : View). 
 passed_fresh s x stood fence (inr (older, is, clear)) fenced =
     let same : stood.number ≡ s.standing.view.number = ap (λ (v : View). v.number) is in
     let low = ltb-false s.standing.view.number x.view.number older in
-    let above = not_barred x s clear fenced in
+    let above = not_barred s x clear fenced in
     omega (arith, same, low, fence, above)
 
 -- a member is the first of a list, or not

@@ -1,5 +1,5 @@
 -- All stands at the beginning.
-use Rattle.std.proofs.Common.{◌≡◌, ◌≤◌, ◌<◌, ◌⊎◌, ◌-◌, ℕ, suc, Bool, true, false, List, [], ◌∷◌, refl, sym, ap, subst, ◌∙◌, inl, inr, arith}
+use Rattle.std.proofs.Common.{◌≡◌, ◌≤◌, ◌<◌, ◌⊎◌, ℕ, suc, Bool, true, false, List, [], ◌∷◌, refl, sym, ap, subst, ◌∙◌, inl, inr, arith}
 use Rattle.std.specs.Prelude.{slice_get}
 use Rattle.frag_map.specs.Layout.{first_layout}
 use Rattle.run_theory.proofs.Pasts.{each_from}
@@ -21,12 +21,12 @@ use Rattle.view_laws.proofs.RunStep.{started_view}
 use Rattle.epoch_laws.specs.Alike.{AreAlike, IsSound, Rests, Waits}
 use Rattle.epoch_laws.specs.Masters.{IsRight, IsRightIn}
 use Rattle.epoch_laws.specs.Members.{IsFirst, IsPresident, dih_in, epochs_of, master_in, master_of}
-use Rattle.epoch_laws.specs.Moments.{IsMoment, current, logs_of}
+use Rattle.moment_laws.specs.Moments.{IsMoment, current, logs_of}
 use Rattle.epoch_laws.specs.Stand.{AllStand}
 use Rattle.epoch_laws.proofs.MasterHears.{same_member-is}
-use Rattle.epoch_laws.proofs.MomentHosts.{tc_started}
-use Rattle.epoch_laws.proofs.MomentMembers.{current_made}
-use Rattle.epoch_laws.proofs.MomentViews.{IsViewOf, current_is}
+use Rattle.moment_laws.proofs.MomentHosts.{tc_started}
+use Rattle.moment_laws.proofs.MomentMembers.{current_made}
+use Rattle.moment_laws.proofs.MomentViews.{IsViewOf, current_is}
 
 -- a life starts from an epoch before its first one
 before_less : (epoch : ℕ) → 1 ≤ epoch → epoch_before epoch < epoch

@@ -18,16 +18,18 @@ use Rattle.world_core.specs.Steps.{Addressed, HostStep}
 use Rattle.world_views.specs.Machine.{after}
 use Rattle.epoch_laws.specs.Alike.{IsSound}
 use Rattle.epoch_laws.specs.Masters.{Commits, Prepares}
-use Rattle.epoch_laws.specs.Members.{dih_in, epochs_of, tc_of}
-use Rattle.epoch_laws.specs.Moments.{IsMoment, current, logs_of}
+use Rattle.epoch_laws.specs.Members.{dih_in, epochs_of}
+use Rattle.moment_laws.specs.Places.{tc_of}
+use Rattle.moment_laws.specs.Moments.{IsMoment, current, logs_of}
 use Rattle.epoch_laws.specs.Stand.{AllStand}
 use Rattle.epoch_laws.specs.Told.{IsOrdered, IsTrueOf}
 use Rattle.epoch_laws.proofs.DihMoves.{IsAt, Moves, Stays}
 use Rattle.epoch_laws.proofs.DihRows.{Rises}
-use Rattle.epoch_laws.proofs.MomentEvents.{EpochsDo, IsTakenNow, epochs_do, fenced_is, leave, order_told, take}
-use Rattle.epoch_laws.proofs.MomentHosts.{host_made, part_some, tc_member}
-use Rattle.epoch_laws.proofs.MomentMembers.{current_host}
-use Rattle.epoch_laws.proofs.MomentTurns.{host_low, other_log, own_behind}
+use Rattle.epoch_laws.proofs.MomentEvents.{EpochsDo, epochs_do, fenced_is, leave, order_told, take}
+use Rattle.moment_laws.proofs.MomentHosts.{host_made, part_some, tc_member}
+use Rattle.moment_laws.proofs.MomentMembers.{current_host}
+use Rattle.moment_laws.proofs.MomentTurns.{host_low, other_log, own_behind}
+use Rattle.moment_laws.proofs.PartTaken.{IsTakenNow}
 
 module _ (start : Start) (all : ℕ → List HostStep) (e : HostStep) (es : List HostStep)
     (moment : IsMoment start all (e ∷ es)) (stand : AllStand start (logs_of start es))

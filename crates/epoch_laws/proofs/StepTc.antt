@@ -27,11 +27,10 @@ use Rattle.epoch_laws.specs.Alike.{IsSound}
 use Rattle.epoch_laws.proofs.DihMoves.{IsAt, Moves, Stays, dih_installs_stay, dih_moves, rests}
 use Rattle.epoch_laws.proofs.DihRows.{Rises, dih_installs_sound, dih_sound}
 use Rattle.epoch_laws.proofs.DihSends.{TellsOf, dih_tells}
-use Rattle.epoch_laws.proofs.SentCoordinator.{coordinator_none}
+use Rattle.epoch_laws.proofs.SentKinds.{coordinator_none, takeover_none}
 use Rattle.epoch_laws.proofs.SentNone.{AreNoOrders, IsNoOrder, is_order}
 use Rattle.epoch_laws.proofs.SentParts.{entered_none}
-use Rattle.epoch_laws.proofs.SentTakeover.{takeover_none}
-use Rattle.epoch_laws.proofs.StepWalk.{IsTaken, IsWalked, Saying, next_comes}
+use Rattle.moment_laws.proofs.StepWalk.{IsTaken, IsWalked, Saying, next_comes}
 
 -- The blocks of a host take the signal, where it stands in this view behind it: the signal's own, which is greater, or the
 -- one before, where the signal isn't below their fence.

@@ -10,7 +10,7 @@ use Rattle.dih_node.specs.State.{DihState}
 use Rattle.world_core.specs.Start.{Start, made}
 use Rattle.world_core.specs.Steps.{HostStep}
 use Rattle.epoch_laws.specs.Members.{epochs_of}
-use Rattle.epoch_laws.specs.Moments.{current}
+use Rattle.moment_laws.specs.Moments.{current}
 
 -- an order whose end is to be reported is of an epoch that isn't given any more
 abbrev pub IsPast : Option Report → ℕ → Type 0

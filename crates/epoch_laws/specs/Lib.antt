@@ -1,4 +1,3 @@
-pub mod Moments
 pub mod Members
 pub mod Alike
 pub mod Masters

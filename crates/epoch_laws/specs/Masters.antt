@@ -13,8 +13,9 @@ use Rattle.dih_node.specs.State.{DihState}
 use Rattle.world_core.specs.Start.{Start}
 use Rattle.world_core.specs.Steps.{HostStep}
 use Rattle.epoch_laws.specs.Alike.{EachFull, IsAcross, Rests, Waits}
-use Rattle.epoch_laws.specs.Members.{epochs_of, ldm_of, tc_of}
-use Rattle.epoch_laws.specs.Moments.{current}
+use Rattle.epoch_laws.specs.Members.{epochs_of}
+use Rattle.moment_laws.specs.Places.{ldm_of, tc_of}
+use Rattle.moment_laws.specs.Moments.{current}
 
 -- the master has ordered nothing in its view
 abbrev pub IsSilent : Phase → Type 0

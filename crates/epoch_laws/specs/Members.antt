@@ -2,27 +2,19 @@
 use Rattle.std.specs.Prelude.{◌≡◌, ℕ, List, [], ◌∷◌}
 use Rattle.frag_map.specs.Layout.{first_layout}
 use Rattle.sig_core.specs.declared.member.Member.{Member}
-use Rattle.sig_core.specs.declared.place.Part.TheVariants.{Ldm, Tc}
 use Rattle.dih_node.specs.Dih.{fresh_dih}
 use Rattle.dih_node.specs.State.{DihState}
 use Rattle.gcp_master.specs.Master.{fresh_master}
 use Rattle.gcp_master.specs.State.{MasterState}
 use Rattle.node_views.specs.declared.parts.Parts.{Parts}
 use Rattle.node_views.specs.declared.parts.Parts.TheVariants as part
-use Rattle.world_core.specs.Hosts.{host_of}
-use Rattle.world_core.specs.Start.{Start, made}
+use Rattle.world_core.specs.Start.{Start}
 use Rattle.world_core.specs.Steps.{HostStep}
 use Rattle.world_views.specs.Machine.{after}
 use Rattle.view_laws.specs.Runs.{view_after}
 use Rattle.view_laws.specs.Votes.{main_of}
-use Rattle.epoch_laws.specs.Moments.{current}
-
--- the hosts of a member's coordinator and epochs, and of its rows
-abbrev pub tc_of : Start → Member → ℕ
-tc_of start member = host_of (made start) Tc member
-
-abbrev pub ldm_of : Start → Member → ℕ
-ldm_of start member = host_of (made start) Ldm member
+use Rattle.moment_laws.specs.Moments.{current}
+use Rattle.moment_laws.specs.Places.{tc_of}
 
 -- the epochs that a host runs, and its master; of a host that runs none, these
 abbrev pub dih_in : DihState → Parts → DihState

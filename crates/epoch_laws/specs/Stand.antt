@@ -10,7 +10,7 @@ use Rattle.view_laws.specs.Order.{sound_machine}
 use Rattle.epoch_laws.specs.Alike.{AreAlike, IsSound}
 use Rattle.epoch_laws.specs.Masters.{IsRight}
 use Rattle.epoch_laws.specs.Members.{IsPresident, IsStanding, epochs_of, master_of}
-use Rattle.epoch_laws.specs.Moments.{IsMoment, logs_of}
+use Rattle.moment_laws.specs.Moments.{IsMoment, logs_of}
 use Rattle.epoch_laws.specs.Told.{IsTrue}
 
 pub record AllStand (start : Start) (logs : ℕ → List HostStep) : Type 0 where

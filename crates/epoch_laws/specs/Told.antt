@@ -1,6 +1,5 @@
 -- What signals of the current view tell of epochs.
 use Rattle.std.specs.Prelude.{◌≡◌, ◌≤◌, ◌<◌, ◌⊎◌, ℕ, List}
-use Rattle.run_theory.specs.Lists.{Each}
 use Rattle.sig_core.specs.declared.member.Member.{Member}
 use Rattle.sig_core.specs.declared.signal.Body.{Body}
 use Rattle.sig_core.specs.declared.signal.Body.TheVariants.{Epoch}
@@ -13,8 +12,9 @@ use Rattle.world_core.specs.Steps.{Addressed, HostStep}
 use Rattle.view_laws.specs.Votes.{main_of}
 use Rattle.epoch_laws.specs.Alike.{EachFull}
 use Rattle.epoch_laws.specs.Masters.{Commits, HasPrepared, IsSilent, Prepares}
-use Rattle.epoch_laws.specs.Members.{IsPresident, IsStanding, epochs_of, ldm_of, master_of, tc_of}
-use Rattle.epoch_laws.specs.Moments.{current}
+use Rattle.epoch_laws.specs.Members.{IsPresident, IsStanding, epochs_of, master_of}
+use Rattle.moment_laws.specs.Places.{ldm_of, tc_of}
+use Rattle.moment_laws.specs.Moments.{current}
 
 module _ (start : Start) (logs : ℕ → List HostStep) where
   -- The president ordered this in the current view: the order is under way, or each member is beyond it.

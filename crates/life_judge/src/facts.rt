@@ -45,7 +45,8 @@ impl Facts {
             if !cut.has(log.host.0, step.stamp) {
                 return Ok(());
             }
-            view = self.views.install(view, step)?;
+            self.views.add_header(step.taken.get().view.get())?;
+            view = self.views.install(log, view, step)?;
             let moment = Moment {
                 host: log.host.0,
                 view,

@@ -40,6 +40,12 @@ pub enum Law {
     NothingOwed,
     /// Where nothing was cut, in the end no live node holds a record of a transaction that was reported.
     NothingLeft,
+    /// A host of a node stands in views that have a member of that node.
+    HostsAreOfTheirViews,
+    /// A view with a greater number is a part of one with a lesser.
+    ViewsShrink,
+    /// The view in the header of a signal that was taken was installed by some host.
+    HeadersAreInstalled,
     /// A view has a full member in each group.
     ViewsAreViable,
     /// A view was promised by all its members before it was installed.
@@ -79,6 +85,9 @@ impl Law {
             Law::PromisesGrow => "a promise has no greater number",
             Law::NothingOwed => "a request is not answered",
             Law::NothingLeft => "a record is left of a transaction that has ended",
+            Law::HostsAreOfTheirViews => "a host stands in a view without its node",
+            Law::ViewsShrink => "a view has a member that an earlier one lacks",
+            Law::HeadersAreInstalled => "a header has a view that nobody installed",
             Law::ViewsAreViable => "a view has no full member of a group",
             Law::ViewsArePromised => "a view was not promised by a member",
             Law::PromisesAreKept => "a promise was not kept",

@@ -3,9 +3,9 @@ ghost use Rattle.frag_map.specs.Shape.{IsShape};
 
 use crate::law::{Fault, Law};
 use crate::moment::Moment;
-use frag_map::lost_group;
+use frag_map::{first_view, lost_group};
 use indexmap::IndexMap;
-use sig_core::{LogStep, Mark, Member, Shape, View};
+use sig_core::{HostLog, LogStep, Mark, Member, Shape, View};
 use std::alloc::Global;
 
 /// How many hosts a node has.
@@ -29,6 +29,8 @@ pub struct Views {
     installed: IndexMap<u64, View>,
     /// The least stamp of a step that installed the view of a number.
     first: IndexMap<u64, u64>,
+    /// The views in headers of signals that were taken, by their numbers.
+    headers: IndexMap<u64, View>,
     promises: Vec<Promise>,
     /// When transactions were decided, and rows applied.
     deeds: Vec<Moment>,
@@ -40,20 +42,24 @@ impl Views {
         Views {
             installed: IndexMap::new(alloc),
             first: IndexMap::new(alloc),
+            headers: IndexMap::new(alloc),
             promises: Vec::new(alloc),
             deeds: Vec::new(alloc),
         }
     }
 
-    /// The views that a step installs at its host, which had the view of this number. Gives the number
-    /// of the last of them.
+    /// The views that a step of this log installs at its host, which had the view of this number. Gives
+    /// the number of the last of them.
     ///
     /// # Errors
-    /// `ViewsGrow` or `OneViewANumber`, where it is broken, or `NoMemory`.
-    pub fn install(&mut self, before: u64, step: &LogStep) -> Result<u64, Fault> {
+    /// `ViewsGrow`, `OneViewANumber` or `HostsAreOfTheirViews`, where it is broken, or `NoMemory`.
+    pub fn install(&mut self, log: &HostLog, before: u64, step: &LogStep) -> Result<u64, Fault> {
         let mut number = before;
         for mark in step.marks.as_slice() {
             if let Mark::Installed { view } = mark {
+                if !may_stand(log, view.get()) {
+                    return Err(Fault::Broken(Law::HostsAreOfTheirViews));
+                }
                 number = self.add_view(number, step.stamp, view.get())?;
             }
         }
@@ -71,6 +77,21 @@ impl Views {
         let first = self.first_of(view.number).min(stamp);
         self.first.insert(view.number, first)?;
         Ok(view.number)
+    }
+
+    /// The view in the header of a signal that was taken. Where another header has another view of the
+    /// number, one of them wasn't installed.
+    ///
+    /// # Errors
+    /// `HeadersAreInstalled`, where it is broken, or `NoMemory`.
+    pub fn add_header(&mut self, view: &View) -> Result<(), Fault> {
+        match self.headers.get(&view.number) {
+            Some(other) if is_same(other, view) => return Ok(()),
+            Some(_) => return Err(Fault::Broken(Law::HeadersAreInstalled)),
+            None => {}
+        }
+        self.headers.insert(view.number, *view)?;
+        Ok(())
     }
 
     // The least stamp so far of a step that installed the view of this number.
@@ -158,9 +179,47 @@ impl Views {
         false
     }
 
+    // Whether a host stood in a view: all of them in the first one, and in others where one installed it.
+    fn is_installed(&self, first: &View, view: &View) -> bool {
+        if view.number == FIRST_VIEW {
+            return is_same(first, view);
+        }
+        match self.installed.get(&view.number) {
+            Some(other) => is_same(other, view),
+            None => false,
+        }
+    }
+
+    fn are_installed(&self, first: &View) -> bool {
+        for at in 0..self.headers.len() {
+            if let Some((_, view)) = self.headers.get_index(at)
+                && !self.is_installed(first, view)
+            {
+                return false;
+            }
+        }
+        true
+    }
+
+    // Whether a view is a part of the installed ones with lesser numbers.
+    fn is_part_of_all(&self, view: &View) -> bool {
+        for at in 0..self.installed.len() {
+            if let Some((_, before)) = self.installed.get_index(at)
+                && before.number < view.number
+                && !is_part(before, view)
+            {
+                return false;
+            }
+        }
+        true
+    }
+
     fn judge_view(&self, shape: &Shape, number: u64, view: &View) -> Result<(), Fault>
         requires { IsShape shape.now }
     {
+        if !is_part(&first_view(shape.nodes), view) || !self.is_part_of_all(view) {
+            return Err(Fault::Broken(Law::ViewsShrink));
+        }
         if lost_group(view, shape).is_some() {
             return Err(Fault::Broken(Law::ViewsAreViable));
         }
@@ -173,8 +232,9 @@ impl Views {
     }
 }
 
-/// Judges the views of a cut: each has a full member in each group and was promised by all its members
-/// before it was installed, and nobody decides or applies anything in a lesser view than its node promised.
+/// Judges the views of a cut: each is a part of those before it, has a full member in each group and was
+/// promised by all its members before it was installed. The view of each header is installed, and nobody
+/// decides or applies anything in a lesser view than its node promised.
 ///
 /// # Errors
 /// The first of these laws that is broken.
@@ -185,6 +245,9 @@ pub fn judge_views(views: &Views, shape: &Shape) -> Result<(), Fault>
         if let Some((number, view)) = views.installed.get_index(at) {
             views.judge_view(shape, *number, view)?;
         }
+    }
+    if !views.are_installed(&first_view(shape.nodes)) {
+        return Err(Fault::Broken(Law::HeadersAreInstalled));
     }
     for moment in views.deeds.as_slice() {
         if views.is_fenced(moment) {
@@ -224,4 +287,38 @@ fn are_same(one: &[Member], other: &[Member]) -> bool {
         }
     }
     true
+}
+
+// Whether a host may stand in a view, which has its member. The shell's has none, and one that was made
+// later may not have joined.
+fn may_stand(log: &HostLog, view: &View) -> bool {
+    let node = node_of(log.host.0);
+    node == 0
+        || log.made > 0
+        || is_among(node, view.full.as_slice())
+        || is_among(node, view.starting.as_slice())
+}
+
+// Whether a view is a part of another one: nobody joins.
+fn is_part(before: &View, view: &View) -> bool {
+    are_in(view.full.as_slice(), before.full.as_slice())
+        && are_in(view.starting.as_slice(), before.starting.as_slice())
+}
+
+fn are_in(some: &[Member], members: &[Member]) -> bool {
+    for member in some {
+        if !is_in(member, members) {
+            return false;
+        }
+    }
+    true
+}
+
+fn is_in(one: &Member, members: &[Member]) -> bool {
+    for member in members {
+        if member.node == one.node && member.start == one.start {
+            return true;
+        }
+    }
+    false
 }

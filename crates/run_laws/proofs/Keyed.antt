@@ -28,14 +28,14 @@ use Rattle.run_laws.specs.Transit.{logs_of}
 use Rattle.run_laws.proofs.TouchedLists.{touch_apart, touch_more, touch_own, touch_written, undone_written, write_apart, write_touched, write_written}
 
 -- of what is sent nothing is said
-abbrev AnySend : Outgoing → Type 0
+abbrev pub AnySend : Outgoing → Type 0
 AnySend o = Unit {0}
 
-any_sends : (sends : List Outgoing) → Each AnySend sends
+pub any_sends : (sends : List Outgoing) → Each AnySend sends
 any_sends [] = tt
 any_sends (o ∷ sends) = (tt, any_sends sends)
 
-operated_keyed : (t : Transaction) (op : Op) (layout : Layout) (tx : TxId) → IsTouchedRightly t → IsTouchedRightly (operating tx t op (chain_of layout (key_of op))).state
+pub operated_keyed : (t : Transaction) (op : Op) (layout : Layout) (tx : TxId) → IsTouchedRightly t → IsTouchedRightly (operating tx t op (chain_of layout (key_of op))).state
 operated_keyed t op layout tx fine = record {
   apart = touch_apart t.touched (key_of op) (chain_of layout (key_of op)) fine.apart;
   answered = each_map (λ (o : Op × Answer). HasTouched t.touched (key_of o.0)) _ t.ops (λ o has. touch_more t.touched (key_of op) (key_of o.0) (chain_of layout (key_of op)) has) fine.answered;
@@ -67,7 +67,7 @@ answered_keyed t asked answer.Missing on fine = undone_keyed t asked answer.Miss
 answered_keyed t asked answer.E626 on fine = undone_keyed t asked answer.E626 refl on fine
 answered_keyed t asked answer.E630 on fine = undone_keyed t asked answer.E630 refl on fine
 
-turns_keyed : (layout : Layout) → TurnsKeep (λ t. IsTouchedRightly t) AnySend layout
+pub turns_keyed : (layout : Layout) → TurnsKeep (λ t. IsTouchedRightly t) AnySend layout
 turns_keyed layout = record {
   phase = λ t phase fine. record { apart = fine.apart; answered = fine.answered; asked = fine.asked; written = fine.written };
   unasked = λ t fine. record { apart = fine.apart; answered = fine.answered; asked = tt; written = fine.written };

@@ -38,6 +38,7 @@ use Rattle.sig_core.specs.declared.log.HostLog.{HostLog}
 use Rattle.sig_core.specs.declared.log.Life.{Life}
 use Rattle.sig_core.specs.declared.reply.ApiReply.{ApiReply}
 use Rattle.sig_core.specs.declared.view.Shape.{Shape}
+use Rattle.report_laws.proofs.Growing.{histories_grow}
 use Rattle.shell_top.specs.Calm.{IsCalmServed, replied}
 use Rattle.shell_top.specs.declared.ended.Ending.{Ending}
 use Rattle.shell_top.specs.declared.ended.Ending.TheVariants as ending
@@ -214,6 +215,7 @@ is_life shape sound e commands logs lived =
       run = merged_run (machine (fresh shape)) (is_stamped (fresh shape)) (hosts (fresh shape)) (logs_at logs) lived.within lived.right;
       safe = λ inside cut closed.
           cuts_are_safe (fresh shape) inside (logs_at logs) (omega arith) sound lived.within lived.right cut closed;
+      grows = λ small large inside cut. histories_grow (fresh shape) small large inside;
       calm = λ calm.
           calmly_served (fresh shape) (logs_at logs)
           (record { shape = sound; rows = refl; within = lived.within; right = lived.right; calm = calm }) e

@@ -65,7 +65,7 @@ module _ (start : Start) (logs : ℕ → List HostStep) where
       (me : Member) → IsIn me (made start) → (at : BlockId) → to ≡ host_of (made start) (part_of at) me → (set : View)
       → x.body ≡ Membership (FenceReq set) → HasAsked me set
 
-  abbrev IsPromisedAt : Addressed → Type 0
+  abbrev pub IsPromisedAt : Addressed → Type 0
   IsPromisedAt y = IsPromisedTo y.to y.signal
 
   module _ (k : ℕ) (log : List HostStep) (e : HostStep) (past : IsPast (e ∷ log) (logs k)) where
@@ -102,7 +102,7 @@ module _ (start : Start) (logs : ℕ → List HostStep) where
     from_part y sent body part me there at is set says =
         absurd (cc (says, body, ap (λ (s : Outgoing). s.body) part.is))
 
-    each_promised : k < hosts start → Each IsPromisedAt (signals_of start k log e)
+    pub each_promised : k < hosts start → Each IsPromisedAt (signals_of start k log e)
     each_promised low =
         each_map _ _ (signals_of start k log e)
         (λ y one. by y one.sent one.body one.to

@@ -17,26 +17,26 @@ pub mod EraSorted
 pub mod EraSound
 mod EraTurns
 mod EraWalk
-mod EventLemmas
-mod FenceAnswers
+pub mod EventLemmas
+pub mod FenceAnswers
 mod FenceAsked
 mod FenceCounts
-mod FenceFrom
+pub mod FenceFrom
 pub mod FenceHosts
 mod FenceLines
-mod FenceLinks
+pub mod FenceLinks
 mod FenceNodes
 mod FenceOrder
-mod FencePromised
+pub mod FencePromised
 mod FenceRaised
 mod FenceRanks
 pub mod FenceRows
 mod FenceRuns
 mod FenceSeen
 mod FenceSent
-mod FenceTaken
-mod FenceThere
-mod FenceViewed
+pub mod FenceTaken
+pub mod FenceThere
+pub mod FenceViewed
 pub mod FenceViews
 mod FenceWaits
 mod FencedLemmas
@@ -49,9 +49,9 @@ mod FollowSeen
 pub mod FollowSends
 mod FollowSteps
 mod FollowTaken
-mod FollowViews
+pub mod FollowViews
 mod FollowWalk
-mod Following
+pub mod Following
 mod GrantLemmas
 mod GrantRows
 mod GroupLemmas
@@ -59,16 +59,22 @@ mod HeardAnswers
 mod HeardAsking
 mod HeardRows
 mod HeardWaiting
+pub mod KindsApi
+pub mod KindsClient
+pub mod KindsCoordinator
+pub mod KindsSent
+pub mod KindsTakeover
+pub mod KindsTurns
 mod MadeLemmas
 mod Origins
-mod PromiseLemmas
+pub mod PromiseLemmas
 mod PromiseRows
 pub mod ProposalLemmas
 mod Rooms
 mod RowLemmas
 mod RunGrants
 pub mod RunGrowth
-mod RunHeaders
+pub mod RunHeaders
 mod RunJoins
 pub mod RunKept
 pub mod RunMade
@@ -83,26 +89,22 @@ mod Searching
 pub mod SetLemmas
 pub mod SetRows
 mod Sharing
-mod Shrink
+pub mod Shrink
 mod StandingHome
 pub mod StandingMembers
 mod StandingNumbers
 mod StandingSettled
-mod StepLemmas
-mod VotesApi
-mod VotesClient
-mod VotesCoordinator
+pub mod StepLemmas
 mod VotesEpochs
+mod VotesKinds
 mod VotesLists
 mod VotesMain
 mod VotesMaster
-mod VotesNone
+pub mod VotesNone
 mod VotesOthers
 mod VotesParts
 mod VotesRows
 mod VotesShell
-mod VotesTakeover
-mod VotesTurns
 mod VotesWalk
 mod Walk
 mod WalkLemmas

@@ -37,12 +37,12 @@ module _ (start : Start) where
   stood logs h low log past = record { host = h; there = low; log = log; past = past; is = refl }
 
   -- so it is with what was taken in logs of the hosts that there are, and with each signal on its way
-  abbrev AreInstalled : (ℕ → List HostStep) → Type 0
+  abbrev pub AreInstalled : (ℕ → List HostStep) → Type 0
   AreInstalled logs =
       IsWithin (hosts start) logs → (h : ℕ)
       → Each (λ (e : HostStep). WasInstalled start logs e.step.taken.view) (logs h)
 
-  abbrev HasInstalled : Addressed → (ℕ → List HostStep) → Type 0
+  abbrev pub HasInstalled : Addressed → (ℕ → List HostStep) → Type 0
   HasInstalled x logs = IsWithin (hosts start) logs → WasInstalled start logs x.signal.view
 
   module _ (es : List HostStep) (e : HostStep) (come : Comes (machine start) HasInstalled AreInstalled es e)
@@ -54,7 +54,7 @@ module _ (start : Start) where
       abbrev new : ℕ → List HostStep
       new = log_of (machine start) (e ∷ es)
 
-      old_taken : WasInstalled start old e.step.taken.view
+      pub old_taken : WasInstalled start old e.step.taken.view
       old_taken = by (is_asked e.host e.step.taken) refl come.happens.step.fits.comes
         where
           by : (asked : Bool) → is_asked e.host e.step.taken ≡ asked
@@ -83,7 +83,7 @@ module _ (start : Start) where
           (subst (IsPast (e ∷ old e.host)) (sym (log_of-own (machine start) e es e.host refl))
           (past_self (e ∷ old e.host)))
 
-  kept : IsKept (machine start) HasInstalled AreInstalled
+  pub kept : IsKept (machine start) HasInstalled AreInstalled
   kept = record {
     start = λ within h. tt;
     step = λ es e come within. each_now es e come within;

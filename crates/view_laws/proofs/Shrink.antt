@@ -36,7 +36,7 @@ stable_part : (before set : View) → ((IsPart before set → ⊥) → ⊥) → 
 stable_part before set must = ⊎_elim (λ part. part) (λ isnt. absurd (must isnt)) (decide_part before set)
 
 -- a change is one that shrinks where nobody is starting before nor after
-change_shrinks : (before set : View) (change : Change) → before.starting ≡ [] → set.starting ≡ []
+pub change_shrinks : (before set : View) (change : Change) → before.starting ≡ [] → set.starting ≡ []
     → IsMadeOf before change set → IsPart before set
 change_shrinks before set shrinks none none_too made = made
 change_shrinks before set (joins member) none none_too made = record {

@@ -24,7 +24,7 @@ use Rattle.world_views.specs.Machine.{after, step_after}
 use Rattle.view_laws.specs.Grants.{arbiter_of}
 use Rattle.view_laws.specs.HostEvents.{events_at, events_of, is_arbiter, taken_in, taking}
 use Rattle.view_laws.specs.Votes.{ArbitersFollowTheirSignals, ArbitersVote, IsSentByArbiter, arbiter_in}
-use Rattle.view_laws.proofs.VotesClient.{client_none}
+use Rattle.view_laws.proofs.VotesKinds.{client_none}
 use Rattle.view_laws.proofs.VotesNone.{IsNoVote, is_told, vote_told}
 use Rattle.view_laws.proofs.VotesWalk.{IsSaid, Saying, behind_view, step_said}
 

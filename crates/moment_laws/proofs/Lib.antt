@@ -1,0 +1,14 @@
+pub mod MarkWalk
+pub mod MomentHosts
+pub mod MomentMembers
+pub mod MomentRuns
+pub mod MomentSignals
+pub mod MomentTurns
+pub mod MomentViews
+pub mod MomentWalk
+pub mod PartKinds
+pub mod PartSent
+pub mod PartSteps
+pub mod PartTaken
+pub mod SentWalk
+pub mod StepWalk

@@ -1,0 +1,133 @@
+-- The current view of logs: no host stands in a greater one, and a host stands in it, or it is the first.
+use Rattle.std.proofs.Common.{◌≡◌, ◌≤◌, ◌<◌, ◌⊎◌, ℕ, zero, suc, List, [], ◌∷◌, refl, sym, subst, inl, inr, arith, eq-or-lt_of_le, le_of_suc-le-suc}
+use Rattle.frag_map.specs.Layout.{first_layout}
+use Rattle.frag_map.specs.Shape.{IsShape}
+use Rattle.run_theory.proofs.Along.{within_cut}
+use Rattle.run_theory.proofs.Pasts.{past_nil, past_trans}
+use Rattle.run_theory.proofs.Runs.{log_of-past}
+use Rattle.run_theory.specs.Cuts.{IsCut}
+use Rattle.run_theory.specs.Runs.{IsWithin}
+use Rattle.sig_core.specs.declared.view.View.{View}
+use Rattle.world_core.specs.Hosts.{hosts}
+use Rattle.world_core.specs.Start.{Start}
+use Rattle.world_core.specs.Steps.{HostStep}
+use Rattle.world_views.proofs.SentFacts.{is_stamped}
+use Rattle.world_views.specs.Machine.{machine}
+use Rattle.view_laws.specs.Runs.{WasInstalled, view_after}
+use Rattle.view_laws.proofs.EraCausal.{greater_own, greater_taken}
+use Rattle.view_laws.proofs.RunKept.{have_orderly}
+use Rattle.view_laws.proofs.RunStep.{started_view}
+use Rattle.view_laws.proofs.RunViews.{of_greater, one_view}
+use Rattle.moment_laws.specs.Moments.{IsMoment, current, greatest_of, logs_of}
+
+module _ (start : Start) where
+  -- the number of the view in which a host stands
+  abbrev pub number_in : (ℕ → List HostStep) → ℕ → ℕ
+  number_in logs h = (view_after start h (logs h)).number
+
+  abbrev pub current_number : (ℕ → List HostStep) → ℕ
+  current_number logs = (current start logs).number
+
+  module _ (logs : ℕ → List HostStep) where
+    abbrev greatest : ℕ → View
+    greatest n = greatest_of start n logs
+
+    greatest_above : (n h : ℕ) → h < n → number_in logs h ≤ (greatest n).number
+    greatest_above zero h below = absurd (omega (arith, below))
+    greatest_above (suc n) h below = by (greatest_above n h) (eq-or-lt_of_le (le_of_suc-le-suc below))
+      where
+        by : (h < n → number_in logs h ≤ (greatest n).number) → (h ≡ n) ⊎ (h < n)
+            → number_in logs h ≤ (greatest (suc n)).number
+        by before (inl at) =
+            subst (λ (k : ℕ). number_in logs k ≤ (greatest (suc n)).number) (sym at)
+            (greater_taken (greatest n) (view_after start n (logs n)))
+        by before (inr less) =
+            let up = greater_own (greatest n) (view_after start n (logs n)) in
+            let old = before less in
+            omega (arith, up, old)
+
+    greatest_first : (n : ℕ) → (first_layout start.shape).view.number ≤ (greatest n).number
+    greatest_first zero = omega arith
+    greatest_first (suc n) =
+        let up = greater_own (greatest n) (view_after start n (logs n)) in
+        let old = greatest_first n in
+        omega (arith, up, old)
+
+    -- a host below n stands in the view
+    pub record IsViewOf (n : ℕ) (view : View) : Type 0 where
+      pub host : ℕ
+      pub below : host < n
+      pub is : view ≡ view_after start host (logs host)
+
+    abbrev pub IsSome : ℕ → View → Type 0
+    IsSome n view = (view ≡ (first_layout start.shape).view) ⊎ IsViewOf n view
+
+    some_more : (n : ℕ) (view : View) → IsSome n view → IsSome (suc n) view
+    some_more n view (inl first) = inl first
+    some_more n view (inr one) =
+        let low = one.below in
+        inr (record { host = one.host; below = omega (arith, low); is = one.is })
+
+    greatest_is : (n : ℕ) → IsSome n (greatest n)
+    greatest_is zero = inl refl
+    greatest_is (suc n) =
+        of_greater (IsSome (suc n)) (greatest n) (view_after start n (logs n)) (some_more n (greatest n) (greatest_is n))
+        (inr (record { host = n; below = omega arith; is = refl }))
+
+    pub current_above : (h : ℕ) → h < hosts start → number_in logs h ≤ current_number logs
+    current_above h low = greatest_above (hosts start) h low
+
+    pub first_below : (first_layout start.shape).view.number ≤ current_number logs
+    first_below = greatest_first (hosts start)
+
+    pub current_is : IsSome (hosts start) (current start logs)
+    current_is = greatest_is (hosts start)
+
+    -- it was installed in all logs of which these are a part
+    module _ (shape : IsShape start.shape) (all : ℕ → List HostStep) (inside : IsCut logs all) where
+      pub view_installed : (h : ℕ) → h < hosts start → WasInstalled start all (view_after start h (logs h))
+      view_installed h low = record { host = h; there = low; log = logs h; past = inside h; is = refl }
+
+      first_installed : WasInstalled start all (first_layout start.shape).view
+      first_installed = record {
+        host = 0;
+        there = omega arith;
+        log = [];
+        past = past_nil (all 0);
+        is = sym (started_view start shape 0);
+      }
+
+      pub current_installed : WasInstalled start all (current start logs)
+      current_installed = by (current start logs) current_is
+        where
+          by : (view : View) → IsSome (hosts start) view → WasInstalled start all view
+          by view (inl first) = subst (WasInstalled start all) (sym first) first_installed
+          by view (inr one) = subst (WasInstalled start all) (sym one.is) (view_installed one.host one.below)
+
+-- one event less is a moment too
+pub moment_less : (start : Start) (all : ℕ → List HostStep) (e : HostStep) (es : List HostStep)
+    → IsMoment start all (e ∷ es) → IsMoment start all es
+moment_less start all e es moment = record {
+  cluster = moment.cluster;
+  run = moment.run.0;
+  inside = λ h. past_trans (log_of-past (machine start) e es h) (moment.inside h);
+  ordered = moment.ordered.1;
+}
+
+module _ (start : Start) (all : ℕ → List HostStep) (es : List HostStep) (moment : IsMoment start all es) where
+  pub moment_within : IsWithin (hosts start) (logs_of start es)
+  moment_within =
+      within_cut (machine start) (is_stamped start) (hosts start) (logs_of start es) all moment.cluster.within
+      moment.inside
+
+  pub moment_installed : WasInstalled start all (current start (logs_of start es))
+  moment_installed = current_installed start (logs_of start es) moment.cluster.shape all moment.inside
+
+  -- it is the view of each host of this number
+  pub stands_in_current : (h : ℕ) → h < hosts start
+      → number_in start (logs_of start es) h ≡ current_number start (logs_of start es)
+      → view_after start h (logs_of start es h) ≡ current start (logs_of start es)
+  stands_in_current h low same =
+      one_view have_orderly start all moment.cluster (view_after start h (logs_of start es h))
+      (current start (logs_of start es))
+      (view_installed start (logs_of start es) moment.cluster.shape all moment.inside h low) moment_installed same

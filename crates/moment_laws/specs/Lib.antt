@@ -1,0 +1,5 @@
+pub mod Moments
+pub mod Places
+pub mod Parts
+pub mod PartSteps
+pub mod Found

@@ -1,0 +1,75 @@
+-- Steps that tell nothing of transactions: no signal that they send does, none counts, and no mark is of an outcome.
+use Rattle.std.proofs.Common.{◌≡◌, ◌+◌, ℕ, Bool, true, false, List, take, drop, length, nat_lt, refl}
+use Rattle.run_theory.specs.Lists.{Each}
+use Rattle.run_theory.proofs.EachSent.{each_drop, each_take}
+use Rattle.run_theory.proofs.Pasts.{each_append, each_map}
+use Rattle.sig_core.specs.declared.outs.Outgoing.{Outgoing}
+use Rattle.sig_core.specs.declared.place.Place.{Place}
+use Rattle.sig_core.specs.declared.portion.TheConstants.{PORTION}
+use Rattle.sig_core.specs.declared.signal.Body.{Body}
+use Rattle.sig_core.specs.declared.signal.Body.TheVariants.{Chain, Client, Epoch, Takeover}
+use Rattle.sig_core.specs.declared.signal.client.ClientSignal.TheVariants.{ViewRep}
+use Rattle.sig_core.specs.declared.signal.epoch.EpochSignal.TheVariants.{DiVerifyConf, DiVerifyReq}
+use Rattle.sig_core.specs.declared.signal.host.Work.{Work}
+use Rattle.sig_core.specs.declared.signal.takeover.TakeoverSignal.TheVariants.{LqhTransConf}
+use Rattle.sig_core.specs.Portion.{portion_effects, rest_if}
+use Rattle.sig_core.specs.Step.{Step}
+use Rattle.outcome_laws.proofs.DihSilent.{AreSilent, IsSilent, is_telling}
+use Rattle.outcome_laws.proofs.OnceNone.{AreUncounted, IsUncounted, is_counted}
+use Rattle.outcome_laws.proofs.RowsNone.{MarksNone}
+
+-- a signal of clients and coordinators, but for the news of a view, one of chains, or one that tells of a transaction's
+-- epoch
+abbrev pub is_tale : Body → Bool
+is_tale (Client ViewRep) = false
+is_tale (Client signal) = true
+is_tale (Chain signal) = true
+is_tale (Epoch (DiVerifyReq tx ops)) = true
+is_tale (Epoch (DiVerifyConf tx epoch)) = true
+is_tale (Takeover (LqhTransConf tx key told epoch)) = true
+is_tale body = false
+
+-- it is none of them
+abbrev pub IsUntold : Outgoing → Type 0
+IsUntold sent = is_tale sent.body ≡ false
+
+abbrev pub AreUntold : List Outgoing → Type 0
+AreUntold sends = Each IsUntold sends
+
+abbrev pub TellsNothing : {S : Type 0} → Step S → Type 0
+TellsNothing step = AreUntold step.effects.sends × MarksNone step
+
+-- so it tells nothing, and doesn't count
+body_silent : (body : Body) → is_tale body ≡ false → is_telling body ≡ false
+body_silent (Client ViewRep) none = refl
+body_silent (Client signal) none = absurd cc
+body_silent (Chain signal) none = absurd cc
+body_silent (Epoch (DiVerifyReq tx ops)) none = absurd cc
+body_silent (Epoch (DiVerifyConf tx epoch)) none = absurd cc
+body_silent (Takeover (LqhTransConf tx key told epoch)) none = absurd cc
+body_silent body none = refl
+
+body_uncounted : (body : Body) → is_tale body ≡ false → is_counted body ≡ false
+body_uncounted (Client ViewRep) none = refl
+body_uncounted (Client signal) none = absurd cc
+body_uncounted (Chain signal) none = absurd cc
+body_uncounted (Epoch (DiVerifyReq tx ops)) none = absurd cc
+body_uncounted body none = refl
+
+pub untold_silent : (sends : List Outgoing) → AreUntold sends → AreSilent sends
+untold_silent sends none = each_map IsUntold IsSilent sends (λ sent is. body_silent sent.body is) none
+
+pub untold_uncounted : (sends : List Outgoing) → AreUntold sends → AreUncounted sends
+untold_uncounted sends none = each_map IsUntold IsUncounted sends (λ sent is. body_uncounted sent.body is) none
+
+rest_untold : (by : Place) (work : Work) (at : ℕ) (b : Bool) → AreUntold (rest_if by work at b)
+rest_untold by work at true = (refl, tt)
+rest_untold by work at false = tt
+
+-- so it is of a part of a list that tells nothing
+pub portion_untold : (by : Place) (work : Work) (sends : List Outgoing) (at : ℕ) → AreUntold sends
+    → AreUntold (portion_effects by work sends at).sends
+portion_untold by work sends at all =
+    each_append IsUntold (take PORTION (drop at sends)) (rest_if by work at (nat_lt (at + PORTION) (length sends)))
+    (each_take IsUntold PORTION (drop at sends) (each_drop IsUntold at sends all))
+    (rest_untold by work at (nat_lt (at + PORTION) (length sends)))

@@ -1,0 +1,5 @@
+use Rattle.outcome_laws.proofs.KnowAll.{moments_know}
+use Rattle.outcome_laws.proofs.decision_laws.tellers_know.Goals as goal
+
+pub returns : goal.returns
+returns c = moments_know

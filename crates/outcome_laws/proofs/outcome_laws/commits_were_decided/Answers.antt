@@ -1,0 +1,5 @@
+use Rattle.outcome_laws.proofs.KnowReports.{commits_were_decided}
+use Rattle.outcome_laws.proofs.outcome_laws.commits_were_decided.Goals as goal
+
+pub returns : goal.returns
+returns c = commits_were_decided

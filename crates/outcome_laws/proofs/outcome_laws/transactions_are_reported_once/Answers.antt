@@ -1,0 +1,5 @@
+use Rattle.outcome_laws.proofs.OnceReported.{reported_once}
+use Rattle.outcome_laws.proofs.outcome_laws.transactions_are_reported_once.Goals as goal
+
+pub returns : goal.returns
+returns c = reported_once

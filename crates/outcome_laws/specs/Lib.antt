@@ -1,0 +1,9 @@
+pub mod Tells
+pub mod Known
+pub mod Counts
+pub mod Decided
+pub mod Once
+pub mod Outcomes
+pub mod Own
+pub mod Down
+pub mod Know

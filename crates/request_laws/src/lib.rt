@@ -1,0 +1,14 @@
+//! What coordinators and rows have of transactions, view by view, whatever stops and is cut off.
+#![tactic(auto)]
+
+mod replica_laws;
+mod stray_laws;
+mod way_laws;
+
+pub use replica_laws::{
+    attended_one_by_one, keys_follow_events, rows_of_members_are_well, waiters_have_requests,
+};
+pub use stray_laws::{
+    coordinators_have_the_number, fences_spare_no_strays, installations_spare_no_strays,
+};
+pub use way_laws::transactions_go_one_way;

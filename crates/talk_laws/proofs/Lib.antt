@@ -1,0 +1,13 @@
+pub mod Among
+pub mod ClientLogs
+pub mod ClientTalks
+pub mod ClientTrack
+pub mod EntryLogs
+pub mod Links
+pub mod Picks
+pub mod TcLogs
+pub mod TcOwn
+pub mod TcSteps
+pub mod TcTalks
+pub mod TcTrack
+pub mod Told

@@ -1,0 +1,6 @@
+//! What clients asked for and were told, of transactions that were decided, whatever stops and is cut off.
+#![tactic(auto)]
+
+mod talk_laws;
+
+pub use talk_laws::decided_as_asked_and_told;
