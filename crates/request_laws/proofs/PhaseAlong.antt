@@ -34,7 +34,7 @@ use Rattle.request_laws.proofs.PhaseKeyed.{IsKeyed}
 use Rattle.request_laws.proofs.PhaseMoves.{Comes}
 
 -- a host of a node comes out as its step does
-told_some : (h : ℕ) → 1 ≤ h → (t : Step hosts.Host) → told h t ≡ t.state
+pub told_some : (h : ℕ) → 1 ≤ h → (t : Step hosts.Host) → told h t ≡ t.state
 told_some zero some t = absurd (omega (arith, some))
 told_some (suc h) some t = refl
 
@@ -99,6 +99,15 @@ module _ (start : Start) (member : Member) (there : IsIn member (made start)) wh
     fits = coordinator_of_fresh member (first_layout start.shape);
     touched = tt;
   }
+
+  -- it holds nothing as it begins
+  pub record Begins : Type 0 where
+    pub run : IsRun []
+    pub held : run.own.dih.held ≡ []
+
+  pub begins : Begins
+  unfolding first
+  begins = record { run = first; held = refl }
 
   any_held : (held : List TxId) → Each (λ (tx : TxId). Unit {0}) held
   any_held [] = tt
