@@ -1,0 +1,11 @@
+pub mod CoverLemmas
+pub mod EventLemmas
+pub mod FirstRows
+pub mod Firsts
+pub mod LawLemmas
+mod PassingLemmas
+pub mod PlaceLemmas
+pub mod RecordLemmas
+pub mod RedoLemmas
+pub mod StepLemmas
+pub mod WayLemmas

@@ -1,0 +1,5 @@
+pub mod Events
+pub mod Laws
+pub mod Orderly
+pub mod Passing
+pub mod Walk
