@@ -130,8 +130,11 @@ module _ (s : RowsState) (log : List Redo) (noted : ℕ) (orderly : IsOrderly s)
             let row : row_at s.places q ≡ Some first.value = row_behind place s.places q first.value orderly.apart here in
             inr (ap (over (redone epoch log q)) (got true e ∙ sym row) ∙ over_fits (redone epoch log q) (row_at s.places q) (fits epoch few q))
         by false e (inl (value, is)) =
-            inl (value, ap (λ w. row_at w q) (sym behind_is) ∙ sym (ap (λ b. if b then Some first.value else row_at (drop (suc n) (drop place s.places)) q) e)
-            ∙ sym (first.split q) ∙ is)
+            inl (
+              value,
+              ap (λ w. row_at w q) (sym behind_is) ∙ sym (ap (λ b. if b then Some first.value else row_at (drop (suc n) (drop place s.places)) q) e)
+                  ∙ sym (first.split q) ∙ is,
+            )
         by false e (inr is) = inr (ap (over (redone epoch log q)) (got false e) ∙ is)
 
     row_passed : HasCome s log noted (at + 1) (written ++ row_in s (slice_index_or s.places at None))

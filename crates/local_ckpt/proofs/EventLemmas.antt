@@ -1,7 +1,7 @@
 -- What each event makes of the rows of a node and of what is prepared.
 use Rattle.std.proofs.Common.{◌≡◌, ◌≤◌, ℕ, Bool, true, false, not, List, [], ◌∷◌, drop, refl, sym, ap, ◌∙◌, subst}
 use Rattle.std.specs.List.{AllByRecursion as Each}
-use Rattle.std.specs.Prelude.{if◌then◌else◌, Option, None, Some, IfSome}
+use Rattle.std.specs.Prelude.{if◌then◌else◌, Option, None, Some}
 use Rattle.sig_core.specs.declared.member.TxId.{TxId}
 use Rattle.sig_core.specs.declared.rows.PendingRecord.{PendingRecord}
 use Rattle.sig_core.specs.declared.rows.Slot.{Slot}
@@ -13,8 +13,8 @@ use Rattle.sig_core.proofs.Firsts.{first_passes, set_first}
 use Rattle.local_ckpt.specs.Laws.{IsImage, IsReadable}
 use Rattle.local_ckpt.specs.Orderly.{IsOrderly, has_place, image_in, prepared_in}
 use Rattle.local_ckpt.proofs.Firsts.{drop-drop_other, drop-none, drop-put_other, drop-put_own, drop-set_other, drop-set_own, first-drop_other, first-put_other, first-put_own, first-set_other, first-set_own, put_first}
-use Rattle.local_ckpt.proofs.PlaceLemmas.{apart-freed, apart-set_row, apart-with_place, by_freed, by_place, cleared, has-freed, has-own_place, has-set_row, has-with_place, other-set_row, own-set_row, row-freed, row-with_place, row_at, same, set_row-first}
-use Rattle.local_ckpt.proofs.RecordLemmas.{by_record, commits_image, commits_nothing, drops_it, drops_nothing, drops_other, idle_none, is_same, key_of_first, own_record, recorded-put, rows_with, two_records}
+use Rattle.local_ckpt.proofs.PlaceLemmas.{apart-freed, apart-set_row, apart-with_place, by_freed, by_place, has-freed, has-own_place, has-set_row, has-with_place, other-set_row, own-set_row, row-freed, row-with_place, row_at, same, set_row-first}
+use Rattle.local_ckpt.proofs.RecordLemmas.{by_record, commits_image, drops_it, drops_nothing, drops_other, idle_none, is_same, key_of_first, own_record, recorded-put, rows_with, two_records}
 
 -- after an event on a record the rows are orderly, and what was prepared still is, but for that record
 pub record Prepared (s after : RowsState) (tx : TxId) (key : List ℕ) (now : Option (Option (List ℕ))) : Type 0 where

@@ -1,6 +1,6 @@
 -- The first item of a list that passes a test, once another was put, replaced or taken out.
 use Rattle.std.proofs.Common.{◌≡◌, Bool, true, false, List, [], ◌∷◌, refl, sym, ap, ◌∙◌}
-use Rattle.std.specs.Prelude.{if◌then◌else◌, Option, None, Some}
+use Rattle.std.specs.Prelude.{if◌then◌else◌, None, Some}
 use Rattle.sig_core.specs.Firsts.{drop_first, first}
 use Rattle.sig_core.proofs.Firsts.{set_first}
 

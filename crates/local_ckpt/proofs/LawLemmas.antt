@@ -11,22 +11,22 @@ use Rattle.sig_core.specs.declared.redo.Redo.{Redo}
 use Rattle.sig_core.specs.declared.redo.Redo.TheVariants as redo
 use Rattle.sig_core.specs.declared.rows.PendingRecord.{PendingRecord}
 use Rattle.sig_core.specs.Firsts.{first}
-use Rattle.sig_core.specs.Rows.{RowsState, commit_record, has_row, is_of, next_by, next_place, no_rows, row_of, storing, abort_record, complete_record}
+use Rattle.sig_core.specs.Rows.{RowsState, commit_record, has_row, is_of, next_by, next_place, storing, abort_record, put_row, with_place}
 use Rattle.sig_core.specs.Table.{Rows}
 use Rattle.lcp_store.specs.declared.row.StoredRow.{StoredRow}
 use Rattle.lcp_store.specs.declared.row.Version.TheVariants.{Second}
 use Rattle.lcp_store.specs.Laws.{AreRowsOf, CheckpointsAreRead, all_in}
 use Rattle.lcp_store.specs.Reading.{rows_in}
 use Rattle.redo_log.specs.LogState.{Laid}
-use Rattle.redo_log.specs.Replay.{applied, image_of, replayed}
+use Rattle.redo_log.specs.Replay.{applied, replayed}
 use Rattle.local_ckpt.specs.Events.{Abort, Commit, Complete, Event, Moment, Prepare, Step, after, changed, given_by, left, left_by, log_if, logged, next, noting_if, stepped_by}
-use Rattle.local_ckpt.specs.Laws.{AreLaidFrom, Begins, CheckpointsRestore, HasPrepares, IsEvent, OrderlyRowsStaySo, PiecesAreACheckpoint, at_first, pieces_bytes}
+use Rattle.local_ckpt.specs.Laws.{AreLaidFrom, Begins, CheckpointsRestore, HasPrepares, IsEvent, OrderlyRowsStaySo, PiecesLieInOrder, at_first, pieces_bytes}
 use Rattle.local_ckpt.specs.Orderly.{IsOrderly, image_in, prepared_in}
-use Rattle.local_ckpt.specs.Walk.{WalkState, begun, next_piece, stepped}
-use Rattle.local_ckpt.proofs.CoverLemmas.{Fits, IsCovered, later_rows, over_fits}
+use Rattle.local_ckpt.specs.Walk.{WalkState, next_piece}
+use Rattle.local_ckpt.proofs.CoverLemmas.{Fits, IsCovered, later_rows}
 use Rattle.local_ckpt.proofs.EventLemmas.{Prepared, aborts, commits, completes, stores}
 use Rattle.local_ckpt.proofs.FirstRows.{no_rows_left}
-use Rattle.local_ckpt.proofs.PlaceLemmas.{row_at, row_of-at}
+use Rattle.local_ckpt.proofs.PlaceLemmas.{apart-set_row, apart-with_place, has-set_row, has-with_place, row_at, row_of-at}
 use Rattle.local_ckpt.proofs.RecordLemmas.{commits_nothing}
 use Rattle.local_ckpt.proofs.RedoLemmas.{get-replayed, over, redone}
 use Rattle.local_ckpt.proofs.StepLemmas.{pieces_more, steps}
@@ -47,16 +47,25 @@ orderly_commit s tx key epoch is = by (first (is_of tx key) s.pending) refl
         if_done true f = nothing (ap prepared_in e ∙ ap (λ b. if b then None else Some r.image) f)
         if_done false f = (commits s tx key epoch is r e f).orderly
 
-stay_orderly : (event : Event) (s : RowsState) → IsOrderly s → IsOrderly (changed event s)
+pub stay_orderly : (event : Event) (s : RowsState) → IsOrderly s → IsOrderly (changed event s)
 stay_orderly (Prepare tx fragment key image) s is = (stores s tx key image is).orderly
 stay_orderly (Commit tx key epoch) s is = orderly_commit s tx key epoch is
 stay_orderly (Abort tx key) s is = (aborts s tx key is).prepared.orderly
 stay_orderly (Complete tx key) s is = (completes s tx key is).orderly
 stay_orderly Step s is = is
 
+put_orderly : (s : RowsState) (key value : List ℕ) (epoch : ℕ) → IsOrderly s → IsOrderly (put_row s key value epoch)
+put_orderly s key value epoch is = record {
+  apart = apart-set_row key (Some value) epoch (with_place s.places key) (apart-with_place s.places key is.apart);
+  once = is.once;
+  placed = λ tx other image there.
+      has-set_row key (Some value) epoch other (with_place s.places key) ∙ has-with_place s.places key other (is.placed tx other image there);
+}
+
 pub orderly : OrderlyRowsStaySo
 orderly = record {
   none = record { apart = tt; once = λ tx key. refl; placed = λ tx key image e. absurd cc };
+  put = put_orderly;
   kept = stay_orderly;
 }
 
@@ -64,10 +73,13 @@ orderly = record {
 laid_more : (file at : ℕ) (pieces : List Laid) (piece : Laid) → AreLaidFrom file at pieces → piece.file ≡ file
     → piece.at ≡ at + length (pieces_bytes pieces) → AreLaidFrom file at (pieces ++ piece ∷ [])
 laid_more file at [] piece laid own place = (own, place ∙ (let e : at + 0 ≡ at = omega arith in e), tt)
-laid_more file at (front ∷ pieces) piece laid own place =
-    (laid.0, laid.1, laid_more file (at + length front.bytes) pieces piece laid.2 own
-    (place ∙ (let e : at + length (pieces_bytes (front ∷ pieces)) ≡ at + length front.bytes + length (pieces_bytes pieces) =
-    omega (arith, length-append front.bytes (pieces_bytes pieces)) in e)))
+laid_more file at (front ∷ pieces) piece laid own place = (
+  laid.0,
+  laid.1,
+  laid_more file (at + length front.bytes) pieces piece laid.2 own
+      (place ∙ (let e : at + length (pieces_bytes (front ∷ pieces)) ≡ at + length front.bytes + length (pieces_bytes pieces) =
+      omega (arith, length-append front.bytes (pieces_bytes pieces)) in e)),
+)
 
 record IsLaid (file : ℕ) (walk : WalkState) (pieces : List Laid) : Type 0 where
   own_file : walk.file ≡ file
@@ -101,7 +113,7 @@ all_laid : (file : ℕ) (events : List Event) (m : Moment) → IsLaid file m.wal
 all_laid file [] m is = is
 all_laid file (event ∷ events) m is = all_laid file events (next event m) (next_laid file event m is)
 
-pub pieces_are : PiecesAreACheckpoint
+pub pieces_are : PiecesLieInOrder
 pieces_are s log file from noted events =
     let is = all_laid file events (at_first s log file from noted) (record { own_file = refl; laid = tt; size_is = refl }) in
     (is.laid, is.size_is)
@@ -141,7 +153,7 @@ module _ (s : RowsState) (log : List Redo) (file from noted : ℕ) (before : Row
   }
 
 -- what is true at a moment is true at the next one
-goes_on : (own : ℕ → Rows) (event : Event) (m : Moment) → IsEvent event → IsUnderWay own m
+pub goes_on : (own : ℕ → Rows) (event : Event) (m : Moment) → IsEvent event → IsUnderWay own m
     → IsUnderWay (λ epoch. left_by epoch event m.rows (own epoch)) (next event m)
 goes_on own (Prepare tx fragment key image) m good way = prepares own m way tx fragment key image good
 goes_on own (Commit tx key epoch) m good way = commit_way own m way tx key epoch (image_in m.rows tx key) refl
@@ -236,7 +248,9 @@ restore read s log file from noted saved epoch before meanwhile later begins goo
     let m : Moment = after meanwhile (at_first s log file from noted) in
     let way : IsUnderWay (λ epoch. left epoch meanwhile s before) m =
     all_the_way (λ epoch. before) meanwhile (at_first s log file from noted) good (at_start s log file from noted before begins) in
-    let rows : Rows = all_in map.empty way.written in
-    (rows, ap (rows_in saved) way.bytes_are ∙ checkpoint_read read saved way.written small (later_rows m.walk.epoch saved way.written saves way.come.rows_are),
-    all_kept epoch rows (left epoch meanwhile s before) later m
-    (record { orderly = way.orderly; prepared = way.prepared; same = all_passed (λ epoch. left epoch meanwhile s before) m way none epoch few }))
+    let rows : Rows = all_in map.empty way.written in (
+      rows,
+      ap (rows_in saved) way.bytes_are ∙ checkpoint_read read saved way.written small (later_rows m.walk.epoch saved way.written saves way.come.rows_are),
+      all_kept epoch rows (left epoch meanwhile s before) later m
+          (record { orderly = way.orderly; prepared = way.prepared; same = all_passed (λ epoch. left epoch meanwhile s before) m way none epoch few }),
+    )

@@ -3,6 +3,7 @@ pub mod EventLemmas
 pub mod FirstRows
 pub mod Firsts
 pub mod LawLemmas
+pub mod LockLemmas
 mod PassingLemmas
 pub mod PlaceLemmas
 pub mod RecordLemmas

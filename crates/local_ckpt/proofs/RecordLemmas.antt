@@ -1,8 +1,8 @@
 -- The records of transactions and the rows: what an event makes of them.
-use Rattle.std.proofs.Common.{◌≡◌, ℕ, Bool, true, false, not, ◌&&◌, ◌||◌, List, [], ◌∷◌, drop, refl, sym, ap, ◌∙◌, subst}
+use Rattle.std.proofs.Common.{◌≡◌, ℕ, Bool, true, false, not, ◌&&◌, ◌||◌, List, [], ◌∷◌, refl, sym, ap, ◌∙◌, subst}
 use Rattle.std.proofs.lemmas.Bool.{and_parts, not-true}
 use Rattle.std.specs.List.{list_any}
-use Rattle.std.specs.Prelude.{if◌then◌else◌, Option, None, Some, position, remove}
+use Rattle.std.specs.Prelude.{if◌then◌else◌, Option, None, Some, position}
 use Rattle.sig_core.specs.declared.member.TxId.{TxId}
 use Rattle.sig_core.specs.declared.rows.PendingRecord.{PendingRecord}
 use Rattle.sig_core.specs.declared.rows.Slot.{Slot}
@@ -11,11 +11,11 @@ use Rattle.sig_core.specs.Rows as rows
 use Rattle.sig_core.specs.Rows.{RowsState, commit_by, commit_if, commit_record, drop_if, freed, get_at, is_as, is_idle, is_of, is_on, record_at, record_of, recorded_by, set_row}
 use Rattle.sig_core.specs.Same.{same_key, same_tx}
 use Rattle.sig_core.proofs.Firsts.{drop_by, first-drop, first-get, first-set, first_passes, get_by, place_by, position-cons, set_by, set_first}
-use Rattle.sig_core.proofs.Keys.{same_key-self, same_key-swap, same_tx-self}
+use Rattle.sig_core.proofs.Keys.{same_key-self, same_tx-self}
 use Rattle.sig_core.proofs.TxLemmas.{same_tx-is}
 use Rattle.local_ckpt.specs.Orderly.{prepared_in}
 use Rattle.local_ckpt.proofs.Firsts.{Disjoint, put_first}
-use Rattle.local_ckpt.proofs.PlaceLemmas.{not_first, same}
+use Rattle.local_ckpt.proofs.PlaceLemmas.{same}
 
 -- the two are of one transaction and one key
 abbrev pub is_same : TxId → List ℕ → TxId → List ℕ → Bool

@@ -1,5 +1,5 @@
 -- A step of a walk: rows are passed, and their bytes stand behind those before.
-use Rattle.std.proofs.Common.{◌≡◌, ◌+◌, ◌<◌, ℕ, zero, suc, Bool, true, false, List, [], ◌∷◌, ◌++◌, length, refl, sym, ap, ◌∙◌, append-nil, arith}
+use Rattle.std.proofs.Common.{◌≡◌, ◌+◌, ℕ, zero, suc, true, false, List, [], ◌∷◌, ◌++◌, length, refl, sym, ap, ◌∙◌, append-nil, arith}
 use Rattle.std.specs.Prelude.{◌==◌, if◌then◌else◌, is_some, Option, None, Some, slice_index_or}
 use Rattle.std.specs.List.{flat_map}
 use Rattle.std.proofs.lemmas.Bool.Decides.{nat_tests}
@@ -15,8 +15,8 @@ use Rattle.redo_log.specs.LogState.{Laid}
 use Rattle.local_ckpt.specs.declared.passing.TheConstants.{PIECE_ROWS}
 use Rattle.local_ckpt.specs.Events.{Moment, given_by, stepped_by}
 use Rattle.local_ckpt.specs.Laws.{pieces_bytes}
-use Rattle.local_ckpt.specs.Passing.{Passed, epoch_or, pass, pass_by, passed_from, row_in, row_with}
-use Rattle.local_ckpt.specs.Walk.{WalkState, head_at, next_bytes, next_piece, rows_at, stepped}
+use Rattle.local_ckpt.specs.Passing.{Passed, pass, pass_by, passed_from, row_in, row_with}
+use Rattle.local_ckpt.specs.Walk.{head_at, next_piece, rows_at}
 use Rattle.local_ckpt.proofs.CoverLemmas.{HasCome, many_passed}
 use Rattle.local_ckpt.proofs.PassingLemmas.{row_there}
 use Rattle.local_ckpt.proofs.WayLemmas.{IsUnderWay, checkpoint_bytes}

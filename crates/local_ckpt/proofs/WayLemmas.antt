@@ -1,34 +1,27 @@
 -- A local checkpoint on its way: what is true at each moment of it.
-use Rattle.std.proofs.Common.{◌≡◌, ◌≤◌, ◌<◌, ◌+◌, inl, inr, ℕ, zero, suc, Bool, true, false, cond, max, List, [], ◌∷◌, ◌++◌, length, drop, refl, sym, ap, ◌∙◌, subst, append_assoc, append-nil, arith}
-use Rattle.std.specs.Prelude.{◌==◌, nat_le, if◌then◌else◌, Option, None, Some, position, slice_index_or}
+use Rattle.std.proofs.Common.{◌≡◌, ◌≤◌, inl, inr, ℕ, Bool, true, false, cond, max, List, [], ◌∷◌, ◌++◌, length, refl, sym, ap, ◌∙◌, subst, arith}
+use Rattle.std.specs.Prelude.{nat_le, if◌then◌else◌, Option, None, Some}
 use Rattle.std.specs.List.{AllByRecursion as Each, flat_map}
 use Rattle.std.specs.FinMap as map
 use Rattle.std.proofs.lemmas.Bool.Decides.{nat_tests}
-use Rattle.std.proofs.lemmas.Grind.{flat_map-append}
-use Rattle.std.proofs.lemmas.List.{length-append}
 use Rattle.sig_core.specs.declared.member.TxId.{TxId}
 use Rattle.sig_core.specs.declared.redo.Redo.{Redo}
 use Rattle.sig_core.specs.declared.redo.Redo.TheVariants as redo
 use Rattle.sig_core.specs.declared.rows.PendingRecord.{PendingRecord}
-use Rattle.sig_core.specs.declared.rows.Slot.{Slot}
 use Rattle.sig_core.specs.Firsts.{first}
-use Rattle.sig_core.specs.Rows.{RowsState, abort_record, commit_record, complete_record, has_row, is_of, next_by, next_place, storing}
+use Rattle.sig_core.specs.Rows.{RowsState, abort_record, commit_record, complete_record, is_of, storing}
 use Rattle.sig_core.specs.Same.{same_key}
 use Rattle.sig_core.specs.Table.{Rows}
 use Rattle.sig_core.proofs.Keys.{same_key-swap}
 use Rattle.lcp_store.specs.declared.row.StoredRow.{StoredRow}
-use Rattle.lcp_store.specs.declared.row.Version.TheVariants.{Second}
 use Rattle.lcp_store.specs.Bytes.{head_bytes, row_bytes}
-use Rattle.lcp_store.specs.Laws.{AreRowsOf, all_in}
-use Rattle.redo_log.specs.Laws.{bytes_in}
-use Rattle.redo_log.specs.LogState.{Laid}
+use Rattle.lcp_store.specs.Laws.{all_in}
 use Rattle.redo_log.specs.Replay.{applied, image_of, with_image}
-use Rattle.local_ckpt.specs.Events.{Abort, Commit, Complete, Event, Moment, Prepare, Step, changed, given_by, left_by, log_if, next, noting_if, stepped_by}
-use Rattle.local_ckpt.specs.Laws.{HasPrepares, IsEvent, IsImage, IsReadable, pieces_bytes}
+use Rattle.local_ckpt.specs.Events.{Moment, log_if, noting_if}
+use Rattle.local_ckpt.specs.Laws.{HasPrepares, IsImage, IsReadable, pieces_bytes}
 use Rattle.local_ckpt.specs.Orderly.{IsOrderly, image_in, prepared_in}
-use Rattle.local_ckpt.specs.Passing.{Passed, pass, passed_from}
-use Rattle.local_ckpt.specs.Walk.{WalkState, head_at, next_bytes, next_piece, noting, stepped}
-use Rattle.local_ckpt.proofs.CoverLemmas.{Fits, HasCome, IsAhead, IsBehind, IsCovered, later_places, later_rows, many_passed}
+use Rattle.local_ckpt.specs.Walk.{noting}
+use Rattle.local_ckpt.proofs.CoverLemmas.{Fits, HasCome, IsCovered, later_places, later_rows}
 use Rattle.local_ckpt.proofs.EventLemmas.{LeavesRows, Prepared, Rewrites, aborts, commits, commits_row, completes, stores, stores_rows}
 use Rattle.local_ckpt.proofs.PlaceLemmas.{row_at, same}
 use Rattle.local_ckpt.proofs.RecordLemmas.{by_record, commits_nothing, is_same}

@@ -1,5 +1,5 @@
 -- What goes on at a node while a local checkpoint is on its way, and behind it.
-use Rattle.std.specs.Prelude.{◌≡◌, ℕ, List, [], ◌∷◌, ◌++◌, Option, None, Some}
+use Rattle.std.specs.Prelude.{ℕ, List, [], ◌∷◌, ◌++◌, Option, None, Some}
 use Rattle.sig_core.specs.declared.member.TxId.{TxId}
 use Rattle.sig_core.specs.declared.redo.Redo.{Redo}
 use Rattle.sig_core.specs.declared.redo.Redo.TheVariants as redo

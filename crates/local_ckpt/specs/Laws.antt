@@ -1,5 +1,5 @@
 -- What a local checkpoint is good for.
-use Rattle.std.specs.Prelude.{◌≡◌, ℕ, ◌+◌, ◌≤◌, ◌<◌, ◌^◌, List, [], ◌∷◌, ◌++◌, length, Option, None, Some, IfSome, Ok}
+use Rattle.std.specs.Prelude.{◌≡◌, ℕ, ◌+◌, ◌≤◌, ◌<◌, ◌^◌, List, [], ◌∷◌, length, Option, None, Some, IfSome, Ok}
 use Rattle.std.specs.List.{AllByRecursion, flat_map}
 use Rattle.std.specs.FinMap as map
 use Rattle.sig_core.specs.declared.member.TxId.{TxId}
@@ -7,23 +7,22 @@ use Rattle.sig_core.specs.declared.redo.Redo.{Redo}
 use Rattle.sig_core.specs.declared.rows.Slot.{Slot}
 use Rattle.sig_core.specs.declared.key.TheConstants.{KEY_BYTES}
 use Rattle.sig_core.specs.declared.value.TheConstants.{VALUE_BYTES}
-use Rattle.sig_core.specs.Rows.{RowsState, next_place, no_rows, row_of}
+use Rattle.sig_core.specs.Rows.{RowsState, next_place, no_rows, put_row, row_of}
 use Rattle.sig_core.specs.Table.{Rows}
-use Rattle.lcp_store.specs.declared.row.StoredRow.{StoredRow}
 use Rattle.lcp_store.specs.declared.row.Version.TheVariants.{Second}
-use Rattle.lcp_store.specs.Bytes.{head_bytes, row_bytes}
 use Rattle.lcp_store.specs.Laws.{IsRowOf, IsWordOf}
 use Rattle.lcp_store.specs.Reading.{rows_in}
 use Rattle.redo_log.specs.Laws.{bytes_in}
 use Rattle.redo_log.specs.LogState.{Laid}
 use Rattle.redo_log.specs.Replay.{image_of, replayed}
-use Rattle.local_ckpt.specs.Events.{Commit, Event, Moment, Prepare, after, changed, left}
+use Rattle.local_ckpt.specs.Events.{Event, Moment, Prepare, after, changed, left}
 use Rattle.local_ckpt.specs.Orderly.{IsOrderly, image_in}
-use Rattle.local_ckpt.specs.Walk.{WalkState, begun}
+use Rattle.local_ckpt.specs.Walk.{begun}
 
 -- Rows without places and records are orderly, and stay so.
 pub record OrderlyRowsStaySo : Type 0 where
   pub none : IsOrderly no_rows
+  pub put : (s : RowsState) (key value : List ℕ) (epoch : ℕ) → IsOrderly s → IsOrderly (put_row s key value epoch)
   pub kept : (event : Event) (s : RowsState) → IsOrderly s → IsOrderly (changed event s)
 
 abbrev pub IsRowIf : ℕ → List ℕ → ℕ → Option (List ℕ) → Type 0
@@ -40,7 +39,7 @@ pub record IsImage (key : List ℕ) (image : Option (List ℕ)) : Type 0 where
   pub key_is : IsWordOf 1 KEY_BYTES key
   pub image_is : IfSome image (IsWordOf 0 VALUE_BYTES)
 
--- of what the log has of a transaction and a key, that which is prepared comes last
+-- what is prepared is what the log has as prepared behind it
 abbrev pub HasPrepares : RowsState → List Redo → Type 0
 HasPrepares s log =
     (tx : TxId) (key : List ℕ) (image : Option (List ℕ)) → image_in s tx key ≡ Some image
@@ -86,8 +85,8 @@ AreLaidFrom file at (piece ∷ pieces) =
     (piece.file ≡ file) × (piece.at ≡ at) × AreLaidFrom file (at + length piece.bytes) pieces
 
 -- The pieces of a walk lie one behind the other in its file, and are as many bytes as it says.
-abbrev pub PiecesAreACheckpoint : Type 0
-PiecesAreACheckpoint =
+abbrev pub PiecesLieInOrder : Type 0
+PiecesLieInOrder =
     (s : RowsState) (log : List Redo) (file from noted : ℕ) (events : List Event)
     → let m = after events (at_first s log file from noted) in
     AreLaidFrom file 0 m.pieces × (m.walk.size ≡ length (pieces_bytes m.pieces))

@@ -5,12 +5,15 @@ ghost use Rattle.sig_core.specs.Rows.{next_place};
 ghost use Rattle.lcp_store.specs.Bytes.{row_bytes};
 ghost use Rattle.local_ckpt.specs.Passing.{IsRowPlace, passed_from, row_in};
 
-use lcp_store::put_row2;
+use lcp_store::{ROW_BYTES, put_row2};
+use redo_log::PIECE_BYTES;
 use sig_core::{NoMemory, Rows};
 
-/// How many rows a piece has at most. With the head they are fewer bytes than a piece of the log may
-/// have.
+/// How many rows a piece has at most.
 pub const PIECE_ROWS: u64 = 128;
+
+// with the head, they are no more bytes than a piece of the log
+const _: () = prove!(2 + PIECE_ROWS as usize * ROW_BYTES <= PIECE_BYTES);
 
 /// Appends the first rows from a place on, at most as many as a piece has, and answers the place
 /// behind the last of them.
