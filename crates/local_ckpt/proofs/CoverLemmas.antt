@@ -45,32 +45,40 @@ pub all_in-append : (rows : Rows) (xs ys : List StoredRow) → all_in rows (xs +
 all_in-append rows [] ys = refl
 all_in-append rows (x ∷ xs) ys = all_in-append (map.insert rows x.key x.value) xs ys
 
-pub rows_append : (saved : ℕ) (xs ys : List StoredRow) → AreRowsOf Second saved xs → AreRowsOf Second saved ys → AreRowsOf Second saved (xs ++ ys)
+pub rows_append : (saved : ℕ) (xs ys : List StoredRow) → AreRowsOf Second saved xs → AreRowsOf Second saved ys
+    → AreRowsOf Second saved (xs ++ ys)
 rows_append saved [] ys left right = right
 rows_append saved (x ∷ xs) ys left right = (left.0, rows_append saved xs ys left.1 right)
 
-later_epoch : (saved more : ℕ) (epoch : Option ℕ) → saved ≤ more → IsEpochOf Second saved epoch → IsEpochOf Second more epoch
+later_epoch : (saved more : ℕ) (epoch : Option ℕ) → saved ≤ more → IsEpochOf Second saved epoch
+    → IsEpochOf Second more epoch
 later_epoch saved more None few is = is
 later_epoch saved more (Some epoch) few is = omega (arith, few, is)
 
 pub later_row : (saved more : ℕ) (row : StoredRow) → saved ≤ more → IsRowOf Second saved row → IsRowOf Second more row
-later_row saved more row few is = record { key = is.key; epoch = later_epoch saved more row.epoch few is.epoch; value = is.value }
+later_row saved more row few is =
+    record { key = is.key; epoch = later_epoch saved more row.epoch few is.epoch; value = is.value }
 
-pub later_rows : (saved more : ℕ) (rows : List StoredRow) → saved ≤ more → AreRowsOf Second saved rows → AreRowsOf Second more rows
+pub later_rows : (saved more : ℕ) (rows : List StoredRow) → saved ≤ more → AreRowsOf Second saved rows
+    → AreRowsOf Second more rows
 later_rows saved more [] few are = tt
 later_rows saved more (row ∷ rows) few are = (later_row saved more row few are.0, later_rows saved more rows few are.1)
 
-later_slot_row : (saved more : ℕ) (key : List ℕ) (epoch : ℕ) (row : Option (List ℕ)) → saved ≤ more → IsRowIf saved key epoch row → IsRowIf more key epoch row
+later_slot_row : (saved more : ℕ) (key : List ℕ) (epoch : ℕ) (row : Option (List ℕ)) → saved ≤ more
+    → IsRowIf saved key epoch row → IsRowIf more key epoch row
 later_slot_row saved more key epoch None few is = tt
-later_slot_row saved more key epoch (Some value) few is = later_row saved more (record { key = key; epoch = Some epoch; value = value }) few is
+later_slot_row saved more key epoch (Some value) few is =
+    later_row saved more (record { key = key; epoch = Some epoch; value = value }) few is
 
 later_slot : (saved more : ℕ) (slot : Option Slot) → saved ≤ more → IsReadable saved slot → IsReadable more slot
 later_slot saved more None few is = tt
 later_slot saved more (Some slot) few is = later_slot_row saved more slot.key slot.epoch slot.row few is
 
-pub later_places : (saved more : ℕ) (places : List (Option Slot)) → saved ≤ more → Each (IsReadable saved) places → Each (IsReadable more) places
+pub later_places : (saved more : ℕ) (places : List (Option Slot)) → saved ≤ more → Each (IsReadable saved) places
+    → Each (IsReadable more) places
 later_places saved more [] few all = tt
-later_places saved more (slot ∷ places) few all = (later_slot saved more slot few all.0, later_places saved more places few all.1)
+later_places saved more (slot ∷ places) few all =
+    (later_slot saved more slot few all.0, later_places saved more places few all.1)
 
 -- a row stands in place of the one that its key had
 put_behind : (written : List StoredRow) (row : StoredRow) (q : List ℕ)
@@ -81,7 +89,8 @@ put_behind written row q =
     ∙ ap (λ b. cond b (Some row.value) (map.get (all_in map.empty written) q)) (tied-same_key q row.key ∙ same_key-swap q row.key)
     ∙ by (same_key row.key q)
   where
-    by : (b : Bool) → cond b (Some row.value) (map.get (all_in map.empty written) q) ≡ (if b then Some row.value else map.get (all_in map.empty written) q)
+    by : (b : Bool)
+        → cond b (Some row.value) (map.get (all_in map.empty written) q) ≡ (if b then Some row.value else map.get (all_in map.empty written) q)
     by true = refl
     by false = refl
 
@@ -96,13 +105,16 @@ module _ (s : RowsState) (log : List Redo) (noted : ℕ) (orderly : IsOrderly s)
   module _ (place n at : ℕ) (written : List StoredRow) (come : HasCome s log noted place written)
       (first : IsFirstRow (drop place s.places) n) (at_is : place + n ≡ at) where
     passed_row : StoredRow
-    passed_row = record { key = first.slot.key; epoch = Some (epoch_or (row_epoch s first.slot.key)); value = first.value }
+    passed_row =
+        record { key = first.slot.key; epoch = Some (epoch_or (row_epoch s first.slot.key)); value = first.value }
 
     slot_is : slice_index_or s.places at None ≡ Some first.slot
     slot_is = sym (get_or-drop place s.places n None ∙ ap (λ m. slice_index_or s.places m None) at_is) ∙ first.here
 
     behind_is : drop (suc n) (drop place s.places) ≡ drop (at + 1) s.places
-    behind_is = drop-drop (suc n) place s.places ∙ ap (λ m. drop m s.places) (let e : place + suc n ≡ at + 1 = omega (arith, at_is) in e)
+    behind_is =
+        drop-drop (suc n) place s.places
+        ∙ ap (λ m. drop m s.places) (let e : place + suc n ≡ at + 1 = omega (arith, at_is) in e)
 
     row_is : row_in s (slice_index_or s.places at None) ≡ passed_row ∷ []
     unfolding passed_row
@@ -121,9 +133,12 @@ module _ (s : RowsState) (log : List Redo) (noted : ℕ) (orderly : IsOrderly s)
       where
         got : (b : Bool) → same_key first.slot.key q ≡ b
             → map.get (all_in map.empty (written ++ passed_row ∷ [])) q ≡ (if b then Some first.value else map.get (all_in map.empty written) q)
-        got b e = put_behind written passed_row q ∙ ap (λ c. if c then Some first.value else map.get (all_in map.empty written) q) e
+        got b e =
+            put_behind written passed_row q
+            ∙ ap (λ c. if c then Some first.value else map.get (all_in map.empty written) q) e
 
-        by : (b : Bool) → same_key first.slot.key q ≡ b → IsCovered s epoch log place written q → IsCovered s epoch log (at + 1) (written ++ passed_row ∷ []) q
+        by : (b : Bool) → same_key first.slot.key q ≡ b → IsCovered s epoch log place written q
+            → IsCovered s epoch log (at + 1) (written ++ passed_row ∷ []) q
         by true e was =
             let here : row_at (drop place s.places) q ≡ Some first.value =
             first.split q ∙ ap (λ b. if b then Some first.value else row_at (drop (suc n) (drop place s.places)) q) e in
@@ -132,7 +147,8 @@ module _ (s : RowsState) (log : List Redo) (noted : ℕ) (orderly : IsOrderly s)
         by false e (inl (value, is)) =
             inl (
               value,
-              ap (λ w. row_at w q) (sym behind_is) ∙ sym (ap (λ b. if b then Some first.value else row_at (drop (suc n) (drop place s.places)) q) e)
+              ap (λ w. row_at w q) (sym behind_is)
+                  ∙ sym (ap (λ b. if b then Some first.value else row_at (drop (suc n) (drop place s.places)) q) e)
                   ∙ sym (first.split q) ∙ is,
             )
         by false e (inr is) = inr (ap (over (redone epoch log q)) (got false e) ∙ is)
@@ -142,7 +158,8 @@ module _ (s : RowsState) (log : List Redo) (noted : ℕ) (orderly : IsOrderly s)
         subst (λ w. HasCome s log noted (at + 1) (written ++ w)) (sym row_is)
         (record { rows_are = rows_append noted written (passed_row ∷ []) come.rows_are (row_fits, tt); covered = goes_on })
 
-  one_passed : (place : ℕ) (written : List StoredRow) → HasCome s log noted place written → (at : ℕ) → next_place s place ≡ Some at
+  one_passed : (place : ℕ) (written : List StoredRow) → HasCome s log noted place written → (at : ℕ)
+      → next_place s place ≡ Some at
       → HasCome s log noted (at + 1) (written ++ row_in s (slice_index_or s.places at None))
   unfolding next_place
   one_passed place written come at is = by (position has_row (drop place s.places)) refl is

@@ -19,7 +19,8 @@ use Rattle.local_ckpt.proofs.RecordLemmas.{by_record, commits_image, drops_it, d
 -- after an event on a record the rows are orderly, and what was prepared still is, but for that record
 pub record Prepared (s after : RowsState) (tx : TxId) (key : List ℕ) (now : Option (Option (List ℕ))) : Type 0 where
   pub orderly : IsOrderly after
-  pub images : (other : TxId) (key2 : List ℕ) → image_in after other key2 ≡ (if is_same tx key other key2 then now else image_in s other key2)
+  pub images : (other : TxId) (key2 : List ℕ)
+      → image_in after other key2 ≡ (if is_same tx key other key2 then now else image_in s other key2)
 
 -- the committed rows are as they were, each at its place
 pub record LeavesRows (s after : RowsState) : Type 0 where
@@ -29,13 +30,16 @@ pub record LeavesRows (s after : RowsState) : Type 0 where
 -- but for one key's
 pub record Rewrites (s after : RowsState) (key : List ℕ) (image : Option (List ℕ)) (epoch : ℕ) : Type 0 where
   pub own : row_at after.places key ≡ image
-  pub other : (n : ℕ) (q : List ℕ) → same_key key q ≡ false → row_at (drop n after.places) q ≡ row_at (drop n s.places) q
-  pub readable : (most : ℕ) → epoch ≤ most → IsImage key image → Each (IsReadable most) s.places → Each (IsReadable most) after.places
+  pub other : (n : ℕ) (q : List ℕ) → same_key key q ≡ false
+      → row_at (drop n after.places) q ≡ row_at (drop n s.places) q
+  pub readable : (most : ℕ) → epoch ≤ most → IsImage key image → Each (IsReadable most) s.places
+      → Each (IsReadable most) after.places
 
 pub nothing_left : (s : RowsState) → LeavesRows s s
 nothing_left s = record { rows_are = λ n q. refl; readable = λ most all. all }
 
-each-set_first : (P : Option Slot → Type 0) (p : Option Slot → Bool) (y : Option Slot) → P y → (xs : List (Option Slot)) → Each P xs → Each P (set_first p y xs)
+each-set_first : (P : Option Slot → Type 0) (p : Option Slot → Bool) (y : Option Slot) → P y
+    → (xs : List (Option Slot)) → Each P xs → Each P (set_first p y xs)
 each-set_first P p y own [] all = tt
 each-set_first P p y own (x ∷ xs) all = by (p x) (each-set_first P p y own xs all.1)
   where
@@ -43,7 +47,8 @@ each-set_first P p y own (x ∷ xs) all = by (p x) (each-set_first P p y own xs 
     by true more = (own, all.1)
     by false more = (all.0, more)
 
-each-placed : (most : ℕ) (key : List ℕ) (places : List (Option Slot)) → Each (IsReadable most) places → Each (IsReadable most) (placed (no_row key) places)
+each-placed : (most : ℕ) (key : List ℕ) (places : List (Option Slot)) → Each (IsReadable most) places
+    → Each (IsReadable most) (placed (no_row key) places)
 each-placed most key [] all = (tt, tt)
 each-placed most key (None ∷ places) all = (tt, all.1)
 each-placed most key (Some other ∷ places) all = (all.0, each-placed most key places all.1)
@@ -55,9 +60,11 @@ module _ (s : RowsState) (tx : TxId) (key : List ℕ) (image : Option (List ℕ)
 
   storing_is : storing s tx key image ≡ rows_with (with_place s.places key) put
   unfolding storing put
-  storing_is = ap (rows_with (with_place s.places key)) (recorded-put (is_of tx key) (rows.prepared tx key image) s.pending)
+  storing_is =
+      ap (rows_with (with_place s.places key)) (recorded-put (is_of tx key) (rows.prepared tx key image) s.pending)
 
-  put_images : (other : TxId) (key2 : List ℕ) → prepared_in (first (is_of other key2) put) ≡ (if is_same tx key other key2 then Some image else image_in s other key2)
+  put_images : (other : TxId) (key2 : List ℕ)
+      → prepared_in (first (is_of other key2) put) ≡ (if is_same tx key other key2 then Some image else image_in s other key2)
   unfolding put
   put_images other key2 =
       by_record tx other key key2 (λ t k b. prepared_in (first (is_of t k) (put_first (is_of tx key) (rows.prepared tx key image) s.pending)) ≡ (if b then Some image else image_in s t k))
@@ -73,7 +80,8 @@ module _ (s : RowsState) (tx : TxId) (key : List ℕ) (image : Option (List ℕ)
       ∙ first-put_other (is_of tx key) (is_of other key2) (two_records tx other key key2 off) (rows.prepared tx key image) off (drop_first (is_of other key2) s.pending)
       ∙ is.once other key2)
 
-  put_placed : (other : TxId) (key2 : List ℕ) (found : Option (List ℕ)) → prepared_in (first (is_of other key2) put) ≡ Some found → has_place (with_place s.places key) key2 ≡ true
+  put_placed : (other : TxId) (key2 : List ℕ) (found : Option (List ℕ))
+      → prepared_in (first (is_of other key2) put) ≡ Some found → has_place (with_place s.places key) key2 ≡ true
   put_placed other key2 found there =
       by_record tx other key key2 (λ t k b. (if b then Some image else image_in s t k) ≡ Some found → has_place (with_place s.places key) k ≡ true)
       (λ e. has-own_place s.places key) (λ off e. has-with_place s.places key key2 (is.placed other key2 found e))
@@ -88,7 +96,8 @@ module _ (s : RowsState) (tx : TxId) (key : List ℕ) (image : Option (List ℕ)
   pub stores_rows : LeavesRows s (storing s tx key image)
   stores_rows = subst (LeavesRows s) (sym storing_is) (record {
     rows_are = λ n q. row-with_place n s.places key q;
-    readable = λ most all. by_place (Each (IsReadable most)) s.places key all (λ off. each-placed most key s.places all);
+    readable =
+        λ most all. by_place (Each (IsReadable most)) s.places key all (λ off. each-placed most key s.places all);
   })
 
 -- a commit of what is prepared
@@ -100,14 +109,16 @@ module _ (s : RowsState) (tx : TxId) (key : List ℕ) (epoch : ℕ) (is : IsOrde
   own_done : is_of tx key (rows.committed r epoch) ≡ true
   own_done = first_passes (is_of tx key) s.pending r found
 
-  other_done : (other : TxId) (key2 : List ℕ) → is_same tx key other key2 ≡ false → is_of other key2 (rows.committed r epoch) ≡ false
+  other_done : (other : TxId) (key2 : List ℕ) → is_same tx key other key2 ≡ false
+      → is_of other key2 (rows.committed r epoch) ≡ false
   other_done other key2 off = two_records tx other key key2 off r own_done
 
   committing_is : commit_record s tx key epoch ≡ rows_with (set_row s.places r.key r.image epoch) marked
   unfolding marked
   committing_is = commits_image s tx key epoch r found begun
 
-  marked_images : (other : TxId) (key2 : List ℕ) → prepared_in (first (is_of other key2) marked) ≡ (if is_same tx key other key2 then None else image_in s other key2)
+  marked_images : (other : TxId) (key2 : List ℕ)
+      → prepared_in (first (is_of other key2) marked) ≡ (if is_same tx key other key2 then None else image_in s other key2)
   unfolding marked
   marked_images other key2 =
       by_record tx other key key2 (λ t k b. prepared_in (first (is_of t k) (set_first (is_of tx key) (rows.committed r epoch) s.pending)) ≡ (if b then None else image_in s t k))
@@ -123,7 +134,8 @@ module _ (s : RowsState) (tx : TxId) (key : List ℕ) (epoch : ℕ) (is : IsOrde
       ∙ first-set_other (is_of tx key) (is_of other key2) (two_records tx other key key2 off) (rows.committed r epoch) (other_done other key2 off) (drop_first (is_of other key2) s.pending)
       ∙ is.once other key2)
 
-  marked_placed : (other : TxId) (key2 : List ℕ) (image : Option (List ℕ)) → prepared_in (first (is_of other key2) marked) ≡ Some image
+  marked_placed : (other : TxId) (key2 : List ℕ) (image : Option (List ℕ))
+      → prepared_in (first (is_of other key2) marked) ≡ Some image
       → has_place (set_row s.places r.key r.image epoch) key2 ≡ true
   marked_placed other key2 image there =
       by_record tx other key key2 (λ t k b. (if b then None else image_in s t k) ≡ Some image → has_place (set_row s.places r.key r.image epoch) k ≡ true)
@@ -132,7 +144,8 @@ module _ (s : RowsState) (tx : TxId) (key : List ℕ) (epoch : ℕ) (is : IsOrde
 
   pub commits : Prepared s (commit_record s tx key epoch) tx key None
   commits = subst (λ after. Prepared s after tx key None) (sym committing_is) (record {
-    orderly = record { apart = apart-set_row r.key r.image epoch s.places is.apart; once = marked_once; placed = marked_placed };
+    orderly =
+        record { apart = apart-set_row r.key r.image epoch s.places is.apart; once = marked_once; placed = marked_placed };
     images = marked_images;
   })
 
@@ -140,7 +153,9 @@ module _ (s : RowsState) (tx : TxId) (key : List ℕ) (epoch : ℕ) (is : IsOrde
   own_key = key_of_first tx key s.pending r found
 
   has_own : has_place s.places r.key ≡ true
-  has_own = ap (has_place s.places) own_key ∙ is.placed tx key r.image (ap prepared_in found ∙ ap (λ b. if b then None else Some r.image) begun)
+  has_own =
+      ap (has_place s.places) own_key
+      ∙ is.placed tx key r.image (ap prepared_in found ∙ ap (λ b. if b then None else Some r.image) begun)
 
   rewrites : Rewrites s (rows_with (set_row s.places r.key r.image epoch) marked) r.key r.image epoch
   rewrites = record {
@@ -151,7 +166,8 @@ module _ (s : RowsState) (tx : TxId) (key : List ℕ) (epoch : ℕ) (is : IsOrde
         (each-set_first (IsReadable most) (is_at r.key) (Some (with_row r.key r.image epoch)) (row most r.image good few) s.places all);
   }
     where
-      row : (most : ℕ) (image : Option (List ℕ)) → IsImage r.key image → epoch ≤ most → IsReadable most (Some (with_row r.key image epoch))
+      row : (most : ℕ) (image : Option (List ℕ)) → IsImage r.key image → epoch ≤ most
+          → IsReadable most (Some (with_row r.key image epoch))
       row most None good few = tt
       row most (Some value) good few = record { key = good.key_is; epoch = few; value = good.image_is }
 
@@ -165,7 +181,8 @@ module _ (s : RowsState) (tx : TxId) (key : List ℕ) (is : IsOrderly s) (r : Pe
   rest : List PendingRecord
   rest = drop_first (is_of tx key) s.pending
 
-  rest_images : (other : TxId) (key2 : List ℕ) → prepared_in (first (is_of other key2) rest) ≡ (if is_same tx key other key2 then None else image_in s other key2)
+  rest_images : (other : TxId) (key2 : List ℕ)
+      → prepared_in (first (is_of other key2) rest) ≡ (if is_same tx key other key2 then None else image_in s other key2)
   unfolding rest
   rest_images other key2 =
       by_record tx other key key2 (λ t k b. prepared_in (first (is_of t k) (drop_first (is_of tx key) s.pending)) ≡ (if b then None else image_in s t k))
@@ -182,7 +199,8 @@ module _ (s : RowsState) (tx : TxId) (key : List ℕ) (is : IsOrderly s) (r : Pe
       ∙ is.once other key2)
 
   -- the place of a record's key isn't freed
-  not_idle : (other : TxId) (key2 : List ℕ) (image : Option (List ℕ)) → prepared_in (first (is_of other key2) rest) ≡ Some image
+  not_idle : (other : TxId) (key2 : List ℕ) (image : Option (List ℕ))
+      → prepared_in (first (is_of other key2) rest) ≡ Some image
       → is_idle rest r.key ≡ true → same_key r.key key2 ≡ false
   not_idle other key2 image there idle = by (same_key r.key key2) refl
     where
@@ -192,7 +210,8 @@ module _ (s : RowsState) (tx : TxId) (key : List ℕ) (is : IsOrderly s) (r : Pe
           absurd (let both : Some image ≡ None = sym there ∙ ap prepared_in gone in cc)
       by false e = refl
 
-  rest_placed : (other : TxId) (key2 : List ℕ) (image : Option (List ℕ)) → prepared_in (first (is_of other key2) rest) ≡ Some image
+  rest_placed : (other : TxId) (key2 : List ℕ) (image : Option (List ℕ))
+      → prepared_in (first (is_of other key2) rest) ≡ Some image
       → has_place (freed s.places rest r.key) key2 ≡ true
   rest_placed other key2 image there =
       has-freed s.places rest r.key key2 (not_idle other key2 image there)
@@ -216,10 +235,12 @@ module _ (s : RowsState) (tx : TxId) (key : List ℕ) (is : IsOrderly s) (r : Pe
   }
 
 -- where nothing is prepared nothing is given up
-pub unprepared : (s : RowsState) (tx : TxId) (key : List ℕ) → IsOrderly s → image_in s tx key ≡ None → Prepared s s tx key None
+pub unprepared : (s : RowsState) (tx : TxId) (key : List ℕ) → IsOrderly s → image_in s tx key ≡ None
+    → Prepared s s tx key None
 unprepared s tx key is none = record {
   orderly = is;
-  images = λ other key2. by_record tx other key key2 (λ t k b. image_in s t k ≡ (if b then None else image_in s t k)) none (λ off. refl);
+  images =
+      λ other key2. by_record tx other key key2 (λ t k b. image_in s t k ≡ (if b then None else image_in s t k)) none (λ off. refl);
 }
 
 -- an abort, and the end of a record that is committed
@@ -229,7 +250,8 @@ pub record Ends (s after : RowsState) (tx : TxId) (key : List ℕ) : Type 0 wher
 
 module _ (s : RowsState) (tx : TxId) (key : List ℕ) (is : IsOrderly s) where
   same_rows : (after : RowsState) → after ≡ s → image_in s tx key ≡ None → Ends s after tx key
-  same_rows after e none = subst (λ w. Ends s w tx key) (sym e) (record { prepared = unprepared s tx key is none; leaves = nothing_left s })
+  same_rows after e none =
+      subst (λ w. Ends s w tx key) (sym e) (record { prepared = unprepared s tx key is none; leaves = nothing_left s })
 
   gone : (after : RowsState) (r : PendingRecord) → first (is_of tx key) s.pending ≡ Some r
       → after ≡ rows_with (freed s.places (drop_first (is_of tx key) s.pending) r.key) (drop_first (is_of tx key) s.pending) → Ends s after tx key
@@ -273,7 +295,8 @@ module _ (s : RowsState) (tx : TxId) (key : List ℕ) (is : IsOrderly s) where
               let ended = gone (complete_record s tx key) r e (drops_it true s tx key r e f) in
               record {
                 orderly = ended.prepared.orderly;
-                images = λ other key2. by_record tx other key key2 (λ t k b. image_in (complete_record s tx key) t k ≡ image_in s t k)
+                images =
+                    λ other key2. by_record tx other key key2 (λ t k b. image_in (complete_record s tx key) t k ≡ image_in s t k)
                     (ended.prepared.images tx key ∙ ap (λ b. if b then None else image_in s tx key) (own_record tx key)
                     ∙ sym (ap prepared_in e ∙ ap (λ b. if b then None else Some r.image) f))
                     (λ off. ended.prepared.images other key2 ∙ ap (λ b. if b then None else image_in s other key2) off);

@@ -17,13 +17,16 @@ pub record IsFirstRow (places : List (Option Slot)) (n : ℕ) : Type 0 where
   pub value : List ℕ
   pub here : slice_index_or places n None ≡ Some slot
   pub row : slot.row ≡ Some value
-  pub split : (q : List ℕ) → row_at places q ≡ (if same_key slot.key q then Some value else row_at (drop (suc n) places) q)
+  pub split : (q : List ℕ)
+      → row_at places q ≡ (if same_key slot.key q then Some value else row_at (drop (suc n) places) q)
 
 -- a place without a row in front of it changes nothing
 behind_free : (places : List (Option Slot)) (n : ℕ) → IsFirstRow places n → IsFirstRow (None ∷ places) (suc n)
-behind_free places n first = record { slot = first.slot; value = first.value; here = first.here; row = first.row; split = first.split }
+behind_free places n first =
+    record { slot = first.slot; value = first.value; here = first.here; row = first.row; split = first.split }
 
-behind_rowless : (slot : Slot) (places : List (Option Slot)) (n : ℕ) → slot.row ≡ None → has_place places slot.key ≡ false
+behind_rowless : (slot : Slot) (places : List (Option Slot)) (n : ℕ) → slot.row ≡ None
+    → has_place places slot.key ≡ false
     → IsFirstRow places n → IsFirstRow (Some slot ∷ places) (suc n)
 behind_rowless slot places n none off first =
     record { slot = first.slot; value = first.value; here = first.here; row = first.row; split = λ q. by q (same_key slot.key q) refl }
@@ -35,34 +38,43 @@ behind_rowless slot places n none off first =
         none ∙ sym gone ∙ first.split q
     by q false e = first.split q
 
-at_front : (slot : Slot) (places : List (Option Slot)) (value : List ℕ) → slot.row ≡ Some value → IsFirstRow (Some slot ∷ places) 0
+at_front : (slot : Slot) (places : List (Option Slot)) (value : List ℕ) → slot.row ≡ Some value
+    → IsFirstRow (Some slot ∷ places) 0
 at_front slot places value row =
     record { slot = slot; value = value; here = refl; row = row; split = λ q. ap (λ w. if same_key slot.key q then w else row_at places q) row }
 
-pub first_row : (places : List (Option Slot)) → AreApart places → (n : ℕ) → position has_row places ≡ Some n → IsFirstRow places n
+pub first_row : (places : List (Option Slot)) → AreApart places → (n : ℕ) → position has_row places ≡ Some n
+    → IsFirstRow places n
 first_row [] apart n is = absurd cc
 first_row (None ∷ places) apart n is =
     by (position has_row places) refl (sym (position-cons has_row None places) ∙ is) (first_row places apart)
   where
-    by : (o : Option ℕ) → position has_row places ≡ o → place_by false o ≡ Some n → ((k : ℕ) → position has_row places ≡ Some k → IsFirstRow places k)
+    by : (o : Option ℕ) → position has_row places ≡ o → place_by false o ≡ Some n
+        → ((k : ℕ) → position has_row places ≡ Some k → IsFirstRow places k)
         → IsFirstRow (None ∷ places) n
     by None e is more = absurd cc
-    by (Some k) e is more = let at : suc k ≡ n = cc in subst (IsFirstRow (None ∷ places)) at (behind_free places k (more k e))
+    by (Some k) e is more =
+        let at : suc k ≡ n = cc in subst (IsFirstRow (None ∷ places)) at (behind_free places k (more k e))
 first_row (Some slot ∷ places) apart n is =
     by slot.row refl (position has_row places) refl (sym (position-cons has_row (Some slot) places) ∙ is) (first_row places apart.1)
   where
-    by : (row : Option (List ℕ)) → slot.row ≡ row → (o : Option ℕ) → position has_row places ≡ o → place_by (is_some row) o ≡ Some n
+    by : (row : Option (List ℕ)) → slot.row ≡ row → (o : Option ℕ) → position has_row places ≡ o
+        → place_by (is_some row) o ≡ Some n
         → ((k : ℕ) → position has_row places ≡ Some k → IsFirstRow places k) → IsFirstRow (Some slot ∷ places) n
-    by (Some value) f o e is more = let at : 0 ≡ n = cc in subst (IsFirstRow (Some slot ∷ places)) at (at_front slot places value f)
+    by (Some value) f o e is more =
+        let at : 0 ≡ n = cc in subst (IsFirstRow (Some slot ∷ places)) at (at_front slot places value f)
     by None f None e is more = absurd cc
     by None f (Some k) e is more =
         let at : suc k ≡ n = cc in subst (IsFirstRow (Some slot ∷ places)) at (behind_rowless slot places k f apart.0 (more k e))
 
-pub no_rows_left : (places : List (Option Slot)) → position has_row places ≡ None → (q : List ℕ) → row_at places q ≡ None
+pub no_rows_left : (places : List (Option Slot)) → position has_row places ≡ None → (q : List ℕ)
+    → row_at places q ≡ None
 no_rows_left [] is q = refl
-no_rows_left (None ∷ places) is q = by (position has_row places) refl (sym (position-cons has_row None places) ∙ is) (λ e. no_rows_left places e q)
+no_rows_left (None ∷ places) is q =
+    by (position has_row places) refl (sym (position-cons has_row None places) ∙ is) (λ e. no_rows_left places e q)
   where
-    by : (o : Option ℕ) → position has_row places ≡ o → place_by false o ≡ None → (position has_row places ≡ None → row_at places q ≡ None) → row_at places q ≡ None
+    by : (o : Option ℕ) → position has_row places ≡ o → place_by false o ≡ None
+        → (position has_row places ≡ None → row_at places q ≡ None) → row_at places q ≡ None
     by None e is more = more e
     by (Some k) e is more = absurd cc
 no_rows_left (Some slot ∷ places) is q =
@@ -72,25 +84,30 @@ no_rows_left (Some slot ∷ places) is q =
     either true row other none gone = none
     either false row other none gone = gone
 
-    by : (row : Option (List ℕ)) → slot.row ≡ row → (o : Option ℕ) → position has_row places ≡ o → place_by (is_some row) o ≡ None
-        → (position has_row places ≡ None → row_at places q ≡ None) → (if same_key slot.key q then slot.row else row_at places q) ≡ None
+    by : (row : Option (List ℕ)) → slot.row ≡ row → (o : Option ℕ) → position has_row places ≡ o
+        → place_by (is_some row) o ≡ None
+        → (position has_row places ≡ None → row_at places q ≡ None)
+        → (if same_key slot.key q then slot.row else row_at places q) ≡ None
     by (Some value) f o e is more = absurd cc
     by None f None e is more = either (same_key slot.key q) slot.row (row_at places q) f (more e)
     by None f (Some k) e is more = absurd cc
 
 -- what holds of each place holds of one that is looked up
-pub each_at : (P : Option Slot → Type 0) → P None → (places : List (Option Slot)) → Each P places → (n : ℕ) → P (slice_index_or places n None)
+pub each_at : (P : Option Slot → Type 0) → P None → (places : List (Option Slot)) → Each P places → (n : ℕ)
+    → P (slice_index_or places n None)
 each_at P free [] all zero = free
 each_at P free [] all (suc n) = free
 each_at P free (slot ∷ places) all zero = all.0
 each_at P free (slot ∷ places) all (suc n) = each_at P free places all.1 n
 
 -- no row is of a later epoch than this
-pub epoch_fits : (s : RowsState) (most : ℕ) (key : List ℕ) → Each (IsReadable most) s.places → epoch_or (row_epoch s key) ≤ most
+pub epoch_fits : (s : RowsState) (most : ℕ) (key : List ℕ) → Each (IsReadable most) s.places
+    → epoch_or (row_epoch s key) ≤ most
 unfolding row_epoch
 epoch_fits s most key all = by (place_of s.places key)
   where
-    of_row : (slot : Slot) (row : Option (List ℕ)) → IsRowIf most slot.key slot.epoch row → epoch_or (epoch_if row slot.epoch) ≤ most
+    of_row : (slot : Slot) (row : Option (List ℕ)) → IsRowIf most slot.key slot.epoch row
+        → epoch_or (epoch_if row slot.epoch) ≤ most
     of_row slot None is = omega arith
     of_row slot (Some value) is = is.epoch
 

@@ -18,7 +18,8 @@ module _ {X : Type 0} where
   drop-none p [] none = refl
   drop-none p (x ∷ xs) none = by (p x) none (drop-none p xs)
     where
-      by : (b : Bool) → (if b then Some x else first p xs) ≡ None → (first p xs ≡ None → drop_first p xs ≡ xs) → (if b then xs else x ∷ drop_first p xs) ≡ x ∷ xs
+      by : (b : Bool) → (if b then Some x else first p xs) ≡ None → (first p xs ≡ None → drop_first p xs ≡ xs)
+          → (if b then xs else x ∷ drop_first p xs) ≡ x ∷ xs
       by true none more = absurd cc
       by false none more = ap (λ w. x ∷ w) (more none)
 
@@ -33,7 +34,8 @@ module _ {X : Type 0} where
     first-put_own [] = heads []
     first-put_own (x ∷ xs) = by (p x) refl (first-put_own xs)
       where
-        by : (b : Bool) → p x ≡ b → first p (put_first p y xs) ≡ Some y → first p (if b then y ∷ xs else x ∷ put_first p y xs) ≡ Some y
+        by : (b : Bool) → p x ≡ b → first p (put_first p y xs) ≡ Some y
+            → first p (if b then y ∷ xs else x ∷ put_first p y xs) ≡ Some y
         by true e more = heads xs
         by false e more = ap (λ b. if b then Some x else first p (put_first p y xs)) e ∙ more
 
@@ -44,13 +46,15 @@ module _ {X : Type 0} where
         by : (b : Bool) → p x ≡ b → drop_first p (put_first p y xs) ≡ drop_first p xs
             → drop_first p (if b then y ∷ xs else x ∷ put_first p y xs) ≡ (if b then xs else x ∷ drop_first p xs)
         by true e more = tails xs
-        by false e more = ap (λ b. if b then put_first p y xs else x ∷ drop_first p (put_first p y xs)) e ∙ ap (λ w. x ∷ w) more
+        by false e more =
+            ap (λ b. if b then put_first p y xs else x ∷ drop_first p (put_first p y xs)) e ∙ ap (λ w. x ∷ w) more
 
     pub first-set_own : (xs : List X) (r : X) → first p xs ≡ Some r → first p (set_first p y xs) ≡ Some y
     first-set_own [] r is = absurd cc
     first-set_own (x ∷ xs) r is = by (p x) refl is (first-set_own xs r)
       where
-        by : (b : Bool) → p x ≡ b → (if b then Some x else first p xs) ≡ Some r → (first p xs ≡ Some r → first p (set_first p y xs) ≡ Some y)
+        by : (b : Bool) → p x ≡ b → (if b then Some x else first p xs) ≡ Some r
+            → (first p xs ≡ Some r → first p (set_first p y xs) ≡ Some y)
             → first p (if b then y ∷ xs else x ∷ set_first p y xs) ≡ Some y
         by true e is more = heads xs
         by false e is more = ap (λ b. if b then Some x else first p (set_first p y xs)) e ∙ more is
@@ -62,7 +66,8 @@ module _ {X : Type 0} where
         by : (b : Bool) → p x ≡ b → drop_first p (set_first p y xs) ≡ drop_first p xs
             → drop_first p (if b then y ∷ xs else x ∷ set_first p y xs) ≡ (if b then xs else x ∷ drop_first p xs)
         by true e more = tails xs
-        by false e more = ap (λ b. if b then set_first p y xs else x ∷ drop_first p (set_first p y xs)) e ∙ ap (λ w. x ∷ w) more
+        by false e more =
+            ap (λ b. if b then set_first p y xs else x ∷ drop_first p (set_first p y xs)) e ∙ ap (λ w. x ∷ w) more
 
   module _ (p q : X → Bool) (two : Disjoint p q) where
     -- the other test goes on behind an item that passes this one
@@ -76,19 +81,23 @@ module _ {X : Type 0} where
     first-put_other y off [] = ap (λ b. if b then Some y else None) off
     first-put_other y off (x ∷ xs) = by (p x) refl (first-put_other y off xs)
       where
-        by : (b : Bool) → p x ≡ b → first q (put_first p y xs) ≡ first q xs → first q (if b then y ∷ xs else x ∷ put_first p y xs) ≡ first q (x ∷ xs)
+        by : (b : Bool) → p x ≡ b → first q (put_first p y xs) ≡ first q xs
+            → first q (if b then y ∷ xs else x ∷ put_first p y xs) ≡ first q (x ∷ xs)
         by true e more = ap (λ b. if b then Some y else first q xs) off ∙ sym (passed_over x xs e)
         by false e more = ap (λ w. if q x then Some x else w) more
 
-    pub drop-put_other : (y : X) → q y ≡ false → (xs : List X) → drop_first q (put_first p y xs) ≡ put_first p y (drop_first q xs)
+    pub drop-put_other : (y : X) → q y ≡ false → (xs : List X)
+        → drop_first q (put_first p y xs) ≡ put_first p y (drop_first q xs)
     drop-put_other y off [] = ap (λ b. if b then [] else y ∷ []) off
     drop-put_other y off (x ∷ xs) = by (p x) refl (q x) refl (drop-put_other y off xs)
       where
-        by : (b : Bool) → p x ≡ b → (c : Bool) → q x ≡ c → drop_first q (put_first p y xs) ≡ put_first p y (drop_first q xs)
+        by : (b : Bool) → p x ≡ b → (c : Bool) → q x ≡ c
+            → drop_first q (put_first p y xs) ≡ put_first p y (drop_first q xs)
             → drop_first q (if b then y ∷ xs else x ∷ put_first p y xs) ≡ put_first p y (if c then xs else x ∷ drop_first q xs)
         by true e true f more = absurd (let both : true ≡ false = sym f ∙ two x e in cc)
         by true e false f more =
-            ap (λ b. if b then xs else y ∷ drop_first q xs) off ∙ sym (ap (λ b. if b then y ∷ drop_first q xs else x ∷ put_first p y (drop_first q xs)) e)
+            ap (λ b. if b then xs else y ∷ drop_first q xs) off
+            ∙ sym (ap (λ b. if b then y ∷ drop_first q xs else x ∷ put_first p y (drop_first q xs)) e)
         by false e true f more = ap (λ b. if b then put_first p y xs else x ∷ drop_first q (put_first p y xs)) f
         by false e false f more =
             ap (λ b. if b then put_first p y xs else x ∷ drop_first q (put_first p y xs)) f ∙ ap (λ w. x ∷ w) more
@@ -98,19 +107,23 @@ module _ {X : Type 0} where
     first-set_other y off [] = refl
     first-set_other y off (x ∷ xs) = by (p x) refl (first-set_other y off xs)
       where
-        by : (b : Bool) → p x ≡ b → first q (set_first p y xs) ≡ first q xs → first q (if b then y ∷ xs else x ∷ set_first p y xs) ≡ first q (x ∷ xs)
+        by : (b : Bool) → p x ≡ b → first q (set_first p y xs) ≡ first q xs
+            → first q (if b then y ∷ xs else x ∷ set_first p y xs) ≡ first q (x ∷ xs)
         by true e more = ap (λ b. if b then Some y else first q xs) off ∙ sym (passed_over x xs e)
         by false e more = ap (λ w. if q x then Some x else w) more
 
-    pub drop-set_other : (y : X) → q y ≡ false → (xs : List X) → drop_first q (set_first p y xs) ≡ set_first p y (drop_first q xs)
+    pub drop-set_other : (y : X) → q y ≡ false → (xs : List X)
+        → drop_first q (set_first p y xs) ≡ set_first p y (drop_first q xs)
     drop-set_other y off [] = refl
     drop-set_other y off (x ∷ xs) = by (p x) refl (q x) refl (drop-set_other y off xs)
       where
-        by : (b : Bool) → p x ≡ b → (c : Bool) → q x ≡ c → drop_first q (set_first p y xs) ≡ set_first p y (drop_first q xs)
+        by : (b : Bool) → p x ≡ b → (c : Bool) → q x ≡ c
+            → drop_first q (set_first p y xs) ≡ set_first p y (drop_first q xs)
             → drop_first q (if b then y ∷ xs else x ∷ set_first p y xs) ≡ set_first p y (if c then xs else x ∷ drop_first q xs)
         by true e true f more = absurd (let both : true ≡ false = sym f ∙ two x e in cc)
         by true e false f more =
-            ap (λ b. if b then xs else y ∷ drop_first q xs) off ∙ sym (ap (λ b. if b then y ∷ drop_first q xs else x ∷ set_first p y (drop_first q xs)) e)
+            ap (λ b. if b then xs else y ∷ drop_first q xs) off
+            ∙ sym (ap (λ b. if b then y ∷ drop_first q xs else x ∷ set_first p y (drop_first q xs)) e)
         by false e true f more = ap (λ b. if b then set_first p y xs else x ∷ drop_first q (set_first p y xs)) f
         by false e false f more =
             ap (λ b. if b then set_first p y xs else x ∷ drop_first q (set_first p y xs)) f ∙ ap (λ w. x ∷ w) more
@@ -120,7 +133,8 @@ module _ {X : Type 0} where
     first-drop_other [] = refl
     first-drop_other (x ∷ xs) = by (p x) refl (first-drop_other xs)
       where
-        by : (b : Bool) → p x ≡ b → first q (drop_first p xs) ≡ first q xs → first q (if b then xs else x ∷ drop_first p xs) ≡ first q (x ∷ xs)
+        by : (b : Bool) → p x ≡ b → first q (drop_first p xs) ≡ first q xs
+            → first q (if b then xs else x ∷ drop_first p xs) ≡ first q (x ∷ xs)
         by true e more = sym (passed_over x xs e)
         by false e more = ap (λ w. if q x then Some x else w) more
 
@@ -128,7 +142,8 @@ module _ {X : Type 0} where
     drop-drop_other [] = refl
     drop-drop_other (x ∷ xs) = by (p x) refl (q x) refl (drop-drop_other xs)
       where
-        by : (b : Bool) → p x ≡ b → (c : Bool) → q x ≡ c → drop_first q (drop_first p xs) ≡ drop_first p (drop_first q xs)
+        by : (b : Bool) → p x ≡ b → (c : Bool) → q x ≡ c
+            → drop_first q (drop_first p xs) ≡ drop_first p (drop_first q xs)
             → drop_first q (if b then xs else x ∷ drop_first p xs) ≡ drop_first p (if c then xs else x ∷ drop_first q xs)
         by true e true f more = absurd (let both : true ≡ false = sym f ∙ two x e in cc)
         by true e false f more = sym (ap (λ b. if b then drop_first q xs else x ∷ drop_first p (drop_first q xs)) e)

@@ -33,7 +33,8 @@ use Rattle.local_ckpt.proofs.StepLemmas.{pieces_more, steps}
 use Rattle.local_ckpt.proofs.WayLemmas.{IsUnderWay, checkpoint_bytes, commit_way, gives_up, has_aborted, has_after, has_committed, has_still, is_done, prepares}
 
 -- rows stay orderly
-orderly_commit : (s : RowsState) (tx : TxId) (key : List ℕ) (epoch : ℕ) → IsOrderly s → IsOrderly (commit_record s tx key epoch)
+orderly_commit : (s : RowsState) (tx : TxId) (key : List ℕ) (epoch : ℕ) → IsOrderly s
+    → IsOrderly (commit_record s tx key epoch)
 orderly_commit s tx key epoch is = by (first (is_of tx key) s.pending) refl
   where
     nothing : prepared_in (first (is_of tx key) s.pending) ≡ None → IsOrderly (commit_record s tx key epoch)
@@ -59,7 +60,8 @@ put_orderly s key value epoch is = record {
   apart = apart-set_row key (Some value) epoch (with_place s.places key) (apart-with_place s.places key is.apart);
   once = is.once;
   placed = λ tx other image there.
-      has-set_row key (Some value) epoch other (with_place s.places key) ∙ has-with_place s.places key other (is.placed tx other image there);
+      has-set_row key (Some value) epoch other (with_place s.places key)
+      ∙ has-with_place s.places key other (is.placed tx other image there);
 }
 
 pub orderly : OrderlyRowsStaySo
@@ -86,30 +88,37 @@ record IsLaid (file : ℕ) (walk : WalkState) (pieces : List Laid) : Type 0 wher
   laid : AreLaidFrom file 0 pieces
   size_is : walk.size ≡ length (pieces_bytes pieces)
 
-step_laid : (file : ℕ) (s : RowsState) (walk : WalkState) (pieces : List Laid) → IsLaid file walk pieces → (o : Option ℕ)
+step_laid : (file : ℕ) (s : RowsState) (walk : WalkState) (pieces : List Laid) → IsLaid file walk pieces
+    → (o : Option ℕ)
     → IsLaid file (stepped_by s walk o) (given_by s walk pieces o)
 step_laid file s walk pieces is None = is
 step_laid file s walk pieces is (Some at) =
     let piece : Laid = next_piece s walk in
     record {
       own_file = is.own_file;
-      laid = laid_more file 0 pieces piece is.laid is.own_file (is.size_is ∙ (let e : length (pieces_bytes pieces) ≡ 0 + length (pieces_bytes pieces) = omega arith in e));
-      size_is = ap (λ n. n + length piece.bytes) is.size_is ∙ sym (length-append (pieces_bytes pieces) piece.bytes) ∙ sym (ap length (pieces_more pieces piece));
+      laid =
+          laid_more file 0 pieces piece is.laid is.own_file (is.size_is ∙ (let e : length (pieces_bytes pieces) ≡ 0 + length (pieces_bytes pieces) = omega arith in e));
+      size_is =
+          ap (λ n. n + length piece.bytes) is.size_is ∙ sym (length-append (pieces_bytes pieces) piece.bytes)
+          ∙ sym (ap length (pieces_more pieces piece));
     }
 
 commit_laid : (file : ℕ) (s : RowsState) (walk : WalkState) (pieces : List Laid) (epoch : ℕ) (o : Option (Option (List ℕ))) → IsLaid file walk pieces
     → IsLaid file (noting_if walk epoch o) pieces
 commit_laid file s walk pieces epoch None is = is
-commit_laid file s walk pieces epoch (Some image) is = record { own_file = is.own_file; laid = is.laid; size_is = is.size_is }
+commit_laid file s walk pieces epoch (Some image) is =
+    record { own_file = is.own_file; laid = is.laid; size_is = is.size_is }
 
-next_laid : (file : ℕ) (event : Event) (m : Moment) → IsLaid file m.walk m.pieces → IsLaid file (next event m).walk (next event m).pieces
+next_laid : (file : ℕ) (event : Event) (m : Moment) → IsLaid file m.walk m.pieces
+    → IsLaid file (next event m).walk (next event m).pieces
 next_laid file (Prepare tx fragment key image) m is = is
 next_laid file (Commit tx key epoch) m is = commit_laid file m.rows m.walk m.pieces epoch (image_in m.rows tx key) is
 next_laid file (Abort tx key) m is = is
 next_laid file (Complete tx key) m is = is
 next_laid file Step m is = step_laid file m.rows m.walk m.pieces is (next_place m.rows m.walk.place)
 
-all_laid : (file : ℕ) (events : List Event) (m : Moment) → IsLaid file m.walk m.pieces → IsLaid file (after events m).walk (after events m).pieces
+all_laid : (file : ℕ) (events : List Event) (m : Moment) → IsLaid file m.walk m.pieces
+    → IsLaid file (after events m).walk (after events m).pieces
 all_laid file [] m is = is
 all_laid file (event ∷ events) m is = all_laid file events (next event m) (next_laid file event m is)
 
@@ -121,22 +130,26 @@ pieces_are s log file from noted events =
 -- at first nothing was written, and every row is ahead
 module _ (s : RowsState) (log : List Redo) (file from noted : ℕ) (before : Rows) (begins : Begins s log noted before) where
   fits_first : (epoch : ℕ) → noted ≤ epoch → (q : List ℕ) → Fits (redone epoch log q) (row_at s.places q)
-  fits_first epoch few q = by (redone epoch log q) (sym (get-replayed epoch log before q) ∙ ap (λ rows. map.get rows q) (begins.redone epoch few))
+  fits_first epoch few q =
+      by (redone epoch log q) (sym (get-replayed epoch log before q) ∙ ap (λ rows. map.get rows q) (begins.redone epoch few))
     where
-      by : (found : Option (Option (List ℕ))) → over found (map.get before q) ≡ map.get before q → Fits found (row_at s.places q)
+      by : (found : Option (Option (List ℕ))) → over found (map.get before q) ≡ map.get before q
+          → Fits found (row_at s.places q)
       by None is = tt
       by (Some image) is = is ∙ begins.table q ∙ row_of-at s q
 
   covered_first : (epoch : ℕ) → noted ≤ epoch → (q : List ℕ) → IsCovered s epoch log 0 [] q
   covered_first epoch few q = by (row_at s.places q) refl
     where
-      none : (found : Option (Option (List ℕ))) → Fits found (row_at s.places q) → row_at s.places q ≡ None → over found None ≡ row_at s.places q
+      none : (found : Option (Option (List ℕ))) → Fits found (row_at s.places q) → row_at s.places q ≡ None
+          → over found None ≡ row_at s.places q
       none None fits e = sym e
       none (Some image) fits e = fits
 
       by : (row : Option (List ℕ)) → row_at s.places q ≡ row → IsCovered s epoch log 0 [] q
       by (Some value) e = inl (value, e)
-      by None e = inr (ap (over (redone epoch log q)) (map.get-empty (slice_cmp nat_cmp) q) ∙ none (redone epoch log q) (fits_first epoch few q) e)
+      by None e =
+          inr (ap (over (redone epoch log q)) (map.get-empty (slice_cmp nat_cmp) q) ∙ none (redone epoch log q) (fits_first epoch few q) e)
 
   pub at_start : IsUnderWay (λ epoch. before) (at_first s log file from noted)
   at_start = record {
@@ -168,19 +181,22 @@ all_the_way own (event ∷ events) m good way =
     all_the_way (λ epoch. left_by epoch event m.rows (own epoch)) events (next event m) good.1 (goes_on own event m good.0 way)
 
 -- Where the walk has passed all rows, what it wrote and the log give them.
-pub all_passed : (own : ℕ → Rows) (m : Moment) (way : IsUnderWay own m) → next_place m.rows m.walk.place ≡ None → (epoch : ℕ) → m.walk.epoch ≤ epoch
+pub all_passed : (own : ℕ → Rows) (m : Moment) (way : IsUnderWay own m) → next_place m.rows m.walk.place ≡ None
+    → (epoch : ℕ) → m.walk.epoch ≤ epoch
     → replayed epoch (all_in map.empty way.written) m.log ≡ own epoch
 unfolding next_place
 all_passed own m way none epoch few =
     map.same_map nat_list_cmp_total (map.slice_cmp-IsAntisymmetric map.nat_cmp-IsAntisymmetric) _ _ (λ q.
-    get-replayed epoch m.log (all_in map.empty way.written) q ∙ behind q (way.come.covered epoch few q) ∙ sym (way.up_to epoch few q))
+    get-replayed epoch m.log (all_in map.empty way.written) q ∙ behind q (way.come.covered epoch few q)
+    ∙ sym (way.up_to epoch few q))
   where
     no_place : (o : Option ℕ) → next_by m.walk.place o ≡ None → o ≡ None
     no_place None e = refl
     no_place (Some more) e = absurd cc
 
     gone : (q : List ℕ) → row_at (drop m.walk.place m.rows.places) q ≡ None
-    gone = no_rows_left (drop m.walk.place m.rows.places) (no_place (position has_row (drop m.walk.place m.rows.places)) none)
+    gone =
+        no_rows_left (drop m.walk.place m.rows.places) (no_place (position has_row (drop m.walk.place m.rows.places)) none)
 
     behind : (q : List ℕ) → IsCovered m.rows epoch m.log m.walk.place way.written q
         → over (redone epoch m.log q) (map.get (all_in map.empty way.written) q) ≡ row_at m.rows.places q
@@ -199,16 +215,20 @@ module _ (epoch : ℕ) (rows own : Rows) (s : RowsState) (log : List Redo) (is :
   kept_commit tx key at None e = subst (λ t. IsKept epoch rows own t log) (sym (commits_nothing s tx key at e)) is
   kept_commit tx key at (Some image) e = record {
     orderly = orderly_commit s tx key at is.orderly;
-    prepared = has_committed s (commit_record s tx key at) log tx key at is.prepared (by (first (is_of tx key) s.pending) refl e);
-    same = ap (λ found. applied epoch (redo.Commit tx at key) found (replayed epoch rows log)) (is.prepared tx key image e)
+    prepared =
+        has_committed s (commit_record s tx key at) log tx key at is.prepared (by (first (is_of tx key) s.pending) refl e);
+    same =
+        ap (λ found. applied epoch (redo.Commit tx at key) found (replayed epoch rows log)) (is.prepared tx key image e)
         ∙ ap (applied epoch (redo.Commit tx at key) (Some image)) is.same;
   }
     where
-      by : (o : Option PendingRecord) → first (is_of tx key) s.pending ≡ o → prepared_in o ≡ Some image → Prepared s (commit_record s tx key at) tx key None
+      by : (o : Option PendingRecord) → first (is_of tx key) s.pending ≡ o → prepared_in o ≡ Some image
+          → Prepared s (commit_record s tx key at) tx key None
       by None f is_image = absurd cc
       by (Some r) f is_image = if_done r.committed refl is_image
         where
-          if_done : (b : Bool) → r.committed ≡ b → (if b then None else Some r.image) ≡ Some image → Prepared s (commit_record s tx key at) tx key None
+          if_done : (b : Bool) → r.committed ≡ b → (if b then None else Some r.image) ≡ Some image
+              → Prepared s (commit_record s tx key at) tx key None
           if_done true g is_image = absurd cc
           if_done false g is_image = commits s tx key at is.orderly r f g
 
@@ -238,7 +258,8 @@ all_kept epoch rows own [] m is = is.same
 all_kept epoch rows own (event ∷ events) m is =
     all_kept epoch rows (left_by epoch event m.rows own) events (next event m) (kept epoch rows own m.rows m.log is event)
 
-checkpoint_read : CheckpointsAreRead → (saved : ℕ) (written : List StoredRow) → saved < 2 ^ 64 → AreRowsOf Second saved written
+checkpoint_read : CheckpointsAreRead → (saved : ℕ) (written : List StoredRow) → saved < 2 ^ 64
+    → AreRowsOf Second saved written
     → rows_in saved (checkpoint_bytes written) ≡ Ok (all_in map.empty written)
 checkpoint_read read saved [] small are = (read saved [] small).0 tt
 checkpoint_read read saved (row ∷ rows) small are = (read saved (row ∷ rows) small).1 are
@@ -250,7 +271,8 @@ restore read s log file from noted saved epoch before meanwhile later begins goo
     all_the_way (λ epoch. before) meanwhile (at_first s log file from noted) good (at_start s log file from noted before begins) in
     let rows : Rows = all_in map.empty way.written in (
       rows,
-      ap (rows_in saved) way.bytes_are ∙ checkpoint_read read saved way.written small (later_rows m.walk.epoch saved way.written saves way.come.rows_are),
+      ap (rows_in saved) way.bytes_are
+          ∙ checkpoint_read read saved way.written small (later_rows m.walk.epoch saved way.written saves way.come.rows_are),
       all_kept epoch rows (left epoch meanwhile s before) later m
           (record { orderly = way.orderly; prepared = way.prepared; same = all_passed (λ epoch. left epoch meanwhile s before) m way none epoch few }),
     )

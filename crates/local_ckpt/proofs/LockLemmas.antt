@@ -11,10 +11,9 @@ use Rattle.sig_core.specs.declared.rows.PendingRecord.{PendingRecord}
 use Rattle.sig_core.specs.Firsts.{first}
 use Rattle.sig_core.specs.Rows.{RowsState, abort_record, commit_record, complete_record, is_of, storing}
 use Rattle.sig_core.specs.Same.{same_key, same_tx}
-use Rattle.sig_core.specs.Table.{Rows}
 use Rattle.sig_core.proofs.Keys.{same_key-swap, same_tx-self}
-use Rattle.sig_core.proofs.TxLemmas.{same_tx-is, same_tx-swap}
-use Rattle.redo_log.specs.Replay.{image_of, replayed}
+use Rattle.sig_core.proofs.TxLemmas.{same_tx-swap}
+use Rattle.redo_log.specs.Replay.{image_of}
 use Rattle.local_ckpt.specs.Events.{Abort, Commit, Complete, Event, Moment, Prepare, Step, after, changed, log_if, logged, next}
 use Rattle.local_ckpt.specs.Locking.{AreLocked, IsAlone, KeepLocks, KeepsLock, LogsLeaveRows}
 use Rattle.local_ckpt.specs.Orderly.{IsOrderly, image_in, prepared_in}
@@ -22,7 +21,7 @@ use Rattle.local_ckpt.proofs.CoverLemmas.{Fits, over_fits}
 use Rattle.local_ckpt.proofs.EventLemmas.{LeavesRows, Prepared, Rewrites, aborts, commits, commits_row, completes, stores, stores_rows}
 use Rattle.local_ckpt.proofs.PlaceLemmas.{row_at, row_of-at, same}
 use Rattle.local_ckpt.proofs.RecordLemmas.{by_record, commits_nothing, is_same, own_record}
-use Rattle.local_ckpt.proofs.RedoLemmas.{get-replayed, over, redoing, redone}
+use Rattle.local_ckpt.proofs.RedoLemmas.{get-replayed, redoing, redone}
 
 -- What the log has as prepared is prepared, and what it makes of a key's row is what the row is. Of a key with an image that
 -- was prepared before the log began, it makes nothing.
@@ -44,7 +43,8 @@ module _ (noted : ℕ) (s : RowsState) (log : List Redo) (is : IsSince noted s l
       → ((epoch : ℕ) (q : List ℕ) → redone epoch further q ≡ redone epoch log q) → IsSince noted after further
   fewer after further orderly leaves was known gone same_redo = record {
     orderly = orderly;
-    locked = λ tx key image here other another there. is.locked tx key image (was tx key image here) other another (was other key another there);
+    locked =
+        λ tx key image here other another there. is.locked tx key image (was tx key image here) other another (was other key another there);
     known = known;
     fits = λ epoch few q.
         subst (λ row. Fits (redone epoch further q) row) (sym (leaves.rows_are 0 q))
@@ -54,11 +54,13 @@ module _ (noted : ℕ) (s : RowsState) (log : List Redo) (is : IsSince noted s l
   }
 
   -- where the image of one record goes
-  was_kept : (b : Bool) (old : Option (Option (List ℕ))) (image : Option (List ℕ)) → (if b then None else old) ≡ Some image → (b ≡ false) × (old ≡ Some image)
+  was_kept : (b : Bool) (old : Option (Option (List ℕ))) (image : Option (List ℕ))
+      → (if b then None else old) ≡ Some image → (b ≡ false) × (old ≡ Some image)
   was_kept true old image is = absurd cc
   was_kept false old image is = (refl, is)
 
-  log_kept : (b : Bool) (old : Option (Option (List ℕ))) (image : Option (List ℕ)) → cond b None old ≡ Some image → (b ≡ false) × (old ≡ Some image)
+  log_kept : (b : Bool) (old : Option (Option (List ℕ))) (image : Option (List ℕ)) → cond b None old ≡ Some image
+      → (b ≡ false) × (old ≡ Some image)
   log_kept true old image is = absurd cc
   log_kept false old image is = (refl, is)
 
@@ -68,13 +70,15 @@ module _ (noted : ℕ) (s : RowsState) (log : List Redo) (is : IsSince noted s l
     was_prepared other key2 image here =
         was_kept (is_same tx key other key2) (image_in s other key2) image (sym (ended.images other key2) ∙ here)
 
-    still_prepared : (other : TxId) (key2 : List ℕ) (image : Option (List ℕ)) → is_same tx key other key2 ≡ false → image_in s other key2 ≡ Some image
+    still_prepared : (other : TxId) (key2 : List ℕ) (image : Option (List ℕ)) → is_same tx key other key2 ≡ false
+        → image_in s other key2 ≡ Some image
         → image_in after other key2 ≡ Some image
     still_prepared other key2 image off here =
         ended.images other key2 ∙ ap (λ b. if b then None else image_in s other key2) off ∙ here
 
     -- another transaction's key is another
-    other_key : (image found : Option (List ℕ)) → image_in s tx key ≡ Some image → (other : TxId) (key2 : List ℕ) → image_in s other key2 ≡ Some found
+    other_key : (image found : Option (List ℕ)) → image_in s tx key ≡ Some image → (other : TxId) (key2 : List ℕ)
+        → image_in s other key2 ≡ Some found
         → is_same tx key other key2 ≡ false → same_key key key2 ≡ false
     other_key image found here other key2 there off = by (same_key key key2) refl
       where
@@ -88,7 +92,8 @@ module _ (noted : ℕ) (s : RowsState) (log : List Redo) (is : IsSince noted s l
     record_none off = let both : true ≡ false = sym (own_record tx key) ∙ off in cc
 
   -- what is given up, and logged so
-  given_up : (after : RowsState) (tx : TxId) (key : List ℕ) → Prepared s after tx key None → LeavesRows s after → IsSince noted after (redo.Abort tx key ∷ log)
+  given_up : (after : RowsState) (tx : TxId) (key : List ℕ) → Prepared s after tx key None → LeavesRows s after
+      → IsSince noted after (redo.Abort tx key ∷ log)
   given_up after tx key ended leaves =
       fewer after (redo.Abort tx key ∷ log) ended.orderly leaves
       (λ other key2 image here. (was_prepared after tx key ended other key2 image here).1)
@@ -99,14 +104,16 @@ module _ (noted : ℕ) (s : RowsState) (log : List Redo) (is : IsSince noted s l
       (λ epoch q. refl)
 
   -- nothing was prepared
-  nothing_up : (after : RowsState) (tx : TxId) (key : List ℕ) → image_in s tx key ≡ None → Prepared s after tx key None → LeavesRows s after → IsSince noted after log
+  nothing_up : (after : RowsState) (tx : TxId) (key : List ℕ) → image_in s tx key ≡ None → Prepared s after tx key None
+      → LeavesRows s after → IsSince noted after log
   nothing_up after tx key none ended leaves =
       fewer after log ended.orderly leaves
       (λ other key2 image here. (was_prepared after tx key ended other key2 image here).1)
       (λ other key2 image here. still other key2 image (is.known other key2 image here))
       (λ other key2 image here gone. gone) (λ epoch q. refl)
     where
-      still : (other : TxId) (key2 : List ℕ) (image : Option (List ℕ)) → image_in s other key2 ≡ Some image → image_in after other key2 ≡ Some image
+      still : (other : TxId) (key2 : List ℕ) (image : Option (List ℕ)) → image_in s other key2 ≡ Some image
+          → image_in after other key2 ≡ Some image
       still other key2 image here =
           ended.images other key2
           ∙ by_record tx other key key2 (λ t k b. image_in s t k ≡ Some image → (if b then None else image_in s t k) ≡ Some image)
@@ -117,9 +124,13 @@ module _ (noted : ℕ) (s : RowsState) (log : List Redo) (is : IsSince noted s l
       → IsSince noted (storing s tx key image) (redo.Prepare tx fragment key image ∷ log)
   prepare tx fragment key image alone = record {
     orderly = stored.orderly;
-    locked = λ one key2 found here other another there. held one key2 found other another (now one key2 found here) (now other key2 another there);
-    known = λ other key2 found here. stored.images other key2 ∙ log_had (is_same tx key other key2) other key2 found here (is.known other key2 found);
-    fits = λ epoch few q. subst (λ row. Fits (redone epoch log q) row) (sym (leaves.rows_are 0 q)) (is.fits epoch few q);
+    locked =
+        λ one key2 found here other another there. held one key2 found other another (now one key2 found here) (now other key2 another there);
+    known =
+        λ other key2 found here. stored.images other key2
+        ∙ log_had (is_same tx key other key2) other key2 found here (is.known other key2 found);
+    fits =
+        λ epoch few q. subst (λ row. Fits (redone epoch log q) row) (sym (leaves.rows_are 0 q)) (is.fits epoch few q);
     older = λ other key2 found here none epoch few.
         log_lacks (is_same tx key other key2) other key2 found (now other key2 found here) none (λ was gone. is.older other key2 found was gone epoch few);
   }
@@ -130,7 +141,8 @@ module _ (noted : ℕ) (s : RowsState) (log : List Redo) (is : IsSince noted s l
       leaves : LeavesRows s (storing s tx key image)
       leaves = stores_rows s tx key image is.orderly
 
-      now : (other : TxId) (key2 : List ℕ) (found : Option (List ℕ)) → image_in (storing s tx key image) other key2 ≡ Some found
+      now : (other : TxId) (key2 : List ℕ) (found : Option (List ℕ))
+          → image_in (storing s tx key image) other key2 ≡ Some found
           → (if is_same tx key other key2 then Some image else image_in s other key2) ≡ Some found
       now other key2 found here = sym (stored.images other key2) ∙ here
 
@@ -140,7 +152,8 @@ module _ (noted : ℕ) (s : RowsState) (log : List Redo) (is : IsSince noted s l
       log_had true other key2 found here more = here
       log_had false other key2 found here more = more here
 
-      log_lacks : {A : Type 0} (b : Bool) (other : TxId) (key2 : List ℕ) (found : Option (List ℕ)) → (if b then Some image else image_in s other key2) ≡ Some found
+      log_lacks : {A : Type 0} (b : Bool) (other : TxId) (key2 : List ℕ) (found : Option (List ℕ))
+          → (if b then Some image else image_in s other key2) ≡ Some found
           → cond b (Some image) (image_of log (record { tx = other; key = key2 })) ≡ None
           → (image_in s other key2 ≡ Some found → image_of log (record { tx = other; key = key2 }) ≡ None → A) → A
       log_lacks true other key2 found here none more = absurd cc
@@ -148,7 +161,8 @@ module _ (noted : ℕ) (s : RowsState) (log : List Redo) (is : IsSince noted s l
 
       held : (one : TxId) (key2 : List ℕ) (found : Option (List ℕ)) (other : TxId) (another : Option (List ℕ))
           → (if is_same tx key one key2 then Some image else image_in s one key2) ≡ Some found
-          → (if is_same tx key other key2 then Some image else image_in s other key2) ≡ Some another → same_tx one other ≡ true
+          → (if is_same tx key other key2 then Some image else image_in s other key2) ≡ Some another
+          → same_tx one other ≡ true
       held one key2 found other another =
           by_record tx one key key2 (λ t k b. (if b then Some image else image_in s t k) ≡ Some found
           → (if is_same tx key other k then Some image else image_in s other k) ≡ Some another → same_tx t other ≡ true)
@@ -176,7 +190,8 @@ module _ (noted : ℕ) (s : RowsState) (log : List Redo) (is : IsSince noted s l
 
     -- the log makes it the row where it has the prepare, and else nothing more than before
     has_prepare : (image : Option (List ℕ)) → image_of log (record { tx = tx; key = key }) ≡ Some image → (epoch : ℕ) → noted ≤ epoch → (q : List ℕ) (b : Bool)
-        → same_key key q ≡ b → redone epoch (redo.Commit tx at key ∷ log) q ≡ (if b then Some image else redone epoch log q)
+        → same_key key q ≡ b
+        → redone epoch (redo.Commit tx at key ∷ log) q ≡ (if b then Some image else redone epoch log q)
     has_prepare image has epoch few q b e =
         let now : nat_le at epoch ≡ true = grind (arith, nat_tests, few, early) in
         ap (λ o. redoing epoch (redo.Commit tx at key) o q (redone epoch log q)) has
@@ -245,7 +260,8 @@ module _ (noted : ℕ) (s : RowsState) (log : List Redo) (is : IsSince noted s l
       → IsSince noted (abort_record s tx key) (log_if (redo.Abort tx key) o log)
   abort tx key None e =
       let gone = aborts s tx key is.orderly in nothing_up (abort_record s tx key) tx key e gone.prepared gone.leaves
-  abort tx key (Some image) e = let gone = aborts s tx key is.orderly in given_up (abort_record s tx key) tx key gone.prepared gone.leaves
+  abort tx key (Some image) e =
+      let gone = aborts s tx key is.orderly in given_up (abort_record s tx key) tx key gone.prepared gone.leaves
 
   complete : (tx : TxId) (key : List ℕ) → IsSince noted (complete_record s tx key) log
   complete tx key =
@@ -265,7 +281,8 @@ module _ (noted : ℕ) (s : RowsState) (log : List Redo) (is : IsSince noted s l
 all_since : (noted : ℕ) (events : List Event) (m : Moment) → KeepLocks noted m.rows events → IsSince noted m.rows m.log
     → IsSince noted (after events m).rows (after events m).log
 all_since noted [] m keep is = is
-all_since noted (event ∷ events) m keep is = all_since noted events (next event m) keep.1 (one_since noted m.rows m.log is event keep.0)
+all_since noted (event ∷ events) m keep is =
+    all_since noted events (next event m) keep.1 (one_since noted m.rows m.log is event keep.0)
 
 pub leave_rows : LogsLeaveRows
 leave_rows m events noted epoch rows none orderly locked keep few table =
@@ -279,7 +296,12 @@ leave_rows m events noted epoch rows none orderly locked keep few table =
 
     first_since : IsSince noted m.rows []
     first_since = record {
-      orderly = orderly; locked = locked; known = λ tx key image e. absurd cc; fits = λ epoch few q. tt; older = λ tx key image here gone epoch few. refl;
+      orderly =
+          orderly;
+      locked = locked;
+      known = λ tx key image e. absurd cc;
+      fits = λ epoch few q. tt;
+      older = λ tx key image here gone epoch few. refl;
     }
 
     all : IsSince noted (after events m).rows (after events m).log

@@ -11,11 +11,13 @@ use Rattle.lcp_store.specs.Bytes.{row_bytes}
 use Rattle.local_ckpt.specs.declared.passing.TheConstants.{PIECE_ROWS}
 use Rattle.local_ckpt.specs.Passing.{IsRowPlace, Passed, pass, pass_by, pass_one, passed_from, row_in}
 
-pub row_there : (s : RowsState) (from at : ℕ) → next_place s from ≡ Some at → has_row (slice_index_or s.places at None) ≡ true
+pub row_there : (s : RowsState) (from at : ℕ) → next_place s from ≡ Some at
+    → has_row (slice_index_or s.places at None) ≡ true
 unfolding next_place
 row_there s from at is = by (position has_row (drop from s.places)) refl is
   where
-    by : (o : Option ℕ) → position has_row (drop from s.places) ≡ o → next_by from o ≡ Some at → has_row (slice_index_or s.places at None) ≡ true
+    by : (o : Option ℕ) → position has_row (drop from s.places) ≡ o → next_by from o ≡ Some at
+        → has_row (slice_index_or s.places at None) ≡ true
     by None e is = absurd cc
     by (Some more) e is =
         let place : from + more ≡ at = cc in
@@ -35,7 +37,8 @@ pub record IsPassed (s : RowsState) (from : ℕ) (start : List ℕ) (n : ℕ) (p
 pub none_passed : (s : RowsState) (from : ℕ) (start : List ℕ) → IsPassed s from start 0 from start
 none_passed s from start = record { place_is = refl; bytes_are = sym (append-nil start) }
 
-pub one_passed : (s : RowsState) (from : ℕ) (start : List ℕ) (n place at : ℕ) (bytes more : List ℕ) → IsPassed s from start n place bytes
+pub one_passed : (s : RowsState) (from : ℕ) (start : List ℕ) (n place at : ℕ) (bytes more : List ℕ)
+    → IsPassed s from start n place bytes
     → next_place s place ≡ Some at → more ≡ bytes ++ flat_map row_bytes (row_in s (slice_index_or s.places at None))
     → IsPassed s from start (n + 1) (at + 1) more
 one_passed s from start n place at bytes more is next added =
@@ -58,9 +61,11 @@ all_passed : (s : RowsState) (passed : Passed) (n more : ℕ) → next_place s (
 all_passed s passed n zero none = ap (λ m. pass s m passed) (let e : zero + n ≡ n = omega arith in e)
 all_passed s passed n (suc more) none =
     let e : suc more + n ≡ suc (more + n) = omega arith in
-    ap (λ m. pass s m passed) e ∙ ap (pass_one s) (all_passed s passed n more none) ∙ ap (pass_by s (pass s n passed)) none
+    ap (λ m. pass s m passed) e ∙ ap (pass_one s) (all_passed s passed n more none)
+    ∙ ap (pass_by s (pass s n passed)) none
 
-no_more : (s : RowsState) (from : ℕ) (start : List ℕ) (n most place : ℕ) (bytes : List ℕ) → IsPassed s from start n place bytes → n ≤ most
+no_more : (s : RowsState) (from : ℕ) (start : List ℕ) (n most place : ℕ) (bytes : List ℕ)
+    → IsPassed s from start n place bytes → n ≤ most
     → next_place s place ≡ None → IsPassed s from start most place bytes
 no_more s from start n most place bytes is few none =
     let first : Passed = record { rows = []; place = from } in
@@ -78,18 +83,22 @@ pub record IsPiece (s : RowsState) (from : ℕ) (start : List ℕ) (place : ℕ)
   pub place_is : place ≡ (passed_from s from).place
   pub bytes_are : bytes ≡ start ++ flat_map row_bytes (passed_from s from).rows
 
-whole : (s : RowsState) (from : ℕ) (start : List ℕ) (place : ℕ) (bytes : List ℕ) → IsPassed s from start PIECE_ROWS place bytes → IsPiece s from start place bytes
+whole : (s : RowsState) (from : ℕ) (start : List ℕ) (place : ℕ) (bytes : List ℕ)
+    → IsPassed s from start PIECE_ROWS place bytes → IsPiece s from start place bytes
 unfolding passed_from
 whole s from start place bytes is = record { place_is = is.place_is; bytes_are = is.bytes_are }
 
-pub full_piece : (s : RowsState) (from : ℕ) (start : List ℕ) (n place : ℕ) (bytes : List ℕ) → IsPassed s from start n place bytes
+pub full_piece : (s : RowsState) (from : ℕ) (start : List ℕ) (n place : ℕ) (bytes : List ℕ)
+    → IsPassed s from start n place bytes
     → n ≤ PIECE_ROWS → PIECE_ROWS ≤ n → IsPiece s from start place bytes
 full_piece s from start n place bytes is few all =
     let same : n ≡ PIECE_ROWS = omega (arith, few, all) in
     whole s from start place bytes (subst (λ m. IsPassed s from start m place bytes) same is)
 
-pub last_piece : (s : RowsState) (from : ℕ) (start : List ℕ) (n place : ℕ) (bytes : List ℕ) → IsPassed s from start n place bytes
+pub last_piece : (s : RowsState) (from : ℕ) (start : List ℕ) (n place : ℕ) (bytes : List ℕ)
+    → IsPassed s from start n place bytes
     → n ≤ PIECE_ROWS → next_place s place ≡ None → IsPiece s from start place bytes
-last_piece s from start n place bytes is few none = whole s from start place bytes (no_more s from start n PIECE_ROWS place bytes is few none)
+last_piece s from start n place bytes is few none =
+    whole s from start place bytes (no_more s from start n PIECE_ROWS place bytes is few none)
 
 pub ruleset passes = (none_passed, one_passed)

@@ -26,7 +26,8 @@ pub own_record : (tx : TxId) (key : List ℕ) → is_same tx key tx key ≡ true
 own_record tx key = λ i. same_tx-self tx i && same_key-self key i
 
 -- of two, no record is both's
-pub two_records : (tx other : TxId) (key key2 : List ℕ) → is_same tx key other key2 ≡ false → Disjoint (is_of tx key) (is_of other key2)
+pub two_records : (tx other : TxId) (key key2 : List ℕ) → is_same tx key other key2 ≡ false
+    → Disjoint (is_of tx key) (is_of other key2)
 two_records tx other key key2 off x is =
     let parts = and_parts (same_tx x.tx tx) (same_key x.key key) is in
     (λ i. same_tx (same_tx-is x.tx tx parts.0 i) other && same_key (same x.key key parts.1 i) key2) ∙ off
@@ -43,7 +44,8 @@ by_record tx other key key2 P own apart = by (is_same tx key other key2) refl
     by false e = apart e
 
 -- the key of a record that is found
-pub key_of_first : (tx : TxId) (key : List ℕ) (pending : List PendingRecord) (r : PendingRecord) → first (is_of tx key) pending ≡ Some r → r.key ≡ key
+pub key_of_first : (tx : TxId) (key : List ℕ) (pending : List PendingRecord) (r : PendingRecord)
+    → first (is_of tx key) pending ≡ Some r → r.key ≡ key
 key_of_first tx key pending r is =
     same r.key key (and_parts (same_tx r.tx tx) (same_key r.key key) (first_passes (is_of tx key) pending r is)).1
 
@@ -56,11 +58,14 @@ unfolding record_of
 record_of-first s tx key = get_at-by s.pending (record_at s.pending tx key) ∙ first-get (is_of tx key) s.pending
 
 -- one is recorded
-pub recorded-put : (p : PendingRecord → Bool) (r : PendingRecord) (xs : List PendingRecord) → recorded_by xs r (position p xs) ≡ put_first p r xs
+pub recorded-put : (p : PendingRecord → Bool) (r : PendingRecord) (xs : List PendingRecord)
+    → recorded_by xs r (position p xs) ≡ put_first p r xs
 recorded-put p r [] = refl
-recorded-put p r (x ∷ xs) = ap (recorded_by (x ∷ xs) r) (position-cons p x xs) ∙ by (p x) (position p xs) (recorded-put p r xs)
+recorded-put p r (x ∷ xs) =
+    ap (recorded_by (x ∷ xs) r) (position-cons p x xs) ∙ by (p x) (position p xs) (recorded-put p r xs)
   where
-    by : (b : Bool) (at : Option ℕ) → recorded_by xs r at ≡ put_first p r xs → recorded_by (x ∷ xs) r (place_by b at) ≡ (if b then r ∷ xs else x ∷ put_first p r xs)
+    by : (b : Bool) (at : Option ℕ) → recorded_by xs r at ≡ put_first p r xs
+        → recorded_by (x ∷ xs) r (place_by b at) ≡ (if b then r ∷ xs else x ∷ put_first p r xs)
     by true at more = refl
     by false None more = ap (λ w. x ∷ w) more
     by false (Some at) more = ap (λ w. x ∷ w) more
@@ -71,7 +76,8 @@ rows_with places pending = record { places = places; pending = pending }
 
 module _ (s : RowsState) (tx : TxId) (key : List ℕ) (epoch : ℕ) where
   commit_found : (o : Option PendingRecord) → first (is_of tx key) s.pending ≡ o → (after : RowsState)
-      → ((at : ℕ) → record_at s.pending tx key ≡ Some at → commit_by s epoch (Some at) o ≡ after) → (o ≡ None → s ≡ after) → commit_record s tx key epoch ≡ after
+      → ((at : ℕ) → record_at s.pending tx key ≡ Some at → commit_by s epoch (Some at) o ≡ after)
+      → (o ≡ None → s ≡ after) → commit_record s tx key epoch ≡ after
   unfolding commit_record
   commit_found o is after found none = by (record_at s.pending tx key) refl
     where
@@ -82,11 +88,13 @@ module _ (s : RowsState) (tx : TxId) (key : List ℕ) (epoch : ℕ) where
   pub commits_nothing : prepared_in (first (is_of tx key) s.pending) ≡ None → commit_record s tx key epoch ≡ s
   commits_nothing none = by (first (is_of tx key) s.pending) refl none
     where
-      by : (o : Option PendingRecord) → first (is_of tx key) s.pending ≡ o → prepared_in o ≡ None → commit_record s tx key epoch ≡ s
+      by : (o : Option PendingRecord) → first (is_of tx key) s.pending ≡ o → prepared_in o ≡ None
+          → commit_record s tx key epoch ≡ s
       by None is none = commit_found None is s (λ at e. refl) (λ e. refl)
       by (Some r) is none = if_done r.committed refl none
         where
-          if_done : (b : Bool) → r.committed ≡ b → (if b then None else Some r.image) ≡ None → commit_record s tx key epoch ≡ s
+          if_done : (b : Bool) → r.committed ≡ b → (if b then None else Some r.image) ≡ None
+              → commit_record s tx key epoch ≡ s
           if_done true e none = commit_found (Some r) is s (λ at f. ap (commit_if s at r epoch) e) (λ f. absurd cc)
           if_done false e none = absurd cc
 
@@ -103,7 +111,8 @@ module _ (done : Bool) (s : RowsState) (tx : TxId) (key : List ℕ) where
   dropped = rows.drop_by s done (record_at s.pending tx key) (record_of s tx key)
 
   drop_found : (o : Option PendingRecord) → first (is_of tx key) s.pending ≡ o → (after : RowsState)
-      → ((at : ℕ) → record_at s.pending tx key ≡ Some at → rows.drop_by s done (Some at) o ≡ after) → (o ≡ None → s ≡ after) → dropped ≡ after
+      → ((at : ℕ) → record_at s.pending tx key ≡ Some at → rows.drop_by s done (Some at) o ≡ after)
+      → (o ≡ None → s ≡ after) → dropped ≡ after
   drop_found o is after found none = by (record_at s.pending tx key) refl
     where
       by : (at : Option ℕ) → record_at s.pending tx key ≡ at → rows.drop_by s done at (record_of s tx key) ≡ after
@@ -113,7 +122,8 @@ module _ (done : Bool) (s : RowsState) (tx : TxId) (key : List ℕ) where
   pub drops_nothing : first (is_of tx key) s.pending ≡ None → dropped ≡ s
   drops_nothing is = drop_found None is s (λ at e. refl) (λ e. refl)
 
-  pub drops_other : (r : PendingRecord) → first (is_of tx key) s.pending ≡ Some r → is_as done r.committed ≡ false → dropped ≡ s
+  pub drops_other : (r : PendingRecord) → first (is_of tx key) s.pending ≡ Some r → is_as done r.committed ≡ false
+      → dropped ≡ s
   drops_other r is other = drop_found (Some r) is s (λ at e. ap (drop_if s at r) other) (λ f. absurd cc)
 
   pub drops_it : (r : PendingRecord) → first (is_of tx key) s.pending ≡ Some r → is_as done r.committed ≡ true
@@ -124,12 +134,14 @@ module _ (done : Bool) (s : RowsState) (tx : TxId) (key : List ℕ) where
       (λ f. absurd cc)
 
 -- a key on which nothing is at work has no record
-pub idle_none : (pending : List PendingRecord) (tx : TxId) (key : List ℕ) → is_idle pending key ≡ true → first (is_of tx key) pending ≡ None
+pub idle_none : (pending : List PendingRecord) (tx : TxId) (key : List ℕ) → is_idle pending key ≡ true
+    → first (is_of tx key) pending ≡ None
 idle_none [] tx key idle = refl
 idle_none (x ∷ xs) tx key idle =
     by (same_key x.key key) refl (list_any (is_on key) xs) refl (not-true (same_key x.key key || list_any (is_on key) xs) idle) (idle_none xs tx key)
   where
-    by : (b : Bool) → same_key x.key key ≡ b → (c : Bool) → list_any (is_on key) xs ≡ c → (b || c) ≡ false → (is_idle xs key ≡ true → first (is_of tx key) xs ≡ None)
+    by : (b : Bool) → same_key x.key key ≡ b → (c : Bool) → list_any (is_on key) xs ≡ c → (b || c) ≡ false
+        → (is_idle xs key ≡ true → first (is_of tx key) xs ≡ None)
         → (if same_tx x.tx tx && same_key x.key key then Some x else first (is_of tx key) xs) ≡ None
     by true e c f none more = absurd cc
     by false e true f none more = absurd cc

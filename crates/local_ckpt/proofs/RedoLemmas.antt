@@ -15,7 +15,8 @@ abbrev pub redoing : ℕ → Redo → Option (Option (List ℕ)) → List ℕ �
 redoing epoch (Prepare tx fragment key image) found q older = older
 redoing epoch (Abort tx key) found q older = older
 redoing epoch (Commit tx at key) None q older = older
-redoing epoch (Commit tx at key) (Some image) q older = if nat_le at epoch then (if same_key q key then Some image else older) else older
+redoing epoch (Commit tx at key) (Some image) q older =
+    if nat_le at epoch then (if same_key q key then Some image else older) else older
 
 -- what some records, the newest first, make of the row of a key, where they make anything of it
 abbrev pub redone : ℕ → List Redo → List ℕ → Option (Option (List ℕ))
@@ -30,20 +31,23 @@ over (Some image) row = image
 pub get-with_image : (rows : Rows) (key : List ℕ) (image : Option (List ℕ)) (q : List ℕ)
     → map.get (with_image rows key image) q ≡ (if same_key q key then image else map.get rows q)
 get-with_image rows key None q =
-    map.get-remove nat_list_cmp_total rows key q ∙ ap (λ b. cond b None (map.get rows q)) (tied-same_key q key) ∙ by (same_key q key)
+    map.get-remove nat_list_cmp_total rows key q ∙ ap (λ b. cond b None (map.get rows q)) (tied-same_key q key)
+    ∙ by (same_key q key)
   where
     by : (b : Bool) → cond b None (map.get rows q) ≡ (if b then None else map.get rows q)
     by true = refl
     by false = refl
 get-with_image rows key (Some value) q =
-    map.get-insert nat_list_cmp_total rows key value q ∙ ap (λ b. cond b (Some value) (map.get rows q)) (tied-same_key q key) ∙ by (same_key q key)
+    map.get-insert nat_list_cmp_total rows key value q
+    ∙ ap (λ b. cond b (Some value) (map.get rows q)) (tied-same_key q key) ∙ by (same_key q key)
   where
     by : (b : Bool) → cond b (Some value) (map.get rows q) ≡ (if b then Some value else map.get rows q)
     by true = refl
     by false = refl
 
 pub get-applied : (epoch : ℕ) (redo : Redo) (found : Option (Option (List ℕ))) (rows : Rows) (q : List ℕ) (older : Option (Option (List ℕ)))
-    (row : Option (List ℕ)) → map.get rows q ≡ over older row → map.get (applied epoch redo found rows) q ≡ over (redoing epoch redo found q older) row
+    (row : Option (List ℕ)) → map.get rows q ≡ over older row
+    → map.get (applied epoch redo found rows) q ≡ over (redoing epoch redo found q older) row
 get-applied epoch (Prepare tx fragment key image) found rows q older row is = is
 get-applied epoch (Abort tx key) found rows q older row is = is
 get-applied epoch (Commit tx at key) None rows q older row is = is
@@ -53,11 +57,13 @@ get-applied epoch (Commit tx at key) (Some image) rows q older row is = by (nat_
     own true = refl
     own false = is
 
-    by : (b : Bool) → map.get (if b then with_image rows key image else rows) q ≡ over (if b then (if same_key q key then Some image else older) else older) row
+    by : (b : Bool)
+        → map.get (if b then with_image rows key image else rows) q ≡ over (if b then (if same_key q key then Some image else older) else older) row
     by true = get-with_image rows key image q ∙ own (same_key q key)
     by false = is
 
-pub get-replayed : (epoch : ℕ) (log : List Redo) (rows : Rows) (q : List ℕ) → map.get (replayed epoch rows log) q ≡ over (redone epoch log q) (map.get rows q)
+pub get-replayed : (epoch : ℕ) (log : List Redo) (rows : Rows) (q : List ℕ)
+    → map.get (replayed epoch rows log) q ≡ over (redone epoch log q) (map.get rows q)
 get-replayed epoch [] rows q = refl
 get-replayed epoch (redo ∷ older) rows q =
     get-applied epoch redo (image_of older (id_of redo)) (replayed epoch rows older) q (redone epoch older q) (map.get rows q) (get-replayed epoch older rows q)

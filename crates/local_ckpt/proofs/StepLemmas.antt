@@ -60,12 +60,14 @@ unfolding passed_from
 some_in_piece s place at is = some_passed s place at is 127
 
 -- rows behind those of a checkpoint, with the head where there were none
-pub checkpoint_more : (written rows : List StoredRow) (size : ℕ) → size ≡ length (checkpoint_bytes written) → IsSome rows
+pub checkpoint_more : (written rows : List StoredRow) (size : ℕ) → size ≡ length (checkpoint_bytes written)
+    → IsSome rows
     → checkpoint_bytes written ++ rows_at size rows ≡ checkpoint_bytes (written ++ rows)
 checkpoint_more [] rows size is some =
     ap (λ n. head_at n ++ flat_map row_bytes rows) is ∙ sym (first rows some.row some.others some.are)
   where
-    first : (rows : List StoredRow) (row : StoredRow) (others : List StoredRow) → rows ≡ row ∷ others → checkpoint_bytes rows ≡ head_bytes ++ flat_map row_bytes rows
+    first : (rows : List StoredRow) (row : StoredRow) (others : List StoredRow) → rows ≡ row ∷ others
+        → checkpoint_bytes rows ≡ head_bytes ++ flat_map row_bytes rows
     first [] row others e = absurd cc
     first (x ∷ xs) row others e = refl
 checkpoint_more (w ∷ written) rows size is some =
@@ -74,14 +76,16 @@ checkpoint_more (w ∷ written) rows size is some =
     ap (λ b. checkpoint_bytes (w ∷ written) ++ ((if b then head_bytes else []) ++ flat_map row_bytes rows)) later
     ∙ ap (λ x. 0 ∷ 2 ∷ x) (sym (flat_map-append row_bytes (w ∷ written) rows))
 
-pub pieces_more : (pieces : List Laid) (piece : Laid) → pieces_bytes (pieces ++ piece ∷ []) ≡ pieces_bytes pieces ++ piece.bytes
+pub pieces_more : (pieces : List Laid) (piece : Laid)
+    → pieces_bytes (pieces ++ piece ∷ []) ≡ pieces_bytes pieces ++ piece.bytes
 pieces_more pieces piece =
     flat_map-append bytes_in pieces (piece ∷ []) ∙ ap (λ w. pieces_bytes pieces ++ w) (append-nil piece.bytes)
 
 some_come : (own : ℕ → Rows) (m : Moment) (way : IsUnderWay own m)
     → HasCome m.rows m.log m.walk.epoch (passed_from m.rows m.walk.place).place (way.written ++ (passed_from m.rows m.walk.place).rows)
 unfolding passed_from
-some_come own m way = many_passed m.rows m.log m.walk.epoch way.orderly way.readable way.fits PIECE_ROWS m.walk.place way.written way.come
+some_come own m way =
+    many_passed m.rows m.log m.walk.epoch way.orderly way.readable way.fits PIECE_ROWS m.walk.place way.written way.come
 
 pub steps : (own : ℕ → Rows) (m : Moment) → IsUnderWay own m → (o : Option ℕ) → next_place m.rows m.walk.place ≡ o
     → IsUnderWay own (record { rows = m.rows; log = m.log; walk = stepped_by m.rows m.walk o; pieces = given_by m.rows m.walk m.pieces o })

@@ -38,7 +38,8 @@ checkpoint_bytes (row ∷ rows) = head_bytes ++ flat_map row_bytes (row ∷ rows
 pub record IsUnderWay (own : ℕ → Rows) (m : Moment) : Type 0 where
   pub orderly : IsOrderly m.rows
   pub readable : Each (IsReadable m.walk.epoch) m.rows.places
-  pub images : (tx : TxId) (key : List ℕ) (image : Option (List ℕ)) → image_in m.rows tx key ≡ Some image → IsImage key image
+  pub images : (tx : TxId) (key : List ℕ) (image : Option (List ℕ)) → image_in m.rows tx key ≡ Some image
+      → IsImage key image
   pub prepared : HasPrepares m.rows m.log
   pub fits : (epoch : ℕ) → m.walk.epoch ≤ epoch → (q : List ℕ) → Fits (redone epoch m.log q) (row_at m.rows.places q)
   pub up_to : (epoch : ℕ) → m.walk.epoch ≤ epoch → (q : List ℕ) → map.get (own epoch) q ≡ row_at m.rows.places q
@@ -48,19 +49,22 @@ pub record IsUnderWay (own : ℕ → Rows) (m : Moment) : Type 0 where
   pub size_is : m.walk.size ≡ length (pieces_bytes m.pieces)
 
 -- what a record makes of what the log has prepared
-image_after : (b : Bool) (now old older : Option (Option (List ℕ))) (image : Option (List ℕ)) → (old ≡ Some image → older ≡ Some image)
+image_after : (b : Bool) (now old older : Option (Option (List ℕ))) (image : Option (List ℕ))
+    → (old ≡ Some image → older ≡ Some image)
     → (if b then now else old) ≡ Some image → cond b now older ≡ Some image
 image_after true now old older image more is = is
 image_after false now old older image more is = more is
 
-image_kept : (b : Bool) (old older : Option (Option (List ℕ))) (image : Option (List ℕ)) → (old ≡ Some image → older ≡ Some image)
+image_kept : (b : Bool) (old older : Option (Option (List ℕ))) (image : Option (List ℕ))
+    → (old ≡ Some image → older ≡ Some image)
     → (if b then None else old) ≡ Some image → older ≡ Some image
 image_kept true old older image more is = absurd cc
 image_kept false old older image more is = more is
 
 -- what is prepared after an event that is logged, and after one that isn't
 pub has_after : (s after : RowsState) (log : List Redo) (tx : TxId) (key : List ℕ) (fragment : ℕ) (image : Option (List ℕ))
-    → HasPrepares s log → Prepared s after tx key (Some image) → HasPrepares after (redo.Prepare tx fragment key image ∷ log)
+    → HasPrepares s log → Prepared s after tx key (Some image)
+    → HasPrepares after (redo.Prepare tx fragment key image ∷ log)
 has_after s after log tx key fragment image has is other key2 found there =
     image_after (is_same tx key other key2) (Some image) (image_in s other key2) (image_of log (record { tx = other; key = key2 })) found
     (has other key2 found) (sym (is.images other key2) ∙ there)
@@ -99,12 +103,14 @@ module _ (own : ℕ → Rows) (m : Moment) (way : IsUnderWay own m) where
         (subst (λ found. Fits found (row_at m.rows.places q)) (sym (same epoch q)) (way.fits epoch few q));
     up_to = λ epoch few q. way.up_to epoch few q ∙ sym (leaves.rows_are 0 q);
     written = way.written;
-    come = record { rows_are = way.come.rows_are; covered = λ epoch few q. covered epoch q (way.come.covered epoch few q) };
+    come =
+        record { rows_are = way.come.rows_are; covered = λ epoch few q. covered epoch q (way.come.covered epoch few q) };
     bytes_are = way.bytes_are;
     size_is = way.size_is;
   }
     where
-      covered : (epoch : ℕ) (q : List ℕ) → IsCovered m.rows epoch m.log m.walk.place way.written q → IsCovered after epoch log m.walk.place way.written q
+      covered : (epoch : ℕ) (q : List ℕ) → IsCovered m.rows epoch m.log m.walk.place way.written q
+          → IsCovered after epoch log m.walk.place way.written q
       covered epoch q (inl (value, is)) = inl (value, leaves.rows_are m.walk.place q ∙ is)
       covered epoch q (inr is) =
           inr (ap (λ found. over found (map.get (all_in map.empty way.written) q)) (same epoch q) ∙ is ∙ sym (leaves.rows_are 0 q))
@@ -118,13 +124,15 @@ module _ (own : ℕ → Rows) (m : Moment) (way : IsUnderWay own m) where
       (λ other key2 found there. good_too other key2 found (sym (is.images other key2) ∙ there))
       (λ epoch q. refl)
     where
-      good_too : (other : TxId) (key2 : List ℕ) (found : Option (List ℕ)) → (if is_same tx key other key2 then Some image else image_in m.rows other key2) ≡ Some found
+      good_too : (other : TxId) (key2 : List ℕ) (found : Option (List ℕ))
+          → (if is_same tx key other key2 then Some image else image_in m.rows other key2) ≡ Some found
           → IsImage key2 found
       good_too other key2 found =
           by_record tx other key key2 (λ t k b. (if b then Some image else image_in m.rows t k) ≡ Some found → IsImage k found)
           (λ e. let one : image ≡ found = cc in subst (IsImage key) one good) (λ off. way.images other key2 found)
 
-  ends : (after : RowsState) (log : List Redo) (tx : TxId) (key : List ℕ) → Prepared m.rows after tx key None → LeavesRows m.rows after
+  ends : (after : RowsState) (log : List Redo) (tx : TxId) (key : List ℕ) → Prepared m.rows after tx key None
+      → LeavesRows m.rows after
       → HasPrepares after log → ((epoch : ℕ) (q : List ℕ) → redone epoch log q ≡ redone epoch m.log q)
       → IsUnderWay own (record { rows = after; log = log; walk = m.walk; pieces = m.pieces })
   ends after log tx key is leaves has same =
@@ -183,7 +191,8 @@ module _ (own : ℕ → Rows) (m : Moment) (way : IsUnderWay own m) where
     own_row : (q : List ℕ) → same_key key q ≡ true → row_at now_committed.places q ≡ r.image
     own_row q e = ap (row_at now_committed.places) (sym (same key q e)) ∙ is_rewritten.own
 
-    covers : (epoch : ℕ) → at ≤ epoch → (q : List ℕ) (b : Bool) → same_key key q ≡ b → IsCovered m.rows epoch m.log m.walk.place way.written q
+    covers : (epoch : ℕ) → at ≤ epoch → (q : List ℕ) (b : Bool) → same_key key q ≡ b
+        → IsCovered m.rows epoch m.log m.walk.place way.written q
         → IsCovered now_committed epoch (redo.Commit tx at key ∷ m.log) m.walk.place way.written q
     covers epoch few q true e was =
         inr (ap (λ found. over found (map.get (all_in map.empty way.written) q)) (redone_is epoch few q true e) ∙ sym (own_row q e))
@@ -191,7 +200,8 @@ module _ (own : ℕ → Rows) (m : Moment) (way : IsUnderWay own m) where
     covers epoch few q false e (inr is) =
         inr (ap (λ found. over found (map.get (all_in map.empty way.written) q)) (redone_is epoch few q false e) ∙ is ∙ sym (is_rewritten.other 0 q e))
 
-    fits_now : (epoch : ℕ) → at ≤ epoch → (q : List ℕ) (b : Bool) → same_key key q ≡ b → Fits (redone epoch m.log q) (row_at m.rows.places q)
+    fits_now : (epoch : ℕ) → at ≤ epoch → (q : List ℕ) (b : Bool) → same_key key q ≡ b
+        → Fits (redone epoch m.log q) (row_at m.rows.places q)
         → Fits (redone epoch (redo.Commit tx at key ∷ m.log) q) (row_at now_committed.places q)
     fits_now epoch few q true e was =
         subst (λ found. Fits found (row_at now_committed.places q)) (sym (redone_is epoch few q true e)) (sym (own_row q e))
@@ -199,7 +209,8 @@ module _ (own : ℕ → Rows) (m : Moment) (way : IsUnderWay own m) where
         subst (λ found. Fits found (row_at now_committed.places q)) (sym (redone_is epoch few q false e))
         (subst (Fits (redone epoch m.log q)) (sym (is_rewritten.other 0 q e)) was)
 
-    agrees : (epoch : ℕ) → at ≤ epoch → (q : List ℕ) (b : Bool) → same_key key q ≡ b → map.get (own epoch) q ≡ row_at m.rows.places q
+    agrees : (epoch : ℕ) → at ≤ epoch → (q : List ℕ) (b : Bool) → same_key key q ≡ b
+        → map.get (own epoch) q ≡ row_at m.rows.places q
         → map.get (applied epoch (redo.Commit tx at key) (Some r.image) (own epoch)) q ≡ row_at now_committed.places q
     agrees epoch few q true e was = up_to_is epoch few q true e ∙ sym (own_row q e)
     agrees epoch few q false e was = up_to_is epoch few q false e ∙ was ∙ sym (is_rewritten.other 0 q e)
@@ -216,12 +227,15 @@ module _ (own : ℕ → Rows) (m : Moment) (way : IsUnderWay own m) where
           images = λ other key2 image there. way.images other key2 image
               (image_kept (is_same tx key other key2) (image_in m.rows other key2) (image_in m.rows other key2) image (λ e. e) (sym (is_prepared.images other key2) ∙ there));
           prepared = has_committed m.rows now_committed m.log tx key at way.prepared is_prepared;
-          fits = λ epoch few q. fits_now epoch (omega (arith, few)) q (same_key key q) refl (way.fits epoch (omega (arith, few)) q);
-          up_to = λ epoch few q. agrees epoch (omega (arith, few)) q (same_key key q) refl (way.up_to epoch (omega (arith, few)) q);
+          fits =
+              λ epoch few q. fits_now epoch (omega (arith, few)) q (same_key key q) refl (way.fits epoch (omega (arith, few)) q);
+          up_to =
+              λ epoch few q. agrees epoch (omega (arith, few)) q (same_key key q) refl (way.up_to epoch (omega (arith, few)) q);
           written = way.written;
           come = record {
             rows_are = later_rows m.walk.epoch (max m.walk.epoch at) way.written later way.come.rows_are;
-            covered = λ epoch few q. covers epoch (omega (arith, few)) q (same_key key q) refl (way.come.covered epoch (omega (arith, few)) q);
+            covered =
+                λ epoch few q. covers epoch (omega (arith, few)) q (same_key key q) refl (way.come.covered epoch (omega (arith, few)) q);
           };
           bytes_are = way.bytes_are;
           size_is = way.size_is;

@@ -61,8 +61,8 @@ abbrev pub given : Event → RowsState → WalkState → List Laid → List Laid
 given Step s w pieces = given_by s w pieces (next_place s w.place)
 given event s w pieces = pieces
 
--- A moment: the rows, the records of the log from the position of the walk on, the newest first, the walk, and the pieces that
--- it has given out, the oldest first.
+-- A moment: the rows, the records of the log from the position of the walk on, the newest first, the walk, and the pieces
+-- that it has given out, the oldest first.
 pub record Moment : Type 0 where
   pub rows : RowsState
   pub log : List Redo
@@ -83,8 +83,8 @@ abbrev pub after : List Event → Moment → Moment
 after [] m = m
 after (event ∷ events) m = after events (next event m)
 
--- What an event makes of rows of which those that were committed later than an epoch are left out: a commit that isn't later
--- makes what was prepared the row.
+-- What an event makes of rows of which those that were committed later than an epoch are left out: a commit that isn't
+-- later makes what was prepared the row.
 abbrev pub left_by : ℕ → Event → RowsState → Rows → Rows
 left_by epoch (Commit tx key at) s rows = applied epoch (redo.Commit tx at key) (image_in s tx key) rows
 left_by epoch event s rows = rows

@@ -22,7 +22,8 @@ use Rattle.local_ckpt.specs.Walk.{begun}
 -- Rows without places and records are orderly, and stay so.
 pub record OrderlyRowsStaySo : Type 0 where
   pub none : IsOrderly no_rows
-  pub put : (s : RowsState) (key value : List ℕ) (epoch : ℕ) → IsOrderly s → IsOrderly (put_row s key value epoch)
+  pub put : (s : RowsState) (key value : List ℕ) (epoch : ℕ) → IsOrderly s
+      → IsOrderly (put_row s key value epoch)
   pub kept : (event : Event) (s : RowsState) → IsOrderly s → IsOrderly (changed event s)
 
 abbrev pub IsRowIf : ℕ → List ℕ → ℕ → Option (List ℕ) → Type 0
@@ -45,13 +46,14 @@ HasPrepares s log =
     (tx : TxId) (key : List ℕ) (image : Option (List ℕ)) → image_in s tx key ≡ Some image
     → image_of log (record { tx = tx; key = key }) ≡ Some image
 
--- What a walk begins with: orderly rows, none of them of a later epoch than is noted; the records of the log from a position
--- on, which have what is prepared now, and which change nothing of the rows.
+-- What a walk begins with: orderly rows, none of them of a later epoch than is noted; the records of the log from a
+-- position on, which have what is prepared now, and which change nothing of the rows.
 pub record Begins (s : RowsState) (log : List Redo) (noted : ℕ) (before : Rows) : Type 0 where
   pub orderly : IsOrderly s
   pub table : (key : List ℕ) → map.get before key ≡ row_of s key
   pub readable : AllByRecursion (IsReadable noted) s.places
-  pub images : (tx : TxId) (key : List ℕ) (image : Option (List ℕ)) → image_in s tx key ≡ Some image → IsImage key image
+  pub images : (tx : TxId) (key : List ℕ) (image : Option (List ℕ)) → image_in s tx key ≡ Some image
+      → IsImage key image
   pub prepared : HasPrepares s log
   pub redone : (epoch : ℕ) → noted ≤ epoch → replayed epoch before log ≡ before
 
@@ -66,9 +68,9 @@ at_first s log file from noted = record { rows = s; log = log; walk = begun file
 abbrev pub pieces_bytes : List Laid → List ℕ
 pieces_bytes pieces = flat_map bytes_in pieces
 
--- The walk has ended behind some events, and others have followed. Then the bytes that it gave out are a checkpoint, and its
--- rows, with the records of the log since the position where it began, are just those that were committed up to an epoch,
--- whichever that is from the noted one on.
+-- The walk has ended behind some events, and others have followed. Then the bytes that it gave out are a checkpoint, and
+-- its rows, with the records of the log from its position on, are just those that were committed up to an epoch, whichever
+-- that is from the noted one on.
 abbrev pub CheckpointsRestore : Type 0
 CheckpointsRestore =
     (s : RowsState) (log : List Redo) (file from noted saved epoch : ℕ) (before : Rows) (meanwhile later : List Event)

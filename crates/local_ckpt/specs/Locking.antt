@@ -11,11 +11,13 @@ use Rattle.local_ckpt.specs.Orderly.{IsOrderly, image_in}
 
 -- no other transaction has prepared an image of the key
 abbrev pub IsAlone : RowsState → TxId → List ℕ → Type 0
-IsAlone s tx key = (other : TxId) (image : Option (List ℕ)) → image_in s other key ≡ Some image → same_tx tx other ≡ true
+IsAlone s tx key =
+    (other : TxId) (image : Option (List ℕ)) → image_in s other key ≡ Some image → same_tx tx other ≡ true
 
 -- no two transactions have prepared images of one key
 abbrev pub AreLocked : RowsState → Type 0
-AreLocked s = (tx : TxId) (key : List ℕ) (image : Option (List ℕ)) → image_in s tx key ≡ Some image → IsAlone s tx key
+AreLocked s =
+    (tx : TxId) (key : List ℕ) (image : Option (List ℕ)) → image_in s tx key ≡ Some image → IsAlone s tx key
 
 -- who prepares has the lock, and a commit isn't later than an epoch
 abbrev pub KeepsLock : ℕ → RowsState → Event → Type 0
@@ -28,10 +30,11 @@ abbrev pub KeepLocks : ℕ → RowsState → List Event → Type 0
 KeepLocks most s [] = Unit {0}
 KeepLocks most s (event ∷ events) = KeepsLock most s event × KeepLocks most (changed event s) events
 
--- Where rows are locked, the records of the log since a moment, whichever it is, make of the rows what they are now: what they
--- make of a key ends with its last commit, or is nothing.
+-- Where rows are locked, the records of the log since a moment, whichever it is, make of the rows what they are now: what
+-- they make of a key ends with its last commit, or is nothing.
 abbrev pub LogsLeaveRows : Type 0
 LogsLeaveRows =
     (m : Moment) (events : List Event) (noted epoch : ℕ) (rows : Rows)
     → m.log ≡ [] → IsOrderly m.rows → AreLocked m.rows → KeepLocks noted m.rows events → noted ≤ epoch
-    → let end = after events m in ((key : List ℕ) → map.get rows key ≡ row_of end.rows key) → replayed epoch rows end.log ≡ rows
+    → let end = after events m in ((key : List ℕ) → map.get rows key ≡ row_of end.rows key)
+    → replayed epoch rows end.log ≡ rows

@@ -30,4 +30,5 @@ image_in s tx key = prepared_in (first (is_of tx key) s.pending)
 pub record IsOrderly (s : RowsState) : Type 0 where
   pub apart : AreApart s.places
   pub once : (tx : TxId) (key : List ℕ) → first (is_of tx key) (drop_first (is_of tx key) s.pending) ≡ None
-  pub placed : (tx : TxId) (key : List ℕ) (image : Option (List ℕ)) → image_in s tx key ≡ Some image → has_place s.places key ≡ true
+  pub placed : (tx : TxId) (key : List ℕ) (image : Option (List ℕ)) → image_in s tx key ≡ Some image
+      → has_place s.places key ≡ true

@@ -9,8 +9,8 @@ use Rattle.redo_log.specs.LogState.{Laid, laid_by}
 use Rattle.local_ckpt.specs.declared.finished.Finished.{Finished}
 use Rattle.local_ckpt.specs.Passing.{passed_from}
 
--- The file that a checkpoint is in, and the position from which on the log belongs to it; the greatest epoch so far, of its
--- rows and of commits; the place below which all were passed, and the bytes that were given out.
+-- The file that a checkpoint is in, and the position from which on the log belongs to it; the greatest epoch so far, of
+-- its rows and of commits; the place below which all were passed, and the bytes that were given out.
 pub record WalkState : Type 0 where
   pub file : ℕ
   pub from : ℕ
@@ -49,7 +49,8 @@ stepped s w = record w { place = (passed_from s w.place).place; size = w.size + 
 -- what a step gives, and where it leaves the walk: nothing exactly where no place that wasn't passed has a row
 abbrev pub Steps : RowsState → WalkState → Option Piece → WalkState → Type 0
 Steps s w None after = (next_place s w.place ≡ None) × (after ≡ w)
-Steps s w (Some piece) after = (is_some (next_place s w.place) ≡ true) × (laid_by piece ≡ next_piece s w) × (after ≡ stepped s w)
+Steps s w (Some piece) after =
+    (is_some (next_place s w.place) ≡ true) × (laid_by piece ≡ next_piece s w) × (after ≡ stepped s w)
 
 -- what a walk comes to
 abbrev pub ended : WalkState → Finished
