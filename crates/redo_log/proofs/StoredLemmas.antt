@@ -107,6 +107,16 @@ short_stored files parity from at to old new len count here last within is short
           (subst (λ (p : ℕ). length (files (file_of parity at)) ≤ p) (sym (near_place at count near)) ended));
     }
 
+-- a count that has risen since a moment has risen since an earlier one
+pub later_fault : (before mid now : ℕ) (fault : ReadFault) → before ≤ mid → IsFault mid now fault → IsFault before now fault
+later_fault before mid now NoMemory order is = tt
+later_fault before mid now (DiskFault count) order is = (omega (arith, order, is.0), is.1)
+later_fault before mid now (Damaged file at byte) order is = is
+
+-- no bytes were read yet
+pub none_stored : (files : ℕ → List ℕ) (parity from : ℕ) (bytes : List ℕ) → length bytes ≡ 0 → EachIsStored files parity from bytes
+none_stored files parity from bytes none behind below = absurd (omega (arith, none, below))
+
 -- what replaying answers where the bytes weren't read
 pub unread : (epoch : ℕ) (before : Rows) (files : ℕ → List ℕ) (parity from count : ℕ) (rows : Rows) (old now : ℕ)
     (fault : ReadFault) → IsFault old now fault → ReplaysStored epoch before files parity from count rows (Err fault)
@@ -154,4 +164,4 @@ pub whole_replays : (epoch : ℕ) (before : Rows) (files : ℕ → List ℕ) (pa
 whole_replays epoch before files parity from count rows bytes stored is enough =
     (bytes, (stored, omega (arith, stored.most, enough), is))
 
-pub ruleset reading = (piece_size)
+pub ruleset reading = (none_stored, later_fault)

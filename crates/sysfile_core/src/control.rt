@@ -28,8 +28,8 @@ pub struct ControlSlot {
     pub ckpt_size: u64,
 }
 
-/// The bytes of a slot whose gate is open. It is read back where its file and its parity are such, and its redo ends at
-/// most 16,777,216 bytes behind its start.
+/// The bytes of a slot whose gate is open. It is read back where its file and its parity are such,
+/// and its redo ends at most 16,777,216 bytes behind its start.
 #[tactic(auto, unfolding(crate::specs::Slots::control_bytes))]
 pub fn control_bytes(slot: &ControlSlot) -> [u8; CONTROL_BYTES]
     ensures { result ≡ control_bytes slot.now }
@@ -46,7 +46,8 @@ pub fn control_bytes(slot: &ControlSlot) -> [u8; CONTROL_BYTES]
     bytes
 }
 
-/// The place of the first byte of an open slot that doesn't fit. Where the redo can't end so, it is the first of its end.
+/// The place of the first byte of an open slot that doesn't fit. Where the redo can't end so, it is
+/// the first of its end.
 #[tactic(auto, unfolding(crate::specs::Slots::control_fault))]
 pub(crate) fn control_fault(bytes: &[u8]) -> Option<usize>
     requires { length bytes.now ≡ CONTROL_BYTES }

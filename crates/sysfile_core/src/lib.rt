@@ -1,5 +1,5 @@
-//! The slots of the system file and the control file: their bytes, and how one is written so that no crash
-//! leaves half of it.
+//! The slots of the system file and the control file: their bytes, and how one is written so that no
+//! crash leaves half of it.
 #![tactic(auto)]
 
 mod control;

@@ -20,8 +20,8 @@ pub struct SystemSlot {
     pub epoch: u64,
 }
 
-/// The bytes of a slot whose gate is open. It is read back where it has a shape of a cluster, and a mask that names some of
-/// its nodes and no other.
+/// The bytes of a slot whose gate is open. It is read back where it has a shape of a cluster, and a
+/// mask that names some of its nodes and no other.
 #[tactic(auto, unfolding(crate::specs::Slots::system_bytes))]
 pub fn system_bytes(slot: &SystemSlot) -> [u8; SYSTEM_BYTES]
     ensures { result ≡ system_bytes slot.now }

@@ -16,8 +16,9 @@ use host_io::{Disk, Failed};
 pub enum SlotStep {
     /// The bytes of the slot from one on, up to another, are written at a place.
     Write { at: u64, from: usize, to: usize },
-    /// The gate byte at a place is made this. Where it is to be closed, and a byte stands there that isn't that of an open
-    /// one, the file is synced in place of the write: a write would make it one that a crash may open.
+    /// The gate byte at a place is made this. Where it is to be closed, and a byte stands there that
+    /// isn't that of an open one, the file is synced in place of the write: a write would make it
+    /// one that a crash may open.
     Gate { at: u64, byte: u8 },
     Sync,
 }
