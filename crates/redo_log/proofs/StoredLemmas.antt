@@ -131,12 +131,13 @@ unread_cause old now before rows (DiskFault faults) same is = (is.0, is.1, same)
 unread_cause old now before rows (Damaged file at byte) same is = absurd is
 
 -- what it answers where the bytes that were read aren't records
-pub stops_stored : (epoch : ℕ) (before : Rows) (files : ℕ → List ℕ) (parity from count : ℕ) (rows : Rows) (bytes : List ℕ)
-    (fault : ReadFault) → AreStored files parity from count bytes → Replays epoch before parity from bytes rows (Err fault)
-    → ReplaysStored epoch before files parity from count rows (Err fault)
-stops_stored epoch before files parity from count rows bytes NoMemory stored is = tt
-stops_stored epoch before files parity from count rows bytes (DiskFault faults) stored is = tt
-stops_stored epoch before files parity from count rows bytes (Damaged file at byte) stored is = (bytes, (stored, inl is))
+pub stops_stored : (epoch : ℕ) (before : Rows) (files : ℕ → List ℕ) (parity from count : ℕ) (rows : Rows) (bytes read : List ℕ)
+    (fault : ReadFault) → AreStored files parity from count bytes → read ≡ bytes
+    → Replays epoch before parity from read rows (Err fault) → ReplaysStored epoch before files parity from count rows (Err fault)
+stops_stored epoch before files parity from count rows bytes read NoMemory stored same is = tt
+stops_stored epoch before files parity from count rows bytes read (DiskFault faults) stored same is = tt
+stops_stored epoch before files parity from count rows bytes read (Damaged file at byte) stored same is =
+    (bytes, (stored, inl (subst (λ (w : List ℕ). Replays epoch before parity from w rows (Err (Damaged file at byte))) same is)))
 
 pub stops_cause : (epoch : ℕ) (before : Rows) (parity from : ℕ) (rows : Rows) (bytes : List ℕ) (old now : ℕ) (start : Rows)
     (fault : ReadFault) → Replays epoch before parity from bytes rows (Err fault) → HasCause old now start rows (Err fault)
