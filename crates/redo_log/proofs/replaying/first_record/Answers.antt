@@ -1,6 +1,6 @@
 use Rattle.std.proofs.Common.{refl}
 use Rattle.redo_log.proofs.ReplayLemmas.{front_fewer}
-use Rattle.redo_log.proofs.replay.first_record.Goals as goal
+use Rattle.redo_log.proofs.replaying.first_record.Goals as goal
 
 pub returns-in-Ok-clause-fewer : goal.returns-in-Ok-clause-fewer
 returns-in-Ok-clause-fewer c =

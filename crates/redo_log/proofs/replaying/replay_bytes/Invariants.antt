@@ -1,6 +1,6 @@
 use Rattle.std.proofs.Common.{length}
 use Rattle.redo_log.proofs.ReplayLemmas.{IsOnTheWay}
-use Rattle.redo_log.proofs.replay.replay_bytes.Given as goal
+use Rattle.redo_log.proofs.replaying.replay_bytes.Given as goal
 
 -- some records were replayed, and the rest is left
 abbrev pub invariant-records : goal.invariant-records

@@ -1,5 +1,5 @@
 use Rattle.redo_log.proofs.ReplayLemmas.{goes_on}
-use Rattle.redo_log.proofs.replay.replay_bytes.Goals as goal
+use Rattle.redo_log.proofs.replaying.replay_bytes.Goals as goal
 
 -- one more record is replayed
 pub records-preserved : goal.records-preserved

@@ -4,7 +4,7 @@ use std::alloc::Global;
 use std::test::Fail;
 
 // A prepare of transaction (1, 0, 1) of the row `a 1`, and its commit in epoch 1.
-const PAIR: [u8; 48] = [
+pub(super) const PAIR: [u8; 48] = [
     0x01, 0x00, 0x16, 0x01, 0, 0, 0, 0, 0, 0, 0, 0, 0, 0, 0, 1, 0x01, 0x01, 0x01, 0x61, 0x01, 0x31,
     0x02, 0x00, 0x1a, 0x01, 0, 0, 0, 0, 0, 0, 0, 0, 0, 0, 0, 1, 0, 0, 0, 0, 0, 0, 0, 1, 0x01, 0x61,
 ];

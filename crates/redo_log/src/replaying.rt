@@ -1,18 +1,55 @@
 //! The records of a log, replayed onto rows.
-ghost use Rattle.std.specs.Prelude.{◌≡◌, ◌≤◌, ◌<◌, ◌+◌, ◌-◌, ◌^◌, ◌++◌, Err, MatchResult, OnOk, cond, length};
+ghost use Rattle.std.specs.Prelude.{◌≡◌, ◌≤◌, ◌<◌, ◌+◌, ◌-◌, ◌^◌, ◌++◌, List, Some, Err, MatchResult, OnOk, cond, length};
+ghost use Rattle.host_io.specs.Call.{Call};
 ghost use Rattle.redo_format.specs.declared.fault.FormatFault.TheVariants as format;
 ghost use Rattle.redo_format.specs.Records.{IsRecord, bytes_of};
 ghost use Rattle.redo_format.specs.Decoding.{decoded};
 ghost use Rattle.redo_log.specs.declared.image_id.ImageId.{ImageId};
-ghost use Rattle.redo_log.specs.Replay.{Replays, applied, damage, id_of, image_at, prepared_by, same_id, with_image};
+ghost use Rattle.redo_log.specs.Replaying.{Replays, applied, damage, id_of, image_at, prepared_by, same_id, with_image};
+ghost use Rattle.redo_log.specs.Stored.{HasCause, ReplaysStored, files_of};
 
 use crate::fault::ReadFault;
 use crate::image_id::ImageId;
 use crate::prepared::Prepared;
 use crate::ring::{file_of, place_of};
+use crate::stored::read_log;
+use host_io::Disk;
 use redo_format::{FormatFault, decode};
 use sig_core::{Key, NoMemory, Redo, Table, Value};
 use std::alloc::Global;
+
+/// Replays a log onto rows, from one position up to another, as a disk has it in the files of this
+/// parity. A commit whose epoch isn't above `epoch` makes the row what its transaction's latest
+/// prepare of the key says; a commit or an abort without one changes nothing.
+///
+/// # Errors
+/// `DiskFault`, and then the rows are as they were. `Damaged` where what the disk has aren't records,
+/// at the first byte that fits none, or where a file ends too early; then the records before have
+/// been replayed. `NoMemory`.
+pub fn replay<D: Disk>(
+    alloc: Global,
+    rows: &mut Table,
+    disk: &mut D,
+    parity: u8,
+    from: u64,
+    to: u64,
+    epoch: u64,
+) -> Result<(), ReadFault>
+    requires parity { parity ≤ 1 }
+    requires order { from ≤ to }
+    ensures replayed { (calls : List Call) → D.told disk.old ≡ Some calls → ReplaysStored epoch rows.old (files_of calls) parity from (to - from) rows.new result }
+    ensures unrecorded { D.told disk.new ≡ D.told disk.old }
+    ensures cause { HasCause (D.faults disk.old) (D.faults disk.new) rows.old rows.new result }
+    ensures steady { D.faults disk.old ≤ D.faults disk.new }
+{
+    let bytes = read_log(alloc, disk, parity, from, to)?;
+    replay_bytes(alloc, rows, parity, from, &bytes, epoch)?;
+    let there = bytes.len();
+    if (there as u64) < to - from {
+        return Err(damage(parity, from, &bytes, there));
+    }
+    Ok(())
+}
 
 /// Replays bytes of a log onto rows. They stand in the files of this parity, from this position on.
 /// A commit whose epoch isn't above `epoch` makes the row what its transaction's latest prepare of
