@@ -18,7 +18,7 @@ use Rattle.lcp_store.specs.declared.row.Version.TheVariants.{Second}
 use Rattle.lcp_store.specs.Laws.{AreRowsOf, CheckpointsAreRead, all_in}
 use Rattle.lcp_store.specs.Reading.{rows_in}
 use Rattle.redo_log.specs.LogState.{Laid}
-use Rattle.redo_log.specs.Replay.{applied, replayed}
+use Rattle.redo_log.specs.Replaying.{applied, replayed}
 use Rattle.local_ckpt.specs.Events.{Abort, Commit, Complete, Event, Moment, Prepare, Step, after, changed, given_by, left, left_by, log_if, logged, next, noting_if, stepped_by}
 use Rattle.local_ckpt.specs.Laws.{AreLaidFrom, Begins, CheckpointsRestore, HasPrepares, IsEvent, OrderlyRowsStaySo, PiecesLieInOrder, at_first, pieces_bytes}
 use Rattle.local_ckpt.specs.Orderly.{IsOrderly, image_in, prepared_in}

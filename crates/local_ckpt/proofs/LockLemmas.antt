@@ -13,7 +13,7 @@ use Rattle.sig_core.specs.Rows.{RowsState, abort_record, commit_record, complete
 use Rattle.sig_core.specs.Same.{same_key, same_tx}
 use Rattle.sig_core.proofs.Keys.{same_key-swap, same_tx-self}
 use Rattle.sig_core.proofs.TxLemmas.{same_tx-swap}
-use Rattle.redo_log.specs.Replay.{image_of}
+use Rattle.redo_log.specs.Replaying.{image_of}
 use Rattle.local_ckpt.specs.Events.{Abort, Commit, Complete, Event, Moment, Prepare, Step, after, changed, log_if, logged, next}
 use Rattle.local_ckpt.specs.Locking.{AreLocked, IsAlone, KeepLocks, KeepsLock, LogsLeaveRows}
 use Rattle.local_ckpt.specs.Orderly.{IsOrderly, image_in, prepared_in}

@@ -8,7 +8,7 @@ use Rattle.sig_core.specs.declared.redo.Redo.TheVariants.{Prepare, Commit, Abort
 use Rattle.sig_core.specs.Same.{same_key}
 use Rattle.sig_core.specs.Table.{Rows}
 use Rattle.sig_core.proofs.Keys.{tied-same_key}
-use Rattle.redo_log.specs.Replay.{applied, id_of, image_of, replayed, with_image}
+use Rattle.redo_log.specs.Replaying.{applied, id_of, image_of, replayed, with_image}
 
 -- a commit that isn't later makes its image the row of its key
 abbrev pub redoing : ℕ → Redo → Option (Option (List ℕ)) → List ℕ → Option (Option (List ℕ)) → Option (Option (List ℕ))

@@ -16,7 +16,7 @@ use Rattle.sig_core.proofs.Keys.{same_key-swap}
 use Rattle.lcp_store.specs.declared.row.StoredRow.{StoredRow}
 use Rattle.lcp_store.specs.Bytes.{head_bytes, row_bytes}
 use Rattle.lcp_store.specs.Laws.{all_in}
-use Rattle.redo_log.specs.Replay.{applied, image_of, with_image}
+use Rattle.redo_log.specs.Replaying.{applied, image_of, with_image}
 use Rattle.local_ckpt.specs.Events.{Moment, log_if, noting_if}
 use Rattle.local_ckpt.specs.Laws.{HasPrepares, IsImage, IsReadable, pieces_bytes}
 use Rattle.local_ckpt.specs.Orderly.{IsOrderly, image_in, prepared_in}

@@ -6,7 +6,7 @@ use Rattle.sig_core.specs.declared.redo.Redo.TheVariants as redo
 use Rattle.sig_core.specs.Rows.{RowsState, abort_record, commit_record, complete_record, next_place, storing}
 use Rattle.sig_core.specs.Table.{Rows}
 use Rattle.redo_log.specs.LogState.{Laid}
-use Rattle.redo_log.specs.Replay.{applied}
+use Rattle.redo_log.specs.Replaying.{applied}
 use Rattle.local_ckpt.specs.Orderly.{image_in}
 use Rattle.local_ckpt.specs.Walk.{WalkState, next_piece, noting, stepped}
 

@@ -14,7 +14,7 @@ use Rattle.lcp_store.specs.Laws.{IsRowOf, IsWordOf}
 use Rattle.lcp_store.specs.Reading.{rows_in}
 use Rattle.redo_log.specs.Laws.{bytes_in}
 use Rattle.redo_log.specs.LogState.{Laid}
-use Rattle.redo_log.specs.Replay.{image_of, replayed}
+use Rattle.redo_log.specs.Replaying.{image_of, replayed}
 use Rattle.local_ckpt.specs.Events.{Event, Moment, Prepare, after, changed, left}
 use Rattle.local_ckpt.specs.Orderly.{IsOrderly, image_in}
 use Rattle.local_ckpt.specs.Walk.{begun}

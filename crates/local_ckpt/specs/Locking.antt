@@ -5,7 +5,7 @@ use Rattle.sig_core.specs.declared.member.TxId.{TxId}
 use Rattle.sig_core.specs.Rows.{RowsState, row_of}
 use Rattle.sig_core.specs.Same.{same_tx}
 use Rattle.sig_core.specs.Table.{Rows}
-use Rattle.redo_log.specs.Replay.{replayed}
+use Rattle.redo_log.specs.Replaying.{replayed}
 use Rattle.local_ckpt.specs.Events.{Commit, Event, Moment, Prepare, after, changed}
 use Rattle.local_ckpt.specs.Orderly.{IsOrderly, image_in}
 
