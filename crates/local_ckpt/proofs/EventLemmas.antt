@@ -11,10 +11,11 @@ use Rattle.sig_core.specs.Rows.{RowsState, abort_record, commit_record, complete
 use Rattle.sig_core.specs.Same.{same_key}
 use Rattle.sig_core.proofs.Firsts.{first_passes, set_first}
 use Rattle.local_ckpt.specs.Laws.{IsImage, IsReadable}
-use Rattle.local_ckpt.specs.Orderly.{IsOrderly, has_place, image_in, prepared_in}
-use Rattle.local_ckpt.proofs.Firsts.{drop-drop_other, drop-none, drop-put_other, drop-put_own, drop-set_other, drop-set_own, first-drop_other, first-put_other, first-put_own, first-set_other, first-set_own, put_first}
+use Rattle.local_ckpt.specs.Orderly.{AreApart, IsOrderly, has_place, image_in, prepared_in}
+use Rattle.local_ckpt.proofs.EditLemmas.{Edits, drops_one, edit_images, puts, sets}
+use Rattle.local_ckpt.proofs.Firsts.{put_first}
 use Rattle.local_ckpt.proofs.PlaceLemmas.{apart-freed, apart-set_row, apart-with_place, by_freed, by_place, has-freed, has-own_place, has-set_row, has-with_place, other-set_row, own-set_row, row-freed, row-with_place, row_at, same, set_row-first}
-use Rattle.local_ckpt.proofs.RecordLemmas.{by_record, commits_image, drops_it, drops_nothing, drops_other, idle_none, is_same, key_of_first, own_record, recorded-put, rows_with, two_records}
+use Rattle.local_ckpt.proofs.RecordLemmas.{by_record, commits_image, drops_it, drops_nothing, drops_other, idle_none, is_same, key_of_first, own_record, recorded-put, rows_with}
 
 -- after an event on a record the rows are orderly, and what was prepared still is, but for that record
 pub record Prepared (s after : RowsState) (tx : TxId) (key : List ℕ) (now : Option (Option (List ℕ))) : Type 0 where
@@ -53,101 +54,89 @@ each-placed most key [] all = (tt, tt)
 each-placed most key (None ∷ places) all = (tt, all.1)
 each-placed most key (Some other ∷ places) all = (all.0, each-placed most key places all.1)
 
+-- where the keys of those that are prepared have places still, the rows are orderly
+orderly_still : (s : RowsState) (after : RowsState) (tx : TxId) (key : List ℕ) (now : Option PendingRecord)
+    → Edits s.pending after.pending tx key now → AreApart after.places
+    → ((image : Option (List ℕ)) → prepared_in now ≡ Some image → has_place after.places key ≡ true)
+    → ((other : TxId) (key2 : List ℕ) (image : Option (List ℕ)) → image_in after other key2 ≡ Some image
+    → image_in s other key2 ≡ Some image → has_place after.places key2 ≡ true)
+    → Prepared s after tx key (prepared_in now)
+orderly_still s after tx key now edits apart own others = record {
+  orderly = record {
+    apart = apart;
+    once = edits.once;
+    placed = λ other key2 image there.
+        by_record tx other key key2
+        (λ t k b. (if b then prepared_in now else image_in s t k) ≡ Some image → has_place after.places k ≡ true)
+        (own image) (λ off. others other key2 image there) (sym (images other key2) ∙ there);
+  };
+  images = images;
+}
+  where
+    images : (other : TxId) (key2 : List ℕ) → image_in after other key2
+        ≡ (if is_same tx key other key2 then prepared_in now else image_in s other key2)
+    images = edit_images s.pending after.pending tx key now edits
+
 -- a prepare
 module _ (s : RowsState) (tx : TxId) (key : List ℕ) (image : Option (List ℕ)) (is : IsOrderly s) where
-  put : List PendingRecord
-  put = put_first (is_of tx key) (rows.prepared tx key image) s.pending
+  made : PendingRecord
+  made = rows.prepared tx key image
 
-  storing_is : storing s tx key image ≡ rows_with (with_place s.places key) put
-  unfolding storing put
+  with_made : RowsState
+  with_made = rows_with (with_place s.places key) (put_first (is_of tx key) made s.pending)
+
+  storing_is : storing s tx key image ≡ with_made
+  unfolding storing with_made made
   storing_is =
       ap (rows_with (with_place s.places key)) (recorded-put (is_of tx key) (rows.prepared tx key image) s.pending)
 
-  put_images : (other : TxId) (key2 : List ℕ)
-      → prepared_in (first (is_of other key2) put) ≡ (if is_same tx key other key2 then Some image else image_in s other key2)
-  unfolding put
-  put_images other key2 =
-      by_record tx other key key2 (λ t k b. prepared_in (first (is_of t k) (put_first (is_of tx key) (rows.prepared tx key image) s.pending)) ≡ (if b then Some image else image_in s t k))
-      (ap prepared_in (first-put_own (is_of tx key) (rows.prepared tx key image) (own_record tx key) s.pending))
-      (λ off. ap prepared_in (first-put_other (is_of tx key) (is_of other key2) (two_records tx other key key2 off) (rows.prepared tx key image) off s.pending))
-
-  put_once : (other : TxId) (key2 : List ℕ) → first (is_of other key2) (drop_first (is_of other key2) put) ≡ None
-  unfolding put
-  put_once other key2 =
-      by_record tx other key key2 (λ t k b. first (is_of t k) (drop_first (is_of t k) (put_first (is_of tx key) (rows.prepared tx key image) s.pending)) ≡ None)
-      (ap (first (is_of tx key)) (drop-put_own (is_of tx key) (rows.prepared tx key image) (own_record tx key) s.pending) ∙ is.once tx key)
-      (λ off. ap (first (is_of other key2)) (drop-put_other (is_of tx key) (is_of other key2) (two_records tx other key key2 off) (rows.prepared tx key image) off s.pending)
-      ∙ first-put_other (is_of tx key) (is_of other key2) (two_records tx other key key2 off) (rows.prepared tx key image) off (drop_first (is_of other key2) s.pending)
-      ∙ is.once other key2)
-
-  put_placed : (other : TxId) (key2 : List ℕ) (found : Option (List ℕ))
-      → prepared_in (first (is_of other key2) put) ≡ Some found → has_place (with_place s.places key) key2 ≡ true
-  put_placed other key2 found there =
-      by_record tx other key key2 (λ t k b. (if b then Some image else image_in s t k) ≡ Some found → has_place (with_place s.places key) k ≡ true)
-      (λ e. has-own_place s.places key) (λ off e. has-with_place s.places key key2 (is.placed other key2 found e))
-      (sym (put_images other key2) ∙ there)
+  stores_made : Prepared s with_made tx key (Some image)
+  unfolding with_made made
+  stores_made =
+      orderly_still s with_made tx key (Some made) (puts tx key s.pending is.once made (own_record tx key))
+      (apart-with_place s.places key is.apart) (λ found e. has-own_place s.places key)
+      (λ other key2 found now was. has-with_place s.places key key2 (is.placed other key2 found was))
 
   pub stores : Prepared s (storing s tx key image) tx key (Some image)
-  stores = subst (λ after. Prepared s after tx key (Some image)) (sym storing_is) (record {
-    orderly = record { apart = apart-with_place s.places key is.apart; once = put_once; placed = put_placed };
-    images = put_images;
-  })
+  stores = subst (λ after. Prepared s after tx key (Some image)) (sym storing_is) stores_made
 
-  pub stores_rows : LeavesRows s (storing s tx key image)
-  stores_rows = subst (LeavesRows s) (sym storing_is) (record {
+  rows_made : LeavesRows s with_made
+  unfolding with_made
+  rows_made = record {
     rows_are = λ n q. row-with_place n s.places key q;
     readable =
         λ most all. by_place (Each (IsReadable most)) s.places key all (λ off. each-placed most key s.places all);
-  })
+  }
+
+  pub stores_rows : LeavesRows s (storing s tx key image)
+  stores_rows = subst (LeavesRows s) (sym storing_is) rows_made
 
 -- a commit of what is prepared
 module _ (s : RowsState) (tx : TxId) (key : List ℕ) (epoch : ℕ) (is : IsOrderly s) (r : PendingRecord)
     (found : first (is_of tx key) s.pending ≡ Some r) (begun : r.committed ≡ false) where
-  marked : List PendingRecord
-  marked = set_first (is_of tx key) (rows.committed r epoch) s.pending
+  done : PendingRecord
+  done = rows.committed r epoch
 
-  own_done : is_of tx key (rows.committed r epoch) ≡ true
-  own_done = first_passes (is_of tx key) s.pending r found
+  with_done : RowsState
+  with_done = rows_with (set_row s.places r.key r.image epoch) (set_first (is_of tx key) done s.pending)
 
-  other_done : (other : TxId) (key2 : List ℕ) → is_same tx key other key2 ≡ false
-      → is_of other key2 (rows.committed r epoch) ≡ false
-  other_done other key2 off = two_records tx other key key2 off r own_done
-
-  committing_is : commit_record s tx key epoch ≡ rows_with (set_row s.places r.key r.image epoch) marked
-  unfolding marked
+  committing_is : commit_record s tx key epoch ≡ with_done
+  unfolding with_done done
   committing_is = commits_image s tx key epoch r found begun
 
-  marked_images : (other : TxId) (key2 : List ℕ)
-      → prepared_in (first (is_of other key2) marked) ≡ (if is_same tx key other key2 then None else image_in s other key2)
-  unfolding marked
-  marked_images other key2 =
-      by_record tx other key key2 (λ t k b. prepared_in (first (is_of t k) (set_first (is_of tx key) (rows.committed r epoch) s.pending)) ≡ (if b then None else image_in s t k))
-      (ap prepared_in (first-set_own (is_of tx key) (rows.committed r epoch) own_done s.pending r found))
-      (λ off. ap prepared_in (first-set_other (is_of tx key) (is_of other key2) (two_records tx other key key2 off) (rows.committed r epoch) (other_done other key2 off) s.pending))
+  own_done : is_of tx key done ≡ true
+  unfolding done
+  own_done = first_passes (is_of tx key) s.pending r found
 
-  marked_once : (other : TxId) (key2 : List ℕ) → first (is_of other key2) (drop_first (is_of other key2) marked) ≡ None
-  unfolding marked
-  marked_once other key2 =
-      by_record tx other key key2 (λ t k b. first (is_of t k) (drop_first (is_of t k) (set_first (is_of tx key) (rows.committed r epoch) s.pending)) ≡ None)
-      (ap (first (is_of tx key)) (drop-set_own (is_of tx key) (rows.committed r epoch) own_done s.pending) ∙ is.once tx key)
-      (λ off. ap (first (is_of other key2)) (drop-set_other (is_of tx key) (is_of other key2) (two_records tx other key key2 off) (rows.committed r epoch) (other_done other key2 off) s.pending)
-      ∙ first-set_other (is_of tx key) (is_of other key2) (two_records tx other key key2 off) (rows.committed r epoch) (other_done other key2 off) (drop_first (is_of other key2) s.pending)
-      ∙ is.once other key2)
-
-  marked_placed : (other : TxId) (key2 : List ℕ) (image : Option (List ℕ))
-      → prepared_in (first (is_of other key2) marked) ≡ Some image
-      → has_place (set_row s.places r.key r.image epoch) key2 ≡ true
-  marked_placed other key2 image there =
-      by_record tx other key key2 (λ t k b. (if b then None else image_in s t k) ≡ Some image → has_place (set_row s.places r.key r.image epoch) k ≡ true)
-      (λ e. absurd cc) (λ off e. has-set_row r.key r.image epoch key2 s.places ∙ is.placed other key2 image e)
-      (sym (marked_images other key2) ∙ there)
+  commits_done : Prepared s with_done tx key None
+  unfolding with_done done
+  commits_done =
+      orderly_still s with_done tx key (Some done) (sets tx key s.pending is.once done own_done r found)
+      (apart-set_row r.key r.image epoch s.places is.apart) (λ image e. absurd cc)
+      (λ other key2 image now was. has-set_row r.key r.image epoch key2 s.places ∙ is.placed other key2 image was)
 
   pub commits : Prepared s (commit_record s tx key epoch) tx key None
-  commits = subst (λ after. Prepared s after tx key None) (sym committing_is) (record {
-    orderly =
-        record { apart = apart-set_row r.key r.image epoch s.places is.apart; once = marked_once; placed = marked_placed };
-    images = marked_images;
-  })
+  commits = subst (λ after. Prepared s after tx key None) (sym committing_is) commits_done
 
   own_key : r.key ≡ key
   own_key = key_of_first tx key s.pending r found
@@ -157,46 +146,34 @@ module _ (s : RowsState) (tx : TxId) (key : List ℕ) (epoch : ℕ) (is : IsOrde
       ap (has_place s.places) own_key
       ∙ is.placed tx key r.image (ap prepared_in found ∙ ap (λ b. if b then None else Some r.image) begun)
 
-  rewrites : Rewrites s (rows_with (set_row s.places r.key r.image epoch) marked) r.key r.image epoch
+  row_done : (most : ℕ) (image : Option (List ℕ)) → IsImage r.key image → epoch ≤ most
+      → IsReadable most (Some (with_row r.key image epoch))
+  row_done most None good few = tt
+  row_done most (Some value) good few = record { key = good.key_is; epoch = few; value = good.image_is }
+
+  rewrites : Rewrites s with_done r.key r.image epoch
+  unfolding with_done
   rewrites = record {
     own = own-set_row r.key r.image epoch s.places has_own;
     other = λ n q off. other-set_row r.key r.image epoch n q off s.places;
     readable = λ most few good all.
         subst (Each (IsReadable most)) (sym (set_row-first s.places r.key r.image epoch))
-        (each-set_first (IsReadable most) (is_at r.key) (Some (with_row r.key r.image epoch)) (row most r.image good few) s.places all);
+        (each-set_first (IsReadable most) (is_at r.key) (Some (with_row r.key r.image epoch))
+        (row_done most r.image good few) s.places all);
   }
-    where
-      row : (most : ℕ) (image : Option (List ℕ)) → IsImage r.key image → epoch ≤ most
-          → IsReadable most (Some (with_row r.key image epoch))
-      row most None good few = tt
-      row most (Some value) good few = record { key = good.key_is; epoch = few; value = good.image_is }
 
   pub commits_row : Rewrites s (commit_record s tx key epoch) key r.image epoch
   commits_row =
       subst (λ k. Rewrites s (commit_record s tx key epoch) k r.image epoch) own_key
       (subst (λ after. Rewrites s after r.key r.image epoch) (sym committing_is) rewrites)
 
--- a record is dropped
-module _ (s : RowsState) (tx : TxId) (key : List ℕ) (is : IsOrderly s) (r : PendingRecord) (found : first (is_of tx key) s.pending ≡ Some r) where
-  rest : List PendingRecord
+-- a record is dropped, and its key's place is freed unless it is wanted
+module _ (s : RowsState) (tx : TxId) (key : List ℕ) (is : IsOrderly s) (r : PendingRecord) where
+  abbrev rest : List PendingRecord
   rest = drop_first (is_of tx key) s.pending
 
-  rest_images : (other : TxId) (key2 : List ℕ)
-      → prepared_in (first (is_of other key2) rest) ≡ (if is_same tx key other key2 then None else image_in s other key2)
-  unfolding rest
-  rest_images other key2 =
-      by_record tx other key key2 (λ t k b. prepared_in (first (is_of t k) (drop_first (is_of tx key) s.pending)) ≡ (if b then None else image_in s t k))
-      (ap prepared_in (is.once tx key))
-      (λ off. ap prepared_in (first-drop_other (is_of tx key) (is_of other key2) (two_records tx other key key2 off) s.pending))
-
-  rest_once : (other : TxId) (key2 : List ℕ) → first (is_of other key2) (drop_first (is_of other key2) rest) ≡ None
-  unfolding rest
-  rest_once other key2 =
-      by_record tx other key key2 (λ t k b. first (is_of t k) (drop_first (is_of t k) (drop_first (is_of tx key) s.pending)) ≡ None)
-      (ap (first (is_of tx key)) (drop-none (is_of tx key) (drop_first (is_of tx key) s.pending) (is.once tx key)) ∙ is.once tx key)
-      (λ off. ap (first (is_of other key2)) (drop-drop_other (is_of tx key) (is_of other key2) (two_records tx other key key2 off) s.pending)
-      ∙ first-drop_other (is_of tx key) (is_of other key2) (two_records tx other key key2 off) (drop_first (is_of other key2) s.pending)
-      ∙ is.once other key2)
+  abbrev pub without_it : RowsState
+  without_it = rows_with (freed s.places rest r.key) rest
 
   -- the place of a record's key isn't freed
   not_idle : (other : TxId) (key2 : List ℕ) (image : Option (List ℕ))
@@ -210,27 +187,18 @@ module _ (s : RowsState) (tx : TxId) (key : List ℕ) (is : IsOrderly s) (r : Pe
           absurd (let both : Some image ≡ None = sym there ∙ ap prepared_in gone in cc)
       by false e = refl
 
-  rest_placed : (other : TxId) (key2 : List ℕ) (image : Option (List ℕ))
-      → prepared_in (first (is_of other key2) rest) ≡ Some image
-      → has_place (freed s.places rest r.key) key2 ≡ true
-  rest_placed other key2 image there =
-      has-freed s.places rest r.key key2 (not_idle other key2 image there)
-      (by_record tx other key key2 (λ t k b. (if b then None else image_in s t k) ≡ Some image → has_place s.places k ≡ true)
-      (λ e. absurd cc) (λ off e. is.placed other key2 image e)
-      (sym (rest_images other key2) ∙ there))
+  pub drops : Prepared s without_it tx key None
+  drops =
+      orderly_still s without_it tx key None (drops_one tx key s.pending is.once) (apart-freed s.places rest r.key is.apart)
+      (λ image e. absurd cc)
+      (λ other key2 image now was.
+      has-freed s.places rest r.key key2 (not_idle other key2 image now) (is.placed other key2 image was))
 
-  pub drops : Prepared s (rows_with (freed s.places (drop_first (is_of tx key) s.pending) r.key) (drop_first (is_of tx key) s.pending)) tx key None
-  unfolding rest
-  drops = record {
-    orderly = record { apart = apart-freed s.places rest r.key is.apart; once = rest_once; placed = rest_placed };
-    images = rest_images;
-  }
-
-  pub drops_rows : LeavesRows s (rows_with (freed s.places (drop_first (is_of tx key) s.pending) r.key) (drop_first (is_of tx key) s.pending))
+  pub drops_rows : LeavesRows s without_it
   drops_rows = record {
-    rows_are = λ n q. row-freed s.places (drop_first (is_of tx key) s.pending) r.key is.apart n q;
+    rows_are = λ n q. row-freed s.places rest r.key is.apart n q;
     readable = λ most all.
-        by_freed (Each (IsReadable most)) s.places (drop_first (is_of tx key) s.pending) r.key all
+        by_freed (Each (IsReadable most)) s.places rest r.key all
         (λ idle none. each-set_first (IsReadable most) (is_at r.key) None tt s.places all);
   }
 
@@ -239,8 +207,8 @@ pub unprepared : (s : RowsState) (tx : TxId) (key : List ℕ) → IsOrderly s �
     → Prepared s s tx key None
 unprepared s tx key is none = record {
   orderly = is;
-  images =
-      λ other key2. by_record tx other key key2 (λ t k b. image_in s t k ≡ (if b then None else image_in s t k)) none (λ off. refl);
+  images = λ other key2.
+      by_record tx other key key2 (λ t k b. image_in s t k ≡ (if b then None else image_in s t k)) none (λ off. refl);
 }
 
 -- an abort, and the end of a record that is committed
@@ -253,10 +221,9 @@ module _ (s : RowsState) (tx : TxId) (key : List ℕ) (is : IsOrderly s) where
   same_rows after e none =
       subst (λ w. Ends s w tx key) (sym e) (record { prepared = unprepared s tx key is none; leaves = nothing_left s })
 
-  gone : (after : RowsState) (r : PendingRecord) → first (is_of tx key) s.pending ≡ Some r
-      → after ≡ rows_with (freed s.places (drop_first (is_of tx key) s.pending) r.key) (drop_first (is_of tx key) s.pending) → Ends s after tx key
-  gone after r found e =
-      subst (λ w. Ends s w tx key) (sym e) (record { prepared = drops s tx key is r found; leaves = drops_rows s tx key is r found })
+  gone : (after : RowsState) (r : PendingRecord) → after ≡ without_it s tx key is r → Ends s after tx key
+  gone after r e =
+      subst (λ w. Ends s w tx key) (sym e) (record { prepared = drops s tx key is r; leaves = drops_rows s tx key is r })
 
   pub aborts : Ends s (abort_record s tx key) tx key
   unfolding abort_record
@@ -270,7 +237,7 @@ module _ (s : RowsState) (tx : TxId) (key : List ℕ) (is : IsOrderly s) where
           if_done true f =
               same_rows (abort_record s tx key) (drops_other false s tx key r e (ap not f))
               (ap prepared_in e ∙ ap (λ b. if b then None else Some r.image) f)
-          if_done false f = gone (abort_record s tx key) r e (drops_it false s tx key r e (ap not f))
+          if_done false f = gone (abort_record s tx key) r (drops_it false s tx key r e (ap not f))
 
   -- what is done with was not prepared any more
   pub record Completes (after : RowsState) : Type 0 where
@@ -292,11 +259,11 @@ module _ (s : RowsState) (tx : TxId) (key : List ℕ) (is : IsOrderly s) where
           if_done : (b : Bool) → r.committed ≡ b → Completes (complete_record s tx key)
           if_done false f = stays (drops_other true s tx key r e f)
           if_done true f =
-              let ended = gone (complete_record s tx key) r e (drops_it true s tx key r e f) in
+              let ended = gone (complete_record s tx key) r (drops_it true s tx key r e f) in
               record {
                 orderly = ended.prepared.orderly;
-                images =
-                    λ other key2. by_record tx other key key2 (λ t k b. image_in (complete_record s tx key) t k ≡ image_in s t k)
+                images = λ other key2.
+                    by_record tx other key key2 (λ t k b. image_in (complete_record s tx key) t k ≡ image_in s t k)
                     (ended.prepared.images tx key ∙ ap (λ b. if b then None else image_in s tx key) (own_record tx key)
                     ∙ sym (ap prepared_in e ∙ ap (λ b. if b then None else Some r.image) f))
                     (λ off. ended.prepared.images other key2 ∙ ap (λ b. if b then None else image_in s other key2) off);

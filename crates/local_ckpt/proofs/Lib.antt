@@ -1,4 +1,5 @@
 pub mod CoverLemmas
+pub mod EditLemmas
 pub mod EventLemmas
 pub mod FirstRows
 pub mod Firsts

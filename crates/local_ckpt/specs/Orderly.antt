@@ -26,9 +26,13 @@ prepared_in (Some r) = if r.committed then None else Some r.image
 abbrev pub image_in : RowsState → TxId → List ℕ → Option (Option (List ℕ))
 image_in s tx key = prepared_in (first (is_of tx key) s.pending)
 
+-- the transaction has no second record on the key
+abbrev pub HasOne : List PendingRecord → TxId → List ℕ → Type 0
+HasOne pending tx key = first (is_of tx key) (drop_first (is_of tx key) pending) ≡ None
+
 -- No key has two places, no transaction has two records on a key, and the key of a prepared one has a place.
 pub record IsOrderly (s : RowsState) : Type 0 where
   pub apart : AreApart s.places
-  pub once : (tx : TxId) (key : List ℕ) → first (is_of tx key) (drop_first (is_of tx key) s.pending) ≡ None
+  pub once : (tx : TxId) (key : List ℕ) → HasOne s.pending tx key
   pub placed : (tx : TxId) (key : List ℕ) (image : Option (List ℕ)) → image_in s tx key ≡ Some image
       → has_place s.places key ≡ true

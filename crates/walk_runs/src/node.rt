@@ -102,13 +102,7 @@ impl Node {
         }
     }
 
-    fn prepare(
-        &mut self,
-        dice: &mut Dice,
-        at: usize,
-        tx: TxId,
-        key: Key,
-    ) -> Result<(), RunFault> {
+    fn prepare(&mut self, dice: &mut Dice, at: usize, tx: TxId, key: Key) -> Result<(), RunFault> {
         let image = if dice.roll(3) == 0 {
             None
         } else {
