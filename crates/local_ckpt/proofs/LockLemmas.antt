@@ -13,9 +13,9 @@ use Rattle.sig_core.specs.Rows.{RowsState, abort_record, commit_record, complete
 use Rattle.sig_core.specs.Same.{same_key, same_tx}
 use Rattle.sig_core.proofs.Keys.{same_key-swap, same_tx-self}
 use Rattle.sig_core.proofs.TxLemmas.{same_tx-swap}
-use Rattle.redo_log.specs.Replaying.{image_of}
 use Rattle.local_ckpt.specs.Events.{Abort, Commit, Complete, Event, Moment, Prepare, Step, after, changed, log_if, logged, next}
 use Rattle.local_ckpt.specs.Locking.{AreLocked, IsAlone, KeepLocks, KeepsLock, LogsLeaveRows}
+use Rattle.local_ckpt.specs.Laws.{last_image}
 use Rattle.local_ckpt.specs.Orderly.{IsOrderly, image_in, prepared_in}
 use Rattle.local_ckpt.proofs.CoverLemmas.{Fits, over_fits}
 use Rattle.local_ckpt.proofs.EventLemmas.{LeavesRows, Prepared, Rewrites, aborts, commits, commits_row, completes, stores, stores_rows}
@@ -28,18 +28,18 @@ use Rattle.local_ckpt.proofs.RedoLemmas.{get-replayed, redoing, redone}
 record IsSince (noted : ℕ) (s : RowsState) (log : List Redo) : Type 0 where
   orderly : IsOrderly s
   locked : AreLocked s
-  known : (tx : TxId) (key : List ℕ) (image : Option (List ℕ)) → image_of log (record { tx = tx; key = key }) ≡ Some image → image_in s tx key ≡ Some image
+  known : (tx : TxId) (key : List ℕ) (image : Option (List ℕ)) → last_image log tx key ≡ Some image → image_in s tx key ≡ Some image
   fits : (epoch : ℕ) → noted ≤ epoch → (q : List ℕ) → Fits (redone epoch log q) (row_at s.places q)
-  older : (tx : TxId) (key : List ℕ) (image : Option (List ℕ)) → image_in s tx key ≡ Some image → image_of log (record { tx = tx; key = key }) ≡ None
+  older : (tx : TxId) (key : List ℕ) (image : Option (List ℕ)) → image_in s tx key ≡ Some image → last_image log tx key ≡ None
       → (epoch : ℕ) → noted ≤ epoch → redone epoch log key ≡ None
 
 module _ (noted : ℕ) (s : RowsState) (log : List Redo) (is : IsSince noted s log) where
   -- what is prepared is no more than before, and the rows are as they were
   fewer : (after : RowsState) (further : List Redo) → IsOrderly after → LeavesRows s after
       → ((tx : TxId) (key : List ℕ) (image : Option (List ℕ)) → image_in after tx key ≡ Some image → image_in s tx key ≡ Some image)
-      → ((tx : TxId) (key : List ℕ) (image : Option (List ℕ)) → image_of further (record { tx = tx; key = key }) ≡ Some image → image_in after tx key ≡ Some image)
-      → ((tx : TxId) (key : List ℕ) (image : Option (List ℕ)) → image_in after tx key ≡ Some image → image_of further (record { tx = tx; key = key }) ≡ None
-      → image_of log (record { tx = tx; key = key }) ≡ None)
+      → ((tx : TxId) (key : List ℕ) (image : Option (List ℕ)) → last_image further tx key ≡ Some image → image_in after tx key ≡ Some image)
+      → ((tx : TxId) (key : List ℕ) (image : Option (List ℕ)) → image_in after tx key ≡ Some image → last_image further tx key ≡ None
+      → last_image log tx key ≡ None)
       → ((epoch : ℕ) (q : List ℕ) → redone epoch further q ≡ redone epoch log q) → IsSince noted after further
   fewer after further orderly leaves was known gone same_redo = record {
     orderly = orderly;
@@ -97,10 +97,10 @@ module _ (noted : ℕ) (s : RowsState) (log : List Redo) (is : IsSince noted s l
   given_up after tx key ended leaves =
       fewer after (redo.Abort tx key ∷ log) ended.orderly leaves
       (λ other key2 image here. (was_prepared after tx key ended other key2 image here).1)
-      (λ other key2 image here. let parts = log_kept (is_same tx key other key2) (image_of log (record { tx = other; key = key2 })) image here in
+      (λ other key2 image here. let parts = log_kept (is_same tx key other key2) (last_image log other key2) image here in
       still_prepared after tx key ended other key2 image parts.0 (is.known other key2 image parts.1))
       (λ other key2 image here none.
-      sym (ap (λ b. cond b None (image_of log (record { tx = other; key = key2 }))) (was_prepared after tx key ended other key2 image here).0) ∙ none)
+      sym (ap (λ b. cond b None (last_image log other key2)) (was_prepared after tx key ended other key2 image here).0) ∙ none)
       (λ epoch q. refl)
 
   -- nothing was prepared
@@ -146,16 +146,16 @@ module _ (noted : ℕ) (s : RowsState) (log : List Redo) (is : IsSince noted s l
           → (if is_same tx key other key2 then Some image else image_in s other key2) ≡ Some found
       now other key2 found here = sym (stored.images other key2) ∙ here
 
-      log_had : (b : Bool) (other : TxId) (key2 : List ℕ) (found : Option (List ℕ)) → cond b (Some image) (image_of log (record { tx = other; key = key2 })) ≡ Some found
-          → (image_of log (record { tx = other; key = key2 }) ≡ Some found → image_in s other key2 ≡ Some found)
+      log_had : (b : Bool) (other : TxId) (key2 : List ℕ) (found : Option (List ℕ)) → cond b (Some image) (last_image log other key2) ≡ Some found
+          → (last_image log other key2 ≡ Some found → image_in s other key2 ≡ Some found)
           → (if b then Some image else image_in s other key2) ≡ Some found
       log_had true other key2 found here more = here
       log_had false other key2 found here more = more here
 
       log_lacks : {A : Type 0} (b : Bool) (other : TxId) (key2 : List ℕ) (found : Option (List ℕ))
           → (if b then Some image else image_in s other key2) ≡ Some found
-          → cond b (Some image) (image_of log (record { tx = other; key = key2 })) ≡ None
-          → (image_in s other key2 ≡ Some found → image_of log (record { tx = other; key = key2 }) ≡ None → A) → A
+          → cond b (Some image) (last_image log other key2) ≡ None
+          → (image_in s other key2 ≡ Some found → last_image log other key2 ≡ None → A) → A
       log_lacks true other key2 found here none more = absurd cc
       log_lacks false other key2 found here none more = more here none
 
@@ -189,7 +189,7 @@ module _ (noted : ℕ) (s : RowsState) (log : List Redo) (is : IsSince noted s l
     own_row q e = ap (row_at now_committed.places) (sym (same key q e)) ∙ rewritten.own
 
     -- the log makes it the row where it has the prepare, and else nothing more than before
-    has_prepare : (image : Option (List ℕ)) → image_of log (record { tx = tx; key = key }) ≡ Some image → (epoch : ℕ) → noted ≤ epoch → (q : List ℕ) (b : Bool)
+    has_prepare : (image : Option (List ℕ)) → last_image log tx key ≡ Some image → (epoch : ℕ) → noted ≤ epoch → (q : List ℕ) (b : Bool)
         → same_key key q ≡ b
         → redone epoch (redo.Commit tx at key ∷ log) q ≡ (if b then Some image else redone epoch log q)
     has_prepare image has epoch few q b e =
@@ -198,10 +198,10 @@ module _ (noted : ℕ) (s : RowsState) (log : List Redo) (is : IsSince noted s l
         ∙ ap (λ c. if c then (if same_key q key then Some image else redone epoch log q) else redone epoch log q) now
         ∙ ap (λ c. if c then Some image else redone epoch log q) (same_key-swap q key ∙ e)
 
-    has_none : image_of log (record { tx = tx; key = key }) ≡ None → (epoch : ℕ) (q : List ℕ) → redone epoch (redo.Commit tx at key ∷ log) q ≡ redone epoch log q
+    has_none : last_image log tx key ≡ None → (epoch : ℕ) (q : List ℕ) → redone epoch (redo.Commit tx at key ∷ log) q ≡ redone epoch log q
     has_none none epoch q = ap (λ o. redoing epoch (redo.Commit tx at key) o q (redone epoch log q)) none
 
-    fits_own : (o : Option (Option (List ℕ))) → image_of log (record { tx = tx; key = key }) ≡ o → (epoch : ℕ) → noted ≤ epoch → (q : List ℕ)
+    fits_own : (o : Option (Option (List ℕ))) → last_image log tx key ≡ o → (epoch : ℕ) → noted ≤ epoch → (q : List ℕ)
         → same_key key q ≡ true → Fits (redone epoch (redo.Commit tx at key ∷ log) q) (row_at now_committed.places q)
     fits_own (Some image) has epoch few q e =
         let one : Some image ≡ Some r.image = sym (is.known tx key image has) ∙ image_is in
@@ -211,16 +211,16 @@ module _ (noted : ℕ) (s : RowsState) (log : List Redo) (is : IsSince noted s l
         let nothing : redone epoch log q ≡ None = ap (redone epoch log) (sym (same key q e)) ∙ is.older tx key r.image image_is none epoch few in
         subst (λ w. Fits w (row_at now_committed.places q)) (sym (has_none none epoch q ∙ nothing)) tt
 
-    stays_other : (o : Option (Option (List ℕ))) → image_of log (record { tx = tx; key = key }) ≡ o → (epoch : ℕ) → noted ≤ epoch → (q : List ℕ)
+    stays_other : (o : Option (Option (List ℕ))) → last_image log tx key ≡ o → (epoch : ℕ) → noted ≤ epoch → (q : List ℕ)
         → same_key key q ≡ false → redone epoch (redo.Commit tx at key ∷ log) q ≡ redone epoch log q
     stays_other (Some image) has epoch few q e = has_prepare image has epoch few q false e
     stays_other None none epoch few q e = has_none none epoch q
 
     fits_now : (epoch : ℕ) → noted ≤ epoch → (q : List ℕ) (b : Bool) → same_key key q ≡ b
         → Fits (redone epoch (redo.Commit tx at key ∷ log) q) (row_at now_committed.places q)
-    fits_now epoch few q true e = fits_own (image_of log (record { tx = tx; key = key })) refl epoch few q e
+    fits_now epoch few q true e = fits_own (last_image log tx key) refl epoch few q e
     fits_now epoch few q false e =
-        subst (λ w. Fits w (row_at now_committed.places q)) (sym (stays_other (image_of log (record { tx = tx; key = key })) refl epoch few q e))
+        subst (λ w. Fits w (row_at now_committed.places q)) (sym (stays_other (last_image log tx key) refl epoch few q e))
         (subst (Fits (redone epoch log q)) (sym (rewritten.other 0 q e)) (is.fits epoch few q))
 
     commit_since : IsSince noted now_committed (redo.Commit tx at key ∷ log)
@@ -230,14 +230,14 @@ module _ (noted : ℕ) (s : RowsState) (log : List Redo) (is : IsSince noted s l
           is.locked one key2 image (was_prepared now_committed tx key ended one key2 image here).1 other another
           (was_prepared now_committed tx key ended other key2 another there).1;
       known = λ other key2 image here.
-          let parts = log_kept (is_same tx key other key2) (image_of log (record { tx = other; key = key2 })) image here in
+          let parts = log_kept (is_same tx key other key2) (last_image log other key2) image here in
           still_prepared now_committed tx key ended other key2 image parts.0 (is.known other key2 image parts.1);
       fits = λ epoch few q. fits_now epoch few q (same_key key q) refl;
       older = λ other key2 image here none epoch few.
           let was = was_prepared now_committed tx key ended other key2 image here in
-          let gone : image_of log (record { tx = other; key = key2 }) ≡ None =
-          sym (ap (λ b. cond b None (image_of log (record { tx = other; key = key2 }))) was.0) ∙ none in
-          stays_other (image_of log (record { tx = tx; key = key })) refl epoch few key2 (other_key now_committed tx key ended r.image image image_is other key2 was.1 was.0)
+          let gone : last_image log other key2 ≡ None =
+          sym (ap (λ b. cond b None (last_image log other key2)) was.0) ∙ none in
+          stays_other (last_image log tx key) refl epoch few key2 (other_key now_committed tx key ended r.image image image_is other key2 was.1 was.0)
           ∙ is.older other key2 image was.1 gone epoch few;
     }
 

@@ -13,7 +13,7 @@ use Rattle.lcp_store.specs.Bytes.{head_bytes, row_bytes}
 use Rattle.redo_log.specs.Laws.{bytes_in}
 use Rattle.redo_log.specs.LogState.{Laid}
 use Rattle.local_ckpt.specs.declared.passing.TheConstants.{PIECE_ROWS}
-use Rattle.local_ckpt.specs.Events.{Moment, given_by, stepped_by}
+use Rattle.local_ckpt.specs.Events.{Moment, given_by, stepped_by, moment}
 use Rattle.local_ckpt.specs.Laws.{pieces_bytes}
 use Rattle.local_ckpt.specs.Passing.{Passed, pass, pass_by, passed_from, row_in, row_with}
 use Rattle.local_ckpt.specs.Walk.{head_at, next_piece, rows_at}
@@ -88,7 +88,7 @@ some_come own m way =
     many_passed m.rows m.log m.walk.epoch way.orderly way.readable way.fits PIECE_ROWS m.walk.place way.written way.come
 
 pub steps : (own : ℕ → Rows) (m : Moment) → IsUnderWay own m → (o : Option ℕ) → next_place m.rows m.walk.place ≡ o
-    → IsUnderWay own (record { rows = m.rows; log = m.log; walk = stepped_by m.rows m.walk o; pieces = given_by m.rows m.walk m.pieces o })
+    → IsUnderWay own (moment m.rows m.log (stepped_by m.rows m.walk o) (given_by m.rows m.walk m.pieces o))
 steps own m way None e = way
 steps own m way (Some at) e =
     let rows : List StoredRow = (passed_from m.rows m.walk.place).rows in

@@ -16,9 +16,9 @@ use Rattle.sig_core.proofs.Keys.{same_key-swap}
 use Rattle.lcp_store.specs.declared.row.StoredRow.{StoredRow}
 use Rattle.lcp_store.specs.Bytes.{head_bytes, row_bytes}
 use Rattle.lcp_store.specs.Laws.{all_in}
-use Rattle.redo_log.specs.Replaying.{applied, image_of, with_image}
-use Rattle.local_ckpt.specs.Events.{Moment, log_if, noting_if}
-use Rattle.local_ckpt.specs.Laws.{HasPrepares, IsImage, IsReadable, pieces_bytes}
+use Rattle.redo_log.specs.Replaying.{applied, with_image}
+use Rattle.local_ckpt.specs.Events.{Moment, log_if, noting_if, moment}
+use Rattle.local_ckpt.specs.Laws.{HasPrepares, IsImage, IsReadable, pieces_bytes, last_image}
 use Rattle.local_ckpt.specs.Orderly.{IsOrderly, image_in, prepared_in}
 use Rattle.local_ckpt.specs.Walk.{noting}
 use Rattle.local_ckpt.proofs.CoverLemmas.{Fits, HasCome, IsCovered, later_places, later_rows}
@@ -66,25 +66,25 @@ pub has_after : (s after : RowsState) (log : List Redo) (tx : TxId) (key : List 
     → HasPrepares s log → Prepared s after tx key (Some image)
     → HasPrepares after (redo.Prepare tx fragment key image ∷ log)
 has_after s after log tx key fragment image has is other key2 found there =
-    image_after (is_same tx key other key2) (Some image) (image_in s other key2) (image_of log (record { tx = other; key = key2 })) found
+    image_after (is_same tx key other key2) (Some image) (image_in s other key2) (last_image log other key2) found
     (has other key2 found) (sym (is.images other key2) ∙ there)
 
 pub has_committed : (s after : RowsState) (log : List Redo) (tx : TxId) (key : List ℕ) (epoch : ℕ)
     → HasPrepares s log → Prepared s after tx key None → HasPrepares after (redo.Commit tx epoch key ∷ log)
 has_committed s after log tx key epoch has is other key2 found there =
-    image_after (is_same tx key other key2) None (image_in s other key2) (image_of log (record { tx = other; key = key2 })) found
+    image_after (is_same tx key other key2) None (image_in s other key2) (last_image log other key2) found
     (has other key2 found) (sym (is.images other key2) ∙ there)
 
 pub has_aborted : (s after : RowsState) (log : List Redo) (tx : TxId) (key : List ℕ)
     → HasPrepares s log → Prepared s after tx key None → HasPrepares after (redo.Abort tx key ∷ log)
 has_aborted s after log tx key has is other key2 found there =
-    image_after (is_same tx key other key2) None (image_in s other key2) (image_of log (record { tx = other; key = key2 })) found
+    image_after (is_same tx key other key2) None (image_in s other key2) (last_image log other key2) found
     (has other key2 found) (sym (is.images other key2) ∙ there)
 
 pub has_still : (s after : RowsState) (log : List Redo) (tx : TxId) (key : List ℕ)
     → HasPrepares s log → Prepared s after tx key None → HasPrepares after log
 has_still s after log tx key has is other key2 found there =
-    image_kept (is_same tx key other key2) (image_in s other key2) (image_of log (record { tx = other; key = key2 })) found
+    image_kept (is_same tx key other key2) (image_in s other key2) (last_image log other key2) found
     (has other key2 found) (sym (is.images other key2) ∙ there)
 
 module _ (own : ℕ → Rows) (m : Moment) (way : IsUnderWay own m) where
@@ -92,7 +92,7 @@ module _ (own : ℕ → Rows) (m : Moment) (way : IsUnderWay own m) where
   stays : (after : RowsState) (log : List Redo) → IsOrderly after → LeavesRows m.rows after → HasPrepares after log
       → ((tx : TxId) (key : List ℕ) (image : Option (List ℕ)) → image_in after tx key ≡ Some image → IsImage key image)
       → ((epoch : ℕ) (q : List ℕ) → redone epoch log q ≡ redone epoch m.log q)
-      → IsUnderWay own (record { rows = after; log = log; walk = m.walk; pieces = m.pieces })
+      → IsUnderWay own (moment after log m.walk m.pieces)
   stays after log orderly leaves prepared images same = record {
     orderly = orderly;
     readable = leaves.readable m.walk.epoch way.readable;
@@ -116,7 +116,7 @@ module _ (own : ℕ → Rows) (m : Moment) (way : IsUnderWay own m) where
           inr (ap (λ found. over found (map.get (all_in map.empty way.written) q)) (same epoch q) ∙ is ∙ sym (leaves.rows_are 0 q))
 
   pub prepares : (tx : TxId) (fragment : ℕ) (key : List ℕ) (image : Option (List ℕ)) → IsImage key image
-      → IsUnderWay own (record { rows = storing m.rows tx key image; log = redo.Prepare tx fragment key image ∷ m.log; walk = m.walk; pieces = m.pieces })
+      → IsUnderWay own (moment (storing m.rows tx key image) (redo.Prepare tx fragment key image ∷ m.log) m.walk m.pieces)
   prepares tx fragment key image good =
       let is = stores m.rows tx key image way.orderly in
       stays (storing m.rows tx key image) (redo.Prepare tx fragment key image ∷ m.log) is.orderly (stores_rows m.rows tx key image way.orderly)
@@ -134,14 +134,14 @@ module _ (own : ℕ → Rows) (m : Moment) (way : IsUnderWay own m) where
   ends : (after : RowsState) (log : List Redo) (tx : TxId) (key : List ℕ) → Prepared m.rows after tx key None
       → LeavesRows m.rows after
       → HasPrepares after log → ((epoch : ℕ) (q : List ℕ) → redone epoch log q ≡ redone epoch m.log q)
-      → IsUnderWay own (record { rows = after; log = log; walk = m.walk; pieces = m.pieces })
+      → IsUnderWay own (moment after log m.walk m.pieces)
   ends after log tx key is leaves has same =
       stays after log is.orderly leaves has
       (λ other key2 found there. way.images other key2 found (image_kept (is_same tx key other key2) (image_in m.rows other key2) (image_in m.rows other key2) found (λ e. e)
       (sym (is.images other key2) ∙ there))) same
 
   pub gives_up : (tx : TxId) (key : List ℕ) (o : Option (Option (List ℕ))) → image_in m.rows tx key ≡ o
-      → IsUnderWay own (record { rows = abort_record m.rows tx key; log = log_if (redo.Abort tx key) o m.log; walk = m.walk; pieces = m.pieces })
+      → IsUnderWay own (moment (abort_record m.rows tx key) (log_if (redo.Abort tx key) o m.log) m.walk m.pieces)
   gives_up tx key None e =
       let is = aborts m.rows tx key way.orderly in
       ends (abort_record m.rows tx key) m.log tx key is.prepared is.leaves
@@ -151,7 +151,7 @@ module _ (own : ℕ → Rows) (m : Moment) (way : IsUnderWay own m) where
       ends (abort_record m.rows tx key) (redo.Abort tx key ∷ m.log) tx key is.prepared is.leaves
       (has_aborted m.rows (abort_record m.rows tx key) m.log tx key way.prepared is.prepared) (λ epoch q. refl)
 
-  pub is_done : (tx : TxId) (key : List ℕ) → IsUnderWay own (record { rows = complete_record m.rows tx key; log = m.log; walk = m.walk; pieces = m.pieces })
+  pub is_done : (tx : TxId) (key : List ℕ) → IsUnderWay own (moment (complete_record m.rows tx key) m.log m.walk m.pieces)
   is_done tx key =
       let is = completes m.rows tx key way.orderly in
       stays (complete_record m.rows tx key) m.log is.orderly is.leaves
@@ -216,7 +216,7 @@ module _ (own : ℕ → Rows) (m : Moment) (way : IsUnderWay own m) where
     agrees epoch few q false e was = up_to_is epoch few q false e ∙ was ∙ sym (is_rewritten.other 0 q e)
 
     becomes_row : IsUnderWay (λ epoch. applied epoch (redo.Commit tx at key) (Some r.image) (own epoch))
-        (record { rows = now_committed; log = redo.Commit tx at key ∷ m.log; walk = noting m.walk at; pieces = m.pieces })
+        (moment now_committed (redo.Commit tx at key ∷ m.log) (noting m.walk at) m.pieces)
     becomes_row =
         let later : m.walk.epoch ≤ max m.walk.epoch at = omega arith in
         let noted : at ≤ max m.walk.epoch at = omega arith in
@@ -243,14 +243,14 @@ module _ (own : ℕ → Rows) (m : Moment) (way : IsUnderWay own m) where
 
   pub commit_way : (tx : TxId) (key : List ℕ) (at : ℕ) → (o : Option (Option (List ℕ))) → image_in m.rows tx key ≡ o
       → IsUnderWay (λ epoch. applied epoch (redo.Commit tx at key) o (own epoch))
-      (record { rows = commit_record m.rows tx key at; log = log_if (redo.Commit tx at key) o m.log; walk = noting_if m.walk at o; pieces = m.pieces })
+      (moment (commit_record m.rows tx key at) (log_if (redo.Commit tx at key) o m.log) (noting_if m.walk at o) m.pieces)
   commit_way tx key at None e =
-      subst (λ s. IsUnderWay own (record { rows = s; log = m.log; walk = m.walk; pieces = m.pieces })) (sym (commits_nothing m.rows tx key at e)) way
+      subst (λ s. IsUnderWay own (moment s m.log m.walk m.pieces)) (sym (commits_nothing m.rows tx key at e)) way
   commit_way tx key at (Some image) e = by (first (is_of tx key) m.rows.pending) refl e
     where
       Wanted : Type 0
       Wanted = IsUnderWay (λ epoch. applied epoch (redo.Commit tx at key) (Some image) (own epoch))
-          (record { rows = commit_record m.rows tx key at; log = redo.Commit tx at key ∷ m.log; walk = noting m.walk at; pieces = m.pieces })
+          (moment (commit_record m.rows tx key at) (redo.Commit tx at key ∷ m.log) (noting m.walk at) m.pieces)
 
       by : (o : Option PendingRecord) → first (is_of tx key) m.rows.pending ≡ o → prepared_in o ≡ Some image → Wanted
       by None f is = absurd cc
@@ -261,5 +261,5 @@ module _ (own : ℕ → Rows) (m : Moment) (way : IsUnderWay own m) where
           open_one false g is =
               let one : r.image ≡ image = cc in
               subst (λ w. IsUnderWay (λ epoch. applied epoch (redo.Commit tx at key) (Some w) (own epoch))
-              (record { rows = commit_record m.rows tx key at; log = redo.Commit tx at key ∷ m.log; walk = noting m.walk at; pieces = m.pieces })) one
+              (moment (commit_record m.rows tx key at) (redo.Commit tx at key ∷ m.log) (noting m.walk at) m.pieces)) one
               (becomes_row tx key at r f g)

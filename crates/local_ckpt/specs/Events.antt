@@ -69,14 +69,13 @@ pub record Moment : Type 0 where
   pub walk : WalkState
   pub pieces : List Laid
 
+abbrev pub moment : RowsState → List Redo → WalkState → List Laid → Moment
+moment rows log walk pieces = record { rows = rows; log = log; walk = walk; pieces = pieces }
+
 -- the moment behind an event
 abbrev pub next : Event → Moment → Moment
-next event m = record {
-  rows = changed event m.rows;
-  log = logged event m.rows m.log;
-  walk = walked event m.rows m.walk;
-  pieces = given event m.rows m.walk m.pieces;
-}
+next event m =
+    moment (changed event m.rows) (logged event m.rows m.log) (walked event m.rows m.walk) (given event m.rows m.walk m.pieces)
 
 -- and behind many, the first of them first
 abbrev pub after : List Event → Moment → Moment

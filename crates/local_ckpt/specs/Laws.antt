@@ -15,7 +15,7 @@ use Rattle.lcp_store.specs.Reading.{rows_in}
 use Rattle.redo_log.specs.Laws.{bytes_in}
 use Rattle.redo_log.specs.LogState.{Laid}
 use Rattle.redo_log.specs.Replaying.{image_of, replayed}
-use Rattle.local_ckpt.specs.Events.{Event, Moment, Prepare, after, changed, left}
+use Rattle.local_ckpt.specs.Events.{Event, Moment, Prepare, after, changed, left, moment}
 use Rattle.local_ckpt.specs.Orderly.{IsOrderly, image_in}
 use Rattle.local_ckpt.specs.Walk.{begun}
 
@@ -40,11 +40,15 @@ pub record IsImage (key : List ℕ) (image : Option (List ℕ)) : Type 0 where
   pub key_is : IsWordOf 1 KEY_BYTES key
   pub image_is : IfSome image (IsWordOf 0 VALUE_BYTES)
 
--- what is prepared is what the log has as prepared behind it
+-- what the log has as prepared behind all its records
+abbrev pub last_image : List Redo → TxId → List ℕ → Option (Option (List ℕ))
+last_image log tx key = image_of log (record { tx = tx; key = key })
+
+-- what is prepared is in the log
 abbrev pub HasPrepares : RowsState → List Redo → Type 0
 HasPrepares s log =
     (tx : TxId) (key : List ℕ) (image : Option (List ℕ)) → image_in s tx key ≡ Some image
-    → image_of log (record { tx = tx; key = key }) ≡ Some image
+    → last_image log tx key ≡ Some image
 
 -- What a walk begins with: orderly rows, none of them of a later epoch than is noted; the records of the log from a
 -- position on, which have what is prepared now, and which change nothing of the rows.
@@ -63,7 +67,7 @@ IsEvent (Prepare tx fragment key image) = IsImage key image
 IsEvent event = Unit {0}
 
 abbrev pub at_first : RowsState → List Redo → ℕ → ℕ → ℕ → Moment
-at_first s log file from noted = record { rows = s; log = log; walk = begun file from noted; pieces = [] }
+at_first s log file from noted = moment s log (begun file from noted) []
 
 abbrev pub pieces_bytes : List Laid → List ℕ
 pieces_bytes pieces = flat_map bytes_in pieces
