@@ -82,15 +82,18 @@ later_places saved more (slot ∷ places) few all =
 
 -- a row stands in place of the one that its key had
 put_behind : (written : List StoredRow) (row : StoredRow) (q : List ℕ)
-    → map.get (all_in map.empty (written ++ row ∷ [])) q ≡ (if same_key row.key q then Some row.value else map.get (all_in map.empty written) q)
+    → map.get (all_in map.empty (written ++ row ∷ [])) q ≡
+    (if same_key row.key q then Some row.value else map.get (all_in map.empty written) q)
 put_behind written row q =
     ap (λ rows. map.get rows q) (all_in-append map.empty written (row ∷ []))
     ∙ map.get-insert nat_list_cmp_total (all_in map.empty written) row.key row.value q
-    ∙ ap (λ b. cond b (Some row.value) (map.get (all_in map.empty written) q)) (tied-same_key q row.key ∙ same_key-swap q row.key)
+    ∙ ap (λ b. cond b (Some row.value) (map.get (all_in map.empty written) q))
+    (tied-same_key q row.key ∙ same_key-swap q row.key)
     ∙ by (same_key row.key q)
   where
     by : (b : Bool)
-        → cond b (Some row.value) (map.get (all_in map.empty written) q) ≡ (if b then Some row.value else map.get (all_in map.empty written) q)
+        → cond b (Some row.value) (map.get (all_in map.empty written) q) ≡
+        (if b then Some row.value else map.get (all_in map.empty written) q)
     by true = refl
     by false = refl
 
@@ -99,7 +102,8 @@ pub record HasCome (s : RowsState) (log : List Redo) (noted place : ℕ) (writte
   pub rows_are : AreRowsOf Second noted written
   pub covered : (epoch : ℕ) → noted ≤ epoch → (q : List ℕ) → IsCovered s epoch log place written q
 
-module _ (s : RowsState) (log : List Redo) (noted : ℕ) (orderly : IsOrderly s) (readable : Each (IsReadable noted) s.places)
+module _ (s : RowsState) (log : List Redo) (noted : ℕ) (orderly : IsOrderly s)
+    (readable : Each (IsReadable noted) s.places)
     (fits : (epoch : ℕ) → noted ≤ epoch → (q : List ℕ) → Fits (redone epoch log q) (row_at s.places q)) where
   -- the row at the first place that has one is written
   module _ (place n at : ℕ) (written : List StoredRow) (come : HasCome s log noted place written)
@@ -123,8 +127,10 @@ module _ (s : RowsState) (log : List Redo) (noted : ℕ) (orderly : IsOrderly s)
     row_fits : IsRowOf Second noted passed_row
     unfolding passed_row
     row_fits =
-        let slot : IsReadable noted (Some first.slot) = subst (IsReadable noted) slot_is (each_at (IsReadable noted) tt s.places readable at) in
-        let is : IsRowIf noted first.slot.key first.slot.epoch (Some first.value) = subst (IsRowIf noted first.slot.key first.slot.epoch) first.row slot in
+        let slot : IsReadable noted (Some first.slot) =
+        subst (IsReadable noted) slot_is (each_at (IsReadable noted) tt s.places readable at) in
+        let is : IsRowIf noted first.slot.key first.slot.epoch (Some first.value) =
+        subst (IsRowIf noted first.slot.key first.slot.epoch) first.row slot in
         record { key = is.key; epoch = epoch_fits s noted first.slot.key readable; value = is.value }
 
     goes_on : (epoch : ℕ) → noted ≤ epoch → (q : List ℕ) → IsCovered s epoch log (at + 1) (written ++ passed_row ∷ []) q
@@ -132,7 +138,8 @@ module _ (s : RowsState) (log : List Redo) (noted : ℕ) (orderly : IsOrderly s)
     goes_on epoch few q = by (same_key first.slot.key q) refl (come.covered epoch few q)
       where
         got : (b : Bool) → same_key first.slot.key q ≡ b
-            → map.get (all_in map.empty (written ++ passed_row ∷ [])) q ≡ (if b then Some first.value else map.get (all_in map.empty written) q)
+            → map.get (all_in map.empty (written ++ passed_row ∷ [])) q ≡
+            (if b then Some first.value else map.get (all_in map.empty written) q)
         got b e =
             put_behind written passed_row q
             ∙ ap (λ c. if c then Some first.value else map.get (all_in map.empty written) q) e
@@ -142,8 +149,10 @@ module _ (s : RowsState) (log : List Redo) (noted : ℕ) (orderly : IsOrderly s)
         by true e was =
             let here : row_at (drop place s.places) q ≡ Some first.value =
             first.split q ∙ ap (λ b. if b then Some first.value else row_at (drop (suc n) (drop place s.places)) q) e in
-            let row : row_at s.places q ≡ Some first.value = row_behind place s.places q first.value orderly.apart here in
-            inr (ap (over (redone epoch log q)) (got true e ∙ sym row) ∙ over_fits (redone epoch log q) (row_at s.places q) (fits epoch few q))
+            let row : row_at s.places q ≡ Some first.value =
+            row_behind place s.places q first.value orderly.apart here in
+            inr (ap (over (redone epoch log q)) (got true e ∙ sym row) ∙ over_fits (redone epoch log q)
+            (row_at s.places q) (fits epoch few q))
         by false e (inl (value, is)) =
             inl (
               value,
@@ -156,7 +165,11 @@ module _ (s : RowsState) (log : List Redo) (noted : ℕ) (orderly : IsOrderly s)
     row_passed : HasCome s log noted (at + 1) (written ++ row_in s (slice_index_or s.places at None))
     row_passed =
         subst (λ w. HasCome s log noted (at + 1) (written ++ w)) (sym row_is)
-        (record { rows_are = rows_append noted written (passed_row ∷ []) come.rows_are (row_fits, tt); covered = goes_on })
+        (record {
+          rows_are = rows_append noted written (passed_row ∷ []) come.rows_are
+              (row_fits, tt);
+          covered = goes_on;
+        })
 
   one_passed : (place : ℕ) (written : List StoredRow) → HasCome s log noted place written → (at : ℕ)
       → next_place s place ≡ Some at
@@ -169,11 +182,13 @@ module _ (s : RowsState) (log : List Redo) (noted : ℕ) (orderly : IsOrderly s)
       by None e is = absurd cc
       by (Some n) e is =
           let at_is : place + n ≡ at = cc in
-          row_passed place n at written come (first_row (drop place s.places) (apart_behind place s.places orderly.apart) n e) at_is
+          row_passed place n at written come
+          (first_row (drop place s.places) (apart_behind place s.places orderly.apart) n e) at_is
 
   -- so many rows are passed
   pub many_passed : (more place : ℕ) (written : List StoredRow) → HasCome s log noted place written
-      → let passed = pass s more (record { rows = []; place = place }) in HasCome s log noted passed.place (written ++ passed.rows)
+      → let passed = pass s more (record { rows = []; place = place }) in HasCome s log noted passed.place
+      (written ++ passed.rows)
   many_passed zero place written come = subst (HasCome s log noted place) (sym (append-nil written)) come
   many_passed (suc more) place written come =
       let d : Passed = pass s more (record { rows = []; place = place }) in
@@ -183,5 +198,6 @@ module _ (s : RowsState) (log : List Redo) (noted : ℕ) (orderly : IsOrderly s)
           → HasCome s log noted (pass_by s d o).place (written ++ (pass_by s d o).rows)
       by d None e come = come
       by d (Some at) e come =
-          subst (HasCome s log noted (at + 1)) (append_assoc written d.rows (row_in s (slice_index_or s.places at None)))
+          subst (HasCome s log noted (at + 1))
+          (append_assoc written d.rows (row_in s (slice_index_or s.places at None)))
           (one_passed d.place (written ++ d.rows) come at e)

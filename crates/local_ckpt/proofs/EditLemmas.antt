@@ -17,17 +17,20 @@ pub record Edits (xs ys : List PendingRecord) (tx : TxId) (key : List ℕ) (now 
   pub once : (other : TxId) (key2 : List ℕ) → HasOne ys other key2
 
 -- what is prepared afterwards
-pub edit_images : (xs ys : List PendingRecord) (tx : TxId) (key : List ℕ) (now : Option PendingRecord) → Edits xs ys tx key now
+pub edit_images : (xs ys : List PendingRecord) (tx : TxId) (key : List ℕ) (now : Option PendingRecord)
+    → Edits xs ys tx key now
     → (other : TxId) (key2 : List ℕ) → prepared_in (first (is_of other key2) ys)
     ≡ (if is_same tx key other key2 then prepared_in now else prepared_in (first (is_of other key2) xs))
-edit_images xs ys tx key now edits other key2 = ap prepared_in (edits.firsts other key2) ∙ by (is_same tx key other key2)
+edit_images xs ys tx key now edits other key2 =
+    ap prepared_in (edits.firsts other key2) ∙ by (is_same tx key other key2)
   where
     by : (b : Bool) → prepared_in (if b then now else first (is_of other key2) xs)
         ≡ (if b then prepared_in now else prepared_in (first (is_of other key2) xs))
     by true = refl
     by false = refl
 
-module _ (tx : TxId) (key : List ℕ) (xs : List PendingRecord) (one : (other : TxId) (key2 : List ℕ) → HasOne xs other key2) where
+module _ (tx : TxId) (key : List ℕ) (xs : List PendingRecord)
+    (one : (other : TxId) (key2 : List ℕ) → HasOne xs other key2) where
   abbrev own : PendingRecord → Bool
   own = is_of tx key
 
@@ -40,7 +43,8 @@ module _ (tx : TxId) (key : List ℕ) (xs : List PendingRecord) (one : (other : 
       firsts = λ other key2. by_record tx other key key2 (λ t k b.
           first (is_of t k) (put_first own r xs) ≡ (if b then Some r else first (is_of t k) xs))
           (first-put_own own r is xs)
-          (λ off. first-put_other own (is_of other key2) (two_records tx other key key2 off) r (off_other other key2 off) xs);
+          (λ off. first-put_other own (is_of other key2) (two_records tx other key key2 off) r
+          (off_other other key2 off) xs);
       once = λ other key2. by_record tx other key key2 (λ t k b. HasOne (put_first own r xs) t k)
           (ap (first own) (drop-put_own own r is xs) ∙ one tx key)
           (λ off.
@@ -50,12 +54,14 @@ module _ (tx : TxId) (key : List ℕ) (xs : List PendingRecord) (one : (other : 
           ∙ first-put_other own (is_of other key2) two r off_r (drop_first (is_of other key2) xs) ∙ one other key2);
     }
 
-    pub sets : (old : PendingRecord) → first (is_of tx key) xs ≡ Some old → Edits xs (set_first (is_of tx key) r xs) tx key (Some r)
+    pub sets : (old : PendingRecord) → first (is_of tx key) xs ≡ Some old → Edits xs
+        (set_first (is_of tx key) r xs) tx key (Some r)
     sets old found = record {
       firsts = λ other key2. by_record tx other key key2 (λ t k b.
           first (is_of t k) (set_first own r xs) ≡ (if b then Some r else first (is_of t k) xs))
           (first-set_own own r is xs old found)
-          (λ off. first-set_other own (is_of other key2) (two_records tx other key key2 off) r (off_other other key2 off) xs);
+          (λ off. first-set_other own (is_of other key2) (two_records tx other key key2 off) r
+          (off_other other key2 off) xs);
       once = λ other key2. by_record tx other key key2 (λ t k b. HasOne (set_first own r xs) t k)
           (ap (first own) (drop-set_own own r is xs) ∙ one tx key)
           (λ off.

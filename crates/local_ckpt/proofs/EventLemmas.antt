@@ -189,7 +189,8 @@ module _ (s : RowsState) (tx : TxId) (key : List ℕ) (is : IsOrderly s) (r : Pe
 
   pub drops : Prepared s without_it tx key None
   drops =
-      orderly_still s without_it tx key None (drops_one tx key s.pending is.once) (apart-freed s.places rest r.key is.apart)
+      orderly_still s without_it tx key None (drops_one tx key s.pending is.once)
+      (apart-freed s.places rest r.key is.apart)
       (λ image e. absurd cc)
       (λ other key2 image now was.
       has-freed s.places rest r.key key2 (not_idle other key2 image now) (is.placed other key2 image was))
@@ -223,7 +224,8 @@ module _ (s : RowsState) (tx : TxId) (key : List ℕ) (is : IsOrderly s) where
 
   gone : (after : RowsState) (r : PendingRecord) → after ≡ without_it s tx key is r → Ends s after tx key
   gone after r e =
-      subst (λ w. Ends s w tx key) (sym e) (record { prepared = drops s tx key is r; leaves = drops_rows s tx key is r })
+      subst (λ w. Ends s w tx key) (sym e)
+      (record { prepared = drops s tx key is r; leaves = drops_rows s tx key is r })
 
   pub aborts : Ends s (abort_record s tx key) tx key
   unfolding abort_record

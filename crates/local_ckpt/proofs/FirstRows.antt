@@ -29,19 +29,35 @@ behind_rowless : (slot : Slot) (places : List (Option Slot)) (n : ℕ) → slot.
     → has_place places slot.key ≡ false
     → IsFirstRow places n → IsFirstRow (Some slot ∷ places) (suc n)
 behind_rowless slot places n none off first =
-    record { slot = first.slot; value = first.value; here = first.here; row = first.row; split = λ q. by q (same_key slot.key q) refl }
+    record {
+      slot = first.slot;
+      value = first.value;
+      here = first.here;
+      row = first.row;
+      split = λ q. by q
+          (same_key slot.key q) refl;
+    }
   where
     by : (q : List ℕ) (b : Bool) → same_key slot.key q ≡ b
-        → (if b then slot.row else row_at places q) ≡ (if same_key first.slot.key q then Some first.value else row_at (drop (suc n) places) q)
+        → (if b then slot.row else row_at places q) ≡
+        (if same_key first.slot.key q then Some first.value else row_at (drop (suc n) places) q)
     by q true e =
-        let gone : row_at places q ≡ None = ap (row_at places) (sym (same slot.key q e)) ∙ no_place places slot.key off in
+        let gone : row_at places q ≡ None =
+        ap (row_at places) (sym (same slot.key q e)) ∙ no_place places slot.key off in
         none ∙ sym gone ∙ first.split q
     by q false e = first.split q
 
 at_front : (slot : Slot) (places : List (Option Slot)) (value : List ℕ) → slot.row ≡ Some value
     → IsFirstRow (Some slot ∷ places) 0
 at_front slot places value row =
-    record { slot = slot; value = value; here = refl; row = row; split = λ q. ap (λ w. if same_key slot.key q then w else row_at places q) row }
+    record {
+      slot = slot;
+      value = value;
+      here = refl;
+      row = row;
+      split = λ q. ap
+          (λ w. if same_key slot.key q then w else row_at places q) row;
+    }
 
 pub first_row : (places : List (Option Slot)) → AreApart places → (n : ℕ) → position has_row places ≡ Some n
     → IsFirstRow places n
@@ -56,7 +72,8 @@ first_row (None ∷ places) apart n is =
     by (Some k) e is more =
         let at : suc k ≡ n = cc in subst (IsFirstRow (None ∷ places)) at (behind_free places k (more k e))
 first_row (Some slot ∷ places) apart n is =
-    by slot.row refl (position has_row places) refl (sym (position-cons has_row (Some slot) places) ∙ is) (first_row places apart.1)
+    by slot.row refl (position has_row places) refl (sym (position-cons has_row (Some slot) places) ∙ is)
+    (first_row places apart.1)
   where
     by : (row : Option (List ℕ)) → slot.row ≡ row → (o : Option ℕ) → position has_row places ≡ o
         → place_by (is_some row) o ≡ Some n
@@ -65,7 +82,8 @@ first_row (Some slot ∷ places) apart n is =
         let at : 0 ≡ n = cc in subst (IsFirstRow (Some slot ∷ places)) at (at_front slot places value f)
     by None f None e is more = absurd cc
     by None f (Some k) e is more =
-        let at : suc k ≡ n = cc in subst (IsFirstRow (Some slot ∷ places)) at (behind_rowless slot places k f apart.0 (more k e))
+        let at : suc k ≡ n =
+        cc in subst (IsFirstRow (Some slot ∷ places)) at (behind_rowless slot places k f apart.0 (more k e))
 
 pub no_rows_left : (places : List (Option Slot)) → position has_row places ≡ None → (q : List ℕ)
     → row_at places q ≡ None
@@ -78,7 +96,8 @@ no_rows_left (None ∷ places) is q =
     by None e is more = more e
     by (Some k) e is more = absurd cc
 no_rows_left (Some slot ∷ places) is q =
-    by slot.row refl (position has_row places) refl (sym (position-cons has_row (Some slot) places) ∙ is) (λ e. no_rows_left places e q)
+    by slot.row refl (position has_row places) refl (sym (position-cons has_row (Some slot) places) ∙ is)
+    (λ e. no_rows_left places e q)
   where
     either : (b : Bool) (row other : Option (List ℕ)) → row ≡ None → other ≡ None → (if b then row else other) ≡ None
     either true row other none gone = none

@@ -93,7 +93,8 @@ module _ {X : Type 0} where
       where
         by : (b : Bool) → p x ≡ b → (c : Bool) → q x ≡ c
             → drop_first q (put_first p y xs) ≡ put_first p y (drop_first q xs)
-            → drop_first q (if b then y ∷ xs else x ∷ put_first p y xs) ≡ put_first p y (if c then xs else x ∷ drop_first q xs)
+            → drop_first q (if b then y ∷ xs else x ∷ put_first p y xs) ≡ put_first p y
+            (if c then xs else x ∷ drop_first q xs)
         by true e true f more = absurd (let both : true ≡ false = sym f ∙ two x e in cc)
         by true e false f more =
             ap (λ b. if b then xs else y ∷ drop_first q xs) off
@@ -119,7 +120,8 @@ module _ {X : Type 0} where
       where
         by : (b : Bool) → p x ≡ b → (c : Bool) → q x ≡ c
             → drop_first q (set_first p y xs) ≡ set_first p y (drop_first q xs)
-            → drop_first q (if b then y ∷ xs else x ∷ set_first p y xs) ≡ set_first p y (if c then xs else x ∷ drop_first q xs)
+            → drop_first q (if b then y ∷ xs else x ∷ set_first p y xs) ≡ set_first p y
+            (if c then xs else x ∷ drop_first q xs)
         by true e true f more = absurd (let both : true ≡ false = sym f ∙ two x e in cc)
         by true e false f more =
             ap (λ b. if b then xs else y ∷ drop_first q xs) off
@@ -144,7 +146,8 @@ module _ {X : Type 0} where
       where
         by : (b : Bool) → p x ≡ b → (c : Bool) → q x ≡ c
             → drop_first q (drop_first p xs) ≡ drop_first p (drop_first q xs)
-            → drop_first q (if b then xs else x ∷ drop_first p xs) ≡ drop_first p (if c then xs else x ∷ drop_first q xs)
+            → drop_first q (if b then xs else x ∷ drop_first p xs) ≡ drop_first p
+            (if c then xs else x ∷ drop_first q xs)
         by true e true f more = absurd (let both : true ≡ false = sym f ∙ two x e in cc)
         by true e false f more = sym (ap (λ b. if b then drop_first q xs else x ∷ drop_first p (drop_first q xs)) e)
         by false e true f more = ap (λ b. if b then drop_first p xs else x ∷ drop_first q (drop_first p xs)) f

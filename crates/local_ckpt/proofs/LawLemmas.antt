@@ -79,7 +79,8 @@ laid_more file at (front ∷ pieces) piece laid own place = (
   laid.0,
   laid.1,
   laid_more file (at + length front.bytes) pieces piece laid.2 own
-      (place ∙ (let e : at + length (pieces_bytes (front ∷ pieces)) ≡ at + length front.bytes + length (pieces_bytes pieces) =
+      (place ∙
+      (let e : at + length (pieces_bytes (front ∷ pieces)) ≡ at + length front.bytes + length (pieces_bytes pieces) =
       omega (arith, length-append front.bytes (pieces_bytes pieces)) in e)),
 )
 
@@ -97,13 +98,15 @@ step_laid file s walk pieces is (Some at) =
     record {
       own_file = is.own_file;
       laid =
-          laid_more file 0 pieces piece is.laid is.own_file (is.size_is ∙ (let e : length (pieces_bytes pieces) ≡ 0 + length (pieces_bytes pieces) = omega arith in e));
+          laid_more file 0 pieces piece is.laid is.own_file
+          (is.size_is ∙ (let e : length (pieces_bytes pieces) ≡ 0 + length (pieces_bytes pieces) = omega arith in e));
       size_is =
           ap (λ n. n + length piece.bytes) is.size_is ∙ sym (length-append (pieces_bytes pieces) piece.bytes)
           ∙ sym (ap length (pieces_more pieces piece));
     }
 
-commit_laid : (file : ℕ) (s : RowsState) (walk : WalkState) (pieces : List Laid) (epoch : ℕ) (o : Option (Option (List ℕ))) → IsLaid file walk pieces
+commit_laid : (file : ℕ) (s : RowsState) (walk : WalkState) (pieces : List Laid) (epoch : ℕ)
+    (o : Option (Option (List ℕ))) → IsLaid file walk pieces
     → IsLaid file (noting_if walk epoch o) pieces
 commit_laid file s walk pieces epoch None is = is
 commit_laid file s walk pieces epoch (Some image) is =
@@ -124,14 +127,17 @@ all_laid file (event ∷ events) m is = all_laid file events (next event m) (nex
 
 pub pieces_are : PiecesLieInOrder
 pieces_are s log file from noted events =
-    let is = all_laid file events (at_first s log file from noted) (record { own_file = refl; laid = tt; size_is = refl }) in
+    let is =
+    all_laid file events (at_first s log file from noted) (record { own_file = refl; laid = tt; size_is = refl }) in
     (is.laid, is.size_is)
 
 -- at first nothing was written, and every row is ahead
-module _ (s : RowsState) (log : List Redo) (file from noted : ℕ) (before : Rows) (begins : Begins s log noted before) where
+module _ (s : RowsState) (log : List Redo) (file from noted : ℕ) (before : Rows)
+    (begins : Begins s log noted before) where
   fits_first : (epoch : ℕ) → noted ≤ epoch → (q : List ℕ) → Fits (redone epoch log q) (row_at s.places q)
   fits_first epoch few q =
-      by (redone epoch log q) (sym (get-replayed epoch log before q) ∙ ap (λ rows. map.get rows q) (begins.redone epoch few))
+      by (redone epoch log q)
+      (sym (get-replayed epoch log before q) ∙ ap (λ rows. map.get rows q) (begins.redone epoch few))
     where
       by : (found : Option (Option (List ℕ))) → over found (map.get before q) ≡ map.get before q
           → Fits found (row_at s.places q)
@@ -149,7 +155,8 @@ module _ (s : RowsState) (log : List Redo) (file from noted : ℕ) (before : Row
       by : (row : Option (List ℕ)) → row_at s.places q ≡ row → IsCovered s epoch log 0 [] q
       by (Some value) e = inl (value, e)
       by None e =
-          inr (ap (over (redone epoch log q)) (map.get-empty (slice_cmp nat_cmp) q) ∙ none (redone epoch log q) (fits_first epoch few q) e)
+          inr (ap (over (redone epoch log q)) (map.get-empty (slice_cmp nat_cmp) q) ∙ none (redone epoch log q)
+          (fits_first epoch few q) e)
 
   pub at_start : IsUnderWay (λ epoch. before) (at_first s log file from noted)
   at_start = record {
@@ -178,7 +185,8 @@ pub all_the_way : (own : ℕ → Rows) (events : List Event) (m : Moment) → Ea
     → IsUnderWay (λ epoch. left epoch events m.rows (own epoch)) (after events m)
 all_the_way own [] m good way = way
 all_the_way own (event ∷ events) m good way =
-    all_the_way (λ epoch. left_by epoch event m.rows (own epoch)) events (next event m) good.1 (goes_on own event m good.0 way)
+    all_the_way (λ epoch. left_by epoch event m.rows (own epoch)) events (next event m) good.1
+    (goes_on own event m good.0 way)
 
 -- Where the walk has passed all rows, what it wrote and the log give them.
 pub all_passed : (own : ℕ → Rows) (m : Moment) (way : IsUnderWay own m) → next_place m.rows m.walk.place ≡ None
@@ -196,7 +204,8 @@ all_passed own m way none epoch few =
 
     gone : (q : List ℕ) → row_at (drop m.walk.place m.rows.places) q ≡ None
     gone =
-        no_rows_left (drop m.walk.place m.rows.places) (no_place (position has_row (drop m.walk.place m.rows.places)) none)
+        no_rows_left (drop m.walk.place m.rows.places)
+        (no_place (position has_row (drop m.walk.place m.rows.places)) none)
 
     behind : (q : List ℕ) → IsCovered m.rows epoch m.log m.walk.place way.written q
         → over (redone epoch m.log q) (map.get (all_in map.empty way.written) q) ≡ row_at m.rows.places q
@@ -211,12 +220,14 @@ record IsKept (epoch : ℕ) (rows own : Rows) (s : RowsState) (log : List Redo) 
 
 module _ (epoch : ℕ) (rows own : Rows) (s : RowsState) (log : List Redo) (is : IsKept epoch rows own s log) where
   kept_commit : (tx : TxId) (key : List ℕ) (at : ℕ) (o : Option (Option (List ℕ))) → image_in s tx key ≡ o
-      → IsKept epoch rows (applied epoch (redo.Commit tx at key) o own) (commit_record s tx key at) (log_if (redo.Commit tx at key) o log)
+      → IsKept epoch rows (applied epoch (redo.Commit tx at key) o own) (commit_record s tx key at)
+      (log_if (redo.Commit tx at key) o log)
   kept_commit tx key at None e = subst (λ t. IsKept epoch rows own t log) (sym (commits_nothing s tx key at e)) is
   kept_commit tx key at (Some image) e = record {
     orderly = orderly_commit s tx key at is.orderly;
     prepared =
-        has_committed s (commit_record s tx key at) log tx key at is.prepared (by (first (is_of tx key) s.pending) refl e);
+        has_committed s (commit_record s tx key at) log tx key at is.prepared
+        (by (first (is_of tx key) s.pending) refl e);
     same =
         ap (λ found. applied epoch (redo.Commit tx at key) found (replayed epoch rows log)) (is.prepared tx key image e)
         ∙ ap (applied epoch (redo.Commit tx at key) (Some image)) is.same;
@@ -236,27 +247,48 @@ module _ (epoch : ℕ) (rows own : Rows) (s : RowsState) (log : List Redo) (is :
       → IsKept epoch rows own (abort_record s tx key) (log_if (redo.Abort tx key) o log)
   kept_abort tx key None =
       let ended = aborts s tx key is.orderly in
-      record { orderly = ended.prepared.orderly; prepared = has_still s (abort_record s tx key) log tx key is.prepared ended.prepared; same = is.same }
+      record {
+        orderly = ended.prepared.orderly;
+        prepared = has_still s
+            (abort_record s tx key) log tx key is.prepared ended.prepared;
+        same = is.same;
+      }
   kept_abort tx key (Some image) =
       let ended = aborts s tx key is.orderly in
-      record { orderly = ended.prepared.orderly; prepared = has_aborted s (abort_record s tx key) log tx key is.prepared ended.prepared; same = is.same }
+      record {
+        orderly = ended.prepared.orderly;
+        prepared = has_aborted s
+            (abort_record s tx key) log tx key is.prepared ended.prepared;
+        same = is.same;
+      }
 
   kept : (event : Event) → IsKept epoch rows (left_by epoch event s own) (changed event s) (logged event s log)
   kept (Prepare tx fragment key image) =
       let stored = stores s tx key image is.orderly in
-      record { orderly = stored.orderly; prepared = has_after s (storing s tx key image) log tx key fragment image is.prepared stored; same = is.same }
+      record {
+        orderly = stored.orderly;
+        prepared = has_after s
+            (storing s tx key image) log tx key fragment image is.prepared stored;
+        same = is.same;
+      }
   kept (Commit tx key at) = kept_commit tx key at (image_in s tx key) refl
   kept (Abort tx key) = kept_abort tx key (image_in s tx key)
   kept (Complete tx key) =
       let done = completes s tx key is.orderly in
-      record { orderly = done.orderly; prepared = λ other key2 image there. is.prepared other key2 image (sym (done.images other key2) ∙ there); same = is.same }
+      record {
+        orderly = done.orderly;
+        prepared = λ other key2 image there. is.prepared other key2 image
+            (sym (done.images other key2) ∙ there);
+        same = is.same;
+      }
   kept Step = is
 
 all_kept : (epoch : ℕ) (rows own : Rows) (events : List Event) (m : Moment) → IsKept epoch rows own m.rows m.log
     → replayed epoch rows (after events m).log ≡ left epoch events m.rows own
 all_kept epoch rows own [] m is = is.same
 all_kept epoch rows own (event ∷ events) m is =
-    all_kept epoch rows (left_by epoch event m.rows own) events (next event m) (kept epoch rows own m.rows m.log is event)
+    all_kept epoch rows (left_by epoch event m.rows own) events (next event m)
+    (kept epoch rows own m.rows m.log is event)
 
 checkpoint_read : CheckpointsAreRead → (saved : ℕ) (written : List StoredRow) → saved < 2 ^ 64
     → AreRowsOf Second saved written
@@ -268,11 +300,18 @@ pub restore : CheckpointsAreRead → CheckpointsRestore
 restore read s log file from noted saved epoch before meanwhile later begins good none saves small few =
     let m : Moment = after meanwhile (at_first s log file from noted) in
     let way : IsUnderWay (λ epoch. left epoch meanwhile s before) m =
-    all_the_way (λ epoch. before) meanwhile (at_first s log file from noted) good (at_start s log file from noted before begins) in
+    all_the_way (λ epoch. before) meanwhile (at_first s log file from noted) good
+    (at_start s log file from noted before begins) in
     let rows : Rows = all_in map.empty way.written in (
       rows,
       ap (rows_in saved) way.bytes_are
-          ∙ checkpoint_read read saved way.written small (later_rows m.walk.epoch saved way.written saves way.come.rows_are),
+          ∙ checkpoint_read read saved way.written small
+          (later_rows m.walk.epoch saved way.written saves way.come.rows_are),
       all_kept epoch rows (left epoch meanwhile s before) later m
-          (record { orderly = way.orderly; prepared = way.prepared; same = all_passed (λ epoch. left epoch meanwhile s before) m way none epoch few }),
+          (record {
+            orderly = way.orderly;
+            prepared = way.prepared;
+            same = all_passed
+                (λ epoch. left epoch meanwhile s before) m way none epoch few;
+          }),
     )

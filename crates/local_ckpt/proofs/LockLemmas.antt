@@ -20,31 +20,37 @@ use Rattle.local_ckpt.specs.Orderly.{IsOrderly, image_in, prepared_in}
 use Rattle.local_ckpt.proofs.CoverLemmas.{Fits, over_fits}
 use Rattle.local_ckpt.proofs.EventLemmas.{LeavesRows, Prepared, Rewrites, aborts, commits, commits_row, completes, stores, stores_rows}
 use Rattle.local_ckpt.proofs.PlaceLemmas.{row_at, row_of-at, same}
-use Rattle.local_ckpt.proofs.RecordLemmas.{by_record, commits_nothing, is_same, own_record}
+use Rattle.local_ckpt.proofs.RecordLemmas.{by_record, commits_nothing, is_same}
 use Rattle.local_ckpt.proofs.RedoLemmas.{get-replayed, redoing, redone}
 
--- What the log has as prepared is prepared, and what it makes of a key's row is what the row is. Of a key with an image that
--- was prepared before the log began, it makes nothing.
+-- What the log has as prepared is prepared, and what it makes of a key's row is what the row is. Of a key with an image
+-- that was prepared before the log began, it makes nothing.
 record IsSince (noted : ℕ) (s : RowsState) (log : List Redo) : Type 0 where
   orderly : IsOrderly s
   locked : AreLocked s
-  known : (tx : TxId) (key : List ℕ) (image : Option (List ℕ)) → last_image log tx key ≡ Some image → image_in s tx key ≡ Some image
+  known : (tx : TxId) (key : List ℕ) (image : Option (List ℕ)) → last_image log tx key ≡ Some image
+      → image_in s tx key ≡ Some image
   fits : (epoch : ℕ) → noted ≤ epoch → (q : List ℕ) → Fits (redone epoch log q) (row_at s.places q)
-  older : (tx : TxId) (key : List ℕ) (image : Option (List ℕ)) → image_in s tx key ≡ Some image → last_image log tx key ≡ None
+  older : (tx : TxId) (key : List ℕ) (image : Option (List ℕ)) → image_in s tx key ≡ Some image
+      → last_image log tx key ≡ None
       → (epoch : ℕ) → noted ≤ epoch → redone epoch log key ≡ None
 
 module _ (noted : ℕ) (s : RowsState) (log : List Redo) (is : IsSince noted s log) where
   -- what is prepared is no more than before, and the rows are as they were
   fewer : (after : RowsState) (further : List Redo) → IsOrderly after → LeavesRows s after
-      → ((tx : TxId) (key : List ℕ) (image : Option (List ℕ)) → image_in after tx key ≡ Some image → image_in s tx key ≡ Some image)
-      → ((tx : TxId) (key : List ℕ) (image : Option (List ℕ)) → last_image further tx key ≡ Some image → image_in after tx key ≡ Some image)
-      → ((tx : TxId) (key : List ℕ) (image : Option (List ℕ)) → image_in after tx key ≡ Some image → last_image further tx key ≡ None
+      → ((tx : TxId) (key : List ℕ) (image : Option (List ℕ)) → image_in after tx key ≡ Some image
+      → image_in s tx key ≡ Some image)
+      → ((tx : TxId) (key : List ℕ) (image : Option (List ℕ)) → last_image further tx key ≡ Some image
+      → image_in after tx key ≡ Some image)
+      → ((tx : TxId) (key : List ℕ) (image : Option (List ℕ)) → image_in after tx key ≡ Some image
+      → last_image further tx key ≡ None
       → last_image log tx key ≡ None)
       → ((epoch : ℕ) (q : List ℕ) → redone epoch further q ≡ redone epoch log q) → IsSince noted after further
   fewer after further orderly leaves was known gone same_redo = record {
     orderly = orderly;
     locked =
-        λ tx key image here other another there. is.locked tx key image (was tx key image here) other another (was other key another there);
+        λ tx key image here other another there. is.locked tx key image (was tx key image here) other another
+        (was other key another there);
     known = known;
     fits = λ epoch few q.
         subst (λ row. Fits (redone epoch further q) row) (sym (leaves.rows_are 0 q))
@@ -85,11 +91,9 @@ module _ (noted : ℕ) (s : RowsState) (log : List Redo) (is : IsSince noted s l
         by : (b : Bool) → same_key key key2 ≡ b → b ≡ false
         by false e = refl
         by true e =
-            let one : same_tx tx other ≡ true = is.locked tx key image here other found (ap (λ k. image_in s other k) (same key key2 e) ∙ there) in
+            let one : same_tx tx other ≡ true =
+            is.locked tx key image here other found (ap (λ k. image_in s other k) (same key key2 e) ∙ there) in
             absurd (let both : true ≡ false = (λ i. sym one i && sym e i) ∙ off in cc)
-
-    record_none : is_same tx key tx key ≡ false → ⊥
-    record_none off = let both : true ≡ false = sym (own_record tx key) ∙ off in cc
 
   -- what is given up, and logged so
   given_up : (after : RowsState) (tx : TxId) (key : List ℕ) → Prepared s after tx key None → LeavesRows s after
@@ -97,10 +101,12 @@ module _ (noted : ℕ) (s : RowsState) (log : List Redo) (is : IsSince noted s l
   given_up after tx key ended leaves =
       fewer after (redo.Abort tx key ∷ log) ended.orderly leaves
       (λ other key2 image here. (was_prepared after tx key ended other key2 image here).1)
-      (λ other key2 image here. let parts = log_kept (is_same tx key other key2) (last_image log other key2) image here in
+      (λ other key2 image here. let parts = log_kept (is_same tx key other key2)
+      (last_image log other key2) image here in
       still_prepared after tx key ended other key2 image parts.0 (is.known other key2 image parts.1))
       (λ other key2 image here none.
-      sym (ap (λ b. cond b None (last_image log other key2)) (was_prepared after tx key ended other key2 image here).0) ∙ none)
+      sym (ap (λ b. cond b None (last_image log other key2)) (was_prepared after tx key ended other key2 image here).0)
+      ∙ none)
       (λ epoch q. refl)
 
   -- nothing was prepared
@@ -116,7 +122,8 @@ module _ (noted : ℕ) (s : RowsState) (log : List Redo) (is : IsSince noted s l
           → image_in after other key2 ≡ Some image
       still other key2 image here =
           ended.images other key2
-          ∙ by_record tx other key key2 (λ t k b. image_in s t k ≡ Some image → (if b then None else image_in s t k) ≡ Some image)
+          ∙ by_record tx other key key2
+          (λ t k b. image_in s t k ≡ Some image → (if b then None else image_in s t k) ≡ Some image)
           (λ e. absurd (let both : None ≡ Some image = sym none ∙ e in cc)) (λ off e. e) here
 
   -- a prepare under the lock
@@ -125,14 +132,16 @@ module _ (noted : ℕ) (s : RowsState) (log : List Redo) (is : IsSince noted s l
   prepare tx fragment key image alone = record {
     orderly = stored.orderly;
     locked =
-        λ one key2 found here other another there. held one key2 found other another (now one key2 found here) (now other key2 another there);
+        λ one key2 found here other another there. held one key2 found other another (now one key2 found here)
+        (now other key2 another there);
     known =
         λ other key2 found here. stored.images other key2
         ∙ log_had (is_same tx key other key2) other key2 found here (is.known other key2 found);
     fits =
         λ epoch few q. subst (λ row. Fits (redone epoch log q) row) (sym (leaves.rows_are 0 q)) (is.fits epoch few q);
     older = λ other key2 found here none epoch few.
-        log_lacks (is_same tx key other key2) other key2 found (now other key2 found here) none (λ was gone. is.older other key2 found was gone epoch few);
+        log_lacks (is_same tx key other key2) other key2 found (now other key2 found here) none
+        (λ was gone. is.older other key2 found was gone epoch few);
   }
     where
       stored : Prepared s (storing s tx key image) tx key (Some image)
@@ -146,7 +155,8 @@ module _ (noted : ℕ) (s : RowsState) (log : List Redo) (is : IsSince noted s l
           → (if is_same tx key other key2 then Some image else image_in s other key2) ≡ Some found
       now other key2 found here = sym (stored.images other key2) ∙ here
 
-      log_had : (b : Bool) (other : TxId) (key2 : List ℕ) (found : Option (List ℕ)) → cond b (Some image) (last_image log other key2) ≡ Some found
+      log_had : (b : Bool) (other : TxId) (key2 : List ℕ) (found : Option (List ℕ)) → cond b (Some image)
+          (last_image log other key2) ≡ Some found
           → (last_image log other key2 ≡ Some found → image_in s other key2 ≡ Some found)
           → (if b then Some image else image_in s other key2) ≡ Some found
       log_had true other key2 found here more = here
@@ -166,13 +176,17 @@ module _ (noted : ℕ) (s : RowsState) (log : List Redo) (is : IsSince noted s l
       held one key2 found other another =
           by_record tx one key key2 (λ t k b. (if b then Some image else image_in s t k) ≡ Some found
           → (if is_same tx key other k then Some image else image_in s other k) ≡ Some another → same_tx t other ≡ true)
-          (λ e. by_record tx other key key (λ t k b. (if b then Some image else image_in s t key) ≡ Some another → same_tx tx t ≡ true)
+          (λ e. by_record tx other key key
+          (λ t k b. (if b then Some image else image_in s t key) ≡ Some another → same_tx tx t ≡ true)
           (λ f. same_tx-self tx) (λ off f. alone other another f))
-          (λ off e. by_record tx other key key2 (λ t k b. image_in s one k ≡ Some found → (if b then Some image else image_in s t k) ≡ Some another → same_tx one t ≡ true)
+          (λ off e. by_record tx other key key2
+          (λ t k b. image_in s one k ≡ Some found → (if b then Some image else image_in s t k) ≡ Some another
+          → same_tx one t ≡ true)
           (λ f g. same_tx-swap one tx ∙ alone one found f) (λ off2 f g. is.locked one key2 found f other another g) e)
 
   -- a commit of what was prepared
-  module _ (tx : TxId) (key : List ℕ) (at : ℕ) (early : at ≤ noted) (r : PendingRecord) (found : first (is_of tx key) s.pending ≡ Some r) (begun : r.committed ≡ false) where
+  module _ (tx : TxId) (key : List ℕ) (at : ℕ) (early : at ≤ noted) (r : PendingRecord)
+      (found : first (is_of tx key) s.pending ≡ Some r) (begun : r.committed ≡ false) where
     abbrev now_committed : RowsState
     now_committed = commit_record s tx key at
 
@@ -189,7 +203,8 @@ module _ (noted : ℕ) (s : RowsState) (log : List Redo) (is : IsSince noted s l
     own_row q e = ap (row_at now_committed.places) (sym (same key q e)) ∙ rewritten.own
 
     -- the log makes it the row where it has the prepare, and else nothing more than before
-    has_prepare : (image : Option (List ℕ)) → last_image log tx key ≡ Some image → (epoch : ℕ) → noted ≤ epoch → (q : List ℕ) (b : Bool)
+    has_prepare : (image : Option (List ℕ)) → last_image log tx key ≡ Some image → (epoch : ℕ) → noted ≤ epoch →
+        (q : List ℕ) (b : Bool)
         → same_key key q ≡ b
         → redone epoch (redo.Commit tx at key ∷ log) q ≡ (if b then Some image else redone epoch log q)
     has_prepare image has epoch few q b e =
@@ -198,7 +213,8 @@ module _ (noted : ℕ) (s : RowsState) (log : List Redo) (is : IsSince noted s l
         ∙ ap (λ c. if c then (if same_key q key then Some image else redone epoch log q) else redone epoch log q) now
         ∙ ap (λ c. if c then Some image else redone epoch log q) (same_key-swap q key ∙ e)
 
-    has_none : last_image log tx key ≡ None → (epoch : ℕ) (q : List ℕ) → redone epoch (redo.Commit tx at key ∷ log) q ≡ redone epoch log q
+    has_none : last_image log tx key ≡ None → (epoch : ℕ) (q : List ℕ) → redone epoch
+        (redo.Commit tx at key ∷ log) q ≡ redone epoch log q
     has_none none epoch q = ap (λ o. redoing epoch (redo.Commit tx at key) o q (redone epoch log q)) none
 
     fits_own : (o : Option (Option (List ℕ))) → last_image log tx key ≡ o → (epoch : ℕ) → noted ≤ epoch → (q : List ℕ)
@@ -206,12 +222,15 @@ module _ (noted : ℕ) (s : RowsState) (log : List Redo) (is : IsSince noted s l
     fits_own (Some image) has epoch few q e =
         let one : Some image ≡ Some r.image = sym (is.known tx key image has) ∙ image_is in
         let same_image : image ≡ r.image = cc in
-        subst (λ w. Fits w (row_at now_committed.places q)) (sym (has_prepare image has epoch few q true e)) (same_image ∙ sym (own_row q e))
+        subst (λ w. Fits w (row_at now_committed.places q)) (sym (has_prepare image has epoch few q true e))
+        (same_image ∙ sym (own_row q e))
     fits_own None none epoch few q e =
-        let nothing : redone epoch log q ≡ None = ap (redone epoch log) (sym (same key q e)) ∙ is.older tx key r.image image_is none epoch few in
+        let nothing : redone epoch log q ≡ None =
+        ap (redone epoch log) (sym (same key q e)) ∙ is.older tx key r.image image_is none epoch few in
         subst (λ w. Fits w (row_at now_committed.places q)) (sym (has_none none epoch q ∙ nothing)) tt
 
-    stays_other : (o : Option (Option (List ℕ))) → last_image log tx key ≡ o → (epoch : ℕ) → noted ≤ epoch → (q : List ℕ)
+    stays_other : (o : Option (Option (List ℕ))) → last_image log tx key ≡ o → (epoch : ℕ) → noted ≤ epoch →
+        (q : List ℕ)
         → same_key key q ≡ false → redone epoch (redo.Commit tx at key ∷ log) q ≡ redone epoch log q
     stays_other (Some image) has epoch few q e = has_prepare image has epoch few q false e
     stays_other None none epoch few q e = has_none none epoch q
@@ -220,7 +239,8 @@ module _ (noted : ℕ) (s : RowsState) (log : List Redo) (is : IsSince noted s l
         → Fits (redone epoch (redo.Commit tx at key ∷ log) q) (row_at now_committed.places q)
     fits_now epoch few q true e = fits_own (last_image log tx key) refl epoch few q e
     fits_now epoch few q false e =
-        subst (λ w. Fits w (row_at now_committed.places q)) (sym (stays_other (last_image log tx key) refl epoch few q e))
+        subst (λ w. Fits w (row_at now_committed.places q))
+        (sym (stays_other (last_image log tx key) refl epoch few q e))
         (subst (Fits (redone epoch log q)) (sym (rewritten.other 0 q e)) (is.fits epoch few q))
 
     commit_since : IsSince noted now_committed (redo.Commit tx at key ∷ log)
@@ -237,7 +257,8 @@ module _ (noted : ℕ) (s : RowsState) (log : List Redo) (is : IsSince noted s l
           let was = was_prepared now_committed tx key ended other key2 image here in
           let gone : last_image log other key2 ≡ None =
           sym (ap (λ b. cond b None (last_image log other key2)) was.0) ∙ none in
-          stays_other (last_image log tx key) refl epoch few key2 (other_key now_committed tx key ended r.image image image_is other key2 was.1 was.0)
+          stays_other (last_image log tx key) refl epoch few key2
+          (other_key now_committed tx key ended r.image image image_is other key2 was.1 was.0)
           ∙ is.older other key2 image was.1 gone epoch few;
     }
 
@@ -289,7 +310,8 @@ leave_rows m events noted epoch rows none orderly locked keep few table =
     map.same_map nat_list_cmp_total (map.slice_cmp-IsAntisymmetric map.nat_cmp-IsAntisymmetric) _ _ (λ q.
     let row : row_at end.places q ≡ map.get rows q = sym (table q ∙ row_of-at end q) in
     get-replayed epoch (after events m).log rows q
-    ∙ over_fits (redone epoch (after events m).log q) (map.get rows q) (subst (Fits (redone epoch (after events m).log q)) row (all.fits epoch few q)))
+    ∙ over_fits (redone epoch (after events m).log q) (map.get rows q)
+    (subst (Fits (redone epoch (after events m).log q)) row (all.fits epoch few q)))
   where
     end : RowsState
     end = (after events m).rows

@@ -1,4 +1,5 @@
--- The rows of places, from one place on: what becomes of them where a key gets a place, a row or none, or loses its place.
+-- The rows of places, from one place on: what becomes of them where a key gets a place, a row or none, or loses its
+-- place.
 use Rattle.std.proofs.Common.{◌≡◌, ℕ, zero, suc, Bool, true, false, List, [], ◌∷◌, drop, refl, sym, ap, ◌∙◌, subst}
 use Rattle.std.specs.Cmp.Lexicographic.{bytes_decides}
 use Rattle.std.specs.Prelude.{if◌then◌else◌, Option, None, Some, is_some, slice_index_or, slice_set}
@@ -90,7 +91,8 @@ row_behind (suc n) (Some slot ∷ places) key value apart is =
         → (if b then slot.row else row_at places key) ≡ Some value
     by true e more =
         let gone : has_place places key ≡ false = ap (has_place places) (sym (same slot.key key e)) ∙ apart.0 in
-        absurd (let both : Some value ≡ None = sym is ∙ no_place (drop n places) key (gone_behind n places key gone) in cc)
+        absurd (let both : Some value ≡ None = sym is ∙ no_place (drop n places) key
+        (gone_behind n places key gone) in cc)
     by false e more = more
 
 -- a key has a place exactly where one is found
@@ -120,7 +122,8 @@ row-placed_first key q (None ∷ places) off = by (same_key key q) refl
     by true e = sym (ap (row_at places) (sym (same key q e)) ∙ no_place places key off)
     by false e = refl
 row-placed_first key q (Some other ∷ places) off =
-    ap (λ w. if same_key other.key q then other.row else w) (row-placed_first key q places (not_first (same_key other.key key) (has_place places key) off).1)
+    ap (λ w. if same_key other.key q then other.row else w)
+    (row-placed_first key q places (not_first (same_key other.key key) (has_place places key) off).1)
 
 row-placed : (n : ℕ) (key q : List ℕ) (places : List (Option Slot)) → has_place places key ≡ false
     → row_at (drop n (placed (no_row key) places)) q ≡ row_at (drop n places) q
@@ -139,7 +142,8 @@ has-placed key q (Some other ∷ places) =
     ∙ by (same_key other.key q) (same_key key q)
   where
     by : (b c : Bool)
-        → (if b then true else (if c then true else has_place places q)) ≡ (if c then true else (if b then true else has_place places q))
+        → (if b then true else (if c then true else has_place places q)) ≡
+        (if c then true else (if b then true else has_place places q))
     by true true = refl
     by true false = refl
     by false true = refl
@@ -221,7 +225,8 @@ module _ (key : List ℕ) (row : Option (List ℕ)) (epoch : ℕ) where
   other-set_first zero q off (Some slot ∷ places) = by (same_key slot.key key) refl (other-set_first zero q off places)
     where
       by : (b : Bool) → same_key slot.key key ≡ b → row_at (rewritten places) q ≡ row_at places q
-          → row_at (if b then Some (with_row key row epoch) ∷ places else Some slot ∷ rewritten places) q ≡ (if same_key slot.key q then slot.row else row_at places q)
+          → row_at (if b then Some (with_row key row epoch) ∷ places else Some slot ∷ rewritten places) q ≡
+          (if same_key slot.key q then slot.row else row_at places q)
       by true e more =
           ap (λ b. if b then row else row_at places q) off
           ∙ sym (ap (λ b. if b then slot.row else row_at places q) (ap (λ k. same_key k q) (same slot.key key e) ∙ off))
@@ -230,7 +235,9 @@ module _ (key : List ℕ) (row : Option (List ℕ)) (epoch : ℕ) where
   other-set_first (suc n) q off (Some slot ∷ places) = by (same_key slot.key key) (other-set_first n q off places)
     where
       by : (b : Bool) → row_at (drop n (rewritten places)) q ≡ row_at (drop n places) q
-          → row_at (drop (suc n) (if b then Some (with_row key row epoch) ∷ places else Some slot ∷ rewritten places)) q ≡ row_at (drop n places) q
+          → row_at
+          (drop (suc n) (if b then Some (with_row key row epoch) ∷ places else Some slot ∷ rewritten places)) q
+          ≡ row_at (drop n places) q
       by true more = refl
       by false more = more
 
@@ -240,7 +247,9 @@ module _ (key : List ℕ) (row : Option (List ℕ)) (epoch : ℕ) where
   has-set_first q (Some slot ∷ places) = by (same_key slot.key key) refl (has-set_first q places)
     where
       by : (b : Bool) → same_key slot.key key ≡ b → has_place (rewritten places) q ≡ has_place places q
-          → has_place (if b then Some (with_row key row epoch) ∷ places else Some slot ∷ rewritten places) q ≡ has_place (Some slot ∷ places) q
+          → has_place
+          (if b then Some (with_row key row epoch) ∷ places else Some slot ∷ rewritten places) q ≡ has_place
+          (Some slot ∷ places) q
       by true e more = ap (λ k. if same_key k q then true else has_place places q) (sym (same slot.key key e))
       by false e more = ap (λ w. if same_key slot.key q then true else w) more
 
@@ -283,7 +292,8 @@ row-cleared zero key q (Some slot ∷ places) apart none =
   where
     by : (b : Bool) → same_key slot.key key ≡ b → (if b then slot.row else row_at places key) ≡ None
         → (row_at places key ≡ None → row_at (cleared key places) q ≡ row_at places q)
-        → row_at (if b then None ∷ places else Some slot ∷ cleared key places) q ≡ (if same_key slot.key q then slot.row else row_at places q)
+        → row_at (if b then None ∷ places else Some slot ∷ cleared key places) q ≡
+        (if same_key slot.key q then slot.row else row_at places q)
     by true e none more = at (same_key slot.key q) refl
       where
         at : (c : Bool) → same_key slot.key q ≡ c → row_at places q ≡ (if c then slot.row else row_at places q)
@@ -296,7 +306,8 @@ row-cleared (suc n) key q (Some slot ∷ places) apart none =
   where
     by : (b : Bool) → (if b then slot.row else row_at places key) ≡ None
         → (row_at places key ≡ None → row_at (drop n (cleared key places)) q ≡ row_at (drop n places) q)
-        → row_at (drop (suc n) (if b then None ∷ places else Some slot ∷ cleared key places)) q ≡ row_at (drop n places) q
+        → row_at (drop (suc n) (if b then None ∷ places else Some slot ∷ cleared key places)) q ≡ row_at
+        (drop n places) q
     by true none more = refl
     by false none more = more none
 
@@ -337,7 +348,8 @@ has-cleared key q off (Some slot ∷ places) = by (same_key slot.key key) refl (
     by false e more = ap (λ w. if same_key slot.key q then true else w) more
 
 -- What freeing a key's place does: nothing, or the key has no row and no record, and its place is cleared.
-pub by_freed : (P : List (Option Slot) → Type 0) (places : List (Option Slot)) (pending : List PendingRecord) (key : List ℕ) → P places
+pub by_freed : (P : List (Option Slot) → Type 0) (places : List (Option Slot)) (pending : List PendingRecord)
+    (key : List ℕ) → P places
     → (is_idle pending key ≡ true → row_at places key ≡ None → P (cleared key places)) → P (freed places pending key)
 by_freed P places pending key stays clears = by (place_of places key) refl (is_idle pending key) refl
   where
@@ -360,7 +372,8 @@ module _ (places : List (Option Slot)) (pending : List PendingRecord) (key : Lis
   pub row-freed : AreApart places → (n : ℕ) (q : List ℕ)
       → row_at (drop n (freed places pending key)) q ≡ row_at (drop n places) q
   row-freed apart n q =
-      by_freed (λ w. row_at (drop n w) q ≡ row_at (drop n places) q) places pending key refl (λ idle none. row-cleared n key q places apart none)
+      by_freed (λ w. row_at (drop n w) q ≡ row_at (drop n places) q) places pending key refl
+      (λ idle none. row-cleared n key q places apart none)
 
   pub apart-freed : AreApart places → AreApart (freed places pending key)
   apart-freed apart = by_freed AreApart places pending key apart (λ idle none. apart-cleared key places apart)
@@ -368,4 +381,5 @@ module _ (places : List (Option Slot)) (pending : List PendingRecord) (key : Lis
   pub has-freed : (q : List ℕ) → (is_idle pending key ≡ true → same_key key q ≡ false) → has_place places q ≡ true
       → has_place (freed places pending key) q ≡ true
   has-freed q idle there =
-      by_freed (λ w. has_place w q ≡ true) places pending key there (λ is none. has-cleared key q (idle is) places ∙ there)
+      by_freed (λ w. has_place w q ≡ true) places pending key there
+      (λ is none. has-cleared key q (idle is) places ∙ there)

@@ -99,10 +99,13 @@ module _ (s : RowsState) (tx : TxId) (key : List ℕ) (epoch : ℕ) where
           if_done false e none = absurd cc
 
   pub commits_image : (r : PendingRecord) → first (is_of tx key) s.pending ≡ Some r → r.committed ≡ false
-      → commit_record s tx key epoch ≡ rows_with (set_row s.places r.key r.image epoch) (set_first (is_of tx key) (rows.committed r epoch) s.pending)
+      → commit_record s tx key epoch ≡ rows_with (set_row s.places r.key r.image epoch)
+      (set_first (is_of tx key) (rows.committed r epoch) s.pending)
   commits_image r is open_one =
       commit_found (Some r) is _ (λ at e. ap (commit_if s at r epoch) open_one
-      ∙ ap (rows_with (set_row s.places r.key r.image epoch)) (ap (set_by (rows.committed r epoch) s.pending) (sym e) ∙ first-set (is_of tx key) (rows.committed r epoch) s.pending))
+      ∙ ap (rows_with (set_row s.places r.key r.image epoch))
+      (ap (set_by (rows.committed r epoch) s.pending) (sym e) ∙ first-set (is_of tx key)
+      (rows.committed r epoch) s.pending))
       (λ f. absurd cc)
 
 -- a record is dropped where it is as is asked
@@ -127,10 +130,12 @@ module _ (done : Bool) (s : RowsState) (tx : TxId) (key : List ℕ) where
   drops_other r is other = drop_found (Some r) is s (λ at e. ap (drop_if s at r) other) (λ f. absurd cc)
 
   pub drops_it : (r : PendingRecord) → first (is_of tx key) s.pending ≡ Some r → is_as done r.committed ≡ true
-      → dropped ≡ rows_with (freed s.places (drop_first (is_of tx key) s.pending) r.key) (drop_first (is_of tx key) s.pending)
+      → dropped ≡ rows_with (freed s.places (drop_first (is_of tx key) s.pending) r.key)
+      (drop_first (is_of tx key) s.pending)
   drops_it r is it =
       drop_found (Some r) is _ (λ at e. ap (drop_if s at r) it
-      ∙ ap (λ w. rows_with (freed s.places w r.key) w) (ap (drop_by s.pending) (sym e) ∙ first-drop (is_of tx key) s.pending))
+      ∙ ap (λ w. rows_with (freed s.places w r.key) w)
+      (ap (drop_by s.pending) (sym e) ∙ first-drop (is_of tx key) s.pending))
       (λ f. absurd cc)
 
 -- a key on which nothing is at work has no record
@@ -138,7 +143,8 @@ pub idle_none : (pending : List PendingRecord) (tx : TxId) (key : List ℕ) → 
     → first (is_of tx key) pending ≡ None
 idle_none [] tx key idle = refl
 idle_none (x ∷ xs) tx key idle =
-    by (same_key x.key key) refl (list_any (is_on key) xs) refl (not-true (same_key x.key key || list_any (is_on key) xs) idle) (idle_none xs tx key)
+    by (same_key x.key key) refl (list_any (is_on key) xs) refl
+    (not-true (same_key x.key key || list_any (is_on key) xs) idle) (idle_none xs tx key)
   where
     by : (b : Bool) → same_key x.key key ≡ b → (c : Bool) → list_any (is_on key) xs ≡ c → (b || c) ≡ false
         → (is_idle xs key ≡ true → first (is_of tx key) xs ≡ None)
@@ -146,7 +152,8 @@ idle_none (x ∷ xs) tx key idle =
     by true e c f none more = absurd cc
     by false e true f none more = absurd cc
     by false e false f none more =
-        ap (λ b. if b then Some x else first (is_of tx key) xs) (ap (λ b. same_tx x.tx tx && b) e ∙ off (same_tx x.tx tx)) ∙ more (ap not f)
+        ap (λ b. if b then Some x else first (is_of tx key) xs)
+        (ap (λ b. same_tx x.tx tx && b) e ∙ off (same_tx x.tx tx)) ∙ more (ap not f)
       where
         off : (b : Bool) → (b && false) ≡ false
         off true = refl

@@ -45,7 +45,8 @@ get-with_image rows key (Some value) q =
     by true = refl
     by false = refl
 
-pub get-applied : (epoch : ℕ) (redo : Redo) (found : Option (Option (List ℕ))) (rows : Rows) (q : List ℕ) (older : Option (Option (List ℕ)))
+pub get-applied : (epoch : ℕ) (redo : Redo) (found : Option (Option (List ℕ))) (rows : Rows) (q : List ℕ)
+    (older : Option (Option (List ℕ)))
     (row : Option (List ℕ)) → map.get rows q ≡ over older row
     → map.get (applied epoch redo found rows) q ≡ over (redoing epoch redo found q older) row
 get-applied epoch (Prepare tx fragment key image) found rows q older row is = is
@@ -58,7 +59,8 @@ get-applied epoch (Commit tx at key) (Some image) rows q older row is = by (nat_
     own false = is
 
     by : (b : Bool)
-        → map.get (if b then with_image rows key image else rows) q ≡ over (if b then (if same_key q key then Some image else older) else older) row
+        → map.get (if b then with_image rows key image else rows) q ≡ over
+        (if b then (if same_key q key then Some image else older) else older) row
     by true = get-with_image rows key image q ∙ own (same_key q key)
     by false = is
 
@@ -66,4 +68,5 @@ pub get-replayed : (epoch : ℕ) (log : List Redo) (rows : Rows) (q : List ℕ)
     → map.get (replayed epoch rows log) q ≡ over (redone epoch log q) (map.get rows q)
 get-replayed epoch [] rows q = refl
 get-replayed epoch (redo ∷ older) rows q =
-    get-applied epoch redo (image_of older (id_of redo)) (replayed epoch rows older) q (redone epoch older q) (map.get rows q) (get-replayed epoch older rows q)
+    get-applied epoch redo (image_of older (id_of redo)) (replayed epoch rows older) q (redone epoch older q)
+    (map.get rows q) (get-replayed epoch older rows q)

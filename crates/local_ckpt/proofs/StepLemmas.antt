@@ -47,9 +47,12 @@ some_passed s place at is zero = by (next_place s place) is
     by None e = absurd cc
     by (Some first) e =
         let one : first ≡ at = cc in
-        row_some s (slice_index_or s.places first None) (ap (λ n. has_row (slice_index_or s.places n None)) one ∙ row_there s place at is)
+        row_some s (slice_index_or s.places first None)
+        (ap (λ n. has_row (slice_index_or s.places n None)) one ∙ row_there s place at is)
 some_passed s place at is (suc more) =
-    let d : Passed = pass s (suc more) (record { rows = []; place = place }) in by d (next_place s d.place) (some_passed s place at is more)
+    let d : Passed =
+    pass s (suc more) (record { rows = []; place = place }) in by d (next_place s d.place)
+    (some_passed s place at is more)
   where
     by : (d : Passed) (o : Option ℕ) → IsSome d.rows → IsSome (pass_by s d o).rows
     by d None is = is
@@ -82,7 +85,8 @@ pieces_more pieces piece =
     flat_map-append bytes_in pieces (piece ∷ []) ∙ ap (λ w. pieces_bytes pieces ++ w) (append-nil piece.bytes)
 
 some_come : (own : ℕ → Rows) (m : Moment) (way : IsUnderWay own m)
-    → HasCome m.rows m.log m.walk.epoch (passed_from m.rows m.walk.place).place (way.written ++ (passed_from m.rows m.walk.place).rows)
+    → HasCome m.rows m.log m.walk.epoch (passed_from m.rows m.walk.place).place
+    (way.written ++ (passed_from m.rows m.walk.place).rows)
 unfolding passed_from
 some_come own m way =
     many_passed m.rows m.log m.walk.epoch way.orderly way.readable way.fits PIECE_ROWS m.walk.place way.written way.come
@@ -103,7 +107,8 @@ steps own m way (Some at) e =
       written = way.written ++ rows;
       come = some_come own m way;
       bytes_are = pieces_more m.pieces piece ∙ ap (λ w. w ++ piece.bytes) way.bytes_are
-          ∙ checkpoint_more way.written rows m.walk.size (way.size_is ∙ ap length way.bytes_are) (some_in_piece m.rows m.walk.place at e);
+          ∙ checkpoint_more way.written rows m.walk.size (way.size_is ∙ ap length way.bytes_are)
+          (some_in_piece m.rows m.walk.place at e);
       size_is = ap (λ n. n + length piece.bytes) way.size_is ∙ sym (length-append (pieces_bytes m.pieces) piece.bytes)
           ∙ sym (ap length (pieces_more m.pieces piece));
     }

@@ -32,9 +32,9 @@ abbrev pub checkpoint_bytes : List StoredRow → List ℕ
 checkpoint_bytes [] = []
 checkpoint_bytes (row ∷ rows) = head_bytes ++ flat_map row_bytes (row ∷ rows)
 
--- The rows are orderly and can be read, none of a later epoch than is noted; the log has what is prepared, and makes nothing of
--- the rows that they aren't. The rows up to an epoch are these, for each epoch from the noted one on. What was written is where
--- the walk has come to, and its bytes are those of the pieces.
+-- The rows are orderly and can be read, none of a later epoch than is noted; the log has what is prepared, and makes
+-- nothing of the rows that they aren't. The rows up to an epoch are these, for each epoch from the noted one on. What
+-- was written is where the walk has come to, and its bytes are those of the pieces.
 pub record IsUnderWay (own : ℕ → Rows) (m : Moment) : Type 0 where
   pub orderly : IsOrderly m.rows
   pub readable : Each (IsReadable m.walk.epoch) m.rows.places
@@ -62,7 +62,8 @@ image_kept true old older image more is = absurd cc
 image_kept false old older image more is = more is
 
 -- what is prepared after an event that is logged, and after one that isn't
-pub has_after : (s after : RowsState) (log : List Redo) (tx : TxId) (key : List ℕ) (fragment : ℕ) (image : Option (List ℕ))
+pub has_after : (s after : RowsState) (log : List Redo) (tx : TxId) (key : List ℕ) (fragment : ℕ)
+    (image : Option (List ℕ))
     → HasPrepares s log → Prepared s after tx key (Some image)
     → HasPrepares after (redo.Prepare tx fragment key image ∷ log)
 has_after s after log tx key fragment image has is other key2 found there =
@@ -104,7 +105,11 @@ module _ (own : ℕ → Rows) (m : Moment) (way : IsUnderWay own m) where
     up_to = λ epoch few q. way.up_to epoch few q ∙ sym (leaves.rows_are 0 q);
     written = way.written;
     come =
-        record { rows_are = way.come.rows_are; covered = λ epoch few q. covered epoch q (way.come.covered epoch few q) };
+        record {
+          rows_are = way.come.rows_are;
+          covered = λ epoch few q. covered epoch q
+              (way.come.covered epoch few q);
+        };
     bytes_are = way.bytes_are;
     size_is = way.size_is;
   }
@@ -113,13 +118,16 @@ module _ (own : ℕ → Rows) (m : Moment) (way : IsUnderWay own m) where
           → IsCovered after epoch log m.walk.place way.written q
       covered epoch q (inl (value, is)) = inl (value, leaves.rows_are m.walk.place q ∙ is)
       covered epoch q (inr is) =
-          inr (ap (λ found. over found (map.get (all_in map.empty way.written) q)) (same epoch q) ∙ is ∙ sym (leaves.rows_are 0 q))
+          inr (ap (λ found. over found (map.get (all_in map.empty way.written) q)) (same epoch q) ∙ is ∙ sym
+          (leaves.rows_are 0 q))
 
   pub prepares : (tx : TxId) (fragment : ℕ) (key : List ℕ) (image : Option (List ℕ)) → IsImage key image
-      → IsUnderWay own (moment (storing m.rows tx key image) (redo.Prepare tx fragment key image ∷ m.log) m.walk m.pieces)
+      → IsUnderWay own
+      (moment (storing m.rows tx key image) (redo.Prepare tx fragment key image ∷ m.log) m.walk m.pieces)
   prepares tx fragment key image good =
       let is = stores m.rows tx key image way.orderly in
-      stays (storing m.rows tx key image) (redo.Prepare tx fragment key image ∷ m.log) is.orderly (stores_rows m.rows tx key image way.orderly)
+      stays (storing m.rows tx key image) (redo.Prepare tx fragment key image ∷ m.log) is.orderly
+      (stores_rows m.rows tx key image way.orderly)
       (has_after m.rows (storing m.rows tx key image) m.log tx key fragment image way.prepared is)
       (λ other key2 found there. good_too other key2 found (sym (is.images other key2) ∙ there))
       (λ epoch q. refl)
@@ -128,7 +136,8 @@ module _ (own : ℕ → Rows) (m : Moment) (way : IsUnderWay own m) where
           → (if is_same tx key other key2 then Some image else image_in m.rows other key2) ≡ Some found
           → IsImage key2 found
       good_too other key2 found =
-          by_record tx other key key2 (λ t k b. (if b then Some image else image_in m.rows t k) ≡ Some found → IsImage k found)
+          by_record tx other key key2
+          (λ t k b. (if b then Some image else image_in m.rows t k) ≡ Some found → IsImage k found)
           (λ e. let one : image ≡ found = cc in subst (IsImage key) one good) (λ off. way.images other key2 found)
 
   ends : (after : RowsState) (log : List Redo) (tx : TxId) (key : List ℕ) → Prepared m.rows after tx key None
@@ -137,7 +146,8 @@ module _ (own : ℕ → Rows) (m : Moment) (way : IsUnderWay own m) where
       → IsUnderWay own (moment after log m.walk m.pieces)
   ends after log tx key is leaves has same =
       stays after log is.orderly leaves has
-      (λ other key2 found there. way.images other key2 found (image_kept (is_same tx key other key2) (image_in m.rows other key2) (image_in m.rows other key2) found (λ e. e)
+      (λ other key2 found there. way.images other key2 found
+      (image_kept (is_same tx key other key2) (image_in m.rows other key2) (image_in m.rows other key2) found (λ e. e)
       (sym (is.images other key2) ∙ there))) same
 
   pub gives_up : (tx : TxId) (key : List ℕ) (o : Option (Option (List ℕ))) → image_in m.rows tx key ≡ o
@@ -151,7 +161,8 @@ module _ (own : ℕ → Rows) (m : Moment) (way : IsUnderWay own m) where
       ends (abort_record m.rows tx key) (redo.Abort tx key ∷ m.log) tx key is.prepared is.leaves
       (has_aborted m.rows (abort_record m.rows tx key) m.log tx key way.prepared is.prepared) (λ epoch q. refl)
 
-  pub is_done : (tx : TxId) (key : List ℕ) → IsUnderWay own (moment (complete_record m.rows tx key) m.log m.walk m.pieces)
+  pub is_done : (tx : TxId) (key : List ℕ) → IsUnderWay own
+      (moment (complete_record m.rows tx key) m.log m.walk m.pieces)
   is_done tx key =
       let is = completes m.rows tx key way.orderly in
       stays (complete_record m.rows tx key) m.log is.orderly is.leaves
@@ -159,7 +170,8 @@ module _ (own : ℕ → Rows) (m : Moment) (way : IsUnderWay own m) where
       (λ other key2 found there. way.images other key2 found (sym (is.images other key2) ∙ there)) (λ epoch q. refl)
 
   -- what was prepared is committed
-  module _ (tx : TxId) (key : List ℕ) (at : ℕ) (r : PendingRecord) (found : first (is_of tx key) m.rows.pending ≡ Some r) (begun : r.committed ≡ false) where
+  module _ (tx : TxId) (key : List ℕ) (at : ℕ) (r : PendingRecord)
+      (found : first (is_of tx key) m.rows.pending ≡ Some r) (begun : r.committed ≡ false) where
     image_is : image_in m.rows tx key ≡ Some r.image
     image_is = ap prepared_in found ∙ ap (λ b. if b then None else Some r.image) begun
 
@@ -167,12 +179,15 @@ module _ (own : ℕ → Rows) (m : Moment) (way : IsUnderWay own m) where
         → redone epoch (redo.Commit tx at key ∷ m.log) q ≡ (if b then Some r.image else redone epoch m.log q)
     redone_is epoch few q b e =
         let now : nat_le at epoch ≡ true = grind (arith, nat_tests, few) in
-        ap (λ image. redoing epoch (redo.Commit tx at key) image q (redone epoch m.log q)) (way.prepared tx key r.image image_is)
-        ∙ ap (λ c. if c then (if same_key q key then Some r.image else redone epoch m.log q) else redone epoch m.log q) now
+        ap (λ image. redoing epoch (redo.Commit tx at key) image q (redone epoch m.log q))
+        (way.prepared tx key r.image image_is)
+        ∙ ap (λ c. if c then
+        (if same_key q key then Some r.image else redone epoch m.log q) else redone epoch m.log q) now
         ∙ ap (λ c. if c then Some r.image else redone epoch m.log q) (same_key-swap q key ∙ e)
 
     up_to_is : (epoch : ℕ) → at ≤ epoch → (q : List ℕ) (b : Bool) → same_key key q ≡ b
-        → map.get (applied epoch (redo.Commit tx at key) (Some r.image) (own epoch)) q ≡ (if b then r.image else map.get (own epoch) q)
+        → map.get (applied epoch (redo.Commit tx at key) (Some r.image) (own epoch)) q ≡
+        (if b then r.image else map.get (own epoch) q)
     up_to_is epoch few q b e =
         let now : nat_le at epoch ≡ true = grind (arith, nat_tests, few) in
         ap (λ c. map.get (if c then with_image (own epoch) key r.image else own epoch) q) now
@@ -195,16 +210,19 @@ module _ (own : ℕ → Rows) (m : Moment) (way : IsUnderWay own m) where
         → IsCovered m.rows epoch m.log m.walk.place way.written q
         → IsCovered now_committed epoch (redo.Commit tx at key ∷ m.log) m.walk.place way.written q
     covers epoch few q true e was =
-        inr (ap (λ found. over found (map.get (all_in map.empty way.written) q)) (redone_is epoch few q true e) ∙ sym (own_row q e))
+        inr (ap (λ found. over found (map.get (all_in map.empty way.written) q)) (redone_is epoch few q true e) ∙ sym
+        (own_row q e))
     covers epoch few q false e (inl (value, is)) = inl (value, is_rewritten.other m.walk.place q e ∙ is)
     covers epoch few q false e (inr is) =
-        inr (ap (λ found. over found (map.get (all_in map.empty way.written) q)) (redone_is epoch few q false e) ∙ is ∙ sym (is_rewritten.other 0 q e))
+        inr (ap (λ found. over found (map.get (all_in map.empty way.written) q)) (redone_is epoch few q false e) ∙ is
+        ∙ sym (is_rewritten.other 0 q e))
 
     fits_now : (epoch : ℕ) → at ≤ epoch → (q : List ℕ) (b : Bool) → same_key key q ≡ b
         → Fits (redone epoch m.log q) (row_at m.rows.places q)
         → Fits (redone epoch (redo.Commit tx at key ∷ m.log) q) (row_at now_committed.places q)
     fits_now epoch few q true e was =
-        subst (λ found. Fits found (row_at now_committed.places q)) (sym (redone_is epoch few q true e)) (sym (own_row q e))
+        subst (λ found. Fits found (row_at now_committed.places q)) (sym (redone_is epoch few q true e))
+        (sym (own_row q e))
     fits_now epoch few q false e was =
         subst (λ found. Fits found (row_at now_committed.places q)) (sym (redone_is epoch few q false e))
         (subst (Fits (redone epoch m.log q)) (sym (is_rewritten.other 0 q e)) was)
@@ -225,17 +243,21 @@ module _ (own : ℕ → Rows) (m : Moment) (way : IsUnderWay own m) where
           readable = is_rewritten.readable (max m.walk.epoch at) noted (way.images tx key r.image image_is)
               (later_places m.walk.epoch (max m.walk.epoch at) m.rows.places later way.readable);
           images = λ other key2 image there. way.images other key2 image
-              (image_kept (is_same tx key other key2) (image_in m.rows other key2) (image_in m.rows other key2) image (λ e. e) (sym (is_prepared.images other key2) ∙ there));
+              (image_kept (is_same tx key other key2) (image_in m.rows other key2) (image_in m.rows other key2) image
+              (λ e. e) (sym (is_prepared.images other key2) ∙ there));
           prepared = has_committed m.rows now_committed m.log tx key at way.prepared is_prepared;
           fits =
-              λ epoch few q. fits_now epoch (omega (arith, few)) q (same_key key q) refl (way.fits epoch (omega (arith, few)) q);
+              λ epoch few q. fits_now epoch (omega (arith, few)) q (same_key key q) refl
+              (way.fits epoch (omega (arith, few)) q);
           up_to =
-              λ epoch few q. agrees epoch (omega (arith, few)) q (same_key key q) refl (way.up_to epoch (omega (arith, few)) q);
+              λ epoch few q. agrees epoch (omega (arith, few)) q (same_key key q) refl
+              (way.up_to epoch (omega (arith, few)) q);
           written = way.written;
           come = record {
             rows_are = later_rows m.walk.epoch (max m.walk.epoch at) way.written later way.come.rows_are;
             covered =
-                λ epoch few q. covers epoch (omega (arith, few)) q (same_key key q) refl (way.come.covered epoch (omega (arith, few)) q);
+                λ epoch few q. covers epoch (omega (arith, few)) q (same_key key q) refl
+                (way.come.covered epoch (omega (arith, few)) q);
           };
           bytes_are = way.bytes_are;
           size_is = way.size_is;
@@ -243,7 +265,8 @@ module _ (own : ℕ → Rows) (m : Moment) (way : IsUnderWay own m) where
 
   pub commit_way : (tx : TxId) (key : List ℕ) (at : ℕ) → (o : Option (Option (List ℕ))) → image_in m.rows tx key ≡ o
       → IsUnderWay (λ epoch. applied epoch (redo.Commit tx at key) o (own epoch))
-      (moment (commit_record m.rows tx key at) (log_if (redo.Commit tx at key) o m.log) (noting_if m.walk at o) m.pieces)
+      (moment (commit_record m.rows tx key at) (log_if (redo.Commit tx at key) o m.log)
+      (noting_if m.walk at o) m.pieces)
   commit_way tx key at None e =
       subst (λ s. IsUnderWay own (moment s m.log m.walk m.pieces)) (sym (commits_nothing m.rows tx key at e)) way
   commit_way tx key at (Some image) e = by (first (is_of tx key) m.rows.pending) refl e

@@ -61,8 +61,8 @@ abbrev pub given : Event → RowsState → WalkState → List Laid → List Laid
 given Step s w pieces = given_by s w pieces (next_place s w.place)
 given event s w pieces = pieces
 
--- A moment: the rows, the records of the log from the position of the walk on, the newest first, the walk, and the pieces
--- that it has given out, the oldest first.
+-- A moment: the rows, the records of the log from the position of the walk on, the newest first, the walk, and the
+-- pieces that it has given out, the oldest first.
 pub record Moment : Type 0 where
   pub rows : RowsState
   pub log : List Redo

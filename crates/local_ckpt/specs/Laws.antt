@@ -72,9 +72,9 @@ at_first s log file from noted = moment s log (begun file from noted) []
 abbrev pub pieces_bytes : List Laid → List ℕ
 pieces_bytes pieces = flat_map bytes_in pieces
 
--- The walk has ended behind some events, and others have followed. Then the bytes that it gave out are a checkpoint, and
--- its rows, with the records of the log from its position on, are just those that were committed up to an epoch, whichever
--- that is from the noted one on.
+-- The walk has ended behind some events, and others have followed. Then the bytes that it gave out are a checkpoint,
+-- and its rows, with the records of the log from its position on, are just those that were committed up to an epoch,
+-- whichever that is from the noted one on.
 abbrev pub CheckpointsRestore : Type 0
 CheckpointsRestore =
     (s : RowsState) (log : List Redo) (file from noted saved epoch : ℕ) (before : Rows) (meanwhile later : List Event)

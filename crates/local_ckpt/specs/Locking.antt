@@ -30,8 +30,8 @@ abbrev pub KeepLocks : ℕ → RowsState → List Event → Type 0
 KeepLocks most s [] = Unit {0}
 KeepLocks most s (event ∷ events) = KeepsLock most s event × KeepLocks most (changed event s) events
 
--- Where rows are locked, the records of the log since a moment, whichever it is, make of the rows what they are now: what
--- they make of a key ends with its last commit, or is nothing.
+-- Where rows are locked, the records of the log since a moment, whichever it is, make of the rows what they are now:
+-- what they make of a key ends with its last commit, or is nothing.
 abbrev pub LogsLeaveRows : Type 0
 LogsLeaveRows =
     (m : Moment) (events : List Event) (noted epoch : ℕ) (rows : Rows)
