@@ -13,7 +13,7 @@ use std::alloc::Global;
 /// How many keys there are at most.
 const KEYS: u64 = 900;
 /// How often something goes on before a walk, between two of its steps, and behind it, at most.
-const CHANGES: u64 = 400;
+const CHANGES: u64 = 250;
 
 /// Passes a walk over rows that change, and holds what it wrote against what was committed, for each
 /// epoch from that of the checkpoint on.
@@ -28,7 +28,7 @@ pub fn run_one(alloc: Global, seed: u64) -> Result<(), RunFault> {
     let mut written = Vec::new(alloc);
     let finished = walk(alloc, &mut dice, &mut node, &mut written)?;
     go_on(&mut dice, &mut node)?;
-    for more in 0..4 {
+    for more in 0..2 {
         let epoch = finished.epoch.saturating_add(more);
         check(alloc, &node, &finished, &written, epoch)?;
     }
