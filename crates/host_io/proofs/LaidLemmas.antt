@@ -4,7 +4,8 @@ use Rattle.std.proofs.lemmas.List.{get_or-append_right, get_or-drop, get_or-take
 use Rattle.host_io.specs.DiskState.{filled_up, laid, put_over}
 use Rattle.host_io.proofs.StateLemmas.{length_filled, length_put}
 
-filled_below : (end : ℕ) (bytes : List ℕ) (p : ℕ) → p < length bytes → get_or (filled_up end bytes) p 0 ≡ get_or bytes p 0
+filled_below : (end : ℕ) (bytes : List ℕ) (p : ℕ) → p < length bytes
+    → get_or (filled_up end bytes) p 0 ≡ get_or bytes p 0
 filled_below end bytes p below = get_or_append_left bytes (replicate (end - length bytes) 0) 0 p below
 
 put_before : (at : ℕ) (piece bytes : List ℕ) (p : ℕ) → p < at → at + length piece ≤ length bytes
@@ -12,7 +13,8 @@ put_before : (at : ℕ) (piece bytes : List ℕ) (p : ℕ) → p < at → at + l
 put_before at piece bytes p before fits =
     let front : length (take at bytes) ≡ at = length-take-le at bytes (omega (arith, fits)) in
     let both = length-append (take at bytes) piece in
-    get_or_append_left (take at bytes ++ piece) (drop (at + length piece) bytes) 0 p (omega (arith, front, both, before))
+    get_or_append_left (take at bytes ++ piece) (drop (at + length piece) bytes) 0 p
+    (omega (arith, front, both, before))
     ∙ get_or_append_left (take at bytes) piece 0 p (omega (arith, front, before))
     ∙ get_or-take at bytes p 0 before
 
@@ -31,7 +33,8 @@ put_here : (at : ℕ) (piece bytes : List ℕ) (k : ℕ) → k < length piece �
 put_here at piece bytes k within fits =
     let front : length (take at bytes) ≡ at = length-take-le at bytes (omega (arith, fits)) in
     let both = length-append (take at bytes) piece in
-    get_or_append_left (take at bytes ++ piece) (drop (at + length piece) bytes) 0 (at + k) (omega (arith, front, both, within))
+    get_or_append_left (take at bytes ++ piece) (drop (at + length piece) bytes) 0 (at + k)
+    (omega (arith, front, both, within))
     ∙ get_or-append_right (take at bytes) piece at (at + k) 0 front (omega arith)
     ∙ ap (λ (q : ℕ). get_or piece q 0) (omega arith)
 

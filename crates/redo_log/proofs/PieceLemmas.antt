@@ -19,7 +19,8 @@ use Rattle.redo_log.proofs.LawLemmas.{given, placed}
 use Rattle.redo_log.proofs.StoredLemmas.{near_file, near_place, stands}
 
 -- positions less than the ring apart have places of their own
-apart : (parity p q : ℕ) → p < q → q < p + JOURNAL_BYTES → file_of parity p ≡ file_of parity q → place_of p ≡ place_of q → ⊥
+apart : (parity p q : ℕ) → p < q → q < p + JOURNAL_BYTES → file_of parity p ≡ file_of parity q
+    → place_of p ≡ place_of q → ⊥
 apart parity p q before near files places = omega (arith, before, near, files, places)
 
 -- a later piece lies elsewhere in the file of a position, if it ends less than the ring behind it
@@ -34,17 +35,20 @@ outside parity position p piece lies before near file_is =
             | inr behind ↦ inr behind
             | inl within ↦
                 let more : ℕ = place_of p - piece.at in
-                let near_by : place_of position + more < LOG_FILE_BYTES = omega (arith, lies.at, lies.within, above, within) in
+                let near_by : place_of position + more < LOG_FILE_BYTES =
+                omega (arith, lies.at, lies.within, above, within) in
                 let file : file_of parity p ≡ file_of parity (position + more) =
                 file_is ∙ lies.file ∙ sym (near_file parity position more near_by) in
                 let place : place_of p ≡ place_of (position + more) =
                 omega (arith, near_place position more near_by, lies.at, above) in
-                absurd (apart parity p (position + more) (omega (arith, before)) (omega (arith, near, above, within)) file place)
+                absurd (apart parity p (position + more) (omega (arith, before))
+                (omega (arith, near, above, within)) file place)
           ]
     ]
 
 -- what stands at the place of a position still stands there after a later piece
-kept_by : (parity position p byte : ℕ) (piece : Laid) (files : ℕ → List ℕ) (same : Bool) → (file_of parity p == piece.file) ≡ same
+kept_by : (parity position p byte : ℕ) (piece : Laid) (files : ℕ → List ℕ) (same : Bool)
+    → (file_of parity p == piece.file) ≡ same
     → IsLaidAt parity position piece → p < position → position + length piece.bytes ≤ p + JOURNAL_BYTES
     → IsStored files parity p byte → IsStored (with_piece piece files) parity p byte
 kept_by parity position p byte piece files false is lies before near stored =
@@ -68,7 +72,8 @@ kept_by parity position p byte piece files true is lies before near stored =
     }
 
 -- and after many
-kept : (parity position p byte : ℕ) (pieces : List Laid) (files : ℕ → List ℕ) → AreLaidFrom parity position pieces → p < position
+kept : (parity position p byte : ℕ) (pieces : List Laid) (files : ℕ → List ℕ) → AreLaidFrom parity position pieces
+    → p < position
     → position + length (flat_map bytes_in pieces) ≤ p + JOURNAL_BYTES → IsStored files parity p byte
     → IsStored (with_pieces pieces files) parity p byte
 kept parity position p byte [] files lie before near stored = stored
@@ -76,18 +81,22 @@ kept parity position p byte (piece ∷ pieces) files lie before near stored =
     let size = length-append piece.bytes (flat_map bytes_in pieces) in
     kept parity (position + length piece.bytes) p byte pieces (with_piece piece files) lie.1 (omega (arith, before))
     (omega (arith, size, near))
-    (kept_by parity position p byte piece files (file_of parity p == piece.file) refl lie.0 before (omega (arith, size, near)) stored)
+    (kept_by parity position p byte piece files (file_of parity p == piece.file) refl lie.0 before
+    (omega (arith, size, near)) stored)
 
 -- the bytes of a piece stand at their places after it
 put_there : (parity position behind : ℕ) (piece : Laid) (files : ℕ → List ℕ) → IsLaidAt parity position piece
-    → behind < length piece.bytes → IsStored (with_piece piece files) parity (position + behind) (get_or piece.bytes behind 0)
+    → behind < length piece.bytes
+    → IsStored (with_piece piece files) parity (position + behind) (get_or piece.bytes behind 0)
 put_there parity position behind piece files lies below =
     let old : List ℕ = files piece.file in
     let bytes : with_piece piece files piece.file ≡ laid piece.at piece.bytes old =
     ap (λ (b : Bool). if b then laid piece.at piece.bytes old else old) (eq-eqb piece.file piece.file refl) in
     let near : place_of position + behind < LOG_FILE_BYTES = omega (arith, lies.at, lies.within, below) in
-    let place : place_of (position + behind) ≡ piece.at + behind = omega (arith, near_place position behind near, lies.at) in
-    stands (with_piece piece files) parity (position + behind) (get_or piece.bytes behind 0) piece.file (piece.at + behind)
+    let place : place_of (position + behind) ≡ piece.at + behind =
+    omega (arith, near_place position behind near, lies.at) in
+    stands (with_piece piece files) parity (position + behind) (get_or piece.bytes behind 0) piece.file
+    (piece.at + behind)
     (near_file parity position behind near ∙ sym lies.file) place
     (subst (λ (w : List ℕ). piece.at + behind < length w) (sym bytes)
     (omega (arith, laid_reaches piece.at piece.bytes old lies.some, below)))
@@ -95,7 +104,8 @@ put_there parity position behind piece files lies below =
     (sym (laid_here piece.at piece.bytes old behind below)))
 
 -- the bytes of pieces that lie one behind the other, but for those that are the ring or more behind the last one
-laid_stored : (parity position : ℕ) (pieces : List Laid) (files : ℕ → List ℕ) → AreLaidFrom parity position pieces → (behind : ℕ)
+laid_stored : (parity position : ℕ) (pieces : List Laid) (files : ℕ → List ℕ) → AreLaidFrom parity position pieces
+    → (behind : ℕ)
     → behind < length (flat_map bytes_in pieces) → length (flat_map bytes_in pieces) ≤ behind + JOURNAL_BYTES
     → IsStored (with_pieces pieces files) parity (position + behind) (get_or (flat_map bytes_in pieces) behind 0)
 laid_stored parity position [] files lie behind below near = absurd (omega (arith, below))
@@ -109,7 +119,8 @@ laid_stored parity position (piece ∷ pieces) files lie behind below near =
           let byte : get_or piece.bytes behind 0 ≡ get_or (piece.bytes ++ rest) behind 0 =
           sym (get_or_append_left piece.bytes rest 0 behind first) in
           subst (λ (b : ℕ). IsStored all parity (position + behind) b) byte
-          (kept parity (position + len) (position + behind) (get_or piece.bytes behind 0) pieces (with_piece piece files) lie.1
+          (kept parity (position + len) (position + behind) (get_or piece.bytes behind 0) pieces
+          (with_piece piece files) lie.1
           (omega (arith, first)) (omega (arith, size, near)) (put_there parity position behind piece files lie.0 first))
       | inr later ↦
           let more : ℕ = behind - len in
@@ -118,7 +129,8 @@ laid_stored parity position (piece ∷ pieces) files lie behind below near =
           let there : position + len + more ≡ position + behind = omega (arith, later) in
           subst (λ (b : ℕ). IsStored all parity (position + behind) b) byte
           (subst (λ (p : ℕ). IsStored all parity p (get_or rest more 0)) there
-          (laid_stored parity (position + len) pieces (with_piece piece files) lie.1 more (omega (arith, size, below, later))
+          (laid_stored parity (position + len) pieces (with_piece piece files) lie.1 more
+          (omega (arith, size, below, later))
           (omega (arith, size, near, later))))
     ]
 
@@ -141,7 +153,8 @@ flushed_by (GiveOut ∷ calls) s =
 flushed_by (Cut at ∷ calls) s = flushed_by calls (cut_to s at)
 
 -- what was given out is a front of the records' bytes
-front_given : (given left all : List ℕ) (flushed : ℕ) → given ++ left ≡ all → flushed ≡ length given → take flushed all ≡ given
+front_given : (given left all : List ℕ) (flushed : ℕ) → given ++ left ≡ all → flushed ≡ length given
+    → take flushed all ≡ given
 front_given given left all flushed e size = ap (take flushed) (sym e) ∙ take_at given left flushed (sym size)
 
 -- some of the bytes, from a position on

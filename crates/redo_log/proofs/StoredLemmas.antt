@@ -1,21 +1,22 @@
 -- Reading a log piece by piece, and what replaying it answers.
-use Rattle.std.proofs.Common.{◌≡◌, ◌∙◌, ◌≤◌, ◌<◌, ◌+◌, ◌-◌, ◌/◌, ℕ, min, List, ◌++◌, length, take, drop, get_or, refl, sym, ap, subst, inl, inr, arith}
-use Rattle.std.specs.Prelude.{Result, Ok, Err}
+use Rattle.std.proofs.Common.{◌≡◌, ◌∙◌, ◌≤◌, ◌<◌, ◌+◌, ◌-◌, ◌/◌, ℕ, List, length, take, drop, get_or, refl, sym, ap, subst, inl, inr, arith}
+use Rattle.std.specs.Prelude.{Ok, Err}
 use Rattle.std.proofs.lemmas.Bool.{cases_lt}
 use Rattle.std.proofs.lemmas.List.{get_or-append_right, get_or_append_left, get_or-drop, get_or-take, length-append, length-drop, length-take}
 use Rattle.sig_core.specs.Table.{Rows}
 use Rattle.redo_log.specs.declared.fault.ReadFault.{ReadFault}
 use Rattle.redo_log.specs.declared.fault.ReadFault.TheVariants.{Damaged, DiskFault, NoMemory}
-use Rattle.redo_log.specs.declared.ring.TheConstants.{FIRST_FILE, LOG_FILES, LOG_FILE_BYTES}
+use Rattle.redo_log.specs.declared.ring.TheConstants.{LOG_FILE_BYTES}
 use Rattle.redo_log.specs.Places.{file_of, place_of}
 use Rattle.redo_log.specs.Replaying.{Replays, damage}
-use Rattle.redo_log.specs.Stored.{AreStored, EachIsStored, HasCause, IsFault, IsPiece, IsStored, ReplaysStored}
+use Rattle.redo_log.specs.Stored.{AreStored, EachIsStored, IsPiece, IsStored, ReplaysStored}
 
 -- positions in one file have places one behind the other
 pub near_place : (at more : ℕ) → place_of at + more < LOG_FILE_BYTES → place_of (at + more) ≡ place_of at + more
 near_place at more near = omega (arith, near)
 
-pub near_file : (parity at more : ℕ) → place_of at + more < LOG_FILE_BYTES → file_of parity (at + more) ≡ file_of parity at
+pub near_file : (parity at more : ℕ) → place_of at + more < LOG_FILE_BYTES
+    → file_of parity (at + more) ≡ file_of parity at
 near_file parity at more near =
     let same : (at + more) / LOG_FILE_BYTES ≡ at / LOG_FILE_BYTES = omega (arith, near) in
     omega (arith, same)
@@ -41,7 +42,8 @@ piece_size file place len old new count is =
 
 -- a piece's own bytes stand at their places
 added_stored : (files : ℕ → List ℕ) (parity at more : ℕ) (old new : List ℕ) (len count : ℕ)
-    → place_of at + len ≤ LOG_FILE_BYTES → IsPiece (files (file_of parity at)) (place_of at) len old new count → more < count
+    → place_of at + len ≤ LOG_FILE_BYTES → IsPiece (files (file_of parity at)) (place_of at) len old new count
+    → more < count
     → IsStored files parity (at + more) (get_or new (length old + more) 0)
 added_stored files parity at more old new len count within is below =
     let file : List ℕ = files (file_of parity at) in
@@ -107,46 +109,26 @@ short_stored files parity from at to old new len count here last within is short
           (subst (λ (p : ℕ). length (files (file_of parity at)) ≤ p) (sym (near_place at count near)) ended));
     }
 
--- a count that has risen since a moment has risen since an earlier one
-pub later_fault : (before mid now : ℕ) (fault : ReadFault) → before ≤ mid → IsFault mid now fault → IsFault before now fault
-later_fault before mid now NoMemory order is = tt
-later_fault before mid now (DiskFault count) order is = (omega (arith, order, is.0), is.1)
-later_fault before mid now (Damaged file at byte) order is = is
-
--- no bytes were read yet
-pub none_stored : (files : ℕ → List ℕ) (parity from : ℕ) (bytes : List ℕ) → length bytes ≡ 0 → EachIsStored files parity from bytes
-none_stored files parity from bytes none behind below = absurd (omega (arith, none, below))
-
--- what replaying answers where the bytes weren't read
-pub unread : (epoch : ℕ) (before : Rows) (files : ℕ → List ℕ) (parity from count : ℕ) (rows : Rows) (old now : ℕ)
-    (fault : ReadFault) → IsFault old now fault → ReplaysStored epoch before files parity from count rows (Err fault)
-unread epoch before files parity from count rows old now NoMemory is = tt
-unread epoch before files parity from count rows old now (DiskFault faults) is = tt
-unread epoch before files parity from count rows old now (Damaged file at byte) is = absurd is
-
-pub unread_cause : (old now : ℕ) (before rows : Rows) (fault : ReadFault) → rows ≡ before → IsFault old now fault
-    → HasCause old now before rows (Err fault)
-unread_cause old now before rows NoMemory same is = tt
-unread_cause old now before rows (DiskFault faults) same is = (is.0, is.1, same)
-unread_cause old now before rows (Damaged file at byte) same is = absurd is
-
--- what it answers where the bytes that were read aren't records
-pub stops_stored : (epoch : ℕ) (before : Rows) (files : ℕ → List ℕ) (parity from count : ℕ) (rows : Rows) (bytes read : List ℕ)
+-- what replaying answers where the bytes that were read aren't records
+pub stops_stored : (epoch : ℕ) (before : Rows) (files : ℕ → List ℕ) (parity from count : ℕ) (rows : Rows)
+    (bytes read : List ℕ)
     (fault : ReadFault) → AreStored files parity from count bytes → read ≡ bytes
-    → Replays epoch before parity from read rows (Err fault) → ReplaysStored epoch before files parity from count rows (Err fault)
+    → Replays epoch before parity from read rows (Err fault)
+    → ReplaysStored epoch before files parity from count rows (Err fault)
 stops_stored epoch before files parity from count rows bytes read NoMemory stored same is = tt
 stops_stored epoch before files parity from count rows bytes read (DiskFault faults) stored same is = tt
-stops_stored epoch before files parity from count rows bytes read (Damaged file at byte) stored same is =
-    (bytes, (stored, inl (subst (λ (w : List ℕ). Replays epoch before parity from w rows (Err (Damaged file at byte))) same is)))
-
-pub stops_cause : (epoch : ℕ) (before : Rows) (parity from : ℕ) (rows : Rows) (bytes : List ℕ) (old now : ℕ) (start : Rows)
-    (fault : ReadFault) → Replays epoch before parity from bytes rows (Err fault) → HasCause old now start rows (Err fault)
-stops_cause epoch before parity from rows bytes old now start NoMemory is = tt
-stops_cause epoch before parity from rows bytes old now start (DiskFault faults) is = absurd is
-stops_cause epoch before parity from rows bytes old now start (Damaged file at byte) is = tt
+stops_stored epoch before files parity from count rows bytes read (Damaged file at byte) stored same is = (
+  bytes,
+  (
+    stored,
+    inl
+        (subst (λ (w : List ℕ). Replays epoch before parity from w rows (Err (Damaged file at byte))) same is),
+  ),
+)
 
 -- what it answers where all of them are, and there are too few, or enough
-pub short_replays : (epoch : ℕ) (before : Rows) (files : ℕ → List ℕ) (parity from count : ℕ) (rows : Rows) (bytes : List ℕ)
+pub short_replays : (epoch : ℕ) (before : Rows) (files : ℕ → List ℕ) (parity from count : ℕ) (rows : Rows)
+    (bytes : List ℕ)
     (fault : ReadFault) → AreStored files parity from count bytes → Replays epoch before parity from bytes rows (Ok tt)
     → length bytes < count → fault ≡ damage parity from bytes (length bytes)
     → ReplaysStored epoch before files parity from count rows (Err fault)
@@ -154,15 +136,10 @@ short_replays epoch before files parity from count rows bytes fault stored is sh
     subst (λ (f : ReadFault). ReplaysStored epoch before files parity from count rows (Err f)) (sym named)
     (bytes, (stored, inr (short, refl, is)))
 
-pub short_cause : (old now : ℕ) (before rows : Rows) (parity from : ℕ) (bytes : List ℕ) (behind : ℕ) (fault : ReadFault)
-    → fault ≡ damage parity from bytes behind → HasCause old now before rows (Err fault)
-short_cause old now before rows parity from bytes behind fault named =
-    subst (λ (f : ReadFault). HasCause old now before rows (Err f)) (sym named) tt
-
-pub whole_replays : (epoch : ℕ) (before : Rows) (files : ℕ → List ℕ) (parity from count : ℕ) (rows : Rows) (bytes : List ℕ)
-    → AreStored files parity from count bytes → Replays epoch before parity from bytes rows (Ok tt) → count ≤ length bytes
+pub whole_replays : (epoch : ℕ) (before : Rows) (files : ℕ → List ℕ) (parity from count : ℕ) (rows : Rows)
+    (bytes : List ℕ)
+    → AreStored files parity from count bytes → Replays epoch before parity from bytes rows (Ok tt)
+    → count ≤ length bytes
     → ReplaysStored epoch before files parity from count rows (Ok tt)
 whole_replays epoch before files parity from count rows bytes stored is enough =
     (bytes, (stored, omega (arith, stored.most, enough), is))
-
-pub ruleset reading = (none_stored, later_fault)

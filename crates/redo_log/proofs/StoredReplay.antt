@@ -1,13 +1,12 @@
 -- Replaying bytes that files have.
-use Rattle.std.proofs.Common.{◌≡◌, ◌∙◌, ◌≤◌, ◌<◌, ◌+◌, ℕ, List, [], ◌++◌, length, get_or, refl, sym, ap, subst, inl, inr, append-nil, arith}
-use Rattle.std.specs.Prelude.{Result, Ok, Err}
+use Rattle.std.proofs.Common.{◌≡◌, ◌∙◌, ◌≤◌, ℕ, List, length, sym, ap, inl, inr, append-nil, arith}
+use Rattle.std.specs.Prelude.{Ok, Err}
 use Rattle.std.proofs.lemmas.Bool.{cases_lt}
 use Rattle.std.proofs.lemmas.List.{ext_get_or}
 use Rattle.sig_core.specs.declared.redo.Redo.{Redo}
-use Rattle.sig_core.specs.Table.{Rows}
 use Rattle.redo_log.specs.declared.fault.ReadFault.TheVariants.{Damaged, DiskFault, NoMemory}
-use Rattle.redo_log.specs.Replaying.{AreRecords, Replays, log_bytes, replayed}
-use Rattle.redo_log.specs.Stored.{AreStored, ReplaysStored}
+use Rattle.redo_log.specs.Replaying.{log_bytes, replayed}
+use Rattle.redo_log.specs.Stored.{AreStored}
 use Rattle.redo_log.specs.StoredLaws.{StoredRecordsAreReplayed}
 use Rattle.redo_log.proofs.OrderLemmas.{one_newest, undamaged}
 
@@ -22,7 +21,8 @@ no_fewer files parity from count one other a b =
     ]
 
 -- so they have one list of bytes
-pub one_stored : (files : ℕ → List ℕ) (parity from count : ℕ) (one other : List ℕ) → AreStored files parity from count one
+pub one_stored : (files : ℕ → List ℕ) (parity from count : ℕ) (one other : List ℕ)
+    → AreStored files parity from count one
     → AreStored files parity from count other → one ≡ other
 one_stored files parity from count one other a b =
     let less = no_fewer files parity from count other one b a in
@@ -31,7 +31,8 @@ one_stored files parity from count one other a b =
     (λ k below. (a.each k below).same ∙ sym (b.each k (omega (arith, below, less))).same)
 
 pub stored_replayed : StoredRecordsAreReplayed
-stored_replayed epoch parity from files before rows newest (Ok done) are stored (bytes, (read, whole, (others, replays))) =
+stored_replayed epoch parity from files before rows newest (Ok done) are stored
+    (bytes, (read, whole, (others, replays))) =
     let same : log_bytes newest ≡ bytes =
     one_stored files parity from (length (log_bytes newest)) (log_bytes newest) bytes stored read in
     let one : others ≡ newest =
@@ -39,11 +40,13 @@ stored_replayed epoch parity from files before rows newest (Ok done) are stored 
     replays.made ∙ ap (λ (w : List Redo). replayed epoch before w) one
 stored_replayed epoch parity from files before rows newest (Err NoMemory) are stored is = tt
 stored_replayed epoch parity from files before rows newest (Err (DiskFault count)) are stored is = tt
-stored_replayed epoch parity from files before rows newest (Err (Damaged file at byte)) are stored (bytes, (read, inl is)) =
+stored_replayed epoch parity from files before rows newest (Err (Damaged file at byte)) are stored
+    (bytes, (read, inl is)) =
     let same : bytes ≡ log_bytes newest =
     one_stored files parity from (length (log_bytes newest)) bytes (log_bytes newest) read stored in
     undamaged epoch parity from before rows bytes newest file at byte are same is
-stored_replayed epoch parity from files before rows newest (Err (Damaged file at byte)) are stored (bytes, (read, inr is)) =
+stored_replayed epoch parity from files before rows newest (Err (Damaged file at byte)) are stored
+    (bytes, (read, inr is)) =
     let same : bytes ≡ log_bytes newest =
     one_stored files parity from (length (log_bytes newest)) bytes (log_bytes newest) read stored in
     omega (arith, is.0, ap length same)

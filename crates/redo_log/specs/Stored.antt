@@ -23,12 +23,14 @@ abbrev pub EachIsStored : (ℕ → List ℕ) → ℕ → ℕ → List ℕ → Ty
 EachIsStored files parity from bytes =
     (behind : ℕ) → behind < length bytes → IsStored files parity (from + behind) (slice_index bytes behind)
 
--- The bytes of a log from a position on, as files have them: so many, or fewer where the file of the next one ends before
--- its place.
+-- The bytes of a log from a position on, as files have them: so many, or fewer where the file of the next one ends
+-- before its place.
 pub record AreStored (files : ℕ → List ℕ) (parity from count : ℕ) (bytes : List ℕ) : Type 0 where
   pub each : EachIsStored files parity from bytes
   pub most : length bytes ≤ count
-  pub all : length bytes < count → length (files (file_of parity (from + length bytes))) ≤ place_of (from + length bytes)
+  pub all :
+      length bytes < count
+      → length (files (file_of parity (from + length bytes))) ≤ place_of (from + length bytes)
 
 -- the bytes of a file from a place on, as many as there are up to a length, were put behind others
 pub record IsPiece (file : List ℕ) (place len : ℕ) (old new : List ℕ) (count : ℕ) : Type 0 where

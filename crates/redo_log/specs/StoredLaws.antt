@@ -22,8 +22,8 @@ abbrev pub with_pieces : List Laid → (ℕ → List ℕ) → ℕ → List ℕ
 with_pieces [] files = files
 with_pieces (piece ∷ pieces) files = with_pieces pieces (with_piece piece files)
 
--- Whatever the calls on a fresh log, and whatever files held: after its pieces the bytes of its records, as many as were
--- given out, stand there at their places, from any position on that is at most 16,777,216 behind the last.
+-- Whatever the calls on a fresh log, and whatever files held: after its pieces the bytes of its records, as many as
+-- were given out, stand there at their places, from any position on that is at most 16,777,216 behind the last.
 abbrev pub PiecesAreStored : Type 0
 PiecesAreStored =
     (generation parity from : ℕ) (calls : List LogCall) (files : ℕ → List ℕ) → let s = fresh_log generation parity in
@@ -42,7 +42,8 @@ AreReplayed epoch before newest rows (Err (Damaged file at byte)) = ⊥
 -- where files have the bytes of records, just these are replayed
 abbrev pub StoredRecordsAreReplayed : Type 0
 StoredRecordsAreReplayed =
-    (epoch parity from : ℕ) (files : ℕ → List ℕ) (before rows : Rows) (newest : List Redo) (result : Result (Unit {0}) ReadFault)
+    (epoch parity from : ℕ) (files : ℕ → List ℕ) (before rows : Rows) (newest : List Redo)
+    (result : Result (Unit {0}) ReadFault)
     → AreRecords newest → AreStored files parity from (length (log_bytes newest)) (log_bytes newest)
     → ReplaysStored epoch before files parity from (length (log_bytes newest)) rows result
     → AreReplayed epoch before newest rows result

@@ -15,7 +15,6 @@ use std::alloc::Global;
 ///
 /// # Errors
 /// `DiskFault`, `NoMemory`.
-#[tactic(auto, using(crate::proofs::StoredLemmas::reading))]
 pub(crate) fn read_log<D: Disk>(
     alloc: Global,
     disk: &mut D,

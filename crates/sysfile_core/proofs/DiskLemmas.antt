@@ -1,5 +1,5 @@
 -- What is read of a slot, and what calls come to that are made one after the other.
-use Rattle.std.proofs.Common.{◌≡◌, ◌∙◌, ◌⊎◌, ℕ, ◌+◌, ◌-◌, ◌≤◌, ◌<◌, Bool, true, false, ◌==◌, nat_le, ◌&&◌, List, [], ◌∷◌, ◌++◌, length, take, drop, get_or, if◌then◌else◌, refl, ap, sym, subst, arith, inl, inr, append-nil}
+use Rattle.std.proofs.Common.{◌≡◌, ◌∙◌, ℕ, ◌+◌, ◌≤◌, Bool, true, false, ◌==◌, nat_le, ◌&&◌, List, [], ◌∷◌, ◌++◌, length, take, drop, get_or, if◌then◌else◌, refl, ap, sym, subst, arith, inl, inr, append-nil}
 use Rattle.std.specs.Prelude.{Option, None, Some, slice_index}
 use Rattle.std.proofs.lemmas.Bool.{cases_lt, eqb-false, eqb-true, le-leb, lt-leb, true≢false}
 use Rattle.std.proofs.lemmas.List.{drop_all, get_or-drop, get_or-take}
@@ -7,7 +7,7 @@ use Rattle.host_io.specs.Call.{Call, Synced, Wrote}
 use Rattle.host_io.specs.Disk.{IsRead}
 use Rattle.sysfile_core.specs.declared.place.TheConstants.{OPEN}
 use Rattle.sysfile_core.specs.Places.{is_open, slot_at}
-use Rattle.sysfile_core.specs.Runs.{Fails, Runs}
+use Rattle.sysfile_core.specs.Runs.{Runs}
 use Rattle.sysfile_core.specs.Writing.{closing_by, slot_calls, stands_closed}
 
 -- what a read of a slot gives: whether it was read whole, and is open
@@ -56,7 +56,8 @@ runs_stop (ask ∷ asks) more calls told (inl (fails, not_so)) = inl (fails, ref
 runs_stop (ask ∷ asks) more calls told (inr (may, runs)) = inr (may, runs_stop asks more (ask ∷ calls) told runs)
 
 -- a gate that was closed, what follows it and the gate that was opened are the write of a slot
-pub slot_runs : (bytes body rest : List ℕ) (file place at : ℕ) (calls : List Call) (mid more told : Option (List Call)) (ok : Bool)
+pub slot_runs : (bytes body rest : List ℕ) (file place at : ℕ) (calls : List Call)
+    (mid more told : Option (List Call)) (ok : Bool)
     → at ≡ place → rest ≡ body → Runs (closing_by (stands_closed at bytes) file at ∷ Synced file ∷ []) calls mid true
     → ((after : List Call) → mid ≡ Some after → Runs (Wrote file (at + 1) rest ∷ Synced file ∷ []) after more true)
     → ((after : List Call) → more ≡ Some after → Runs (Wrote file at (OPEN ∷ []) ∷ Synced file ∷ []) after told ok)

@@ -1,5 +1,5 @@
 -- What a write leaves of what stands outside of its piece, and what a crash leaves of bytes that are kept.
-use Rattle.std.proofs.Common.{◌≡◌, ◌∙◌, ◌⊎◌, ℕ, ◌+◌, ◌-◌, ◌≤◌, ◌<◌, Bool, true, false, nat_le, nat_lt, ◌&&◌, List, [], ◌∷◌, length, get_or, refl, ap, sym, subst, arith, inl, inr}
+use Rattle.std.proofs.Common.{◌≡◌, ◌∙◌, ◌⊎◌, ℕ, ◌+◌, ◌≤◌, ◌<◌, Bool, true, false, nat_le, nat_lt, ◌&&◌, List, [], ◌∷◌, length, get_or, refl, arith, inl, inr}
 use Rattle.std.specs.Prelude.{min, ◌||◌}
 use Rattle.std.specs.List.{list_any}
 use Rattle.std.proofs.lemmas.Bool.{and_left, and_right, le-ltb, lt-leb, true≢false}
@@ -35,7 +35,8 @@ pub clean_written : (s : FileState) (at asked : ℕ) (piece : List ℕ) (p : ℕ
     → (p < at) ⊎ (at + asked ≤ p) → is_dirty s p ≡ false → is_dirty (written s at asked piece) p ≡ false
 clean_written s at asked piece p old apart clean =
     let range = dirtied at asked (length s.bytes) (length (laid at piece s.bytes)) in
-    let new : covers p range ≡ false = outside_dirtied at asked (length s.bytes) (length (laid at piece s.bytes)) p old apart in
+    let new : covers p range ≡ false =
+    outside_dirtied at asked (length s.bytes) (length (laid at piece s.bytes)) p old apart in
     list_any-append (covers p) s.dirty (range ∷ []) ∙ neither (list_any (covers p) s.dirty) (covers p range) clean new
 
 -- The bytes from one place up to another are those of `old`, and no crash changes them.
@@ -61,7 +62,8 @@ keeps_written old from to s at asked piece k few apart =
       ends = omega (arith, k.ends, laid_grows at piece s.bytes);
       clean =
           λ p low high.
-          clean_written s at asked piece p (omega (arith, high, k.synced, k.ends)) (apart_at from to at asked p low high apart)
+          clean_written s at asked piece p (omega (arith, high, k.synced, k.ends))
+          (apart_at from to at asked p low high apart)
           (k.clean p low high);
       same =
           λ p low high.
@@ -70,7 +72,8 @@ keeps_written old from to s at asked piece k few apart =
           ∙ k.same p low high;
     }
 
-pub keeps_settled : (old : List ℕ) (from to : ℕ) (s : FileState) → Keeps old from to s → Keeps old from to (settled s.bytes)
+pub keeps_settled : (old : List ℕ) (from to : ℕ) (s : FileState) → Keeps old from to s
+    → Keeps old from to (settled s.bytes)
 keeps_settled old from to s k =
     record {
       synced = omega (arith, k.synced, k.ends);

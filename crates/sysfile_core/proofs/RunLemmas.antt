@@ -1,12 +1,10 @@
 -- What holds at every moment of calls that are made one after the other.
-use Rattle.std.proofs.Common.{◌≡◌, ◌∙◌, ◌⊎◌, ℕ, suc, zero, ◌+◌, ◌≤◌, ◌<◌, Bool, true, false, List, [], ◌∷◌, ◌++◌, length, drop, refl, ap, sym, subst, arith, inl, inr, append_assoc, length-append}
-use Rattle.std.specs.Prelude.{Option, Some}
+use Rattle.std.proofs.Common.{◌≡◌, ◌∙◌, ◌⊎◌, ℕ, suc, ◌≤◌, Bool, true, List, [], ◌∷◌, ◌++◌, length, drop, refl, ap, sym, subst, arith, inl, inr, append_assoc, length-append}
+use Rattle.std.specs.Prelude.{Some}
 use Rattle.std.proofs.lemmas.Bool.{cases_lt, true≢false}
 use Rattle.std.proofs.lemmas.List.{drop_at}
 use Rattle.host_io.specs.Call.{Call, Wrote, Tore, Synced, Lost}
-use Rattle.host_io.specs.Disk.{IsAdded}
-use Rattle.host_io.specs.Image.{MayFollow}
-use Rattle.sysfile_core.specs.Runs.{Fails, Runs}
+use Rattle.sysfile_core.specs.Runs.{Runs}
 
 -- It holds of a record, and after each of the calls that are asked for, also where a write has laid down another piece.
 abbrev pub HoldsThrough : (List Call → Type 0) → List Call → List Call → Type 0
@@ -43,7 +41,8 @@ same_record : (one other : List Call) → Some one ≡ Some other → one ≡ ot
 same_record one other same = cc
 
 -- the calls come in front of the record
-grown : (asks calls after : List Call) (ok : Bool) → Runs asks calls (Some after) ok → (more : List Call) × (after ≡ more ++ calls)
+grown : (asks calls after : List Call) (ok : Bool) → Runs asks calls (Some after) ok
+    → (more : List Call) × (after ≡ more ++ calls)
 grown [] calls after ok runs = ([], same_record after calls runs.0)
 grown (Wrote file at bytes ∷ asks) calls after ok (inl (inl none, not_so)) = ([], same_record after calls none)
 grown (Wrote file at bytes ∷ asks) calls after ok (inl (inr (piece, added), not_so)) =
@@ -65,7 +64,8 @@ grown (Lost files ∷ asks) calls after ok (inr (may, runs)) =
     (rest.0 ++ Lost files ∷ [], rest.1 ∙ sym (append_assoc rest.0 (Lost files ∷ []) calls))
 
 -- a moment of a run is its beginning, or comes behind its first call
-next_moment : (call : Call) (calls asks after newer older : List Call) (ok : Bool) → Runs asks (call ∷ calls) (Some after) ok
+next_moment : (call : Call) (calls asks after newer older : List Call) (ok : Bool)
+    → Runs asks (call ∷ calls) (Some after) ok
     → after ≡ newer ++ older → length calls ≤ length older → (older ≡ calls) ⊎ (length (call ∷ calls) ≤ length older)
 next_moment call calls asks after newer older ok runs split long =
     elim (cases_lt (length calls) (length older)) [
@@ -89,7 +89,8 @@ moments Holds [] calls after newer older ok holds (none, all_so) split long =
 moments Holds (Wrote file at bytes ∷ asks) calls after newer older ok holds (inl (inl none, not_so)) split long =
     let same = same_record after calls none in
     subst Holds (sym (whole_end calls newer older (sym same ∙ split) long)) holds.0
-moments Holds (Wrote file at bytes ∷ asks) calls after newer older ok holds (inl (inr (piece, added), not_so)) split long =
+moments Holds (Wrote file at bytes ∷ asks) calls after newer older ok holds
+    (inl (inr (piece, added), not_so)) split long =
     let same = same_record after (Tore file at bytes piece ∷ calls) added.grown in
     elim (next_end (Tore file at bytes piece) calls newer older (sym same ∙ split) long) [
       | inl torn ↦ subst Holds (sym torn) (holds.1.0 piece added.allowed.1)

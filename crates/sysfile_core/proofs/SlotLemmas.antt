@@ -1,20 +1,23 @@
 -- Which slots the bytes of a file have.
-use Rattle.std.proofs.Common.{◌≡◌, ◌≢◌, ◌∙◌, ◌⊎◌, ℕ, suc, zero, ◌+◌, ◌-◌, ◌≤◌, ◌<◌, Bool, true, false, nat_le, ◌&&◌, ◌==◌, List, [], ◌∷◌, length, take, drop, get_or, if◌then◌else◌, refl, ap, sym, arith, inl, inr, length-drop}
-use Rattle.std.specs.Prelude.{Option, None, Some}
+use Rattle.std.proofs.Common.{◌≡◌, ◌≢◌, ◌∙◌, ◌⊎◌, ℕ, suc, zero, ◌+◌, ◌≤◌, ◌<◌, Bool, true, false, nat_le, ◌&&◌, ◌==◌, List, ◌∷◌, length, take, drop, get_or, if◌then◌else◌, refl, ap, sym, arith, inl, inr, length-drop}
+use Rattle.std.specs.Prelude.{None, Some}
 use Rattle.std.proofs.lemmas.Bool.{and_parts, eq-eqb, eqb-true, le-leb, leb-true, lt-leb, ne_eqb}
 use Rattle.std.proofs.lemmas.List.{ext_get_or, get_or-drop, get_or-take, length-take-le}
 use Rattle.sysfile_core.specs.declared.place.TheConstants.{OPEN}
 use Rattle.sysfile_core.specs.Places.{is_open, slot_at}
 
-length_taken : (place size : ℕ) (bytes : List ℕ) → place + size ≤ length bytes → length (take size (drop place bytes)) ≡ size
+length_taken : (place size : ℕ) (bytes : List ℕ) → place + size ≤ length bytes
+    → length (take size (drop place bytes)) ≡ size
 length_taken place size bytes fits =
     length-take-le size (drop place bytes) (omega (arith, length-drop place bytes, fits))
 
-taken_at : (place size : ℕ) (bytes : List ℕ) (i : ℕ) → i < size → get_or (take size (drop place bytes)) i 0 ≡ get_or bytes (place + i) 0
+taken_at : (place size : ℕ) (bytes : List ℕ) (i : ℕ) → i < size
+    → get_or (take size (drop place bytes)) i 0 ≡ get_or bytes (place + i) 0
 taken_at place size bytes i below = get_or-take size (drop place bytes) i 0 below ∙ get_or-drop place bytes i 0
 
 -- bytes that agree from a place on have the same slot there
-pub slot_is_same : (place size : ℕ) (one other : List ℕ) → 0 < size → place + size ≤ length one → place + size ≤ length other
+pub slot_is_same : (place size : ℕ) (one other : List ℕ) → 0 < size → place + size ≤ length one
+    → place + size ≤ length other
     → ((p : ℕ) → place ≤ p → p < place + size → get_or one p 0 ≡ get_or other p 0)
     → slot_at place size one ≡ slot_at place size other
 unfolding slot_at
@@ -61,7 +64,8 @@ unfolding slot_at
 open_or_none place size bytes = by (is_open place size bytes) refl
   where
     by : (o : Bool) → is_open place size bytes ≡ o
-        → IsOpenAt place size bytes ⊎ ((if is_open place size bytes then Some (take size (drop place bytes)) else None) ≡ None)
+        → IsOpenAt place size bytes
+        ⊎ ((if is_open place size bytes then Some (take size (drop place bytes)) else None) ≡ None)
     by true e =
         let parts = and_parts (nat_le (place + size) (length bytes)) (get_or bytes place 0 == OPEN) e in
         inl (record {
@@ -71,7 +75,8 @@ open_or_none place size bytes = by (is_open place size bytes) refl
     by false e = inr (rw e refl)
 
 -- bytes that have a slot behind an open gate
-pub whole_slot : (place : ℕ) (body bytes : List ℕ) → place + (1 + length body) ≤ length bytes → get_or bytes place 0 ≡ OPEN
+pub whole_slot : (place : ℕ) (body bytes : List ℕ) → place + (1 + length body) ≤ length bytes
+    → get_or bytes place 0 ≡ OPEN
     → ((k : ℕ) → k < length body → get_or bytes (place + 1 + k) 0 ≡ get_or body k 0)
     → slot_at place (1 + length body) bytes ≡ Some (OPEN ∷ body)
 unfolding slot_at
@@ -85,7 +90,8 @@ whole_slot place body bytes fits gate rest =
     (λ i below. by i (omega (arith, below, length_taken place size bytes fits))) in
     rw (long, is) (ap Some taken)
   where
-    by : (i : ℕ) → i < 1 + length body → get_or (take (1 + length body) (drop place bytes)) i 0 ≡ get_or (OPEN ∷ body) i 0
+    by : (i : ℕ) → i < 1 + length body → get_or (take (1 + length body) (drop place bytes)) i 0
+        ≡ get_or (OPEN ∷ body) i 0
     by zero below =
         taken_at place (1 + length body) bytes zero below ∙ ap (λ (p : ℕ). get_or bytes p 0) (omega arith) ∙ gate
     by (suc k) below =

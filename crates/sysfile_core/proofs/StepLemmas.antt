@@ -1,7 +1,7 @@
 -- The steps of a slot's write.
-use Rattle.std.proofs.Common.{◌≡◌, ℕ, ◌+◌, ◌-◌, ◌≤◌, List, [], ◌∷◌, length, take, drop, refl, ap, arith, length-drop}
+use Rattle.std.proofs.Common.{◌≡◌, ◌+◌, ◌-◌, [], ◌∷◌, length, take, drop, ap, arith, length-drop}
 use Rattle.std.proofs.lemmas.List.{take_all}
-use Rattle.host_io.specs.Call.{Call, Wrote, Synced}
+use Rattle.host_io.specs.Call.{Wrote, Synced}
 use Rattle.sysfile_core.specs.declared.place.TheConstants.{OPEN}
 use Rattle.sysfile_core.specs.Places.{place_of}
 use Rattle.sysfile_core.specs.Steps.{StepsAreTheCalls}

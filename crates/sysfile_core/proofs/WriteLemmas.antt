@@ -1,33 +1,33 @@
 -- What stands on a disk while a slot is written.
-use Rattle.std.proofs.Common.{◌≡◌, ◌≢◌, ◌∙◌, ◌⊎◌, ℕ, suc, zero, ◌+◌, ◌-◌, ◌≤◌, ◌<◌, Bool, true, false, ◌==◌, nat_lt, not, ◌&&◌, List, [], ◌∷◌, length, get_or, if◌then◌else◌, refl, ap, sym, subst, arith, inl, inr}
-use Rattle.std.specs.Prelude.{Option, None, Some}
-use Rattle.std.proofs.lemmas.Bool.{and_cases, and_parts, cases_lt, eq-eqb, eqb-false, eqb-true, ltb-false, ltb-true, not-false, not-true}
+use Rattle.std.proofs.Common.{◌≡◌, ◌≢◌, ◌∙◌, ◌⊎◌, ℕ, ◌+◌, ◌≤◌, ◌<◌, Bool, true, false, ◌==◌, nat_lt, not, List, [], ◌∷◌, length, get_or, if◌then◌else◌, refl, ap, sym, subst, arith, inl, inr}
+use Rattle.std.proofs.lemmas.Bool.{and_cases, and_parts, cases_lt, eqb-false, eqb-true, ltb-false, ltb-true, not-false, not-true}
 use Rattle.host_io.specs.declared.limits.TheConstants.{FILES}
-use Rattle.host_io.specs.Call.{Call, Wrote, Tore, Synced, Lost}
-use Rattle.host_io.specs.DiskState.{FileState, is_dirty, laid, settled, state_of, written}
+use Rattle.host_io.specs.Call.{Call, Wrote, Tore, Synced}
+use Rattle.host_io.specs.DiskState.{FileState, laid, settled, state_of, written}
 use Rattle.host_io.specs.Image.{IsImage, IsRecord}
 use Rattle.host_io.proofs.FileLemmas.{laid_ends}
 use Rattle.host_io.proofs.LaidLemmas.{laid_elsewhere, laid_here, laid_reaches}
 use Rattle.host_io.proofs.StateLemmas.{laid_grows, reads_as_an_image, same_number, sound_of}
 use Rattle.sysfile_core.specs.declared.place.TheConstants.{CLOSED, OPEN}
-use Rattle.sysfile_core.specs.Laws.{AreApart, IsOldOrNew, IsWrite, MayBegin, OpenSlotIsWhole, OtherSlotStays, WrittenSlotStays}
-use Rattle.sysfile_core.specs.Places.{IsClean, IsKept, slot_at}
-use Rattle.sysfile_core.specs.Runs.{Runs}
+use Rattle.sysfile_core.specs.Laws.{IsOldOrNew, MayBegin, OpenSlotIsWhole, OtherSlotStays, WrittenSlotStays}
+use Rattle.sysfile_core.specs.Places.{IsKept, slot_at}
 use Rattle.sysfile_core.specs.Writing.{closing_by, opening, slot_calls, stands_closed}
 use Rattle.sysfile_core.proofs.FileLemmas.{Keeps, clean_written, keeps_image, keeps_settled, keeps_written, settled_keeps}
-use Rattle.sysfile_core.proofs.RunLemmas.{HoldsThrough, all_done, done, moments}
+use Rattle.sysfile_core.proofs.RunLemmas.{HoldsThrough, all_done, moments}
 use Rattle.sysfile_core.proofs.SlotLemmas.{IsOpenAt, closed_slot, open_or_none, short_slot, slot_is_same, whole_slot}
 
 -- a file after a call on it
 after_write : (file at : ℕ) (bytes : List ℕ) (calls : List Call)
     → state_of (Wrote file at bytes ∷ calls) file ≡ written (state_of calls file) at (length bytes) bytes
 after_write file at bytes calls =
-    ap (λ (same : Bool). if same then written (state_of calls file) at (length bytes) bytes else state_of calls file) (same_number file)
+    ap (λ (same : Bool). if same then written (state_of calls file) at (length bytes) bytes else state_of calls file)
+    (same_number file)
 
 after_tear : (file at : ℕ) (asked piece : List ℕ) (calls : List Call)
     → state_of (Tore file at asked piece ∷ calls) file ≡ written (state_of calls file) at (length asked) piece
 after_tear file at asked piece calls =
-    ap (λ (same : Bool). if same then written (state_of calls file) at (length asked) piece else state_of calls file) (same_number file)
+    ap (λ (same : Bool). if same then written (state_of calls file) at (length asked) piece else state_of calls file)
+    (same_number file)
 
 after_sync : (file : ℕ) (calls : List Call) → state_of (Synced file ∷ calls) file ≡ settled (state_of calls file).bytes
 after_sync file calls =
@@ -38,7 +38,8 @@ abbrev KeepsIn : ℕ → List ℕ → ℕ → ℕ → List Call → Type 0
 KeepsIn file old from to calls = Keeps old from to (state_of calls file)
 
 kept_by_write : (file : ℕ) (old : List ℕ) (from to at : ℕ) (bytes : List ℕ) (calls : List Call)
-    → KeepsIn file old from to calls → (to ≤ at) ⊎ (at + length bytes ≤ from) → KeepsIn file old from to (Wrote file at bytes ∷ calls)
+    → KeepsIn file old from to calls → (to ≤ at) ⊎ (at + length bytes ≤ from)
+    → KeepsIn file old from to (Wrote file at bytes ∷ calls)
 kept_by_write file old from to at bytes calls k apart =
     subst (Keeps old from to) (sym (after_write file at bytes calls))
     (keeps_written old from to (state_of calls file) at (length bytes) bytes k (omega arith) apart)
@@ -56,7 +57,8 @@ kept_by_sync file old from to calls k =
     subst (Keeps old from to) (sym (after_sync file calls)) (keeps_settled old from to (state_of calls file) k)
 
 -- Places apart from a slot keep their bytes while it is written.
-apart_from_piece : (place size from to at count : ℕ) → (to ≤ place) ⊎ (place + size ≤ from) → place ≤ at → at + count ≤ place + size
+apart_from_piece : (place size from to at count : ℕ) → (to ≤ place) ⊎ (place + size ≤ from) → place ≤ at
+    → at + count ≤ place + size
     → (to ≤ at) ⊎ (at + count ≤ from)
 apart_from_piece place size from to at count (inl before) low high = inl (omega (arith, before, low))
 apart_from_piece place size from to at count (inr behind) low high = inr (omega (arith, behind, high))
@@ -119,16 +121,19 @@ other_stays before after ok file place body other size write apart some kept new
     let sound = sound_of before file write.kept write.there in
     let first : Keeps s.bytes other (other + size) s =
     record { synced = kept.synced; ends = sound.to_synced; clean = kept.clean; same = λ p low high. refl } in
-    let through = closing_keeps (stands_closed place s.bytes) file place body s.bytes other (other + size) before apart first in
-    let k = moments (KeepsIn file s.bytes other (other + size)) (slot_calls s.bytes file place body) before after newer older ok through write.runs split long in
+    let through =
+    closing_keeps (stands_closed place s.bytes) file place body s.bytes other (other + size) before apart first in
+    let k =
+    moments (KeepsIn file s.bytes other (other + size))
+    (slot_calls s.bytes file place body) before after newer older ok through write.runs split long in
     let one = left file write.there in
     slot_is_same other size (image file) s.bytes some
     (omega (arith, k.synced, one.from_synced))
     (omega (arith, kept.synced, sound.to_synced))
     (keeps_image s.bytes other (other + size) (state_of older file) (image file) k one)
 
--- What may be left at the place of a slot, of which this follows the gate, after the calls of a record. It is the new slot, or
--- what was open there in an image of the first file.
+-- What may be left at the place of a slot, of which this follows the gate, after the calls of a record. It is the new
+-- slot, or what was open there in an image of the first file.
 abbrev LeavesIn : FileState → ℕ → ℕ → List ℕ → List Call → Type 0
 LeavesIn first file place body calls =
     (image : List ℕ) → IsImage (state_of calls file) image
@@ -159,7 +164,8 @@ body_leaves first file place body old calls is k image one =
 
 -- from the sync on that follows the closing of the gate
 opening_leaves : (first : FileState) (file place : ℕ) (body old : List ℕ) (calls : List Call) → 0 < length body
-    → get_or old place 0 ≢ OPEN → LeavesIn first file place body calls → KeepsIn file old place (place + 1) (Synced file ∷ calls)
+    → get_or old place 0 ≢ OPEN → LeavesIn first file place body calls
+    → KeepsIn file old place (place + 1) (Synced file ∷ calls)
     → HoldsThrough (LeavesIn first file place body) (opening file place body) calls
 opening_leaves first file place body old calls some closed l0 k1 =
     let c1 = Synced file ∷ calls in
@@ -196,7 +202,8 @@ opening_leaves first file place body old calls some closed l0 k1 =
               (
                 (λ piece few.
                     body_leaves first file place body bytes (Tore file place (OPEN ∷ []) piece ∷ c3) is
-                    (kept_by_tear file bytes (place + 1) (place + (1 + length body)) place (OPEN ∷ []) piece c3 b3 few gate)),
+                    (kept_by_tear file bytes (place + 1) (place + (1 + length body)) place
+                    (OPEN ∷ []) piece c3 b3 few gate)),
                 (
                   body_leaves first file place body bytes c4 is b4,
                   body_leaves first file place body bytes (Synced file ∷ c4) is b5,
@@ -217,7 +224,8 @@ closing_image s place size body piece image sized some ends itself may (inl past
     let top : length (laid place piece s.bytes) ≤ place + 1 =
     laid_ends place (place + 1) piece s.bytes (omega (arith, past)) (omega (arith, few)) in
     inl (short_slot place size image (omega (arith, top, one.to_end, sized, some)))
-closing_image s place size body piece image sized some ends itself (inl closed) (inr opened) few one = absurd (closed.1 opened.1)
+closing_image s place size body piece image sized some ends itself (inl closed) (inr opened) few one =
+    absurd (closed.1 opened.1)
 closing_image s place size body piece image sized some ends itself (inr clean) (inr opened) few one =
     elim (open_or_none place size image) [
       | inl is ↦ inr (inr (s.bytes, itself, by is))
@@ -246,7 +254,8 @@ closing_image s place size body piece image sized some ends itself (inr clean) (
 
     by : IsOpenAt place size image → slot_at place size s.bytes ≡ slot_at place size image
     by is =
-        slot_is_same place size s.bytes image (omega (arith, sized)) (omega (arith, is.fits, one.to_end, top)) is.fits (same is)
+        slot_is_same place size s.bytes image (omega (arith, sized))
+        (omega (arith, is.fits, one.to_end, top)) is.fits (same is)
 
 -- what a gate that doesn't stand closed is
 not_closed : (place : ℕ) (bytes : List ℕ) → stands_closed place bytes ≡ false
@@ -266,7 +275,8 @@ not_closed place bytes not_so =
 closing_leaves : (stands : Bool) (file place : ℕ) (body : List ℕ) (calls : List Call) → IsRecord calls → file < FILES
     → 0 < length body → stands_closed place (state_of calls file).bytes ≡ stands
     → MayBegin (state_of calls file) place (1 + length body)
-    → HoldsThrough (LeavesIn (state_of calls file) file place body) (closing_by stands file place ∷ opening file place body) calls
+    → HoldsThrough (LeavesIn (state_of calls file) file place body)
+    (closing_by stands file place ∷ opening file place body) calls
 closing_leaves true file place body calls kept there some stands may =
     let s = state_of calls file in
     let parts = and_parts (nat_lt place (length s.bytes)) (not (get_or s.bytes place 0 == OPEN)) stands in
@@ -298,7 +308,8 @@ closing_leaves false file place body calls kept there some stands may =
     (settled_keeps bytes place (place + 1) (laid_reaches place (CLOSED ∷ []) s.bytes (omega arith))) in
     let l1 : LeavesIn s file place body c1 =
     λ image one.
-    closing_image s place (1 + length body) body (CLOSED ∷ []) image refl some sound.to_synced itself may begun (omega arith)
+    closing_image s place (1 + length body) body (CLOSED ∷ []) image refl some sound.to_synced itself may begun
+    (omega arith)
     (subst (λ (t : FileState). IsImage t image) (after_write file place (CLOSED ∷ []) calls) one) in (
       (λ image one. inr (inr (image, one, refl))),
       (
@@ -314,7 +325,8 @@ open_is_whole before after ok file place body write may newer older split long i
     let s = state_of before file in
     let through =
     closing_leaves (stands_closed place s.bytes) file place body before write.kept write.there write.some refl may in
-    moments (LeavesIn s file place body) (slot_calls s.bytes file place body) before after newer older ok through write.runs split long
+    moments (LeavesIn s file place body)
+    (slot_calls s.bytes file place body) before after newer older ok through write.runs split long
     (image file) (left file write.there)
 
 pub written_stays : WrittenSlotStays
@@ -329,12 +341,14 @@ written_stays before after file place body write =
     let all = laid place (OPEN ∷ []) bytes in
     let is : after ≡ Synced file ∷ c4 = all_done (slot_calls s.bytes file place body) before after write.runs in
     let third : (state_of c3 file).bytes ≡ bytes =
-    ap (λ (t : FileState). t.bytes) (after_sync file c2) ∙ ap (λ (t : FileState). t.bytes) (after_write file (place + 1) body c1) in
+    ap (λ (t : FileState). t.bytes) (after_sync file c2)
+    ∙ ap (λ (t : FileState). t.bytes) (after_write file (place + 1) body c1) in
     let fourth : (state_of c4 file).bytes ≡ all =
     ap (λ (t : FileState). t.bytes) (after_write file place (OPEN ∷ []) c3) ∙ ap (laid place (OPEN ∷ [])) third in
     let settles : state_of after file ≡ settled all =
     ap (λ (calls : List Call). state_of calls file) is ∙ after_sync file c4 ∙ ap settled fourth in
-    let reach : place + size ≤ length bytes = omega (arith, laid_reaches (place + 1) body (state_of c1 file).bytes write.some) in
+    let reach : place + size ≤ length bytes =
+    omega (arith, laid_reaches (place + 1) body (state_of c1 file).bytes write.some) in
     let more : length bytes ≤ length all = laid_grows place (OPEN ∷ []) bytes in
     let gate : get_or all place 0 ≡ OPEN =
     ap (λ (p : ℕ). get_or all p 0) (omega arith) ∙ laid_here place (OPEN ∷ []) bytes 0 (omega arith) in

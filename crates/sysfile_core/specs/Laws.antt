@@ -27,7 +27,8 @@ OtherSlotStays =
     (before after : List Call) (ok : Bool) (file place : ℕ) (body : List ℕ) (other size : ℕ)
     → IsWrite before after ok file place body → AreApart place (1 + length body) other size → 0 < size
     → IsKept (state_of before file) other (other + size)
-    → LeavesOnly after (length before) (λ image. slot_at other size (image file) ≡ slot_at other size (state_of before file).bytes)
+    → LeavesOnly after (length before)
+    (λ image. slot_at other size (image file) ≡ slot_at other size (state_of before file).bytes)
 
 -- a slot may be written at the place: no crash opens the gate that stands there, or none changes what follows it
 abbrev pub MayBegin : FileState → ℕ → ℕ → Type 0
@@ -41,13 +42,15 @@ IsOldOrNew s place size slot found =
     (found ≡ None)
     ⊎ ((found ≡ Some slot) ⊎ ((image : List ℕ) × IsImage s image × (slot_at place size image ≡ found)))
 
--- Whatever a crash leaves at any moment of the write, the slot that is open at its place is whole: it is the new one, or
--- one that a crash might have left there before.
+-- Whatever a crash leaves at any moment of the write, the slot that is open at its place is whole: it is the new one,
+-- or one that a crash might have left there before.
 abbrev pub OpenSlotIsWhole : Type 0
 OpenSlotIsWhole =
     (before after : List Call) (ok : Bool) (file place : ℕ) (body : List ℕ)
     → IsWrite before after ok file place body → MayBegin (state_of before file) place (1 + length body)
-    → LeavesOnly after (length before) (λ image. IsOldOrNew (state_of before file) place (1 + length body) (OPEN ∷ body) (slot_at place (1 + length body) (image file)))
+    → LeavesOnly after (length before)
+    (λ image. IsOldOrNew (state_of before file) place (1 + length body) (OPEN ∷ body)
+    (slot_at place (1 + length body) (image file)))
 
 -- once it is written no crash changes it
 abbrev pub WrittenSlotStays : Type 0

@@ -41,7 +41,8 @@ later_system (Some one) None = Some one
 later_system (Some one) (Some other) = if is_earlier one other then Some other else Some one
 
 -- of two that were read; damage of the first comes first
-abbrev pub later_of : Result (Option SystemSlot) SlotFault → Result (Option SystemSlot) SlotFault → Result (Option SystemSlot) SlotFault
+abbrev pub later_of : Result (Option SystemSlot) SlotFault → Result (Option SystemSlot) SlotFault
+    → Result (Option SystemSlot) SlotFault
 later_of (Err fault) other = Err fault
 later_of (Ok one) (Err fault) = Err fault
 later_of (Ok one) (Ok other) = Ok (later_system one other)
@@ -73,7 +74,8 @@ later_control None other = other
 later_control (Some one) None = Some one
 later_control (Some one) (Some other) = if nat_lt one.serial other.serial then Some other else Some one
 
-abbrev pub later_by : ℕ → Result (Option ControlSlot) SlotFault → Result (Option ControlSlot) SlotFault → Result (Option ControlSlot) SlotFault
+abbrev pub later_by : ℕ → Result (Option ControlSlot) SlotFault → Result (Option ControlSlot) SlotFault
+    → Result (Option ControlSlot) SlotFault
 later_by generation (Err fault) other = Err fault
 later_by generation (Ok one) (Err fault) = Err fault
 later_by generation (Ok one) (Ok other) =

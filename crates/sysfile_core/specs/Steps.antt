@@ -33,5 +33,6 @@ StepsAreTheCalls =
     (bytes slot : List ℕ) (file which : ℕ) → 1 ≤ length slot
     → call_of bytes file slot (step_of (length slot) which 0) ∷ call_of bytes file slot (step_of (length slot) which 1)
     ∷ call_of bytes file slot (step_of (length slot) which 2) ∷ call_of bytes file slot (step_of (length slot) which 3)
-    ∷ call_of bytes file slot (step_of (length slot) which 4) ∷ call_of bytes file slot (step_of (length slot) which 5) ∷ []
+    ∷ call_of bytes file slot (step_of (length slot) which 4)
+    ∷ call_of bytes file slot (step_of (length slot) which 5) ∷ []
     ≡ slot_calls bytes file (place_of which) (drop 1 slot)

@@ -16,7 +16,7 @@ abbrev pub opening : ℕ → ℕ → List ℕ → List Call
 opening file place body =
     Synced file ∷ Wrote file (place + 1) body ∷ Synced file ∷ Wrote file place (OPEN ∷ []) ∷ Synced file ∷ []
 
--- The calls that write a slot at a place of a file, which has these bytes: the gate is closed, the others are written, and
--- the gate is opened, with a sync behind each.
+-- The calls that write a slot at a place of a file, which has these bytes: the gate is closed, the others are written,
+-- and the gate is opened, with a sync behind each.
 abbrev pub slot_calls : List ℕ → ℕ → ℕ → List ℕ → List Call
 slot_calls bytes file place body = closing_by (stands_closed place bytes) file place ∷ opening file place body

@@ -1,4 +1,4 @@
-use Rattle.std.proofs.Common.{rules, ◌≡◌, ◌∙◌, ◌≤◌, ◌<◌, ◌+◌, ◌-◌, length, arith, sym}
+use Rattle.std.proofs.Common.{rules, ◌-◌}
 use Rattle.std.proofs.lemmas.Result.{err_from_is_err_and}
 use Rattle.redo_log.specs.Stored.{files_of}
 use Rattle.redo_log.proofs.StoredLemmas.{short_replays, stops_stored, whole_replays}

@@ -1,6 +1,4 @@
-use Rattle.std.proofs.Common.{rules, ◌≡◌, ◌∙◌, ◌≤◌, ◌<◌, ◌+◌, length, take, arith}
-use Rattle.redo_log.specs.declared.ring.TheConstants.{LOG_FILE_BYTES}
-use Rattle.redo_log.specs.Places.{place_of}
+use Rattle.std.proofs.Common.{rules, ◌≡◌, ◌∙◌, length, take, arith}
 use Rattle.redo_log.specs.Stored.{files_of}
 use Rattle.redo_log.proofs.StoredLemmas.{more_stored, short_stored}
 use Rattle.redo_log.proofs.stored.read_log.Goals as goal

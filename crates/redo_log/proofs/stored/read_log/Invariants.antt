@@ -11,7 +11,7 @@ invariant-pieces g l = record {
   here : l.from + length l.bytes.items ≡ l.at;
   within : l.at ≤ l.to;
   each : (calls : List Call) → g.D.Disk.told l.fn.disk ≡ Some calls
-      → EachIsStored (files_of calls) l.parity l.from l.bytes.items
+      → EachIsStored (files_of calls) l.parity l.from l.bytes.items;
 }
 
 abbrev pub decreases-pieces : goal.decreases-pieces

@@ -1,4 +1,4 @@
-use Rattle.std.proofs.Common.{◌≡◌, ◌≤◌, ◌∙◌, ◌++◌, length, ap, sym, arith, rules}
+use Rattle.std.proofs.Common.{◌≤◌, ◌∙◌, ◌++◌, length, ap, sym, rules}
 use Rattle.std.specs.Int.{w64, to_be_bytes}
 use Rattle.std.proofs.lemmas.List.{take_all}
 use Rattle.sysfile_core.specs.Slots.{control_bytes}

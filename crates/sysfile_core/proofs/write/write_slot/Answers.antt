@@ -1,4 +1,4 @@
-use Rattle.std.proofs.Common.{◌≡◌, drop}
+use Rattle.std.proofs.Common.{drop}
 use Rattle.std.specs.Prelude.{is_ok}
 use Rattle.host_io.specs.DiskState.{state_of}
 use Rattle.sysfile_core.specs.Places.{place_of}
