@@ -9,13 +9,15 @@ use Rattle.sig_core.specs.declared.redo.Redo.{Redo}
 use Rattle.sig_core.specs.declared.redo.Redo.TheVariants as redo
 use Rattle.sig_core.specs.declared.rows.PendingRecord.{PendingRecord}
 use Rattle.sig_core.specs.Firsts.{first}
-use Rattle.sig_core.specs.Rows.{RowsState, abort_record, commit_record, complete_record, is_of, storing}
+use Rattle.sig_core.specs.Rows.{RowsState, abort_record, commit_record, complete_record, is_of, storing, row_of}
 use Rattle.sig_core.specs.Same.{same_key, same_tx}
+use Rattle.sig_core.specs.Table.{Rows}
+use Rattle.redo_log.specs.Replaying.{replayed}
 use Rattle.sig_core.proofs.Keys.{same_key-swap, same_tx-self}
 use Rattle.sig_core.proofs.TxLemmas.{same_tx-swap}
 use Rattle.local_ckpt.specs.Events.{Abort, Commit, Complete, Event, Moment, Prepare, Step, after, changed, log_if, logged, next}
-use Rattle.local_ckpt.specs.Locking.{AreLocked, IsAlone, KeepLocks, KeepsLock, LogsLeaveRows}
-use Rattle.local_ckpt.specs.Laws.{last_image}
+use Rattle.local_ckpt.specs.Locking.{AreKept, IsAlone, KeepLocks, KeepsLock, WalksMayBegin}
+use Rattle.local_ckpt.specs.Laws.{IsImage, last_image}
 use Rattle.local_ckpt.specs.Orderly.{IsOrderly, image_in, prepared_in}
 use Rattle.local_ckpt.proofs.CoverLemmas.{Fits, over_fits}
 use Rattle.local_ckpt.proofs.EventLemmas.{LeavesRows, Prepared, Rewrites, aborts, commits, commits_row, completes, stores, stores_rows}
@@ -26,8 +28,7 @@ use Rattle.local_ckpt.proofs.RedoLemmas.{get-replayed, redoing, redone}
 -- What the log has as prepared is prepared, and what it makes of a key's row is what the row is. Of a key with an image
 -- that was prepared before the log began, it makes nothing.
 record IsSince (noted : ℕ) (s : RowsState) (log : List Redo) : Type 0 where
-  orderly : IsOrderly s
-  locked : AreLocked s
+  kept : AreKept noted s
   known : (tx : TxId) (key : List ℕ) (image : Option (List ℕ)) → last_image log tx key ≡ Some image
       → image_in s tx key ≡ Some image
   fits : (epoch : ℕ) → noted ≤ epoch → (q : List ℕ) → Fits (redone epoch log q) (row_at s.places q)
@@ -47,10 +48,13 @@ module _ (noted : ℕ) (s : RowsState) (log : List Redo) (is : IsSince noted s l
       → last_image log tx key ≡ None)
       → ((epoch : ℕ) (q : List ℕ) → redone epoch further q ≡ redone epoch log q) → IsSince noted after further
   fewer after further orderly leaves was known gone same_redo = record {
-    orderly = orderly;
-    locked =
-        λ tx key image here other another there. is.locked tx key image (was tx key image here) other another
-        (was other key another there);
+    kept = record {
+      orderly = orderly;
+      locked = λ tx key image here other another there.
+          is.kept.locked tx key image (was tx key image here) other another (was other key another there);
+      readable = leaves.readable noted is.kept.readable;
+      images = λ tx key image here. is.kept.images tx key image (was tx key image here);
+    };
     known = known;
     fits = λ epoch few q.
         subst (λ row. Fits (redone epoch further q) row) (sym (leaves.rows_are 0 q))
@@ -92,7 +96,7 @@ module _ (noted : ℕ) (s : RowsState) (log : List Redo) (is : IsSince noted s l
         by false e = refl
         by true e =
             let one : same_tx tx other ≡ true =
-            is.locked tx key image here other found (ap (λ k. image_in s other k) (same key key2 e) ∙ there) in
+            is.kept.locked tx key image here other found (ap (λ k. image_in s other k) (same key key2 e) ∙ there) in
             absurd (let both : true ≡ false = (λ i. sym one i && sym e i) ∙ off in cc)
 
   -- what is given up, and logged so
@@ -128,12 +132,15 @@ module _ (noted : ℕ) (s : RowsState) (log : List Redo) (is : IsSince noted s l
 
   -- a prepare under the lock
   prepare : (tx : TxId) (fragment : ℕ) (key : List ℕ) (image : Option (List ℕ)) → IsAlone s tx key
-      → IsSince noted (storing s tx key image) (redo.Prepare tx fragment key image ∷ log)
-  prepare tx fragment key image alone = record {
-    orderly = stored.orderly;
-    locked =
-        λ one key2 found here other another there. held one key2 found other another (now one key2 found here)
-        (now other key2 another there);
+      → IsImage key image → IsSince noted (storing s tx key image) (redo.Prepare tx fragment key image ∷ log)
+  prepare tx fragment key image alone good = record {
+    kept = record {
+      orderly = stored.orderly;
+      locked = λ one key2 found here other another there.
+          held one key2 found other another (now one key2 found here) (now other key2 another there);
+      readable = leaves.readable noted is.kept.readable;
+      images = λ other key2 found here. read other key2 found (now other key2 found here);
+    };
     known =
         λ other key2 found here. stored.images other key2
         ∙ log_had (is_same tx key other key2) other key2 found here (is.known other key2 found);
@@ -145,10 +152,17 @@ module _ (noted : ℕ) (s : RowsState) (log : List Redo) (is : IsSince noted s l
   }
     where
       stored : Prepared s (storing s tx key image) tx key (Some image)
-      stored = stores s tx key image is.orderly
+      stored = stores s tx key image is.kept.orderly
+
+      read : (other : TxId) (key2 : List ℕ) (found : Option (List ℕ))
+          → (if is_same tx key other key2 then Some image else image_in s other key2) ≡ Some found → IsImage key2 found
+      read other key2 found =
+          by_record tx other key key2
+          (λ t k b. (if b then Some image else image_in s t k) ≡ Some found → IsImage k found)
+          (λ e. let one : image ≡ found = cc in subst (IsImage key) one good) (λ off. is.kept.images other key2 found)
 
       leaves : LeavesRows s (storing s tx key image)
-      leaves = stores_rows s tx key image is.orderly
+      leaves = stores_rows s tx key image is.kept.orderly
 
       now : (other : TxId) (key2 : List ℕ) (found : Option (List ℕ))
           → image_in (storing s tx key image) other key2 ≡ Some found
@@ -182,7 +196,8 @@ module _ (noted : ℕ) (s : RowsState) (log : List Redo) (is : IsSince noted s l
           (λ off e. by_record tx other key key2
           (λ t k b. image_in s one k ≡ Some found → (if b then Some image else image_in s t k) ≡ Some another
           → same_tx one t ≡ true)
-          (λ f g. same_tx-swap one tx ∙ alone one found f) (λ off2 f g. is.locked one key2 found f other another g) e)
+          (λ f g. same_tx-swap one tx ∙ alone one found f)
+          (λ off2 f g. is.kept.locked one key2 found f other another g) e)
 
   -- a commit of what was prepared
   module _ (tx : TxId) (key : List ℕ) (at : ℕ) (early : at ≤ noted) (r : PendingRecord)
@@ -194,10 +209,10 @@ module _ (noted : ℕ) (s : RowsState) (log : List Redo) (is : IsSince noted s l
     image_is = ap prepared_in found ∙ ap (λ b. if b then None else Some r.image) begun
 
     ended : Prepared s now_committed tx key None
-    ended = commits s tx key at is.orderly r found begun
+    ended = commits s tx key at is.kept.orderly r found begun
 
     rewritten : Rewrites s now_committed key r.image at
-    rewritten = commits_row s tx key at is.orderly r found begun
+    rewritten = commits_row s tx key at is.kept.orderly r found begun
 
     own_row : (q : List ℕ) → same_key key q ≡ true → row_at now_committed.places q ≡ r.image
     own_row q e = ap (row_at now_committed.places) (sym (same key q e)) ∙ rewritten.own
@@ -245,10 +260,15 @@ module _ (noted : ℕ) (s : RowsState) (log : List Redo) (is : IsSince noted s l
 
     commit_since : IsSince noted now_committed (redo.Commit tx at key ∷ log)
     commit_since = record {
-      orderly = ended.orderly;
-      locked = λ one key2 image here other another there.
-          is.locked one key2 image (was_prepared now_committed tx key ended one key2 image here).1 other another
-          (was_prepared now_committed tx key ended other key2 another there).1;
+      kept = record {
+        orderly = ended.orderly;
+        locked = λ one key2 image here other another there.
+            is.kept.locked one key2 image (was_prepared now_committed tx key ended one key2 image here).1 other another
+            (was_prepared now_committed tx key ended other key2 another there).1;
+        readable = rewritten.readable noted early (is.kept.images tx key r.image image_is) is.kept.readable;
+        images = λ other key2 image here.
+            is.kept.images other key2 image (was_prepared now_committed tx key ended other key2 image here).1;
+      };
       known = λ other key2 image here.
           let parts = log_kept (is_same tx key other key2) (last_image log other key2) image here in
           still_prepared now_committed tx key ended other key2 image parts.0 (is.known other key2 image parts.1);
@@ -280,20 +300,21 @@ module _ (noted : ℕ) (s : RowsState) (log : List Redo) (is : IsSince noted s l
   abort : (tx : TxId) (key : List ℕ) (o : Option (Option (List ℕ))) → image_in s tx key ≡ o
       → IsSince noted (abort_record s tx key) (log_if (redo.Abort tx key) o log)
   abort tx key None e =
-      let gone = aborts s tx key is.orderly in nothing_up (abort_record s tx key) tx key e gone.prepared gone.leaves
+      let gone =
+      aborts s tx key is.kept.orderly in nothing_up (abort_record s tx key) tx key e gone.prepared gone.leaves
   abort tx key (Some image) e =
-      let gone = aborts s tx key is.orderly in given_up (abort_record s tx key) tx key gone.prepared gone.leaves
+      let gone = aborts s tx key is.kept.orderly in given_up (abort_record s tx key) tx key gone.prepared gone.leaves
 
   complete : (tx : TxId) (key : List ℕ) → IsSince noted (complete_record s tx key) log
   complete tx key =
-      let done = completes s tx key is.orderly in
+      let done = completes s tx key is.kept.orderly in
       fewer (complete_record s tx key) log done.orderly done.leaves
       (λ other key2 image here. sym (done.images other key2) ∙ here)
       (λ other key2 image here. done.images other key2 ∙ is.known other key2 image here)
       (λ other key2 image here none. none) (λ epoch q. refl)
 
   one_since : (event : Event) → KeepsLock noted s event → IsSince noted (changed event s) (logged event s log)
-  one_since (Prepare tx fragment key image) keeps = prepare tx fragment key image keeps
+  one_since (Prepare tx fragment key image) keeps = prepare tx fragment key image keeps.0 keeps.1
   one_since (Commit tx key at) keeps = commit tx key at keeps (image_in s tx key) refl
   one_since (Abort tx key) keeps = abort tx key (image_in s tx key) refl
   one_since (Complete tx key) keeps = complete tx key
@@ -305,22 +326,28 @@ all_since noted [] m keep is = is
 all_since noted (event ∷ events) m keep is =
     all_since noted events (next event m) keep.1 (one_since noted m.rows m.log is event keep.0)
 
-pub leave_rows : LogsLeaveRows
-leave_rows m events noted epoch rows none orderly locked keep few table =
+-- The records since a moment make of the rows what they are.
+leave_rows : (noted : ℕ) (s : RowsState) (log : List Redo) → IsSince noted s log → (rows : Rows)
+    → ((key : List ℕ) → map.get rows key ≡ row_of s key) → (epoch : ℕ) → noted ≤ epoch → replayed epoch rows log ≡ rows
+leave_rows noted s log is rows table epoch few =
     map.same_map nat_list_cmp_total (map.slice_cmp-IsAntisymmetric map.nat_cmp-IsAntisymmetric) _ _ (λ q.
-    let row : row_at end.places q ≡ map.get rows q = sym (table q ∙ row_of-at end q) in
-    get-replayed epoch (after events m).log rows q
-    ∙ over_fits (redone epoch (after events m).log q) (map.get rows q)
-    (subst (Fits (redone epoch (after events m).log q)) row (all.fits epoch few q)))
-  where
-    end : RowsState
-    end = (after events m).rows
+    let row : row_at s.places q ≡ map.get rows q = sym (table q ∙ row_of-at s q) in
+    get-replayed epoch log rows q
+    ∙ over_fits (redone epoch log q) (map.get rows q) (subst (Fits (redone epoch log q)) row (is.fits epoch few q)))
 
+pub may_begin : WalksMayBegin
+may_begin m events noted rows none kept keep has table = record {
+  orderly = all.kept.orderly;
+  table = table;
+  readable = all.kept.readable;
+  images = all.kept.images;
+  prepared = has;
+  redone = leave_rows noted (after events m).rows (after events m).log all rows table;
+}
+  where
     first_since : IsSince noted m.rows []
     first_since = record {
-      orderly =
-          orderly;
-      locked = locked;
+      kept = kept;
       known = λ tx key image e. absurd cc;
       fits = λ epoch few q. tt;
       older = λ tx key image here gone epoch few. refl;

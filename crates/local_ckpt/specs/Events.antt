@@ -75,7 +75,8 @@ moment rows log walk pieces = record { rows = rows; log = log; walk = walk; piec
 -- the moment behind an event
 abbrev pub next : Event → Moment → Moment
 next event m =
-    moment (changed event m.rows) (logged event m.rows m.log) (walked event m.rows m.walk) (given event m.rows m.walk m.pieces)
+    moment (changed event m.rows) (logged event m.rows m.log) (walked event m.rows m.walk)
+    (given event m.rows m.walk m.pieces)
 
 -- and behind many, the first of them first
 abbrev pub after : List Event → Moment → Moment

@@ -1,6 +1,6 @@
 //! What a local checkpoint is good for, whatever goes on meanwhile.
 ghost use Rattle.local_ckpt.specs.Laws.{CheckpointsRestore, OrderlyRowsStaySo, PiecesLieInOrder};
-ghost use Rattle.local_ckpt.specs.Locking.{LogsLeaveRows};
+ghost use Rattle.local_ckpt.specs.Locking.{WalksMayBegin};
 
 use lcp_store::checkpoints_are_read;
 
@@ -25,9 +25,8 @@ pub fn checkpoints_restore()
     checkpoints_are_read();
 }
 
-/// A law, which does nothing: where rows are locked while an image of them is prepared, the records of the
-/// log since a moment, whichever it is, make of the rows what they are now. So a walk may begin at any
-/// moment.
-pub fn logs_leave_rows()
-    ensures { LogsLeaveRows }
+/// A law, which does nothing: where rows are locked while an image of them is prepared, a walk may begin at
+/// any moment, with any position from which on the log has the prepare of what is prepared.
+pub fn walks_may_begin()
+    ensures { WalksMayBegin }
 {}

@@ -8,5 +8,5 @@ mod passing;
 
 pub use ckpt::Ckpt;
 pub use finished::Finished;
-pub use laws::{checkpoints_restore, logs_leave_rows, orderly_rows_stay_so, pieces_lie_in_order};
+pub use laws::{checkpoints_restore, orderly_rows_stay_so, pieces_lie_in_order, walks_may_begin};
 pub use passing::PIECE_ROWS;
