@@ -10,21 +10,21 @@ use Rattle.redo_format.specs.Records.{bytes_of}
 use Rattle.redo_format.specs.Decoding.{decoded}
 use Rattle.redo_format.proofs.RecordLaws.{decodes, differ}
 use Rattle.redo_log.specs.declared.fault.ReadFault.TheVariants.{Damaged}
-use Rattle.redo_log.specs.Replay.{AreRecords, Replays, log_bytes}
+use Rattle.redo_log.specs.Replaying.{AreRecords, Replays, log_bytes}
 use Rattle.redo_log.proofs.ReplayLemmas.{some_bytes}
 
 -- the records, the oldest first, in front of others
-oldest : List Redo → List Redo → List Redo
+pub oldest : List Redo → List Redo → List Redo
 oldest [] later = later
 oldest (redo ∷ older) later = oldest older (redo ∷ later)
 
-bytes_oldest : (newest later : List Redo) → log_bytes newest ++ flat_map bytes_of later ≡ flat_map bytes_of (oldest newest later)
+pub bytes_oldest : (newest later : List Redo) → log_bytes newest ++ flat_map bytes_of later ≡ flat_map bytes_of (oldest newest later)
 unfolding oldest
 bytes_oldest [] later = refl
 bytes_oldest (redo ∷ older) later =
     append_assoc (log_bytes older) (bytes_of redo) (flat_map bytes_of later) ∙ bytes_oldest older (redo ∷ later)
 
-are_oldest : (newest later : List Redo) → AreRecords newest → AreRecords later → AreRecords (oldest newest later)
+pub are_oldest : (newest later : List Redo) → AreRecords newest → AreRecords later → AreRecords (oldest newest later)
 unfolding oldest
 are_oldest [] later are more = more
 are_oldest (redo ∷ older) later are more = are_oldest older (redo ∷ later) are.1 (are.0, more)
@@ -59,3 +59,34 @@ undamaged epoch parity from before rows bytes newest file at byte are is (one, (
     damaged.some damaged.none
     (sym (bytes_oldest newest []) ∙ append-nil (log_bytes newest) ∙ sym is ∙ done.split
     ∙ ap (λ (w : List ℕ). w ++ rest) (sym (append-nil (log_bytes one)) ∙ bytes_oldest one []))
+
+-- turned twice, records stand as they stood
+turned : (newest later : List Redo) → oldest (oldest newest later) [] ≡ oldest later newest
+unfolding oldest
+turned [] later = refl
+turned (redo ∷ older) later = turned older (redo ∷ later)
+
+-- bytes are those of one list of records alone, the oldest first
+one_list : (one other : List Redo) → AreRecords one → AreRecords other → flat_map bytes_of one ≡ flat_map bytes_of other
+    → one ≡ other
+one_list [] [] a b e = refl
+one_list [] (redo ∷ other) a b e =
+    absurd (omega (arith, ap length e, length-append (bytes_of redo) (flat_map bytes_of other), some_bytes redo))
+one_list (redo ∷ one) [] a b e =
+    absurd (omega (arith, ap length e, length-append (bytes_of redo) (flat_map bytes_of one), some_bytes redo))
+one_list (redo ∷ one) (first ∷ other) a b e =
+    let same : redo ≡ first = differ redo first (flat_map bytes_of one) (flat_map bytes_of other) a.0 b.0 e in
+    let further : flat_map bytes_of one ≡ flat_map bytes_of other =
+    append_cancel_left (bytes_of redo) (flat_map bytes_of one) (flat_map bytes_of other)
+    (e ∙ ap (λ (w : Redo). bytes_of w ++ flat_map bytes_of other) (sym same)) in
+    ap (λ (w : Redo). w ∷ one) same ∙ ap (λ (w : List Redo). first ∷ w) (one_list one other a.1 b.1 further)
+
+-- and the newest first
+pub one_newest : (one other : List Redo) → AreRecords one → AreRecords other → log_bytes one ≡ log_bytes other → one ≡ other
+unfolding oldest
+one_newest one other a b e =
+    let bytes : flat_map bytes_of (oldest one []) ≡ flat_map bytes_of (oldest other []) =
+    sym (bytes_oldest one []) ∙ ap (λ (w : List ℕ). w ++ []) e ∙ bytes_oldest other [] in
+    let same : oldest one [] ≡ oldest other [] =
+    one_list (oldest one []) (oldest other []) (are_oldest one [] a tt) (are_oldest other [] b tt) bytes in
+    sym (turned one []) ∙ ap (λ (w : List Redo). oldest w []) same ∙ turned other []

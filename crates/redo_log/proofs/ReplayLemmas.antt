@@ -11,7 +11,7 @@ use Rattle.redo_format.specs.Decoding.{IsDecoded, decoded, from_read}
 use Rattle.redo_format.specs.Reading.{record_at}
 use Rattle.redo_log.specs.declared.fault.ReadFault.{ReadFault}
 use Rattle.redo_log.specs.declared.image_id.ImageId.{ImageId}
-use Rattle.redo_log.specs.Replay.{Images, IsReplayed, Replays, applied, damage, id_of, image_at, image_of, log_bytes, prepared_by, same_id}
+use Rattle.redo_log.specs.Replaying.{Images, IsReplayed, Replays, applied, damage, id_of, image_at, image_of, log_bytes, prepared_by, same_id}
 
 pub some_bytes : (redo : Redo) → 1 ≤ length (bytes_of redo)
 unfolding bytes_of

@@ -1,4 +1,6 @@
 pub mod Places
 pub mod LogState
 pub mod Laws
-pub mod Replay
+pub mod Replaying
+pub mod Stored
+pub mod StoredLaws

@@ -1,6 +1,7 @@
 //! What is true of every log, whatever the calls on it were.
 ghost use Rattle.redo_log.specs.Laws.{PiecesAreTheRecords};
-ghost use Rattle.redo_log.specs.Replay.{RecordsAreNotDamaged};
+ghost use Rattle.redo_log.specs.Replaying.{RecordsAreNotDamaged};
+ghost use Rattle.redo_log.specs.StoredLaws.{PiecesAreStored, StoredRecordsAreReplayed};
 
 /// The pieces of a log, laid at their places, are the bytes of its records, each once.
 pub fn pieces_are_the_records()
@@ -10,4 +11,15 @@ pub fn pieces_are_the_records()
 /// Replay finds no damage in bytes that are those of records.
 pub fn records_are_not_damaged()
     ensures { RecordsAreNotDamaged }
+{}
+
+/// After the pieces of a log files have the bytes of its records at their places, up to the ring's
+/// size behind the last one.
+pub fn pieces_are_stored()
+    ensures { PiecesAreStored }
+{}
+
+/// Where files have the bytes of records, replay of these positions replays just these.
+pub fn stored_records_are_replayed()
+    ensures { StoredRecordsAreReplayed }
 {}

@@ -7,14 +7,17 @@ mod laws;
 mod log;
 mod piece;
 mod prepared;
-mod replay;
+mod replaying;
 mod ring;
+mod stored;
 
 pub use fault::ReadFault;
-pub use laws::{pieces_are_the_records, records_are_not_damaged};
+pub use laws::{
+    pieces_are_stored, pieces_are_the_records, records_are_not_damaged, stored_records_are_replayed,
+};
 pub use log::Log;
 pub use piece::{PIECE_BYTES, Piece};
-pub use replay::replay_bytes;
+pub use replaying::{replay, replay_bytes};
 pub use ring::{FIRST_FILE, LOG_FILE_BYTES, LOG_FILES, file_of, place_of};
 
 #[cfg(test)]

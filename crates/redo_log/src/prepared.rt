@@ -1,7 +1,7 @@
 //! Images that transactions have prepared, and that no record has committed or given up yet.
 ghost use Rattle.std.specs.Prelude.{◌≡◌, None, Some, OnOk, [], cond};
 ghost use Rattle.redo_log.specs.declared.image_id.ImageId.{ImageId};
-ghost use Rattle.redo_log.specs.Replay.{image_at, same_id};
+ghost use Rattle.redo_log.specs.Replaying.{image_at, same_id};
 
 use crate::image_id::ImageId;
 use indexmap::IndexMap;
@@ -16,7 +16,7 @@ pub struct Prepared {
 }
 
 impl Model for Prepared {
-    ghost use Rattle.redo_log.specs.Replay.{Images};
+    ghost use Rattle.redo_log.specs.Replaying.{Images};
 
     ghost Value = { Images };
 

@@ -1,2 +1,3 @@
 mod log;
-mod replay;
+mod replaying;
+mod stored;

@@ -3,7 +3,7 @@ use sig_core::{Journal, Key, Redo, TxId, Value};
 use std::test::Fail;
 
 // A prepare of transaction (1, 0, 1) of this key and value, and its commit in epoch 1.
-fn pair(key: Key, value: Value) -> (Redo, Redo) {
+pub(super) fn pair(key: Key, value: Value) -> (Redo, Redo) {
     let tx = TxId {
         tc: 1,
         start: 0,
@@ -19,7 +19,7 @@ fn pair(key: Key, value: Value) -> (Redo, Redo) {
 }
 
 // Reserves and appends the two.
-fn put(log: &mut Log, prepare: &Redo, commit: &Redo) -> bool {
+pub(super) fn put(log: &mut Log, prepare: &Redo, commit: &Redo) -> bool {
     let need = prepare.size() + commit.size();
     match log.reserve(need) {
         Ok(()) => {

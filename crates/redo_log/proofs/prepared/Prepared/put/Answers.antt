@@ -1,5 +1,5 @@
 use Rattle.std.proofs.Common.{Some, cond, ◌∙◌, ap}
-use Rattle.redo_log.specs.Replay.{Images, image_at, same_id}
+use Rattle.redo_log.specs.Replaying.{Images, image_at, same_id}
 use Rattle.redo_log.proofs.prepared.Prepared.put.Goals as goal
 
 pub returns : goal.returns

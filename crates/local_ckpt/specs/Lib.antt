@@ -1,0 +1,6 @@
+pub mod Events
+pub mod Laws
+pub mod Locking
+pub mod Orderly
+pub mod Passing
+pub mod Walk

@@ -1,0 +1,49 @@
+-- What the pieces of a log leave in files, and what replaying the bytes of records comes to there.
+use Rattle.std.specs.Prelude.{◌≡◌, ℕ, ◌+◌, ◌-◌, ◌≤◌, ◌==◌, if◌then◌else◌, List, [], ◌∷◌, length, take, drop, Result, Ok, Err}
+use Rattle.std.specs.List.{flat_map}
+use Rattle.host_io.specs.DiskState.{laid}
+use Rattle.sig_core.specs.declared.journal.TheConstants.{JOURNAL_BYTES}
+use Rattle.sig_core.specs.declared.redo.Redo.{Redo}
+use Rattle.sig_core.specs.Table.{Rows}
+use Rattle.redo_format.specs.Records.{bytes_of}
+use Rattle.redo_log.specs.declared.fault.ReadFault.{ReadFault}
+use Rattle.redo_log.specs.declared.fault.ReadFault.TheVariants.{Damaged, DiskFault, NoMemory}
+use Rattle.redo_log.specs.Laws.{LogCall, after_all, pieces_of, records_of}
+use Rattle.redo_log.specs.LogState.{Laid, fresh_log}
+use Rattle.redo_log.specs.Replaying.{AreRecords, log_bytes, replayed}
+use Rattle.redo_log.specs.Stored.{AreStored, ReplaysStored}
+
+-- the bytes of files after a piece was laid down at its place
+abbrev pub with_piece : Laid → (ℕ → List ℕ) → ℕ → List ℕ
+with_piece piece files file = if file == piece.file then laid piece.at piece.bytes (files file) else files file
+
+-- after many, the first of them first
+abbrev pub with_pieces : List Laid → (ℕ → List ℕ) → ℕ → List ℕ
+with_pieces [] files = files
+with_pieces (piece ∷ pieces) files = with_pieces pieces (with_piece piece files)
+
+-- Whatever the calls on a fresh log, and whatever files held: after its pieces the bytes of its records, as many as
+-- were given out, stand there at their places, from any position on that is at most 16,777,216 behind the last.
+abbrev pub PiecesAreStored : Type 0
+PiecesAreStored =
+    (generation parity from : ℕ) (calls : List LogCall) (files : ℕ → List ℕ) → let s = fresh_log generation parity in
+    let flushed = (after_all calls s).flushed in
+    from ≤ flushed → flushed ≤ from + JOURNAL_BYTES
+    → AreStored (with_pieces (pieces_of calls s) files) parity from (flushed - from)
+    (drop from (take flushed (flat_map bytes_of (records_of calls))))
+
+-- the rows are what records make of those before, the newest first; want of memory and a fault of the disk say no more
+abbrev pub AreReplayed : ℕ → Rows → List Redo → Rows → Result (Unit {0}) ReadFault → Type 0
+AreReplayed epoch before newest rows (Ok done) = rows ≡ replayed epoch before newest
+AreReplayed epoch before newest rows (Err NoMemory) = Unit {0}
+AreReplayed epoch before newest rows (Err (DiskFault count)) = Unit {0}
+AreReplayed epoch before newest rows (Err (Damaged file at byte)) = ⊥
+
+-- where files have the bytes of records, just these are replayed
+abbrev pub StoredRecordsAreReplayed : Type 0
+StoredRecordsAreReplayed =
+    (epoch parity from : ℕ) (files : ℕ → List ℕ) (before rows : Rows) (newest : List Redo)
+    (result : Result (Unit {0}) ReadFault)
+    → AreRecords newest → AreStored files parity from (length (log_bytes newest)) (log_bytes newest)
+    → ReplaysStored epoch before files parity from (length (log_bytes newest)) rows result
+    → AreReplayed epoch before newest rows result

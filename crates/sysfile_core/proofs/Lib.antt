@@ -1,0 +1,7 @@
+pub mod DiskLemmas
+pub mod FileLemmas
+pub mod ReadLemmas
+pub mod RunLemmas
+pub mod SlotLemmas
+pub mod StepLemmas
+pub mod WriteLemmas

@@ -1,0 +1,113 @@
+//! One random run of a local checkpoint, from its seed.
+
+use crate::dice::Dice;
+use crate::fault::RunFault;
+use crate::node::Node;
+use crate::plain::{compare, rows_up_to};
+use lcp_store::{CheckpointFault, rows_in};
+use local_ckpt::{Ckpt, Finished};
+use redo_log::{ReadFault, replay_bytes};
+use sig_core::Table;
+use std::alloc::Global;
+
+/// How many keys there are at most.
+const KEYS: u64 = 900;
+/// How often something goes on before a walk, between two of its steps, and behind it, at most.
+const CHANGES: u64 = 250;
+
+/// Passes a walk over rows that change, and holds what it wrote against what was committed, for each
+/// epoch from that of the checkpoint on.
+///
+/// # Errors
+/// What is wrong, or `NoMemory`.
+pub fn run_one(alloc: Global, seed: u64) -> Result<(), RunFault> {
+    let mut dice = Dice::new(seed);
+    let keys = dice.roll(KEYS);
+    let mut node = Node::new(alloc, &mut dice, keys)?;
+    go_on(&mut dice, &mut node)?;
+    let mut written = Vec::new(alloc);
+    let finished = walk(alloc, &mut dice, &mut node, &mut written)?;
+    go_on(&mut dice, &mut node)?;
+    for more in 0..2 {
+        let epoch = finished.epoch.saturating_add(more);
+        check(alloc, &node, &finished, &written, epoch)?;
+    }
+    check(alloc, &node, &finished, &written, u64::MAX)
+}
+
+fn go_on(dice: &mut Dice, node: &mut Node) -> Result<(), RunFault> {
+    for _ in 0..dice.roll(CHANGES) {
+        node.change(dice)?;
+    }
+    Ok(())
+}
+
+// Walks over the rows, which change between the steps.
+fn walk(
+    alloc: Global,
+    dice: &mut Dice,
+    node: &mut Node,
+    written: &mut Vec<u8>,
+) -> Result<Finished, RunFault> {
+    let mut ckpt = Ckpt::start(alloc, 2, node.oldest(), node.greatest)?;
+    for _ in 0..KEYS {
+        let Some(piece) = ckpt.step(&node.rows)? else {
+            return Ok(ckpt.finish());
+        };
+        if piece.file != 2 || piece.at != written.len() as u64 || piece.bytes.is_empty() {
+            return Err(RunFault::Pieces);
+        }
+        written
+            .extend_from_slice(&piece.bytes)
+            .map_err(|_| RunFault::NoMemory)?;
+        for _ in 0..dice.roll(CHANGES) {
+            let before = node.commits.len();
+            node.change(dice)?;
+            if let Some(commit) = node.commits.get(before) {
+                ckpt.committed(commit.epoch);
+            }
+        }
+    }
+    Err(RunFault::Pieces)
+}
+
+// The rows of the checkpoint, with the log from its position on, are those that were committed up to the
+// epoch.
+fn check(
+    alloc: Global,
+    node: &Node,
+    finished: &Finished,
+    written: &[u8],
+    epoch: u64,
+) -> Result<(), RunFault> {
+    if finished.size != written.len() as u64 {
+        return Err(RunFault::Pieces);
+    }
+    let mut rows = read(alloc, finished, written)?;
+    let from = finished.from as usize;
+    if from > node.bytes.len() || node.bytes.len() as u64 > 1 << 32 {
+        return Err(RunFault::Damaged);
+    }
+    match replay_bytes(
+        alloc,
+        &mut rows,
+        0,
+        finished.from,
+        &node.bytes[from..],
+        epoch,
+    ) {
+        Ok(()) => {}
+        Err(ReadFault::NoMemory) => return Err(RunFault::NoMemory),
+        Err(_) => return Err(RunFault::Damaged),
+    }
+    let plain = rows_up_to(alloc, &node.commits, epoch)?;
+    compare(&rows, &plain, &node.keys)
+}
+
+fn read(alloc: Global, finished: &Finished, written: &[u8]) -> Result<Table, RunFault> {
+    match rows_in(alloc, finished.epoch, written) {
+        Ok(rows) => Ok(rows),
+        Err(CheckpointFault::NoMemory) => Err(RunFault::NoMemory),
+        Err(_) => Err(RunFault::Damaged),
+    }
+}
