@@ -1,10 +1,11 @@
--- What the pieces of a log leave in files.
+-- What the pieces of a log leave in files, and what a crash leaves of it.
 use Rattle.std.proofs.Common.{◌≡◌, ◌∙◌, ◌⊎◌, ◌≤◌, ◌<◌, ◌+◌, ◌-◌, ℕ, Bool, true, false, ◌==◌, List, [], ◌∷◌, ◌++◌, length, take, drop, get_or, if◌then◌else◌, nat_eq, refl, sym, ap, subst, inl, inr, length-append, arith}
 use Rattle.std.specs.List.{flat_map}
 use Rattle.std.proofs.lemmas.Bool.{cases_lt, eq-eqb, eqb-true}
 use Rattle.std.proofs.lemmas.Bool.Decides.{nat_tests}
 use Rattle.std.proofs.lemmas.List.{get_or-append_right, get_or-drop, get_or_append_left, length-drop, length-take-le, take_at}
-use Rattle.host_io.specs.DiskState.{laid}
+use Rattle.host_io.specs.declared.limits.TheConstants.{FILES}
+use Rattle.host_io.specs.DiskState.{FileState, laid, settled, state_of, written}
 use Rattle.host_io.proofs.LaidLemmas.{laid_elsewhere, laid_here, laid_reaches}
 use Rattle.host_io.proofs.StateLemmas.{laid_grows}
 use Rattle.sig_core.specs.declared.journal.TheConstants.{JOURNAL_BYTES}
@@ -14,7 +15,7 @@ use Rattle.redo_log.specs.Laws.{LogCall, Keep, Append, GiveOut, Cut, AreLaidFrom
 use Rattle.redo_log.specs.LogState.{Laid, LogState, appended, cut_to, fresh_log, given_out, next_len, next_piece, with_reserved}
 use Rattle.redo_log.specs.Places.{file_of, place_of}
 use Rattle.redo_log.specs.Stored.{AreStored, IsStored}
-use Rattle.redo_log.specs.StoredLaws.{PiecesAreStored, with_piece, with_pieces}
+use Rattle.redo_log.specs.StoredLaws.{PiecesAreStored, SyncedBytesStay, WritesLayPieces, with_piece, with_pieces}
 use Rattle.redo_log.proofs.LawLemmas.{given, placed}
 use Rattle.redo_log.proofs.StoredLemmas.{near_file, near_place, stands}
 
@@ -48,7 +49,7 @@ outside parity position p piece lies before near file_is =
 
 -- what stands at the place of a position still stands there after a later piece
 kept_by : (parity position p byte : ℕ) (piece : Laid) (files : ℕ → List ℕ) (same : Bool)
-    → (file_of parity p == piece.file) ≡ same
+    → (piece.file == file_of parity p) ≡ same
     → IsLaidAt parity position piece → p < position → position + length piece.bytes ≤ p + JOURNAL_BYTES
     → IsStored files parity p byte → IsStored (with_piece piece files) parity p byte
 kept_by parity position p byte piece files false is lies before near stored =
@@ -63,7 +64,7 @@ kept_by parity position p byte piece files true is lies before near stored =
     let old : List ℕ = files (file_of parity p) in
     let bytes : with_piece piece files (file_of parity p) ≡ laid piece.at piece.bytes old =
     ap (λ (b : Bool). if b then laid piece.at piece.bytes old else old) is in
-    let elsewhere = outside parity position p piece lies before near (eqb-true (file_of parity p) piece.file is) in
+    let elsewhere = outside parity position p piece lies before near (sym (eqb-true piece.file (file_of parity p) is)) in
     record {
       there = subst (λ (w : List ℕ). place_of p < length w) (sym bytes)
           (omega (arith, stored.there, laid_grows piece.at piece.bytes old));
@@ -81,7 +82,7 @@ kept parity position p byte (piece ∷ pieces) files lie before near stored =
     let size = length-append piece.bytes (flat_map bytes_in pieces) in
     kept parity (position + length piece.bytes) p byte pieces (with_piece piece files) lie.1 (omega (arith, before))
     (omega (arith, size, near))
-    (kept_by parity position p byte piece files (file_of parity p == piece.file) refl lie.0 before
+    (kept_by parity position p byte piece files (piece.file == file_of parity p) refl lie.0 before
     (omega (arith, size, near)) stored)
 
 -- the bytes of a piece stand at their places after it
@@ -185,3 +186,32 @@ pieces_stored generation parity from calls files order near =
     (λ behind below reach.
     subst (λ (p : ℕ). IsStored (with_pieces pieces files) parity p (get_or bytes behind 0)) (omega arith)
     (laid_stored parity 0 pieces files (placed calls s) behind below (omega (arith, size, near, reach)))))
+
+-- a write, whether it is of this file or not
+laid_by_write : (piece : Laid) (s : FileState) (same : Bool)
+    → (if same then written s piece.at (length piece.bytes) piece.bytes else s).bytes
+    ≡ (if same then laid piece.at piece.bytes s.bytes else s.bytes)
+laid_by_write piece s true = refl
+laid_by_write piece s false = refl
+
+left_by_sync : (s : FileState) (same : Bool) → (if same then settled s.bytes else s).bytes ≡ s.bytes
+left_by_sync s true = refl
+left_by_sync s false = refl
+
+pub writes_lay : WritesLayPieces
+writes_lay piece calls file synced =
+    (laid_by_write piece (state_of calls file) (piece.file == file), left_by_sync (state_of calls file) (synced == file))
+
+-- the files of a log are files of a disk
+log_file : (parity position : ℕ) → parity ≤ 1 → file_of parity position < FILES
+log_file parity position two = omega (arith, two)
+
+pub synced_stay : SyncedBytesStay
+synced_stay calls parity from bytes image two synced each left behind below =
+    let position : ℕ = from + behind in
+    let one = left (file_of parity position) (log_file parity position two) in
+    let is = synced behind below in
+    record {
+      there = omega (arith, is.below, one.from_synced);
+      same = (each behind below).same ∙ sym (one.clean (place_of position) is.below is.clean);
+    }

@@ -13,7 +13,8 @@ mod stored;
 
 pub use fault::ReadFault;
 pub use laws::{
-    pieces_are_stored, pieces_are_the_records, records_are_not_damaged, stored_records_are_replayed,
+    pieces_are_stored, pieces_are_the_records, records_are_not_damaged,
+    stored_records_are_replayed, synced_bytes_stay, writes_lay_pieces,
 };
 pub use log::Log;
 pub use piece::{PIECE_BYTES, Piece};

@@ -5,7 +5,7 @@ use host_io::{Disk, MemDisk};
 use sig_core::{Key, Redo, Table, Value};
 use std::test::Fail;
 
-// A disk whose calls with these numbers fail.
+// A disk whose calls with these numbers fail, and of which a crash leaves nothing that isn't synced.
 fn disk_of(rt: &HostRuntime, fails: &[u64]) -> Result<MemDisk, Fail> {
     let fails = fails.to_vec(rt.alloc())?;
     Ok(MemDisk::new(rt.alloc(), fails, Vec::new(rt.alloc()))?)
@@ -67,6 +67,30 @@ fn what_went_round_the_ring_is_replayed(rt: HostRuntime) -> Result<(), Fail> {
     assert_eq!(rt; done, Ok(()));
     assert!(rt; rows.get(&key) == Some(value));
     assert!(rt; rows.get(&other).is_some());
+    Ok(())
+}
+
+#[test]
+fn what_is_synced_is_replayed_after_a_crash(rt: HostRuntime) -> Result<(), Fail> {
+    let mut disk = disk_of(&rt, &[])?;
+    let mut log = Log::new(rt.alloc(), 1, 1)?;
+    let first = pair(Key::new(b"a")?, Value::new(b"1")?);
+    let second = pair(Key::new(b"b")?, Value::new(b"2")?);
+    assert!(rt; put(&mut log, &first.0, &first.1) && save(&mut log, &mut disk));
+    assert_eq!(rt; disk.sync(8), Ok(()));
+    assert!(rt; put(&mut log, &second.0, &second.1) && save(&mut log, &mut disk));
+    disk.cut_power();
+    let mut rows = Table::new(rt.alloc());
+    let synced = replay(rt.alloc(), &mut rows, &mut disk, 1, 0, 48, 1);
+    assert_eq!(rt; synced, Ok(()));
+    assert!(rt; rows.get(&Key::new(b"a")?).is_some());
+    let more = replay(rt.alloc(), &mut rows, &mut disk, 1, 0, 96, 1);
+    let lost = ReadFault::Damaged {
+        file: 8,
+        at: 48,
+        byte: 0,
+    };
+    assert_eq!(rt; more, Err(lost));
     Ok(())
 }
 
