@@ -1,0 +1,5 @@
+pub mod Going
+pub mod Traces
+pub mod Forth
+pub mod Markers
+pub mod Lost
