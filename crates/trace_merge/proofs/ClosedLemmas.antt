@@ -1,21 +1,20 @@
 -- No step stands against a cut exactly where the cut is closed.
-use Rattle.std.proofs.Common.{◌≡◌, ◌↔◌, ◌≤◌, ◌<◌, ◌==◌, ◌&&◌, ◌||◌, not, ℕ, zero, suc, ◌+◌, Bool, true, false, List, [], ◌∷◌, ◌++◌, length, reverse, refl, sym, ap, ◌∙◌, subst, arith, eq-eqb}
+use Rattle.std.proofs.Common.{◌≡◌, ◌↔◌, ◌≤◌, ◌==◌, ◌&&◌, ◌||◌, not, ℕ, zero, suc, ◌+◌, Bool, true, false, List, [], ◌∷◌, ◌++◌, reverse, refl, sym, ap, ◌∙◌, subst, arith, eq-eqb}
 use Rattle.std.specs.Prelude.{nat_lt, map, slice_index_or, take, if◌then◌else◌, Option, None, Some}
 use Rattle.std.proofs.lemmas.Bool.Decides.{nat_tests}
 use Rattle.std.proofs.lemmas.List.{reverse-append, reverse-reverse}
-use Rattle.api_block.specs.Requests.{is_request}
 use Rattle.run_theory.specs.Cuts.{IsClosed}
 use Rattle.run_theory.specs.Lists.{Each, HasEntry}
 use Rattle.run_theory.specs.Links.{taken}
 use Rattle.run_theory.specs.Logs.{last}
 use Rattle.run_theory.specs.Machine.{Machine}
-use Rattle.run_theory.proofs.Pasts.{each_append}
 use Rattle.sig_core.specs.declared.log.HostLog.{HostLog}
 use Rattle.sig_core.specs.declared.log.LogStep.{LogStep}
-use Rattle.world_core.specs.Machine.{machine}
 use Rattle.world_core.specs.Start.{Start}
 use Rattle.world_core.specs.Steps.{Addressed, HostStep}
 use Rattle.world_core.specs.World.{no_steps, of_host, steps_of}
+use Rattle.world_views.specs.Machine.{machine}
+use Rattle.world_views.specs.Sending.{is_asked}
 use Rattle.trace_merge.specs.declared.closed.CutFault.{CutFault}
 use Rattle.trace_merge.specs.Closed.{fault_from, fault_in, first_fault, is_outside, is_sent_outside, last_inside, made_at, newest_inside, newest_stamp, or_later, parts_at}
 use Rattle.trace_merge.proofs.MergeLemmas.{each_reverse, from_front, from_here, from_next}
@@ -84,58 +83,62 @@ module _ (logs : List HostLog) (cut : List ℕ) where
   abbrev MadeInside : ℕ → Type 0
   MadeInside made = made ≤ last_inside logs cut 0
 
-  abbrev SentInside : LogStep → Type 0
-  SentInside e = is_sent_outside logs cut e ≡ false
+  abbrev SentInside : ℕ → LogStep → Type 0
+  SentInside h e = is_sent_outside logs cut h e ≡ false
 
-  abbrev Stands : HostLog → LogStep → Type 0
-  Stands log e = MadeInside log.made × SentInside e
+  abbrev Stands : ℕ → HostLog → LogStep → Type 0
+  Stands h log e = MadeInside log.made × SentInside h e
 
-  none_stands : (log : HostLog) (n : ℕ) (steps : List LogStep) → fault_from logs cut log n steps ≡ None → Each (Stands log) steps
-  none_stands log n [] none = tt
-  none_stands log n (e ∷ steps) none = go (is_outside logs cut log e) refl none (λ is. none_stands log (n + 1) steps is)
+  none_stands : (h : ℕ) (log : HostLog) (n : ℕ) (steps : List LogStep) → fault_from logs cut h log n steps ≡ None
+      → Each (Stands h log) steps
+  none_stands h log n [] none = tt
+  none_stands h log n (e ∷ steps) none =
+      go (is_outside logs cut h log e) refl none (λ is. none_stands h log (n + 1) steps is)
     where
-      go : (b : Bool) → is_outside logs cut log e ≡ b
-          → (if b then Some (record { host = log.host; step = n }) else fault_from logs cut log (n + 1) steps) ≡ None
-          → (fault_from logs cut log (n + 1) steps ≡ None → Each (Stands log) steps) → Each (Stands log) (e ∷ steps)
+      go : (b : Bool) → is_outside logs cut h log e ≡ b
+          → (if b then Some (record { host = log.host; step = n }) else fault_from logs cut h log (n + 1) steps) ≡ None
+          → (fault_from logs cut h log (n + 1) steps ≡ None → Each (Stands h log) steps) → Each (Stands h log) (e ∷ steps)
       go true at is later = absurd (some_none (record { host = log.host; step = n }) is)
       go false at is later =
-          let parts = neither (nat_lt (last_inside logs cut 0) log.made) (is_sent_outside logs cut e) at in
+          let parts = neither (nat_lt (last_inside logs cut 0) log.made) (is_sent_outside logs cut h e) at in
           ((not_above (last_inside logs cut 0) log.made parts.0, parts.1), later is)
 
-  stands_none : (log : HostLog) (n : ℕ) (steps : List LogStep) → Each (Stands log) steps → fault_from logs cut log n steps ≡ None
-  stands_none log n [] all = refl
-  stands_none log n (e ∷ steps) all =
-      ap (λ b. if b then Some (record { host = log.host; step = n }) else fault_from logs cut log (n + 1) steps)
-      (both_false (nat_lt (last_inside logs cut 0) log.made) (is_sent_outside logs cut e) (above_not (last_inside logs cut 0) log.made all.0.0) all.0.1)
-      ∙ stands_none log (n + 1) steps all.1
+  stands_none : (h : ℕ) (log : HostLog) (n : ℕ) (steps : List LogStep) → Each (Stands h log) steps
+      → fault_from logs cut h log n steps ≡ None
+  stands_none h log n [] all = refl
+  stands_none h log n (e ∷ steps) all =
+      ap (λ b. if b then Some (record { host = log.host; step = n }) else fault_from logs cut h log (n + 1) steps)
+      (both_false (nat_lt (last_inside logs cut 0) log.made) (is_sent_outside logs cut h e) (above_not (last_inside logs cut 0) log.made all.0.0) all.0.1)
+      ∙ stands_none h log (n + 1) steps all.1
 
   -- each of the steps of a log inside stands, where there is such a log
-  abbrev AllStand : HostLog → ℕ → Type 0
-  AllStand log inside = Each (Stands log) (take inside log.steps)
+  abbrev AllStand : ℕ → HostLog → ℕ → Type 0
+  AllStand h log inside = Each (Stands h log) (take inside log.steps)
 
   all_stand : (ls : List HostLog) (n : ℕ) → first_fault logs cut ls n ≡ None
-      → (h : ℕ) → AllStand (slice_index_or ls h (no_steps 0)) (slice_index_or cut (n + h) 0)
+      → (h : ℕ) → AllStand (n + h) (slice_index_or ls h (no_steps 0)) (slice_index_or cut (n + h) 0)
   unfolding fault_in
-  all_stand [] n none h = subst (Each (Stands (no_steps 0))) (sym (take_none (slice_index_or cut (n + h) 0))) tt
-  all_stand (log ∷ ls) n none h = go (fault_in logs cut log (slice_index_or cut n 0)) refl none (λ is k. all_stand ls (n + 1) is k) h
+  all_stand [] n none h = subst (Each (Stands (n + h) (no_steps 0))) (sym (take_none (slice_index_or cut (n + h) 0))) tt
+  all_stand (log ∷ ls) n none h = go (fault_in logs cut n log (slice_index_or cut n 0)) refl none (λ is k. all_stand ls (n + 1) is k) h
     where
-      go : (o : Option CutFault) → fault_in logs cut log (slice_index_or cut n 0) ≡ o → or_later o (first_fault logs cut ls (n + 1)) ≡ None
-          → (first_fault logs cut ls (n + 1) ≡ None → (k : ℕ) → AllStand (slice_index_or ls k (no_steps 0)) (slice_index_or cut ((n + 1) + k) 0))
-          → (h : ℕ) → AllStand (slice_index_or (log ∷ ls) h (no_steps 0)) (slice_index_or cut (n + h) 0)
+      go : (o : Option CutFault) → fault_in logs cut n log (slice_index_or cut n 0) ≡ o → or_later o (first_fault logs cut ls (n + 1)) ≡ None
+          → (first_fault logs cut ls (n + 1) ≡ None → (k : ℕ) → AllStand ((n + 1) + k) (slice_index_or ls k (no_steps 0)) (slice_index_or cut ((n + 1) + k) 0))
+          → (h : ℕ) → AllStand (n + h) (slice_index_or (log ∷ ls) h (no_steps 0)) (slice_index_or cut (n + h) 0)
       go None at is later zero =
-          subst (λ k. AllStand log (slice_index_or cut k 0)) (from_here n) (none_stands log 0 (take (slice_index_or cut n 0) log.steps) at)
+          subst (λ k. AllStand k log (slice_index_or cut k 0)) (from_here n) (none_stands n log 0 (take (slice_index_or cut n 0) log.steps) at)
       go None at is later (suc h) =
-          subst (λ k. AllStand (slice_index_or ls h (no_steps 0)) (slice_index_or cut k 0)) (sym (from_next n h)) (later is h)
+          subst (λ k. AllStand k (slice_index_or ls h (no_steps 0)) (slice_index_or cut k 0)) (sym (from_next n h)) (later is h)
       go (Some fault) at is later h = absurd (some_none fault is)
 
-  stand_all : (ls : List HostLog) (n : ℕ) → ((h : ℕ) → AllStand (slice_index_or ls h (no_steps 0)) (slice_index_or cut (n + h) 0))
+  stand_all : (ls : List HostLog) (n : ℕ)
+      → ((h : ℕ) → AllStand (n + h) (slice_index_or ls h (no_steps 0)) (slice_index_or cut (n + h) 0))
       → first_fault logs cut ls n ≡ None
   unfolding fault_in
   stand_all [] n all = refl
   stand_all (log ∷ ls) n all =
       ap (λ o. or_later o (first_fault logs cut ls (n + 1)))
-      (stands_none log 0 (take (slice_index_or cut n 0) log.steps) (subst (λ k. AllStand log (slice_index_or cut k 0)) (sym (from_here n)) (all zero)))
-      ∙ stand_all ls (n + 1) (λ h. subst (λ k. AllStand (slice_index_or ls h (no_steps 0)) (slice_index_or cut k 0)) (from_next n h) (all (suc h)))
+      (stands_none n log 0 (take (slice_index_or cut n 0) log.steps) (subst (λ k. AllStand k log (slice_index_or cut k 0)) (sym (from_here n)) (all zero)))
+      ∙ stand_all ls (n + 1) (λ h. subst (λ k. AllStand k (slice_index_or ls h (no_steps 0)) (slice_index_or cut k 0)) (from_next n h) (all (suc h)))
 
   module _ (start : Start) (made : ℕ → ℕ) (same : (h : ℕ) → made h ≡ made_at logs h) where
     abbrev m : Machine HostStep Addressed
@@ -152,14 +155,14 @@ module _ (logs : List HostLog) (cut : List ℕ) where
     last_at h = last_is h (newest_inside logs cut h)
 
     -- what steps took from a link was sent inside
-    taken_below : (i j : ℕ) (log : List LogStep) → Each SentInside log → Each (Below i) (taken m i (map (of_host j) log))
+    taken_below : (i j : ℕ) (log : List LogStep) → Each (SentInside j) log → Each (Below i) (taken m i (map (of_host j) log))
     taken_below i j [] all = tt
-    taken_below i j (e ∷ log) all = go (is_request e.taken.body) (e.taken.from.0 == i) refl refl all.0 (taken_below i j log all.1)
+    taken_below i j (e ∷ log) all = go (is_asked j e.taken) (e.taken.from.0 == i) refl refl all.0 (taken_below i j log all.1)
       where
         x : Addressed
         x = record { to = j; signal = e.taken }
 
-        go : (asked own : Bool) → is_request e.taken.body ≡ asked → (e.taken.from.0 == i) ≡ own
+        go : (asked own : Bool) → is_asked j e.taken ≡ asked → (e.taken.from.0 == i) ≡ own
             → (not asked && nat_lt (last_inside logs cut e.taken.from.0) e.taken.stamp) ≡ false
             → Each (Below i) (taken m i (map (of_host j) log))
             → Each (Below i) (if not asked && own then x ∷ taken m i (map (of_host j) log) else taken m i (map (of_host j) log))
@@ -168,17 +171,17 @@ module _ (logs : List HostLog) (cut : List ℕ) where
         go false true a o sent rest =
             (subst (λ k. e.taken.stamp ≤ last_inside logs cut k) (from_is e.taken.from.0 i o) (not_above (last_inside logs cut e.taken.from.0) e.taken.stamp sent), rest)
 
-    below_taken : (j : ℕ) (log : List LogStep) → ((i : ℕ) → Each (Below i) (taken m i (map (of_host j) log))) → Each SentInside log
+    below_taken : (j : ℕ) (log : List LogStep) → ((i : ℕ) → Each (Below i) (taken m i (map (of_host j) log))) → Each (SentInside j) log
     below_taken j [] all = tt
     below_taken j (e ∷ log) all = (
-      head (is_request e.taken.body) refl (all e.taken.from.0),
-      below_taken j log (λ i. tail i (is_request e.taken.body) (e.taken.from.0 == i) (all i)),
+      head (is_asked j e.taken) refl (all e.taken.from.0),
+      below_taken j log (λ i. tail i (is_asked j e.taken) (e.taken.from.0 == i) (all i)),
     )
       where
         x : Addressed
         x = record { to = j; signal = e.taken }
 
-        head : (asked : Bool) → is_request e.taken.body ≡ asked
+        head : (asked : Bool) → is_asked j e.taken ≡ asked
             → Each (Below e.taken.from.0) (if not asked && (e.taken.from.0 == e.taken.from.0) then x ∷ taken m e.taken.from.0 (map (of_host j) log) else taken m e.taken.from.0 (map (of_host j) log))
             → (not asked && nat_lt (last_inside logs cut e.taken.from.0) e.taken.stamp) ≡ false
         head true a all = refl
@@ -201,20 +204,20 @@ module _ (logs : List HostLog) (cut : List ℕ) where
           hosts = λ h has. subst (λ k. made h ≤ k) (sym (last_at 0)) (subst (λ k. k ≤ last_inside logs cut 0) (sym (same h)) (each_of_one (MadeInside (made_at logs h)) (newest_inside logs cut h) (map_has (of_host h) (newest_inside logs cut h) has) (newest h).0));
         }
       where
-        newest : (h : ℕ) → Each (λ e. MadeInside (made_at logs h)) (newest_inside logs cut h) × Each SentInside (newest_inside logs cut h)
+        newest : (h : ℕ) → Each (λ e. MadeInside (made_at logs h)) (newest_inside logs cut h) × Each (SentInside h) (newest_inside logs cut h)
         newest h =
-            let oldest = both_each (λ e. MadeInside (made_at logs h)) SentInside (take (slice_index_or cut h 0) (steps_of logs h)) (subst (λ k. AllStand (slice_index_or logs h (no_steps 0)) (slice_index_or cut k 0)) (sym (from_front h)) (all_stand logs 0 none h)) in (
+            let oldest = both_each (λ e. MadeInside (made_at logs h)) (SentInside h) (take (slice_index_or cut h 0) (steps_of logs h)) (subst (λ k. AllStand k (slice_index_or logs h (no_steps 0)) (slice_index_or cut k 0)) (sym (from_front h)) (all_stand logs 0 none h)) in (
               each_reverse (λ e. MadeInside (made_at logs h)) (take (slice_index_or cut h 0) (steps_of logs h)) oldest.0,
-              each_reverse SentInside (take (slice_index_or cut h 0) (steps_of logs h)) oldest.1,
+              each_reverse (SentInside h) (take (slice_index_or cut h 0) (steps_of logs h)) oldest.1,
             )
 
     unfaulted : IsClosed m (parts_at logs cut) → first_fault logs cut logs 0 ≡ None
-    unfaulted c = stand_all logs 0 (λ h. subst (λ k. AllStand (slice_index_or logs h (no_steps 0)) (slice_index_or cut k 0)) (from_front h) (stands h))
+    unfaulted c = stand_all logs 0 (λ h. subst (λ k. AllStand k (slice_index_or logs h (no_steps 0)) (slice_index_or cut k 0)) (from_front h) (stands h))
       where
-        sent : (h : ℕ) → Each SentInside (newest_inside logs cut h)
+        sent : (h : ℕ) → Each (SentInside h) (newest_inside logs cut h)
         sent h = below_taken h (newest_inside logs cut h) (λ i. subst (λ k. Each (λ (x : Addressed). x.signal.stamp ≤ k) (taken m i (parts_at logs cut h))) (last_at i) (c.signals i h))
 
-        join : (h : ℕ) (steps : List LogStep) → (HasEntry steps → MadeInside (made_at logs h)) → Each SentInside steps → Each (Stands (slice_index_or logs h (no_steps 0))) steps
+        join : (h : ℕ) (steps : List LogStep) → (HasEntry steps → MadeInside (made_at logs h)) → Each (SentInside h) steps → Each (Stands h (slice_index_or logs h (no_steps 0))) steps
         join h [] is all = tt
         join h (e ∷ steps) is all = ((is tt, all.0), join h steps (λ has. is tt) all.1)
 
@@ -225,10 +228,10 @@ module _ (logs : List HostLog) (cut : List ℕ) where
         entry h [] has = absurd has
         entry h (e ∷ steps) has = has_map (of_host h) (reverse (e ∷ steps)) (has_reverse e steps)
 
-        stands : (h : ℕ) → Each (Stands (slice_index_or logs h (no_steps 0))) (take (slice_index_or cut h 0) (steps_of logs h))
+        stands : (h : ℕ) → Each (Stands h (slice_index_or logs h (no_steps 0))) (take (slice_index_or cut h 0) (steps_of logs h))
         stands h =
             join h (take (slice_index_or cut h 0) (steps_of logs h)) (λ has. is_made h (entry h (take (slice_index_or cut h 0) (steps_of logs h)) has))
-            (subst (Each SentInside) (reverse-reverse (take (slice_index_or cut h 0) (steps_of logs h))) (each_reverse SentInside (newest_inside logs cut h) (sent h)))
+            (subst (Each (SentInside h)) (reverse-reverse (take (slice_index_or cut h 0) (steps_of logs h))) (each_reverse (SentInside h) (newest_inside logs cut h) (sent h)))
 
     pub where_none : first_fault logs cut logs 0 ≡ None → (true ≡ true) ↔ IsClosed m (parts_at logs cut)
     where_none is = (λ ok. closed is, λ c. refl)

@@ -1,12 +1,12 @@
 -- The merge of right logs is a run.
-use Rattle.std.proofs.Common.{◌≡◌, ◌≢◌, ◌⊎◌, inl, inr, ◌≤◌, ◌<◌, ◌==◌, ◌&&◌, ◌||◌, ℕ, zero, suc, ◌+◌, Bool, true, false, List, [], ◌∷◌, ◌++◌, length, reverse, refl, sym, ap, ap₂, ◌∙◌, subst, arith, append-nil}
+use Rattle.std.proofs.Common.{◌≡◌, ◌≢◌, ◌⊎◌, inl, inr, ◌≤◌, ◌<◌, ◌==◌, ◌&&◌, ◌||◌, ℕ, zero, suc, ◌+◌, false, List, [], ◌∷◌, ◌++◌, length, reverse, refl, sym, ap, ap₂, ◌∙◌, subst, arith, append-nil}
 use Rattle.std.specs.Prelude.{nat_lt, map, slice_index_or, take, IsPermutation, IsSorted, IsSortedBy}
 use Rattle.std.specs.Ordering.{is_lt, nat_cmp, ordering_then}
 use Rattle.std.specs.List.{All}
 use Rattle.std.proofs.Math.Seq.{take-suc}
 use Rattle.std.proofs.lemmas.Bool.{cases_eq}
 use Rattle.std.proofs.lemmas.Bool.Decides.{nat_tests}
-use Rattle.std.proofs.lemmas.List.{reverse-append, map-append, get_or_past}
+use Rattle.std.proofs.lemmas.List.{reverse-append, map-append}
 use Rattle.std.proofs.lemmas.List.Sorted.{IsPermutation-map, IsPermutation-reverse, IsPermutation-sym, IsPermutation-trans, All-permutation}
 use Rattle.run_theory.specs.Lists.{Each}
 use Rattle.run_theory.specs.Orders.{IsByStamp, joined}
@@ -16,12 +16,12 @@ use Rattle.run_theory.proofs.Sorting.{has_logs_joined, has_logs_sorted, run_sort
 use Rattle.sig_core.specs.declared.log.HostLog.{HostLog}
 use Rattle.sig_core.specs.declared.log.LogStep.{LogStep}
 use Rattle.sig_core.specs.declared.member.HostId.{HostId}
-use Rattle.world_core.specs.Machine.{machine}
 use Rattle.world_core.specs.Start.{Start}
 use Rattle.world_core.specs.Steps.{HostStep}
 use Rattle.world_core.specs.World.{logs_at, no_steps, of_host, steps_of}
 use Rattle.world_core.proofs.LogIndex.{logs_at_past}
-use Rattle.world_core.proofs.Stamped.{stamped}
+use Rattle.world_views.specs.Machine.{machine}
+use Rattle.world_views.proofs.SentFacts.{is_stamped}
 use Rattle.trace_merge.specs.declared.merging.Stamped.{Stamped}
 use Rattle.trace_merge.specs.declared.run.RunStep.{RunStep}
 use Rattle.trace_merge.specs.Merge.{IsMerge, all_stamped, is_before, place_of, stamped_from, stamped_log}
@@ -235,7 +235,7 @@ module _ (start : Start) (logs : List HostLog) (none : LogStep) where
       run_of a =
           let has = has_logs_joined (machine start) (length logs) (logs_at logs) a (λ h le. logs_at_past logs h le) in
           record {
-            run = run_sorted (machine start) (stamped start) (logs_at logs) (joined (length logs) (logs_at logs)) (reverse (map event_of xs)) a has same_steps in_order;
+            run = run_sorted (machine start) (is_stamped start) (logs_at logs) (joined (length logs) (logs_at logs)) (reverse (map event_of xs)) a has same_steps in_order;
             leaves = has_logs_sorted (machine start) (logs_at logs) (joined (length logs) (logs_at logs)) (reverse (map event_of xs)) a has same_steps in_order;
           }
 

@@ -4,10 +4,10 @@ use Rattle.run_theory.specs.Orders.{HasLogs}
 use Rattle.run_theory.specs.Runs as runs
 use Rattle.sig_core.specs.declared.log.HostLog.{HostLog}
 use Rattle.sig_core.specs.declared.log.LogStep.{LogStep}
-use Rattle.world_core.specs.Machine.{machine}
 use Rattle.world_core.specs.Start.{Start}
 use Rattle.world_core.specs.Steps.{HostStep}
 use Rattle.world_core.specs.World.{logs_at, no_steps, of_host, steps_of}
+use Rattle.world_views.specs.Machine.{machine}
 use Rattle.trace_merge.specs.declared.run.RunStep.{RunStep}
 
 -- each log says whose it is: that of the host whose number is its place

@@ -1,12 +1,13 @@
 //! Whether a cut of logs is closed.
-ghost use Rattle.std.specs.Prelude.{◌≡◌, ◌↔◌, ℕ, IsOk, slice_index_or, take};
+ghost use Rattle.std.specs.Prelude.{◌≡◌, ◌↔◌, ◌<◌, ℕ, IsOk, length, slice_index_or, take};
 ghost use Rattle.run_theory.specs.Cuts.{IsClosed};
-ghost use Rattle.world_core.specs.Machine.{machine};
 ghost use Rattle.world_core.specs.Start.{Start};
-ghost use Rattle.api_block.specs.Requests.{is_request};
+ghost use Rattle.world_core.specs.World.{no_steps};
+ghost use Rattle.world_views.specs.Machine.{machine};
+ghost use Rattle.world_views.specs.Sending.{is_asked, is_own_work};
 ghost use Rattle.trace_merge.specs.Closed.{cut_answer, fault_in, first_fault, is_outside, is_sent_outside, last_inside, made_at, parts_at};
 
-use sig_core::{Body, HostId, HostLog, HostSignal, LogStep, Work};
+use sig_core::{Body, HostId, HostLog, HostSignal, LogStep, Signal, Work};
 
 /// Why a cut isn't closed: the first step inside it, in the order of logs, that took a signal which
 /// was sent outside, or whose host was made outside.
@@ -20,7 +21,7 @@ pub struct CutFault {
 
 /// Whether the cut that has so many steps of each log, in the order of logs, is closed: each signal
 /// that a step inside took was sent by a step inside, and each host with a step inside was made by
-/// one. It goes by the stamps alone. What no link gave, as a request, wasn't sent outside. A length
+/// one. It goes by the stamps alone. What a host asked of itself, as a request, wasn't sent outside. A length
 /// above that of its log is the whole log, and one that is wanting is 0. Takes no memory.
 ///
 /// # Errors
@@ -40,21 +41,23 @@ fn first_fault(logs: &[HostLog], cut: &[usize]) -> Option<CutFault>
     ensures { result ≡ first_fault logs.now cut.now logs.now 0 }
 {
     for at in 0..logs.len() {
-        if let Some(fault) = fault_in(logs, cut, &logs[at], length_at(cut, at)) {
+        if let Some(fault) = fault_in(logs, cut, at, length_at(cut, at)) {
             return Some(fault);
         }
     }
     None
 }
 
-// The first step of a log, of which so many are inside, that stands against the cut.
+// The first step of the log at a place, of which so many are inside, that stands against the cut.
 #[tactic(auto, unfolding(crate::specs::Closed::fault_in))]
-fn fault_in(logs: &[HostLog], cut: &[usize], log: &HostLog, count: usize) -> Option<CutFault>
-    ensures { result ≡ fault_in logs.now cut.now log.now count }
+fn fault_in(logs: &[HostLog], cut: &[usize], at: usize, count: usize) -> Option<CutFault>
+    requires { at < length logs.now }
+    ensures { result ≡ fault_in logs.now cut.now at (slice_index_or logs.now at (no_steps 0)) count }
 {
+    let log = &logs[at];
     let steps = inside(log, count);
     for step in 0..steps.len() {
-        if is_outside(logs, cut, log, &steps[step]) {
+        if is_outside(logs, cut, at, log, &steps[step]) {
             return Some(CutFault {
                 host: log.host,
                 step,
@@ -64,35 +67,44 @@ fn fault_in(logs: &[HostLog], cut: &[usize], log: &HostLog, count: usize) -> Opt
     None
 }
 
-// Whether a step of a log stands against the cut.
-fn is_outside(logs: &[HostLog], cut: &[usize], log: &HostLog, step: &LogStep) -> bool
-    ensures { result ≡ is_outside logs.now cut.now log.now step.now }
+// Whether a step of the log at a place stands against the cut.
+fn is_outside(logs: &[HostLog], cut: &[usize], at: usize, log: &HostLog, step: &LogStep) -> bool
+    ensures { result ≡ is_outside logs.now cut.now at log.now step.now }
 {
-    last_inside(logs, cut, HostId(0)) < log.made || is_sent_outside(logs, cut, step)
+    last_inside(logs, cut, HostId(0)) < log.made || is_sent_outside(logs, cut, at, step)
 }
 
-// Whether the signal of a step was sent outside the cut.
-fn is_sent_outside(logs: &[HostLog], cut: &[usize], step: &LogStep) -> bool
-    ensures { result ≡ is_sent_outside logs.now cut.now step.now }
+// Whether the signal of a step of the log at a place was sent outside the cut.
+fn is_sent_outside(logs: &[HostLog], cut: &[usize], at: usize, step: &LogStep) -> bool
+    ensures { result ≡ is_sent_outside logs.now cut.now at step.now }
 {
     let signal = step.taken.get();
-    if is_request(&signal.body) {
+    if is_asked(at, signal) {
         return false;
     }
     last_inside(logs, cut, signal.from) < signal.stamp
 }
 
-// Whether a request of the shell is taken, which no link gave.
-fn is_request(body: &Body) -> bool
-    ensures { result ≡ is_request body.now }
+// Whether the host with this number asked itself for a signal, which no link gave.
+fn is_asked(host: usize, signal: &Signal) -> bool
+    ensures { result ≡ is_asked host signal.now }
+{
+    signal.from.0 as usize == host && is_own_work(&signal.body)
+}
+
+// Whether only a host itself asks this of itself: a request, a stop, or to cut off a node.
+fn is_own_work(body: &Body) -> bool
+    ensures { result ≡ is_own_work body.now }
 {
     match body {
         Body::Host(
             HostSignal::Continue {
                 work: Work::Request(_),
-                ..
+                at: _,
             },
         ) => true,
+        Body::Host(HostSignal::Cut { node: _, first: _ }) => true,
+        Body::Host(HostSignal::Closed { cause: _ }) => true,
         _ => false,
     }
 }

@@ -2,9 +2,9 @@
 ghost use Rattle.std.specs.Prelude.{◌≡◌, ◌++◌, map, IfOk, IsPermutation, IsSortedBy, OnOk};
 ghost use Rattle.run_theory.specs.Runs.{AreLogs};
 ghost use Rattle.sig_core.specs.declared.log.LogStep.{LogStep};
-ghost use Rattle.world_core.specs.Machine.{machine};
 ghost use Rattle.world_core.specs.Start.{Start};
 ghost use Rattle.world_core.specs.World.{logs_at};
+ghost use Rattle.world_views.specs.Machine.{machine};
 ghost use Rattle.trace_merge.specs.Merge.{IsMerge, all_stamped, is_before, place_of, stamped_log};
 ghost use Rattle.trace_merge.specs.RunLaw.{AreNumbered, IsRunOf, events_of};
 

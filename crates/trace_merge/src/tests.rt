@@ -2,7 +2,7 @@
 use crate::{CutFault, is_closed, merge};
 use sig_core::{
     ApiReq, Body, Boxed, CLIENT, Held, HostId, HostLog, HostSignal, LogStep, Marks, Member,
-    Members, NoMemory, Seq, Signal, View, Work,
+    Members, NoMemory, Seq, Signal, StopCause, View, Work,
 };
 use std::alloc::Global;
 use std::test::Fail;
@@ -153,5 +153,28 @@ fn a_request_was_not_sent_outside(rt: HostRuntime) -> Result<(), Fail> {
     let mut others = Vec::new(alloc);
     others.push(other)?;
     assert_eq!(rt; is_closed(others.as_slice(), &[1]), fault(0, 0));
+    Ok(())
+}
+
+// The body of a stop that a host asks of itself, or that tells of one.
+fn closing() -> Body {
+    Body::Host(HostSignal::Closed {
+        cause: StopCause::Memory,
+    })
+}
+
+#[test]
+fn a_stop_of_its_own_was_not_sent_outside(rt: HostRuntime) -> Result<(), Fail> {
+    let alloc = rt.alloc();
+    let mut logs = Vec::new(alloc);
+    logs.push(log(alloc, 0, 0))?;
+    let mut stopped = log(alloc, 1, 0);
+    stopped.steps.push(step(alloc, 3, 1, 7, closing())?)?;
+    logs.push(stopped)?;
+    let mut told = log(alloc, 2, 0);
+    told.steps.push(step(alloc, 3, 1, 7, closing())?)?;
+    logs.push(told)?;
+    assert_eq!(rt; is_closed(logs.as_slice(), &[0, 1, 0]), Ok(()));
+    assert_eq!(rt; is_closed(logs.as_slice(), &[0, 1, 1]), fault(2, 0));
     Ok(())
 }
