@@ -82,13 +82,17 @@ impl Buckets {
         Ok(())
     }
 
-    /// Takes the key out, if it is there. Takes no memory.
+    /// Takes the key out, and answers the place that it had; none where it isn't there. Takes no
+    /// memory.
     #[tactic(auto, unfolding(crate::specs::Places::removed), using(crate::proofs::SplitLemmas::steps))]
-    pub fn remove(&mut self, key: &Key)
-        ensures { self.new ≡ removed self.old key.now }
+    pub fn remove(&mut self, key: &Key) -> Option<u64>
+        ensures place { result ≡ map.get self.old.at key.now }
+        ensures rest { self.new ≡ removed self.old key.now }
     {
         let home = home(self.growth, key);
+        let place = place_at(&self.buckets, home, key);
         leave_at(&mut self.buckets, home, key);
+        place
     }
 
     /// Splits the bucket whose turn it is. No place changes.

@@ -86,9 +86,8 @@ impl Index {
         ensures place { result ≡ map.get self.old.at key.now }
         ensures rest { self.new ≡ removed self.old key.now }
     {
-        let place = self.buckets.find(key);
+        let place = self.buckets.remove(key);
         if place.is_some() {
-            self.buckets.remove(key);
             self.keys -= 1;
         }
         place

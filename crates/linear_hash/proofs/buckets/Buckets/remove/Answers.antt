@@ -5,8 +5,8 @@ use Rattle.linear_hash.proofs.SplitLemmas.{left-view}
 use Rattle.linear_hash.proofs.buckets.Buckets.remove.Goals as goal
 
 -- the key is out of its bucket
-pub returns : goal.returns
-returns c =
+pub returns-clause-rest : goal.returns-clause-rest
+returns-clause-rest c =
     let old = c.self.inside.buckets.items in
     let at = c.home-home.result in
     let key = c.args.key.now in
