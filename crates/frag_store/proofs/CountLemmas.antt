@@ -5,7 +5,7 @@ use Rattle.std.specs.Prelude.{Option, None, Some, is_some, remove, slice_get, sl
 use Rattle.std.specs.List.{count_by, list_any}
 use Rattle.std.proofs.lemmas.Bool.{and_parts}
 use Rattle.std.proofs.lemmas.Bool.Decides.{nat_tests}
-use Rattle.std.proofs.lemmas.List.Sums.{sum_by-cons}
+use Rattle.std.proofs.lemmas.List.Sums.{sum_by-cons, sum_by_push}
 use Rattle.sig_core.specs.declared.member.TxId.{TxId}
 use Rattle.sig_core.specs.declared.rows.PendingRecord.{PendingRecord}
 use Rattle.sig_core.specs.Rows.{committed}
@@ -113,6 +113,18 @@ pub count-commit : (pending : List PendingRecord) (at epoch : ℕ) (r : PendingR
     → count_by (is_on q) (committed_at pending at epoch (slice_get pending at)) ≡ count_by (is_on q) pending
 count-commit pending at epoch r q is = ap (λ o. count_by (is_on q) (committed_at pending at epoch o)) is
     ∙ count-set pending at r (committed r epoch) q is refl
+
+-- a record is made behind the others
+pub made_counts : (pending : List PendingRecord) (tx : TxId) (key : List ℕ) (image : Option (List ℕ))
+    → not (is_some (record_at pending tx key)) ≡ true → (q : List ℕ)
+    → count_by (is_on q) (recorded_by pending (prepared tx key image) (record_at pending tx key))
+    ≡ count_by (is_on q) pending + cond (same_key key q) 1 0
+made_counts pending tx key image none q = by (record_at pending tx key) none
+  where
+    by : (o : Option ℕ) → not (is_some o) ≡ true → count_by (is_on q) (recorded_by pending (prepared tx key image) o)
+        ≡ count_by (is_on q) pending + cond (same_key key q) 1 0
+    by None e = sum_by_push (λ x. cond (is_on q x) 1 0) pending (prepared tx key image)
+    by (Some at) e = cc
 
 -- a record of a key that has one takes its place: the number of records stays, and it isn't 0
 module _ (pending : List PendingRecord) (tx : TxId) (key : List ℕ) (image : Option (List ℕ))

@@ -24,10 +24,10 @@ same_positions p d off (x ∷ xs) (y ∷ ys) alike =
     position-cons p x xs ∙ ap (λ b. place_by b (position p xs)) (alike 0)
     ∙ ap (place_by (p y)) (same_positions p d off xs ys (λ i. alike (suc i))) ∙ sym (position-cons p y ys)
 
-first-within : (slots : List (Option Slot)) → first_free slots ≤ length slots
-first-within [] = omega arith
-first-within (None ∷ slots) = omega arith
-first-within (Some slot ∷ slots) = omega (arith, first-within slots)
+first-most : (slots : List (Option Slot)) → first_free slots ≤ length slots
+first-most [] = omega arith
+first-most (None ∷ slots) = omega arith
+first-most (Some slot ∷ slots) = omega (arith, first-most slots)
 
 long-placed : (slots : List (Option Slot)) (slot : Slot) (n : ℕ) → length slots ≤ n → first_free slots < n
     → length (placed slot slots) ≤ n
@@ -69,7 +69,7 @@ wider_records held more None alike = refl
 wider_records held more (Some at) alike = alike at
 
 pub first_within : (slots : List (Option Slot)) (held : List ℕ) → AreHeld slots held → first_free slots ≤ length held
-first_within slots held are = omega (arith, first-within slots, are.long)
+first_within slots held are = omega (arith, first-most slots, are.long)
 
 -- a key gets the least free place, unless it has one
 module _ (slots : List (Option Slot)) (held : List ℕ) (are : AreHeld slots held) (key : List ℕ) where
@@ -158,8 +158,9 @@ module _ (slots : List (Option Slot)) (held : List ℕ) (key : List ℕ) (at : �
       by : (b : Bool) → same_key key q ≡ b
           → held_at (set held at count) (place_of slots q) ≡ held_at held (place_of slots q) + cond b 1 0
       by true e =
+          let step : count ≡ held_at held (place_of slots key) + 1 = omega (arith, more, was) in
           ap (λ k. held_at (set held at count) (place_of slots k)) (sym (same key q e)) ∙ own_number
-          ∙ omega (arith, more, was) ∙ ap (λ k. held_at held (place_of slots k) + 1) (same key q e)
+          ∙ step ∙ ap (λ k. held_at held (place_of slots k) + 1) (same key q e)
       by false e = omega (arith, other_number q e)
 
   pub less_held : count + 1 ≡ get_or held at 0 → (q : List ℕ)
@@ -172,8 +173,10 @@ module _ (slots : List (Option Slot)) (held : List ℕ) (key : List ℕ) (at : �
       by : (b : Bool) → same_key key q ≡ b
           → held_at (set held at count) (place_of slots q) + cond b 1 0 ≡ held_at held (place_of slots q)
       by true e =
+          let step : held_at (set held at count) (place_of slots key) + 1 ≡ held_at held (place_of slots key) =
+          omega (arith, less, was, own_number) in
           ap (λ k. held_at (set held at count) (place_of slots k) + 1) (sym (same key q e))
-          ∙ omega (arith, less, was, own_number) ∙ ap (λ k. held_at held (place_of slots k)) (same key q e)
+          ∙ step ∙ ap (λ k. held_at held (place_of slots k)) (same key q e)
       by false e = omega (arith, other_number q e)
 
   pub written_held : AreHeld slots held → AreHeld slots (set held at count)

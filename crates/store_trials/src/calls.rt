@@ -1,6 +1,4 @@
 //! Random calls, on the row store and on rows in memory.
-ghost use Rattle.std.specs.Prelude.{◌<◌};
-
 use crate::random::Random;
 use frag_store::Store;
 use lqh_block::MapRows;
@@ -214,7 +212,7 @@ pub fn try_all(rt: &HostRuntime, seed: u64, count: u64) -> Result<bool, Fail> {
     let mut store = Store::new(rt.alloc())?;
     let mut rows = MapRows::new(rt.alloc());
     for made in (0..count).step_by(STRETCH as usize) {
-        if !stretch(&mut random, &mut store, &mut rows, STRETCH.min(count - made))? {
+        if !stretch(&mut random, &mut store, &mut rows, STRETCH.min(count.saturating_sub(made)))? {
             println!(rt; "calls {made} to {}: not the same", made.saturating_add(STRETCH))?;
             return Ok(false);
         }

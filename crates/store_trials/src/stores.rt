@@ -43,6 +43,9 @@ fn keys_of(alloc: Global, count: u64) -> Result<Vec<Key>, Fail> {
 
 // How many of the keys are found, from one to another far from it.
 fn found<M: RowMap>(rows: &M, keys: &[Key]) -> u64 {
+    if keys.is_empty() {
+        return 0;
+    }
     let mut found = 0u64;
     let mut at = 0usize;
     for _ in 0..keys.len() {

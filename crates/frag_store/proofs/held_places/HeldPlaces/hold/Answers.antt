@@ -8,14 +8,14 @@ use Rattle.frag_store.specs.HeldPlaces.{AreHeld, HeldState, held_at, records_on}
 use Rattle.frag_store.proofs.HeldLemmas.{claimed_held, claimed_records, claimed_within, more_held, written_held}
 use Rattle.frag_store.proofs.held_places.HeldPlaces.hold.Goals as goal
 
-pub number_at-requires : goal.number_at-requires
-number_at-requires c =
+pub number_at-before-requires : goal.number_at-before-requires
+number_at-before-requires c =
     let slots = c.self.inside.places.slots in
     let held = c.self.inside.held.items in
     let key = c.args.key.now in
     let at = c.claim-at.result in
     let W : HeldState → Type 0 = λ h. first_free h.places.slots < length h.held in
-    let wide : first_free slots < length held = subst W (sym c.self.view_is) c.requires.wide in
+    let wide : first_free slots < length held = subst W (sym c.self.view_is) c.requires.room.wide in
     let is : place_of (with_place slots key) key ≡ Some at =
     sym (ap (λ ps. place_of ps key) c.claim-at.ensures.slots) ∙ c.claim-at.ensures.place in
     claimed_within slots held c.self.invariant key at wide is
@@ -39,7 +39,7 @@ write-requires c =
     let key = c.args.key.now in
     let at = c.claim-at.result in
     let W : HeldState → Type 0 = λ h. first_free h.places.slots < length h.held in
-    let wide : first_free slots < length held = subst W (sym c.self.view_is) c.requires.wide in
+    let wide : first_free slots < length held = subst W (sym c.self.view_is) c.requires.room.wide in
     let is : place_of (with_place slots key) key ≡ Some at =
     sym (ap (λ ps. place_of ps key) c.claim-at.ensures.slots) ∙ c.claim-at.ensures.place in
     claimed_within slots held c.self.invariant key at wide is
@@ -51,7 +51,7 @@ invariant_of-self c =
     let key = c.args.key.now in
     let at = c.claim-at.result in
     let W : HeldState → Type 0 = λ h. first_free h.places.slots < length h.held in
-    let wide : first_free slots < length held = subst W (sym c.self.view_is) c.requires.wide in
+    let wide : first_free slots < length held = subst W (sym c.self.view_is) c.requires.room.wide in
     let is : place_of (with_place slots key) key ≡ Some at =
     sym (ap (λ ps. place_of ps key) c.claim-at.ensures.slots) ∙ c.claim-at.ensures.place in
     let within = claimed_within slots held c.self.invariant key at wide is in
@@ -68,7 +68,7 @@ returns-clause-records c = λ q.
     let key = c.args.key.now in
     let at = c.claim-at.result in
     let W : HeldState → Type 0 = λ h. first_free h.places.slots < length h.held in
-    let wide : first_free slots < length held = subst W (sym c.self.view_is) c.requires.wide in
+    let wide : first_free slots < length held = subst W (sym c.self.view_is) c.requires.room.wide in
     let is : place_of (with_place slots key) key ≡ Some at =
     sym (ap (λ ps. place_of ps key) c.claim-at.ensures.slots) ∙ c.claim-at.ensures.place in
     let within = claimed_within slots held c.self.invariant key at wide is in

@@ -6,8 +6,8 @@ use Rattle.frag_store.specs.HeldPlaces.{AreHeld, HeldState, held_at, records_on}
 use Rattle.frag_store.proofs.HeldLemmas.{less_held, own_number, placed_within, written_held}
 use Rattle.frag_store.proofs.held_places.HeldPlaces.release.Goals as goal
 
-pub number_at-requires : goal.number_at-requires
-number_at-requires c =
+pub number_at-before-requires : goal.number_at-before-requires
+number_at-before-requires c =
     let slots = c.self.inside.places.slots in
     let held = c.self.inside.held.items in
     let key = c.args.key.now in
