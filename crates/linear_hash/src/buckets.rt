@@ -5,7 +5,8 @@ ghost use Rattle.linear_hash.specs.Entries.{part_of, place_in, without};
 ghost use Rattle.linear_hash.specs.Growth.{IsGrowth};
 ghost use Rattle.linear_hash.specs.Places.{no_places, removed};
 
-use crate::bucket::{Bucket, Entry};
+use crate::bucket::Bucket;
+use crate::entry::Entry;
 use crate::growth::{Growth, grown, home};
 use sig_core::{Key, NoMemory};
 use std::alloc::Global;
@@ -77,8 +78,9 @@ impl Buckets {
         ensures ok { OnOk result (self.new ≡ record { at = map.insert self.old.at key.now at; buckets = self.old.buckets }) }
         ensures err { OnErr result (self.new ≡ self.old) }
     {
-        let home = home(self.growth, key);
-        add_at(&mut self.buckets, home, Entry { key: *key, at })?;
+        let entry = Entry::new(key, at);
+        let home = entry.home(self.growth);
+        add_at(&mut self.buckets, home, entry)?;
         Ok(())
     }
 

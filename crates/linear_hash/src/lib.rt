@@ -3,6 +3,7 @@
 
 mod bucket;
 mod buckets;
+mod entry;
 mod growth;
 mod index;
 
