@@ -16,7 +16,10 @@ const STRETCH: u64 = 1_000;
 #[derive(Clone, Copy)]
 enum Call {
     Room,
-    Prepare(Op),
+    Insert(Value),
+    Update(Value),
+    Delete,
+    Read,
     Image(Option<Value>),
     Put(Value, u64),
     Commit(u64),
@@ -53,20 +56,27 @@ struct RowAt {
     epoch: Option<u64>,
 }
 
-fn after(result: Result<(), NoMemory>) -> Outcome {
-    match result {
+fn after(call: Result<(), NoMemory>) -> Outcome {
+    match call {
         Ok(()) => Outcome::Done,
         Err(NoMemory) => Outcome::Starved,
+    }
+}
+
+fn answered(call: Result<Answer, RowsFault>) -> Outcome {
+    match call {
+        Ok(answer) => Outcome::Answered(answer),
+        Err(fault) => Outcome::Refused(fault),
     }
 }
 
 fn make<R: Rows>(rows: &mut R, tx: TxId, key: &Key, call: &Call) -> Outcome {
     match call {
         Call::Room => after(rows.make_room(key)),
-        Call::Prepare(op) => match rows.prepare(tx, op) {
-            Ok(answer) => Outcome::Answered(answer),
-            Err(fault) => Outcome::Refused(fault),
-        },
+        Call::Insert(value) => answered(rows.prepare(tx, &Op::Ins(*key, *value))),
+        Call::Update(value) => answered(rows.prepare(tx, &Op::Upd(*key, *value))),
+        Call::Delete => answered(rows.prepare(tx, &Op::Del(*key))),
+        Call::Read => answered(rows.prepare(tx, &Op::Get(*key))),
         Call::Image(image) => match rows.prepare_image(tx, key, image) {
             Ok(()) => Outcome::Done,
             Err(fault) => Outcome::Refused(fault),
@@ -87,7 +97,7 @@ fn make<R: Rows>(rows: &mut R, tx: TxId, key: &Key, call: &Call) -> Outcome {
     }
 }
 
-fn told<R: Rows>(rows: &mut R, tx: TxId, key: &Key, call: &Call) -> Told {
+fn tell<R: Rows>(rows: &mut R, tx: TxId, key: &Key, call: &Call) -> Told {
     Told {
         outcome: make(rows, tx, key, call),
         row: rows.row(key).copied(),
@@ -139,13 +149,21 @@ fn same_rows<A: Rows, B: Rows>(one: &A, other: &B) -> bool {
     true
 }
 
+// Whether there is the same record at both places, or none.
+fn alike(one: &Option<PendingRecord>, other: &Option<PendingRecord>) -> bool {
+    match (one, other) {
+        (Some(record), Some(twin)) => same_record(record, twin),
+        (None, None) => true,
+        _ => false,
+    }
+}
+
 // Whether both have the same records in the same order.
 fn same_records<A: Rows, B: Rows>(one: &A, other: &B) -> bool {
     let count = one.records();
     for at in 0..count {
-        match (one.record_at(at), other.record_at(at)) {
-            (Some(record), Some(twin)) if same_record(&record, &twin) => {}
-            _ => return false,
+        if !alike(&one.record_at(at), &other.record_at(at)) {
+            return false;
         }
     }
     other.records() == count
@@ -161,25 +179,18 @@ fn value_of(random: &mut Random) -> Result<Value, Fail> {
     Ok(Value::new(&[b'0' + random.below(50) as u8])?)
 }
 
-fn operation_of(random: &mut Random, key: Key) -> Result<Op, Fail> {
-    let value = value_of(random)?;
-    Ok(match random.below(4) {
-        0 => Op::Ins(key, value),
-        1 => Op::Upd(key, value),
-        2 => Op::Del(key),
-        _ => Op::Get(key),
-    })
-}
-
-fn call_of(random: &mut Random, key: Key, epoch: u64) -> Result<Call, Fail> {
-    Ok(match random.below(12) {
+fn call_of(random: &mut Random, epoch: u64) -> Result<Call, Fail> {
+    Ok(match random.below(14) {
         0 => Call::Room,
-        1 | 2 => Call::Prepare(operation_of(random, key)?),
-        3 | 4 => Call::Image(Some(value_of(random)?)),
-        5 => Call::Image(None),
-        6 | 7 => Call::Commit(epoch),
-        8 => Call::Abort,
-        9 | 10 => Call::Complete,
+        1 => Call::Insert(value_of(random)?),
+        2 => Call::Update(value_of(random)?),
+        3 => Call::Delete,
+        4 => Call::Read,
+        5 | 6 => Call::Image(Some(value_of(random)?)),
+        7 => Call::Image(None),
+        8 | 9 => Call::Commit(epoch),
+        10 => Call::Abort,
+        11 | 12 => Call::Complete,
         _ => Call::Put(value_of(random)?, epoch),
     })
 }
@@ -198,8 +209,8 @@ fn stretch(
             seq: random.below(TRANSACTIONS),
         };
         let key = key_of(random.below(KEYS))?;
-        let call = call_of(random, key, epoch)?;
-        if told(store, tx, &key, &call) != told(rows, tx, &key, &call) {
+        let call = call_of(random, epoch)?;
+        if tell(store, tx, &key, &call) != tell(rows, tx, &key, &call) {
             return Ok(false);
         }
     }

@@ -64,7 +64,7 @@ fn time<M: RowMap>(
     keys: &[Key],
     taken: &mut Taken,
 ) -> Result<bool, Fail> {
-    let value = Value::new(b"a value")?;
+    let value = Value::new(b"a-value")?;
     let watch = Watch::start(rt)?;
     for key in keys {
         rows.put(key, &value)?;
