@@ -12,17 +12,18 @@ const TRANSACTIONS: u64 = 5;
 /// All places and records are compared after so many calls each time.
 const STRETCH: u64 = 1_000;
 
-/// A call.
+/// A call, of a transaction on a key, with a value and an epoch where it takes them.
 #[derive(Clone, Copy)]
 enum Call {
     Room,
-    Insert(Value),
-    Update(Value),
+    Insert,
+    Update,
     Delete,
     Read,
-    Image(Option<Value>),
-    Put(Value, u64),
-    Commit(u64),
+    Write,
+    Erase,
+    Put,
+    Commit,
     Abort,
     Complete,
 }
@@ -70,20 +71,32 @@ fn answered(call: Result<Answer, RowsFault>) -> Outcome {
     }
 }
 
-fn make<R: Rows>(rows: &mut R, tx: TxId, key: &Key, call: &Call) -> Outcome {
+fn written(call: Result<(), RowsFault>) -> Outcome {
+    match call {
+        Ok(()) => Outcome::Done,
+        Err(fault) => Outcome::Refused(fault),
+    }
+}
+
+fn make<R: Rows>(
+    rows: &mut R,
+    tx: TxId,
+    key: &Key,
+    call: Call,
+    value: &Value,
+    epoch: u64,
+) -> Outcome {
     match call {
         Call::Room => after(rows.make_room(key)),
-        Call::Insert(value) => answered(rows.prepare(tx, &Op::Ins(*key, *value))),
-        Call::Update(value) => answered(rows.prepare(tx, &Op::Upd(*key, *value))),
+        Call::Insert => answered(rows.prepare(tx, &Op::Ins(*key, *value))),
+        Call::Update => answered(rows.prepare(tx, &Op::Upd(*key, *value))),
         Call::Delete => answered(rows.prepare(tx, &Op::Del(*key))),
         Call::Read => answered(rows.prepare(tx, &Op::Get(*key))),
-        Call::Image(image) => match rows.prepare_image(tx, key, image) {
-            Ok(()) => Outcome::Done,
-            Err(fault) => Outcome::Refused(fault),
-        },
-        Call::Put(value, epoch) => after(rows.put_row(key, value, *epoch)),
-        Call::Commit(epoch) => {
-            rows.commit(tx, key, *epoch);
+        Call::Write => written(rows.prepare_image(tx, key, &Some(*value))),
+        Call::Erase => written(rows.prepare_image(tx, key, &None)),
+        Call::Put => after(rows.put_row(key, value, epoch)),
+        Call::Commit => {
+            rows.commit(tx, key, epoch);
             Outcome::Done
         }
         Call::Abort => {
@@ -97,9 +110,16 @@ fn make<R: Rows>(rows: &mut R, tx: TxId, key: &Key, call: &Call) -> Outcome {
     }
 }
 
-fn tell<R: Rows>(rows: &mut R, tx: TxId, key: &Key, call: &Call) -> Told {
+fn tell<R: Rows>(
+    rows: &mut R,
+    tx: TxId,
+    key: &Key,
+    call: Call,
+    value: &Value,
+    epoch: u64,
+) -> Told {
     Told {
-        outcome: make(rows, tx, key, call),
+        outcome: make(rows, tx, key, call, value, epoch),
         row: rows.row(key).copied(),
         epoch: rows.row_epoch(key),
         seen: rows.seen(tx, key),
@@ -179,20 +199,39 @@ fn value_of(random: &mut Random) -> Result<Value, Fail> {
     Ok(Value::new(&[b'0' + random.below(50) as u8])?)
 }
 
-fn call_of(random: &mut Random, epoch: u64) -> Result<Call, Fail> {
-    Ok(match random.below(14) {
+fn call_of(random: &mut Random) -> Call {
+    match random.below(14) {
         0 => Call::Room,
-        1 => Call::Insert(value_of(random)?),
-        2 => Call::Update(value_of(random)?),
+        1 => Call::Insert,
+        2 => Call::Update,
         3 => Call::Delete,
         4 => Call::Read,
-        5 | 6 => Call::Image(Some(value_of(random)?)),
-        7 => Call::Image(None),
-        8 | 9 => Call::Commit(epoch),
+        5 | 6 => Call::Write,
+        7 => Call::Erase,
+        8 | 9 => Call::Commit,
         10 => Call::Abort,
         11 | 12 => Call::Complete,
-        _ => Call::Put(value_of(random)?, epoch),
-    })
+        _ => Call::Put,
+    }
+}
+
+// One call on both, and whether they then tell the same.
+fn turn(
+    random: &mut Random,
+    store: &mut Store,
+    rows: &mut MapRows,
+    epoch: u64,
+) -> Result<bool, Fail> {
+    let tx = TxId {
+        tc: 1,
+        start: 0,
+        seq: random.below(TRANSACTIONS),
+    };
+    let key = key_of(random.below(KEYS))?;
+    let value = value_of(random)?;
+    let call = call_of(random);
+    let told = tell(store, tx, &key, call, &value, epoch);
+    Ok(told == tell(rows, tx, &key, call, &value, epoch))
 }
 
 // Some calls, and whether both tell the same after each, and have the same rows and records at last.
@@ -203,14 +242,7 @@ fn stretch(
     count: u64,
 ) -> Result<bool, Fail> {
     for epoch in 0..count {
-        let tx = TxId {
-            tc: 1,
-            start: 0,
-            seq: random.below(TRANSACTIONS),
-        };
-        let key = key_of(random.below(KEYS))?;
-        let call = call_of(random, epoch)?;
-        if tell(store, tx, &key, &call) != tell(rows, tx, &key, &call) {
+        if !turn(random, store, rows, epoch)? {
             return Ok(false);
         }
     }
