@@ -8,7 +8,6 @@ use Rattle.sig_core.specs.Same.{same_key}
 use Rattle.sig_core.proofs.Keys.{same_key-self, same_key-swap, tied-same_key}
 use Rattle.frag_store.specs.declared.lead.Lead.{Lead}
 use Rattle.frag_store.specs.Leads.{IsLed}
-use Rattle.frag_store.proofs.SameLemmas.{same}
 
 -- what an index has of other keys once a key is put in or taken out
 pub others-removed : (index : linear_hash.PlaceMap) (key q : List ℕ) → same_key key q ≡ false
@@ -38,15 +37,10 @@ pub led_none : (index : linear_hash.PlaceMap) → IsLed index None
 led_none index lead is = cc
 
 -- a key is remembered where it is led
-pub led_some : (index : linear_hash.PlaceMap) (key : List ℕ) (at : ℕ) → map.get index key ≡ Some at
-    → IsLed index (Some (record { key = key; at = at }))
-led_some index key at there lead is =
-    let one : ◌≡◌ {A = Lead} (record { key = key; at = at }) lead = cc in
-    ap (map.get index) (sym (ap (λ (l : Lead). l.key) one)) ∙ there ∙ ap (λ (l : Lead). Some l.at) one
-
--- the key that is remembered is asked for
-pub led_there : (index : linear_hash.PlaceMap) (last : Option Lead) (lead : Lead) (key : List ℕ) → IsLed index last
-    → last ≡ Some lead → same_key lead.key key ≡ true → map.get index key ≡ Some lead.at
-led_there index last lead key is found e = ap (map.get index) (sym (same lead.key key e)) ∙ is lead found
+pub led_some : (index : linear_hash.PlaceMap) (key : List ℕ) (lead : Lead) → lead.key.key ≡ key
+    → map.get index key ≡ lead.at → IsLed index (Some lead)
+led_some index key lead of there other is =
+    let one : lead ≡ other = cc in
+    ap (λ (l : Lead). map.get index l.key.key) (sym one) ∙ ap (map.get index) of ∙ there ∙ ap (λ (l : Lead). l.at) one
 
 pub ruleset leads = (others-removed, others-inserted, itself-removed, itself-inserted, led_none, led_some)

@@ -4,6 +4,6 @@ use Rattle.std.specs.FinMap as map
 use Rattle.linear_hash.specs.Places.{PlaceMap}
 use Rattle.frag_store.specs.declared.lead.Lead.{Lead}
 
--- a key is led there, if it is one that is remembered
+-- the key that is remembered is led there
 abbrev pub IsLed : PlaceMap → Option Lead → Type 0
-IsLed index last = (lead : Lead) → last ≡ Some lead → map.get index lead.key ≡ Some lead.at
+IsLed index last = (lead : Lead) → last ≡ Some lead → map.get index lead.key.key ≡ lead.at

@@ -1,11 +1,11 @@
 //! Where each key is, with the last one that was asked for.
-ghost use Rattle.std.specs.Prelude.{◌≡◌, IfOk, List, MatchOption, None, OnOk, Some, false, ℕ};
+ghost use Rattle.std.specs.Prelude.{◌≡◌, IfOk, List, None, OnOk, Some, false, ℕ};
 ghost use Rattle.std.specs.FinMap as map;
 ghost use Rattle.linear_hash.specs.Places.{no_places};
 ghost use Rattle.sig_core.specs.Same.{same_key};
 
 use crate::lead::Lead;
-use linear_hash::Index;
+use linear_hash::{HashedKey, Index};
 use sig_core::{Key, NoMemory};
 use std::alloc::Global;
 use std::marker::Model;
@@ -47,30 +47,44 @@ impl KeyIndex {
     pub fn find(&self, key: &Key) -> Option<u64>
         ensures { result ≡ map.get self.now.at key.now }
     {
-        match self.recalled(key) {
-            Some(at) => Some(at),
-            None => self.index.find(key),
+        self.look_up(key).at
+    }
+
+    // The key with its number, which is known where it was the last that was asked for.
+    fn hashed(&self, key: &Key) -> HashedKey
+        ensures { result.key ≡ key.now }
+    {
+        match self.last {
+            Some(lead) if lead.key.key == *key => lead.key,
+            _ => HashedKey::new(key),
         }
     }
 
-    // Where the key is led, if it was the last that was asked for.
-    fn recalled(&self, key: &Key) -> Option<u64>
-        ensures { MatchOption result (Unit {0}) (λ at. map.get self.now.at key.now ≡ Some at) }
+    // Where the key is led, which is known where it was the last that was asked for.
+    fn look_up(&self, key: &Key) -> Lead
+        ensures key { result.key.key ≡ key.now }
+        ensures place { map.get self.now.at key.now ≡ result.at }
     {
         match self.last {
-            Some(lead) if lead.key == *key => Some(lead.at),
-            _ => None,
+            Some(lead) if lead.key.key == *key => lead,
+            _ => {
+                let hashed = HashedKey::new(key);
+                let at = self.index.find(&hashed);
+                Lead { key: hashed, at }
+            }
         }
     }
 
     /// Where the key is led, which is then the last that was asked for.
+    #[tactic(auto, using(crate::proofs::LeadLemmas::leads))]
     pub fn recall(&mut self, key: &Key) -> Option<u64>
         ensures place { result ≡ map.get self.old.at key.now }
         ensures same { self.new ≡ self.old }
     {
-        let at = self.find(key)?;
-        self.last = Some(Lead { key: *key, at });
-        Some(at)
+        let lead = self.look_up(key);
+        let at = lead.at;
+        self.last = Some(lead);
+        at
     }
 
     /// Leads a key there that is led nowhere.
@@ -83,9 +97,10 @@ impl KeyIndex {
         ensures ok { OnOk result (map.get self.new.at key.now ≡ Some at) }
         ensures others { (q : List ℕ) → same_key key.now q ≡ false → map.get self.new.at q ≡ map.get self.old.at q }
     {
+        let key = self.hashed(key);
         self.last = None;
-        self.index.insert(key, at)?;
-        self.last = Some(Lead { key: *key, at });
+        self.index.insert(&key, at)?;
+        self.last = Some(Lead { key, at: Some(at) });
         Ok(())
     }
 
@@ -95,7 +110,8 @@ impl KeyIndex {
         ensures gone { map.get self.new.at key.now ≡ None }
         ensures others { (q : List ℕ) → same_key key.now q ≡ false → map.get self.new.at q ≡ map.get self.old.at q }
     {
+        let key = self.hashed(key);
         self.last = None;
-        self.index.remove(key);
+        self.index.remove(&key);
     }
 }

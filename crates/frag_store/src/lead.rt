@@ -1,9 +1,9 @@
 //! Where a key is led.
-use sig_core::Key;
+use linear_hash::HashedKey;
 
-/// A key, and the place that an index has of it.
+/// A key, and the place that an index has of it, if it has one.
 #[derive(Clone, Copy)]
 pub struct Lead {
-    pub key: Key,
-    pub at: u64,
+    pub key: HashedKey,
+    pub at: Option<u64>,
 }

@@ -1,6 +1,6 @@
 //! How many buckets there are, and which one a key is in.
 ghost use Rattle.std.specs.Prelude.{◌≡◌, ◌<◌, ◌+◌, MatchOption};
-ghost use Rattle.linear_hash.specs.Growth.{IsGrowth, grown, hash_of, home, home_of};
+ghost use Rattle.linear_hash.specs.Growth.{IsGrowth, grown, hash_of, home_of};
 
 use md5::{Digest, Md5};
 use sig_core::Key;
@@ -40,16 +40,6 @@ pub fn home_of(growth: Growth, hash: u32) -> usize
     } else {
         low
     }
-}
-
-/// The bucket of a key, from 0.
-#[tactic(auto, unfolding(crate::specs::Growth::home))]
-pub fn home(growth: Growth, key: &Key) -> usize
-    requires { IsGrowth growth }
-    ensures value { result ≡ home growth key.now }
-    ensures below { result < growth.size + growth.split }
-{
-    home_of(growth, hash_of(key))
 }
 
 /// The buckets after one more was split; none where there would be more than memory holds.

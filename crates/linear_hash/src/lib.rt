@@ -5,8 +5,10 @@ mod bucket;
 mod buckets;
 mod entry;
 mod growth;
+mod hashed_key;
 mod index;
 
+pub use hashed_key::HashedKey;
 pub use index::Index;
 
 #[cfg(test)]

@@ -2,6 +2,7 @@ use Rattle.std.proofs.Common.{◌≡◌, [], ◌∷◌, ◌++◌, length, get_or
 use Rattle.std.specs.FinMap as map
 use Rattle.std.specs.Prelude.{List, None, ℕ}
 use Rattle.std.proofs.lemmas.List.{with_items_is}
+use Rattle.linear_hash.specs.Growth.{home}
 use Rattle.linear_hash.specs.Places.{Places}
 use Rattle.linear_hash.proofs.SplitLemmas.{added-view}
 use Rattle.linear_hash.proofs.buckets.Buckets.add.Goals as goal
@@ -21,7 +22,8 @@ returns-clause-ok c =
     let of_key : List ℕ → Places =
     λ k. record { at = map.insert c.args.self.now.at k entry.at; buckets = c.args.self.now.buckets } in
     let of_place : ℕ → Places =
-    λ n. record { at = map.insert c.args.self.now.at c.args.key.now n; buckets = c.args.self.now.buckets } in
-    added-view c.self.inside.growth old _ c.args.self.now entry at c.self.view_is c.home-home.ensures.value
+    λ n. record { at = map.insert c.args.self.now.at c.args.key.now.key n; buckets = c.args.self.now.buckets } in
+    added-view c.self.inside.growth old _ c.args.self.now entry at c.self.view_is
+    (c.home-home.ensures.value ∙ ap (home c.self.inside.growth) (sym c.new-entry.ensures.key))
     (omega (arith, c.home-home.ensures.below, c.self.invariant.1)) absent (whole ∙ is)
     ∙ ap of_key c.new-entry.ensures.key ∙ ap of_place c.new-entry.ensures.place
