@@ -7,7 +7,7 @@ use Rattle.std.specs.Cmp.Lexicographic.{slice_cmp, nat_list_cmp_total, texts_tie
 use Rattle.std.specs.FinMap as map
 use Rattle.std.proofs.lemmas.Bool.{eqb-true, eq-eqb, true≢false, false≢true}
 use Rattle.sig_core.specs.Same.{same_key}
-use Rattle.linear_hash.specs.declared.bucket.Entry.{Entry}
+use Rattle.linear_hash.specs.declared.entry.Entry.{Entry}
 use Rattle.linear_hash.specs.declared.growth.Growth.{Growth}
 use Rattle.linear_hash.specs.Growth.{home}
 use Rattle.linear_hash.specs.Entries.{part_of, place_in, without}

@@ -3,7 +3,7 @@ use Rattle.std.proofs.Common.{◌≡◌, ◌≢◌, ◌<◌, ℕ, zero, suc, ◌
 use Rattle.std.specs.Prelude.{Option, Some, None}
 use Rattle.std.specs.Cmp.Lexicographic.{nat_list_cmp_total}
 use Rattle.std.specs.FinMap as map
-use Rattle.linear_hash.specs.declared.bucket.Entry.{Entry}
+use Rattle.linear_hash.specs.declared.entry.Entry.{Entry}
 use Rattle.linear_hash.specs.declared.growth.Growth.{Growth}
 use Rattle.linear_hash.specs.Growth.{home}
 use Rattle.linear_hash.specs.Entries.{place_in}

@@ -7,7 +7,7 @@ use Rattle.std.specs.FinMap as map
 use Rattle.std.proofs.lemmas.Bool.{cases_eq, true≢false}
 use Rattle.std.proofs.lemmas.List.{get_or-set_same, get_or-set_other, get_or_append_left, get_or_push, length-set, set-append_left}
 use Rattle.sig_core.specs.Same.{same_key}
-use Rattle.linear_hash.specs.declared.bucket.Entry.{Entry}
+use Rattle.linear_hash.specs.declared.entry.Entry.{Entry}
 use Rattle.linear_hash.specs.declared.growth.Growth.{Growth}
 use Rattle.linear_hash.specs.Growth.{IsGrowth, first_growth, grown, hash_of, home}
 use Rattle.linear_hash.specs.Entries.{part_of, place_in, without}

@@ -1,7 +1,7 @@
 -- The entries of a bucket.
 use Rattle.std.specs.Prelude.{ℕ, not, ◌==◌, if◌then◌else◌, List, [], ◌∷◌, filter, Option, None, Some}
 use Rattle.sig_core.specs.Same.{same_key}
-use Rattle.linear_hash.specs.declared.bucket.Entry.{Entry}
+use Rattle.linear_hash.specs.declared.entry.Entry.{Entry}
 use Rattle.linear_hash.specs.declared.growth.Growth.{Growth}
 use Rattle.linear_hash.specs.Growth.{home}
 

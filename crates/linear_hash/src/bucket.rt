@@ -3,17 +3,11 @@ ghost use Rattle.std.specs.Prelude.{◌≡◌, ◌++◌, [], ◌∷◌, OnOk, On
 ghost use Rattle.linear_hash.specs.Entries.{part_of, place_in, without};
 ghost use Rattle.linear_hash.specs.Growth.{IsGrowth};
 
-use crate::growth::{Growth, home};
+use crate::entry::Entry;
+use crate::growth::Growth;
 use sig_core::{Key, NoMemory};
 use std::alloc::Global;
 use std::marker::Model;
-
-/// A key, and the place that it leads to.
-#[derive(Clone, Copy)]
-pub struct Entry {
-    pub key: Key,
-    pub at: u64,
-}
 
 /// The entries of a bucket, in the order in which they came. Contracts see their list.
 #[derive(Drop)]
@@ -23,7 +17,7 @@ pub struct Bucket {
 
 impl Model for Bucket {
     ghost use Rattle.std.specs.Prelude.{List};
-    ghost use Rattle.linear_hash.specs.declared.bucket.Entry.{Entry};
+    ghost use Rattle.linear_hash.specs.declared.entry.Entry.{Entry};
 
     ghost Value = { List Entry };
 
@@ -110,7 +104,7 @@ fn part_of(
 {
     let part = entries
         .iter()
-        .filter(|entry| home(growth, &entry.key) == bucket)
+        .filter(|entry| entry.is_in(growth, bucket))
         .copied()
         .collect(alloc)?;
     Ok(part)

@@ -5,8 +5,10 @@ ghost use Rattle.linear_hash.specs.Entries.{part_of, place_in, without};
 ghost use Rattle.linear_hash.specs.Growth.{IsGrowth};
 ghost use Rattle.linear_hash.specs.Places.{no_places, removed};
 
-use crate::bucket::{Bucket, Entry};
-use crate::growth::{Growth, grown, home};
+use crate::bucket::Bucket;
+use crate::entry::Entry;
+use crate::growth::{Growth, grown};
+use crate::hashed_key::HashedKey;
 use sig_core::{Key, NoMemory};
 use std::alloc::Global;
 use std::marker::Model;
@@ -60,11 +62,11 @@ impl Buckets {
 
     /// The place of the key, if it is there.
     #[tactic(auto, using(crate::proofs::SplitLemmas::steps))]
-    pub fn find(&self, key: &Key) -> Option<u64>
-        ensures { result ≡ map.get self.now.at key.now }
+    pub fn find(&self, key: &HashedKey) -> Option<u64>
+        ensures { result ≡ map.get self.now.at key.now.key }
     {
-        let home = home(self.growth, key);
-        place_at(&self.buckets, home, key)
+        let home = key.home(self.growth);
+        place_at(&self.buckets, home, &key.key)
     }
 
     /// Puts in a key that isn't there, and its place. No bucket is added.
@@ -72,23 +74,28 @@ impl Buckets {
     /// # Errors
     /// `NoMemory`, and then nothing has happened.
     #[tactic(auto, using(crate::proofs::SplitLemmas::steps))]
-    pub fn add(&mut self, key: &Key, at: u64) -> Result<(), NoMemory>
-        requires { map.get self.old.at key.now ≡ None }
-        ensures ok { OnOk result (self.new ≡ record { at = map.insert self.old.at key.now at; buckets = self.old.buckets }) }
+    pub fn add(&mut self, key: &HashedKey, at: u64) -> Result<(), NoMemory>
+        requires { map.get self.old.at key.now.key ≡ None }
+        ensures ok { OnOk result (self.new ≡ record { at = map.insert self.old.at key.now.key at; buckets = self.old.buckets }) }
         ensures err { OnErr result (self.new ≡ self.old) }
     {
-        let home = home(self.growth, key);
-        add_at(&mut self.buckets, home, Entry { key: *key, at })?;
+        let home = key.home(self.growth);
+        let entry = Entry::new(key, at);
+        add_at(&mut self.buckets, home, entry)?;
         Ok(())
     }
 
-    /// Takes the key out, if it is there. Takes no memory.
+    /// Takes the key out, and answers the place that it had; none where it isn't there. Takes no
+    /// memory.
     #[tactic(auto, unfolding(crate::specs::Places::removed), using(crate::proofs::SplitLemmas::steps))]
-    pub fn remove(&mut self, key: &Key)
-        ensures { self.new ≡ removed self.old key.now }
+    pub fn remove(&mut self, key: &HashedKey) -> Option<u64>
+        ensures place { result ≡ map.get self.old.at key.now.key }
+        ensures rest { self.new ≡ removed self.old key.now.key }
     {
-        let home = home(self.growth, key);
-        leave_at(&mut self.buckets, home, key);
+        let home = key.home(self.growth);
+        let place = place_at(&self.buckets, home, &key.key);
+        leave_at(&mut self.buckets, home, &key.key);
+        place
     }
 
     /// Splits the bucket whose turn it is. No place changes.

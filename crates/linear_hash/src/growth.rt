@@ -1,6 +1,6 @@
 //! How many buckets there are, and which one a key is in.
 ghost use Rattle.std.specs.Prelude.{◌≡◌, ◌<◌, ◌+◌, MatchOption};
-ghost use Rattle.linear_hash.specs.Growth.{IsGrowth, grown, hash_of, home};
+ghost use Rattle.linear_hash.specs.Growth.{IsGrowth, grown, hash_of, home_of};
 
 use md5::{Digest, Md5};
 use sig_core::Key;
@@ -19,21 +19,21 @@ pub struct Growth {
 /// The number by which a key is put into a bucket: bytes 4 to 7 of its MD5 digest, counted from 0,
 /// the highest first. The first four bytes give the key's fragment, and so are no help within one.
 #[tactic(auto, unfolding(crate::specs::Growth::hash_of))]
-fn hash_of(key: &Key) -> u32
+pub fn hash_of(key: &Key) -> u32
     ensures { result ≡ hash_of key.now }
 {
     let digest = Md5::digest(key.bytes());
     u32::from_be_bytes([digest[4], digest[5], digest[6], digest[7]])
 }
 
-/// The bucket of the key, from 0.
-#[tactic(auto, unfolding(crate::specs::Growth::home), using(crate::proofs::HomeLemmas::homes))]
-pub fn home(growth: Growth, key: &Key) -> usize
+/// The bucket of a number, from 0.
+#[tactic(auto, using(crate::proofs::HomeLemmas::homes))]
+pub fn home_of(growth: Growth, hash: u32) -> usize
     requires { IsGrowth growth }
-    ensures value { result ≡ home growth key.now }
+    ensures value { result ≡ home_of growth hash }
     ensures below { result < growth.size + growth.split }
 {
-    let hash = hash_of(key) as usize;
+    let hash = hash as usize;
     let low = hash % growth.size;
     if low < growth.split {
         hash % (2 * growth.size)

@@ -4,7 +4,8 @@ ghost use Rattle.std.specs.FinMap as map;
 ghost use Rattle.linear_hash.specs.Places.{inserted, is_crowded, no_places, removed};
 
 use crate::buckets::Buckets;
-use sig_core::{Key, NoMemory};
+use crate::hashed_key::HashedKey;
+use sig_core::NoMemory;
 use std::alloc::Global;
 use std::marker::Model;
 
@@ -54,8 +55,8 @@ impl Index {
     }
 
     /// The place of the key; none where it isn't there. Takes no memory.
-    pub fn find(&self, key: &Key) -> Option<u64>
-        ensures { result ≡ map.get self.now.at key.now }
+    pub fn find(&self, key: &HashedKey) -> Option<u64>
+        ensures { result ≡ map.get self.now.at key.now.key }
     {
         self.buckets.find(key)
     }
@@ -66,9 +67,9 @@ impl Index {
     /// # Errors
     /// `NoMemory`, and then nothing has happened.
     #[tactic(auto, using(crate::proofs::SplitLemmas::counts))]
-    pub fn insert(&mut self, key: &Key, at: u64) -> Result<(), NoMemory>
-        requires { map.get self.old.at key.now ≡ None }
-        ensures ok { OnOk result (self.new ≡ inserted self.old key.now at) }
+    pub fn insert(&mut self, key: &HashedKey, at: u64) -> Result<(), NoMemory>
+        requires { map.get self.old.at key.now.key ≡ None }
+        ensures ok { OnOk result (self.new ≡ inserted self.old key.now.key at) }
         ensures err { OnErr result (self.new ≡ self.old) }
     {
         let Some(keys) = self.keys.checked_add(1) else {
@@ -82,13 +83,12 @@ impl Index {
     /// Takes the key out, and answers the place that it had; none where it isn't there. The number
     /// of buckets stays. Takes no memory.
     #[tactic(auto, using(crate::proofs::SplitLemmas::counts))]
-    pub fn remove(&mut self, key: &Key) -> Option<u64>
-        ensures place { result ≡ map.get self.old.at key.now }
-        ensures rest { self.new ≡ removed self.old key.now }
+    pub fn remove(&mut self, key: &HashedKey) -> Option<u64>
+        ensures place { result ≡ map.get self.old.at key.now.key }
+        ensures rest { self.new ≡ removed self.old key.now.key }
     {
-        let place = self.buckets.find(key);
+        let place = self.buckets.remove(key);
         if place.is_some() {
-            self.buckets.remove(key);
             self.keys -= 1;
         }
         place
@@ -97,10 +97,10 @@ impl Index {
 
 // Puts in a key that isn't there, which brings the number of keys to this.
 #[tactic(auto, unfolding(crate::specs::Places::inserted), using(crate::proofs::SplitLemmas::counts))]
-fn put_in(table: &mut Buckets, key: &Key, at: u64, keys: usize) -> Result<(), NoMemory>
-    requires absent { map.get table.old.at key.now ≡ None }
+fn put_in(table: &mut Buckets, key: &HashedKey, at: u64, keys: usize) -> Result<(), NoMemory>
+    requires absent { map.get table.old.at key.now.key ≡ None }
     requires keys { keys ≡ map.len table.old.at + 1 }
-    ensures ok { OnOk result (table.new ≡ inserted table.old key.now at) }
+    ensures ok { OnOk result (table.new ≡ inserted table.old key.now.key at) }
     ensures err { OnErr result (table.new ≡ table.old) }
 {
     table.add(key, at)?;

@@ -3,9 +3,12 @@
 
 mod bucket;
 mod buckets;
+mod entry;
 mod growth;
+mod hashed_key;
 mod index;
 
+pub use hashed_key::HashedKey;
 pub use index::Index;
 
 #[cfg(test)]

@@ -2,7 +2,7 @@
 //! alike, and the buckets are counted by the rule.
 ghost use Rattle.std.specs.Prelude.{◌<◌};
 
-use crate::Index;
+use crate::{HashedKey, Index};
 use sig_core::Key;
 use std::collections::BTreeMap;
 use std::test::Fail;
@@ -29,33 +29,33 @@ impl Random {
 }
 
 // The key of a number: two letters.
-fn key_of(n: u64) -> Result<Key, Fail> {
+fn key_of(n: u64) -> Result<HashedKey, Fail> {
     let bytes = [b'A' + (n / 50 % 50) as u8, b'A' + (n % 50) as u8];
-    Ok(Key::new(&bytes)?)
+    Ok(HashedKey::new(&Key::new(&bytes)?))
 }
 
 // One call on a key: it is put in where it isn't there, and else found or taken out.
 fn call(
     index: &mut Index,
     plain: &mut BTreeMap<Key, u64>,
-    key: &Key,
+    key: &HashedKey,
     at: u64,
     takes: bool,
 ) -> Result<bool, Fail> {
     let before = index.buckets();
     let found = index.find(key);
-    if found != plain.get(key).copied() {
+    if found != plain.get(&key.key).copied() {
         return Ok(false);
     }
     if found.is_none() {
         index.insert(key, at)?;
-        plain.insert(*key, at)?;
+        plain.insert(key.key, at)?;
         let crowded = before.saturating_mul(4) < plain.len() as u64;
         return Ok(index.buckets() == if crowded { before + 1 } else { before });
     }
     if takes {
         let taken = index.remove(key);
-        return Ok(taken == plain.remove(key) && index.buckets() == before);
+        return Ok(taken == plain.remove(&key.key) && index.buckets() == before);
     }
     Ok(true)
 }
@@ -72,7 +72,7 @@ fn calls_answer_as_an_ordered_map(rt: HostRuntime) -> Result<(), Fail> {
     }
     for n in 0..KEYS {
         let key = key_of(n)?;
-        assert_eq!(rt; index.find(&key), plain.get(&key).copied());
+        assert_eq!(rt; index.find(&key), plain.get(&key.key).copied());
     }
     assert!(rt; 100 < index.buckets());
     Ok(())

@@ -1,12 +1,16 @@
 //! Buckets that were counted by hand.
-use crate::Index;
+use crate::{HashedKey, Index};
 use sig_core::Key;
 use std::process::Abort;
 use std::test::Fail;
 
+fn key_of(word: &[u8]) -> Result<HashedKey, Fail> {
+    Ok(HashedKey::new(&Key::new(word)?))
+}
+
 // Puts in a key that isn't there.
 fn put(rt: &impl Abort, index: &mut Index, word: &[u8], at: u64) -> Result<(), Fail> {
-    let key = Key::new(word)?;
+    let key = key_of(word)?;
     assert!(rt; index.find(&key).is_none());
     if index.find(&key).is_none() {
         index.insert(&key, at)?;
@@ -29,9 +33,9 @@ fn the_fifth_key_splits_the_bucket(rt: HostRuntime) -> Result<(), Fail> {
         assert_eq!(rt; index.buckets(), buckets);
     }
     for (word, at) in [(b"a", 7), (b"b", 0), (b"c", 3), (b"d", 12), (b"e", 1)] {
-        assert_eq!(rt; index.find(&Key::new(word)?), Some(at));
+        assert_eq!(rt; index.find(&key_of(word)?), Some(at));
     }
-    assert_eq!(rt; index.find(&Key::new(b"f")?), None);
+    assert_eq!(rt; index.find(&key_of(b"f")?), None);
     Ok(())
 }
 
@@ -41,7 +45,7 @@ fn a_removed_key_leaves_its_buckets(rt: HostRuntime) -> Result<(), Fail> {
     for (word, at) in [(b"a", 7), (b"b", 0), (b"c", 3), (b"d", 12), (b"e", 1)] {
         put(&rt, &mut index, word, at)?;
     }
-    let key = Key::new(b"c")?;
+    let key = key_of(b"c")?;
     assert_eq!(rt; index.remove(&key), Some(3));
     assert_eq!(rt; index.remove(&key), None);
     assert_eq!(rt; index.find(&key), None);

@@ -5,11 +5,11 @@ use Rattle.linear_hash.proofs.SplitLemmas.{left-view}
 use Rattle.linear_hash.proofs.buckets.Buckets.remove.Goals as goal
 
 -- the key is out of its bucket
-pub returns : goal.returns
-returns c =
+pub returns-clause-rest : goal.returns-clause-rest
+returns-clause-rest c =
     let old = c.self.inside.buckets.items in
     let at = c.home-home.result in
-    let key = c.args.key.now in
+    let key = c.args.key.now.key in
     let is : c.leave_at.new.buckets ≡ set old at (without key (get_or old at [])) =
     c.leave_at.ensures ∙ ap (λ bs. set bs at (without key (get_or bs at []))) c.deref_mut.ensures.value in
     let whole = with_items_is c.self.inside.buckets c.leave_at.new.buckets

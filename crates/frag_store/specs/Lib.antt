@@ -1,0 +1,5 @@
+pub mod HeldPlaces
+pub mod Leads
+pub mod Places
+pub mod Records
+pub mod Store

@@ -1,0 +1,15 @@
+//! The rows of a node, in pages, found by a hash index.
+#![tactic(auto)]
+
+mod held_places;
+mod key_index;
+mod lead;
+mod places;
+mod record_id;
+mod records;
+mod store;
+
+pub use store::Store;
+
+#[cfg(test)]
+mod tests;

@@ -1,0 +1,39 @@
+//! An entry of a bucket.
+ghost use Rattle.std.specs.Prelude.{◌≡◌, ◌==◌};
+ghost use Rattle.linear_hash.specs.Growth.{IsGrowth, hash_of, home};
+
+use crate::growth::{Growth, home_of};
+use crate::hashed_key::HashedKey;
+use sig_core::Key;
+
+/// A key, the place that it leads to, and its number, so that no digest is taken where a bucket is split.
+#[derive(Clone, Copy)]
+pub struct Entry {
+    pub key: Key,
+    pub at: u64,
+    hash: u32,
+    ghost hashed: { hash ≡ hash_of key },
+}
+
+impl Entry {
+    /// The entry of a key and its place.
+    pub fn new(key: &HashedKey, at: u64) -> Entry
+        ensures key { result.key ≡ key.now.key }
+        ensures place { result.at ≡ at }
+    {
+        Entry {
+            key: key.key,
+            at,
+            hash: key.hash,
+        }
+    }
+
+    /// Whether its key is in this bucket.
+    #[tactic(auto, unfolding(crate::specs::Growth::home))]
+    pub fn is_in(&self, growth: Growth, bucket: usize) -> bool
+        requires { IsGrowth growth }
+        ensures { result ≡ (home growth self.now.key == bucket) }
+    {
+        home_of(growth, self.hash) == bucket
+    }
+}

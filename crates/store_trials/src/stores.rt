@@ -1,0 +1,120 @@
+//! How long stores of rows take.
+use crate::row_map::RowMap;
+use crate::watch::{Watch, a_second};
+use frag_store::Store;
+use lqh_block::MapRows;
+use sig_core::{Key, Value};
+use std::alloc::Global;
+use std::collections::{BTreeMap, HashMap};
+use std::test::Fail;
+
+/// So many rows are put in, in all: where a store has fewer, it is filled anew.
+const LEAST: u64 = 131_072;
+
+/// How far apart keys are that are looked for one after the other.
+const STRIDE: usize = 7_919;
+
+/// The nanoseconds of each kind.
+#[derive(Clone, Copy)]
+struct Taken {
+    put: u64,
+    find: u64,
+    take_out: u64,
+}
+
+// The key of a row: a letter, and its number in eight digits.
+fn key_of(number: u64) -> Result<Key, Fail> {
+    let mut word = [b'k'; 9];
+    let mut left = number;
+    for at in 0..8 {
+        word[8 - at] = b'0' + (left % 10) as u8;
+        left /= 10;
+    }
+    Ok(Key::new(&word)?)
+}
+
+fn keys_of(alloc: Global, count: u64) -> Result<Vec<Key>, Fail> {
+    let mut keys = Vec::new(alloc);
+    for number in 0..count {
+        keys.push(key_of(number)?)?;
+    }
+    Ok(keys)
+}
+
+// How many of the keys are found, from one to another far from it.
+fn found<M: RowMap>(rows: &M, keys: &[Key]) -> u64 {
+    if keys.is_empty() {
+        return 0;
+    }
+    let mut found = 0u64;
+    let mut at = 0usize;
+    for _ in 0..keys.len() {
+        at = at.wrapping_add(STRIDE) % keys.len();
+        if rows.find(&keys[at]).is_some() {
+            found = found.saturating_add(1);
+        }
+    }
+    found
+}
+
+// One filling of a store: all rows are put in, looked for and taken out.
+fn time<M: RowMap>(
+    rt: &HostRuntime,
+    rows: &mut M,
+    keys: &[Key],
+    taken: &mut Taken,
+) -> Result<bool, Fail> {
+    let value = Value::new(b"a-value")?;
+    let watch = Watch::start(rt)?;
+    for key in keys {
+        rows.put(key, &value)?;
+    }
+    taken.put = taken.put.saturating_add(watch.nanoseconds(rt)?);
+    let watch = Watch::start(rt)?;
+    let found = found(rows, keys);
+    taken.find = taken.find.saturating_add(watch.nanoseconds(rt)?);
+    let watch = Watch::start(rt)?;
+    for key in keys {
+        rows.take_out(key)?;
+    }
+    taken.take_out = taken.take_out.saturating_add(watch.nanoseconds(rt)?);
+    Ok(found == keys.len() as u64)
+}
+
+fn tell(rt: &HostRuntime, name: &str, count: u64, filled: u64, taken: &Taken) -> Result<(), Fail> {
+    let all = count.saturating_mul(filled);
+    let put = a_second(all, taken.put);
+    let find = a_second(all, taken.find);
+    let take_out = a_second(all, taken.take_out);
+    println!(rt; "{name} {count} {put} {find} {take_out}")?;
+    Ok(())
+}
+
+/// Prints for each store, by its number of rows, how many insertions, look-ups and deletions it does in a
+/// second.
+pub fn time_all(rt: &HostRuntime, count: u64) -> Result<bool, Fail> {
+    let keys = keys_of(rt.alloc(), count)?;
+    let filled = LEAST / count.max(1) + 1;
+    let mut all_found = true;
+    let none = Taken {
+        put: 0,
+        find: 0,
+        take_out: 0,
+    };
+    let (mut store, mut map, mut sorted, mut hashed) = (none, none, none, none);
+    for _ in 0..filled {
+        let mut rows = Store::new(rt.alloc())?;
+        all_found = all_found && time(rt, &mut rows, &keys, &mut store)?;
+        let mut rows = MapRows::new(rt.alloc());
+        all_found = all_found && time(rt, &mut rows, &keys, &mut map)?;
+        let mut rows = BTreeMap::new(rt.alloc());
+        all_found = all_found && time(rt, &mut rows, &keys, &mut sorted)?;
+        let mut rows = HashMap::new(rt.alloc());
+        all_found = all_found && time(rt, &mut rows, &keys, &mut hashed)?;
+    }
+    tell(rt, "frag_store", count, filled, &store)?;
+    tell(rt, "MapRows", count, filled, &map)?;
+    tell(rt, "BTreeMap", count, filled, &sorted)?;
+    tell(rt, "HashMap", count, filled, &hashed)?;
+    Ok(all_found)
+}
