@@ -444,4 +444,3 @@ pub ruleset indexes = (led_indexed, left_indexed, spare_placed, claimed_indexed,
 pub ruleset writes = (rewritten_indexed, row_written, is_taken, is_there)
 
 pub ruleset frees = (freed-free, freed-row, freed-busy, freed-none)
-

@@ -7,6 +7,7 @@ use std::test::Fail;
 
 /// How many keys and transactions there are.
 const KEYS: u64 = 900;
+
 const TRANSACTIONS: u64 = 5;
 
 /// All places and records are compared after so many calls each time.
@@ -110,14 +111,7 @@ fn make<R: Rows>(
     }
 }
 
-fn tell<R: Rows>(
-    rows: &mut R,
-    tx: TxId,
-    key: &Key,
-    call: Call,
-    value: &Value,
-    epoch: u64,
-) -> Told {
+fn tell<R: Rows>(rows: &mut R, tx: TxId, key: &Key, call: Call, value: &Value, epoch: u64) -> Told {
     Told {
         outcome: make(rows, tx, key, call, value, epoch),
         row: rows.row(key).copied(),
@@ -255,11 +249,22 @@ pub fn try_all(rt: &HostRuntime, seed: u64, count: u64) -> Result<bool, Fail> {
     let mut store = Store::new(rt.alloc())?;
     let mut rows = MapRows::new(rt.alloc());
     for made in (0..count).step_by(STRETCH as usize) {
-        if !stretch(&mut random, &mut store, &mut rows, STRETCH.min(count.saturating_sub(made)))? {
-            println!(rt; "calls {made} to {}: not the same", made.saturating_add(STRETCH))?;
+        if !stretch(
+            &mut random,
+            &mut store,
+            &mut rows,
+            STRETCH.min(count.saturating_sub(made)),
+        )? {
+            println!(rt;
+                "calls {made} to {}: not the same",
+                made.saturating_add(STRETCH)
+            )?;
             return Ok(false);
         }
     }
-    println!(rt; "{count} calls: the same, {} records at last", rows.records())?;
+    println!(rt;
+        "{count} calls: the same, {} records at last",
+        rows.records()
+    )?;
     Ok(true)
 }
