@@ -326,7 +326,7 @@ module _ (start : Start) (member : Member) (there : IsIn member (made start)) (t
             back (inr is) = gone_told start member tx is_aborting (tells_abort tx) log e (abort_told is)
 
         changed : (body : Body) → e.step.taken.body ≡ body → Changes (c log).tc.node tx t body turn → Remains
-        changed body is (turns.opens open on now answered still) = on_by on Open now refl still.commits
+        changed body is (turns.opens _ on now answered still) = on_by on Open now refl still.commits
         changed body is (turns.asks at none about turn_is) =
             on_by (ap (λ (u : Turn). u.over) turn_is) Verifying (ap (λ (u : Turn). u.step.state.phase) turn_is) refl
             (subst (λ (u : Turn). AreSpared turns.is_commit_told u.step.effects.sends) (sym turn_is) (refl, tt))
