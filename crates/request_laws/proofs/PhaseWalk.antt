@@ -13,7 +13,7 @@ use Rattle.sig_core.specs.declared.outs.Outgoing.{Outgoing}
 use Rattle.sig_core.specs.declared.signal.Body.{Body}
 use Rattle.sig_core.specs.declared.signal.Body.TheVariants.{Chain, Client, Epoch, Host, Membership}
 use Rattle.sig_core.specs.declared.signal.Signal.{Signal}
-use Rattle.sig_core.specs.declared.signal.chain.ChainSignal.TheVariants.{Abort, Commit, Complete, LqhKeyReq}
+use Rattle.sig_core.specs.declared.signal.chain.ChainSignal.TheVariants.{Abort, Commit, Complete, LqhKeyConf, LqhKeyRef, LqhKeyReq}
 use Rattle.sig_core.specs.declared.signal.client.ClientSignal.TheVariants.{LqhWaitConf, LqhWaitReq, TcBeginConf, TcBeginReq, TcCommitConf, TcKeyConf, TcKeyReq, TcRollbackRep, TcRollbackReq, TcWaitConf}
 use Rattle.sig_core.specs.declared.signal.epoch.EpochSignal.TheVariants.{DiVerifyConf, DiVerifyEnd, DiVerifyReq}
 use Rattle.sig_core.specs.declared.signal.host.HostSignal.TheVariants.{Continue}
@@ -60,6 +60,8 @@ is_about tx (Client (TcRollbackRep one cause)) = same_tx one tx
 is_about tx (Client (TcWaitConf one ahead)) = same_tx one tx
 is_about tx (Client (LqhWaitReq one key)) = same_tx one tx
 is_about tx (Chain (LqhKeyReq one work chain at)) = same_tx one tx
+is_about tx (Chain (LqhKeyConf one key answer)) = same_tx one tx
+is_about tx (Chain (LqhKeyRef one key cause)) = same_tx one tx
 is_about tx (Chain (Commit one key epoch chain at)) = same_tx one tx
 is_about tx (Chain (Complete one key chain at)) = same_tx one tx
 is_about tx (Chain (Abort one key)) = same_tx one tx

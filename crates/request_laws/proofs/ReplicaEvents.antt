@@ -28,7 +28,7 @@ use Rattle.host_laws.proofs.Replicas.{signals_are_events as rows_are_events, sig
 use Rattle.request_laws.specs.Replicas.{InstallationsAreEvents, InstallationsKeepWell, SignalsAreEvents, SignalsKeepWell, event_by, event_if}
 
 -- a report leaves the rows as they are
-reporting_same : (s : ReplicaState) (r : Report) → (reporting s r).state.lqh ≡ s.lqh
+pub reporting_same : (s : ReplicaState) (r : Report) → (reporting s r).state.lqh ≡ s.lqh
 unfolding reporting
 reporting_same s r = by (last_before (is_orphaned_record s.lqh.layout.view.full) s.lqh.rows.pending r.records)
   where
@@ -40,14 +40,14 @@ reporting_same s r = by (last_before (is_orphaned_record s.lqh.layout.view.full)
     by None = by_marker (last_before (is_orphaned_marker s.lqh.layout.view.full) s.lqh.markers r.markers)
     by (Some (at, one)) = refl
 
-go_on_same : (s : ReplicaState) (own : Bool) (o : Option Report) → (go_on_by s own o).state.lqh ≡ s.lqh
+pub go_on_same : (s : ReplicaState) (own : Bool) (o : Option Report) → (go_on_by s own o).state.lqh ≡ s.lqh
 go_on_same s true None = refl
 go_on_same s true (Some r) = reporting_same s r
 go_on_same s false None = refl
 go_on_same s false (Some r) = refl
 
 -- and so do orders about epochs
-epoch_same : (s : ReplicaState) (from : ℕ) (signal : EpochSignal) → (epoch_table s from signal).state.lqh ≡ s.lqh
+pub epoch_same : (s : ReplicaState) (from : ℕ) (signal : EpochSignal) → (epoch_table s from signal).state.lqh ≡ s.lqh
 epoch_same s from (GcpClosed epoch) = refl
 epoch_same s from (GcpSaveReq epoch) = refl
 epoch_same s from GcpStateReq = refl

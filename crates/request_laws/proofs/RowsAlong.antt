@@ -47,10 +47,10 @@ first_rows start member =
 module _ (So : ReplicaState → Type 0) (row : (s : ReplicaState) (x : Signal) → So s → So (replica_row s x).state)
     (install : (s : ReplicaState) (view : View) → So s → So (installed s view)) where
   -- a host runs rows of which it is so
-  record AreRows (parts : Parts) : Type 0 where
-    part : LdmPart
-    is : parts ≡ Ldm part
-    so : So part.replica
+  pub record AreRows (parts : Parts) : Type 0 where
+    pub part : LdmPart
+    pub is : parts ≡ Ldm part
+    pub so : So part.replica
 
   module _ (x : Signal) where
     abbrev Says : Saying
@@ -93,7 +93,7 @@ module _ (So : ReplicaState → Type 0) (row : (s : ReplicaState) (x : Signal) �
 
   module _ (start : Start) (member : Member) (there : IsIn member (made start)) (first : So (first_rows start member))
     where
-      rows_so : (log : List HostStep) → AreRows (after start (ldm_of start member) log).parts
+      pub rows_so : (log : List HostStep) → AreRows (after start (ldm_of start member) log).parts
       rows_so [] =
           subst (λ (s : hosts.Host). AreRows s.parts) (sym (ldm_started start member there))
           (record { part = _; is = refl; so = first })

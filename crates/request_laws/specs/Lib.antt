@@ -1,6 +1,12 @@
 pub mod Blocks
 pub mod Ways
+pub mod Drives
+pub mod Phases
+pub mod Stand
 pub mod Replicas
 pub mod Strays
+pub mod Tokens
+pub mod Routes
 pub mod Waiting
+pub mod Routed
 pub mod OneWay

@@ -1,0 +1,106 @@
+-- The operations of a transaction are under way one at a time, in each view.
+use Rattle.std.specs.Prelude.{◌≡◌, ◌≤◌, ◌+◌, ◌&&◌, ◌==◌, ◌||◌, if◌then◌else◌, ℕ, Bool, true, false, List, [], ◌∷◌, Option, None, Some, is_some}
+use Rattle.std.specs.List.{count_by}
+use Rattle.run_theory.specs.Counts.{total}
+use Rattle.run_theory.specs.Lists.{IsIn}
+use Rattle.run_theory.specs.Links.{sent_by}
+use Rattle.sig_core.specs.declared.member.Member.{Member}
+use Rattle.sig_core.specs.declared.member.TxId.{TxId}
+use Rattle.sig_core.specs.declared.signal.Body.{Body}
+use Rattle.sig_core.specs.declared.signal.Body.TheVariants.{Chain}
+use Rattle.sig_core.specs.declared.signal.Signal.{Signal}
+use Rattle.sig_core.specs.declared.signal.chain.ChainSignal.TheVariants.{LqhKeyConf, LqhKeyRef, LqhKeyReq}
+use Rattle.sig_core.specs.Same.{same_tx}
+use Rattle.tc_block.specs.declared.transaction.Transaction.{Transaction}
+use Rattle.lqh_block.specs.declared.request.Request.{Request}
+use Rattle.lqh_views.specs.State.{ReplicaState}
+use Rattle.world_core.specs.Hosts.{hosts}
+use Rattle.world_core.specs.Start.{Start, made}
+use Rattle.world_core.specs.Steps.{Addressed, HostStep}
+use Rattle.view_laws.specs.Order.{sound_machine}
+use Rattle.view_laws.specs.Runs.{view_after}
+use Rattle.moment_laws.specs.Moments.{IsMoment, current, logs_of}
+use Rattle.moment_laws.specs.Places.{ldm_of, tc_of}
+use Rattle.outcome_laws.specs.Counts.{coordinator_member, one_if}
+use Rattle.request_laws.specs.Blocks.{coordinator_after, rows_after}
+use Rattle.request_laws.specs.Drives.{asked_in}
+use Rattle.request_laws.specs.Ways.{entry_of, has_gone_back}
+
+-- the signal asks a replica for a part of an operation of the transaction, or answers one
+abbrev pub is_token : TxId → Body → Bool
+is_token tx (Chain (LqhKeyReq other work chain at)) = same_tx other tx
+is_token tx (Chain (LqhKeyConf other key answer)) = same_tx other tx
+is_token tx (Chain (LqhKeyRef other key cause)) = same_tx other tx
+is_token tx body = false
+
+-- requests of the transaction that wait at the rows of a node
+abbrev pub count_waiting : TxId → ReplicaState → ℕ
+count_waiting tx s = count_by (λ (q : Request). same_tx q.tx tx) s.lqh.waiting
+
+-- how many signals that pass a test the steps of a log sent, and took from links
+abbrev pub sent_along : Start → (Signal → Bool) → ℕ → List HostStep → ℕ
+sent_along start p h [] = 0
+sent_along start p h (e ∷ log) =
+    count_by (λ (x : Addressed). p x.signal) (sent_by (sound_machine start) h log e) + sent_along start p h log
+
+abbrev pub taken_along : Start → (Signal → Bool) → List HostStep → ℕ
+taken_along start p [] = 0
+taken_along start p (e ∷ log) =
+    (if (sound_machine start).asked e then 0 else one_if (p e.step.taken)) + taken_along start p log
+
+-- all hosts together
+abbrev pub all_sent : Start → (Signal → Bool) → (ℕ → List HostStep) → ℕ
+all_sent start p logs = total (hosts start) (λ h. sent_along start p h (logs h))
+
+abbrev pub all_taken : Start → (Signal → Bool) → (ℕ → List HostStep) → ℕ
+all_taken start p logs = total (hosts start) (λ h. taken_along start p (logs h))
+
+-- of a view
+abbrev pub is_token_in : TxId → ℕ → Signal → Bool
+is_token_in tx number x = is_token tx x.body && (x.view.number == number)
+
+-- the sum over members
+abbrev pub total_of : List Member → (Member → ℕ) → ℕ
+total_of [] f = 0
+total_of (member ∷ members) f = f member + total_of members f
+
+module _ (start : Start) (logs : ℕ → List HostStep) (tx : TxId) where
+  abbrev pub number_now : ℕ
+  number_now = (current start logs).number
+
+  -- requests that wait at the rows of members whose hosts stand in the current view
+  abbrev pub waiting_at : Member → ℕ
+  waiting_at member =
+      if (view_after start (ldm_of start member) (logs (ldm_of start member))).number == number_now
+      then count_waiting tx (rows_after start member (logs (ldm_of start member))) else 0
+
+  abbrev pub all_waiting : ℕ
+  all_waiting = total_of (made start) waiting_at
+
+  -- how many may be under way: one of who is given up, or has an operation unanswered that was asked for in the current view
+  abbrev pub has_asked : Option Transaction → Bool
+  has_asked None = false
+  has_asked (Some t) = is_some t.asked
+
+  abbrev pub budget : ℕ
+  budget =
+      let member = coordinator_member tx in
+      let log = logs (tc_of start member) in
+      one_if (has_gone_back start member tx log
+      || (has_asked (entry_of (coordinator_after start member log) tx) && (asked_in start member tx log == number_now)))
+
+abbrev pub OneAtATime : Type 0
+OneAtATime =
+    (start : Start) (all : ℕ → List HostStep) (es : List HostStep) → IsMoment start all es → (tx : TxId)
+    → IsIn (coordinator_member tx) (made start)
+    → all_sent start (is_token_in tx (number_now start (logs_of start es) tx)) (logs_of start es)
+    + all_waiting start (logs_of start es) tx
+    ≤ all_taken start (is_token_in tx (number_now start (logs_of start es) tx)) (logs_of start es)
+    + budget start (logs_of start es) tx
+
+-- no more is taken than was sent, of signals that aren't closings
+abbrev pub TakesAreFew : Type 0
+TakesAreFew =
+    (start : Start) (all : ℕ → List HostStep) (es : List HostStep) → IsMoment start all es → (p : Signal → Bool)
+    → ((x : Signal) → p x ≡ true → (tx : TxId) × (is_token tx x.body ≡ true))
+    → all_taken start p (logs_of start es) ≤ all_sent start p (logs_of start es)
