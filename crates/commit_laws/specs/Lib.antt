@@ -1,0 +1,16 @@
+pub mod Going
+pub mod Traces
+pub mod Fates
+pub mod Forth
+pub mod Markers
+pub mod Lost
+pub mod Once
+pub mod Answered
+pub mod Speaks
+pub mod Commits
+pub mod Takeovers
+pub mod Settled
+pub mod Transit
+pub mod Whole
+pub mod Values
+pub mod Ends
