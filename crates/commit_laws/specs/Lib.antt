@@ -14,3 +14,5 @@ pub mod Transit
 pub mod Whole
 pub mod Values
 pub mod Ends
+pub mod Parts
+pub mod Together
