@@ -101,7 +101,7 @@ module _ (start : Start) (member : Member) (there : IsIn member (made start)) (t
 
       turn_asks : (t : Transaction) (node : ℕ) (body : Body) → o log ≡ Some t → o (e ∷ log) ≡ left_of turn
           → Changes node tx t body turn → IsAskedNow ops
-      turn_asks t node body found left (turns.opens at on now answered still) = not_asked still.asks
+      turn_asks t node body found left (turns.opens at on now added still) = not_asked still.asks
       turn_asks t node body found left (turns.waits at on now still) = not_asked still.asks
       turn_asks t node body found left (turns.decides epoch at about goes) = not_asked goes.asks
       turn_asks t node body found left (turns.forth epoch is goes) = not_asked goes.asks
@@ -183,19 +183,19 @@ module _ (start : Start) (member : Member) (there : IsIn member (made start)) (t
 
       turn_waits : (ops : List (Op × Answer)) (node : ℕ) (body : Body) → t.ops ≡ ops → Changes node tx t body turn
           → HasGone start member (e ∷ log) tx ⊎ WaitsWith start member (e ∷ log) tx ops
-      turn_waits ops node body same (turns.opens was on now answered still) =
+      turn_waits ops node body are (turns.opens was on now added still) =
           absurd (let phases : Open ≡ Verifying = sym was ∙ at in cc)
-      turn_waits ops node body same (turns.asks was none about is) =
+      turn_waits ops node body are (turns.asks was none about is) =
           absurd (let phases : Open ≡ Verifying = sym was ∙ at in cc)
-      turn_waits ops node body same (turns.waits was on now still) = inr (record {
+      turn_waits ops node body are (turns.waits was on now still) = inr (record {
         transaction = turn.step.state;
         there = now_over on;
         phase = ap (λ (u : Transaction). u.phase) now ∙ at;
-        ops_are = ap (λ (u : Transaction). u.ops) now ∙ same;
+        ops_are = ap (λ (u : Transaction). u.ops) now ∙ are;
       })
-      turn_waits ops node body same (turns.decides epoch was about goes) = inl (goes_forth epoch goes)
-      turn_waits ops node body same (turns.forth epoch is goes) = inl (goes_forth epoch goes)
-      turn_waits ops node body same (turns.back undecided goes) = inl (goes_back goes)
+      turn_waits ops node body are (turns.decides epoch was about goes) = inl (goes_forth epoch goes)
+      turn_waits ops node body are (turns.forth epoch is goes) = inl (goes_forth epoch goes)
+      turn_waits ops node body are (turns.back undecided goes) = inl (goes_back goes)
 
     pub waits_more : (ops : List (Op × Answer)) → WaitsWith start member log tx ops
         → HasGone start member (e ∷ log) tx ⊎ WaitsWith start member (e ∷ log) tx ops

@@ -62,7 +62,7 @@ use Rattle.outcome_laws.proofs.OnceBegins.{asks_elsewhere}
 use Rattle.outcome_laws.proofs.OnceLogs.{count_on, sends_in}
 use Rattle.outcome_laws.proofs.TcCounts.{coordinator_own}
 use Rattle.outcome_laws.proofs.TcLists.{count_more}
-use Rattle.request_laws.proofs.PhaseAlong.{runs_tc}
+use Rattle.request_laws.proofs.PhaseAlong.{IsRun, runs_tc}
 use Rattle.request_laws.proofs.PhaseAsks.{request}
 use Rattle.request_laws.proofs.PhaseHosts.{Goes, IsEntered, leaves, takes, tc_goes}
 use Rattle.request_laws.proofs.PhaseMoves.{epochs_still, like, word_still}
@@ -111,19 +111,20 @@ module _ (start : Start) (member : Member) (there : IsIn member (made start)) wh
 
   host_home : (log : List HostStep) (e : HostStep)
       → AskHome (step_after start (tc_of start member) log e).effects.sends
-  host_home log e = by (tc_goes start (tc_of start member) log e at.own at.runs)
+  host_home log e = of_run (runs_tc start member there log)
     where
-      at = runs_tc start member there log
-
-      by : Goes start.shape at.own e.step.taken (step_after start (tc_of start member) log e)
-          → AskHome (step_after start (tc_of start member) log e).effects.sends
-      by (leaves between entered parts words marks) = spared_home _ (word_still _ words).asks
-      by (takes between entered well front words none going parts effects) =
-          subst (λ (all : Effects). AskHome all.sends) (sym effects)
-          (each_append (λ (sent : Outgoing). AsksHome sent.to sent.body) front.sends
-          (tc_row between e.step.taken.to.block e.step.taken).effects.sends
-          (spared_home front.sends (word_still front.sends words).asks)
-          (row_home at.own between entered at.fits e.step.taken e.step.taken.to.block))
+      of_run : IsRun start member there log → AskHome (step_after start (tc_of start member) log e).effects.sends
+      of_run at = by (tc_goes start (tc_of start member) log e at.own at.runs)
+        where
+          by : Goes start.shape at.own e.step.taken (step_after start (tc_of start member) log e)
+              → AskHome (step_after start (tc_of start member) log e).effects.sends
+          by (leaves between entered parts words marks) = spared_home _ (word_still _ words).asks
+          by (takes between entered well front words none going parts effects) =
+              subst (λ (all : Effects). AskHome all.sends) (sym effects)
+              (each_append (λ (sent : Outgoing). AsksHome sent.to sent.body) front.sends
+              (tc_row between e.step.taken.to.block e.step.taken).effects.sends
+              (spared_home front.sends (word_still front.sends words).asks)
+              (row_home at.own between entered at.fits e.step.taken e.step.taken.to.block))
 
 -- what was told by a part of a log was told
 pub told_past : (start : Start) (h : ℕ) (body : Body) (log all : List HostStep) → IsPast log all
@@ -139,16 +140,19 @@ past_below : (start : Start) (h : ℕ) (log : List HostStep) → IsLog (machine 
     (older before : List HostStep) → IsPast (e ∷ older) log → IsPast (f ∷ before) log → f.step.stamp < e.step.stamp
     → IsPast (f ∷ before) older
 past_below start h [] is e f older before one other low = absurd (entry_past one tt)
-past_below start h (g ∷ log) is e f older before one other low = by (past_cases g one) (past_cases g other)
+past_below start h (g ∷ log) is e f older before one other low =
+    by (past_cases g one) (past_cases g other)
+    (λ deeper also. past_below start h log is.1 e f older before deeper also low)
   where
     by : (g ∷ log ≡ e ∷ older) ⊎ IsPast (e ∷ older) log → (g ∷ log ≡ f ∷ before) ⊎ IsPast (f ∷ before) log
-        → IsPast (f ∷ before) older
-    by (inl same) (inl also) =
+        → (IsPast (e ∷ older) log → IsPast (f ∷ before) log → IsPast (f ∷ before) older) → IsPast (f ∷ before) older
+    by (inl same) (inl also) below =
         let one : g ≡ e = cc (same) in
         let two : g ≡ f = cc (also) in
         absurd (omega (arith, low, ap (λ (s : HostStep). s.step.stamp) one, ap (λ (s : HostStep). s.step.stamp) two))
-    by (inl same) (inr deeper) = let rest : log ≡ older = cc (same) in subst (IsPast (f ∷ before)) rest deeper
-    by (inr deeper) (inl same) =
+    by (inl same) (inr deeper) below =
+        let rest : log ≡ older = cc (same) in subst (IsPast (f ∷ before)) rest deeper
+    by (inr deeper) (inl same) below =
         let two : g ≡ f = cc (same) in
         let under =
         each_in _ e log (stamps_below (machine start) h log is.1) (in_past e deeper (inl refl)) in
@@ -159,7 +163,7 @@ past_below start h (g ∷ log) is e f older before one other low = by (past_case
           step_above (machine start) h log g is.0,
           ap (λ (s : HostStep). s.step.stamp) two,
         ))
-    by (inr deeper) (inr also) = past_below start h log is.1 e f older before deeper also low
+    by (inr deeper) (inr also) below = below deeper also
 
 -- how many of a kind a step sends is among how many its log does
 counted_in : (p : Body → Bool) (start : Start) (h : ℕ) (log : List HostStep) (e : HostStep) (before : List HostStep)

@@ -134,7 +134,7 @@ module _ (start : Start) (member : Member) (there : IsIn member (made start)) (t
 
     turn_answers : (t : Transaction) (node : ℕ) (body : Body) (turn : Turn) → AnsweredIn t.asked t.phase
         → Changes node tx t body turn → turn.over ≡ false → AnsweredIn turn.step.state.asked turn.step.state.phase
-    turn_answers t node body turn was (turns.opens at on now answered still) going =
+    turn_answers t node body turn was (turns.opens at on now added still) going =
         subst (AnsweredIn turn.step.state.asked) (sym now) tt
     turn_answers t node body turn was (turns.asks at none about is) going =
         subst (λ (u : Turn). AnsweredIn u.step.state.asked u.step.state.phase) (sym is) none
@@ -241,7 +241,7 @@ module _ (start : Start) (member : Member) (there : IsIn member (made start)) (t
           → is_well_formed start.shape e.step.taken ≡ true → KnowsIn log t.ops t.phase
           → Changes node tx t e.step.taken.body turn → turn.over ≡ false
           → KnowsIn (e ∷ log) turn.step.state.ops turn.step.state.phase
-      turn_knows t node turn found well was (turns.opens at on now answered still) going =
+      turn_knows t node turn found well was (turns.opens at on now added still) going =
           subst (KnowsIn (e ∷ log) turn.step.state.ops) (sym now) tt
       turn_knows t node turn found well was (turns.asks at none about is) going =
           subst (λ (u : Turn). KnowsIn (e ∷ log) u.step.state.ops u.step.state.phase) (sym is) tt
@@ -272,11 +272,12 @@ module _ (start : Start) (member : Member) (there : IsIn member (made start)) (t
 
   answered : (log : List HostStep) → Answered log
   answered [] t is = absurd (let none : None ≡ Some t = sym none_first ∙ is in cc)
-  answered (e ∷ log) = answered_next log e (answered log)
+  answered (e ∷ log) t is = answered_next log e (answered log) t is
 
   knows : (log : List HostStep) → Heard start member log → Knows log
   knows [] heard t is = absurd (let none : None ≡ Some t = sym none_first ∙ is in cc)
-  knows (e ∷ log) heard = knows_next log e heard.0 (is_kept start member there log heard.1) (knows log heard.1)
+  knows (e ∷ log) heard t is =
+      knows_next log e heard.0 (is_kept start member there log heard.1) (knows log heard.1) t is
 
   -- who goes forth was decided
   abbrev WasDecided : List HostStep → Type 0
@@ -345,17 +346,17 @@ module _ (start : Start) (member : Member) (there : IsIn member (made start)) (t
 
       turn_decides : is_well_formed start.shape e.step.taken ≡ true → (node : ℕ)
           → Changes node tx t e.step.taken.body turn → WasDecided (e ∷ log)
-      turn_decides well node (turns.opens at on now answered still) = absurd (not_now on Open now refl)
-      turn_decides well node (turns.asks at none about same) =
-          absurd (not_now (ap (λ (u : Turn). u.over) same) Verifying (ap (λ (u : Turn). u.step.state.phase) same) refl)
+      turn_decides well node (turns.opens at on now added still) = absurd (not_now on Open now refl)
+      turn_decides well node (turns.asks at none about it) =
+          absurd (not_now (ap (λ (u : Turn). u.over) it) Verifying (ap (λ (u : Turn). u.step.state.phase) it) refl)
       turn_decides well node (turns.waits at on now still) =
           absurd (not_now on Verifying (ap (λ (u : Transaction). u.phase) now ∙ at) refl)
       turn_decides well node (turns.decides epoch at about goes) =
           (epoch, inr (given_with log e heard kept t found at epoch about well).marked)
-      turn_decides well node (turns.forth epoch same goes) =
+      turn_decides well node (turns.forth epoch at goes) =
           absurd (not_both (f log)
           (at_decided t.phase (f log) (b log) ((goes_one_way start member there tx log).says t found)
-          (is_decided_as t.phase epoch same)) was)
+          (is_decided_as t.phase epoch at)) was)
       turn_decides well node (turns.back undecided goes) = absurd (not_back goes)
 
     decided_now : WasDecided (e ∷ log)
@@ -370,22 +371,22 @@ module _ (start : Start) (member : Member) (there : IsIn member (made start)) (t
 
   forth_decided : (log : List HostStep) → Heard start member log → f log ≡ true → WasDecided log
   forth_decided [] heard is = absurd (true≢false (sym is))
-  forth_decided (e ∷ log) heard is = by (f log) refl
+  forth_decided (e ∷ log) heard is = by (f log) refl (forth_decided log heard.1)
     where
       more : WasDecided log → WasDecided (e ∷ log)
       more was = (was.0, inr was.1)
 
-      by : (x : Bool) → f log ≡ x → WasDecided (e ∷ log)
-      by true was = more (forth_decided log heard.1 was)
-      by false was = decided_now log e heard.0 (is_kept start member there log heard.1) was is
+      by : (x : Bool) → f log ≡ x → (f log ≡ true → WasDecided log) → WasDecided (e ∷ log)
+      by true was before = more (before was)
+      by false was before = decided_now log e heard.0 (is_kept start member there log heard.1) was is
 
   says_in : (log : List HostStep) (t : Transaction) (phase : Phase) → WaySays (f log) (b log) phase
       → AnsweredIn t.asked phase → KnowsIn log t.ops phase → SaysIn start member log tx t phase
-  says_in log t Open way none knows = way
-  says_in log t Verifying way none knows = (none, way)
-  says_in log t (Committing epoch awaited) way none knows = (none, (way.1, knows))
-  says_in log t (Completing epoch awaited) way none knows = (none, (way.1, knows))
-  says_in log t (Aborting why verifying awaited) way none knows = way.0
+  says_in log t Open way none known = way
+  says_in log t Verifying way none known = (none, way)
+  says_in log t (Committing epoch awaited) way none known = (none, (way.1, known))
+  says_in log t (Completing epoch awaited) way none known = (none, (way.1, known))
+  says_in log t (Aborting why verifying awaited) way none known = way.0
 
 -- so all stands, behind a log that has heard rightly
 module _ (start : Start) (member : Member) (there : IsIn member (made start)) (logs : ℕ → List HostStep)
