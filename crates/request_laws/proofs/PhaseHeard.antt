@@ -1,9 +1,8 @@
 -- At each moment the host of a coordinator has heard rightly: requests for epochs come from itself alone.
 use Rattle.std.proofs.Common.{◌≡◌, ◌≢◌, ◌≤◌, ◌<◌, ◌+◌, ◌⊎◌, ◌∙◌, ◌∷◌, ◌++◌, ◌==◌, ◌&&◌, ◌-◌, ◌*◌, ℕ, Bool, true, false, List, [], refl, sym, ap, subst, inl, inr, arith}
 use Rattle.std.proofs.lemmas.Bool.{cases_eq, cases_lt}
-use Rattle.std.specs.List.{count_by}
 use Rattle.run_theory.proofs.LinkFacts.{stamps_rise}
-use Rattle.run_theory.proofs.Links.{log_past, sent_by_each, stamps_below, step_above}
+use Rattle.run_theory.proofs.Links.{sent_by_each, stamps_below, step_above}
 use Rattle.run_theory.proofs.Pasts.{each_append, each_in, each_map, entry_past, in_past, past_cases}
 use Rattle.run_theory.proofs.Runs.{log_of-other, log_of-own}
 use Rattle.run_theory.specs.LinkLaws.{IsSentBy}

@@ -1,11 +1,10 @@
 -- What a host has told along its log, and what its steps hear: an epoch is asked for only as the host told itself, and
 -- given only if its epochs have decided so.
-use Rattle.std.proofs.Common.{◌≡◌, ◌⊎◌, ℕ, true, false, List, [], ◌∷◌, ◌++◌, refl, sym, ap, subst, inl, inr, ◌∙◌}
-use Rattle.std.proofs.lemmas.Bool.{true≢false}
+use Rattle.std.proofs.Common.{◌≡◌, ◌⊎◌, ℕ, true, List, [], ◌∷◌, sym, inl, inr}
 use Rattle.run_theory.proofs.Links.{put_each, sent_by_each}
-use Rattle.run_theory.proofs.Pasts.{each_in, each_map}
+use Rattle.run_theory.proofs.Pasts.{each_map}
 use Rattle.run_theory.specs.Links.{sent, sent_by}
-use Rattle.run_theory.specs.Lists.{Each, IsIn, IsPast}
+use Rattle.run_theory.specs.Lists.{Each, IsIn}
 use Rattle.run_theory.specs.Machine.{Machine}
 use Rattle.sig_core.specs.declared.mark.Mark.TheVariants.{Decided}
 use Rattle.sig_core.specs.declared.member.Member.{Member}
