@@ -1,1 +1,2 @@
 pub mod LostDoomed
+pub mod LostStays
