@@ -1,7 +1,9 @@
 -- Rows tell a takeover only of transactions whose coordinator isn't a full member of their view.
-use Rattle.std.proofs.Common.{◌≡◌, ◌==◌, ℕ, Bool, true, false, List, [], ◌∷◌, map, refl, sym, subst}
+use Rattle.std.proofs.Common.{◌≡◌, ◌==◌, ◌&&◌, ◌∙◌, ℕ, Bool, true, false, List, [], ◌∷◌, ap, map, refl, sym, subst}
+use Rattle.std.proofs.lemmas.Bool.{eq-eqb}
 use Rattle.std.specs.Prelude.{IfSome, not, Option, None, Some}
-use Rattle.run_theory.specs.Lists.{Each}
+use Rattle.run_theory.specs.Lists.{Each, IsIn}
+use Rattle.sig_core.specs.declared.member.Member.{Member}
 use Rattle.sig_core.specs.declared.member.TxId.{TxId}
 use Rattle.sig_core.specs.declared.outs.Outgoing.{Outgoing}
 use Rattle.sig_core.specs.declared.rows.PendingRecord.{PendingRecord}
@@ -20,7 +22,7 @@ use Rattle.lqh_block.specs.declared.request.Marker.{Marker}
 use Rattle.lqh_block.specs.declared.request.Request.{Request}
 use Rattle.lqh_block.specs.Lqh.{lqh_row, lqh_table}
 use Rattle.lqh_block.specs.State.{LqhState}
-use Rattle.lqh_block.specs.Views.{is_coordinated}
+use Rattle.lqh_block.specs.Views.{is_coordinated, was_begun_by}
 use Rattle.lqh_block.proofs.EachLqh.{RequestSends, lqh_sends_each}
 use Rattle.lqh_views.specs.Address.{addressed}
 use Rattle.lqh_views.specs.declared.report.Report as reports
@@ -30,6 +32,8 @@ use Rattle.lqh_views.specs.Report.{go_on_by, is_orphaned_marker, is_orphaned_rec
 use Rattle.lqh_views.specs.State.{ReplicaState}
 use Rattle.lqh_views.proofs.AddressLemmas.{same-body}
 use Rattle.lqh_views.proofs.LastLemmas.{IsThere, last-there}
+use Rattle.outcome_laws.specs.Counts.{coordinator_member}
+use Rattle.request_laws.proofs.RouteChains.{any_in}
 use Rattle.request_laws.proofs.RouteTakeover.{TellsOf}
 
 -- its coordinator isn't a full member of the view
@@ -42,6 +46,12 @@ TellsOrphans view sent = TellsOf (IsOrphan view) sent.body
 
 abbrev pub AreOrphans : View → List Outgoing → Type 0
 AreOrphans view sends = Each (TellsOrphans view) sends
+
+-- so it isn't one of a full member
+pub coordinated : (full : List Member) (tx : TxId) → IsIn (coordinator_member tx) full → is_coordinated full tx ≡ true
+coordinated full tx inside =
+    any_in (was_begun_by tx) (coordinator_member tx) full inside
+    (ap (λ b. b && (tx.start == tx.start)) (eq-eqb tx.tc tx.tc refl) ∙ eq-eqb tx.start tx.start refl)
 
 none_is : (b : Bool) → not b ≡ true → b ≡ false
 none_is true is = sym is

@@ -43,7 +43,7 @@ module _ (start : Start) (h : ℕ) (log : List HostStep) (e : HostStep) where
         (view_after start h (e ∷ log)) (step_after start h log e).effects.sends
 
 module _ (start : Start) (member : Member) (there : IsIn member (made start)) (log : List HostStep) (e : HostStep) where
-  own_tc : TcStep start (tc_of start member) log e
+  pub own_tc : TcStep start (tc_of start member) log e
   own_tc =
       let h = tc_of start member in
       let at = runs_tc start member there log in
@@ -54,7 +54,7 @@ module _ (start : Start) (member : Member) (there : IsIn member (made start)) (l
         does = tc_after start h log e (part_some start Tc member) at.own at.runs;
       }
 
-  own_ldm : LdmStep start (ldm_of start member) log e
+  pub own_ldm : LdmStep start (ldm_of start member) log e
   own_ldm =
       let h = ldm_of start member in
       let at = runs_ldm start member there log in
