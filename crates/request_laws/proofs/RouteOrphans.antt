@@ -173,6 +173,7 @@ module _ (start : Start) where
         own_has : (between : TcPart) (front : List Outgoing) → PartEnters tc_kind p stood x between view front
             → (now : TcPart) (rest : List Outgoing) → PartTakes tc_kind start.shape between view x now rest
             → GatheredAre (IsOrphan view) now.takeover
+        unfolding tc_row
         own_has between front enters now rest (ignores same none) =
             subst (λ (q : TcPart). GatheredAre (IsOrphan view) q.takeover) (sym same)
             (between_has between front enters)
@@ -183,7 +184,6 @@ module _ (start : Start) where
             has = between_has between front enters
 
             by : (b : BlockId) → x.to.block ≡ b → GatheredAre (IsOrphan view) (tc_row between b x).state.takeover
-            unfolding tc_row
             by block.Takeover to =
                 gathered_stay (IsOrphan view) between.takeover x has
                 (told_now
@@ -243,6 +243,7 @@ module _ (start : Start) where
               subst (AreOrphans view) (sym is) (tc_tells view step.does.between x x.to.block)
 
       ldm_sends : LdmStep start e.host (old e.host) e → AreOrphans view sends
+      unfolding ldm_row
       ldm_sends step =
           both_tell step.does.front step.does.rest (front step.does.enters) (rest step.does.takes) step.does.sent
         where
@@ -256,7 +257,6 @@ module _ (start : Start) where
           told_in = rows_tell_orphans step.does.between.replica x
 
           row : (b : BlockId) → AreOrphans view (ldm_row step.does.between b x).effects.sends
-          unfolding ldm_row
           row block.Lqh =
               subst (λ (l : Layout). AreOrphans l.view (replica_row step.does.between.replica x).effects.sends)
               (ldm_enters start step.own stood x step.does.between view step.does.front step.does.enters step.laid)

@@ -100,17 +100,17 @@ module _ (start : Start) (all : ℕ → List HostStep) (e : HostStep) (es : List
     abbrev sends : List Outgoing
     sends = (step_after start (tc_of start member) log e).effects.sends
 
-    step : TcStep start (tc_of start member) log e
+    abbrev step : TcStep start (tc_of start member) log e
     step = own_tc start member there log e
 
     abbrev p : TcPart
-    p = (own_tc start member there log e).own
+    p = step.own
 
     abbrev between : TcPart
-    between = (own_tc start member there log e).does.between
+    between = step.does.between
 
     abbrev front : List Outgoing
-    front = (own_tc start member there log e).does.front
+    front = step.does.front
 
     abbrev Entering : Type 0
     Entering = PartEnters tc_kind p stood x between view front
@@ -358,25 +358,25 @@ module _ (start : Start) (all : ℕ → List HostStep) (e : HostStep) (es : List
 
         abbrev Taking : Type 0
         Taking =
-            PartTakes tc_kind start.shape between view x (own_tc start member there log e).does.own
-            (own_tc start member there log e).does.rest
+            PartTakes tc_kind start.shape between view x step.does.own
+            step.does.rest
 
-        abbrev own : TcPart
-        own = (own_tc start member there log e).does.own
+        abbrev later : TcPart
+        later = step.does.own
 
         abbrev rest : List Outgoing
-        rest = (own_tc start member there log e).does.rest
+        rest = step.does.rest
 
         -- where the coordinator takes the signal
         module _ (passed : IsPassed start.shape (part.Tc between) view x) (to : x.to.block ≡ block.Tc)
-            (same : own.coordinator ≡ (coordinator_row between.coordinator x).state)
+            (same : later.coordinator ≡ (coordinator_row between.coordinator x).state)
             (is : rest ≡ (coordinator_row between.coordinator x).effects.sends)
           where
             abbrev row_sends : List Outgoing
             row_sends = (coordinator_row between.coordinator x).effects.sends
 
             now : coordinator_after start member (e ∷ log) ≡ (coordinator_row between.coordinator x).state
-            now = coordinator_is start member (tc_of start member) (e ∷ log) refl own step.does.is ∙ same
+            now = coordinator_is start member (tc_of start member) (e ∷ log) refl later step.does.is ∙ same
 
             sent_in : (q : Body → Bool) → is_sent q front ≡ false → is_sent q sends ≡ true
                 → is_sent q row_sends ≡ true
@@ -462,13 +462,13 @@ module _ (start : Start) (all : ℕ → List HostStep) (e : HostStep) (es : List
         unfolding tc_row
         own_has = by step.does.takes
           where
-            still : own.coordinator ≡ between.coordinator → ((tx : TxId) → coordinator_member tx ≡ member → IsUnsent tx rest)
+            still : later.coordinator ≡ between.coordinator → ((tx : TxId) → coordinator_member tx ≡ member → IsUnsent tx rest)
                 → CoordinatorHas start e es member new (new (tc_of start member))
             still same none =
-                stays_has own step.does.is same (λ tx mine. unsent_by rest tx step.does.sent (none tx mine))
+                stays_has later step.does.is same (λ tx mine. unsent_by rest tx step.does.sent (none tx mine))
 
             row : IsPassed start.shape (part.Tc between) view x → (b : BlockId) → x.to.block ≡ b
-                → own ≡ (tc_row between b x).state → rest ≡ (tc_row between b x).effects.sends
+                → later ≡ (tc_row between b x).state → rest ≡ (tc_row between b x).effects.sends
                 → CoordinatorHas start e es member new (new (tc_of start member))
             row passed block.Tc to same is = row_has passed to (ap (λ (q : TcPart). q.coordinator) same) is
             row passed block.Takeover to same is =
@@ -492,7 +492,7 @@ module _ (start : Start) (all : ℕ → List HostStep) (e : HostStep) (es : List
         own_sends = by step.does.sent
           where
             row : sends ≡ front ++ rest → IsPassed start.shape (part.Tc between) view x → (b : BlockId)
-                → x.to.block ≡ b → own ≡ (tc_row between b x).state → rest ≡ (tc_row between b x).effects.sends
+                → x.to.block ≡ b → later ≡ (tc_row between b x).state → rest ≡ (tc_row between b x).effects.sends
                 → Each (IsSentRouted layout A D G) rest
             row whole passed block.Tc to same is =
                 row_routed passed to (ap (λ (q : TcPart). q.coordinator) same) is whole

@@ -89,29 +89,29 @@ module _ (start : Start) (all : ℕ → List HostStep) (e : HostStep) (es : List
     abbrev sends : List Outgoing
     sends = (step_after start (ldm_of start member) log e).effects.sends
 
-    step : LdmStep start (ldm_of start member) log e
+    abbrev step : LdmStep start (ldm_of start member) log e
     step = own_ldm start member there log e
 
     abbrev p : LdmPart
-    p = (own_ldm start member there log e).own
+    p = step.own
 
     abbrev between : LdmPart
-    between = (own_ldm start member there log e).does.between
+    between = step.does.between
 
-    abbrev own : LdmPart
-    own = (own_ldm start member there log e).does.own
+    abbrev later : LdmPart
+    later = step.does.own
 
     abbrev front : List Outgoing
-    front = (own_ldm start member there log e).does.front
+    front = step.does.front
 
     abbrev rest : List Outgoing
-    rest = (own_ldm start member there log e).does.rest
+    rest = step.does.rest
 
     abbrev Entering : Type 0
     Entering = PartEnters ldm_kind p stood x between view front
 
     abbrev Taking : Type 0
-    Taking = PartTakes ldm_kind start.shape between view x own rest
+    Taking = PartTakes ldm_kind start.shape between view x later rest
 
     entering : Entering
     entering = step.does.enters
@@ -210,7 +210,7 @@ module _ (start : Start) (all : ℕ → List HostStep) (e : HostStep) (es : List
       row_sends : Each (IsSentRouted layout A D G) (replica_row between.replica x).effects.sends
       row_sends = rows_send_routed layout A D G between.replica x laid ask waits routed here
 
-    own_waits : WaitsRouted layout A D G own.replica
+    own_waits : WaitsRouted layout A D G later.replica
     unfolding ldm_row
     own_waits = by step.does.takes
       where
@@ -219,7 +219,7 @@ module _ (start : Start) (all : ℕ → List HostStep) (e : HostStep) (es : List
         row passed block.Lqh to = row_waits passed to
         row passed _ to = waits
 
-        by : Taking → WaitsRouted layout A D G own.replica
+        by : Taking → WaitsRouted layout A D G later.replica
         by (ignores same none) = subst (λ (q : LdmPart). WaitsRouted layout A D G q.replica) (sym same) waits
         by (handles passed same is) =
             subst (λ (q : LdmPart). WaitsRouted layout A D G q.replica) (sym same) (row passed x.to.block refl)
@@ -228,7 +228,7 @@ module _ (start : Start) (all : ℕ → List HostStep) (e : HostStep) (es : List
     rows_have =
         subst (RowsHave start e es member new) (sym (log_of-own (machine start) e es (ldm_of start member) at))
         (subst (WaitsRouted layout A D G)
-        (sym (rows_are start member (ldm_of start member) (e ∷ log) refl own step.does.is)) own_waits)
+        (sym (rows_are start member (ldm_of start member) (e ∷ log) refl later step.does.is)) own_waits)
 
     pub rows_send : Each (IsSentRouted layout A D G) sends
     unfolding ldm_row

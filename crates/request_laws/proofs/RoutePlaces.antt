@@ -1,5 +1,5 @@
 -- A signal about rows that comes to the rows of a member is for a place of its node, and the rows know their node.
-use Rattle.std.proofs.Common.{◌≡◌, ◌⊎◌, ◌==◌, ◌∙◌, ℕ, zero, suc, Bool, true, false, filter, List, [], ◌∷◌, inl, inr, refl, ap, sym, subst, arith}
+use Rattle.std.proofs.Common.{◌≡◌, ◌<◌, ◌⊎◌, ◌==◌, ◌∙◌, ℕ, zero, suc, Bool, true, false, filter, List, [], ◌∷◌, inl, inr, refl, ap, sym, subst, arith}
 use Rattle.std.proofs.lemmas.Bool.{eqb-true, true≢false}
 use Rattle.std.specs.Prelude.{if◌then◌else◌, Option, None, Some}
 use Rattle.run_theory.specs.Lists.{Each, IsIn}
@@ -20,7 +20,8 @@ use Rattle.lqh_views.specs.Replica.{replica_row}
 use Rattle.lqh_views.specs.State.{ReplicaState}
 use Rattle.node_views.specs.WellFormed.{is_well_formed}
 use Rattle.host_laws.proofs.LqhNode.{lqh_node}
-use Rattle.world_core.specs.Hosts.{host_by, host_of, member_of}
+use Rattle.world_core.proofs.HostNumbers.{members_length}
+use Rattle.world_core.specs.Hosts.{host_by, hosts, member_of}
 use Rattle.world_core.specs.Start.{Start, made}
 use Rattle.world_core.specs.Steps.{Addressed, HostStep}
 use Rattle.world_views.specs.Hosts.{reached, started}
@@ -29,11 +30,13 @@ use Rattle.view_laws.specs.Order.{is_sound}
 use Rattle.view_laws.specs.Runs.{view_after}
 use Rattle.view_laws.specs.Sets.{all_of}
 use Rattle.view_laws.proofs.EraSound.{each_filter}
-use Rattle.view_laws.proofs.FenceHosts.{absent_is, block_host, found_made, hosts_same, not_absent, number_some}
+use Rattle.view_laws.proofs.FenceHosts.{hosts_same}
 use Rattle.view_laws.proofs.FollowSends.{IsSentBy, each_sent}
+use Rattle.view_laws.proofs.RunMade.{node_low, node_some}
 use Rattle.view_laws.proofs.SetRows.{filter_in}
 use Rattle.moment_laws.specs.Moments.{IsMoment, logs_of}
 use Rattle.moment_laws.specs.Places.{ldm_of}
+use Rattle.moment_laws.proofs.MomentHosts.{host_made, ldm_number}
 use Rattle.moment_laws.proofs.MomentSignals.{EachSent, sent_next}
 use Rattle.moment_laws.proofs.MomentViews.{moment_less}
 use Rattle.request_laws.specs.Blocks.{rows_after}
@@ -60,28 +63,31 @@ module _ (start : Start) where
       (λ m i. eqb-true m.node node (filter_in (λ (m : Member). m.node == node) (all_of view) m i).1))
       is
 
-  -- what comes to a part of a member is for its node
-  node_reached : (h : ℕ) (view : View) (to : Place) (me : Member) → IsIn me (made start) → (at : BlockId)
-      → reached (made start) (suc h) view to ≡ host_of (made start) (part_of at) me → to.node ≡ me.node
+  -- what comes to the rows of a member is for its node
+  node_reached : (h : ℕ) (view : View) (to : Place) (me : Member) → IsIn me (made start)
+      → reached (made start) (suc h) view to ≡ ldm_of start me → to.node ≡ me.node
   unfolding reached
-  node_reached h view to me there at is = by (to.node == 0) is
+  node_reached h view to me there is = by (to.node == 0) is
     where
+      low : ldm_of start me < hosts start
+      low =
+          let number = ldm_number start me there in
+          let node = node_low start me there in
+          let some = node_some start me there in
+          omega (arith, number, node, some)
+
       found : (o : Option Member) → member_of view to.node ≡ o
-          → host_by (made start) (part_of to.block) o ≡ host_of (made start) (part_of at) me → to.node ≡ me.node
-      found None e same = absurd (not_absent start me there at (sym (absent_is start (part_of to.block)) ∙ same))
+          → host_by (made start) (part_of to.block) o ≡ ldm_of start me → to.node ≡ me.node
+      found None e same = let many = members_length start.shape.nodes in absurd (omega (arith, same, low, many))
       found (Some m) e same =
+          let made_m = host_made start (part_of to.block) m (omega (arith, same, low)) in
           sym (node_of view to.node m e)
-          ∙ ap (λ (m : Member). m.node)
-          (hosts_same start m me (found_made start m me there to.block at same) there to.block at same)
+          ∙ ap (λ (m : Member). m.node) (hosts_same start m me made_m there to.block block.Lqh same)
 
       by : (b : Bool)
-          → (if b then 0 else host_by (made start) (part_of to.block) (member_of view to.node))
-          ≡ host_of (made start) (part_of at) me
+          → (if b then 0 else host_by (made start) (part_of to.block) (member_of view to.node)) ≡ ldm_of start me
           → to.node ≡ me.node
-      by true same =
-          let is = block_host start me there at in
-          let some = number_some (part_of at) in
-          absurd (omega (arith, same, is, some))
+      by true same = let number = ldm_number start me there in absurd (omega (arith, same, number))
       by false same = found (member_of view to.node) refl same
 
   shell_first : IsBeside (started start 0).parts
@@ -108,7 +114,7 @@ module _ (start : Start) where
 
   placed : (all : ℕ → List HostStep) (es : List HostStep) → IsMoment start all es
       → EachSent start (IsPlaced start) (logs_of start es)
-  placed all [] moment i j = tt
+  placed all [] moment = λ i j. tt
   placed all (e ∷ es) moment =
       let old = logs_of start es e.host in
       sent_next start (IsPlaced start) all e es moment (placed all es (moment_less start all e es moment))
@@ -128,7 +134,7 @@ module _ (start : Start) where
     is_for_rows me there at sound to is =
         let one = told_of start all e es moment (IsPlaced start)
         (placed all es (moment_less start all e es moment)) sound is is in
-        let node = node_reached one.host one.view x.to me there block.Lqh (sym one.is ∙ at) in
+        let node = node_reached one.host one.view x.to me there (sym one.is ∙ at) in
         ap (λ (b : BlockId). record { node = x.to.node; block = b }) to
         ∙ ap (λ n. record { node = n; block = block.Lqh }) node
 
