@@ -5,14 +5,11 @@ use Rattle.run_theory.specs.Lists.{Each, IsIn}
 use Rattle.run_theory.proofs.Pasts.{each_map}
 use Rattle.run_theory.specs.Links.{sent}
 use Rattle.sig_core.specs.declared.member.Member.{Member}
-use Rattle.sig_core.specs.declared.outs.Outgoing.{Outgoing}
 use Rattle.sig_core.specs.declared.signal.Body.{Body}
 use Rattle.sig_core.specs.declared.view.View.{View}
-use Rattle.frag_map.specs.Layout.{first_layout}
-use Rattle.lqh_block.specs.declared.request.Request.{Request}
 use Rattle.node_views.specs.declared.host.Host as hosts
 use Rattle.world_core.specs.Start.{Start, made}
-use Rattle.world_core.specs.Steps.{Addressed, HostStep}
+use Rattle.world_core.specs.Steps.{HostStep}
 use Rattle.world_views.specs.Machine.{step_after}
 use Rattle.view_laws.specs.Order.{sound_machine}
 use Rattle.view_laws.specs.Runs.{view_after}

@@ -1,19 +1,17 @@
 -- Signals that aren't about the rows of transactions, and blocks that send no others.
-use Rattle.std.proofs.Common.{◌≡◌, ◌⊎◌, ◌∙◌, ℕ, Bool, true, false, List, [], ◌∷◌, inl, inr, refl, ap, subst, sym}
+use Rattle.std.proofs.Common.{◌≡◌, ℕ, Bool, true, false, List, refl}
 use Rattle.run_theory.specs.Lists.{Each}
-use Rattle.run_theory.proofs.Pasts.{each_append, each_map}
+use Rattle.run_theory.proofs.Pasts.{each_map}
 use Rattle.sig_core.specs.declared.member.TxId.{TxId}
 use Rattle.sig_core.specs.declared.outs.Outgoing.{Outgoing}
 use Rattle.sig_core.specs.declared.place.Place.{Place}
 use Rattle.sig_core.specs.declared.signal.Body.{Body}
-use Rattle.sig_core.specs.declared.signal.Body.TheVariants.{Chain, Client, Epoch, Host, Takeover}
+use Rattle.sig_core.specs.declared.signal.Body.TheVariants.{Chain, Host, Takeover}
 use Rattle.sig_core.specs.declared.signal.Signal.{Signal}
-use Rattle.sig_core.specs.declared.signal.client.ClientSignal.TheVariants.{TcCommitReq}
 use Rattle.sig_core.specs.declared.signal.host.HostSignal.TheVariants.{Continue}
 use Rattle.sig_core.specs.declared.signal.host.Work.TheVariants.{Transaction as Sends}
 use Rattle.sig_core.specs.declared.signal.takeover.TakeoverSignal.TheVariants.{LqhTransConf}
 use Rattle.sig_core.specs.declared.view.View.{View}
-use Rattle.sig_core.specs.Step.{Effects, Step}
 use Rattle.frag_map.specs.Layout.{Layout}
 use Rattle.api_views.specs.Client.{client_row}
 use Rattle.api_views.specs.State.{ClientState}
@@ -31,7 +29,7 @@ use Rattle.outcome_laws.proofs.DihSilent.{AreSilent, IsSilent, is_telling}
 use Rattle.outcome_laws.proofs.DihWalk.{dih_each, dih_installs_quiet, goes_on_silent}
 use Rattle.outcome_laws.proofs.KnowMaster.{master_tells_nothing}
 use Rattle.outcome_laws.proofs.KnowMembership.{membership_installs_nothing, membership_tells_nothing}
-use Rattle.outcome_laws.proofs.KnowNothing.{AreUntold, IsUntold, is_tale, untold_silent}
+use Rattle.outcome_laws.proofs.KnowNothing.{AreUntold, untold_silent}
 use Rattle.outcome_laws.proofs.KnowParts.{arbiter_tells_nothing}
 use Rattle.request_laws.specs.Routes.{IsRouted, IsSentRouted}
 use Rattle.request_laws.proofs.RouteTakeover.{TellsOf}

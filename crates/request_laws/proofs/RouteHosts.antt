@@ -1,6 +1,6 @@
 -- Hosts by the part that they run: one that coordinates, one that runs rows, or one beside these, which sends nothing about
 -- the rows of transactions.
-use Rattle.std.proofs.Common.{◌≡◌, ◌<◌, ◌≤◌, ◌+◌, ◌%◌, ◌/◌, ℕ, zero, suc, List, [], ◌∷◌, refl, subst, sym, arith}
+use Rattle.std.proofs.Common.{◌≡◌, ◌<◌, ◌+◌, ◌%◌, ◌/◌, ℕ, zero, suc, List, [], ◌∷◌, refl, subst, sym, arith}
 use Rattle.std.proofs.lemmas.Nat.{mod_below}
 use Rattle.frag_map.specs.Replicas.{first_start}
 use Rattle.run_theory.specs.Lists.{IsIn}
@@ -27,7 +27,7 @@ use Rattle.world_views.specs.Machine.{after, step_after, step_by, told}
 use Rattle.view_laws.proofs.RunMade.{first_in}
 use Rattle.moment_laws.specs.Places.{ldm_of, tc_of}
 use Rattle.moment_laws.proofs.MomentHosts.{ldm_number, tc_number}
-use Rattle.outcome_laws.proofs.KnowWalk.{AreKept, IsOfEffects, step_keeps}
+use Rattle.outcome_laws.proofs.KnowWalk.{IsOfEffects, step_keeps}
 use Rattle.request_laws.proofs.RouteAside.{AreAside, IsAside, arbiter_aside, client_aside, master_aside, membership_aside, membership_installs_aside}
 
 -- the client's side, or a membership with the master of checkpoints

@@ -1,6 +1,6 @@
 -- At each moment takeovers are told only of transactions whose coordinator isn't a full member of the view, and have
 -- gathered only such.
-use Rattle.std.proofs.Common.{◌≡◌, ◌≢◌, ◌⊎◌, ◌++◌, ℕ, true, false, List, [], ◌∷◌, inl, inr, refl, sym, ap, ◌∙◌, subst, ⊎_elim}
+use Rattle.std.proofs.Common.{◌≡◌, ◌≢◌, ◌⊎◌, ◌++◌, ℕ, true, List, [], ◌∷◌, inl, inr, refl, sym, ap, ◌∙◌, subst, ⊎_elim}
 use Rattle.std.proofs.lemmas.Bool.{cases_eq}
 use Rattle.run_theory.specs.Lists.{Each, IsIn}
 use Rattle.run_theory.proofs.Pasts.{each_append, each_map}
@@ -23,7 +23,6 @@ use Rattle.tc_views.specs.Coordinator.{coordinator_row}
 use Rattle.tc_views.specs.State.{CoordinatorState}
 use Rattle.tc_views.specs.Views as coordinator
 use Rattle.node_views.specs.declared.host.Host as hosts
-use Rattle.node_views.specs.declared.ldm_part.LdmPart.{LdmPart}
 use Rattle.node_views.specs.declared.parts.Parts.TheVariants as part
 use Rattle.node_views.specs.declared.tc_part.TcPart.{TcPart}
 use Rattle.node_views.specs.Parts.{ldm_row, tc_entered, tc_row}
@@ -36,9 +35,8 @@ use Rattle.view_laws.proofs.KindsSent.{IsOf}
 use Rattle.view_laws.proofs.KindsTakeover.{is_of_takeover, takeover_kinds}
 use Rattle.view_laws.proofs.KindsTurns.{is_of_coordinator}
 use Rattle.moment_laws.specs.Moments.{IsMoment, logs_of}
-use Rattle.moment_laws.specs.Parts.{IsPassed}
 use Rattle.moment_laws.specs.PartSteps.{PartEnters, PartTakes, handles, ignores, installs, ldm_kind, remains, tc_kind}
-use Rattle.moment_laws.specs.Places.{ldm_of, tc_of}
+use Rattle.moment_laws.specs.Places.{tc_of}
 use Rattle.moment_laws.proofs.MomentHosts.{tc_started}
 use Rattle.moment_laws.proofs.MomentSignals.{EachSent, sent_next}
 use Rattle.moment_laws.proofs.MomentTurns.{host_low}

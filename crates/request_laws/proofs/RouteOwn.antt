@@ -1,5 +1,5 @@
 -- At an event of the host of a coordinator, the coordinator goes on to have its routes, and what the host sends is routed.
-use Rattle.std.proofs.Common.{◌≡◌, ◌≤◌, ◌⊎◌, ◌++◌, ◌∙◌, ℕ, Bool, true, false, List, [], ◌∷◌, inl, inr, refl, sym, ap, subst, arith}
+use Rattle.std.proofs.Common.{◌≡◌, ◌⊎◌, ◌++◌, ◌∙◌, ℕ, Bool, true, false, List, [], ◌∷◌, inl, inr, refl, sym, ap, subst, arith}
 use Rattle.std.proofs.lemmas.Bool.{ltb-false, true≢false}
 use Rattle.run_theory.specs.Lists.{Each, IsIn}
 use Rattle.run_theory.proofs.Pasts.{each_append, each_map}
@@ -27,9 +27,9 @@ use Rattle.tc_views.specs.State.{CoordinatorState}
 use Rattle.tc_views.specs.Views.{install_row}
 use Rattle.node_views.specs.declared.parts.Parts.TheVariants as part
 use Rattle.node_views.specs.declared.tc_part.TcPart.{TcPart}
-use Rattle.node_views.specs.Parts.{tc_entered, tc_row}
+use Rattle.node_views.specs.Parts.{tc_row}
 use Rattle.world_core.specs.Start.{Start, made}
-use Rattle.world_core.specs.Steps.{Addressed, HostStep}
+use Rattle.world_core.specs.Steps.{HostStep}
 use Rattle.world_views.specs.Machine.{after, machine, step_after}
 use Rattle.view_laws.specs.Runs.{view_after}
 use Rattle.moment_laws.specs.Moments.{IsMoment, logs_of}
@@ -47,7 +47,7 @@ use Rattle.request_laws.specs.Routed.{IsGivenUp, IsRoutedSignal, WasAskedIn, Was
 use Rattle.request_laws.specs.Routes.{CoordinatorHasRoutes, IsRouted, IsSentRouted}
 use Rattle.request_laws.specs.Ways.{is_sent}
 use Rattle.request_laws.proofs.RouteAnswered.{answered_installed}
-use Rattle.request_laws.proofs.RouteApart.{IsOfMember, IsUnsent, installs_of_member, sends_of_member}
+use Rattle.request_laws.proofs.RouteApart.{IsOfMember, IsUnsent, sends_of_member}
 use Rattle.request_laws.proofs.RouteAside.{AreAside, all_aside_routed, epochs_aside, epochs_install_aside, is_of_rows}
 use Rattle.request_laws.proofs.RouteDrives.{grows, makes}
 use Rattle.request_laws.proofs.RouteElsewhere.{CoordinatorHas, routed_more}
@@ -55,7 +55,6 @@ use Rattle.request_laws.proofs.RouteEnters.{behind_past, enters_has, own_full}
 use Rattle.request_laws.proofs.RouteGoes.{OrAsked, OrDriven, has_less}
 use Rattle.request_laws.proofs.RouteHeaders.{chain_fenced, header_is, told_of}
 use Rattle.request_laws.proofs.RouteLayouts.{IsLaid, tc_enters}
-use Rattle.request_laws.proofs.RouteOrphans.{AllOrphans}
 use Rattle.request_laws.proofs.RouteReports.{IsOrphan, coordinated}
 use Rattle.request_laws.proofs.RouteSends.{IsMade, Nobody}
 use Rattle.request_laws.proofs.RouteStands.{all_answered, all_given}

@@ -1,16 +1,11 @@
 -- What a step of a host comes to that coordinates for a member, or runs its rows, in words of the part that it runs.
-use Rattle.std.proofs.Common.{◌≡◌, ◌≤◌, ℕ, List, [], ◌∷◌, refl, ap, subst, sym, ◌∙◌}
+use Rattle.std.proofs.Common.{◌≡◌, ℕ, List, ◌∷◌, ap, subst, sym}
 use Rattle.run_theory.specs.Lists.{IsIn}
 use Rattle.sig_core.specs.declared.member.Member.{Member}
-use Rattle.sig_core.specs.declared.outs.Outgoing.{Outgoing}
 use Rattle.sig_core.specs.declared.place.Part.TheVariants.{Ldm, Tc}
-use Rattle.sig_core.specs.declared.view.View.{View}
 use Rattle.frag_map.specs.Layout.{first_layout}
-use Rattle.lqh_views.specs.State.{ReplicaState}
 use Rattle.tc_views.specs.Coordinator.{fresh_coordinator}
-use Rattle.tc_views.specs.State.{CoordinatorState}
-use Rattle.takeover_block.specs.State.{TakeoverState, resting}
-use Rattle.node_views.specs.declared.host.Host as hosts
+use Rattle.takeover_block.specs.State.{resting}
 use Rattle.node_views.specs.declared.ldm_part.LdmPart.{LdmPart}
 use Rattle.node_views.specs.declared.parts.Parts.TheVariants as part
 use Rattle.node_views.specs.declared.tc_part.TcPart.{TcPart}
