@@ -1,12 +1,17 @@
 pub mod PhaseAlong
+pub mod PhaseAsks
 pub mod PhaseEvents
 pub mod PhaseFates
 pub mod PhaseGone
+pub mod PhaseHeard
 pub mod PhaseHolds
 pub mod PhaseHosts
+pub mod PhaseKept
 pub mod PhaseKeyed
 pub mod PhaseMoves
 pub mod PhaseSends
+pub mod PhaseStands
+pub mod PhaseTold
 pub mod PhaseTurns
 pub mod PhaseWalk
 pub mod PhaseWays
