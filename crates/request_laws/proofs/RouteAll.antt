@@ -20,20 +20,21 @@ use Rattle.moment_laws.proofs.MomentSignals.{EachSent, sent_next}
 use Rattle.moment_laws.proofs.MomentTurns.{host_low}
 use Rattle.moment_laws.proofs.MomentViews.{moment_less}
 use Rattle.request_laws.specs.Blocks.{no_replica, rows_after, rows_in}
+use Rattle.request_laws.specs.Orphans.{AllOrphans}
 use Rattle.request_laws.specs.Phases.{CoordinatorStands}
 use Rattle.request_laws.specs.Routed.{AllRouted, IsGivenUp, IsRoutedSignal, SignalsAreRouted, WasAskedIn, WasDrivenIn, layout_in}
 use Rattle.request_laws.specs.Routes.{IsRouted, IsSentRouted}
-use Rattle.request_laws.specs.Stand.{CoordinatorsStand}
+use Rattle.request_laws.proofs.PhaseStands.{coordinators_stand}
 use Rattle.request_laws.proofs.RouteAside.{all_aside_routed}
 use Rattle.request_laws.proofs.RouteElsewhere.{CoordinatorHas, RowsHave, coordinator_elsewhere, rows_elsewhere, signal_stays}
 use Rattle.request_laws.proofs.RouteHeaders.{sent_so}
 use Rattle.request_laws.proofs.RouteHosts.{PartHost, beside_sends, coordinates, is_beside, keeps_rows, part_host}
-use Rattle.request_laws.proofs.RouteOrphans.{AllOrphans, all_orphans}
+use Rattle.request_laws.proofs.RouteOrphans.{takeovers_are_of_orphans}
 use Rattle.request_laws.proofs.RouteOwn.{own_has, own_sends}
 use Rattle.request_laws.proofs.RouteOwnRows.{rows_have, rows_send}
 use Rattle.request_laws.proofs.RouteStands.{none_first}
 
-module _ (stand : CoordinatorsStand) (start : Start) where
+module _ (start : Start) where
   none_wait : (member : Member) → IsIn member (made start) → (rows_after start member []).lqh.waiting ≡ []
   none_wait member there =
       ap (λ (s : hosts.Host). (rows_in (no_replica start member) s.parts).lqh.waiting) (ldm_started start member there)
@@ -58,7 +59,7 @@ module _ (stand : CoordinatorsStand) (start : Start) where
       less = moment_less start all e es moment
 
       orphans : AllOrphans start (logs_of start es)
-      orphans = all_orphans start all es less
+      orphans = takeovers_are_of_orphans start all es less
 
       abbrev view : View
       view = view_after start e.host (e ∷ old e.host)
@@ -77,8 +78,8 @@ module _ (stand : CoordinatorsStand) (start : Start) where
           by : PartHost start e.host → AreSent e.host
           by (coordinates me there at) =
               subst AreSent (sym at)
-              (own_sends start all e es moment me there at (stand start all es less me there)
-              (stand start all (e ∷ es) moment me there) routed.signals (routed.coordinators me there)
+              (own_sends start all e es moment me there at (coordinators_stand start all es less me there)
+              (coordinators_stand start all (e ∷ es) moment me there) routed.signals (routed.coordinators me there)
               (orphans.gathered me there))
           by (keeps_rows me there at) =
               subst AreSent (sym at)
@@ -105,10 +106,10 @@ module _ (stand : CoordinatorsStand) (start : Start) where
       coordinator_next member there = by (cases_eq e.host (tc_of start member))
         where
           before : CoordinatorStands start member (logs_of start es)
-          before = stand start all es less member there
+          before = coordinators_stand start all es less member there
 
           behind : CoordinatorStands start member (logs_of start (e ∷ es))
-          behind = stand start all (e ∷ es) moment member there
+          behind = coordinators_stand start all (e ∷ es) moment member there
 
           by : (e.host ≡ tc_of start member) ⊎ (e.host ≢ tc_of start member)
               → CoordinatorHas start e es member new (new (tc_of start member))
@@ -134,6 +135,5 @@ module _ (stand : CoordinatorsStand) (start : Start) where
   routed_all all [] moment = routed_first
   routed_all all (e ∷ es) moment = routed_next all e es moment (routed_all all es (moment_less start all e es moment))
 
--- so it is where coordinators stand
-pub signals_routed : CoordinatorsStand → SignalsAreRouted
-signals_routed stand start all es moment = routed_all stand start all es moment
+pub signals_are_routed : SignalsAreRouted
+signals_are_routed = routed_all

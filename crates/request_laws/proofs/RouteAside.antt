@@ -31,8 +31,8 @@ use Rattle.outcome_laws.proofs.KnowMaster.{master_tells_nothing}
 use Rattle.outcome_laws.proofs.KnowMembership.{membership_installs_nothing, membership_tells_nothing}
 use Rattle.outcome_laws.proofs.KnowNothing.{AreUntold, untold_silent}
 use Rattle.outcome_laws.proofs.KnowParts.{arbiter_tells_nothing}
+use Rattle.request_laws.specs.Orphans.{TellsOf}
 use Rattle.request_laws.specs.Routes.{IsRouted, IsSentRouted}
-use Rattle.request_laws.proofs.RouteTakeover.{TellsOf}
 
 -- a signal of chains, one that goes on with what is sent of a transaction, or one that tells a takeover of one
 abbrev pub is_of_rows : Body → Bool

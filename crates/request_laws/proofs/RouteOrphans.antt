@@ -38,19 +38,20 @@ use Rattle.moment_laws.specs.Moments.{IsMoment, logs_of}
 use Rattle.moment_laws.specs.PartSteps.{PartEnters, PartTakes, handles, ignores, installs, ldm_kind, remains, tc_kind}
 use Rattle.moment_laws.specs.Places.{tc_of}
 use Rattle.moment_laws.proofs.MomentHosts.{tc_started}
-use Rattle.moment_laws.proofs.MomentSignals.{EachSent, sent_next}
+use Rattle.moment_laws.proofs.MomentSignals.{sent_next}
 use Rattle.moment_laws.proofs.MomentTurns.{host_low}
 use Rattle.moment_laws.proofs.MomentViews.{moment_less}
 use Rattle.moment_laws.proofs.PartKinds.{tc_is}
 use Rattle.moment_laws.proofs.PartTaken.{IsTakenNow, handled_now}
 use Rattle.request_laws.specs.Blocks.{takeover_after, takeover_in}
+use Rattle.request_laws.specs.Orphans.{AllOrphans, GatheredAre, IsOrphan, TakeoversAreOfOrphans, TellsOf}
 use Rattle.request_laws.proofs.RouteAside.{IsAside, aside_tells, epochs_aside, epochs_install_aside, is_of_rows}
 use Rattle.request_laws.proofs.RouteHeaders.{header_is, sent_so, takeover_fenced, told_of}
 use Rattle.request_laws.proofs.RouteHosts.{PartHost, beside_sends, coordinates, is_beside, keeps_rows, part_host}
 use Rattle.request_laws.proofs.RouteLayouts.{ldm_enters}
-use Rattle.request_laws.proofs.RouteReports.{AreOrphans, IsOrphan, TellsOrphans, rows_tell_orphans}
+use Rattle.request_laws.proofs.RouteReports.{AreOrphans, TellsOrphans, rows_tell_orphans}
 use Rattle.request_laws.proofs.RouteSteps.{LdmStep, TcStep, ldm_step, takeover_is, tc_step}
-use Rattle.request_laws.proofs.RouteTakeover.{GatheredAre, TellsOf, gathered_stay}
+use Rattle.request_laws.proofs.RouteTakeover.{gathered_stay}
 
 -- blocks that tell a takeover nothing
 module _ (view : View) where
@@ -95,7 +96,7 @@ module _ (view : View) where
       (aside_orphans _ (epochs_install_aside p.dih now.number))
 
 module _ (start : Start) where
-  abbrev pub IsRightlyTold : Addressed → Type 0
+  abbrev IsRightlyTold : Addressed → Type 0
   IsRightlyTold y = TellsOf (IsOrphan y.signal.view) y.signal.body
 
   -- what a takeover has gathered, by the log of its host
@@ -103,25 +104,19 @@ module _ (start : Start) where
   HasOrphans member log =
       GatheredAre (IsOrphan (view_after start (tc_of start member) log)) (takeover_after start member log)
 
-  pub record AllOrphans (logs : ℕ → List HostStep) : Type 0 where
-    pub signals : EachSent start IsRightlyTold logs
-    pub gathered : (member : Member) → IsIn member (made start)
-        → GatheredAre (IsOrphan (view_after start (tc_of start member) (logs (tc_of start member))))
-        (takeover_after start member (logs (tc_of start member)))
-
   none_first : (member : Member) → IsIn member (made start) → (takeover_after start member []).gathered ≡ []
   none_first member there =
       ap (λ (s : hosts.Host). (takeover_in (resting member.node (first_layout start.shape)) s.parts).gathered)
       (tc_started start member there)
 
-  orphans_first : AllOrphans (λ h. [])
+  orphans_first : AllOrphans start (λ h. [])
   orphans_first = record {
     signals = λ i j. tt;
     gathered = λ member there. subst (Each _) (sym (none_first member there)) tt;
   }
 
   module _ (all : ℕ → List HostStep) (e : HostStep) (es : List HostStep) (moment : IsMoment start all (e ∷ es))
-      (own : AllOrphans (logs_of start es))
+      (own : AllOrphans start (logs_of start es))
     where
       abbrev old : ℕ → List HostStep
       old = logs_of start es
@@ -274,7 +269,7 @@ module _ (start : Start) where
           by (keeps_rows me there at) = ldm_sends (ldm_step start me there e.host at (old e.host) e)
           by (is_beside first) = aside_orphans view sends (beside_sends start e.host first (old e.host) e)
 
-      orphans_next : AllOrphans (logs_of start (e ∷ es))
+      orphans_next : AllOrphans start (logs_of start (e ∷ es))
       orphans_next = record {
         signals =
             sent_next start IsRightlyTold all e es moment own.signals
@@ -283,9 +278,11 @@ module _ (start : Start) where
         gathered = gathered_next;
       }
 
-  -- so it is at each moment
-  pub all_orphans : (all : ℕ → List HostStep) (es : List HostStep) → IsMoment start all es
-      → AllOrphans (logs_of start es)
+  all_orphans : (all : ℕ → List HostStep) (es : List HostStep) → IsMoment start all es
+      → AllOrphans start (logs_of start es)
   all_orphans all [] moment = orphans_first
   all_orphans all (e ∷ es) moment =
       orphans_next all e es moment (all_orphans all es (moment_less start all e es moment))
+
+pub takeovers_are_of_orphans : TakeoversAreOfOrphans
+takeovers_are_of_orphans = all_orphans

@@ -42,6 +42,7 @@ use Rattle.moment_laws.proofs.PartTaken.{IsTakenNow, handled_now}
 use Rattle.outcome_laws.specs.Counts.{coordinator_member}
 use Rattle.request_laws.specs.Blocks.{coordinator_after, takeover_after}
 use Rattle.request_laws.specs.Drives.{is_commit, is_request}
+use Rattle.request_laws.specs.Orphans.{GatheredAre, IsOrphan}
 use Rattle.request_laws.specs.Phases.{CoordinatorStands}
 use Rattle.request_laws.specs.Routed.{IsGivenUp, IsRoutedSignal, WasAskedIn, WasDrivenIn, layout_in}
 use Rattle.request_laws.specs.Routes.{CoordinatorHasRoutes, IsRouted, IsSentRouted}
@@ -55,11 +56,11 @@ use Rattle.request_laws.proofs.RouteEnters.{behind_past, enters_has, own_full}
 use Rattle.request_laws.proofs.RouteGoes.{OrAsked, OrDriven, has_less}
 use Rattle.request_laws.proofs.RouteHeaders.{chain_fenced, header_is, told_of}
 use Rattle.request_laws.proofs.RouteLayouts.{IsLaid, tc_enters}
-use Rattle.request_laws.proofs.RouteReports.{IsOrphan, coordinated}
+use Rattle.request_laws.proofs.RouteReports.{coordinated}
 use Rattle.request_laws.proofs.RouteSends.{IsMade, Nobody}
 use Rattle.request_laws.proofs.RouteStands.{all_answered, all_given}
 use Rattle.request_laws.proofs.RouteSteps.{TcStep, coordinator_is, own_tc, takeover_is}
-use Rattle.request_laws.proofs.RouteTakeover.{ChainsAreSome, GatheredAre, takeover_sends_routed}
+use Rattle.request_laws.proofs.RouteTakeover.{ChainsAreSome, takeover_sends_routed}
 use Rattle.request_laws.proofs.RouteTakes.{goes, own_renews, takes_has}
 use Rattle.request_laws.proofs.RouteTc.{AreAnswered, TakesRouted, installs_routed, is_idle}
 use Rattle.request_laws.proofs.RouteTurns.{Grows, IsGiven, was_so}

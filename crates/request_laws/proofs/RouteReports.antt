@@ -33,12 +33,8 @@ use Rattle.lqh_views.specs.State.{ReplicaState}
 use Rattle.lqh_views.proofs.AddressLemmas.{same-body}
 use Rattle.lqh_views.proofs.LastLemmas.{IsThere, last-there}
 use Rattle.outcome_laws.specs.Counts.{coordinator_member}
+use Rattle.request_laws.specs.Orphans.{IsOrphan, TellsOf}
 use Rattle.request_laws.proofs.RouteChains.{any_in}
-use Rattle.request_laws.proofs.RouteTakeover.{TellsOf}
-
--- its coordinator isn't a full member of the view
-abbrev pub IsOrphan : View → TxId → Type 0
-IsOrphan view tx = is_coordinated view.full tx ≡ false
 
 -- a takeover is told only of such
 abbrev pub TellsOrphans : View → Outgoing → Type 0
