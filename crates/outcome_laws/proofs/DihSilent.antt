@@ -7,7 +7,7 @@ use Rattle.sig_core.specs.declared.member.TxId.{TxId}
 use Rattle.sig_core.specs.declared.outs.Outgoing.{Outgoing}
 use Rattle.sig_core.specs.declared.signal.Body.{Body}
 use Rattle.sig_core.specs.declared.signal.Body.TheVariants.{Chain, Client, Epoch, Host, Takeover}
-use Rattle.sig_core.specs.declared.signal.chain.ChainSignal.TheVariants.{Commit, LqhKeyRef}
+use Rattle.sig_core.specs.declared.signal.chain.ChainSignal.TheVariants.{Commit}
 use Rattle.sig_core.specs.declared.signal.client.ClientSignal.TheVariants.{TcBeginConf, TcCommitConf, TcCommitReq, TcKeyConf, TcKeyFailConf, TcKeyReq, TcRollbackRep}
 use Rattle.sig_core.specs.declared.signal.epoch.EpochSignal.TheVariants.{DiVerifyConf, DiVerifyReq}
 use Rattle.sig_core.specs.declared.signal.host.HostSignal.TheVariants.{Continue}
@@ -15,8 +15,8 @@ use Rattle.sig_core.specs.declared.signal.host.Work.TheVariants.{Transaction}
 use Rattle.sig_core.specs.declared.signal.takeover.TakeoverSignal.TheVariants.{LqhTransConf}
 use Rattle.outcome_laws.specs.Tells.{Tells}
 
--- it tells that a transaction has begun, what it is to do or was answered, in which epoch one was decided, or why one is
--- aborted; or it is one of chains, or goes on with what is sent of a transaction
+-- it tells that a transaction has begun, what it is to do or was answered, in which epoch one was decided, or why one
+-- is aborted; or it is one of chains, or goes on with what is sent of a transaction
 abbrev pub is_telling : Body → Bool
 is_telling (Client (TcBeginConf name tx)) = true
 is_telling (Client (TcKeyReq tx op)) = true

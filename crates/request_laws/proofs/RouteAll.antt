@@ -68,8 +68,8 @@ module _ (start : Start) where
       abbrev AreSent : ℕ → Type 0
       AreSent h =
           Each (IsSentRouted (layout_in start (view_after start h (e ∷ old h)))
-          (WasAskedIn start new (view_after start h (e ∷ old h))) (WasDrivenIn start new (view_after start h (e ∷ old h)))
-          (IsGivenUp start new))
+          (WasAskedIn start new (view_after start h (e ∷ old h)))
+          (WasDrivenIn start new (view_after start h (e ∷ old h))) (IsGivenUp start new))
           (step_after start h (old h) e).effects.sends
 
       now_sent : AreSent e.host
@@ -131,7 +131,8 @@ module _ (start : Start) where
       routed_next : AllRouted start (logs_of start (e ∷ es))
       routed_next = record { signals = signals_next; coordinators = coordinator_next; rows = rows_next }
 
-  routed_all : (all : ℕ → List HostStep) (es : List HostStep) → IsMoment start all es → AllRouted start (logs_of start es)
+  routed_all : (all : ℕ → List HostStep) (es : List HostStep) → IsMoment start all es
+      → AllRouted start (logs_of start es)
   routed_all all [] moment = routed_first
   routed_all all (e ∷ es) moment = routed_next all e es moment (routed_all all es (moment_less start all e es moment))
 

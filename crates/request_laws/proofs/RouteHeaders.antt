@@ -1,6 +1,6 @@
--- Signals about the rows of transactions at an event: what is told of each that was sent is told of the one that it takes,
--- which has the view of its taker, if it has the number of that; and what is told of what blocks send is told of what their
--- host sends.
+-- Signals about the rows of transactions at an event: what is told of each that was sent is told of the one that it
+-- takes, which has the view of its taker, if it has the number of that; and what is told of what blocks send is told of
+-- what their host sends.
 use Rattle.std.proofs.Common.{◌≡◌, ℕ, true, filter, List, ◌∷◌, ap, refl, subst, sym}
 use Rattle.run_theory.specs.Lists.{Each, IsPast}
 use Rattle.run_theory.proofs.Pasts.{each_in, each_map, each_past}

@@ -1,5 +1,5 @@
--- Hosts by the part that they run: one that coordinates, one that runs rows, or one beside these, which sends nothing about
--- the rows of transactions.
+-- Hosts by the part that they run: one that coordinates, one that runs rows, or one beside these, which sends nothing
+-- about the rows of transactions.
 use Rattle.std.proofs.Common.{◌≡◌, ◌<◌, ◌+◌, ◌%◌, ◌/◌, ℕ, zero, suc, List, [], ◌∷◌, refl, subst, sym, arith}
 use Rattle.std.proofs.lemmas.Nat.{mod_below}
 use Rattle.frag_map.specs.Replicas.{first_start}
@@ -77,7 +77,8 @@ aside_effects = record {
   hushes = λ effects are. tt;
 }
 
-shell_beside : (p : ShellPart) (x : Signal) → IsBeside (parts_row (Shell p) x).state × SendsAside (parts_row (Shell p) x).effects
+shell_beside : (p : ShellPart) (x : Signal)
+    → IsBeside (parts_row (Shell p) x).state × SendsAside (parts_row (Shell p) x).effects
 unfolding shell_row
 shell_beside p x = (tt, by x.to.block)
   where
@@ -86,7 +87,8 @@ shell_beside p x = (tt, by x.to.block)
     by block.Arbiter = arbiter_aside p.arbiter x
     by _ = tt
 
-main_beside : (p : MainPart) (x : Signal) → IsBeside (parts_row (Main p) x).state × SendsAside (parts_row (Main p) x).effects
+main_beside : (p : MainPart) (x : Signal)
+    → IsBeside (parts_row (Main p) x).state × SendsAside (parts_row (Main p) x).effects
 unfolding main_row
 main_beside p x = (tt, by x.to.block)
   where

@@ -168,7 +168,8 @@ module _ (start : Start) (all : ℕ → List HostStep) (e : HostStep) (es : List
     some : ChainsAreSome layout
     some =
         chains_in start all moment.cluster view
-        (was_in start all moment.cluster member there (e ∷ log) (behind_past start all e es moment member there at before))
+        (was_in start all moment.cluster member there (e ∷ log)
+        (behind_past start all e es moment member there at before))
 
     full : IsIn member view.full
     full = own_full start all e es moment member there at before
@@ -462,7 +463,8 @@ module _ (start : Start) (all : ℕ → List HostStep) (e : HostStep) (es : List
         unfolding tc_row
         own_has = by step.does.takes
           where
-            still : later.coordinator ≡ between.coordinator → ((tx : TxId) → coordinator_member tx ≡ member → IsUnsent tx rest)
+            still : later.coordinator ≡ between.coordinator
+                → ((tx : TxId) → coordinator_member tx ≡ member → IsUnsent tx rest)
                 → CoordinatorHas start e es member new (new (tc_of start member))
             still same none =
                 stays_has later step.does.is same (λ tx mine. unsent_by rest tx step.does.sent (none tx mine))

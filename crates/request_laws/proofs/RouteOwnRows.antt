@@ -53,7 +53,8 @@ of_rows body is = absurd cc
 
 module _ (start : Start) (all : ℕ → List HostStep) (e : HostStep) (es : List HostStep)
     (moment : IsMoment start all (e ∷ es)) (member : Member) (there : IsIn member (made start))
-    (at : e.host ≡ ldm_of start member) (signals : EachSent start (IsRoutedSignal start (logs_of start es)) (logs_of start es))
+    (at : e.host ≡ ldm_of start member)
+    (signals : EachSent start (IsRoutedSignal start (logs_of start es)) (logs_of start es))
     (had : RowsHave start e es member (logs_of start es) (logs_of start es (ldm_of start member)))
   where
     abbrev old : ℕ → List HostStep
@@ -145,7 +146,8 @@ module _ (start : Start) (all : ℕ → List HostStep) (e : HostStep) (es : List
     waits : WaitsRouted layout A D G between.replica
     waits = by entering
       where
-        before : WaitsRouted (layout_in start stood) (WasAskedIn start new stood) (WasDrivenIn start new stood) G p.replica
+        before : WaitsRouted (layout_in start stood) (WasAskedIn start new stood) (WasDrivenIn start new stood) G
+            p.replica
         before =
             waits_more (layout_in start stood) (WasAskedIn start old stood) (WasDrivenIn start old stood)
             (IsGivenUp start old) (WasAskedIn start new stood) (WasDrivenIn start new stood) G (grows start e es stood)

@@ -35,7 +35,8 @@ IsOrphan view tx = is_coordinated view.full tx ≡ false
 -- so it is of all that takeovers were told, in the view of the sender, and of what each has gathered, in its own
 pub record AllOrphans (start : Start) (logs : ℕ → List HostStep) : Type 0 where
   pub signals : (i j : ℕ)
-      → Each (λ (x : Addressed). TellsOf (IsOrphan x.signal.view) x.signal.body) (sent (sound_machine start) i j (logs i))
+      → Each (λ (x : Addressed). TellsOf (IsOrphan x.signal.view) x.signal.body)
+      (sent (sound_machine start) i j (logs i))
   pub gathered : (member : Member) → IsIn member (made start)
       → GatheredAre (IsOrphan (view_after start (tc_of start member) (logs (tc_of start member))))
       (takeover_after start member (logs (tc_of start member)))
