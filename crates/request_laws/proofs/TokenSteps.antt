@@ -37,18 +37,13 @@ use Rattle.outcome_laws.proofs.TcLists.{count_both, none_counted}
 use Rattle.outcome_laws.proofs.TcWalk as walk
 use Rattle.outcome_laws.proofs.TcWalk.{ResumeForms}
 use Rattle.request_laws.specs.Drives.{is_request}
-use Rattle.request_laws.specs.Tokens.{is_token}
+use Rattle.request_laws.specs.Tokens.{has_asked, is_token}
 use Rattle.request_laws.specs.Ways.{entry_of, is_at, is_sent, tells_abort}
 use Rattle.request_laws.proofs.PhaseSends.{AreSpared}
 use Rattle.request_laws.proofs.PhaseTurns.{Changes, back, decides, forth, is_abort_told, opens, resume_changes, turn_changes, waits}
 use Rattle.request_laws.proofs.PhaseTurns as changes
 use Rattle.request_laws.proofs.PhaseWalk.{AreAway, Walks, begins, coordinator_walks, install_away, install_leaves, is_about, left_of, passes, resumes, stays, turns}
 use Rattle.request_laws.proofs.TokenTurns.{TokenTurn, asks, ends, falls, hears, rests, resumes_move, turns_move}
-
--- it has an operation unanswered
-abbrev pub asks_now : Option Transaction → Bool
-asks_now None = false
-asks_now (Some t) = is_some t.asked
 
 -- What is so of a transaction that has gone back, or hasn't: only where it may, it has something unanswered, and once it has
 -- gone back it is aborted or forgotten for good.
@@ -65,12 +60,12 @@ pub data TokenMove (tx : TxId) (body : Body) (gone : Bool) (was now : Option Tra
   where
   -- none; and what was unanswered is so, or is answered, or it has gone back
   quiet : count_sent (is_token tx) sends ≡ 0
-      → (asks_now was ≡ true
-      → (asks_now now ≡ true) ⊎ ((is_token tx body ≡ true) ⊎ (gone_behind tx gone now sends ≡ true)))
+      → (has_asked was ≡ true
+      → (has_asked now ≡ true) ⊎ ((is_token tx body ≡ true) ⊎ (gone_behind tx gone now sends ≡ true)))
       → TokenMove tx body gone was now sends
   -- a request, where nothing was unanswered
-  sends_one : count_sent (is_token tx) sends ≡ 1 → is_sent (is_request tx) sends ≡ true → asks_now was ≡ false
-      → asks_now now ≡ true → gone ≡ false → TokenMove tx body gone was now sends
+  sends_one : count_sent (is_token tx) sends ≡ 1 → is_sent (is_request tx) sends ≡ true → has_asked was ≡ false
+      → has_asked now ≡ true → gone ≡ false → TokenMove tx body gone was now sends
 
 pub record TokenStep (tx : TxId) (body : Body) (gone : Bool) (was now : Option Transaction) (unborn : Bool)
     (sends : List Outgoing) : Type 0 where
@@ -89,12 +84,12 @@ module _ (tx : TxId) where
   away_abort (Client (TcRollbackRep one cause)) off = off
   away_abort _ off = refl
 
-  away_none : (sends : List Outgoing) → AreAway tx sends → count_sent (is_token tx) sends ≡ 0
+  pub away_none : (sends : List Outgoing) → AreAway tx sends → count_sent (is_token tx) sends ≡ 0
   away_none sends away =
       none_counted (is_token tx) sends
       (each_map _ _ sends (λ (o : Outgoing) off. away_token o.body off) away)
 
-  away_untold : (sends : List Outgoing) → AreAway tx sends → is_sent (tells_abort tx) sends ≡ false
+  pub away_untold : (sends : List Outgoing) → AreAway tx sends → is_sent (tells_abort tx) sends ≡ false
   away_untold [] away = refl
   away_untold (o ∷ sends) away =
       ap (λ b. b || is_sent (tells_abort tx) sends) (away_abort o.body away.0) ∙ away_untold sends away.1
@@ -260,7 +255,7 @@ module _ (member : Member) (s : CoordinatorState) (of : IsCoordinatorOf member s
         TokenStep tx body gone (entry_of s tx) (entry_of step.state tx) (is_unborn step.state tx) step.effects.sends
 
     -- nothing comes to it
-    same_goes : (body : Body) (now : Option Transaction) (unborn : Bool) (sends : List Outgoing) → now ≡ entry_of s tx
+    pub same_goes : (body : Body) (now : Option Transaction) (unborn : Bool) (sends : List Outgoing) → now ≡ entry_of s tx
         → unborn ≡ is_unborn s tx → count_sent (is_token tx) sends ≡ 0 → is_sent (tells_abort tx) sends ≡ false
         → TokenStep tx body gone (entry_of s tx) now unborn sends
     same_goes body now unborn sends same again none untold = record {
@@ -268,7 +263,7 @@ module _ (member : Member) (s : CoordinatorState) (of : IsCoordinatorOf member s
           subst (λ o. IsFit (gone_behind tx gone o sends) unborn o) (sym same)
           (subst (λ b. IsFit (gone_behind tx gone (entry_of s tx) sends) b (entry_of s tx)) (sym again)
           (by (entry_of s tx) fit));
-      moves = quiet none (λ asked. inl (ap asks_now same ∙ asked));
+      moves = quiet none (λ asked. inl (ap has_asked same ∙ asked));
     }
       where
         by : (o : Option Transaction) → IsFit gone (is_unborn s tx) o

@@ -46,12 +46,12 @@ total_of_last : (ms : List Member) (m : Member) (f : Member → ℕ) → total_o
 total_of_last [] m f = omega arith
 total_of_last (x ∷ ms) m f = omega (arith, total_of_last ms m f)
 
-abbrev node_of : ℕ → Member
+abbrev pub node_of : ℕ → Member
 node_of node = record { node = node; start = 0 }
 
 -- one of them changes: that of a node
 pub total_of_one : (n : ℕ) (f g : Member → ℕ) (node : ℕ) → 1 ≤ node → node ≤ n
-    → ((k : ℕ) → 1 ≤ k → k ≢ node → g (node_of k) ≡ f (node_of k))
+    → ((k : ℕ) → 1 ≤ k → k ≤ n → k ≢ node → g (node_of k) ≡ f (node_of k))
     → total_of (members n) g + f (node_of node) ≡ total_of (members n) f + g (node_of node)
 total_of_one zero f g node some low same = absurd (omega (arith, some, low))
 total_of_one (suc n) f g node some low same =
@@ -64,7 +64,7 @@ total_of_one (suc n) f g node some low same =
     last_g = total_of_last (members n) (node_of (n + 1)) g
 
     by : ((n + 1) ≡ node) ⊎ ((n + 1) ≢ node)
-        → (node ≤ n → ((k : ℕ) → 1 ≤ k → k ≢ node → g (node_of k) ≡ f (node_of k))
+        → (node ≤ n → ((k : ℕ) → 1 ≤ k → k ≤ n → k ≢ node → g (node_of k) ≡ f (node_of k))
         → total_of (members n) g + f (node_of node) ≡ total_of (members n) f + g (node_of node))
         → total_of (members (suc n)) g + f (node_of node) ≡ total_of (members (suc n)) f + g (node_of node)
     by (inl at) rest =
@@ -85,15 +85,15 @@ total_of_one (suc n) f g node some low same =
               total_of_last (members m) (node_of (m + 1)) f,
               total_of_last (members m) (node_of (m + 1)) g,
               below m (omega (arith, high)),
-              same (m + 1) (omega arith) (λ is. absurd (omega (arith, is, high))),
+              same (m + 1) (omega arith) (omega (arith, high, low)) (λ is. absurd (omega (arith, is, high))),
             )
     by (inr other) rest =
         omega (
           arith,
           last_f,
           last_g,
-          same (n + 1) (omega arith) other,
-          rest (omega (arith, low, other)) same,
+          same (n + 1) (omega arith) (omega arith) other,
+          rest (omega (arith, low, other)) (λ k some low. same k some (omega (arith, low))),
         )
 
 -- signals that are tokens in a view

@@ -3,6 +3,7 @@
 
 mod replica_laws;
 mod stray_laws;
+mod token_laws;
 mod way_laws;
 
 pub use replica_laws::{
@@ -11,4 +12,5 @@ pub use replica_laws::{
 pub use stray_laws::{
     coordinators_have_the_number, fences_spare_no_strays, installations_spare_no_strays,
 };
+pub use token_laws::{nothing_else_is_under_way, one_at_a_time};
 pub use way_laws::transactions_go_one_way;
