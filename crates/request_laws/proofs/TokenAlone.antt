@@ -1,5 +1,5 @@
 -- Of a transaction whose token is taken, or waits, nothing else is under way.
-use Rattle.std.proofs.Common.{◌≡◌, ◌≢◌, ◌≤◌, ◌+◌, ◌==◌, ◌∙◌, ℕ, Bool, true, false, List, [], ◌∷◌, sym, ap, arith, inl, inr}
+use Rattle.std.proofs.Common.{◌≡◌, ◌≢◌, ◌≤◌, ◌+◌, ◌==◌, ◌∙◌, ℕ, Bool, true, false, List, [], ◌∷◌, refl, sym, ap, arith, inl, inr}
 use Rattle.std.proofs.lemmas.Bool.{and_parts}
 use Rattle.std.specs.Prelude.{if◌then◌else◌}
 use Rattle.run_theory.specs.Lists.{IsIn}
@@ -9,9 +9,9 @@ use Rattle.sig_core.specs.declared.signal.Signal.{Signal}
 use Rattle.world_core.specs.Start.{Start, made}
 use Rattle.world_core.specs.Steps.{HostStep}
 use Rattle.view_laws.specs.Order.{sound_machine}
-use Rattle.moment_laws.specs.Moments.{IsMoment, logs_of}
+use Rattle.moment_laws.specs.Moments.{logs_of}
 use Rattle.moment_laws.proofs.MomentViews.{moment_less}
-use Rattle.outcome_laws.specs.Counts.{coordinator_member, one_if}
+use Rattle.outcome_laws.specs.Counts.{one_if}
 use Rattle.request_laws.specs.Tokens.{TakenIsAlone, WaitingIsAlone, all_sent, all_taken, all_waiting, is_token, is_token_in, may_go, number_now, total_of, waiting_at}
 use Rattle.request_laws.proofs.TokenMoments.{before_now, have_one}
 use Rattle.request_laws.proofs.TokenSums.{takes_before, takes_few}

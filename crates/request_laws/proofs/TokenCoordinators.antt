@@ -4,7 +4,7 @@ use Rattle.std.proofs.lemmas.Bool.{or_right, true≢false}
 use Rattle.std.proofs.lemmas.List.{append-nil}
 use Rattle.std.proofs.lemmas.List.Folds.{list_any-append}
 use Rattle.std.specs.Prelude.{nat_le, Option}
-use Rattle.run_theory.specs.Lists.{Each, IsIn}
+use Rattle.run_theory.specs.Lists.{IsIn}
 use Rattle.run_theory.proofs.Pasts.{each_append}
 use Rattle.sig_core.specs.declared.member.Member.{Member}
 use Rattle.sig_core.specs.declared.member.TxId.{TxId}
@@ -29,7 +29,6 @@ use Rattle.dih_node.specs.Orders as dih
 use Rattle.dih_node.specs.State as epochs
 use Rattle.takeover_block.specs.Takeover.{takeover_row}
 use Rattle.node_views.specs.declared.host.Host as hosts
-use Rattle.node_views.specs.declared.parts.Parts.{Parts}
 use Rattle.node_views.specs.declared.parts.Parts.TheVariants.{Tc}
 use Rattle.node_views.specs.declared.tc_part.TcPart.{TcPart}
 use Rattle.node_views.specs.Parts.{tc_entered, tc_row}
@@ -40,7 +39,7 @@ use Rattle.view_laws.specs.Runs.{view_after}
 use Rattle.view_laws.proofs.KindsSent.{each_of_kinds}
 use Rattle.view_laws.proofs.KindsTakeover.{is_of_takeover, takeover_kinds}
 use Rattle.moment_laws.specs.Parts.{IsPassed}
-use Rattle.moment_laws.specs.PartSteps.{PartEnters, PartTakes, TcDoes, handles, ignores, installs, remains, tc_kind}
+use Rattle.moment_laws.specs.PartSteps.{PartEnters, PartTakes, handles, ignores, installs, remains, tc_kind}
 use Rattle.moment_laws.specs.Places.{tc_of}
 use Rattle.moment_laws.proofs.MomentHosts.{part_some}
 use Rattle.moment_laws.proofs.PartKinds.{tc_after}
@@ -50,15 +49,15 @@ use Rattle.request_laws.specs.Blocks.{coordinator_after, coordinator_in}
 use Rattle.request_laws.specs.Drives.{is_request}
 use Rattle.request_laws.specs.Tokens.{has_asked, is_token}
 use Rattle.request_laws.specs.Ways.{entry_of, has_gone_back, is_at, is_sent, tells_abort}
-use Rattle.request_laws.proofs.PhaseAlong.{coordinator_is, runs_tc, told_some}
+use Rattle.request_laws.proofs.PhaseAlong.{coordinator_first, coordinator_is, runs_tc, told_some}
 use Rattle.request_laws.proofs.PhaseGone.{spared_unsent}
 use Rattle.request_laws.proofs.PhaseHosts.{Goes, IsEntered, leaves, takes, tc_goes}
 use Rattle.request_laws.proofs.PhaseMoves.{IsLike, like}
-use Rattle.request_laws.proofs.PhaseSends.{AreSpared, IsSpared}
+use Rattle.request_laws.proofs.PhaseSends.{IsSpared}
 use Rattle.request_laws.proofs.PhaseWalk.{AreAway, install_away, is_about}
 use Rattle.request_laws.proofs.TokenEpochs.{epochs_install, epochs_kinds, is_of_epochs}
 use Rattle.request_laws.proofs.TokenNone.{epochs_no_tokens, takeover_no_tokens}
-use Rattle.request_laws.proofs.TokenSteps.{IsFit, TokenMove, TokenStep, away_none, away_untold, coordinator_tokens, gone_behind, others_send_none, quiet, same_goes, sends_one}
+use Rattle.request_laws.proofs.TokenSteps.{IsFit, TokenMove, TokenStep, away_none, away_untold, coordinator_tokens, others_send_none, quiet, same_goes, sends_one}
 
 -- a block of the coordinating part that the host runs takes the signal of a step, once its view is installed
 pub record IsHandled (start : Start) (h : ℕ) (log : List HostStep) (e : HostStep) (at : BlockId) : Type 0 where
@@ -235,9 +234,6 @@ module _ (start : Start) (member : Member) (there : IsIn member (made start)) (t
   abbrev sends : List HostStep → HostStep → List Outgoing
   sends log e = (step_after start h log e).effects.sends
 
-  other : CoordinatorState
-  other = fresh_coordinator member.node member.start (first_layout start.shape)
-
   -- it is that of the part that the host runs
   runs_coordinator : (log : List HostStep) (p : TcPart) → (after start h log).parts ≡ Tc p
       → coordinator log ≡ p.coordinator
@@ -355,7 +351,6 @@ module _ (start : Start) (member : Member) (there : IsIn member (made start)) (t
     -- so it is along each log
     pub always_fits : (log : List HostStep) → Fits log
     always_fits [] =
-        let at = runs_tc start member there [] in
         subst (λ s. IsFit false (is_unborn s tx) (entry_of s tx)) (sym (coordinator_first start member there))
         (λ off. absurd (true≢false (sym off)))
     always_fits (e ∷ log) = (step_tokens log e (always_fits log)).step.fit

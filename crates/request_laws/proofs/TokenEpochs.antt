@@ -1,5 +1,5 @@
 -- What the epochs of a node send, whatever they take and whatever view is installed.
-use Rattle.std.proofs.Common.{◌==◌, ◌+◌, ◌++◌, ℕ, Bool, true, false, nat_le, nat_lt, length, refl}
+use Rattle.std.proofs.Common.{◌≡◌, ◌==◌, ◌+◌, ◌++◌, ℕ, Bool, true, false, nat_le, nat_lt, length, refl}
 use Rattle.std.specs.Prelude.{Option, None, Some, remove, slice_get}
 use Rattle.run_theory.proofs.Pasts.{each_append}
 use Rattle.sig_core.specs.declared.member.TxId.{TxId}
@@ -11,7 +11,7 @@ use Rattle.sig_core.specs.declared.signal.epoch.EpochSignal.TheVariants.{CopyGci
 use Rattle.sig_core.specs.declared.signal.host.HostSignal.TheVariants.{Continue}
 use Rattle.sig_core.specs.declared.signal.host.Work.TheVariants.{Held}
 use Rattle.sig_core.specs.declared.signal.membership.MembershipSignal.TheVariants.{FenceReq}
-use Rattle.sig_core.specs.Step.{Step, stay}
+use Rattle.sig_core.specs.Step.{Step}
 use Rattle.dih_node.specs.declared.dih.Report.{Report}
 use Rattle.dih_node.specs.declared.dih.TheConstants.{TRANSACTIONS}
 use Rattle.dih_node.specs.Dih.{dih_row, dih_table, epoch_table}

@@ -2,25 +2,20 @@
 use Rattle.std.proofs.Common.{◌≡◌, ◌≢◌, ◌≤◌, ◌<◌, ◌+◌, ◌⊎◌, ◌==◌, ◌&&◌, ◌||◌, ◌∙◌, ℕ, Bool, true, false, List, [], ◌∷◌, refl, sym, ap, subst, arith, inl, inr}
 use Rattle.std.proofs.lemmas.Bool.{cases_eq, eq-eqb, eqb-true, true≢false}
 use Rattle.std.specs.Prelude.{if◌then◌else◌}
-use Rattle.std.specs.List.{count_by, list_any}
-use Rattle.run_theory.specs.Counts.{total}
-use Rattle.run_theory.specs.Links.{sent_by}
+use Rattle.std.specs.List.{count_by}
 use Rattle.run_theory.specs.Lists.{IsIn}
 use Rattle.host_laws.proofs.Sums.{total_zero}
 use Rattle.sig_core.specs.declared.member.Member.{Member}
 use Rattle.sig_core.specs.declared.member.TxId.{TxId}
 use Rattle.sig_core.specs.declared.outs.Outgoing.{Outgoing}
 use Rattle.sig_core.specs.declared.place.BlockId.TheVariants as block
-use Rattle.sig_core.specs.declared.place.Part.TheVariants.{Ldm}
 use Rattle.sig_core.specs.declared.signal.Body.{Body}
 use Rattle.sig_core.specs.declared.signal.Body.TheVariants.{Chain}
 use Rattle.sig_core.specs.declared.signal.Signal.{Signal}
 use Rattle.sig_core.specs.declared.signal.chain.ChainSignal.TheVariants.{LqhKeyReq}
 use Rattle.sig_core.specs.declared.view.View.{View}
-use Rattle.frag_map.specs.Layout.{first_layout, members}
 use Rattle.frag_map.specs.Replicas.{first_start}
 use Rattle.tc_block.specs.Phases.{is_aborting}
-use Rattle.tc_block.specs.declared.transaction.Transaction.{Transaction}
 use Rattle.node_views.specs.declared.host.Host as node
 use Rattle.world_core.specs.Hosts.{hosts}
 use Rattle.world_core.specs.Start.{Start, made}
@@ -42,8 +37,8 @@ use Rattle.moment_laws.proofs.PartTaken.{handled_now}
 use Rattle.outcome_laws.specs.Counts.{coordinator_member, count_sent, one_if}
 use Rattle.outcome_laws.proofs.TcLists.{count_more}
 use Rattle.request_laws.specs.Blocks.{coordinator_after, no_replica, rows_after, rows_in}
-use Rattle.request_laws.specs.Drives.{asked_in, is_request, last_view}
-use Rattle.request_laws.specs.Tokens.{OneAtATime, all_sent, all_taken, all_waiting, budget, count_waiting, has_asked, is_token, is_token_in, number_now, total_of, waiting_at}
+use Rattle.request_laws.specs.Drives.{asked_in, is_request}
+use Rattle.request_laws.specs.Tokens.{OneAtATime, all_sent, all_taken, all_waiting, budget, count_waiting, has_asked, is_token, is_token_in, number_now, waiting_at}
 use Rattle.request_laws.specs.Ways.{entry_of, has_gone_back, is_sent, tells_abort}
 use Rattle.request_laws.proofs.PhaseGone.{gone_stays}
 use Rattle.request_laws.proofs.TokenCoordinators.{Hears, IsHandled, StepTokens, always_fits, foreign_none, step_tokens}

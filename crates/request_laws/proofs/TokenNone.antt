@@ -1,5 +1,5 @@
 -- Blocks beside coordinators and rows send no tokens.
-use Rattle.std.proofs.Common.{◌≡◌, Bool, true, false, List, refl, sym}
+use Rattle.std.proofs.Common.{◌≡◌, true, false, List, refl, sym}
 use Rattle.std.proofs.lemmas.Bool.{true≢false}
 use Rattle.run_theory.specs.Lists.{Each}
 use Rattle.run_theory.proofs.Pasts.{each_map}

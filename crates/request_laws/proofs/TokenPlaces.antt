@@ -22,7 +22,7 @@ use Rattle.world_core.specs.Hosts.{hosts, member_at, part_by}
 use Rattle.world_core.specs.Start.{Start, made}
 use Rattle.world_core.specs.Steps.{HostStep}
 use Rattle.world_views.specs.Hosts.{part_started, started}
-use Rattle.world_views.specs.Machine.{after, step_after, step_by, told}
+use Rattle.world_views.specs.Machine.{after, step_after, told}
 use Rattle.view_laws.proofs.RunMade.{first_in, made_same, node_low, node_some}
 use Rattle.moment_laws.specs.Places.{ldm_of, tc_of}
 use Rattle.moment_laws.proofs.MomentHosts.{ldm_number, tc_number}
@@ -49,10 +49,7 @@ unfolding started
 host_is start zero low = of_neither tt
 host_is start (suc k) low = by (k % 3) refl
   where
-    me : Member
-    me = first_start (k / 3 + 1)
-
-    there : IsIn me (made start)
+    there : IsIn (first_start (k / 3 + 1)) (made start)
     there = first_in start.shape.nodes (k / 3 + 1) (omega arith) (omega (arith, low))
 
     by : (left : ℕ) → k % 3 ≡ left → HostIs start (suc k)
@@ -60,8 +57,12 @@ host_is start (suc k) low = by (k % 3) refl
         of_neither
         (subst (λ (left : ℕ). HasNeither (part_started start (part_by left) (member_at (made start) (suc k))).parts)
         (sym e) tt)
-    by (suc zero) e = let is = tc_number start me there in of_tc me there (omega (arith, e, is))
-    by (suc (suc left)) e = let is = ldm_number start me there in of_ldm me there (omega (arith, e, is))
+    by (suc zero) e =
+        let is = tc_number start (first_start (k / 3 + 1)) there in
+        of_tc (first_start (k / 3 + 1)) there (omega (arith, e, is))
+    by (suc (suc left)) e =
+        let is = ldm_number start (first_start (k / 3 + 1)) there in
+        of_ldm (first_start (k / 3 + 1)) there (omega (arith, e, is))
 
 module _ (start : Start) where
   pub ldm_low : (me : Member) → IsIn me (made start) → ldm_of start me < hosts start

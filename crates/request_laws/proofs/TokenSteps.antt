@@ -3,8 +3,6 @@ use Rattle.std.proofs.Common.{◌≡◌, ◌⊎◌, ◌||◌, ◌++◌, ◌+◌,
 use Rattle.std.proofs.lemmas.Bool.{leb-false, leb-true, or_cases, or_left, or_right, true≢false}
 use Rattle.std.proofs.lemmas.List.{append-nil}
 use Rattle.std.specs.Prelude.{is_some, nat_le, if◌then◌else◌, Option, None, Some}
-use Rattle.std.specs.List.{list_any}
-use Rattle.run_theory.specs.Lists.{Each}
 use Rattle.run_theory.proofs.Pasts.{each_map}
 use Rattle.sig_core.specs.declared.member.Member.{Member}
 use Rattle.sig_core.specs.declared.member.TxId.{TxId}
@@ -16,7 +14,6 @@ use Rattle.sig_core.specs.declared.signal.chain.ChainSignal.TheVariants.{LqhKeyC
 use Rattle.sig_core.specs.declared.signal.client.ClientSignal.TheVariants.{TcRollbackRep}
 use Rattle.sig_core.specs.declared.view.View.{View}
 use Rattle.sig_core.specs.Step.{Step}
-use Rattle.frag_map.specs.Layout.{Layout}
 use Rattle.host_laws.proofs.OfLive.{each_found}
 use Rattle.host_laws.proofs.TcOps.{is_right}
 use Rattle.tc_block.specs.declared.phase.Asked.{Asked}
@@ -28,7 +25,7 @@ use Rattle.tc_block.specs.Phases.{is_aborting}
 use Rattle.tc_block.specs.Resume.{resume_row}
 use Rattle.tc_block.specs.Turn.{Turn}
 use Rattle.tc_block.proofs.EachTurn.{rows_at, rows_of}
-use Rattle.tc_block.proofs.TurnRows.{is_turn, turn_for, turn_with, tx_in}
+use Rattle.tc_block.proofs.TurnRows.{turn_for, turn_with}
 use Rattle.tc_views.specs.Coordinator.{coordinator_row}
 use Rattle.tc_views.specs.State.{CoordinatorState, go_on_if, go_on_with}
 use Rattle.tc_views.specs.Views as views
@@ -42,7 +39,7 @@ use Rattle.request_laws.specs.Ways.{entry_of, is_at, is_sent, tells_abort}
 use Rattle.request_laws.proofs.PhaseSends.{AreSpared}
 use Rattle.request_laws.proofs.PhaseTurns.{Changes, back, decides, forth, is_abort_told, opens, resume_changes, turn_changes, waits}
 use Rattle.request_laws.proofs.PhaseTurns as changes
-use Rattle.request_laws.proofs.PhaseWalk.{AreAway, Walks, begins, coordinator_walks, install_away, install_leaves, is_about, left_of, passes, resumes, stays, turns}
+use Rattle.request_laws.proofs.PhaseWalk.{AreAway, Walks, begins, coordinator_walks, is_about, left_of, passes, resumes, stays, turns}
 use Rattle.request_laws.proofs.TokenTurns.{TokenTurn, asks, ends, falls, hears, rests, resumes_move, turns_move}
 
 -- What is so of a transaction that has gone back, or hasn't: only where it may, it has something unanswered, and once it has

@@ -1,10 +1,10 @@
 -- Over all hosts no more signals of a kind are taken from links than were sent.
-use Rattle.std.proofs.Common.{◌≡◌, ◌≢◌, ◌≤◌, ◌<◌, ◌+◌, ◌⊎◌, ◌==◌, ◌&&◌, ℕ, zero, suc, Bool, true, false, List, [], ◌∷◌, ◌++◌, refl, sym, ap, subst, arith, inl, inr, ◌∙◌}
+use Rattle.std.proofs.Common.{◌≡◌, ◌≢◌, ◌≤◌, ◌<◌, ◌+◌, ◌⊎◌, ◌==◌, ◌&&◌, ℕ, zero, suc, Bool, true, false, List, [], ◌∷◌, refl, sym, ap, arith, inl, inr, ◌∙◌}
 use Rattle.std.proofs.lemmas.Bool.{cases_lt, eq-eqb, true≢false}
 use Rattle.std.specs.Prelude.{not, if◌then◌else◌}
 use Rattle.std.specs.List.{count_by}
 use Rattle.run_theory.specs.Counts.{one_if as plain_one, total}
-use Rattle.run_theory.specs.Links.{Closes, IsGiven, is_from, put, sent, sent_by, taken}
+use Rattle.run_theory.specs.Links.{IsGiven, put, sent, sent_by, taken}
 use Rattle.run_theory.specs.Lists.{IsPast}
 use Rattle.run_theory.specs.Machine.{Machine}
 use Rattle.run_theory.specs.Runs.{AreLogs, IsWithin}
