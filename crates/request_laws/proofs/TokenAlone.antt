@@ -12,7 +12,7 @@ use Rattle.view_laws.specs.Order.{sound_machine}
 use Rattle.moment_laws.specs.Moments.{logs_of}
 use Rattle.moment_laws.proofs.MomentViews.{moment_less}
 use Rattle.outcome_laws.specs.Counts.{one_if}
-use Rattle.request_laws.specs.Tokens.{TakenIsAlone, WaitingIsAlone, all_sent, all_taken, all_waiting, is_token, is_token_in, may_go, number_now, total_of, waiting_at}
+use Rattle.request_laws.specs.Tokens.{QuietUnlessAsked, TakenIsAlone, WaitingIsAlone, all_sent, all_taken, all_waiting, is_token, is_token_in, may_go, number_now, total_of, waiting_at}
 use Rattle.request_laws.proofs.TokenMoments.{before_now, have_one}
 use Rattle.request_laws.proofs.TokenSums.{takes_before, takes_few}
 use Rattle.request_laws.proofs.TokenViews.{all_taken_more}
@@ -83,6 +83,26 @@ taken_alone start all e es moment tx there asked is = record {
           all_taken_more start all e es moment (is_token_in tx now),
           taken_one,
         )
+
+pub quiet_unless_asked : QuietUnlessAsked
+quiet_unless_asked start all es moment tx there off = record {
+  waits = λ member among.
+      let part = total_of_part (made start) (waiting_at start logs tx now) member among in
+      omega (arith, part, known, taken_few, ap one_if off);
+  goes = omega (arith, known, taken_few, ap one_if off);
+}
+  where
+    logs : ℕ → List HostStep
+    logs = logs_of start es
+
+    now : ℕ
+    now = number_now start (logs_of start es)
+
+    known : IsFew start logs tx now
+    known = have_one start all es moment tx there
+
+    taken_few : all_taken start (is_token_in tx now) logs ≤ all_sent start (is_token_in tx now) logs
+    taken_few = takes_few start (is_token_in tx now) (token_only tx now) all es moment
 
 pub waiting_alone : WaitingIsAlone
 waiting_alone start all es moment tx there member among some = record {

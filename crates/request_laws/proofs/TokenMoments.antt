@@ -1,6 +1,6 @@
 -- At each moment the operations of a transaction are under way one at a time.
 use Rattle.std.proofs.Common.{◌≡◌, ◌≢◌, ◌≤◌, ◌<◌, ◌+◌, ◌⊎◌, ◌==◌, ◌&&◌, ◌||◌, ◌∙◌, ℕ, Bool, true, false, List, [], ◌∷◌, refl, sym, ap, subst, arith, inl, inr}
-use Rattle.std.proofs.lemmas.Bool.{cases_eq, eq-eqb, eqb-true, true≢false}
+use Rattle.std.proofs.lemmas.Bool.{cases_eq, eq-eqb, eqb-true, or_right, true≢false}
 use Rattle.std.specs.Prelude.{if◌then◌else◌}
 use Rattle.std.specs.List.{count_by}
 use Rattle.run_theory.specs.Lists.{IsIn}
@@ -67,19 +67,19 @@ unasked tx (o ∷ sends) none =
 -- what may be under way goes on so, or came by a token, or the transaction is given up
 may_more : (gone asked here gone_now asked_now : Bool) (taken : ℕ) → (gone ≡ true → gone_now ≡ true)
     → (asked ≡ true → (asked_now ≡ true) ⊎ ((1 ≤ taken) ⊎ (gone_now ≡ true)))
-    → one_if (gone || (asked && here)) ≤ taken + one_if (gone_now || (asked_now && here))
+    → one_if ((gone || asked) && here) ≤ taken + one_if ((gone_now || asked_now) && here)
 may_more true asked here true asked_now taken up on = omega arith
 may_more true asked here false asked_now taken up on = absurd (true≢false (sym (up refl)))
 may_more false false here gone_now asked_now taken up on = omega arith
-may_more false true false gone_now asked_now taken up on = omega arith
-may_more false true true true asked_now taken up on = omega arith
-may_more false true true false true taken up on = omega arith
-may_more false true true false false taken up on = by (on refl)
+may_more false true here true asked_now taken up on = omega arith
+may_more false true here false true taken up on = omega arith
+may_more false true here false false taken up on = by here (on refl)
   where
-    by : (false ≡ true) ⊎ ((1 ≤ taken) ⊎ (false ≡ true)) → 1 ≤ taken + 0
-    by (inl is) = absurd (true≢false (sym is))
-    by (inr (inl some)) = omega (arith, some)
-    by (inr (inr is)) = absurd (true≢false (sym is))
+    by : (here : Bool) → (false ≡ true) ⊎ ((1 ≤ taken) ⊎ (false ≡ true)) → one_if here ≤ taken + 0
+    by here (inl is) = absurd (true≢false (sym is))
+    by here (inr (inr is)) = absurd (true≢false (sym is))
+    by true (inr (inl some)) = omega (arith, some)
+    by false (inr (inl some)) = omega arith
 
 module _ (start : Start) (all : ℕ → List HostStep) (e : HostStep) (es : List HostStep)
     (moment : IsMoment start all (e ∷ es)) (tx : TxId)
@@ -120,8 +120,8 @@ module _ (start : Start) (all : ℕ → List HostStep) (e : HostStep) (es : List
     -- what may be under way, by the log of its coordinator's host
     abbrev may_in : List HostStep → ℕ
     may_in log =
-        one_if (has_gone_back start member tx log
-        || (has_asked (entry_of (coordinator_after start member log) tx) && (asked_in start member tx log == now)))
+        one_if ((has_gone_back start member tx log || has_asked (entry_of (coordinator_after start member log) tx))
+        && (asked_in start member tx log == now))
 
     may_elsewhere : e.host ≢ home → budget start new tx now ≡ budget start old tx now
     may_elsewhere off = ap may_in (other_log start all e es moment home off)
@@ -157,14 +157,13 @@ module _ (start : Start) (all : ℕ → List HostStep) (e : HostStep) (es : List
 
       -- where it asks for an operation it may go on
       asks_may : (gone asked : Bool) (number : ℕ) → asked ≡ true → number ≡ now
-          → one_if (gone || (asked && (number == now))) ≡ 1
-      asks_may true asked number is same = refl
-      asks_may false asked number is same =
-          ap (λ b. one_if (b && (number == now))) is ∙ ap one_if (eq-eqb number now same)
+          → one_if ((gone || asked) && (number == now)) ≡ 1
+      asks_may gone asked number is same =
+          ap (λ b. one_if (b && (number == now))) (or_right gone asked is) ∙ ap one_if (eq-eqb number now same)
 
-      unasked_may : (gone asked here : Bool) → gone ≡ false → asked ≡ false → one_if (gone || (asked && here)) ≡ 0
+      unasked_may : (gone asked here : Bool) → gone ≡ false → asked ≡ false → one_if ((gone || asked) && here) ≡ 0
       unasked_may gone asked here off none =
-          ap (λ b. one_if (b || (asked && here))) off ∙ ap (λ b. one_if (b && here)) none
+          ap (λ b. one_if ((b || asked) && here)) off ∙ ap (λ b. one_if (b && here)) none
 
       home_few : StepTokens start member there tx refl (old home) e
           → s + may_in (old home) ≤ t + may_in (e ∷ old home)
@@ -191,7 +190,7 @@ module _ (start : Start) (all : ℕ → List HostStep) (e : HostStep) (es : List
               (λ is. gone_stays start member tx is_aborting (tells_abort tx) log e is)
               (λ asked. heard (goes asked)) in
               let last =
-              ap (λ n. one_if (has_gone_back start member tx (e ∷ log) || (is_now && (n == now)))) same in
+              ap (λ n. one_if ((has_gone_back start member tx (e ∷ log) || is_now) && (n == now))) same in
               omega (arith, few home at, none, more, last)
             where
               heard : (is_now ≡ true)

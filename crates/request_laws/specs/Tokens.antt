@@ -80,13 +80,13 @@ module _ (start : Start) (logs : ℕ → List HostStep) (tx : TxId) (number : �
   abbrev pub all_waiting : ℕ
   all_waiting = total_of (made start) waiting_at
 
-  -- one may be under way if the transaction is given up, or has an operation unanswered that was asked for in the view
+  -- one may be under way if its last operation was asked for in the view, and is unanswered, or the transaction is given up
   abbrev pub may_go : Bool
   may_go =
       let member = coordinator_member tx in
       let log = logs (tc_of start member) in
-      has_gone_back start member tx log
-      || (has_asked (entry_of (coordinator_after start member log) tx) && (asked_in start member tx log == number))
+      (has_gone_back start member tx log || has_asked (entry_of (coordinator_after start member log) tx))
+      && (asked_in start member tx log == number)
 
   abbrev pub budget : ℕ
   budget = one_if may_go
@@ -111,6 +111,19 @@ TakesAreFew =
     (start : Start) (all : ℕ → List HostStep) (es : List HostStep) → IsMoment start all es → (p : Signal → Bool)
     → ((x : Signal) → p x ≡ true → (tx : TxId) × (is_token tx x.body ≡ true))
     → all_taken start p (logs_of start es) ≤ all_sent start p (logs_of start es)
+
+-- in the view of this number nothing of the transaction waits, and none of its signals is under way
+pub record IsQuiet (start : Start) (logs : ℕ → List HostStep) (tx : TxId) (number : ℕ) : Type 0 where
+  pub waits : (member : Member) → IsIn member (made start) → waiting_at start logs tx number member ≡ 0
+  pub goes : all_sent start (is_token_in tx number) logs ≡ all_taken start (is_token_in tx number) logs
+
+-- so it is where none may be under way
+abbrev pub QuietUnlessAsked : Type 0
+QuietUnlessAsked =
+    (start : Start) (all : ℕ → List HostStep) (es : List HostStep) → IsMoment start all es → (tx : TxId)
+    → IsIn (coordinator_member tx) (made start)
+    → may_go start (logs_of start es) tx (number_now start (logs_of start es)) ≡ false
+    → IsQuiet start (logs_of start es) tx (number_now start (logs_of start es))
 
 -- In the view of this number nothing of the transaction waits, one signal of it is under way, and it may.
 pub record IsAlone (start : Start) (logs : ℕ → List HostStep) (tx : TxId) (number : ℕ) : Type 0 where
