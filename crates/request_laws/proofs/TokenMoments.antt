@@ -38,7 +38,7 @@ use Rattle.outcome_laws.specs.Counts.{coordinator_member, count_sent, one_if}
 use Rattle.outcome_laws.proofs.TcLists.{count_more}
 use Rattle.request_laws.specs.Blocks.{coordinator_after, no_replica, rows_after, rows_in}
 use Rattle.request_laws.specs.Drives.{asked_in, is_request}
-use Rattle.request_laws.specs.Tokens.{OneAtATime, all_sent, all_taken, all_waiting, budget, count_waiting, has_asked, is_token, is_token_in, number_now, waiting_at}
+use Rattle.request_laws.specs.Tokens.{OneAtATime, all_sent, all_taken, all_waiting, budget, count_waiting, has_asked, is_token, is_token_in, may_behind, number_now, waiting_at, waits_behind}
 use Rattle.request_laws.specs.Ways.{entry_of, has_gone_back, is_sent, tells_abort}
 use Rattle.request_laws.proofs.PhaseGone.{gone_stays}
 use Rattle.request_laws.proofs.TokenCoordinators.{Hears, IsHandled, StepTokens, always_fits, foreign_none, step_tokens}
@@ -117,11 +117,8 @@ module _ (start : Start) (all : ℕ → List HostStep) (e : HostStep) (es : List
     log_there : (h : ℕ) → e.host ≡ h → new h ≡ e ∷ old h
     log_there h at = subst (λ k. new k ≡ e ∷ old k) at (own_log start all e es moment)
 
-    -- what may be under way, by the log of its coordinator's host
     abbrev may_in : List HostStep → ℕ
-    may_in log =
-        one_if ((has_gone_back start member tx log || has_asked (entry_of (coordinator_after start member log) tx))
-        && (asked_in start member tx log == now))
+    may_in log = one_if (may_behind start tx now log)
 
     may_elsewhere : e.host ≢ home → budget start new tx now ≡ budget start old tx now
     may_elsewhere off = ap may_in (other_log start all e es moment home off)
@@ -219,10 +216,8 @@ module _ (start : Start) (all : ℕ → List HostStep) (e : HostStep) (es : List
           (home_few (step_tokens start member there tx refl (old home) e
           (always_fits start member there tx refl (old home))))
 
-    -- what waits at the rows of a member, by the log of their host
     abbrev waits_in : Member → List HostStep → ℕ
-    waits_in me log =
-        if (view_after start (ldm_of start me) log).number == now then count_waiting tx (rows_after start me log) else 0
+    waits_in me log = waits_behind start tx now me log
 
     waits_elsewhere : (me : Member) → e.host ≢ ldm_of start me
         → waiting_at start new tx now me ≡ waiting_at start old tx now me

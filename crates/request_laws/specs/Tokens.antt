@@ -70,23 +70,31 @@ has_asked None = false
 has_asked (Some t) = is_some t.asked
 
 -- of the view of this number
+module _ (start : Start) (tx : TxId) (number : ℕ) where
+  -- requests that wait at the rows of a member, if their host stands in the view behind its log
+  abbrev pub waits_behind : Member → List HostStep → ℕ
+  waits_behind member log =
+      if (view_after start (ldm_of start member) log).number == number
+      then count_waiting tx (rows_after start member log) else 0
+
+  -- Behind a log of its coordinator's host a signal may be under way if the last operation was asked for in the view, and is
+  -- unanswered, or the transaction is given up.
+  abbrev pub may_behind : List HostStep → Bool
+  may_behind log =
+      let member = coordinator_member tx in
+      (has_gone_back start member tx log || has_asked (entry_of (coordinator_after start member log) tx))
+      && (asked_in start member tx log == number)
+
+-- of all hosts with these logs
 module _ (start : Start) (logs : ℕ → List HostStep) (tx : TxId) (number : ℕ) where
-  -- requests that wait at the rows of members whose hosts stand in the view
   abbrev pub waiting_at : Member → ℕ
-  waiting_at member =
-      if (view_after start (ldm_of start member) (logs (ldm_of start member))).number == number
-      then count_waiting tx (rows_after start member (logs (ldm_of start member))) else 0
+  waiting_at member = waits_behind start tx number member (logs (ldm_of start member))
 
   abbrev pub all_waiting : ℕ
   all_waiting = total_of (made start) waiting_at
 
-  -- one may be under way if its last operation was asked for in the view, and is unanswered, or the transaction is given up
   abbrev pub may_go : Bool
-  may_go =
-      let member = coordinator_member tx in
-      let log = logs (tc_of start member) in
-      (has_gone_back start member tx log || has_asked (entry_of (coordinator_after start member log) tx))
-      && (asked_in start member tx log == number)
+  may_go = may_behind start tx number (logs (tc_of start (coordinator_member tx)))
 
   abbrev pub budget : ℕ
   budget = one_if may_go
