@@ -1,6 +1,6 @@
 -- What a host of rows sends of the tokens of a transaction at an event of a moment: no more than it takes and than waits
 -- there no longer.
-use Rattle.std.proofs.Common.{◌≡◌, ◌≤◌, ◌<◌, ◌+◌, ◌⊎◌, ◌==◌, ◌&&◌, ◌||◌, ◌++◌, ℕ, Bool, true, false, List, [], ◌∷◌, eq-eqb, filter, refl, sym, ap, subst, arith, inl, inr, ◌∙◌}
+use Rattle.std.proofs.Common.{◌≡◌, ◌≤◌, ◌+◌, ◌⊎◌, ◌==◌, ◌&&◌, ◌||◌, ◌++◌, ℕ, Bool, true, false, List, [], ◌∷◌, eq-eqb, filter, refl, sym, ap, subst, arith, inl, inr, ◌∙◌}
 use Rattle.std.proofs.lemmas.Bool.{true≢false}
 use Rattle.std.specs.Prelude.{not, if◌then◌else◌}
 use Rattle.std.specs.List.{count_by}
@@ -16,10 +16,9 @@ use Rattle.sig_core.specs.declared.signal.Body.{Body}
 use Rattle.sig_core.specs.declared.signal.Body.TheVariants.{Chain}
 use Rattle.sig_core.specs.declared.signal.Signal.{Signal}
 use Rattle.sig_core.specs.declared.view.View.{View}
-use Rattle.lqh_views.specs.Replica.{installed, replica_row}
+use Rattle.lqh_views.specs.Replica.{replica_row}
 use Rattle.lqh_views.specs.State.{ReplicaState}
 use Rattle.node_views.specs.declared.ldm_part.LdmPart.{LdmPart}
-use Rattle.node_views.specs.declared.parts.Parts.{Parts}
 use Rattle.node_views.specs.declared.parts.Parts.TheVariants.{Ldm}
 use Rattle.node_views.specs.declared.standing.Standing.{Standing}
 use Rattle.node_views.specs.Fence.{is_body_fenced, is_fenced}
@@ -34,9 +33,9 @@ use Rattle.world_views.specs.Machine.{after, sender, sent_count, signals_of, ste
 use Rattle.world_views.specs.Sending.{Routed, addressed, all_addressed, is_kept_back, is_own_work, routed, routed_all, routed_if}
 use Rattle.view_laws.specs.Order.{is_sound, sound_machine}
 use Rattle.view_laws.specs.Runs.{view_after}
-use Rattle.moment_laws.specs.Moments.{IsMoment, current, logs_of}
+use Rattle.moment_laws.specs.Moments.{IsMoment, logs_of}
 use Rattle.moment_laws.specs.Parts.{IsPassed}
-use Rattle.moment_laws.specs.PartSteps.{LdmDoes, PartEnters, PartTakes, handles, ignores, installs, ldm_kind, remains}
+use Rattle.moment_laws.specs.PartSteps.{PartEnters, PartTakes, handles, ignores, installs, ldm_kind, remains}
 use Rattle.moment_laws.specs.Places.{ldm_of}
 use Rattle.moment_laws.proofs.MomentHosts.{part_some}
 use Rattle.moment_laws.proofs.MomentViews.{current_number}
@@ -47,7 +46,6 @@ use Rattle.outcome_laws.specs.Counts.{count_sent, one_if}
 use Rattle.outcome_laws.proofs.TcLists.{count_both, count_more}
 use Rattle.request_laws.specs.Blocks.{no_replica, rows_after, rows_in}
 use Rattle.request_laws.specs.Tokens.{count_waiting, is_token, is_token_in}
-use Rattle.request_laws.proofs.RowsAlong.{AreRows}
 use Rattle.request_laws.proofs.TokenRows.{installed_asks, rows_conserve, rows_run}
 use Rattle.request_laws.proofs.TokenViews.{sent_now, taken_now}
 

@@ -1,10 +1,9 @@
 -- The first moment in a view: no token has its number yet, and no host stands in it; and sums over members.
-use Rattle.std.proofs.Common.{◌≡◌, ◌≢◌, ◌≤◌, ◌<◌, ◌+◌, ◌⊎◌, ◌==◌, ◌&&◌, ◌++◌, ℕ, zero, suc, Bool, true, false, List, [], ◌∷◌, refl, sym, ap, subst, arith, inl, inr, ◌∙◌}
+use Rattle.std.proofs.Common.{◌≡◌, ◌≢◌, ◌≤◌, ◌<◌, ◌+◌, ◌⊎◌, ◌==◌, ◌&&◌, ◌++◌, ℕ, zero, suc, Bool, true, false, List, [], ◌∷◌, refl, sym, ap, arith, inl, inr}
 use Rattle.std.proofs.lemmas.Bool.{cases_eq, eqb-true}
 use Rattle.std.specs.Prelude.{if◌then◌else◌}
 use Rattle.std.specs.List.{count_by}
 use Rattle.frag_map.specs.Layout.{members}
-use Rattle.run_theory.specs.Counts.{total}
 use Rattle.run_theory.specs.Links.{sent_by}
 use Rattle.run_theory.specs.Lists.{Each, IsIn}
 use Rattle.run_theory.proofs.Links.{sent_by_each}
@@ -15,7 +14,7 @@ use Rattle.sig_core.specs.declared.member.TxId.{TxId}
 use Rattle.sig_core.specs.declared.signal.Signal.{Signal}
 use Rattle.sig_core.specs.declared.view.View.{View}
 use Rattle.world_core.specs.Hosts.{hosts}
-use Rattle.world_core.specs.Start.{Start, made}
+use Rattle.world_core.specs.Start.{Start}
 use Rattle.world_core.specs.Steps.{Addressed, HostStep}
 use Rattle.world_views.specs.Machine.{signals_of}
 use Rattle.view_laws.specs.Order.{is_sound, sound_machine}
@@ -23,8 +22,7 @@ use Rattle.view_laws.specs.Runs.{view_after}
 use Rattle.view_laws.proofs.EraRises.{view_rises}
 use Rattle.view_laws.proofs.EraSound.{each_filter}
 use Rattle.view_laws.proofs.FollowSends.{each_sent}
-use Rattle.moment_laws.specs.Moments.{IsMoment, current, logs_of}
-use Rattle.moment_laws.specs.Places.{ldm_of}
+use Rattle.moment_laws.specs.Moments.{IsMoment, logs_of}
 use Rattle.moment_laws.proofs.MomentTurns.{host_low, other_log, own_log}
 use Rattle.moment_laws.proofs.MomentViews.{current_above, current_number}
 use Rattle.outcome_laws.proofs.TcLists.{count_more}
