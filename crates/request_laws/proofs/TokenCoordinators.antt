@@ -124,9 +124,9 @@ module _ (tx : TxId) where
   -- that was heard.
   pub record HasTokens (gone : Bool) (Heard : Type 0) (before now : CoordinatorState) (sends : List Outgoing) : Type 0
     where
-    pub body : Body
-    pub heard : is_token tx body ≡ true → Heard
-    pub step : TokenStep tx body gone (entry_of before tx) (entry_of now tx) (is_unborn now tx) sends
+      pub body : Body
+      pub heard : is_token tx body ≡ true → Heard
+      pub step : TokenStep tx body gone (entry_of before tx) (entry_of now tx) (is_unborn now tx) sends
 
   -- what an installation sends isn't about it
   module _ (member : Member) (p : TcPart) (of : IsCoordinatorOf member p.coordinator) where
@@ -286,16 +286,18 @@ module _ (start : Start) (member : Member) (there : IsIn member (made start)) (t
 
             heard : IsPassed start.shape (Tc between) (view_after start h (e ∷ log)) x → x.to.block ≡ block.Tc
                 → is_token tx x.body ≡ true → Hears log e
-            heard passed to is =
-                (is, record {
-                  own = p;
-                  runs = runs;
-                  between = between;
-                  front = front;
-                  enters = entering;
-                  passed = passed;
-                  block_is = to;
-                })
+            heard passed to is = (
+              is,
+              record {
+                own = p;
+                runs = runs;
+                between = between;
+                front = front;
+                enters = entering;
+                passed = passed;
+                block_is = to;
+              },
+            )
 
             -- a host that stops sends nothing: it takes no signal then, or the part has nothing to send
             hushed : IsPassed start.shape (Tc between) (view_after start h (e ∷ log)) x → sends log e ≡ []
@@ -371,7 +373,7 @@ module _ (start : Start) (member : Member) (there : IsIn member (made start)) (t
     module _ (log : List HostStep) (e : HostStep) (p : TcPart) (of : IsCoordinatorOf member p.coordinator)
         (between : TcPart) (front rest : List Outgoing)
         (entering :
-            PartEnters tc_kind p (view_after start h log) e.step.taken between (view_after start h (e ∷ log)) front)
+        PartEnters tc_kind p (view_after start h log) e.step.taken between (view_after start h (e ∷ log)) front)
       where
         rest_none : (q : TcPart)
             → PartTakes tc_kind start.shape between (view_after start h (e ∷ log)) e.step.taken q rest
@@ -379,7 +381,7 @@ module _ (start : Start) (member : Member) (there : IsIn member (made start)) (t
         rest_none q (ignores is nothing) = ap (count_sent (is_token tx)) nothing
         rest_none q (handles passed is sends_are) =
             let entered = entered_in p (view_after start h log) e.step.taken between (view_after start h (e ∷ log)) front
-                entering in
+            entering in
             let alike = like member p between entered of in
             ap (count_sent (is_token tx)) sends_are
             ∙ row_none between alike.fits e.step.taken e.step.taken.to.block

@@ -60,7 +60,7 @@ module _ (q : Body → Bool) where
         arith,
         count_more (λ (r : Routed). q r.sent.body) r rs,
         count_more (λ (x : Addressed). q x.signal.body) (addressed by (count r.to) r)
-        (all_addressed by (counted r.to count) rs),
+            (all_addressed by (counted r.to count) rs),
         addressed_count by (counted r.to count) rs,
       )
 
@@ -131,7 +131,7 @@ module _ (start : Start) (tx : TxId) (number : ℕ) where
             filter_count p (is_sound start) (signals_of start h log e),
             count_less p (λ (x : Addressed). is_token tx x.signal.body) in_less (signals_of start h log e),
             addressed_count (is_token tx) (sender (made start) h e.step.stamp standing.view) (sent_count start h log)
-            (routed_all (made start) h standing sends),
+                (routed_all (made start) h standing sends),
             routed_count (is_token tx) (made start) h standing sends,
           )
 

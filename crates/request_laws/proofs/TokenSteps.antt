@@ -55,14 +55,14 @@ gone_behind tx gone now sends = is_at is_aborting now || (is_sent (tells_abort t
 -- what a step sends of its tokens
 pub data TokenMove (tx : TxId) (body : Body) (gone : Bool) (was now : Option Transaction) (sends : List Outgoing) : Type 0
   where
-  -- none; and what was unanswered is so, or is answered, or it has gone back
-  quiet : count_sent (is_token tx) sends ≡ 0
-      → (has_asked was ≡ true
-      → (has_asked now ≡ true) ⊎ ((is_token tx body ≡ true) ⊎ (gone_behind tx gone now sends ≡ true)))
-      → TokenMove tx body gone was now sends
-  -- a request, where nothing was unanswered
-  sends_one : count_sent (is_token tx) sends ≡ 1 → is_sent (is_request tx) sends ≡ true → has_asked was ≡ false
-      → has_asked now ≡ true → gone ≡ false → TokenMove tx body gone was now sends
+    -- none; and what was unanswered is so, or is answered, or it has gone back
+    quiet : count_sent (is_token tx) sends ≡ 0
+        → (has_asked was ≡ true
+        → (has_asked now ≡ true) ⊎ ((is_token tx body ≡ true) ⊎ (gone_behind tx gone now sends ≡ true)))
+        → TokenMove tx body gone was now sends
+    -- a request, where nothing was unanswered
+    sends_one : count_sent (is_token tx) sends ≡ 1 → is_sent (is_request tx) sends ≡ true → has_asked was ≡ false
+        → has_asked now ≡ true → gone ≡ false → TokenMove tx body gone was now sends
 
 pub record TokenStep (tx : TxId) (body : Body) (gone : Bool) (was now : Option Transaction) (unborn : Bool)
     (sends : List Outgoing) : Type 0 where

@@ -55,8 +55,8 @@ module _ (start : Start) (p : Signal → Bool) where
         arith,
         put_total m xs (λ j. if x.to == j then x ∷ before j else before j),
         total_same m (λ j. count_on (if x.to == j then x ∷ before j else before j))
-        (λ j. plain_one ((x.to == j) && passes x) + count_on (before j))
-        (λ j low. count_if (x.to == j) x (before j)),
+            (λ j. plain_one ((x.to == j) && passes x) + count_on (before j))
+            (λ j low. count_if (x.to == j) x (before j)),
         total_add m (λ j. plain_one ((x.to == j) && passes x)) (λ j. count_on (before j)),
         unit_few m x.to (passes x),
         count_more passes x xs,
@@ -111,8 +111,8 @@ module _ (start : Start) (p : Signal → Bool) where
         along_more e log,
         taken_total m log (λ i high. omega (arith, none i high, taken_more i e log)),
         total_same m (λ i. count_on (taken n i (e ∷ log)))
-        (λ i. plain_one ((e.step.taken.from.0 == i) && takes e) + count_on (taken n i log))
-        (λ i low. taken_more i e log),
+            (λ i. plain_one ((e.step.taken.from.0 == i) && takes e) + count_on (taken n i log))
+            (λ i low. taken_more i e log),
         total_add m (λ i. plain_one ((e.step.taken.from.0 == i) && takes e)) (λ i. count_on (taken n i log)),
         one (cases_lt e.step.taken.from.0 m),
       )
@@ -172,14 +172,14 @@ module _ (start : Start) (p : Signal → Bool) where
             omega (
               arith,
               total_le m (λ j. taken_along start p (now j)) (λ j. total m (λ i. count_on (taken n i (now j))))
-              (λ j low. taken_total m (now j) (none_above j)),
+                  (λ j low. taken_total m (now j) (none_above j)),
               total_le m (λ j. total m (λ i. count_on (taken n i (now j))))
-              (λ j. total m (λ i. count_on (sent n i j (before i))))
-              (λ j low. total_le m (λ i. count_on (taken n i (now j))) (λ i. count_on (sent n i j (before i)))
-              (λ i under. each_link i j)),
+                  (λ j. total m (λ i. count_on (sent n i j (before i))))
+                  (λ j low. total_le m (λ i. count_on (taken n i (now j))) (λ i. count_on (sent n i j (before i)))
+                  (λ i under. each_link i j)),
               total_swap m m (λ i j. count_on (sent n i j (before i))),
               total_le m (λ i. total m (λ j. count_on (sent n i j (before i))))
-              (λ i. sent_along start p i (before i)) (λ i low. sent_total m i (before i)),
+                  (λ i. sent_along start p i (before i)) (λ i low. sent_total m i (before i)),
             )
 
     pub takes_few : (all : ℕ → List HostStep) (es : List HostStep) → IsMoment start all es

@@ -127,11 +127,11 @@ module _ (start : Start) (tx : TxId) (number : ℕ) where
       omega (
         arith,
         low_none (sent_by (sound_machine start) h log e)
-        (sent_by_each (sound_machine start) (λ (x : Addressed). x.signal.view.number < number) h log e
-        (λ goes. each_filter _ (is_sound start) (signals_of start h log e)
-        (each_map _ (λ (x : Addressed). x.signal.view.number < number) (signals_of start h log e)
-        (λ x one. let same = ap (λ (v : View). v.number) one.view_is in omega (arith, same, low))
-        (each_sent start h log e)))),
+            (sent_by_each (sound_machine start) (λ (x : Addressed). x.signal.view.number < number) h log e
+            (λ goes. each_filter _ (is_sound start) (signals_of start h log e)
+            (each_map _ (λ (x : Addressed). x.signal.view.number < number) (signals_of start h log e)
+            (λ x one. let same = ap (λ (v : View). v.number) one.view_is in omega (arith, same, low))
+            (each_sent start h log e)))),
         sent_low_none h log (omega (arith, low, rises)),
       )
 
@@ -141,8 +141,8 @@ module _ (start : Start) (tx : TxId) (number : ℕ) where
       omega (
         arith,
         total_same (hosts start) (λ h. sent_along start p h (logs h)) (λ h. 0)
-        (λ h low.
-        let under = current_above start logs h low in sent_low_none h (logs h) (omega (arith, under, above))),
+            (λ h low.
+            let under = current_above start logs h low in sent_low_none h (logs h) (omega (arith, under, above))),
         total_zero (hosts start) (λ h. 0) (λ h. refl),
       )
 
@@ -171,8 +171,8 @@ module _ (start : Start) (all : ℕ → List HostStep) (e : HostStep) (es : List
         omega (
           arith,
           total_one (hosts start) (λ h. sent_along start p h (old h)) (λ h. sent_along start p h (new h)) e.host
-          (host_low start all e es moment)
-          (λ k off. ap (sent_along start p k) (others_apart k off)),
+              (host_low start all e es moment)
+              (λ k off. ap (sent_along start p k) (others_apart k off)),
           ap (sent_along start p e.host) (own_log start all e es moment),
         )
 
@@ -181,7 +181,7 @@ module _ (start : Start) (all : ℕ → List HostStep) (e : HostStep) (es : List
         omega (
           arith,
           total_one (hosts start) (λ h. taken_along start p (old h)) (λ h. taken_along start p (new h)) e.host
-          (host_low start all e es moment)
-          (λ k off. ap (taken_along start p) (others_apart k off)),
+              (host_low start all e es moment)
+              (λ k off. ap (taken_along start p) (others_apart k off)),
           ap (taken_along start p) (own_log start all e es moment),
         )

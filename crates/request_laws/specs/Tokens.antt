@@ -151,11 +151,11 @@ TakenIsAlone =
 -- its signals is under way, and it may.
 pub record WaitsAlone (start : Start) (logs : ℕ → List HostStep) (tx : TxId) (number : ℕ) (member : Member) : Type 0
   where
-  pub here : waiting_at start logs tx number member ≡ 1
-  pub elsewhere : (other : Member) → IsIn other (made start) → other ≢ member
-      → waiting_at start logs tx number other ≡ 0
-  pub goes : all_sent start (is_token_in tx number) logs ≡ all_taken start (is_token_in tx number) logs
-  pub may : may_go start logs tx number ≡ true
+    pub here : waiting_at start logs tx number member ≡ 1
+    pub elsewhere : (other : Member) → IsIn other (made start) → other ≢ member
+        → waiting_at start logs tx number other ≡ 0
+    pub goes : all_sent start (is_token_in tx number) logs ≡ all_taken start (is_token_in tx number) logs
+    pub may : may_go start logs tx number ≡ true
 
 -- so it is of one that waits
 abbrev pub WaitingIsAlone : Type 0
