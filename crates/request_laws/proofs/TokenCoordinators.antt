@@ -120,8 +120,8 @@ module _ (tx : TxId) where
         moves = move_behind step.moves;
       }
 
-  -- What comes to the tokens of the transaction by a step between these states that sends this. Where it is by a signal,
-  -- that was heard.
+  -- What comes to the tokens of the transaction by a step between these states that sends this. Where it is by a
+  -- signal, that was heard.
   pub record HasTokens (gone : Bool) (Heard : Type 0) (before now : CoordinatorState) (sends : List Outgoing) : Type 0
     where
       pub body : Body
@@ -282,7 +282,9 @@ module _ (start : Start) (member : Member) (there : IsIn member (made start)) (t
             entered = entered_in p (view_after start h log) x between (view_after start h (e ∷ log)) front entering
 
             away : AreAway tx front
-            away = front_away tx member p of (view_after start h log) x between (view_after start h (e ∷ log)) front entering
+            away =
+                front_away tx member p of (view_after start h log) x between (view_after start h (e ∷ log)) front
+                entering
 
             heard : IsPassed start.shape (Tc between) (view_after start h (e ∷ log)) x → x.to.block ≡ block.Tc
                 → is_token tx x.body ≡ true → Hears log e
@@ -372,29 +374,30 @@ module _ (start : Start) (member : Member) (there : IsIn member (made start)) (t
 
     module _ (log : List HostStep) (e : HostStep) (p : TcPart) (of : IsCoordinatorOf member p.coordinator)
         (between : TcPart) (front rest : List Outgoing)
-        (entering :
-        PartEnters tc_kind p (view_after start h log) e.step.taken between (view_after start h (e ∷ log)) front)
       where
-        rest_none : (q : TcPart)
-            → PartTakes tc_kind start.shape between (view_after start h (e ∷ log)) e.step.taken q rest
-            → count_sent (is_token tx) rest ≡ 0
-        rest_none q (ignores is nothing) = ap (count_sent (is_token tx)) nothing
-        rest_none q (handles passed is sends_are) =
-            let entered = entered_in p (view_after start h log) e.step.taken between (view_after start h (e ∷ log)) front
-            entering in
-            let alike = like member p between entered of in
-            ap (count_sent (is_token tx)) sends_are
-            ∙ row_none between alike.fits e.step.taken e.step.taken.to.block
+        abbrev view : View
+        view = view_after start h log
 
-        all_none : count_sent (is_token tx) rest ≡ 0 → (sends log e ≡ front ++ rest) ⊎ (sends log e ≡ [])
-            → count_sent (is_token tx) (sends log e) ≡ 0
-        all_none none (inl all) =
-            ap (count_sent (is_token tx)) all
-            ∙ (front_counted tx front rest
-            (front_away tx member p of (view_after start h log) e.step.taken between (view_after start h (e ∷ log)) front
-            entering)
-            ∙ none)
-        all_none none (inr nothing) = ap (count_sent (is_token tx)) nothing
+        abbrev seen : View
+        seen = view_after start h (e ∷ log)
+
+        module _ (entering : PartEnters tc_kind p view e.step.taken between seen front) where
+          rest_none : (q : TcPart) → PartTakes tc_kind start.shape between seen e.step.taken q rest
+              → count_sent (is_token tx) rest ≡ 0
+          rest_none q (ignores is nothing) = ap (count_sent (is_token tx)) nothing
+          rest_none q (handles passed is sends_are) =
+              let alike =
+              like member p between (entered_in p view e.step.taken between seen front entering) of in
+              ap (count_sent (is_token tx)) sends_are
+              ∙ row_none between alike.fits e.step.taken e.step.taken.to.block
+
+          all_none : count_sent (is_token tx) rest ≡ 0 → (sends log e ≡ front ++ rest) ⊎ (sends log e ≡ [])
+              → count_sent (is_token tx) (sends log e) ≡ 0
+          all_none none (inl all) =
+              ap (count_sent (is_token tx)) all
+              ∙ (front_counted tx front rest
+              (front_away tx member p of view e.step.taken between seen front entering) ∙ none)
+          all_none none (inr nothing) = ap (count_sent (is_token tx)) nothing
 
     pub foreign_none : (log : List HostStep) (e : HostStep) → count_sent (is_token tx) (sends log e) ≡ 0
     foreign_none log e =

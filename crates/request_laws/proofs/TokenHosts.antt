@@ -1,5 +1,5 @@
--- What a host of rows sends of the tokens of a transaction at an event of a moment: no more than it takes and than waits
--- there no longer.
+-- What a host of rows sends of the tokens of a transaction at an event of a moment: no more than it takes and than
+-- waits there no longer.
 use Rattle.std.proofs.Common.{◌≡◌, ◌≤◌, ◌+◌, ◌⊎◌, ◌==◌, ◌&&◌, ◌||◌, ◌++◌, ℕ, Bool, true, false, List, [], ◌∷◌, eq-eqb, filter, refl, sym, ap, subst, arith, inl, inr, ◌∙◌}
 use Rattle.std.proofs.lemmas.Bool.{true≢false}
 use Rattle.std.specs.Prelude.{not, if◌then◌else◌}
@@ -231,7 +231,8 @@ module _ (start : Start) (all : ℕ → List HostStep) (e : HostStep) (es : List
             front_none (remains same stands none) = none
             front_none (installs above same stands none) = none
 
-            out : (sends ≡ front ++ rest) ⊎ (sends ≡ []) → count_sent (is_token tx) sends ≤ count_sent (is_token tx) rest
+            out : (sends ≡ front ++ rest) ⊎ (sends ≡ [])
+                → count_sent (is_token tx) sends ≤ count_sent (is_token tx) rest
             out (inl is) =
                 let none : count_sent (is_token tx) front ≡ 0 = ap (count_sent (is_token tx)) (front_none entering) in
                 omega (
@@ -240,7 +241,8 @@ module _ (start : Start) (all : ℕ → List HostStep) (e : HostStep) (es : List
                   count_both (λ (o : Outgoing). is_token tx o.body) front rest,
                   none,
                 )
-            out (inr is) = let none : count_sent (is_token tx) sends ≡ 0 = ap (count_sent (is_token tx)) is in omega (arith, none)
+            out (inr is) =
+                let none : count_sent (is_token tx) sends ≡ 0 = ap (count_sent (is_token tx)) is in omega (arith, none)
 
             left : PartEnters ldm_kind p view x between seen front → own ≡ between → rest ≡ [] → Few own
             left (remains same stands none) is nothing =

@@ -1,4 +1,5 @@
--- What a step of a coordinator sends of the tokens of a transaction, and how that comes to have an operation unanswered.
+-- What a step of a coordinator sends of the tokens of a transaction, and how that comes to have an operation
+-- unanswered.
 use Rattle.std.proofs.Common.{◌≡◌, ◌⊎◌, ◌||◌, ◌++◌, ◌<◌, ℕ, Bool, true, false, List, [], ◌∷◌, refl, sym, ap, subst, arith, inl, inr, ◌∙◌}
 use Rattle.std.proofs.lemmas.Bool.{leb-false, leb-true, or_cases, or_left, or_right, true≢false}
 use Rattle.std.proofs.lemmas.List.{append-nil}
@@ -42,8 +43,8 @@ use Rattle.request_laws.proofs.PhaseTurns as changes
 use Rattle.request_laws.proofs.PhaseWalk.{AreAway, Walks, begins, coordinator_walks, is_about, left_of, passes, resumes, stays, turns}
 use Rattle.request_laws.proofs.TokenTurns.{TokenTurn, asks, ends, falls, hears, rests, resumes_move, turns_move}
 
--- What is so of a transaction that has gone back, or hasn't: only where it may, it has something unanswered, and once it has
--- gone back it is aborted or forgotten for good.
+-- What is so of a transaction that has gone back, or hasn't: it has something unanswered only where it may, and once it
+-- has gone back it is aborted or forgotten for good.
 abbrev pub IsFit : Bool → Bool → Option Transaction → Type 0
 IsFit gone unborn None = gone ≡ true → unborn ≡ false
 IsFit gone unborn (Some t) = (is_right t.asked t.phase ≡ true) × (gone ≡ true → is_aborting t.phase ≡ true)
@@ -53,7 +54,8 @@ abbrev pub gone_behind : TxId → Bool → Option Transaction → List Outgoing 
 gone_behind tx gone now sends = is_at is_aborting now || (is_sent (tells_abort tx) sends || gone)
 
 -- what a step sends of its tokens
-pub data TokenMove (tx : TxId) (body : Body) (gone : Bool) (was now : Option Transaction) (sends : List Outgoing) : Type 0
+pub data TokenMove (tx : TxId) (body : Body) (gone : Bool) (was now : Option Transaction) (sends : List Outgoing)
+    : Type 0
   where
     -- none; and what was unanswered is so, or is answered, or it has gone back
     quiet : count_sent (is_token tx) sends ≡ 0
@@ -252,9 +254,9 @@ module _ (member : Member) (s : CoordinatorState) (of : IsCoordinatorOf member s
         TokenStep tx body gone (entry_of s tx) (entry_of step.state tx) (is_unborn step.state tx) step.effects.sends
 
     -- nothing comes to it
-    pub same_goes : (body : Body) (now : Option Transaction) (unborn : Bool) (sends : List Outgoing) → now ≡ entry_of s tx
-        → unborn ≡ is_unborn s tx → count_sent (is_token tx) sends ≡ 0 → is_sent (tells_abort tx) sends ≡ false
-        → TokenStep tx body gone (entry_of s tx) now unborn sends
+    pub same_goes : (body : Body) (now : Option Transaction) (unborn : Bool) (sends : List Outgoing)
+        → now ≡ entry_of s tx → unborn ≡ is_unborn s tx → count_sent (is_token tx) sends ≡ 0
+        → is_sent (tells_abort tx) sends ≡ false → TokenStep tx body gone (entry_of s tx) now unborn sends
     same_goes body now unborn sends same again none untold = record {
       fit =
           subst (λ o. IsFit (gone_behind tx gone o sends) unborn o) (sym same)
@@ -266,7 +268,8 @@ module _ (member : Member) (s : CoordinatorState) (of : IsCoordinatorOf member s
         by : (o : Option Transaction) → IsFit gone (is_unborn s tx) o
             → IsFit (gone_behind tx gone o sends) (is_unborn s tx) o
         by None fit = λ g. fit (sym (ap (λ b. b || gone) untold) ∙ g)
-        by (Some t) fit = (fit.0, λ g. at t fit (or_cases (is_aborting t.phase) (is_sent (tells_abort tx) sends || gone) g))
+        by (Some t) fit =
+            (fit.0, λ g. at t fit (or_cases (is_aborting t.phase) (is_sent (tells_abort tx) sends || gone) g))
           where
             at : (t : Transaction) → IsFit gone (is_unborn s tx) (Some t)
                 → (is_aborting t.phase ≡ true) ⊎ ((is_sent (tells_abort tx) sends || gone) ≡ true)

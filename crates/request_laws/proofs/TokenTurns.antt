@@ -1,5 +1,5 @@
--- What a coordinator does to a transaction that has an operation unanswered, and when it sends a request: an operation is
--- asked for while nothing is unanswered, and ends by an answer or as the transaction goes back.
+-- What a coordinator does to a transaction that has an operation unanswered, and when it sends a request: an operation
+-- is asked for while nothing is unanswered, and ends by an answer or as the transaction goes back.
 use Rattle.std.proofs.Common.{◌≡◌, ◌||◌, ℕ, Bool, true, false, List, refl, sym, ap, ◌∙◌}
 use Rattle.std.proofs.lemmas.Bool.{and_parts, true≢false}
 use Rattle.std.specs.Prelude.{◌+◌, cond, is_some, map, Option, None, Some}
@@ -64,7 +64,8 @@ module _ (node : ℕ) (layout : Layout) (tx : TxId) where
   unfolding entering
   enters_none u phase =
       none_out _
-      ((turns_still tx tx node layout (at_phase u phase) (Client (TcCommitReq tx)) (λ op is. absurd cc)).goes_on 0).sends
+      ((turns_still tx tx node layout (at_phase u phase) (Client (TcCommitReq tx)) (λ op is.
+      absurd cc)).goes_on 0).sends
 
   end_none : (why : AbortCause) (verifying : Bool)
       → count_sent (is_token tx) (abort_end node tx why verifying) ≡ 0

@@ -77,7 +77,7 @@ module _ (start : Start) (tx : TxId) (number : ℕ) where
       if (view_after start (ldm_of start member) log).number == number
       then count_waiting tx (rows_after start member log) else 0
 
-  -- Behind a log of its coordinator's host a signal may be under way if the last operation was asked for in the view, and is
+  -- Behind a log of its coordinator's host one may be under way if the last operation was asked for in the view, and is
   -- unanswered, or the transaction is given up.
   abbrev pub may_behind : List HostStep → Bool
   may_behind log =
@@ -147,8 +147,8 @@ TakenIsAlone =
     → is_token_in tx (number_now start (logs_of start (e ∷ es))) e.step.taken ≡ true
     → IsAlone start (logs_of start es) tx (number_now start (logs_of start (e ∷ es)))
 
--- In the view of this number one request of the transaction waits at the rows of a member and no other anywhere, none of
--- its signals is under way, and it may.
+-- In the view of this number one request of the transaction waits at the rows of a member, and no other anywhere; none
+-- of its signals is under way, and it may.
 pub record WaitsAlone (start : Start) (logs : ℕ → List HostStep) (tx : TxId) (number : ℕ) (member : Member) : Type 0
   where
     pub here : waiting_at start logs tx number member ≡ 1
