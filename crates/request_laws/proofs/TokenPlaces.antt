@@ -88,14 +88,6 @@ module _ (start : Start) where
         let some_too = node_some start other there_too in
         made_same start one other there there_too (omega (arith, same, here, elsewhere, some, some_too))
 
-    pub tc_same : tc_of start one ≡ tc_of start other → one ≡ other
-    tc_same same =
-        let here = tc_number start one there in
-        let elsewhere = tc_number start other there_too in
-        let some = node_some start one there in
-        let some_too = node_some start other there_too in
-        made_same start one other there there_too (omega (arith, same, here, elsewhere, some, some_too))
-
 module _ (tx : TxId) where
   abbrev SendNone : Effects → Type 0
   SendNone effects = AreNoTokens tx effects.sends

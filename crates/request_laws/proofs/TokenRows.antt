@@ -170,10 +170,6 @@ pub rows_conserve : (s : ReplicaState) (x : Signal) (tx : TxId) → WaitersAsk s
     ≤ count_waiting tx s + one_if (is_token tx x.body)
 rows_conserve s x tx ask = by_conserves tx s x ask x.body
 
--- and where a view is installed nothing waits
-pub installed_none : (s : ReplicaState) (view : View) (tx : TxId) → count_waiting tx (installed s view) ≡ 0
-installed_none s view tx = refl
-
 -- so it is of the rows of a member along logs
 pub signal_ask : (s : ReplicaState) (x : Signal) → WaitersAsk s.lqh → WaitersAsk (replica_row s x).state.lqh
 signal_ask s x ask = by x.body

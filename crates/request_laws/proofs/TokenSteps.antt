@@ -13,7 +13,6 @@ use Rattle.sig_core.specs.declared.signal.Body.TheVariants.{Chain, Client}
 use Rattle.sig_core.specs.declared.signal.Signal.{Signal}
 use Rattle.sig_core.specs.declared.signal.chain.ChainSignal.TheVariants.{LqhKeyConf, LqhKeyRef, LqhKeyReq}
 use Rattle.sig_core.specs.declared.signal.client.ClientSignal.TheVariants.{TcRollbackRep}
-use Rattle.sig_core.specs.declared.view.View.{View}
 use Rattle.sig_core.specs.Step.{Step}
 use Rattle.host_laws.proofs.OfLive.{each_found}
 use Rattle.host_laws.proofs.TcOps.{is_right}
@@ -29,7 +28,6 @@ use Rattle.tc_block.proofs.EachTurn.{rows_at, rows_of}
 use Rattle.tc_block.proofs.TurnRows.{turn_for, turn_with}
 use Rattle.tc_views.specs.Coordinator.{coordinator_row}
 use Rattle.tc_views.specs.State.{CoordinatorState, go_on_if, go_on_with}
-use Rattle.tc_views.specs.Views as views
 use Rattle.outcome_laws.specs.Counts.{IsCoordinatorOf, coordinator_member, count_sent, is_unborn}
 use Rattle.outcome_laws.proofs.TcLists.{count_both, none_counted}
 use Rattle.outcome_laws.proofs.TcWalk as walk
@@ -365,14 +363,6 @@ module _ (member : Member) (s : CoordinatorState) (of : IsCoordinatorOf member s
 
     pub coordinator_tokens : (x : Signal) → Goes x.body (coordinator_row s x)
     coordinator_tokens x = walked x.view.number x.body (coordinator_row s x) (coordinator_walks member s of tx x)
-
-    -- an installation leaves it
-    pub install_tokens : (body : Body) (view : View) → Goes body (views.install_row s view)
-    unfolding views.install_row
-    install_tokens body view =
-        same_goes body (entry_of s tx) (is_unborn s tx) (views.install_row s view).effects.sends refl refl
-        (away_none tx (views.install_row s view).effects.sends (go_on_away tx s.tc.node _))
-        (away_untold tx (views.install_row s view).effects.sends (go_on_away tx s.tc.node _))
 
 -- the transactions of other members send none
 pub others_send_none : (member : Member) (s : CoordinatorState) → IsCoordinatorOf member s → (tx : TxId)
