@@ -46,7 +46,8 @@ use Rattle.outcome_laws.specs.Counts.{count_sent, one_if}
 use Rattle.outcome_laws.proofs.TcLists.{count_both, count_more}
 use Rattle.request_laws.specs.Blocks.{no_replica, rows_after, rows_in}
 use Rattle.request_laws.specs.Tokens.{count_waiting, is_token, is_token_in}
-use Rattle.request_laws.proofs.TokenRows.{installed_asks, rows_conserve, rows_run}
+use Rattle.request_laws.proofs.RouteWaiters.{none_ask_installed}
+use Rattle.request_laws.proofs.TokenRows.{rows_conserve, rows_run}
 use Rattle.request_laws.proofs.TokenViews.{sent_now, taken_now}
 
 -- of signals that a host sends no more pass a test than of what its blocks send
@@ -283,7 +284,7 @@ module _ (start : Start) (all : ℕ → List HostStep) (e : HostStep) (es : List
             between_ask (remains same stands none) =
                 subst (λ (r : LdmPart). WaitersAsk r.replica.lqh) (sym same) ask
             between_ask (installs above same stands front_is) =
-                subst (λ (r : LdmPart). WaitersAsk r.replica.lqh) (sym same) (installed_asks p.replica x.view)
+                subst (λ (r : LdmPart). WaitersAsk r.replica.lqh) (sym same) (none_ask_installed p.replica x.view)
 
             row : IsPassed start.shape (Ldm between) seen x → (b : BlockId) → x.to.block ≡ b
                 → own ≡ (ldm_row between b x).state → rest ≡ (ldm_row between b x).effects.sends → Few own
