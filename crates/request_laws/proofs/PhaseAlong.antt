@@ -100,6 +100,15 @@ module _ (start : Start) (member : Member) (there : IsIn member (made start)) wh
     touched = tt;
   }
 
+  -- it holds nothing as it begins
+  pub record Begins : Type 0 where
+    pub run : IsRun []
+    pub held : run.own.dih.held ≡ []
+
+  pub begins : Begins
+  unfolding first
+  begins = record { run = first; held = refl }
+
   any_held : (held : List TxId) → Each (λ (tx : TxId). Unit {0}) held
   any_held [] = tt
   any_held (tx ∷ held) = (tt, any_held held)

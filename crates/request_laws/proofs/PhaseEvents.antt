@@ -95,7 +95,7 @@ coordinator_gives_none s x =
     turned_none s at turn none false = none
 
 -- among two lists
-in_either : {A : Type 0} (x : A) (xs ys : List A) → IsIn x (xs ++ ys) → IsIn x xs ⊎ IsIn x ys
+pub in_either : {A : Type 0} (x : A) (xs ys : List A) → IsIn x (xs ++ ys) → IsIn x xs ⊎ IsIn x ys
 in_either x [] ys there = inr there
 in_either x (y ∷ xs) ys (inl is) = inl (inl is)
 in_either x (y ∷ xs) ys (inr there) = by (in_either x xs ys there)

@@ -127,7 +127,7 @@ served_still o more commits aborts asks silent =
     let rest = silent_still more silent in
     record { commits = (commits, rest.commits); aborts = (aborts, rest.aborts); asks = (asks, rest.asks) }
 
-epochs_still : (s : DihState) (x : Signal) → IsStill (dih_row s x).effects.sends
+pub epochs_still : (s : DihState) (x : Signal) → IsStill (dih_row s x).effects.sends
 unfolding given
 epochs_still s x =
     dih_each s (λ step. IsStill step.effects.sends) x (record {

@@ -54,14 +54,14 @@ pub record IsWay (Own : Type 0) (some : Type 0) (f b : Bool) (o : Option Transac
   pub gone : Own → unborn ≡ false → some → o ≡ None → (f ≡ true) ⊎ (b ≡ true)
   pub nowhere : Own → unborn ≡ true → (f ≡ false) × (b ≡ false)
 
-at_decided : (phase : Phase) (f b : Bool) → WaySays f b phase → is_decided phase ≡ true → f ≡ true
+pub at_decided : (phase : Phase) (f b : Bool) → WaySays f b phase → is_decided phase ≡ true → f ≡ true
 at_decided Open f b says is = absurd cc
 at_decided Verifying f b says is = absurd cc
 at_decided (Committing epoch awaited) f b says is = says.0
 at_decided (Completing epoch awaited) f b says is = says.0
 at_decided (Aborting why verifying awaited) f b says is = absurd cc
 
-at_aborting : (phase : Phase) (f b : Bool) → WaySays f b phase → is_aborting phase ≡ true → b ≡ true
+pub at_aborting : (phase : Phase) (f b : Bool) → WaySays f b phase → is_aborting phase ≡ true → b ≡ true
 at_aborting Open f b says is = absurd cc
 at_aborting Verifying f b says is = absurd cc
 at_aborting (Committing epoch awaited) f b says is = absurd cc
@@ -75,7 +75,7 @@ decided_way (Committing now awaited) epoch f b is one other = (one, other)
 decided_way (Completing now awaited) epoch f b is one other = (one, other)
 decided_way (Aborting why verifying awaited) epoch f b is one other = absurd is
 
-is_decided_as : (phase : Phase) (epoch : ℕ) → IsDecidedAs phase epoch → is_decided phase ≡ true
+pub is_decided_as : (phase : Phase) (epoch : ℕ) → IsDecidedAs phase epoch → is_decided phase ≡ true
 is_decided_as Open epoch is = absurd is
 is_decided_as Verifying epoch is = absurd is
 is_decided_as (Committing now awaited) epoch is = refl
@@ -89,7 +89,7 @@ back_of (Committing now awaited) epoch f b is says = says.1
 back_of (Completing now awaited) epoch f b is says = says.1
 back_of (Aborting why verifying awaited) epoch f b is says = absurd is
 
-forth_of : (phase : Phase) (f b : Bool) → is_decided phase ≡ false → WaySays f b phase → f ≡ false
+pub forth_of : (phase : Phase) (f b : Bool) → is_decided phase ≡ false → WaySays f b phase → f ≡ false
 forth_of Open f b is says = says.0
 forth_of Verifying f b is says = says.0
 forth_of (Committing epoch awaited) f b is says = absurd cc
@@ -110,7 +110,7 @@ decided_not_aborting (Committing now awaited) epoch is = refl
 decided_not_aborting (Completing now awaited) epoch is = refl
 decided_not_aborting (Aborting why verifying awaited) epoch is = absurd is
 
-aborting_not_decided : (phase : Phase) → is_aborting phase ≡ true → is_decided phase ≡ false
+pub aborting_not_decided : (phase : Phase) → is_aborting phase ≡ true → is_decided phase ≡ false
 aborting_not_decided Open is = refl
 aborting_not_decided Verifying is = refl
 aborting_not_decided (Committing epoch awaited) is = absurd cc
@@ -118,7 +118,7 @@ aborting_not_decided (Completing epoch awaited) is = absurd cc
 aborting_not_decided (Aborting why verifying awaited) is = refl
 
 -- what is sent among others
-sent_before : (p : Body → Bool) (xs more : List Outgoing) → is_sent p xs ≡ true → is_sent p (xs ++ more) ≡ true
+pub sent_before : (p : Body → Bool) (xs more : List Outgoing) → is_sent p xs ≡ true → is_sent p (xs ++ more) ≡ true
 sent_before p [] more is = absurd (true≢false (sym is))
 sent_before p (o ∷ xs) more is = by (p o.body) is (sent_before p xs more)
   where
@@ -127,7 +127,7 @@ sent_before p (o ∷ xs) more is = by (p o.body) is (sent_before p xs more)
     by true is rest = refl
     by false is rest = rest is
 
-sent_behind : (p : Body → Bool) (front xs : List Outgoing) → is_sent p xs ≡ true → is_sent p (front ++ xs) ≡ true
+pub sent_behind : (p : Body → Bool) (front xs : List Outgoing) → is_sent p xs ≡ true → is_sent p (front ++ xs) ≡ true
 sent_behind p [] xs is = is
 sent_behind p (o ∷ front) xs is = by (p o.body) (sent_behind p front xs is)
   where
@@ -160,7 +160,7 @@ itself_come n = by (nat_le n n) refl
     by true is = refl
     by false is = absurd (omega (arith, leb-false n n is))
 
-lower_come : (q n : ℕ) → q < n → nat_le n q ≡ false
+pub lower_come : (q n : ℕ) → q < n → nat_le n q ≡ false
 lower_come q n low = by (nat_le n q) refl
   where
     by : (b : Bool) → nat_le n q ≡ b → b ≡ false

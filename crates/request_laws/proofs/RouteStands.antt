@@ -33,7 +33,7 @@ use Rattle.request_laws.proofs.RouteTc.{AreAnswered}
 use Rattle.request_laws.proofs.RouteTurns.{IsAnsweredIn, IsGiven}
 
 -- where none stands twice, who stands there is found
-found_in : (live : Live) → AreOnce live → (e : TxId × Transaction) → IsIn e live → of_live e.0 live ≡ Some e.1
+pub found_in : (live : Live) → AreOnce live → (e : TxId × Transaction) → IsIn e live → of_live e.0 live ≡ Some e.1
 found_in [] once e inside = absurd inside
 found_in (one ∷ live) once e (inl same) =
     ap (λ b. if b then Some one.1 else of_live e.0 live)
@@ -50,7 +50,7 @@ or_left false b is = absurd (true≢false (sym is))
 
 module _ (start : Start) (member : Member) (there : IsIn member (made start)) where
   -- as its life begins a coordinator has nobody
-  none_first : (coordinator_after start member []).tc.live ≡ []
+  pub none_first : (coordinator_after start member []).tc.live ≡ []
   none_first =
       ap
       (λ (s : hosts.Host).
