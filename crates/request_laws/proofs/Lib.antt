@@ -61,7 +61,6 @@ pub mod StrayRows
 pub mod StrayWalk
 pub mod TokenAlone
 pub mod TokenCoordinators
-pub mod TokenEpochs
 pub mod TokenHosts
 pub mod TokenMoments
 pub mod TokenNone

@@ -15,7 +15,7 @@ use Rattle.sig_core.specs.declared.place.Part.TheVariants as kind
 use Rattle.sig_core.specs.declared.signal.Body.{Body}
 use Rattle.sig_core.specs.declared.signal.Body.TheVariants.{Client}
 use Rattle.sig_core.specs.declared.signal.Signal.{Signal}
-use Rattle.sig_core.specs.declared.signal.client.ClientSignal.TheVariants.{TcRollbackRep, ViewRep}
+use Rattle.sig_core.specs.declared.signal.client.ClientSignal.TheVariants.{ViewRep}
 use Rattle.sig_core.specs.declared.view.View.{View}
 use Rattle.sig_core.specs.Step.{Effects}
 use Rattle.frag_map.specs.Layout.{first_layout}
@@ -26,7 +26,7 @@ use Rattle.tc_views.specs.State.{CoordinatorState}
 use Rattle.tc_views.specs.Views.{install_row}
 use Rattle.dih_node.specs.Dih.{dih_row}
 use Rattle.dih_node.specs.Orders as dih
-use Rattle.dih_node.specs.State as epochs
+use Rattle.dih_node.specs.State.{DihState, go_on_if}
 use Rattle.takeover_block.specs.Takeover.{takeover_row}
 use Rattle.node_views.specs.declared.host.Host as hosts
 use Rattle.node_views.specs.declared.parts.Parts.TheVariants.{Tc}
@@ -36,8 +36,6 @@ use Rattle.world_core.specs.Start.{Start, made}
 use Rattle.world_core.specs.Steps.{HostStep}
 use Rattle.world_views.specs.Machine.{after, step_after}
 use Rattle.view_laws.specs.Runs.{view_after}
-use Rattle.view_laws.proofs.KindsSent.{each_of_kinds}
-use Rattle.view_laws.proofs.KindsTakeover.{is_of_takeover, takeover_kinds}
 use Rattle.moment_laws.specs.Parts.{IsPassed}
 use Rattle.moment_laws.specs.PartSteps.{PartEnters, PartTakes, handles, ignores, installs, remains, tc_kind}
 use Rattle.moment_laws.specs.Places.{tc_of}
@@ -52,11 +50,12 @@ use Rattle.request_laws.specs.Ways.{entry_of, has_gone_back, is_at, is_sent, tel
 use Rattle.request_laws.proofs.PhaseAlong.{coordinator_first, coordinator_is, runs_tc, told_some}
 use Rattle.request_laws.proofs.PhaseGone.{spared_unsent}
 use Rattle.request_laws.proofs.PhaseHosts.{Goes, IsEntered, leaves, takes, tc_goes}
-use Rattle.request_laws.proofs.PhaseMoves.{IsLike, like}
+use Rattle.request_laws.proofs.PhaseMoves.{IsLike, epochs_still, like, still_untold, word_still}
 use Rattle.request_laws.proofs.PhaseSends.{IsSpared}
+use Rattle.request_laws.proofs.PhaseWords.{takeover_wordless}
+use Rattle.request_laws.proofs.RouteAside.{epochs_aside}
 use Rattle.request_laws.proofs.PhaseWalk.{AreAway, install_away, is_about}
-use Rattle.request_laws.proofs.TokenEpochs.{epochs_install, epochs_kinds, is_of_epochs}
-use Rattle.request_laws.proofs.TokenNone.{epochs_no_tokens, takeover_no_tokens}
+use Rattle.request_laws.proofs.TokenNone.{aside_none, takeover_no_tokens}
 use Rattle.request_laws.proofs.TokenSteps.{IsFit, TokenMove, TokenStep, away_none, away_untold, coordinator_tokens, others_send_none, quiet, same_goes, sends_one}
 
 -- a block of the coordinating part that the host runs takes the signal of a step, once its view is installed
@@ -75,15 +74,6 @@ none_front [] ys none = refl
 none_front (x ∷ xs) ys none = absurd cc
 
 module _ (tx : TxId) where
-  -- neither epochs nor a takeover tell of an abort
-  epochs_untold : (body : Body) → is_of_epochs body ≡ true → tells_abort tx body ≡ false
-  epochs_untold (Client signal) is = absurd (true≢false (sym is))
-  epochs_untold body is = refl
-
-  takeover_untold : (body : Body) → is_of_takeover body ≡ true → tells_abort tx body ≡ false
-  takeover_untold (Client (TcRollbackRep one cause)) is = absurd (true≢false (sym is))
-  takeover_untold body is = refl
-
   -- signals in front that aren't about the transaction
   module _ (front sends : List Outgoing) (away : AreAway tx front) where
     front_counted : count_sent (is_token tx) (front ++ sends) ≡ count_sent (is_token tx) sends
@@ -130,15 +120,19 @@ module _ (tx : TxId) where
 
   -- what an installation sends isn't about it
   module _ (member : Member) (p : TcPart) (of : IsCoordinatorOf member p.coordinator) where
-    serving_away : (node : ℕ) (b : Bool) → AreAway tx (epochs.go_on_if node b)
-    serving_away node true = (refl, tt)
-    serving_away node false = tt
+    goes_on_away : (node : ℕ) (b : Bool) → AreAway tx (go_on_if node b)
+    goes_on_away node true = (refl, tt)
+    goes_on_away node false = tt
+
+    serving_away : (s : DihState) (number : ℕ) → AreAway tx (dih.install_row s number).effects.sends
+    unfolding dih.install_row
+    serving_away s number = goes_on_away s.node _
 
     entered_away : (view : View) → AreAway tx (tc_entered p view).effects.sends
     entered_away view =
         each_append (IsSpared (is_about tx)) (install_row p.coordinator view).effects.sends
         (dih.install_row p.dih view.number).effects.sends (install_away member p.coordinator of tx view)
-        (subst (AreAway tx) (sym (epochs_install p.dih view.number)) (serving_away p.dih.node _))
+        (serving_away p.dih view.number)
 
     pub front_away : (view : View) (x : Signal) (between : TcPart) (seen : View) (front : List Outgoing)
         → PartEnters tc_kind p view x between seen front → AreAway tx front
@@ -214,14 +208,12 @@ module _ (member : Member) (p : TcPart) (x : Signal) (of : IsCoordinatorOf membe
           let sends = (takeover_row between.takeover x).effects.sends in
           rests_behind front sends away (none_counted (is_token tx) sends (takeover_no_tokens tx between.takeover x))
           (spared_unsent (tells_abort tx) sends
-          (each_of_kinds is_of_takeover (λ body. tells_abort tx body ≡ false) sends (takeover_untold tx)
-          (takeover_kinds between.takeover x)))
+          (still_untold tx sends (word_still sends (takeover_wordless between.takeover x))).aborts)
       row_tokens block.Dih front away heard =
           let sends = (dih_row between.dih x).effects.sends in
-          rests_behind front sends away (none_counted (is_token tx) sends (epochs_no_tokens tx between.dih x))
-          (spared_unsent (tells_abort tx) sends
-          (each_of_kinds is_of_epochs (λ body. tells_abort tx body ≡ false) sends (epochs_untold tx)
-          (epochs_kinds between.dih x)))
+          rests_behind front sends away
+          (none_counted (is_token tx) sends (aside_none tx sends (epochs_aside between.dih x)))
+          (spared_unsent (tells_abort tx) sends (still_untold tx sends (epochs_still between.dih x)).aborts)
       row_tokens _ front away heard = rests_behind front [] away refl refl
 
 module _ (start : Start) (member : Member) (there : IsIn member (made start)) (tx : TxId) where
@@ -369,7 +361,8 @@ module _ (start : Start) (member : Member) (there : IsIn member (made start)) (t
         none_counted (is_token tx) (takeover_row between.takeover x).effects.sends
         (takeover_no_tokens tx between.takeover x)
     row_none between of x block.Dih =
-        none_counted (is_token tx) (dih_row between.dih x).effects.sends (epochs_no_tokens tx between.dih x)
+        none_counted (is_token tx) (dih_row between.dih x).effects.sends
+        (aside_none tx (dih_row between.dih x).effects.sends (epochs_aside between.dih x))
     row_none between of x _ = refl
 
     module _ (log : List HostStep) (e : HostStep) (p : TcPart) (of : IsCoordinatorOf member p.coordinator)

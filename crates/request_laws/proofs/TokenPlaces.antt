@@ -10,6 +10,10 @@ use Rattle.sig_core.specs.declared.signal.Signal.{Signal}
 use Rattle.sig_core.specs.declared.view.View.{View}
 use Rattle.sig_core.specs.Step.{Effects, Step}
 use Rattle.frag_map.specs.Replicas.{first_start}
+use Rattle.api_views.specs.Client.{client_row}
+use Rattle.arbiter_block.specs.Arbiter.{arbiter_row}
+use Rattle.gcp_master.specs.Master.{master_row}
+use Rattle.qmgr_block.specs.Qmgr.{qmgr_installed, qmgr_row}
 use Rattle.node_views.specs.Blocks.{parts_entered, parts_row}
 use Rattle.node_views.specs.declared.host.Host as node
 use Rattle.node_views.specs.declared.main_part.MainPart.{MainPart}
@@ -30,7 +34,8 @@ use Rattle.outcome_laws.specs.Counts.{count_sent}
 use Rattle.outcome_laws.proofs.KnowWalk.{AreKept, IsOfEffects, step_keeps}
 use Rattle.outcome_laws.proofs.TcLists.{none_counted}
 use Rattle.request_laws.specs.Tokens.{is_token}
-use Rattle.request_laws.proofs.TokenNone.{AreNoTokens, IsNoToken, arbiter_no_tokens, client_no_tokens, master_no_tokens, membership_installs_no_tokens, membership_no_tokens}
+use Rattle.request_laws.proofs.RouteAside.{arbiter_aside, client_aside, master_aside, membership_aside, membership_installs_aside}
+use Rattle.request_laws.proofs.TokenNone.{AreNoTokens, IsNoToken, aside_none}
 
 -- a host without a coordinator and without rows
 abbrev pub HasNeither : Parts → Type 0
@@ -104,14 +109,15 @@ module _ (tx : TxId) where
 
   shell_none : (p : ShellPart) (b : BlockId) (x : Signal) → SendNone (shell_row p b x).effects
   unfolding shell_row
-  shell_none p block.Api x = client_no_tokens tx p.client x
-  shell_none p block.Arbiter x = arbiter_no_tokens tx p.arbiter x
+  shell_none p block.Api x = aside_none tx (client_row p.client x).effects.sends (client_aside p.client x)
+  shell_none p block.Arbiter x =
+      aside_none tx (arbiter_row p.arbiter x).effects.sends (arbiter_aside p.arbiter x)
   shell_none p _ x = tt
 
   main_none : (p : MainPart) (b : BlockId) (x : Signal) → SendNone (main_row p b x).effects
   unfolding main_row
-  main_none p block.Qmgr x = membership_no_tokens tx p.qmgr x
-  main_none p block.GcpMaster x = master_no_tokens tx p.master x
+  main_none p block.Qmgr x = aside_none tx (qmgr_row p.qmgr x).effects.sends (membership_aside p.qmgr x)
+  main_none p block.GcpMaster x = aside_none tx (master_row p.master x).effects.sends (master_aside p.master x)
   main_none p _ x = tt
 
   neither_kept : (x : Signal) → AreKept HasNeither SendNone x
@@ -127,7 +133,8 @@ module _ (tx : TxId) where
       enters : (parts : Parts) (view : View) → HasNeither parts
           → HasNeither (parts_entered parts view).state × SendNone (parts_entered parts view).effects
       enters (part.Shell p) view neither = (tt, tt)
-      enters (part.Main p) view neither = (tt, membership_installs_no_tokens tx p.qmgr view)
+      enters (part.Main p) view neither =
+          (tt, aside_none tx (qmgr_installed p.qmgr view).effects.sends (membership_installs_aside p.qmgr view))
       enters (part.Tc p) view neither = absurd neither
       enters (part.Ldm p) view neither = absurd neither
 
