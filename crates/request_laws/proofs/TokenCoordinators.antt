@@ -54,6 +54,7 @@ use Rattle.request_laws.proofs.PhaseMoves.{IsLike, epochs_still, like, still_unt
 use Rattle.request_laws.proofs.PhaseSends.{IsSpared}
 use Rattle.request_laws.proofs.PhaseWords.{takeover_wordless}
 use Rattle.request_laws.proofs.RouteAside.{epochs_aside}
+use Rattle.request_laws.proofs.RouteUnsent.{sent_behind}
 use Rattle.request_laws.proofs.PhaseWalk.{AreAway, install_away, is_about}
 use Rattle.request_laws.proofs.TokenNone.{aside_none, takeover_no_tokens}
 use Rattle.request_laws.proofs.TokenSteps.{IsFit, TokenMove, TokenStep, away_none, away_untold, coordinator_tokens, others_send_none, quiet, same_goes, sends_one}
@@ -81,9 +82,7 @@ module _ (tx : TxId) where
         omega (arith, away_none tx front away, count_both (λ (o : Outgoing). is_token tx o.body) front sends)
 
     front_untold : is_sent (tells_abort tx) (front ++ sends) ≡ is_sent (tells_abort tx) sends
-    front_untold =
-        list_any-append (λ (o : Outgoing). tells_abort tx o.body) front sends
-        ∙ ap (λ b. b || is_sent (tells_abort tx) sends) (away_untold tx front away)
+    front_untold = sent_behind (tells_abort tx) front sends (away_untold tx front away)
 
     front_asks : is_sent (is_request tx) sends ≡ true → is_sent (is_request tx) (front ++ sends) ≡ true
     front_asks is =

@@ -35,15 +35,17 @@ use Rattle.moment_laws.proofs.MomentViews.{current_above, current_number, moment
 use Rattle.moment_laws.proofs.PartKinds.{tc_is}
 use Rattle.moment_laws.proofs.PartTaken.{handled_now}
 use Rattle.outcome_laws.specs.Counts.{coordinator_member, count_sent, one_if}
-use Rattle.outcome_laws.proofs.TcLists.{count_more}
+use Rattle.outcome_laws.proofs.TcLists.{count_more, none_counted}
 use Rattle.request_laws.specs.Blocks.{coordinator_after, no_replica, rows_after, rows_in}
 use Rattle.request_laws.specs.Drives.{asked_in, is_request}
 use Rattle.request_laws.specs.Tokens.{OneAtATime, all_sent, all_taken, all_waiting, budget, count_waiting, has_asked, is_token, is_token_in, may_behind, number_now, waiting_at, waits_behind}
 use Rattle.request_laws.specs.Ways.{entry_of, has_gone_back, is_sent, tells_abort}
 use Rattle.request_laws.proofs.PhaseGone.{gone_stays}
+use Rattle.request_laws.proofs.RouteHosts.{IsBeside, PartHost, beside_sends, coordinates, is_beside, keeps_rows, part_host}
 use Rattle.request_laws.proofs.TokenCoordinators.{Hears, IsHandled, StepTokens, always_fits, foreign_none, step_tokens}
 use Rattle.request_laws.proofs.TokenHosts.{ldm_keeps, sent_few, token_taken}
-use Rattle.request_laws.proofs.TokenPlaces.{HasNeither, HostIs, host_is, ldm_low, ldm_no_tc, ldm_same, neither_sends_none, of_ldm, of_neither, of_tc}
+use Rattle.request_laws.proofs.TokenNone.{aside_none}
+use Rattle.request_laws.proofs.TokenPlaces.{ldm_low, ldm_no_tc, ldm_same}
 use Rattle.request_laws.proofs.TokenSteps.{TokenMove, quiet, sends_one}
 use Rattle.request_laws.proofs.TokenViews.{all_sent_more, all_sent_none, all_taken_more, node_of, sent_now, taken_now, total_of_one, total_of_same, total_of_zero}
 
@@ -274,11 +276,11 @@ module _ (start : Start) (all : ℕ → List HostStep) (e : HostStep) (es : List
           → IsIn one (made start) → e.host ≢ ldm_of start one
       no_rows me there at one among same = ldm_no_tc start one me among there (sym same ∙ at)
 
-      neither_rows : HasNeither (started start e.host).parts → (one : Member) → IsIn one (made start)
+      beside_rows : IsBeside (started start e.host).parts → (one : Member) → IsIn one (made start)
           → e.host ≢ ldm_of start one
-      neither_rows neither one among same =
-          subst (λ (host : node.Host). HasNeither host.parts) (ldm_started start one among)
-          (subst (λ h. HasNeither (started start h).parts) same neither)
+      beside_rows beside one among same =
+          subst (λ (host : node.Host). IsBeside host.parts) (ldm_started start one among)
+          (subst (λ h. IsBeside (started start h).parts) same beside)
 
       -- where it sends none of them
       calm : e.host ≢ home → ((one : Member) → IsIn one (made start) → e.host ≢ ldm_of start one) → s ≡ 0 → Kept
@@ -287,17 +289,20 @@ module _ (start : Start) (all : ℕ → List HostStep) (e : HostStep) (es : List
       kept : Kept
       kept = by (cases_eq e.host home)
         where
-          of_host : e.host ≢ home → HostIs start e.host → Kept
-          of_host off (of_tc me among at) =
+          of_host : e.host ≢ home → PartHost start e.host → Kept
+          of_host off (coordinates me among at) =
               calm off (no_rows me among at)
               (let none =
               foreign_none start me among tx (λ is. off (at ∙ ap (tc_of start) (sym is))) (old (tc_of start me)) e in
               let under = few (tc_of start me) at in omega (arith, none, under))
-          of_host off (of_ldm me among at) =
+          of_host off (keeps_rows me among at) =
               omega (arith, rows_few me among at, all_rows me among at, may_elsewhere off)
-          of_host off (of_neither neither) =
-              calm off (neither_rows neither)
-              (let none = neither_sends_none tx start e.host neither (old e.host) e in
+          of_host off (is_beside beside) =
+              calm off (beside_rows beside)
+              (let sends = (step_after start e.host (old e.host) e).effects.sends in
+              let none =
+              none_counted (is_token tx) sends
+              (aside_none tx sends (beside_sends start e.host beside (old e.host) e)) in
               let under = few e.host refl in omega (arith, none, under))
 
           by : (e.host ≡ home) ⊎ (e.host ≢ home) → Kept
@@ -305,7 +310,7 @@ module _ (start : Start) (all : ℕ → List HostStep) (e : HostStep) (es : List
               let same = waits_same (no_rows member there at) in
               let more = tc_keeps there at in
               omega (arith, same, more)
-          by (inr off) = of_host off (host_is start e.host (host_low start all e es moment))
+          by (inr off) = of_host off (part_host start e.host (host_low start all e es moment))
 
       -- the logs before the event, in the view that is current behind it
       abbrev pub Before : ℕ → Type 0
