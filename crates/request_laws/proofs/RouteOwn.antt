@@ -79,9 +79,6 @@ module _ (start : Start) (all : ℕ → List HostStep) (e : HostStep) (es : List
     abbrev new : ℕ → List HostStep
     new = logs_of start (e ∷ es)
 
-    abbrev h : ℕ
-    h = tc_of start member
-
     abbrev log : List HostStep
     log = logs_of start es (tc_of start member)
 
