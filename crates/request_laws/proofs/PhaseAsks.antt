@@ -1,5 +1,5 @@
--- A coordinator asks for the epoch of a transaction with one list of operations, and from then on the transaction waits for
--- it with these, or has gone one way.
+-- A coordinator asks for the epoch of a transaction with one list of operations, and from then on the transaction waits
+-- for it with these, or has gone one way.
 use Rattle.std.proofs.Common.{◌≡◌, ◌⊎◌, ◌∙◌, ◌++◌, ℕ, Bool, true, false, List, [], ◌∷◌, refl, sym, ap, subst, inl, inr}
 use Rattle.std.proofs.lemmas.Bool.{true≢false}
 use Rattle.std.specs.Prelude.{if◌then◌else◌, Option, None, Some}

@@ -285,8 +285,8 @@ module _ (start : Start) (logs : ℕ → List HostStep) (are : AreOfCluster star
         itself : coordinator_member tx ≡ member
         itself =
             own_reaches start (((coordinator_member tx).node - 1) * 3 + 1)
-            (after start i (sent.step ∷ sent.before)).standing.view (coordinator_member tx) member made_w there block.Dih
-            block.Dih
+            (after start i (sent.step ∷ sent.before)).standing.view (coordinator_member tx) member made_w there
+            block.Dih block.Dih
             (reaches _ (after start i (sent.step ∷ sent.before)).standing.view
             (own ∙ tc_number start (coordinator_member tx) made_w) one.to)
 
@@ -349,12 +349,13 @@ module _ (start : Start) (all : ℕ → List HostStep) (member : Member) (there 
             happens.step.fits.marks;
         asks = λ tx ops is.
             asks_told start all moment.cluster member there e (logs_of start es (tc_of start member))
-            (subst (λ log. IsPast log (all (tc_of start member))) own_log (moment.inside (tc_of start member))) at tx ops
-            is;
+            (subst (λ log. IsPast log (all (tc_of start member))) own_log (moment.inside (tc_of start member))) at tx
+            ops is;
         gives = gives_decided;
       }
 
-  pub heard_at : (es : List HostStep) → IsMoment start all es → Heard start member (logs_of start es (tc_of start member))
+  pub heard_at : (es : List HostStep) → IsMoment start all es
+      → Heard start member (logs_of start es (tc_of start member))
   heard_at [] moment = tt
   heard_at (e ∷ es) moment =
       by (cases_eq e.host (tc_of start member)) (heard_at es (moment_less start all e es moment))

@@ -1,6 +1,6 @@
--- Along a log of a coordinator's host that has heard rightly: for whom the epochs beside it hold a request, and whom they
--- decided, an epoch was asked for with the operations of the request that the host took; and an epoch is told of who is
--- decided.
+-- Along a log of a coordinator's host that has heard rightly: for whom the epochs beside it hold a request, and whom
+-- they decided, an epoch was asked for with the operations of the request that the host took; and an epoch is told of
+-- who is decided.
 use Rattle.std.proofs.Common.{◌≡◌, ◌∙◌, ℕ, Bool, true, false, List, [], ◌∷◌, refl, sym, ap, subst, inl, inr}
 use Rattle.std.specs.Prelude.{if◌then◌else◌, Option, None, Some}
 use Rattle.run_theory.specs.Lists.{Each, IsIn}

@@ -286,8 +286,8 @@ module _ (start : Start) (member : Member) (there : IsIn member (made start)) (t
   not_both : (x : Bool) → x ≡ true → x ≡ false → ⊥
   not_both x is off = true≢false (sym is ∙ off)
 
-  module _ (log : List HostStep) (e : HostStep) (heard : IsHeard start member e log) (kept : IsKept start member there log)
-      (was : f log ≡ false) (is : f (e ∷ log) ≡ true) where
+  module _ (log : List HostStep) (e : HostStep) (heard : IsHeard start member e log)
+      (kept : IsKept start member there log) (was : f log ≡ false) (is : f (e ∷ log) ≡ true) where
     undecided_at : is_at is_decided (o log) ≡ false
     undecided_at = by (o log) refl
       where
@@ -324,7 +324,8 @@ module _ (start : Start) (member : Member) (there : IsIn member (made start)) (t
       not_back : turns.Back tx t turn → ⊥
       not_back goes = by turn.over refl
         where
-          among : is_sent (tells_abort tx) turn.step.effects.sends ≡ true → is_sent (tells_abort tx) (sends log e) ≡ true
+          among : is_sent (tells_abort tx) turn.step.effects.sends ≡ true
+              → is_sent (tells_abort tx) (sends log e) ≡ true
           among told =
               ap (is_sent (tells_abort tx)) all
               ∙ sent_behind (tells_abort tx) front (turn.step.effects.sends ++ more)

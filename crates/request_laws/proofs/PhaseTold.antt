@@ -61,8 +61,9 @@ module _ (start : Start) (h : ℕ) where
           (each_sent start h log e))
 
 module _ (start : Start) (member : Member) where
-  -- The step, behind this log of the host of the member's coordinator, has the marks of its row. If an epoch is asked for by
-  -- the signal that it takes, the host has told so; and if one is given to a transaction of the member, it is decided.
+  -- The step, behind this log of the host of the member's coordinator, has the marks of its row. If an epoch is asked
+  -- for by the signal that it takes, the host has told so; and if one is given to a transaction of the member, it is
+  -- decided.
   pub record IsHeard (e : HostStep) (log : List HostStep) : Type 0 where
     pub marks : e.step.marks ≡ (step_after start (tc_of start member) log e).effects.marks
     pub asks : (tx : TxId) (ops : List (Op × Answer)) → e.step.taken.body ≡ Epoch (DiVerifyReq tx ops)
