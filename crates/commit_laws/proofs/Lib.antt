@@ -1,2 +1,3 @@
 pub mod LostDoomed
 pub mod LostStays
+pub mod FateViews
