@@ -1,1 +1,3 @@
-pub mod LostDoomed
+pub mod ForthSpeaks
+pub mod ForthEpochs
+pub mod ForthTakeover
