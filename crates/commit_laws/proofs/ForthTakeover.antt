@@ -27,7 +27,7 @@ use Rattle.takeover_block.specs.Gathered.{first_of}
 use Rattle.takeover_block.specs.Rule.{entering, finishing, ruling, ruling_by, way_of}
 use Rattle.takeover_block.specs.Sends.{abort_at, ask_effects, ask_of, asks_of, front_sends, key_sends, key_sends_along, stage_effects, stage_sends}
 use Rattle.takeover_block.specs.State.{TakeoverState, with_gathered}
-use Rattle.takeover_block.specs.Takeover.{takeover_row}
+use Rattle.takeover_block.specs.Takeover.{takeover_row, takeover_table}
 use Rattle.takeover_block.proofs.EachTakeover.{takeover_each}
 use Rattle.takeover_block.proofs.LawLemmas.{first_found}
 use Rattle.outcome_laws.specs.Known.{IsDecidedAt, TakeoverKnows}
@@ -148,7 +148,7 @@ module _ (F A : TxId → Type 0) where
       given : (body : Body) → x.body ≡ body → gives_epoch F A body ≡ true
           → TakeoverKnows (Of F) Anyone (takeover_row s x).state
       given (Epoch (DiVerifyConf tx epoch)) at is =
-          subst (λ b. TakeoverKnows (Of F) Anyone (takeover_row s (record x { body = b })).state) (sym at) known
+          subst (λ b. TakeoverKnows (Of F) Anyone (takeover_table s b).state) (sym at) known
       given body at is = absurd cc
 
       by : (b : Bool) → gives_epoch F A x.body ≡ b → TakeoverKnows (Of F) Anyone (takeover_row s x).state

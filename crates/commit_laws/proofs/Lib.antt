@@ -1,3 +1,6 @@
 pub mod ForthSpeaks
 pub mod ForthEpochs
 pub mod ForthTakeover
+pub mod ForthRows
+pub mod ForthTurns
+pub mod ForthCoordinator
