@@ -4,3 +4,4 @@ pub mod ForthTakeover
 pub mod ForthRows
 pub mod ForthTurns
 pub mod ForthCoordinator
+pub mod ForthClient
