@@ -5,3 +5,5 @@ pub mod ForthRows
 pub mod ForthTurns
 pub mod ForthCoordinator
 pub mod ForthClient
+pub mod ForthParts
+pub mod ForthTc
