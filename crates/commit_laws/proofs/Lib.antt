@@ -1,3 +1,5 @@
+pub mod LostDoomed
+pub mod LostStays
 pub mod ForthSpeaks
 pub mod ForthEpochs
 pub mod ForthTakeover

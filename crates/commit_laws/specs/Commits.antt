@@ -31,6 +31,12 @@ module _ (start : Start) (logs : ℕ → List HostStep) where
         → r.image ≡ image_by (decided_ops start logs tx) key → HoldsImage member key tx
     by_marker : has_marker_at start logs member key tx ≡ true → HoldsImage member key tx
 
+  -- a committed record, or a marker
+  pub data LeavesTraceOn (member : Member) (key : List ℕ) (tx : TxId) : Type 0 where
+    committed_there : (r : PendingRecord) → record_at start logs member key tx ≡ Some r → r.committed ≡ true
+        → LeavesTraceOn member key tx
+    marked_there : has_marker_at start logs member key tx ≡ true → LeavesTraceOn member key tx
+
   -- a transaction that is decided, and isn't to abort
   pub record IsKept (tx : TxId) : Type 0 where
     pub decided : is_decided start logs tx ≡ true
@@ -39,6 +45,11 @@ module _ (start : Start) (logs : ℕ → List HostStep) where
   -- all its keys are committed at all replicas
   abbrev pub IsDone : TxId → Type 0
   IsDone tx = (key : List ℕ) → HasWritten tx key → IsCommittedAtAll start logs tx key
+
+  -- it wrote something
+  pub record HasWrittenOne (tx : TxId) : Type 0 where
+    pub key : List ℕ
+    pub written : HasWritten tx key
 
   -- a commit at a place of its chain comes when the places behind it have committed; what tells of one, when all have
   abbrev pub ComesFromTheEnd : Body → Type 0
@@ -53,7 +64,7 @@ module _ (start : Start) (logs : ℕ → List HostStep) where
   ComesWhenDone (Chain (Complete tx key chain at)) = IsDone tx
   ComesWhenDone (Chain (Completed tx key)) = IsDone tx
   ComesWhenDone (Client (TcCommitConf tx epoch)) = IsDone tx
-  ComesWhenDone (Client (TcKeyFailConf tx epoch)) = IsDone tx
+  ComesWhenDone (Client (TcKeyFailConf tx epoch)) = IsDone tx × HasWrittenOne tx
   ComesWhenDone (Client (TcCommitAck tx)) = IsDone tx
   ComesWhenDone body = Unit {0}
 
@@ -65,6 +76,9 @@ module _ (start : Start) (logs : ℕ → List HostStep) where
     pub records : (tx : TxId) → IsKept tx → (member : Member) → IsIn member (made start) → (key : List ℕ) (r : PendingRecord)
         → record_at start logs member key tx ≡ Some r
         → HasWritten tx key × (r.image ≡ image_by (decided_ops start logs tx) key)
+    -- what is committed, and what is remembered of a commit, is of a key that it wrote
+    pub written : (tx : TxId) (member : Member) → IsIn member (made start) → (key : List ℕ) → LeavesTraceOn member key tx
+        → HasWritten tx key
     pub commits : (i j : ℕ)
         → Each (λ (x : Addressed). x.signal.view.number ≡ (current start logs).number → ComesFromTheEnd x.signal.body)
         (sent (sound_machine start) i j (logs i))

@@ -24,7 +24,7 @@ use Rattle.view_laws.specs.Runs.{view_after}
 use Rattle.moment_laws.specs.Moments.{IsMoment, current, logs_of}
 use Rattle.moment_laws.specs.Places.{tc_of}
 use Rattle.request_laws.specs.Blocks.{takeover_after}
-use Rattle.commit_laws.specs.Commits.{HasWritten, IsKept}
+use Rattle.commit_laws.specs.Commits.{HasWritten, HasWrittenOne, IsKept}
 use Rattle.commit_laws.specs.Fates.{Fate, aborts, commits, fate}
 use Rattle.commit_laws.specs.Traces.{is_known}
 
@@ -32,25 +32,25 @@ use Rattle.commit_laws.specs.Traces.{is_known}
 abbrev pub IsOrphan : View → TxId → Type 0
 IsOrphan view tx = is_coordinated view.full tx ≡ false
 
--- what is told of a transaction: where an epoch is, that it commits
-abbrev pub TellsFate : (TxId → Fate) → TxId → Option ℕ → Type 0
-TellsFate F tx None = Unit {0}
-TellsFate F tx (Some epoch) = F tx ≡ commits
-
--- what rows report is of orphans of the view in which they do, and true of it
-abbrev pub IsTrueReport : (TxId → Fate) → View → Body → Type 0
-IsTrueReport F view (Takeover (LqhTransConf tx key state epoch)) =
-    IsOrphan view tx × TellsFate F tx (told_epoch state epoch)
-IsTrueReport F view body = Unit {0}
-
 module _ (start : Start) (logs : ℕ → List HostStep) where
+  -- what is told of a transaction: where an epoch is, that it commits, and wrote something
+  abbrev pub TellsFate : TxId → Option ℕ → Type 0
+  TellsFate tx None = Unit {0}
+  TellsFate tx (Some epoch) = (fate start logs tx ≡ commits) × HasWrittenOne start logs tx
+
+  -- what rows report is of orphans of the view in which they do, and true of it
+  abbrev pub IsTrueReport : View → Body → Type 0
+  IsTrueReport view (Takeover (LqhTransConf tx key state epoch)) =
+      IsOrphan view tx × TellsFate tx (told_epoch state epoch)
+  IsTrueReport view body = Unit {0}
+
   abbrev pub takeover_at : Member → TakeoverState
   takeover_at member = takeover_after start member (logs (tc_of start member))
 
   -- what it is at work on: a commit, or an abort
   abbrev pub IsRuled : Stage → Gathered → Type 0
-  IsRuled (stage.Committing epoch awaited) g = fate start logs g.tx ≡ commits
-  IsRuled (stage.Completing epoch awaited) g = fate start logs g.tx ≡ commits
+  IsRuled (stage.Committing epoch awaited) g = (fate start logs g.tx ≡ commits) × HasWrittenOne start logs g.tx
+  IsRuled (stage.Completing epoch awaited) g = (fate start logs g.tx ≡ commits) × HasWrittenOne start logs g.tx
   IsRuled (stage.Aborting awaited) g = fate start logs g.tx ≡ aborts
   IsRuled other g = Unit {0}
 
@@ -73,7 +73,7 @@ module _ (start : Start) (logs : ℕ → List HostStep) where
     pub orphans : Each (λ (g : Gathered). IsOrphan (takeover_at member).layout.view g.tx) (takeover_at member).gathered
     -- in the current view
     pub told : (view_after start (tc_of start member) (logs (tc_of start member))).number ≡ (current start logs).number
-        → Each (λ (g : Gathered). TellsFate (fate start logs) g.tx g.epoch) (takeover_at member).gathered
+        → Each (λ (g : Gathered). TellsFate g.tx g.epoch) (takeover_at member).gathered
     pub ruled : (view_after start (tc_of start member) (logs (tc_of start member))).number ≡ (current start logs).number
         → FirstIs (IsRuled (takeover_at member).stage) (slice_get (takeover_at member).gathered 0)
     pub whole : (view_after start (tc_of start member) (logs (tc_of start member))).number ≡ (current start logs).number
@@ -83,7 +83,7 @@ module _ (start : Start) (logs : ℕ → List HostStep) where
     pub each : (member : Member) → IsIn member (made start) → TakeoverStands member
     pub reports : (i j : ℕ)
         → Each (λ (x : Addressed). x.signal.view.number ≡ (current start logs).number
-        → IsTrueReport (fate start logs) x.signal.view x.signal.body) (sent (sound_machine start) i j (logs i))
+        → IsTrueReport x.signal.view x.signal.body) (sent (sound_machine start) i j (logs i))
 
 abbrev pub TakeoversStandAlways : Type 0
 TakeoversStandAlways =

@@ -32,7 +32,7 @@ use Rattle.sig_core.specs.declared.signal.client.ClientSignal.TheVariants.{DumpR
 use Rattle.sig_core.specs.declared.signal.epoch.EpochSignal.TheVariants.{GcpReq, GcpRep, MicroReq, MicroRep}
 use Rattle.sig_core.specs.declared.signal.host.HostSignal.TheVariants.{Closed, Continue}
 use Rattle.sig_core.specs.declared.signal.host.Work.{Work}
-use Rattle.sig_core.specs.declared.signal.host.Work.TheVariants.{Request, Report}
+use Rattle.sig_core.specs.declared.signal.host.Work.TheVariants.{Report, Request, Transaction}
 use Rattle.sig_core.specs.declared.view.View.{View}
 use Rattle.sig_core.specs.Place.{coordinator_of}
 use Rattle.sig_core.specs.Step.{Step, stay, to_place}
@@ -69,6 +69,7 @@ use Rattle.outcome_laws.specs.Counts.{is_committing}
 
 -- a signal of the client's side that tells nothing of a transaction: all are that but the wish to commit
 abbrev pub is_plain : Body → Bool
+is_plain (Host (Continue (Transaction tx) at)) = false
 is_plain (Host told) = true
 is_plain (Epoch GcpReq) = true
 is_plain (Epoch MicroReq) = true

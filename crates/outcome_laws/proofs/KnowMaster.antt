@@ -81,7 +81,7 @@ lists : (s : MasterState) (at : ℕ) → TellsNothing (listing s at)
 unfolding listing list_effects master_sends
 lists s at = (
   portion_untold (checkpoints s.member.node) Members
-      (front_sends s.member.node s.view s.front ++ phase_sends s.view s.phase) at
+      (front_sends s.member.node s.view s.front ++ phase_sends s.view s.phase) at (λ left. refl)
       (each_append IsUntold (front_sends s.member.node s.view s.front) (phase_sends s.view s.phase)
       (front_untold s.member.node s.view s.front) (phase_untold s.view s.phase)),
   tt,

@@ -279,7 +279,7 @@ unfolding order_row
 order_quiet k number at = by (is_of_view k number && is_oldest k && nat_lt at ORDERS)
   where
     by : (b : Bool) → TellsNothing (order_if k at b)
-    by true = (portion_untold (membership k.me.node) Members (orders k) at (orders_untold k), tt)
+    by true = (portion_untold (membership k.me.node) Members (orders k) at (λ left. refl) (orders_untold k), tt)
     by false = (tt, tt)
 
 hosts_quiet : (k : Known) (member : Member) (number : ℕ) (signal : HostSignal)

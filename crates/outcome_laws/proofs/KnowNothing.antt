@@ -7,10 +7,12 @@ use Rattle.sig_core.specs.declared.outs.Outgoing.{Outgoing}
 use Rattle.sig_core.specs.declared.place.Place.{Place}
 use Rattle.sig_core.specs.declared.portion.TheConstants.{PORTION}
 use Rattle.sig_core.specs.declared.signal.Body.{Body}
-use Rattle.sig_core.specs.declared.signal.Body.TheVariants.{Chain, Client, Epoch, Takeover}
+use Rattle.sig_core.specs.declared.signal.Body.TheVariants.{Chain, Client, Epoch, Host, Takeover}
 use Rattle.sig_core.specs.declared.signal.client.ClientSignal.TheVariants.{ViewRep}
 use Rattle.sig_core.specs.declared.signal.epoch.EpochSignal.TheVariants.{DiVerifyConf, DiVerifyReq}
+use Rattle.sig_core.specs.declared.signal.host.HostSignal.TheVariants.{Continue}
 use Rattle.sig_core.specs.declared.signal.host.Work.{Work}
+use Rattle.sig_core.specs.declared.signal.host.Work.TheVariants.{Transaction}
 use Rattle.sig_core.specs.declared.signal.takeover.TakeoverSignal.TheVariants.{LqhTransConf}
 use Rattle.sig_core.specs.Portion.{portion_effects, rest_if}
 use Rattle.sig_core.specs.Step.{Step}
@@ -18,8 +20,8 @@ use Rattle.outcome_laws.proofs.DihSilent.{AreSilent, IsSilent, is_telling}
 use Rattle.outcome_laws.proofs.OnceNone.{AreUncounted, IsUncounted, is_counted}
 use Rattle.outcome_laws.proofs.RowsNone.{MarksNone}
 
--- a signal of clients and coordinators, but for the news of a view, one of chains, or one that tells of a transaction's
--- epoch
+-- a signal of clients and coordinators, but for the news of a view, one of chains, one that tells of a transaction's
+-- epoch, or one that goes on with what is sent of a transaction
 abbrev pub is_tale : Body → Bool
 is_tale (Client ViewRep) = false
 is_tale (Client signal) = true
@@ -27,6 +29,7 @@ is_tale (Chain signal) = true
 is_tale (Epoch (DiVerifyReq tx ops)) = true
 is_tale (Epoch (DiVerifyConf tx epoch)) = true
 is_tale (Takeover (LqhTransConf tx key told epoch)) = true
+is_tale (Host (Continue (Transaction tx) at)) = true
 is_tale body = false
 
 -- it is none of them
@@ -47,6 +50,7 @@ body_silent (Chain signal) none = absurd cc
 body_silent (Epoch (DiVerifyReq tx ops)) none = absurd cc
 body_silent (Epoch (DiVerifyConf tx epoch)) none = absurd cc
 body_silent (Takeover (LqhTransConf tx key told epoch)) none = absurd cc
+body_silent (Host (Continue (Transaction tx) at)) none = absurd cc
 body_silent body none = refl
 
 body_uncounted : (body : Body) → is_tale body ≡ false → is_counted body ≡ false
@@ -62,14 +66,17 @@ untold_silent sends none = each_map IsUntold IsSilent sends (λ sent is. body_si
 pub untold_uncounted : (sends : List Outgoing) → AreUntold sends → AreUncounted sends
 untold_uncounted sends none = each_map IsUntold IsUncounted sends (λ sent is. body_uncounted sent.body is) none
 
-rest_untold : (by : Place) (work : Work) (at : ℕ) (b : Bool) → AreUntold (rest_if by work at b)
-rest_untold by work at true = (refl, tt)
-rest_untold by work at false = tt
-
--- so it is of a part of a list that tells nothing
-pub portion_untold : (by : Place) (work : Work) (sends : List Outgoing) (at : ℕ) → AreUntold sends
+-- so it is of a part of a list that tells nothing, if to go on with the list does
+pub portion_untold : (by : Place) (work : Work) (sends : List Outgoing) (at : ℕ)
+    → ((left : ℕ) → is_tale (Host (Continue work left)) ≡ false) → AreUntold sends
     → AreUntold (portion_effects by work sends at).sends
-portion_untold by work sends at all =
-    each_append IsUntold (take PORTION (drop at sends)) (rest_if by work at (nat_lt (at + PORTION) (length sends)))
-    (each_take IsUntold PORTION (drop at sends) (each_drop IsUntold at sends all))
-    (rest_untold by work at (nat_lt (at + PORTION) (length sends)))
+portion_untold by work sends at goes_on all =
+    each_append IsUntold (take PORTION (drop at sends)) (rest_if by work at more)
+    (each_take IsUntold PORTION (drop at sends) (each_drop IsUntold at sends all)) (rest more)
+  where
+    more : Bool
+    more = nat_lt (at + PORTION) (length sends)
+
+    rest : (b : Bool) → AreUntold (rest_if by work at b)
+    rest true = (goes_on (at + PORTION), tt)
+    rest false = tt

@@ -34,7 +34,7 @@ use Rattle.request_laws.proofs.PhaseKeyed.{IsKeyed}
 use Rattle.request_laws.proofs.PhaseMoves.{Comes}
 
 -- a host of a node comes out as its step does
-told_some : (h : ℕ) → 1 ≤ h → (t : Step hosts.Host) → told h t ≡ t.state
+pub told_some : (h : ℕ) → 1 ≤ h → (t : Step hosts.Host) → told h t ≡ t.state
 told_some zero some t = absurd (omega (arith, some))
 told_some (suc h) some t = refl
 

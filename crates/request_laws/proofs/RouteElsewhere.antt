@@ -99,7 +99,7 @@ module _ (start : Start) (e : HostStep) (es : List HostStep) where
             was.asked;
       },
       λ was full.
-      subst (λ log. was_sent_in start (coordinator_member tx) (is_commit tx) view.number log ≡ true) same (was full),
+          subst (λ log. was_sent_in start (coordinator_member tx) (is_commit tx) view.number log ≡ true) same (was full),
     )
       where
         same : new (tc_of start (coordinator_member tx)) ≡ old (tc_of start (coordinator_member tx))

@@ -14,6 +14,7 @@ use Rattle.sig_core.specs.declared.rows.PendingRecord.{PendingRecord}
 use Rattle.sig_core.specs.declared.signal.Body.{Body}
 use Rattle.sig_core.specs.declared.signal.Body.TheVariants.{Chain, Client, Epoch, Host, Membership, Takeover}
 use Rattle.sig_core.specs.declared.signal.Signal.{Signal}
+use Rattle.sig_core.specs.declared.signal.chain.ChainSignal.{ChainSignal}
 use Rattle.sig_core.specs.declared.signal.chain.ChainSignal.TheVariants.{Aborted, Commit, Committed, Complete, Completed, LqhKeyRef, LqhKeyReq}
 use Rattle.sig_core.specs.declared.signal.client.ClientSignal.TheVariants.{DumpConf, LqhWaitConf}
 use Rattle.sig_core.specs.declared.signal.epoch.EpochSignal.{EpochSignal}
@@ -179,13 +180,17 @@ module _ (layout : Layout) (A D G : TxId → Type 0) where
   unfolding addressed
   expires_more node = tt
 
-  module _ (s : LqhState) (to : Place) (body : Body) (is : IsRouted layout A D G to body)
+  module _ (s : LqhState) (to : Place) (body : Body)
+      (is : is_chain body ≡ true → IsRouted layout A D G to body)
       (here : is_chain body ≡ true → to ≡ rows_of s.node) (ask : WaitersAsk s)
       (all : Each (IsRequestAt s.node) s.waiting) where
+    in_body : {signal : ChainSignal} → body ≡ Chain signal → IsRouted layout A D G to (Chain signal)
+    in_body same = subst (IsRouted layout A D G to) same (is (ap is_chain same))
+
     -- the request that comes
     own_request : (r : Request) → body ≡ Chain (LqhKeyReq r.tx r.work r.chain r.at) → IsRequestAt s.node r
     own_request r same =
-        let there = subst (IsRouted layout A D G to) same is in
+        let there = in_body same in
         (subst (λ (p : Place). IsRequestRouted layout p r) (here (ap is_chain same)) there.0, there.1)
 
     almost : Each IsAlmost (lqh_table s body).effects.sends
@@ -196,13 +201,13 @@ module _ (layout : Layout) (A D G : TxId → Type 0) where
           grants_more = grants_more s.node;
           expires_more = expires_more s.node;
           commits_on = λ tx key epoch chain at same behind.
-              commit_sent to tx key epoch chain at (subst (IsRouted layout A D G to) same is);
+              commit_sent to tx key epoch chain at (in_body same);
           committed = λ tx key epoch chain at same first.
-              committed_sent tx key (subst (IsRouted layout A D G to) same is).1;
+              committed_sent tx key (in_body same).1;
           completes_on = λ tx key chain at same behind.
-              complete_sent to tx key chain at (subst (IsRouted layout A D G to) same is);
+              complete_sent to tx key chain at (in_body same);
           completed = λ tx key chain at same first.
-              completed_sent tx key (subst (IsRouted layout A D G to) same is).1;
+              completed_sent tx key (in_body same).1;
           aborted = λ tx key same. aborted_sent tx key;
           gives_up = λ tx key same. refl;
           times_out = λ tx key. refl;
@@ -260,7 +265,7 @@ module _ (layout : Layout) (A D G : TxId → Type 0) where
     epochs_routed from _ = record { waits = all; sends = tt }
 
     module _ (x : Signal) (same : s.lqh.layout ≡ layout) (ask : WaitersAsk s.lqh)
-        (is : IsRouted layout A D G x.to x.body) (here : IsForRows s x) where
+        (is : is_chain x.body ≡ true → IsRouted layout A D G x.to x.body) (here : IsForRows s x) where
       passed_routed : RowsRoute (passed s x)
       passed_routed = record {
         waits =
@@ -286,7 +291,8 @@ module _ (layout : Layout) (A D G : TxId → Type 0) where
 
   -- whatever they take
   module _ (s : ReplicaState) (x : Signal) (same : s.lqh.layout ≡ layout) (ask : WaitersAsk s.lqh)
-      (all : WaitsRouted layout A D G s) (is : IsRouted layout A D G x.to x.body) (here : IsForRows s x) where
+      (all : WaitsRouted layout A D G s) (is : is_chain x.body ≡ true → IsRouted layout A D G x.to x.body)
+      (here : IsForRows s x) where
     pub rows_wait_routed : WaitsRouted layout A D G (replica_row s x).state
     rows_wait_routed = (by_routed s all x same ask is here x.body).waits
 

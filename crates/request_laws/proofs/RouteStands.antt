@@ -50,7 +50,7 @@ or_left false b is = absurd (true≢false (sym is))
 
 module _ (start : Start) (member : Member) (there : IsIn member (made start)) where
   -- as its life begins a coordinator has nobody
-  none_first : (coordinator_after start member []).tc.live ≡ []
+  pub none_first : (coordinator_after start member []).tc.live ≡ []
   none_first =
       ap
       (λ (s : hosts.Host).

@@ -9,12 +9,9 @@ use Rattle.sig_core.specs.declared.member.TxId.{TxId}
 use Rattle.sig_core.specs.declared.outs.Outgoing.{Outgoing}
 use Rattle.sig_core.specs.declared.place.Place.{Place}
 use Rattle.sig_core.specs.declared.portion.TheConstants.{PORTION}
-use Rattle.sig_core.specs.declared.signal.Body.{Body}
-use Rattle.sig_core.specs.declared.signal.Body.TheVariants.{Takeover}
 use Rattle.sig_core.specs.declared.signal.Signal.{Signal}
 use Rattle.sig_core.specs.declared.signal.host.Work.{Work}
 use Rattle.sig_core.specs.declared.signal.host.Work.TheVariants as work
-use Rattle.sig_core.specs.declared.signal.takeover.TakeoverSignal.TheVariants.{LqhTransConf}
 use Rattle.sig_core.specs.declared.view.View.{View}
 use Rattle.sig_core.specs.Place.{takeover}
 use Rattle.sig_core.specs.Portion.{go_on_at, portion_effects, rest_if}
@@ -31,20 +28,12 @@ use Rattle.takeover_block.proofs.EachTakeover.{takeover_each}
 use Rattle.takeover_block.proofs.LawLemmas.{first_found}
 use Rattle.takeover_block.proofs.NotedLemmas.{IsMore, IsNew, noted_is}
 use Rattle.run_laws.proofs.RoutesChain.{last_inside}
+use Rattle.request_laws.specs.Orphans.{GatheredAre, TellsOf}
 use Rattle.request_laws.specs.Routes.{IsSentRouted}
 
 -- each key has a replica
 abbrev pub ChainsAreSome : Layout → Type 0
 ChainsAreSome layout = (key : List ℕ) → 0 < length (chain_of layout key)
-
--- of whom a takeover is told, that is driven
-abbrev pub TellsOf : (TxId → Type 0) → Body → Type 0
-TellsOf D (Takeover (LqhTransConf tx key state epoch)) = D tx
-TellsOf D body = Unit {0}
-
--- and so are all that it has gathered
-abbrev pub GatheredAre : (TxId → Type 0) → TakeoverState → Type 0
-GatheredAre D s = Each (λ (g : Gathered). D g.tx) s.gathered
 
 module _ (D : TxId → Type 0) where
   abbrev IsDriven : Gathered → Type 0

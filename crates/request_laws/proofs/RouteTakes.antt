@@ -66,7 +66,7 @@ module _ (start : Start) (all : ℕ → List HostStep) (e : HostStep) (es : List
     own_log : new (tc_of start member) ≡ e ∷ log
     own_log = log_of-own (machine start) e es (tc_of start member) at
 
-    own_renews : (tx : TxId) → coordinator_member tx ≡ member
+    pub own_renews : (tx : TxId) → coordinator_member tx ≡ member
         → Renews (WasAskedIn start old view) (WasDrivenIn start old view) (WasAskedIn start new view)
         (WasDrivenIn start new view) tx sends
     own_renews tx own =

@@ -281,8 +281,8 @@ module _ (A0 D0 G0 A D G : TxId → Type 0) (grows : Grows A0 D0 G0 A D G) (s : 
         → ResumeForms s.tc.node s.tc.layout tx t (TurnGoes tx)
     resumes_go tx t at split =
         let routes = resume_forms s.tc.layout A D G some A0 D0 G0 grows s tx s.tc.node t
-            (own_entry HadEntry s.tc.live tx t at split all)
-            (own_entry (λ (e : TxId × Transaction). IsAnsweredIn e.1) s.tc.live tx t at split answered) in
+        (own_entry HadEntry s.tc.live tx t at split all)
+        (own_entry (λ (e : TxId × Transaction). IsAnsweredIn e.1) s.tc.live tx t at split answered) in
         let own = resumes_own s.tc.node s.tc.layout tx t in
         record {
           stays = (routes.stays, own.stays);
@@ -385,7 +385,7 @@ module _ (A0 D0 G0 A D G : TxId → Type 0) (grows : Grows A0 D0 G0 A D G) (s : 
       by true idle = at_rest (coordinator_row s x) (idle_stays s x.view.number x.body idle) makes
       by false busy =
           let step = goes_routed A0 D0 G0 A D G grows s some x (keys_once s.tc.live once) all answered (is busy)
-              (spared_in s x.view.number x.body busy) makes in
+          (spared_in s x.view.number x.body busy) makes in
           record {
             has =
                 each_from

@@ -360,7 +360,7 @@ module _ (layout : Layout) (A D G : TxId → Type 0) (some : ChainsAreSome layou
         completed = λ key epoch awaited same at more makes. record {
           has = λ on. (
             λ driven.
-            same_routes t _ refl refl ((in_phase t (Completing epoch awaited) at has).0 (routed_as _ same).1),
+                same_routes t _ refl refl ((in_phase t (Completing epoch awaited) at has).0 (routed_as _ same).1),
             (makes.given refl).decided refl,
           );
           sends = tt;

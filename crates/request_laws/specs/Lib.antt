@@ -9,4 +9,5 @@ pub mod Tokens
 pub mod Routes
 pub mod Waiting
 pub mod Routed
+pub mod Orphans
 pub mod OneWay

@@ -1,0 +1,131 @@
+-- Signals that aren't about the rows of transactions, and blocks that send no others.
+use Rattle.std.proofs.Common.{◌≡◌, ℕ, Bool, true, false, List, refl}
+use Rattle.run_theory.specs.Lists.{Each}
+use Rattle.run_theory.proofs.Pasts.{each_map}
+use Rattle.sig_core.specs.declared.member.TxId.{TxId}
+use Rattle.sig_core.specs.declared.outs.Outgoing.{Outgoing}
+use Rattle.sig_core.specs.declared.place.Place.{Place}
+use Rattle.sig_core.specs.declared.signal.Body.{Body}
+use Rattle.sig_core.specs.declared.signal.Body.TheVariants.{Chain, Host, Takeover}
+use Rattle.sig_core.specs.declared.signal.Signal.{Signal}
+use Rattle.sig_core.specs.declared.signal.host.HostSignal.TheVariants.{Continue}
+use Rattle.sig_core.specs.declared.signal.host.Work.TheVariants.{Transaction as Sends}
+use Rattle.sig_core.specs.declared.signal.takeover.TakeoverSignal.TheVariants.{LqhTransConf}
+use Rattle.sig_core.specs.declared.view.View.{View}
+use Rattle.frag_map.specs.Layout.{Layout}
+use Rattle.api_views.specs.Client.{client_row}
+use Rattle.api_views.specs.State.{ClientState}
+use Rattle.arbiter_block.specs.Arbiter.{ArbiterState, arbiter_row}
+use Rattle.dih_node.specs.Dih.{dih_row}
+use Rattle.dih_node.specs.Orders as dih
+use Rattle.dih_node.specs.State.{DihState, go_on_if}
+use Rattle.dih_node.specs.Verify.{given}
+use Rattle.gcp_master.specs.Master.{master_row}
+use Rattle.gcp_master.specs.State.{MasterState}
+use Rattle.qmgr_block.specs.Qmgr.{qmgr_installed, qmgr_row}
+use Rattle.qmgr_block.specs.State.{QmgrState}
+use Rattle.outcome_laws.proofs.ClientTurns.{ArePlain, IsPlain, client_turns, is_plain}
+use Rattle.outcome_laws.proofs.DihSilent.{AreSilent, IsSilent, is_telling}
+use Rattle.outcome_laws.proofs.DihWalk.{dih_each, dih_installs_quiet, goes_on_silent}
+use Rattle.outcome_laws.proofs.KnowMaster.{master_tells_nothing}
+use Rattle.outcome_laws.proofs.KnowMembership.{membership_installs_nothing, membership_tells_nothing}
+use Rattle.outcome_laws.proofs.KnowNothing.{AreUntold, untold_silent}
+use Rattle.outcome_laws.proofs.KnowParts.{arbiter_tells_nothing}
+use Rattle.request_laws.specs.Orphans.{TellsOf}
+use Rattle.request_laws.specs.Routes.{IsRouted, IsSentRouted}
+
+-- a signal of chains, one that goes on with what is sent of a transaction, or one that tells a takeover of one
+abbrev pub is_of_rows : Body → Bool
+is_of_rows (Chain signal) = true
+is_of_rows (Host (Continue (Sends tx) at)) = true
+is_of_rows (Takeover (LqhTransConf tx key told epoch)) = true
+is_of_rows body = false
+
+abbrev pub IsAside : Outgoing → Type 0
+IsAside sent = is_of_rows sent.body ≡ false
+
+abbrev pub AreAside : List Outgoing → Type 0
+AreAside sends = Each IsAside sends
+
+-- it is routed anyhow, and tells a takeover nothing
+module _ (layout : Layout) (A D G : TxId → Type 0) where
+  pub aside_routed : (to : Place) (body : Body) → is_of_rows body ≡ false → IsRouted layout A D G to body
+  aside_routed to (Chain signal) aside = absurd cc
+  aside_routed to (Host (Continue (Sends tx) at)) aside = absurd cc
+  aside_routed to body aside = tt
+
+  pub all_aside_routed : (sends : List Outgoing) → AreAside sends → Each (IsSentRouted layout A D G) sends
+  all_aside_routed sends all =
+      each_map IsAside (IsSentRouted layout A D G) sends (λ sent aside. aside_routed sent.to sent.body aside) all
+
+pub aside_tells : (D : TxId → Type 0) (body : Body) → is_of_rows body ≡ false → TellsOf D body
+aside_tells D (Takeover (LqhTransConf tx key told epoch)) aside = absurd cc
+aside_tells D body aside = tt
+
+-- what tells nothing of transactions is none
+silent_one : (body : Body) → is_telling body ≡ false → is_of_rows body ≡ false
+silent_one (Chain signal) silent = absurd cc
+silent_one (Host (Continue (Sends tx) at)) silent = absurd cc
+silent_one (Takeover (LqhTransConf tx key told epoch)) silent = absurd cc
+silent_one body silent = refl
+
+pub silent_aside : (sends : List Outgoing) → AreSilent sends → AreAside sends
+silent_aside sends all = each_map IsSilent IsAside sends (λ sent silent. silent_one sent.body silent) all
+
+pub untold_aside : (sends : List Outgoing) → AreUntold sends → AreAside sends
+untold_aside sends none = silent_aside sends (untold_silent sends none)
+
+-- a client's side sends none
+plain_one : (body : Body) → is_plain body ≡ true → is_of_rows body ≡ false
+plain_one (Chain signal) plain = absurd cc
+plain_one (Host (Continue (Sends tx) at)) plain = absurd cc
+plain_one (Takeover (LqhTransConf tx key told epoch)) plain = absurd cc
+plain_one body plain = refl
+
+plain_aside : (sends : List Outgoing) → ArePlain sends → AreAside sends
+plain_aside sends all = each_map IsPlain IsAside sends (λ sent plain. plain_one sent.body plain) all
+
+pub client_aside : (s : ClientState) (x : Signal) → AreAside (client_row s x).effects.sends
+client_aside s x =
+    client_turns s x (λ opened sends marks. AreAside sends) (record {
+      keeps = λ sends plain. plain_aside sends plain;
+      opens = λ name node op sends plain. plain_aside sends plain;
+      begins = λ p at f u name tx sends is own plain. plain_aside sends plain;
+      changes = λ p at f u sends own same plain. plain_aside sends plain;
+      wishes = λ p at f u tx own same before behind. (refl, tt);
+      drops = λ p at f sends plain. plain_aside sends plain;
+      commits = λ p at f tx epoch sends own is plain. plain_aside sends plain;
+      commits_late = λ p at f tx epoch sends own is plain. plain_aside sends plain;
+      aborts = λ p at f tx cause sends own is plain. plain_aside sends plain;
+      fails = λ p at f tx number sends own plain. plain_aside sends plain;
+      goes_down = λ p at f tx sends own wishes plain. plain_aside sends plain;
+      loses = λ p at f tx sends own plain. plain_aside sends plain;
+    })
+
+-- nor does the arbitrator, a membership, a master of checkpoints, or the epochs of a node
+pub arbiter_aside : (s : ArbiterState) (x : Signal) → AreAside (arbiter_row s x).effects.sends
+arbiter_aside s x = untold_aside (arbiter_row s x).effects.sends (arbiter_tells_nothing s x).0
+
+pub membership_aside : (s : QmgrState) (x : Signal) → AreAside (qmgr_row s x).effects.sends
+membership_aside s x = untold_aside (qmgr_row s x).effects.sends (membership_tells_nothing s x).0
+
+pub membership_installs_aside : (s : QmgrState) (view : View) → AreAside (qmgr_installed s view).effects.sends
+membership_installs_aside s view =
+    untold_aside (qmgr_installed s view).effects.sends (membership_installs_nothing s view).0
+
+pub master_aside : (s : MasterState) (x : Signal) → AreAside (master_row s x).effects.sends
+master_aside s x = untold_aside (master_row s x).effects.sends (master_tells_nothing s x).0
+
+pub epochs_aside : (s : DihState) (x : Signal) → AreAside (dih_row s x).effects.sends
+unfolding given
+epochs_aside s x =
+    dih_each s (λ step. AreAside step.effects.sends) x (record {
+      quiet = λ step is. silent_aside step.effects.sends is.sends;
+      gives_it = λ tx ops is. (refl, tt);
+      holds_it = λ tx ops is. tt;
+      serves_it = λ tx first. (refl, silent_aside (go_on_if _ _) (goes_on_silent _ _));
+    })
+
+pub epochs_install_aside : (s : DihState) (number : ℕ) → AreAside (dih.install_row s number).effects.sends
+epochs_install_aside s number =
+    silent_aside (dih.install_row s number).effects.sends (dih_installs_quiet s number).sends
