@@ -9,3 +9,4 @@ pub mod ForthCoordinator
 pub mod ForthClient
 pub mod ForthParts
 pub mod ForthTc
+pub mod ForthGone
