@@ -10,3 +10,4 @@ pub mod ForthClient
 pub mod ForthParts
 pub mod ForthTc
 pub mod ForthGone
+pub mod ForthAll
