@@ -11,3 +11,4 @@ pub mod ForthParts
 pub mod ForthTc
 pub mod ForthGone
 pub mod ForthAll
+pub mod MarkerLists
