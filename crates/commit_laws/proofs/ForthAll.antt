@@ -57,6 +57,7 @@ use Rattle.request_laws.proofs.PhaseGone.{gone_stays}
 use Rattle.commit_laws.specs.Forth.{ForthIsKnown, ForthIsKnownAlways, IsForth}
 use Rattle.commit_laws.specs.Traces.{has_sent, is_acknowledgement, is_known, rows_at}
 use Rattle.commit_laws.proofs.ForthGone.{PartsKnow, SaysForth, tc_forth}
+use Rattle.commit_laws.proofs.ForthGrows.{forth_grows, known_grows}
 use Rattle.commit_laws.proofs.ForthParts.{Fits, SpeakIn, step_speaks, told_fit}
 use Rattle.commit_laws.proofs.ForthSpeaks.{Anyone, AreSpoken, Of, Speaks, rows_grow, speaks_grow, takeover_grows, tells_forth}
 
@@ -210,28 +211,11 @@ module _ (start : Start) where
       abbrev sends : List Outgoing
       sends = (step_after start e.host (old e.host) e).effects.sends
 
-      -- what is so of a log also with a step more
-      grows : (P : List HostStep → Type 0) (h : ℕ) → ((log : List HostStep) → P log → P (e ∷ log)) → P (old h) → P (new h)
-      grows P h more so = by (cases_eq e.host h)
-        where
-          by : (e.host ≡ h) ⊎ (e.host ≢ h) → P (new h)
-          by (inl at) = subst P (sym (log_of-own (machine start) e es h at)) (more (old h) so)
-          by (inr other) = subst P (sym (log_of-other (machine start) e es h other)) so
-
       forth_more : (tx : TxId) → IsForth start old tx → F tx
-      forth_more tx =
-          grows (λ log. has_gone_forth start (coordinator_member tx) tx log ≡ true) (tc_of start (coordinator_member tx))
-          (λ log is. gone_stays start (coordinator_member tx) tx is_decided (tells_commit tx) log e is)
+      forth_more = forth_grows start e es
 
       known_more : (tx : TxId) → IsAcknowledged start old tx → A tx
-      known_more tx =
-          grows (λ log. has_sent start (is_acknowledgement tx) 0 log ≡ true) 0
-          (λ log is. by (is_sent (is_acknowledgement tx) (step_after start 0 log e).effects.sends) log is)
-        where
-          by : (b : Bool) (log : List HostStep) → has_sent start (is_acknowledgement tx) 0 log ≡ true
-              → (b || has_sent start (is_acknowledgement tx) 0 log) ≡ true
-          by true log is = refl
-          by false log is = is
+      known_more = known_grows start e es
 
       old_parts : (h : ℕ) → PartsKnow F (after start h (old h)).parts
       old_parts h = parts_grow (IsForth start old) F forth_more (after start h (old h)).parts (stood.parts h)

@@ -12,3 +12,7 @@ pub mod ForthTc
 pub mod ForthGone
 pub mod ForthAll
 pub mod MarkerLists
+pub mod ForthGrows
+pub mod MarkerRows
+pub mod MarkerSteps
+pub mod MarkerAll

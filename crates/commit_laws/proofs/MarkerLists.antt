@@ -84,7 +84,7 @@ module _ (K : TxId → Bool) where
   abbrev pub Remembers : List Marker → PendingRecord → Type 0
   Remembers markers r = r.committed ≡ true → (list_any (is_marker r.tx r.key) markers || K r.tx) ≡ true
 
-  all_stay : (markers : List Marker) → StayMarked markers markers
+  pub all_stay : (markers : List Marker) → StayMarked markers markers
   all_stay markers m there = inl there
 
   -- and stays so where markers do
