@@ -60,6 +60,7 @@ use Rattle.commit_laws.proofs.ForthGone.{PartsKnow, SaysForth, tc_forth}
 use Rattle.commit_laws.proofs.ForthGrows.{forth_grows, known_grows}
 use Rattle.commit_laws.proofs.ForthParts.{Fits, SpeakIn, step_speaks, told_fit}
 use Rattle.commit_laws.proofs.ForthSpeaks.{Anyone, AreSpoken, Of, Speaks, rows_grow, speaks_grow, takeover_grows, tells_forth}
+use Rattle.commit_laws.proofs.Passing.{passed, passing}
 
 -- a signal of the hosts themselves
 abbrev is_host : Body → Bool
@@ -78,30 +79,16 @@ not_closed : (body : Body) → is_host body ≡ false → IsClosed body → ⊥
 not_closed body is closed =
     let host : is_host (Host (Closed closed.cause)) ≡ false = subst (λ b. is_host b ≡ false) closed.is is in absurd cc
 
--- what is among signals is sent
-among : (p : Body → Bool) (o : Outgoing) (sends : List Outgoing) → IsIn o sends → p o.body ≡ true → is_sent p sends ≡ true
-among p o [] there is = absurd there
-among p o (y ∷ sends) (inl same) is = ap (λ b. b || is_sent p sends) (ap (λ (z : Outgoing). p z.body) (sym same) ∙ is)
-among p o (y ∷ sends) (inr there) is = by (p y.body) (among p o sends there is)
-  where
-    by : (b : Bool) → is_sent p sends ≡ true → (b || is_sent p sends) ≡ true
-    by true more = refl
-    by false more = more
-
 -- whoever is acknowledged among signals is spoken of
 spoken_of : (F A : TxId → Type 0) (tx : TxId) (sends : List Outgoing) → AreSpoken F A sends
     → is_sent (is_acknowledgement tx) sends ≡ true → A tx
-spoken_of F A tx [] all is = absurd (true≢false (sym is))
-spoken_of F A tx (o ∷ sends) all is = by (is_acknowledgement tx o.body) refl is (spoken_of F A tx sends all.1)
+spoken_of F A tx sends all sent =
+    let one = passing (λ (o : Outgoing). is_acknowledgement tx o.body) sends sent in
+    own one.item.body (each_in (λ (o : Outgoing). Speaks F A o.body) one.item sends all one.there) one.is
   where
     own : (body : Body) → Speaks F A body → is_acknowledgement tx body ≡ true → A tx
     own (Client (TcCommitAck other)) spoken is = subst A (same_tx-is other tx is) spoken
     own body spoken is = absurd cc
-
-    by : (b : Bool) → is_acknowledgement tx o.body ≡ b → (b || is_sent (is_acknowledgement tx) sends) ≡ true
-        → (is_sent (is_acknowledgement tx) sends ≡ true → A tx) → A tx
-    by true here is rest = own o.body all.0 here
-    by false off is rest = rest is
 
 -- what is said where acknowledgements are of this is said where they are of that
 upgraded : (F A : TxId → Type 0) (body : Body) → ((tx : TxId) → is_acknowledgement tx body ≡ true → A tx)
@@ -312,7 +299,7 @@ module _ (start : Start) where
         acknowledges = record {
           knowing = says.knowing;
           speaking = each_from _ sends (λ o there.
-              upgraded F A o.body (λ tx is. now_sent tx (among (is_acknowledgement tx) o sends there is))
+              upgraded F A o.body (λ tx is. now_sent tx (passed (λ (y : Outgoing). is_acknowledgement tx y.body) o sends there is))
               (each_in (λ (y : Outgoing). Speaks F F y.body) o sends says.speaking there));
           known = known_own;
         }

@@ -38,6 +38,7 @@ use Rattle.outcome_laws.proofs.TcWalk as walk
 use Rattle.request_laws.specs.Ways.{entry_of, is_at, is_sent, tells_commit}
 use Rattle.request_laws.proofs.PhaseEvents.{in_either}
 use Rattle.request_laws.proofs.PhaseWalk.{AreAway, Walks, begins, coordinator_walks, is_about, left_of, passes, resumes, stays, turns}
+use Rattle.request_laws.proofs.PhaseWays.{sent_before}
 use Rattle.commit_laws.proofs.ForthSpeaks.{AreSpoken, Speaks}
 use Rattle.commit_laws.proofs.ForthTurns.{AllIf, DecidedBy, DrivesIf, Goes, before, behind, drives_forth, resume_goes, telling, turn_goes}
 
@@ -51,15 +52,6 @@ pub data ShowsForth (s now : CoordinatorState) (tx : TxId) (sends : List Outgoin
 pub record GoesForth (member : Member) (s now : CoordinatorState) (tx : TxId) (sends : List Outgoing) : Type 0 where
   pub own : coordinator_member tx ≡ member
   pub shows : ShowsForth s now tx sends
-
-sent_either : (p : Body → Bool) (xs ys : List Outgoing) → is_sent p xs ≡ true → is_sent p (xs ++ ys) ≡ true
-sent_either p [] ys is = absurd (true≢false (sym is))
-sent_either p (x ∷ xs) ys is = by (p x.body) is (sent_either p xs ys)
-  where
-    by : (b : Bool) → (b || is_sent p xs) ≡ true → (is_sent p xs ≡ true → is_sent p (xs ++ ys) ≡ true)
-        → (b || is_sent p (xs ++ ys)) ≡ true
-    by true is more = refl
-    by false is more = more is
 
 -- what names no such transaction drives none forth
 away_drives : (tx : TxId) (body : Body) → is_about tx body ≡ false → drives_forth tx body ≡ false
@@ -94,7 +86,7 @@ module _ (member : Member) (s : CoordinatorState) (of : IsCoordinatorOf member s
       record {
         own = own_is t there;
         shows = tells_it (ap (is_sent (tells_commit tx)) sends
-            ∙ sent_either (tells_commit tx) turn.step.effects.sends more is);
+            ∙ sent_before (tells_commit tx) turn.step.effects.sends more is);
       }
 
   -- what is sent that drives it forth

@@ -30,18 +30,11 @@ use Rattle.outcome_laws.proofs.TakeoverKnows.{takeover_install_knows}
 use Rattle.outcome_laws.proofs.TcCounts.{coordinator_of_installed}
 use Rattle.request_laws.specs.Ways.{entry_of, is_at, is_sent, tells_commit}
 use Rattle.request_laws.proofs.PhaseWalk.{install_leaves}
+use Rattle.request_laws.proofs.PhaseWays.{sent_behind}
 use Rattle.commit_laws.proofs.ForthCoordinator.{GoesForth, ShowsForth, before_it, behind_it, coordinator_installs_speak, coordinator_speaks, tells_it}
 use Rattle.commit_laws.proofs.ForthEpochs.{dih_installs_speak, dih_speaks}
 use Rattle.commit_laws.proofs.ForthSpeaks.{Anyone, AreSpoken, Of, Speaks}
 use Rattle.commit_laws.proofs.ForthTakeover.{takeover_learns, takeover_speaks}
-
-sent_in : (p : Body → Bool) (xs ys : List Outgoing) → is_sent p ys ≡ true → is_sent p (xs ++ ys) ≡ true
-sent_in p [] ys sent = sent
-sent_in p (x ∷ xs) ys sent = by (p x.body) (sent_in p xs ys sent)
-  where
-    by : (b : Bool) → is_sent p (xs ++ ys) ≡ true → (b || is_sent p (xs ++ ys)) ≡ true
-    by true more = refl
-    by false more = more
 
 module _ (F A : TxId → Type 0) (member : Member) (shape : Shape) (p : TcPart) (view : View) (x : Signal)
     (spoken : is_well_formed shape x ≡ true → Speaks F A x.body) (of : IsCoordinatorOf member p.coordinator)
@@ -107,7 +100,7 @@ module _ (F A : TxId → Type 0) (member : Member) (shape : Shape) (p : TcPart) 
           shows tx (before_it decided) = before_it (ap (is_at is_decided) (sym (alike.entries tx)) ∙ decided)
           shows tx (behind_it decided) = behind_it decided
           shows tx (tells_it sent) =
-              tells_it (ap (is_sent (tells_commit tx)) is ∙ sent_in (tells_commit tx) front step sent)
+              tells_it (ap (is_sent (tells_commit tx)) is ∙ sent_behind (tells_commit tx) front step sent)
       row_speaks sends block.Takeover is shown = takeover_speaks F A between.takeover x alike.knowing
       row_speaks sends block.Dih is shown = dih_speaks F A between.dih x
       row_speaks sends _ is shown = tt

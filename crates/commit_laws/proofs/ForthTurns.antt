@@ -66,10 +66,14 @@ module _ (G : Type 0) (tx : TxId) where
   abbrev pub AllIf : List Outgoing → Type 0
   AllIf sends = Each DrivesIf sends
 
+-- of what drives none forth nothing is to be shown
+nothing : (G : Type 0) → false ≡ true → G
+nothing G is = absurd (true≢false (sym is))
+
 module _ (node : ℕ) (layout : Layout) (tx : TxId) where
   module _ (G : Type 0) where
     rest_if_so : (at : ℕ) (b : Bool) → AllIf G tx (rest_if node tx at b)
-    rest_if_so at true = ((λ is. absurd (true≢false (sym is))), tt)
+    rest_if_so at true = (nothing _, tt)
     rest_if_so at false = tt
 
     part_if_so : (sends : List Outgoing) (at : ℕ) → AllIf G tx sends → AllIf G tx (part_effects node tx sends at).sends
@@ -100,7 +104,7 @@ module _ (node : ℕ) (layout : Layout) (tx : TxId) where
         by true = ((λ is. so refl), tt)
         by false = tt
     key_if_so (Aborting why verifying awaited) so t =
-        each_mapped (DrivesIf G tx) (abort_of tx t.key) (chain_of layout t.key) (λ r is. absurd (true≢false (sym is)))
+        each_mapped (DrivesIf G tx) (abort_of tx t.key) (chain_of layout t.key) (λ r. nothing _)
 
     phase_if_so : (phase : Phase) → (is_decided phase ≡ true → G) → (touched : List Touched)
         → AllIf G tx (phase_sends layout tx phase touched)
@@ -120,13 +124,13 @@ module _ (node : ℕ) (layout : Layout) (tx : TxId) where
         part_if_so _ (phase_sends layout tx phase u.touched) 0 (phase_if_so _ phase (λ is. behind refl is) u.touched)
 
     ends_by : (why : AbortCause) (G : Type 0) (b : Bool) → AllIf G tx (abort_end node tx why b)
-    ends_by why G true = ((λ is. absurd (true≢false (sym is))), ((λ is. absurd (true≢false (sym is))), tt))
-    ends_by why G false = ((λ is. absurd (true≢false (sym is))), tt)
+    ends_by why G true = (nothing _, (nothing _, tt))
+    ends_by why G false = (nothing _, tt)
 
     committed_goes : (epoch : ℕ) → CommittedForms node layout tx t epoch Goes
     committed_goes epoch = record {
       enters = λ some. enters t _;
-      ends = λ none. ((λ is. telling (ap (λ b. b || false) (same_tx-self tx))), ((λ is. absurd (true≢false (sym is))), tt));
+      ends = λ none. ((λ is. telling (ap (λ b. b || false) (same_tx-self tx))), (nothing _, tt));
     }
 
     abort_goes : (u : Transaction) (why : AbortCause) → AbortForms node layout tx u why Goes
@@ -134,9 +138,6 @@ module _ (node : ℕ) (layout : Layout) (tx : TxId) where
       enters = λ some. enters u _;
       ends = λ none. ends_by why _ (is_verifying u.phase);
     }
-
-    nothing : (G : Type 0) → false ≡ true → G
-    nothing G is = absurd (true≢false (sym is))
 
     pub turn_goes : (body : Body) → TurnForms node layout tx t body Goes
     turn_goes body = record {

@@ -1,6 +1,8 @@
 pub mod LostDoomed
 pub mod LostStays
+pub mod Passing
 pub mod ForthSpeaks
+pub mod ForthGrows
 pub mod ForthEpochs
 pub mod ForthTakeover
 pub mod ForthRows
@@ -12,7 +14,6 @@ pub mod ForthTc
 pub mod ForthGone
 pub mod ForthAll
 pub mod MarkerLists
-pub mod ForthGrows
 pub mod MarkerRows
 pub mod MarkerSteps
 pub mod MarkerAll

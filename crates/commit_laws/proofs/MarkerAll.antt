@@ -1,6 +1,6 @@
 -- At each moment each commit at a member is marked or acknowledged, and so a trace of it stays.
 use Rattle.std.proofs.Common.{◌≡◌, ◌≢◌, ◌⊎◌, ◌∙◌, ◌&&◌, ◌||◌, ℕ, Bool, true, false, List, [], ◌∷◌, refl, sym, ap, subst, inl, inr}
-use Rattle.std.proofs.lemmas.Bool.{cases_eq, true≢false}
+use Rattle.std.proofs.lemmas.Bool.{cases_eq, or_left, or_right}
 use Rattle.std.specs.List.{list_any}
 use Rattle.run_theory.proofs.Pasts.{each_in, each_map}
 use Rattle.run_theory.proofs.Runs.{log_of-other, log_of-own}
@@ -52,15 +52,9 @@ use Rattle.commit_laws.specs.Traces.{is_committed_of, is_known, is_marker_of, le
 use Rattle.commit_laws.proofs.ForthAll.{SpeaksTruly, all_forth}
 use Rattle.commit_laws.proofs.ForthGrows.{known_grows}
 use Rattle.commit_laws.proofs.ForthSpeaks.{Speaks}
-use Rattle.commit_laws.proofs.MarkerLists.{AreKept, Passes, Remember, Remembers, all_stay, passed, passing}
+use Rattle.commit_laws.proofs.MarkerLists.{AreKept, Remember, Remembers, all_stay}
 use Rattle.commit_laws.proofs.MarkerSteps.{rows_step}
-
-either_second : (a b : Bool) → b ≡ true → (a || b) ≡ true
-either_second true b is = refl
-either_second false b is = is
-
-either_first : (a b : Bool) → a ≡ true → (a || b) ≡ true
-either_first a b is = ap (λ c. c || b) is
+use Rattle.commit_laws.proofs.Passing.{Passes, passed, passing}
 
 module _ (start : Start) (all : ℕ → List HostStep) (e : HostStep) (es : List HostStep)
     (moment : IsMoment start all (e ∷ es)) (member : Member) (there : IsIn member (made start))
@@ -123,13 +117,13 @@ module _ (start : Start) (all : ℕ → List HostStep) (e : HostStep) (es : List
           by : IsIn m (rows_at start new member).lqh.markers ⊎ (K m.tx ≡ true)
               → (leave_trace tx (rows_at start new member) || K tx) ≡ true
           by (inl stays) =
-              either_first (leave_trace tx (rows_at start new member)) (K tx)
-              (either_second (list_any (is_committed_of tx) (rows_at start new member).lqh.rows.pending)
+              or_left (leave_trace tx (rows_at start new member)) (K tx)
+              (or_right (list_any (is_committed_of tx) (rows_at start new member).lqh.rows.pending)
               (list_any (is_marker_of tx) (rows_at start new member).lqh.markers)
               (passed (is_marker_of tx) m (rows_at start new member).lqh.markers stays
               (ap (λ v. same_tx v tx) own ∙ same_tx-self tx)))
           by (inr known) =
-              either_second (leave_trace tx (rows_at start new member)) (K tx) (subst (λ v. K v ≡ true) own known)
+              or_right (leave_trace tx (rows_at start new member)) (K tx) (subst (λ v. K v ≡ true) own known)
 
       trace_stays : (tx : TxId) → leave_trace tx (rows_at start old member) ≡ true
           → (leave_trace tx (rows_at start new member) || K tx) ≡ true
@@ -141,16 +135,16 @@ module _ (start : Start) (all : ℕ → List HostStep) (e : HostStep) (es : List
           marked r own true is any =
               let one = passing (is_marker r.tx r.key) (rows_at start old member).lqh.markers is in
               marker_stays tx one.item one.there
-              (same_tx-is one.item.tx r.tx (both (same_tx one.item.tx r.tx) (same_key one.item.key r.key) one.passes).0
+              (same_tx-is one.item.tx r.tx (both (same_tx one.item.tx r.tx) (same_key one.item.key r.key) one.is).0
               ∙ own)
           marked r own false off known =
-              either_second (leave_trace tx (rows_at start new member)) (K tx)
+              or_right (leave_trace tx (rows_at start new member)) (K tx)
               (known_grows start e es tx (subst (λ v. is_known start old v ≡ true) own known))
 
           by_record : Passes (is_committed_of tx) (rows_at start old member).lqh.rows.pending
               → (leave_trace tx (rows_at start new member) || K tx) ≡ true
           by_record one =
-              let so = both (same_tx one.item.tx tx) one.item.committed one.passes in
+              let so = both (same_tx one.item.tx tx) one.item.committed one.is in
               marked one.item (same_tx-is one.item.tx tx so.0) _ refl
               (each_in (Remembers (λ v. is_known start old v) (rows_at start old member).lqh.markers) one.item
               (rows_at start old member).lqh.rows.pending remembered one.there so.1)
@@ -161,7 +155,7 @@ module _ (start : Start) (all : ℕ → List HostStep) (e : HostStep) (es : List
           by true is any = by_record (passing (is_committed_of tx) (rows_at start old member).lqh.rows.pending is)
           by false off is =
               let one = passing (is_marker_of tx) (rows_at start old member).lqh.markers is in
-              marker_stays tx one.item one.there (same_tx-is one.item.tx tx one.passes)
+              marker_stays tx one.item one.there (same_tx-is one.item.tx tx one.is)
 
 -- as its life begins it has no record
 first_remembers : (start : Start) (member : Member) → IsIn member (made start)

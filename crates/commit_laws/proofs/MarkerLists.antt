@@ -1,6 +1,6 @@
 -- What a step of the rows makes of commits: each that is new is marked, and a marker stays until its commit is acknowledged.
 use Rattle.std.proofs.Common.{◌≡◌, ◌⊎◌, ◌∙◌, ◌&&◌, ◌||◌, ◌++◌, ℕ, Bool, true, false, cond, List, [], ◌∷◌, refl, sym, ap, subst, inl, inr}
-use Rattle.std.proofs.lemmas.Bool.{true≢false}
+use Rattle.std.proofs.lemmas.Bool.{or_left, or_right, true≢false}
 use Rattle.std.specs.List.{list_any}
 use Rattle.std.specs.Prelude.{filter, not, remove, Option, None, Some}
 use Rattle.run_theory.specs.Lists.{Each, IsIn}
@@ -32,30 +32,13 @@ use Rattle.lqh_block.specs.Wait.{acknowledged, is_other}
 use Rattle.lqh_block.proofs.IndexLemmas.{same as same_key-is}
 use Rattle.lqh_block.proofs.LqhForms.{Applies, GivesUp, LqhForms, lqh_forms, perform_forms}
 use Rattle.lqh_views.proofs.ListsKept.{both}
+use Rattle.commit_laws.proofs.Passing.{passed, passing}
 
--- one of a list that passes a test
-pub record Passes {A : Type 0} (p : A → Bool) (xs : List A) : Type 0 where
-  pub item : A
-  pub there : IsIn item xs
-  pub passes : p item ≡ true
-
-pub passing : {A : Type 0} (p : A → Bool) (xs : List A) → list_any p xs ≡ true → Passes p xs
-passing p [] is = absurd (true≢false (sym is))
-passing p (x ∷ xs) is = by (p x) refl is (passing p xs)
-  where
-    by : (b : Bool) → p x ≡ b → (b || list_any p xs) ≡ true → (list_any p xs ≡ true → Passes p xs) → Passes p (x ∷ xs)
-    by true here is rest = record { item = x; there = inl refl; passes = here }
-    by false off is rest =
-        let one = rest is in record { item = one.item; there = inr one.there; passes = one.passes }
-
-pub passed : {A : Type 0} (p : A → Bool) (x : A) (xs : List A) → IsIn x xs → p x ≡ true → list_any p xs ≡ true
-passed p x [] there is = absurd there
-passed p x (y ∷ xs) (inl same) is = ap (λ b. b || list_any p xs) (ap p (sym same) ∙ is)
-passed p x (y ∷ xs) (inr there) is = by (p y) (passed p x xs there is)
-  where
-    by : (b : Bool) → list_any p xs ≡ true → (b || list_any p xs) ≡ true
-    by true more = refl
-    by false more = more
+-- an entry stays in front of more, and where the entries are kept that pass
+in_front : {A : Type 0} (x : A) (xs ys : List A) → IsIn x xs → IsIn x (xs ++ ys)
+in_front x [] ys there = absurd there
+in_front x (y ∷ xs) ys (inl same) = inl same
+in_front x (y ∷ xs) ys (inr there) = inr (in_front x xs ys there)
 
 filtered : {A : Type 0} (p : A → Bool) (x : A) (xs : List A) → IsIn x xs → p x ≡ true → IsIn x (filter p xs)
 filtered p x [] there is = absurd there
@@ -66,13 +49,6 @@ filtered p x (y ∷ xs) (inr there) is = by (p y) (filtered p x xs there is)
     by : (b : Bool) → IsIn x (filter p xs) → IsIn x (cond b (y ∷ filter p xs) (filter p xs))
     by true more = inr more
     by false more = more
-
-either_first : (a b : Bool) → a ≡ true → (a || b) ≡ true
-either_first a b is = ap (λ c. c || b) is
-
-either_second : (a b : Bool) → b ≡ true → (a || b) ≡ true
-either_second true b is = refl
-either_second false b is = is
 
 -- whose commits are acknowledged
 module _ (K : TxId → Bool) where
@@ -94,16 +70,16 @@ module _ (K : TxId → Bool) where
     where
       found : (m : Marker) → is_marker r.tx r.key m ≡ true → IsIn m after ⊎ (K m.tx ≡ true)
           → (list_any (is_marker r.tx r.key) after || K r.tx) ≡ true
-      found m is (inl there) = either_first _ (K r.tx) (passed (is_marker r.tx r.key) m after there is)
+      found m is (inl there) = or_left _ (K r.tx) (passed (is_marker r.tx r.key) m after there is)
       found m is (inr known) =
-          either_second (list_any (is_marker r.tx r.key) after) (K r.tx)
+          or_right (list_any (is_marker r.tx r.key) after) (K r.tx)
           (subst (λ tx. K tx ≡ true) (same_tx-is m.tx r.tx (both (same_tx m.tx r.tx) (same_key m.key r.key) is).0) known)
 
       by : (b : Bool) → list_any (is_marker r.tx r.key) before ≡ b → (b || K r.tx) ≡ true
           → (list_any (is_marker r.tx r.key) after || K r.tx) ≡ true
       by true is any =
-          let one = passing (is_marker r.tx r.key) before is in found one.item one.passes (stay one.item one.there)
-      by false off known = either_second (list_any (is_marker r.tx r.key) after) (K r.tx) known
+          let one = passing (is_marker r.tx r.key) before is in found one.item one.is (stay one.item one.there)
+      by false off known = or_right (list_any (is_marker r.tx r.key) after) (K r.tx) known
 
   -- a commit is marked, behind the others or as it was
   marked_stay : (markers : List Marker) (tx : TxId) (key : List ℕ) (epoch : ℕ)
@@ -113,11 +89,6 @@ module _ (K : TxId → Bool) where
       by : (b : Bool) → IsIn m (commit.marked_if markers (marker_of tx key epoch) b) ⊎ (K m.tx ≡ true)
       by true = inl there
       by false = inl (in_front m markers (marker_of tx key epoch ∷ []) there)
-        where
-          in_front : (m : Marker) (xs ys : List Marker) → IsIn m xs → IsIn m (xs ++ ys)
-          in_front m [] ys there = absurd there
-          in_front m (x ∷ xs) ys (inl same) = inl same
-          in_front m (x ∷ xs) ys (inr there) = inr (in_front m xs ys there)
 
   is_marked : (markers : List Marker) (tx : TxId) (key : List ℕ) (epoch : ℕ)
       → list_any (is_marker tx key) (commit.marked markers tx key epoch) ≡ true
@@ -168,7 +139,7 @@ module _ (K : TxId → Bool) where
       own : (r : PendingRecord) → is_of tx key r ≡ true → (list_any (is_marker r.tx r.key) markers || K r.tx) ≡ true
       own r is =
           let same = both (same_tx r.tx tx) (same_key r.key key) is in
-          either_first (list_any (is_marker r.tx r.key) markers) (K r.tx)
+          or_left (list_any (is_marker r.tx r.key) markers) (K r.tx)
           (subst (λ v. list_any (is_marker v r.key) markers ≡ true) (sym (same_tx-is r.tx tx same.0))
           (subst (λ l. list_any (is_marker tx l) markers ≡ true) (sym (same_key-is r.key key same.1)) marked))
 

@@ -51,7 +51,7 @@ use Rattle.commit_laws.specs.Traces.{is_committed_of, is_known, is_marker_of, le
 use Rattle.commit_laws.proofs.ForthAll.{SpeaksTruly, all_forth}
 use Rattle.commit_laws.proofs.ForthGrows.{known_grows}
 use Rattle.commit_laws.proofs.ForthSpeaks.{Speaks}
-use Rattle.commit_laws.proofs.MarkerLists.{AreKept, Passes, Remember, Remembers, all_stay, passed, passing}
+use Rattle.commit_laws.proofs.MarkerLists.{AreKept, Remember, all_stay}
 use Rattle.commit_laws.proofs.MarkerRows.{rows_kept}
 
 module _ (start : Start) (member : Member) (there : IsIn member (made start)) where
