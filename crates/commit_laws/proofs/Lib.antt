@@ -1,4 +1,5 @@
 pub mod FateViews
+pub mod FateRows
 pub mod ForthAll
 pub mod ForthClient
 pub mod ForthCoordinator
