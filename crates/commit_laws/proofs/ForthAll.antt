@@ -1,5 +1,5 @@
--- At each moment whoever knows that a transaction is committed knows of one that has gone forth; and the client's side has
--- acknowledged each commit that rows are told to be acknowledged.
+-- At each moment whoever knows that a transaction is committed knows of one that has gone forth; and the client's side
+-- has acknowledged each commit that rows are told to be acknowledged.
 use Rattle.std.proofs.Common.{◌≡◌, ◌≢◌, ◌⊎◌, ◌∙◌, ◌||◌, ◌%◌, ℕ, zero, suc, Bool, true, false, List, [], ◌∷◌, refl, sym, ap, subst, arith, inl, inr}
 use Rattle.std.proofs.lemmas.Bool.{cases_eq, true≢false}
 use Rattle.run_theory.proofs.Pasts.{each_from, each_in, each_map}
@@ -17,12 +17,10 @@ use Rattle.sig_core.specs.declared.signal.Signal.{Signal}
 use Rattle.sig_core.specs.declared.signal.client.ClientSignal.TheVariants.{TcCommitAck}
 use Rattle.sig_core.specs.declared.signal.host.HostSignal.TheVariants.{Closed}
 use Rattle.sig_core.specs.Rows.{no_rows}
-use Rattle.sig_core.specs.Same.{same_tx}
 use Rattle.sig_core.specs.Step.{Step}
 use Rattle.sig_core.proofs.Keys.{same_tx-self}
 use Rattle.sig_core.proofs.TxLemmas.{same_tx-is}
 use Rattle.frag_map.specs.Layout.{first_layout}
-use Rattle.tc_block.specs.Phases.{is_decided}
 use Rattle.takeover_block.specs.State.{resting}
 use Rattle.node_core.specs.Fresh.{own_rows, with_rows}
 use Rattle.node_views.specs.declared.host.Host as node
@@ -52,10 +50,9 @@ use Rattle.outcome_laws.proofs.KnowHosts.{HasNoShell, never_shell}
 use Rattle.outcome_laws.proofs.KnowOwn.{AreSo, others_so, so_effects}
 use Rattle.outcome_laws.proofs.KnowWalk.{step_keeps}
 use Rattle.request_laws.specs.Blocks.{no_replica, rows_in, takeover_in}
-use Rattle.request_laws.specs.Ways.{has_gone_forth, is_sent, tells_commit}
-use Rattle.request_laws.proofs.PhaseGone.{gone_stays}
-use Rattle.commit_laws.specs.Forth.{ForthIsKnown, ForthIsKnownAlways, IsForth}
-use Rattle.commit_laws.specs.Traces.{has_sent, is_acknowledgement, is_known, rows_at}
+use Rattle.request_laws.specs.Ways.{has_gone_forth, is_sent}
+use Rattle.commit_laws.specs.Forth.{ForthIsKnownAlways, IsForth}
+use Rattle.commit_laws.specs.Traces.{has_sent, is_acknowledgement, is_known}
 use Rattle.commit_laws.proofs.ForthGone.{PartsKnow, SaysForth, tc_forth}
 use Rattle.commit_laws.proofs.ForthGrows.{forth_grows, known_grows}
 use Rattle.commit_laws.proofs.ForthParts.{Fits, SpeakIn, step_speaks, told_fit}
@@ -103,7 +100,8 @@ given_none (Main p) none = tt
 given_none (Ldm p) none = tt
 given_none (Tc p) none = absurd none
 
-never_tc : (start : Start) (h : ℕ) (log : List HostStep) → HasNoTc (started start h).parts → HasNoTc (after start h log).parts
+never_tc : (start : Start) (h : ℕ) (log : List HostStep) → HasNoTc (started start h).parts
+    → HasNoTc (after start h log).parts
 never_tc start h [] none = none
 never_tc start h (e ∷ log) none =
     by h (step_by h (after start h log) e.step.taken)
@@ -130,7 +128,8 @@ module _ (F : TxId → Type 0) where
   of_fit A (Ldm p) fits = fits
   of_fit A (Tc p) fits = absurd fits
 
-parts_grow : (F G : TxId → Type 0) → ((tx : TxId) → F tx → G tx) → (parts : Parts) → PartsKnow F parts → PartsKnow G parts
+parts_grow : (F G : TxId → Type 0) → ((tx : TxId) → F tx → G tx) → (parts : Parts) → PartsKnow F parts
+    → PartsKnow G parts
 parts_grow F G more (Shell p) knows = tt
 parts_grow F G more (Main p) knows = tt
 parts_grow F G more (Tc p) knows = takeover_grows F G Anyone Anyone more p.takeover knows
@@ -218,7 +217,8 @@ module _ (start : Start) where
         old_signals : EachSent start SaysSo old
         old_signals i j =
             each_map (SpeaksTruly start old) SaysSo _
-            (λ y spoken. speaks_grow (IsForth start old) F (IsAcknowledged start old) B forth_more may y.signal.body spoken)
+            (λ y spoken.
+            speaks_grow (IsForth start old) F (IsAcknowledged start old) B forth_more may y.signal.body spoken)
             (stood.signals i j)
 
         -- what the step takes
@@ -299,7 +299,8 @@ module _ (start : Start) where
         acknowledges = record {
           knowing = says.knowing;
           speaking = each_from _ sends (λ o there.
-              upgraded F A o.body (λ tx is. now_sent tx (passed (λ (y : Outgoing). is_acknowledgement tx y.body) o sends there is))
+              upgraded F A o.body
+              (λ tx is. now_sent tx (passed (λ (y : Outgoing). is_acknowledgement tx y.body) o sends there is))
               (each_in (λ (y : Outgoing). Speaks F F y.body) o sends says.speaking there));
           known = known_own;
         }
@@ -320,8 +321,9 @@ module _ (start : Start) where
               acknowledges at
               (apart_says F (λ tx is. forth_more tx (stood.known tx is)) none (inr (λ tx is. is)))
           apart none (suc k) at =
-              let says = apart_says A known_more none
-              (inl (subst (λ h. HasNoShell (after start h (old h)).parts) (sym at) (never_shell start k (old (suc k))))) in
+              let shell = subst (λ h. HasNoShell (after start h (old h)).parts) (sym at)
+              (never_shell start k (old (suc k))) in
+              let says = apart_says A known_more none (inl shell) in
               record {
                 knowing = says.knowing;
                 speaking = says.speaking;

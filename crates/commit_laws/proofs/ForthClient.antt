@@ -1,5 +1,5 @@
 -- What the client's side acknowledges: the commits that it is told of.
-use Rattle.std.proofs.Common.{◌≡◌, ◌∙◌, ap, [], ◌∷◌, ◌==◌, ◌&&◌, ◌||◌, ◌+◌, ◌++◌, ℕ, Bool, true, false, List, refl}
+use Rattle.std.proofs.Common.{◌≡◌, ◌∙◌, ap, ◌==◌, ◌&&◌, ◌||◌, ◌+◌, ◌++◌, ℕ, Bool, true, false, List, refl}
 use Rattle.std.specs.Prelude.{Option, None, Some, is_some, not, slice_get}
 use Rattle.run_theory.specs.Lists.{Each}
 use Rattle.run_theory.proofs.Pasts.{each_append}
@@ -298,7 +298,8 @@ module _ (x : Signal) where
   vouched_fine s (Client (TcBeginConf name tx)) false at = tt
   vouched_fine s (Client (TcKeyFailConf tx epoch)) true at =
       api_fine s.api (Client (TcCommitConf tx epoch))
-      (λ other number is. by_takeover epoch (at ∙ ap (λ v. Client (TcKeyFailConf v epoch)) (committed_tx tx other epoch number is)))
+      (λ other number is.
+      by_takeover epoch (at ∙ ap (λ v. Client (TcKeyFailConf v epoch)) (committed_tx tx other epoch number is)))
   vouched_fine s (Client (TcKeyFailRef tx)) true at =
       api_fine s.api (Client (TcRollbackRep tx (NodeFail x.view.number))) (λ other number is. absurd cc)
   vouched_fine s (Client NfCompleteRep) true at =

@@ -1,8 +1,9 @@
--- What a step of a member's coordinator says of commits: of its own transactions, each of which it shows to have gone forth.
-use Rattle.std.proofs.Common.{◌≡◌, ◌⊎◌, ◌∙◌, ◌++◌, ◌||◌, ℕ, Bool, true, false, List, [], ◌∷◌, nat_lt, length, refl, sym, ap, subst, inl, inr, ⊎_elim}
+-- What a step of a member's coordinator says of commits: it is of its own transactions, each of which it shows to have
+-- gone forth.
+use Rattle.std.proofs.Common.{◌≡◌, ◌⊎◌, ◌∙◌, ◌++◌, ℕ, Bool, true, false, List, [], ◌∷◌, nat_lt, length, refl, sym, ap, subst, inl, inr, ⊎_elim}
 use Rattle.std.proofs.lemmas.Bool.{true≢false}
 use Rattle.std.proofs.lemmas.List.{append-nil}
-use Rattle.std.specs.Prelude.{if◌then◌else◌, Option, None, Some}
+use Rattle.std.specs.Prelude.{if◌then◌else◌, None, Some}
 use Rattle.run_theory.specs.Lists.{Each, IsIn}
 use Rattle.run_theory.proofs.Pasts.{each_from, each_in}
 use Rattle.sig_core.specs.declared.member.Member.{Member}
@@ -15,32 +16,29 @@ use Rattle.sig_core.specs.declared.signal.chain.ChainSignal.TheVariants.{Commit,
 use Rattle.sig_core.specs.declared.signal.client.ClientSignal.TheVariants.{TcCommitAck, TcCommitConf, TcKeyFailConf}
 use Rattle.sig_core.specs.declared.signal.takeover.TakeoverSignal.TheVariants.{LqhTransConf}
 use Rattle.sig_core.specs.declared.view.View.{View}
-use Rattle.sig_core.specs.Same.{same_tx}
 use Rattle.sig_core.specs.Step.{Step}
 use Rattle.sig_core.proofs.Keys.{same_tx-self}
-use Rattle.sig_core.proofs.TxLemmas.{same_tx-is}
 use Rattle.host_laws.proofs.OfLive.{each_found}
 use Rattle.tc_block.specs.Phases.{is_decided}
 use Rattle.tc_block.specs.Resume.{resume_row}
 use Rattle.tc_block.specs.Turn.{Turn}
-use Rattle.tc_block.specs.declared.task.Verdict.{Verdict}
 use Rattle.tc_block.specs.declared.transaction.Transaction.{Transaction}
 use Rattle.tc_block.proofs.EachTurn.{rows_of}
-use Rattle.tc_block.proofs.TurnRows.{is_turn, turn_for, turn_with, tx_in}
+use Rattle.tc_block.proofs.TurnRows.{turn_for, turn_with}
 use Rattle.tc_views.specs.Coordinator.{coordinator_row}
 use Rattle.tc_views.specs.State.{CoordinatorState, go_on_if, go_on_with}
 use Rattle.tc_views.specs.Views.{install_row}
-use Rattle.view_laws.proofs.KindsCoordinator.{coordinator_installs_kinds, coordinator_kinds}
+use Rattle.view_laws.proofs.KindsCoordinator.{coordinator_kinds}
 use Rattle.view_laws.proofs.KindsSent.{IsOf}
 use Rattle.view_laws.proofs.KindsTurns.{is_of_coordinator}
 use Rattle.outcome_laws.specs.Counts.{IsCoordinatorOf, coordinator_member}
 use Rattle.outcome_laws.proofs.TcWalk as walk
 use Rattle.request_laws.specs.Ways.{entry_of, is_at, is_sent, tells_commit}
 use Rattle.request_laws.proofs.PhaseEvents.{in_either}
-use Rattle.request_laws.proofs.PhaseWalk.{AreAway, Walks, begins, coordinator_walks, is_about, left_of, passes, resumes, stays, turns}
+use Rattle.request_laws.proofs.PhaseWalk.{Walks, begins, coordinator_walks, is_about, left_of, passes, resumes, stays, turns}
 use Rattle.request_laws.proofs.PhaseWays.{sent_before}
 use Rattle.commit_laws.proofs.ForthSpeaks.{AreSpoken, Speaks}
-use Rattle.commit_laws.proofs.ForthTurns.{AllIf, DecidedBy, DrivesIf, Goes, before, behind, drives_forth, resume_goes, telling, turn_goes}
+use Rattle.commit_laws.proofs.ForthTurns.{DecidedBy, DrivesIf, Goes, before, behind, drives_forth, resume_goes, telling, turn_goes}
 
 -- it is decided before a step, or behind it, or its client is told
 pub data ShowsForth (s now : CoordinatorState) (tx : TxId) (sends : List Outgoing) : Type 0 where
@@ -113,7 +111,8 @@ module _ (member : Member) (s : CoordinatorState) (of : IsCoordinatorOf member s
       → drives_forth tx o.body ≡ true → Forth
   unfolding resume_row
   driven (stays same unborn away) o there is =
-      never o Forth (away_drives tx o.body (each_in (λ (y : Outgoing). is_about tx y.body ≡ false) o step.effects.sends away there)) is
+      let off = each_in (λ (y : Outgoing). is_about tx y.body ≡ false) o step.effects.sends away there in
+      never o Forth (away_drives tx o.body off) is
   driven (passes ahead about same next sends) o there is = only _ refl sends o there is
   driven (begins name about room one none some next sends) o there is = only _ refl sends o there is
   driven (turns t found takes about free left next sends) o there is =
@@ -182,6 +181,7 @@ module _ (F A : TxId → Type 0) where
   go_on_speaks node true = (tt, tt)
   go_on_speaks node false = tt
 
-  pub coordinator_installs_speak : (s : CoordinatorState) (view : View) → AreSpoken F A (install_row s view).effects.sends
+  pub coordinator_installs_speak : (s : CoordinatorState) (view : View)
+      → AreSpoken F A (install_row s view).effects.sends
   unfolding install_row
   coordinator_installs_speak s view = go_on_speaks s.tc.node _

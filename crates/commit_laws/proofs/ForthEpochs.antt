@@ -1,6 +1,6 @@
 -- The epochs of a node send signals of epochs, confirm fences, and tell themselves to go on: nothing of commits.
 use Rattle.std.proofs.Common.{◌≡◌, ◌==◌, ℕ, ◌+◌, Bool, true, false, List, length, nat_le, nat_lt, refl}
-use Rattle.std.specs.Prelude.{Option, None, Some, position, slice_get}
+use Rattle.std.specs.Prelude.{Option, None, Some, slice_get}
 use Rattle.run_theory.specs.Lists.{Each}
 use Rattle.run_theory.proofs.Pasts.{each_append, each_map}
 use Rattle.sig_core.specs.declared.member.TxId.{TxId}
@@ -17,7 +17,7 @@ use Rattle.sig_core.specs.Step.{Step, stay}
 use Rattle.dih_node.specs.declared.dih.Report.{Report}
 use Rattle.dih_node.specs.declared.dih.TheConstants.{TRANSACTIONS}
 use Rattle.dih_node.specs.Dih.{dih_row, dih_table, epoch_table}
-use Rattle.dih_node.specs.Orders.{close_row, commit_if, commit_row, committed, copy_row, done_row, fence_row, install_row, noting, prepare_row, prepared_if, serving, state_row}
+use Rattle.dih_node.specs.Orders.{close_row, commit_if, commit_row, committed, copy_row, done_row, fence_row, install_row, noting, prepare_row, serving, state_row}
 use Rattle.dih_node.specs.State.{DihState, can_serve, gives, go_on_if, is_unfinished}
 use Rattle.dih_node.specs.Verify.{end_row, ended, given, report_by, report_if, reported, serve_by, serve_if, serve_row, take_if, verify_if, verify_row}
 use Rattle.commit_laws.proofs.ForthSpeaks.{AreSpoken, Speaks}

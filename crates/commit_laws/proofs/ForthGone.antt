@@ -1,12 +1,11 @@
 -- A step of the host of a member's coordinator says of commits what is so behind it.
-use Rattle.std.proofs.Common.{◌≡◌, ◌∙◌, ◌||◌, true, false, List, [], ◌∷◌, refl, sym, ap, subst}
+use Rattle.std.proofs.Common.{◌≡◌, ◌∙◌, ◌||◌, true, List, [], ◌∷◌, sym, ap, subst}
 use Rattle.std.proofs.lemmas.Bool.{true≢false}
 use Rattle.run_theory.specs.Lists.{IsIn}
 use Rattle.sig_core.specs.declared.member.Member.{Member}
 use Rattle.sig_core.specs.declared.member.TxId.{TxId}
 use Rattle.sig_core.specs.declared.outs.Outgoing.{Outgoing}
 use Rattle.sig_core.specs.declared.place.Part.TheVariants as parts
-use Rattle.sig_core.specs.declared.rows.PendingRecord.{PendingRecord}
 use Rattle.frag_map.specs.Layout.{first_layout}
 use Rattle.tc_block.specs.Phases.{is_decided}
 use Rattle.tc_views.specs.Coordinator.{fresh_coordinator}
@@ -56,7 +55,8 @@ module _ (start : Start) (member : Member) (there : IsIn member (made start)) wh
     abbrev sends : List Outgoing
     sends = (step_after start (tc_of start member) log e).effects.sends
 
-    gone : (tx : TxId) → ShowsForth (coordinator_after start member log) (coordinator_after start member (e ∷ log)) tx sends
+    gone : (tx : TxId)
+        → ShowsForth (coordinator_after start member log) (coordinator_after start member (e ∷ log)) tx sends
         → has_gone_forth start member tx (e ∷ log) ≡ true
     gone tx (before_it decided) =
         gone_stays start member tx is_decided (tells_commit tx) log e (counted tx log decided)
@@ -94,8 +94,8 @@ module _ (start : Start) (member : Member) (there : IsIn member (made start)) wh
             (sym (coordinator_is start member there log run))
             (subst (λ (s : CoordinatorState). ShowsForth run.own.coordinator s tx sends) (sym now_is) goes.shows)))
 
-        says : Says F A member start.shape run.own (view_after start (tc_of start member) log) e.step.taken spoken run.fits
-            (subst (PartsKnow F) run.runs knows) did.own sends
+        says : Says F A member start.shape run.own (view_after start (tc_of start member) log) e.step.taken spoken
+            run.fits (subst (PartsKnow F) run.runs knows) did.own sends
         says =
-            tc_says F A member start.shape run.own (view_after start (tc_of start member) log) e.step.taken spoken run.fits
-            (subst (PartsKnow F) run.runs knows) _ _ sends did shown
+            tc_says F A member start.shape run.own (view_after start (tc_of start member) log) e.step.taken spoken
+            run.fits (subst (PartsKnow F) run.runs knows) _ _ sends did shown

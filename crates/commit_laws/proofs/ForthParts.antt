@@ -1,6 +1,5 @@
 -- Hosts that run no coordinator say of commits what they know, and what they are told.
 use Rattle.std.proofs.Common.{◌≡◌, ℕ, zero, suc, true, List, [], subst}
-use Rattle.run_theory.specs.Lists.{Each, IsIn}
 use Rattle.run_theory.proofs.Pasts.{each_append, each_from, each_in}
 use Rattle.sig_core.specs.declared.member.TxId.{TxId}
 use Rattle.sig_core.specs.declared.outs.Outgoing.{Outgoing}

@@ -147,14 +147,14 @@ module _ (F A : TxId → Type 0) where
   -- an epoch that is given is nothing to them
   pub rows_learn : (s : ReplicaState) (x : Signal) → RowsKnow (Of F) Anyone s → Speaks F A x.body
       → RowsKnow (Of F) Anyone (replica_row s x).state
-  rows_learn s x known spoken = by (gives_epoch F A x.body) refl
+  rows_learn s x known spoken = by (gives_epoch x.body) refl
     where
-      given : (body : Body) → x.body ≡ body → gives_epoch F A body ≡ true
+      given : (body : Body) → x.body ≡ body → gives_epoch body ≡ true
           → RowsKnow (Of F) Anyone (replica_row s x).state
       given (Epoch (DiVerifyConf tx epoch)) at is =
           subst (λ b. RowsKnow (Of F) Anyone (replica_by s x b).state) (sym at) known
       given body at is = absurd cc
 
-      by : (b : Bool) → gives_epoch F A x.body ≡ b → RowsKnow (Of F) Anyone (replica_row s x).state
+      by : (b : Bool) → gives_epoch x.body ≡ b → RowsKnow (Of F) Anyone (replica_row s x).state
       by true is = given x.body refl is
       by false is = rows_know (Of F) Anyone s x known (hears F A x.body is spoken)

@@ -1,5 +1,5 @@
 -- What signals tell of who was committed, and of whose commit the client's side acknowledges.
-use Rattle.std.proofs.Common.{◌≡◌, ℕ, Bool, true, false, List, []}
+use Rattle.std.proofs.Common.{◌≡◌, ℕ, Bool, true, false, List}
 use Rattle.std.specs.Prelude.{Option, None, Some, slice_get}
 use Rattle.run_theory.specs.Lists.{Each}
 use Rattle.run_theory.proofs.Pasts.{each_map}
@@ -10,7 +10,7 @@ use Rattle.sig_core.specs.declared.signal.Body.{Body}
 use Rattle.sig_core.specs.declared.signal.Body.TheVariants.{Chain, Client, Epoch, Takeover}
 use Rattle.sig_core.specs.declared.signal.chain.ChainSignal.TheVariants.{Commit, Committed, Complete, Completed}
 use Rattle.sig_core.specs.declared.signal.client.ClientSignal.TheVariants.{TcCommitAck, TcCommitConf, TcKeyFailConf, ViewRep}
-use Rattle.sig_core.specs.declared.signal.epoch.EpochSignal.TheVariants.{DiVerifyConf, DiVerifyReq}
+use Rattle.sig_core.specs.declared.signal.epoch.EpochSignal.TheVariants.{DiVerifyConf}
 use Rattle.sig_core.specs.declared.signal.takeover.RecordState.{RecordState}
 use Rattle.sig_core.specs.declared.signal.takeover.RecordState.TheVariants as state
 use Rattle.sig_core.specs.declared.signal.takeover.TakeoverSignal.TheVariants.{LqhTransConf}
@@ -32,6 +32,11 @@ Of F tx epoch = F tx
 -- said of anyone
 abbrev pub Anyone : TxId → Type 0
 Anyone tx = Unit {0}
+
+-- the signal gives an epoch
+abbrev pub gives_epoch : Body → Bool
+gives_epoch (Epoch (DiVerifyConf tx epoch)) = true
+gives_epoch body = false
 
 -- where this is said of who was committed, and that of whose commit is acknowledged
 module _ (F A : TxId → Type 0) where
@@ -61,11 +66,7 @@ module _ (F A : TxId → Type 0) where
   untold_speak sends none =
       each_map IsUntold (λ (sent : Outgoing). Speaks sent.body) sends (λ sent is. untold_speaks sent.body is) none
 
-  -- what a block hears that is given no epoch
-  abbrev pub gives_epoch : Body → Bool
-  gives_epoch (Epoch (DiVerifyConf tx epoch)) = true
-  gives_epoch body = false
-
+  -- so a block hears of who was decided, unless it is given an epoch
   pub hears : (body : Body) → gives_epoch body ≡ false → Speaks body → Tells (Of F) Anyone body
   hears (Epoch (DiVerifyConf tx epoch)) none spoken = absurd cc
   hears (Chain (Commit tx key epoch chain at)) none spoken = spoken
@@ -95,13 +96,15 @@ module _ (F G A B : TxId → Type 0) (more : (tx : TxId) → F tx → G tx) (kno
 
 -- and so with what rows and takeovers know
 module _ (F G : TxId → Type 0) (B C : TxId → Type 0) (more : (tx : TxId) → F tx → G tx) where
-  record_grows : (r : PendingRecord) (committed : Bool) → IsDecidedIf (Of F) B r committed → IsDecidedIf (Of G) C r committed
+  record_grows : (r : PendingRecord) (committed : Bool) → IsDecidedIf (Of F) B r committed
+      → IsDecidedIf (Of G) C r committed
   record_grows r true known = more r.tx known
   record_grows r false known = tt
 
   pub rows_grow : (s : ReplicaState) → RowsKnow (Of F) B s → RowsKnow (Of G) C s
   rows_grow s knows = record {
-    records = each_map _ _ s.lqh.rows.pending (λ (r : PendingRecord) known. record_grows r r.committed known) knows.records;
+    records = each_map _ _ s.lqh.rows.pending (λ (r : PendingRecord) known. record_grows r r.committed known)
+        knows.records;
     markers = each_map _ _ s.lqh.markers (λ (m : Marker) known. more m.tx known) knows.markers;
   }
 

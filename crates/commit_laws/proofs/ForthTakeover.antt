@@ -2,7 +2,6 @@
 use Rattle.std.proofs.Common.{◌≡◌, ◌+◌, ℕ, Bool, true, false, List, drop, length, map, nat_lt, refl, subst, sym, take}
 use Rattle.std.specs.List.{flat_map}
 use Rattle.std.specs.Prelude.{Option, None, Some, remove, slice_get}
-use Rattle.run_theory.specs.Lists.{Each}
 use Rattle.run_theory.proofs.EachSent.{each_drop, each_flat, each_get, each_mapped, each_removed, each_take}
 use Rattle.run_theory.proofs.Pasts.{each_append}
 use Rattle.sig_core.specs.declared.member.Member.{Member}
@@ -143,14 +142,14 @@ module _ (F A : TxId → Type 0) where
   -- an epoch that is given is nothing to it
   pub takeover_learns : (s : TakeoverState) (x : Signal) → TakeoverKnows (Of F) Anyone s → Speaks F A x.body
       → TakeoverKnows (Of F) Anyone (takeover_row s x).state
-  takeover_learns s x known spoken = by (gives_epoch F A x.body) refl
+  takeover_learns s x known spoken = by (gives_epoch x.body) refl
     where
-      given : (body : Body) → x.body ≡ body → gives_epoch F A body ≡ true
+      given : (body : Body) → x.body ≡ body → gives_epoch body ≡ true
           → TakeoverKnows (Of F) Anyone (takeover_row s x).state
       given (Epoch (DiVerifyConf tx epoch)) at is =
           subst (λ b. TakeoverKnows (Of F) Anyone (takeover_table s b).state) (sym at) known
       given body at is = absurd cc
 
-      by : (b : Bool) → gives_epoch F A x.body ≡ b → TakeoverKnows (Of F) Anyone (takeover_row s x).state
+      by : (b : Bool) → gives_epoch x.body ≡ b → TakeoverKnows (Of F) Anyone (takeover_row s x).state
       by true is = given x.body refl is
       by false is = takeover_knows (Of F) Anyone s x known (hears F A x.body is spoken)

@@ -1,30 +1,24 @@
 -- The host of a member's coordinator says of commits what its takeover knows, and of transactions that go forth.
-use Rattle.std.proofs.Common.{◌≡◌, ◌⊎◌, ◌∙◌, ◌++◌, ◌||◌, ℕ, Bool, true, false, List, [], ◌∷◌, refl, sym, ap, subst, inl, inr}
-use Rattle.run_theory.specs.Lists.{Each, IsIn}
+use Rattle.std.proofs.Common.{◌≡◌, ◌⊎◌, ◌∙◌, ◌++◌, true, List, [], refl, sym, ap, subst, inl, inr}
 use Rattle.run_theory.proofs.Pasts.{each_append}
 use Rattle.sig_core.specs.declared.member.Member.{Member}
 use Rattle.sig_core.specs.declared.member.TxId.{TxId}
 use Rattle.sig_core.specs.declared.outs.Outgoing.{Outgoing}
 use Rattle.sig_core.specs.declared.place.BlockId.{BlockId}
 use Rattle.sig_core.specs.declared.place.BlockId.TheVariants as block
-use Rattle.sig_core.specs.declared.signal.Body.{Body}
 use Rattle.sig_core.specs.declared.signal.Signal.{Signal}
 use Rattle.sig_core.specs.declared.view.Shape.{Shape}
 use Rattle.sig_core.specs.declared.view.View.{View}
-use Rattle.tc_block.specs.declared.transaction.Transaction.{Transaction}
 use Rattle.tc_block.specs.Phases.{is_decided}
 use Rattle.tc_views.specs.Coordinator.{coordinator_row}
-use Rattle.tc_views.specs.State.{CoordinatorState}
 use Rattle.tc_views.specs.Views as coordinators
-use Rattle.dih_node.specs.Dih.{dih_row}
 use Rattle.dih_node.specs.Orders as epochs
-use Rattle.takeover_block.specs.Takeover.{takeover_row}
 use Rattle.node_views.specs.declared.parts.Parts.{Parts}
 use Rattle.node_views.specs.declared.tc_part.TcPart.{TcPart}
 use Rattle.node_views.specs.Parts.{tc_entered, tc_row}
 use Rattle.node_views.specs.WellFormed.{is_well_formed}
 use Rattle.moment_laws.specs.PartSteps.{PartEnters, PartTakes, TcDoes, handles, ignores, installs, remains, tc_kind}
-use Rattle.outcome_laws.specs.Counts.{IsCoordinatorOf, coordinator_member}
+use Rattle.outcome_laws.specs.Counts.{IsCoordinatorOf}
 use Rattle.outcome_laws.specs.Known.{TakeoverKnows}
 use Rattle.outcome_laws.proofs.TakeoverKnows.{takeover_install_knows}
 use Rattle.outcome_laws.proofs.TcCounts.{coordinator_of_installed}
@@ -66,7 +60,8 @@ module _ (F A : TxId → Type 0) (member : Member) (shape : Shape) (p : TcPart) 
     like between seen front (remains same stands none) =
         subst (λ (q : TcPart). IsLike q front) (sym same) (subst (IsLike p) (sym none) like_same)
     like between seen front (installs above same stands sends) =
-        subst (λ (q : TcPart). IsLike q front) (sym same) (subst (IsLike (tc_entered p x.view).state) (sym sends) like_entered)
+        subst (λ (q : TcPart). IsLike q front) (sym same)
+        (subst (IsLike (tc_entered p x.view).state) (sym sends) like_entered)
 
     -- where the part comes to, and what is sent
     pub record Says (own : TcPart) (sends : List Outgoing) : Type 0 where

@@ -1,49 +1,35 @@
 -- A coordinator commits and completes those that it has decided, or tells their clients: each is its own.
-use Rattle.std.proofs.Common.{◌≡◌, ◌⊎◌, ◌∙◌, ◌+◌, ◌++◌, ◌||◌, ℕ, Bool, true, false, List, [], ◌∷◌, drop, length, nat_lt, refl, sym, ap, subst, take, inl, inr, ⊎_elim}
+use Rattle.std.proofs.Common.{◌≡◌, ◌+◌, ◌||◌, ℕ, Bool, true, false, List, drop, length, nat_lt, refl, sym, ap, take}
 use Rattle.std.proofs.lemmas.Bool.{true≢false}
 use Rattle.std.specs.List.{flat_map}
-use Rattle.std.specs.Prelude.{if◌then◌else◌, None, Some, Option}
-use Rattle.run_theory.specs.Lists.{Each, IsIn}
+use Rattle.std.specs.Prelude.{None}
+use Rattle.run_theory.specs.Lists.{Each}
 use Rattle.run_theory.proofs.EachSent.{each_drop, each_flat, each_mapped, each_take}
-use Rattle.run_theory.proofs.Pasts.{each_append, each_from, each_in}
-use Rattle.sig_core.specs.declared.member.Member.{Member}
+use Rattle.run_theory.proofs.Pasts.{each_append}
 use Rattle.sig_core.specs.declared.member.TxId.{TxId}
 use Rattle.sig_core.specs.declared.outcome.AbortCause.{AbortCause}
 use Rattle.sig_core.specs.declared.outs.Outgoing.{Outgoing}
 use Rattle.sig_core.specs.declared.signal.Body.{Body}
 use Rattle.sig_core.specs.declared.signal.Body.TheVariants.{Chain, Client}
-use Rattle.sig_core.specs.declared.signal.Signal.{Signal}
 use Rattle.sig_core.specs.declared.signal.chain.ChainSignal.TheVariants.{Commit, Complete}
 use Rattle.sig_core.specs.declared.signal.client.ClientSignal.TheVariants.{TcCommitConf}
-use Rattle.sig_core.specs.declared.view.View.{View}
 use Rattle.sig_core.specs.Op.{key_of}
 use Rattle.sig_core.specs.Same.{same_tx}
-use Rattle.sig_core.specs.Step.{Step}
 use Rattle.sig_core.proofs.Keys.{same_tx-self}
-use Rattle.sig_core.proofs.TxLemmas.{same_tx-is}
 use Rattle.frag_map.specs.Layout.{Layout, chain_of}
-use Rattle.host_laws.proofs.OfLive.{each_found}
 use Rattle.tc_block.specs.Abort.{abort_end, is_verifying}
 use Rattle.tc_block.specs.Part.{part_effects, rest_if}
 use Rattle.tc_block.specs.Phases.{is_decided}
-use Rattle.tc_block.specs.Resume.{anew_if, resume_row}
+use Rattle.tc_block.specs.Resume.{anew_if}
 use Rattle.tc_block.specs.Sends.{abort_of, complete_if, entering, front_sends, key_sends, phase_sends, wait_of}
 use Rattle.tc_block.specs.Turn.{Turn, asking, going}
 use Rattle.tc_block.specs.declared.phase.Phase.{Phase}
 use Rattle.tc_block.specs.declared.phase.Phase.TheVariants.{Open, Verifying, Committing, Completing, Aborting}
-use Rattle.tc_block.specs.declared.task.Verdict.{Verdict}
 use Rattle.tc_block.specs.declared.touched.Touched.{Touched}
 use Rattle.tc_block.specs.declared.transaction.Transaction.{Transaction}
-use Rattle.tc_block.proofs.EachTurn.{AbortForms, CommittedForms, TurnForms, rows_of}
-use Rattle.tc_block.proofs.TurnRows.{is_turn, turn_for, turn_with, tx_in}
-use Rattle.tc_views.specs.Coordinator.{coordinator_row}
-use Rattle.tc_views.specs.State.{CoordinatorState, go_on_if, go_on_with}
-use Rattle.outcome_laws.specs.Counts.{IsCoordinatorOf, coordinator_member}
+use Rattle.tc_block.proofs.EachTurn.{AbortForms, CommittedForms, TurnForms}
 use Rattle.outcome_laws.proofs.TcWalk.{ResumeForms}
-use Rattle.outcome_laws.proofs.TcWalk as walk
-use Rattle.request_laws.specs.Ways.{entry_of, is_at, is_sent, tells_commit}
-use Rattle.request_laws.proofs.PhaseEvents.{in_either}
-use Rattle.request_laws.proofs.PhaseWalk.{AreAway, Walks, begins, coordinator_walks, is_about, left_of, passes, resumes, stays, turns}
+use Rattle.request_laws.specs.Ways.{is_sent, tells_commit}
 
 -- the signal commits the transaction, completes it, or tells its client of the commit
 abbrev pub drives_forth : TxId → Body → Bool

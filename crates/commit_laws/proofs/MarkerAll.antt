@@ -1,5 +1,5 @@
 -- At each moment each commit at a member is marked or acknowledged, and so a trace of it stays.
-use Rattle.std.proofs.Common.{◌≡◌, ◌≢◌, ◌⊎◌, ◌∙◌, ◌&&◌, ◌||◌, ℕ, Bool, true, false, List, [], ◌∷◌, refl, sym, ap, subst, inl, inr}
+use Rattle.std.proofs.Common.{◌≡◌, ◌≢◌, ◌⊎◌, ◌∙◌, ◌||◌, ℕ, Bool, true, false, List, [], ◌∷◌, refl, sym, ap, subst, inl, inr}
 use Rattle.std.proofs.lemmas.Bool.{cases_eq, or_left, or_right}
 use Rattle.std.specs.List.{list_any}
 use Rattle.run_theory.proofs.Pasts.{each_in, each_map}
@@ -7,47 +7,34 @@ use Rattle.run_theory.proofs.Runs.{log_of-other, log_of-own}
 use Rattle.run_theory.specs.Lists.{Each, IsIn}
 use Rattle.sig_core.specs.declared.member.Member.{Member}
 use Rattle.sig_core.specs.declared.member.TxId.{TxId}
-use Rattle.sig_core.specs.declared.outs.Outgoing.{Outgoing}
-use Rattle.sig_core.specs.declared.place.BlockId.{BlockId}
-use Rattle.sig_core.specs.declared.place.BlockId.TheVariants as block
-use Rattle.sig_core.specs.declared.place.Part.TheVariants as part
 use Rattle.sig_core.specs.declared.rows.PendingRecord.{PendingRecord}
 use Rattle.sig_core.specs.declared.signal.Body.TheVariants.{Client, Host}
 use Rattle.sig_core.specs.declared.signal.Signal.{Signal}
 use Rattle.sig_core.specs.declared.signal.client.ClientSignal.TheVariants.{TcCommitAck}
 use Rattle.sig_core.specs.declared.signal.host.HostSignal.TheVariants.{Closed}
-use Rattle.sig_core.specs.declared.view.View.{View}
 use Rattle.sig_core.specs.Rows.{no_rows}
 use Rattle.sig_core.specs.Same.{same_key, same_tx}
 use Rattle.sig_core.proofs.Keys.{same_tx-self}
 use Rattle.sig_core.proofs.TxLemmas.{same_tx-is}
 use Rattle.lqh_block.specs.Commit.{is_marker}
 use Rattle.lqh_block.specs.declared.request.Marker.{Marker}
-use Rattle.lqh_views.specs.State.{ReplicaState}
 use Rattle.lqh_views.proofs.ListsKept.{both}
 use Rattle.node_core.specs.Fresh.{own_rows, with_rows}
 use Rattle.node_views.specs.declared.host.Host as node
-use Rattle.node_views.specs.declared.ldm_part.LdmPart.{LdmPart}
-use Rattle.node_views.specs.declared.parts.Parts.TheVariants.{Ldm}
-use Rattle.node_views.specs.Parts.{ldm_row}
 use Rattle.node_views.specs.WellFormed.{is_well_formed}
 use Rattle.world_core.specs.Start.{Start, made}
-use Rattle.world_core.specs.Steps.{Addressed, HostStep}
+use Rattle.world_core.specs.Steps.{HostStep}
 use Rattle.world_views.specs.Hosts.{epoch_before}
-use Rattle.world_views.specs.Machine.{IsOwnWork, after, machine, step_after}
+use Rattle.world_views.specs.Machine.{IsOwnWork, machine}
 use Rattle.world_views.proofs.FreshBodies.{none_pending}
-use Rattle.view_laws.specs.Runs.{view_after}
 use Rattle.moment_laws.specs.Moments.{IsMoment, logs_of}
-use Rattle.moment_laws.specs.PartSteps.{LdmDoes, PartEnters, PartTakes, handles, ignores, installs, ldm_kind, remains}
 use Rattle.moment_laws.specs.Places.{ldm_of}
-use Rattle.moment_laws.proofs.MomentHosts.{ldm_started, part_some}
+use Rattle.moment_laws.proofs.MomentHosts.{ldm_started}
 use Rattle.moment_laws.proofs.MomentSignals.{taken_told}
 use Rattle.moment_laws.proofs.MomentViews.{moment_less}
-use Rattle.moment_laws.proofs.PartKinds.{ldm_after}
 use Rattle.request_laws.specs.Blocks.{no_replica, rows_after, rows_in}
-use Rattle.request_laws.proofs.RowsAlong.{AreRows, rows_so}
 use Rattle.commit_laws.specs.Forth.{IsForth}
-use Rattle.commit_laws.specs.Markers.{AreRemembered, CommitsAreRemembered, IsRemembered, TracesStay}
+use Rattle.commit_laws.specs.Markers.{CommitsAreRemembered, TracesStay}
 use Rattle.commit_laws.specs.Traces.{is_committed_of, is_known, is_marker_of, leave_trace, rows_at}
 use Rattle.commit_laws.proofs.ForthAll.{SpeaksTruly, all_forth}
 use Rattle.commit_laws.proofs.ForthGrows.{known_grows}
@@ -79,7 +66,7 @@ module _ (start : Start) (all : ℕ → List HostStep) (e : HostStep) (es : List
         (taken_told start (SpeaksTruly start old) all e es moment
         (all_forth start all es (moment_less start all e es moment)).signals sound
         (λ work. subst (IsOwnWork start e.host) is work)
-        (λ closes. let differ : Client (TcCommitAck tx) ≡ Host (Closed closes.cause) = sym is ∙ closes.is in absurd cc)))
+        (λ closes. absurd (cc (is, closes.is)))))
 
     module _ (remembered : Remember (λ tx. is_known start old tx) (rows_at start old member).lqh) where
       more : (markers : List Marker) (r : PendingRecord) → Remembers (λ tx. is_known start old tx) markers r
@@ -95,7 +82,8 @@ module _ (start : Start) (all : ℕ → List HostStep) (e : HostStep) (es : List
           each_map _ _ (rows_at start old member).lqh.rows.pending (more (rows_at start old member).lqh.markers)
           remembered
 
-      kept : AreKept K (rows_at start old member).lqh (rows_at start new member).lqh
+      -- so markers stay that aren't acknowledged, and commits are marked behind the event
+      pub kept : AreKept K (rows_at start old member).lqh (rows_at start new member).lqh
       kept = by (cases_eq e.host (ldm_of start member))
         where
           by : (e.host ≡ ldm_of start member) ⊎ (e.host ≢ ldm_of start member)

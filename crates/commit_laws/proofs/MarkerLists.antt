@@ -1,4 +1,5 @@
--- What a step of the rows makes of commits: each that is new is marked, and a marker stays until its commit is acknowledged.
+-- What a step of the rows makes of commits: each that is new is marked, and a marker stays until its commit is
+-- acknowledged.
 use Rattle.std.proofs.Common.{◌≡◌, ◌⊎◌, ◌∙◌, ◌&&◌, ◌||◌, ◌++◌, ℕ, Bool, true, false, cond, List, [], ◌∷◌, refl, sym, ap, subst, inl, inr}
 use Rattle.std.proofs.lemmas.Bool.{or_left, or_right, true≢false}
 use Rattle.std.specs.List.{list_any}
@@ -73,7 +74,8 @@ module _ (K : TxId → Bool) where
       found m is (inl there) = or_left _ (K r.tx) (passed (is_marker r.tx r.key) m after there is)
       found m is (inr known) =
           or_right (list_any (is_marker r.tx r.key) after) (K r.tx)
-          (subst (λ tx. K tx ≡ true) (same_tx-is m.tx r.tx (both (same_tx m.tx r.tx) (same_key m.key r.key) is).0) known)
+          (subst (λ tx. K tx ≡ true) (same_tx-is m.tx r.tx (both (same_tx m.tx r.tx) (same_key m.key r.key) is).0)
+          known)
 
       by : (b : Bool) → list_any (is_marker r.tx r.key) before ≡ b → (b || K r.tx) ≡ true
           → (list_any (is_marker r.tx r.key) after || K r.tx) ≡ true
@@ -205,8 +207,7 @@ module _ (K : TxId → Bool) where
     applied tx key epoch (Some true) = rests
     applied tx key epoch (Some false) =
         let now = commit.marked s.markers tx key epoch in
-        let stay = marked_stay s.markers tx key epoch in
-        (
+        let stay = marked_stay s.markers tx key epoch in (
           stay,
           committed_one now s.rows tx key epoch (is_marked s.markers tx key epoch)
               (each_map (Remembers s.markers) (Remembers now) s.rows.pending (remembers_more s.markers now stay) all),
@@ -274,7 +275,8 @@ module _ (K : TxId → Bool) where
     unfolding acknowledged
     forgets tx known = (
       stay,
-      each_map (Remembers s.markers) _ s.rows.pending (remembers_more s.markers (filter (is_other tx) s.markers) stay) all,
+      each_map (Remembers s.markers) _ s.rows.pending
+          (remembers_more s.markers (filter (is_other tx) s.markers) stay) all,
     )
       where
         stay : StayMarked s.markers (filter (is_other tx) s.markers)

@@ -1,56 +1,29 @@
 -- A step of the host of a member's rows marks each commit, and leaves a marker until its commit is acknowledged.
-use Rattle.std.proofs.Common.{◌≡◌, ◌≢◌, ◌⊎◌, ◌∙◌, ◌&&◌, ◌||◌, ℕ, Bool, true, false, List, [], ◌∷◌, refl, sym, ap, subst, inl, inr}
-use Rattle.std.proofs.lemmas.Bool.{cases_eq, true≢false}
-use Rattle.std.specs.List.{list_any}
-use Rattle.run_theory.proofs.Pasts.{each_in, each_map}
-use Rattle.run_theory.proofs.Runs.{log_of-other, log_of-own}
-use Rattle.run_theory.specs.Lists.{Each, IsIn}
+use Rattle.std.proofs.Common.{◌≡◌, Bool, true, List, ◌∷◌, sym, ap, subst}
+use Rattle.run_theory.specs.Lists.{IsIn}
 use Rattle.sig_core.specs.declared.member.Member.{Member}
 use Rattle.sig_core.specs.declared.member.TxId.{TxId}
-use Rattle.sig_core.specs.declared.outs.Outgoing.{Outgoing}
 use Rattle.sig_core.specs.declared.place.BlockId.{BlockId}
 use Rattle.sig_core.specs.declared.place.BlockId.TheVariants as block
 use Rattle.sig_core.specs.declared.place.Part.TheVariants as part
-use Rattle.sig_core.specs.declared.rows.PendingRecord.{PendingRecord}
-use Rattle.sig_core.specs.declared.signal.Body.TheVariants.{Client, Host}
+use Rattle.sig_core.specs.declared.signal.Body.TheVariants.{Client}
 use Rattle.sig_core.specs.declared.signal.Signal.{Signal}
 use Rattle.sig_core.specs.declared.signal.client.ClientSignal.TheVariants.{TcCommitAck}
-use Rattle.sig_core.specs.declared.signal.host.HostSignal.TheVariants.{Closed}
-use Rattle.sig_core.specs.declared.view.View.{View}
-use Rattle.sig_core.specs.Rows.{no_rows}
-use Rattle.sig_core.specs.Same.{same_key, same_tx}
-use Rattle.sig_core.proofs.TxLemmas.{same_tx-is}
-use Rattle.lqh_block.specs.Commit.{is_marker}
-use Rattle.lqh_block.specs.declared.request.Marker.{Marker}
 use Rattle.lqh_views.specs.Replica.{replica_row}
 use Rattle.lqh_views.specs.State.{ReplicaState}
-use Rattle.lqh_views.proofs.ListsKept.{both}
-use Rattle.node_core.specs.Fresh.{own_rows, with_rows}
 use Rattle.node_views.specs.declared.ldm_part.LdmPart.{LdmPart}
-use Rattle.node_views.specs.declared.parts.Parts.TheVariants.{Ldm}
 use Rattle.node_views.specs.Parts.{ldm_row}
 use Rattle.node_views.specs.WellFormed.{is_well_formed}
 use Rattle.world_core.specs.Start.{Start, made}
-use Rattle.world_core.specs.Steps.{Addressed, HostStep}
-use Rattle.world_views.specs.Hosts.{epoch_before}
-use Rattle.world_views.specs.Machine.{IsOwnWork, after, machine, step_after}
-use Rattle.world_views.proofs.FreshBodies.{none_pending}
+use Rattle.world_core.specs.Steps.{HostStep}
+use Rattle.world_views.specs.Machine.{after, step_after}
 use Rattle.view_laws.specs.Runs.{view_after}
-use Rattle.moment_laws.specs.Moments.{IsMoment, logs_of}
 use Rattle.moment_laws.specs.PartSteps.{LdmDoes, PartEnters, PartTakes, handles, ignores, installs, ldm_kind, remains}
 use Rattle.moment_laws.specs.Places.{ldm_of}
-use Rattle.moment_laws.proofs.MomentHosts.{ldm_started, part_some}
-use Rattle.moment_laws.proofs.MomentSignals.{taken_told}
-use Rattle.moment_laws.proofs.MomentViews.{moment_less}
+use Rattle.moment_laws.proofs.MomentHosts.{part_some}
 use Rattle.moment_laws.proofs.PartKinds.{ldm_after}
 use Rattle.request_laws.specs.Blocks.{no_replica, rows_after, rows_in}
 use Rattle.request_laws.proofs.RowsAlong.{AreRows, rows_so}
-use Rattle.commit_laws.specs.Forth.{IsForth}
-use Rattle.commit_laws.specs.Markers.{AreRemembered, CommitsAreRemembered, IsRemembered, TracesStay}
-use Rattle.commit_laws.specs.Traces.{is_committed_of, is_known, is_marker_of, leave_trace, rows_at}
-use Rattle.commit_laws.proofs.ForthAll.{SpeaksTruly, all_forth}
-use Rattle.commit_laws.proofs.ForthGrows.{known_grows}
-use Rattle.commit_laws.proofs.ForthSpeaks.{Speaks}
 use Rattle.commit_laws.proofs.MarkerLists.{AreKept, Remember, all_stay}
 use Rattle.commit_laws.proofs.MarkerRows.{rows_kept}
 
@@ -59,7 +32,8 @@ module _ (start : Start) (member : Member) (there : IsIn member (made start)) wh
   So s = Unit {0}
 
   -- a part of rows runs there
-  runs : (log : List HostStep) → AreRows So (λ s x so. tt) (λ s view so. tt) (after start (ldm_of start member) log).parts
+  runs : (log : List HostStep)
+      → AreRows So (λ s x so. tt) (λ s view so. tt) (after start (ldm_of start member) log).parts
   runs = rows_so So (λ s x so. tt) (λ s view so. tt) start member there tt
 
   module _ (log : List HostStep) (e : HostStep) (K : TxId → Bool)
