@@ -1,5 +1,4 @@
 pub mod FateViews
-pub mod FateRows
 pub mod ForthAll
 pub mod ForthClient
 pub mod ForthCoordinator
