@@ -1,4 +1,6 @@
 pub mod FateViews
+pub mod FateCases
+pub mod FateMoves
 pub mod FateRows
 pub mod ForthAll
 pub mod ForthClient
