@@ -14,6 +14,7 @@ pub mod ForthSpeaks
 pub mod ForthTakeover
 pub mod ForthTc
 pub mod ForthTurns
+pub mod LedMoves
 pub mod LostDoomed
 pub mod LostStays
 pub mod MarkerAll

@@ -1,6 +1,7 @@
 pub mod Going
 pub mod Traces
 pub mod Fates
+pub mod Led
 pub mod Forth
 pub mod Markers
 pub mod Lost
