@@ -14,6 +14,8 @@ pub mod ForthSpeaks
 pub mod ForthTakeover
 pub mod ForthTc
 pub mod ForthTurns
+pub mod LedDecisions
+pub mod LedEvents
 pub mod LedMoves
 pub mod LostDoomed
 pub mod LostStays
