@@ -1,3 +1,4 @@
+pub mod CutsLegal
 pub mod FateCases
 pub mod FateMoves
 pub mod FateRows

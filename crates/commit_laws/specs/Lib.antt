@@ -14,6 +14,7 @@ pub mod Settled
 pub mod Transit
 pub mod Whole
 pub mod Values
+pub mod Cuts
 pub mod Ends
 pub mod Parts
 pub mod Together

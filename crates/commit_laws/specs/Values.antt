@@ -11,11 +11,11 @@ use Rattle.serial_model.specs.Legal.{rows_of}
 use Rattle.key_laws.specs.Backup.{IsLedUnlessSpoilt}
 use Rattle.key_laws.specs.BackupEvents.{backup_of}
 use Rattle.key_laws.specs.OneKey.{IsRightAt, row_at_end}
-use Rattle.world_core.specs.Entries.{entries}
 use Rattle.world_core.specs.History.{is_kept}
 use Rattle.world_core.specs.Hosts.{hosts}
 use Rattle.world_core.specs.Start.{Start}
 use Rattle.world_core.specs.Steps.{HostStep}
+use Rattle.view_laws.specs.Order.{entries_along}
 use Rattle.moment_laws.specs.Moments.{IsMoment, logs_of}
 use Rattle.commit_laws.specs.Going.{is_decided}
 use Rattle.commit_laws.specs.Traces.{IsReplicaOf, replica_at}
@@ -25,9 +25,9 @@ module _ (start : Start) (end : List HostStep) where
   abbrev pub is_final_entry : Entry → Bool
   is_final_entry b = is_kept (hosts start) (logs_of start end) b
 
-  -- the history up to a moment
+  -- the history up to a moment, in the order of the moment's events
   abbrev pub history_at : List HostStep → List Entry
-  history_at es = filter is_final_entry (entries (hosts start) (logs_of start es))
+  history_at es = filter is_final_entry (entries_along start es)
 
   -- the transaction has an entry that takes effect
   abbrev pub is_final : TxId → Bool
