@@ -17,6 +17,8 @@ pub mod ForthTc
 pub mod ForthTurns
 pub mod LedDecisions
 pub mod LedEvents
+pub mod LedHistories
+pub mod LedKeys
 pub mod LedMoves
 pub mod LostDoomed
 pub mod LostStays

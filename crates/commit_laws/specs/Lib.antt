@@ -15,6 +15,7 @@ pub mod Transit
 pub mod Whole
 pub mod Values
 pub mod Cuts
+pub mod Owed
 pub mod Ends
 pub mod Parts
 pub mod Together
