@@ -15,6 +15,7 @@ pub mod ForthSpeaks
 pub mod ForthTakeover
 pub mod ForthTc
 pub mod ForthTurns
+pub mod LedAlong
 pub mod LedDecisions
 pub mod LedEvents
 pub mod LedHistories
