@@ -17,6 +17,7 @@ pub mod ForthTc
 pub mod ForthTurns
 pub mod LedAlong
 pub mod LedDecisions
+pub mod LedEntries
 pub mod LedEvents
 pub mod LedHistories
 pub mod LedKeys
