@@ -1,2 +1,4 @@
 pub mod LostDoomed
 pub mod LostStays
+pub mod RecordMoves
+pub mod MarkerMoves
