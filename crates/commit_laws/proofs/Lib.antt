@@ -2,3 +2,4 @@ pub mod LostDoomed
 pub mod LostStays
 pub mod RecordMoves
 pub mod MarkerMoves
+pub mod RowsGo
