@@ -3,3 +3,4 @@ pub mod LostStays
 pub mod RecordMoves
 pub mod MarkerMoves
 pub mod RowsGo
+pub mod Calm
