@@ -4,3 +4,5 @@ pub mod RecordMoves
 pub mod MarkerMoves
 pub mod RowsGo
 pub mod Calm
+pub mod RecordsOnce
+pub mod KeyGoes
