@@ -6,3 +6,6 @@ pub mod RowsGo
 pub mod Calm
 pub mod RecordsOnce
 pub mod KeyGoes
+pub mod ReplicasNow
+pub mod DecidedStay
+pub mod CommitsRemain
