@@ -82,11 +82,11 @@ or_either true b is = inl refl
 or_either false b is = inr is
 
 -- one of these marks is a decision of it
-record Decision (tx : TxId) (marks : List Mark) : Type 0 where
-  epoch : ℕ
-  inside : IsIn (Decided tx epoch) marks
+pub record Decision (tx : TxId) (marks : List Mark) : Type 0 where
+  pub epoch : ℕ
+  pub inside : IsIn (Decided tx epoch) marks
 
-decision_in : (tx : TxId) (marks : List Mark) → list_any (is_decision tx) marks ≡ true → Decision tx marks
+pub decision_in : (tx : TxId) (marks : List Mark) → list_any (is_decision tx) marks ≡ true → Decision tx marks
 decision_in tx [] is = absurd (true≢false (sym is))
 decision_in tx (mark ∷ marks) is = by mark (or_either (is_decision tx mark) (list_any (is_decision tx) marks) is) (decision_in tx marks)
   where

@@ -9,3 +9,5 @@ pub mod KeyGoes
 pub mod ReplicasNow
 pub mod DecidedStay
 pub mod CommitsRemain
+pub mod ImagesLeft
+pub mod KeptNow
