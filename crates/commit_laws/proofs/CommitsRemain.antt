@@ -196,7 +196,7 @@ module _ (forth : ForthIsKnownAlways) where
               by (inr told) = known told
 
           -- a committed record is remembered
-          record_remembered : (r : PendingRecord) → record_was ≡ Some r → r.committed ≡ true → is_remembered old ≡ true
+          pub record_remembered : (r : PendingRecord) → record_was ≡ Some r → r.committed ≡ true → is_remembered old ≡ true
           record_remembered r is done =
               let own =
               record_there (IsRemembered start old member)
