@@ -30,3 +30,4 @@ pub mod MarkerSteps
 pub mod MarkerAll
 pub mod TakenChains
 pub mod KeptRows
+pub mod TracesNow
