@@ -31,3 +31,4 @@ pub mod MarkerAll
 pub mod TakenChains
 pub mod KeptRows
 pub mod TracesNow
+pub mod CommitPlaces
