@@ -32,3 +32,4 @@ pub mod TakenChains
 pub mod KeptRows
 pub mod TracesNow
 pub mod CommitPlaces
+pub mod CommitsNow
