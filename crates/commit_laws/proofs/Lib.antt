@@ -33,3 +33,4 @@ pub mod KeptRows
 pub mod TracesNow
 pub mod CommitPlaces
 pub mod CommitsNow
+pub mod LockKeeps
