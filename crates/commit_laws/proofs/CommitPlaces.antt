@@ -14,7 +14,8 @@ use Rattle.sig_core.specs.declared.signal.Body.{Body}
 use Rattle.sig_core.specs.declared.signal.Body.TheVariants.{Chain}
 use Rattle.sig_core.specs.declared.signal.Signal.{Signal}
 use Rattle.sig_core.specs.declared.signal.chain.ChainSignal.{ChainSignal}
-use Rattle.sig_core.specs.declared.signal.chain.ChainSignal.TheVariants.{Commit, Complete}
+use Rattle.sig_core.specs.declared.signal.chain.ChainSignal.TheVariants.{Commit, Complete, LqhKeyReq}
+use Rattle.sig_core.specs.declared.signal.chain.RowWork.{RowWork}
 use Rattle.sig_core.specs.declared.view.View.{View}
 use Rattle.sig_core.specs.Chain.{node_at, node_of}
 use Rattle.sig_core.specs.Place.{rows_of}
@@ -32,7 +33,9 @@ use Rattle.view_laws.specs.Runs.{view_after}
 use Rattle.view_laws.proofs.RunMade.{made_same}
 use Rattle.moment_laws.specs.Moments.{IsMoment, current, logs_of}
 use Rattle.moment_laws.specs.Places.{ldm_of}
+use Rattle.moment_laws.proofs.MomentMembers.{current_made}
 use Rattle.moment_laws.proofs.MomentViews.{moment_less}
+use Rattle.outcome_laws.specs.Counts.{coordinator_member}
 use Rattle.request_laws.specs.Replicas.{event_by}
 use Rattle.request_laws.specs.Routed.{IsGivenUp, IsRoutedSignal, WasAskedIn, WasDrivenIn, layout_in}
 use Rattle.request_laws.specs.Routes.{IsCommitRouted, IsCompletionRouted, IsRouted}
@@ -227,3 +230,9 @@ module _ (start : Start) (all : ℕ → List HostStep) (e : HostStep) (es : List
         way : IsCompletionRouted (layout_in start (current start old)) x.to key chain at
             × WasDrivenIn start old (current start old) tx
         way = routed (Complete tx key chain at) about
+
+    -- who asks for an operation was made
+    pub asker_made : (tx : TxId) (asked : RowWork) (chain : List Member) (at : ℕ)
+        → e.step.taken.body ≡ Chain (LqhKeyReq tx asked chain at) → IsIn (coordinator_member tx) (made start)
+    asker_made tx asked chain at about =
+        current_made start all es before (coordinator_member tx) (routed (LqhKeyReq tx asked chain at) about).1.full

@@ -34,3 +34,4 @@ pub mod TracesNow
 pub mod CommitPlaces
 pub mod CommitsNow
 pub mod LockKeeps
+pub mod RowsAttended
