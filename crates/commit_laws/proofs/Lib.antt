@@ -35,3 +35,4 @@ pub mod CommitPlaces
 pub mod CommitsNow
 pub mod LockKeeps
 pub mod RowsAttended
+pub mod LocksNow

@@ -12,6 +12,7 @@ use Rattle.sig_core.specs.declared.rows.PendingRecord.{PendingRecord}
 use Rattle.sig_core.specs.declared.signal.Body.TheVariants.{Chain}
 use Rattle.sig_core.specs.declared.signal.chain.ChainSignal.TheVariants.{Abort, Commit, Complete}
 use Rattle.sig_core.specs.Same.{same_key, same_tx}
+use Rattle.sig_core.proofs.Keys.{same_tx-self}
 use Rattle.lqh_block.specs.Commit.{is_marker}
 use Rattle.lqh_block.specs.declared.request.Marker.{Marker}
 use Rattle.lqh_views.specs.State.{ReplicaState}
@@ -35,7 +36,7 @@ use Rattle.commit_laws.specs.Markers.{CommitsAreRemembered}
 use Rattle.commit_laws.specs.Together.{AllStand}
 use Rattle.commit_laws.specs.Traces.{has_marker_at, has_trace, is_committed_of, is_known, is_marker_of, leave_trace, members_now, record_at, rows_at}
 use Rattle.commit_laws.proofs.Calm.{IsCalm, forth_calm, forth_made}
-use Rattle.commit_laws.proofs.CommitsRemain.{AcknowledgedAreKnown, done_stays, marker_forth, record_forth}
+use Rattle.commit_laws.proofs.CommitsRemain.{AcknowledgedAreKnown, done_stays, marker_forth, record_forth, record_there}
 use Rattle.commit_laws.proofs.DecidedStay.{forth_decided, written_more}
 use Rattle.commit_laws.proofs.KeyGoes.{IsMarkedNow, KeyGoes, RecordGoes, TakesNow, is_aborted, is_committed, is_completed, key_goes, record_stays}
 use Rattle.commit_laws.proofs.Passing.{passed, passing}
@@ -55,29 +56,64 @@ commits_traced false false forth lost false gone left = absurd (true≢false (sy
 some_is : (r own : PendingRecord) → Some r ≡ Some own → r ≡ own
 some_is r own is = cc
 
+-- where none passes each fails
+each_fails : {A : Type 0} (p : A → Bool) (xs : List A) → list_any p xs ≡ false → Each (λ x. p x ≡ false) xs
+each_fails p [] none = tt
+each_fails p (x ∷ xs) none = by (p x) refl none (each_fails p xs)
+  where
+    by : (b : Bool) → p x ≡ b → (b || list_any p xs) ≡ false
+        → (list_any p xs ≡ false → Each (λ x. p x ≡ false) xs) → (p x ≡ false) × Each (λ x. p x ≡ false) xs
+    by true is none more = absurd (true≢false none)
+    by false is none more = (is, more none)
+
 module _ (forth : ForthIsKnownAlways) where
   module _ (start : Start) (all : ℕ → List HostStep) (es : List HostStep) (moment : IsMoment start all es)
       (member : Member) (among : IsIn member (members_now start (logs_of start es))) (key : List ℕ) (tx : TxId)
-      (on : has_marker_at start (logs_of start es) member key tx ≡ true)
     where
       abbrev logs : ℕ → List HostStep
       logs = logs_of start es
 
-      -- whoever has a marker at a member commits
-      pub marker_commits : fate start (logs_of start es) tx ≡ commits
-      marker_commits =
+      traced : is_forth start logs tx ≡ true → leave_trace tx (rows_at start logs member) ≡ true
+          → fate start logs tx ≡ commits
+      traced gone left =
           commits_traced (is_known start logs tx) (is_led_by_full start logs tx) (is_forth start logs tx)
-          (is_lost start logs tx) (has_trace start logs tx)
-          (marker_forth forth start all es moment member (member_made start all es moment member among) key tx on)
-          (passed (λ (m : Member). leave_trace tx (rows_at start logs m)) member (members_now start logs) among
+          (is_lost start logs tx) (has_trace start logs tx) gone
+          (passed (λ (m : Member). leave_trace tx (rows_at start logs m)) member (members_now start logs) among left)
+
+      -- whoever has a marker at a member commits
+      pub marker_commits : has_marker_at start (logs_of start es) member key tx ≡ true
+          → fate start (logs_of start es) tx ≡ commits
+      marker_commits on =
+          traced (marker_forth forth start all es moment member (member_made start all es moment member among) key tx on)
           (or_right (list_any (is_committed_of tx) (rows_at start logs member).lqh.rows.pending)
-          (list_any (is_marker_of tx) (rows_at start logs member).lqh.markers) left))
+          (list_any (is_marker_of tx) (rows_at start logs member).lqh.markers) left)
         where
           left : list_any (is_marker_of tx) (rows_at start logs member).lqh.markers ≡ true
           left =
               let one = passing (is_marker tx key) (rows_at start logs member).lqh.markers on in
               passed (is_marker_of tx) one.item (rows_at start logs member).lqh.markers one.there
               (and_parts (same_tx one.item.tx tx) (same_key one.item.key key) one.is).0
+
+      -- and so does whoever has a committed record there
+      pub record_commits : (r : PendingRecord) → record_at start (logs_of start es) member key tx ≡ Some r
+          → r.committed ≡ true → fate start (logs_of start es) tx ≡ commits
+      record_commits r is done =
+          traced
+          (record_forth forth start all es moment member (member_made start all es moment member among) key tx r is done)
+          (or_left (list_any (is_committed_of tx) (rows_at start logs member).lqh.rows.pending)
+          (list_any (is_marker_of tx) (rows_at start logs member).lqh.markers) (by (list_any (is_committed_of tx) (rows_at start logs member).lqh.rows.pending) refl))
+        where
+          by : (b : Bool) → list_any (is_committed_of tx) (rows_at start logs member).lqh.rows.pending ≡ b → b ≡ true
+          by true some = refl
+          by false none =
+              let one =
+              record_there (λ (x : PendingRecord). is_committed_of tx x ≡ false) (rows_at start logs member).lqh.rows tx key r
+              (each_fails (is_committed_of tx) (rows_at start logs member).lqh.rows.pending none) is in
+              absurd (true≢false
+              (sym (ap (λ t. same_tx t tx && one.own.committed) one.tx_is
+              ∙ (ap (λ b. b && one.own.committed) (same_tx-self tx)
+              ∙ (ap (λ (x : PendingRecord). x.committed) (sym one.is) ∙ done)))
+              ∙ one.so))
 
   module _ (start : Start) (all : ℕ → List HostStep) (e : HostStep) (es : List HostStep)
       (moment : IsMoment start all (e ∷ es))
