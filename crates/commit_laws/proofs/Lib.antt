@@ -36,3 +36,4 @@ pub mod CommitsNow
 pub mod LockKeeps
 pub mod RowsAttended
 pub mod LocksNow
+pub mod LdmGoes
