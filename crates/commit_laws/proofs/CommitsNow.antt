@@ -30,6 +30,7 @@ use Rattle.commit_laws.specs.Markers.{CommitsAreRemembered}
 use Rattle.commit_laws.specs.Together.{AllStand}
 use Rattle.commit_laws.specs.Traces.{AreCommitted, IsApplied, IsCommittedAtAll, IsReplicaOf, has_marker_at, is_committed_at, is_committed_by, is_known, members_now, record_at}
 use Rattle.commit_laws.specs.Whole.{CommitsGoWhole}
+use Rattle.commit_laws.proofs.AppliedMarks.{applied_marked, marks_of_commit}
 use Rattle.commit_laws.proofs.CommitPlaces.{commit_place, commit_record, in_at, place_of}
 use Rattle.commit_laws.proofs.CommitsRemain.{AcknowledgedAreKnown, all_stay, committed_stays}
 use Rattle.commit_laws.proofs.DecidedStay.{applied_more}
@@ -137,9 +138,8 @@ module _ (forth : ForthIsKnownAlways) (remembered : CommitsAreRemembered) (ackno
             from_here one.at m (omega (arith, first)) one.is
 
         -- it was applied
-        applied_first : ((r : PendingRecord) → record_at start old member key tx ≡ Some r
-            → IsIn (Applied tx key) e.step.marks) → IsApplied start new tx key
-        applied_first marked = by (record_at start old member key tx) refl
+        applied_first : at ≡ 0 → IsApplied start new tx key
+        applied_first first = by (record_at start old member key tx) refl
           where
             done : IsDone start old tx → IsApplied start new tx key
             done is = applied_more start all e es moment tx key (is key written).applied
@@ -159,28 +159,17 @@ module _ (forth : ForthIsKnownAlways) (remembered : CommitsAreRemembered) (ackno
               is_made = there;
               marked =
                   subst (IsMarked (Applied tx key)) (sym (log_of-own (machine start) e es (ldm_of start member) takes.at))
-                  (inl (marked r is));
+                  (inl (applied_marked start all e es moment member there tx key takes epoch chain
+                  (about ∙ ap (λ n. Chain (Commit tx key epoch chain n)) first) r is));
             }
 
-        pub at_all_first : at ≡ 0 → ((r : PendingRecord) → record_at start old member key tx ≡ Some r
-            → IsIn (Applied tx key) e.step.marks) → IsCommittedAtAll start new tx key
-        at_all_first first marked = record { applied = applied_first marked; committed = all_at_first first }
-
-    -- the mark is made where rows take a commit of a record at the first place
-    pub record IsOfCommit (member : Member) (there : IsIn member (made start)) (tx : TxId) (key : List ℕ) : Type 0 where
-      pub takes : TakesNow start all e es moment member there
-      pub epoch : ℕ
-      pub chain : List Member
-      pub body_is : e.step.taken.body ≡ Chain (Commit tx key epoch chain 0)
-      pub own : PendingRecord
-      pub record_is : record_at start (logs_of start es) member key tx ≡ Some own
+        pub at_all_first : at ≡ 0 → IsCommittedAtAll start new tx key
+        at_all_first first = record { applied = applied_first first; committed = all_at_first first }
 
     -- what was applied is committed
-    pub applied_now : ((member : Member) (there : IsIn member (made start)) (tx : TxId) (key : List ℕ)
-        → e.host ≡ ldm_of start member → IsIn (Applied tx key) e.step.marks → IsOfCommit member there tx key)
-        → (tx : TxId) (key : List ℕ) → IsApplied start (logs_of start (e ∷ es)) tx key
+    pub applied_now : (tx : TxId) (key : List ℕ) → IsApplied start (logs_of start (e ∷ es)) tx key
         → AreCommitted start (logs_of start (e ∷ es)) tx key
-    applied_now of tx key applied = by (cases_eq e.host (ldm_of start applied.member)) applied.marked
+    applied_now tx key applied = by (cases_eq e.host (ldm_of start applied.member)) applied.marked
       where
         was : IsMarked (Applied tx key) (old (ldm_of start applied.member)) → AreCommitted start new tx key
         was marked =
@@ -189,7 +178,7 @@ module _ (forth : ForthIsKnownAlways) (remembered : CommitsAreRemembered) (ackno
 
         now : e.host ≡ ldm_of start applied.member → IsIn (Applied tx key) e.step.marks → AreCommitted start new tx key
         now at marked =
-            let one = of applied.member applied.is_made tx key at marked in
+            let one = marks_of_commit start all e es moment applied.member applied.is_made tx key at marked in
             all_at_first applied.member applied.is_made one.takes tx key one.epoch one.chain 0 one.body_is
             (commit_written forth start all e es moment remembered acknowledged stood applied.member applied.is_made key tx
             one.takes one.epoch one.chain 0 one.body_is one.own one.record_is) refl

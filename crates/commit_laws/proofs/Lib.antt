@@ -37,3 +37,4 @@ pub mod LockKeeps
 pub mod RowsAttended
 pub mod LocksNow
 pub mod LdmGoes
+pub mod AppliedMarks

@@ -329,10 +329,7 @@ module _ (forth : ForthIsKnownAlways) (remembered : CommitsAreRemembered) (ackno
         by (take s between taken) = taken_held s between taken
 
     -- and whoever has let go of it, being committed, is so everywhere
-    module _ (marked : (takes : TakesNow start all e es moment member there) (epoch : ℕ) (chain : List Member)
-        → e.step.taken.body ≡ Chain (Commit tx key epoch chain 0) → (own : PendingRecord)
-        → record_at start (logs_of start es) member key tx ≡ Some own → IsIn (Applied tx key) e.step.marks)
-        (r : PendingRecord) (is : record_at start (logs_of start (e ∷ es)) member key tx ≡ Some r)
+    module _ (r : PendingRecord) (is : record_at start (logs_of start (e ∷ es)) member key tx ≡ Some r)
         (done : r.committed ≡ true)
         (off : holds_enough tx Exclusive (replica_at start (logs_of start (e ∷ es)) member key).lock.holders ≡ false)
       where
@@ -415,8 +412,6 @@ module _ (forth : ForthIsKnownAlways) (remembered : CommitsAreRemembered) (ackno
           let_go (by_commit epoch chain at first about) =
               at_all_first forth remembered acknowledged whole start all e es moment stood member there takes_s tx key epoch
               chain at about written first
-              (λ own own_is. marked takes_s epoch chain
-              (about ∙ ap (λ n. Chain (Commit tx key epoch chain n)) first) own own_is)
           let_go (by_completion chain at about) =
               stays (complete_done forth start all e es moment remembered acknowledged stood member there takes_s tx key chain
               at about key written)
