@@ -38,3 +38,5 @@ pub mod RowsAttended
 pub mod LocksNow
 pub mod LdmGoes
 pub mod AppliedMarks
+pub mod EndsTold
+pub mod RowsEnd
