@@ -30,7 +30,7 @@ use Rattle.outcome_laws.specs.Known.{IsDecidedIf}
 use Rattle.request_laws.specs.Blocks.{rows_after}
 use Rattle.request_laws.proofs.TokenPlaces.{ldm_no_tc}
 use Rattle.commit_laws.specs.Commits.{IsKept}
-use Rattle.commit_laws.specs.Fates.{aborts, fate, fate_if, is_led_by_full}
+use Rattle.commit_laws.specs.Fates.{aborts, commits, fate, fate_if, is_led_by_full}
 use Rattle.commit_laws.specs.Forth.{ForthIsKnownAlways, IsForth}
 use Rattle.commit_laws.specs.Going.{decided_ops, is_back, is_decided, is_forth, is_lost, own_coordinator}
 use Rattle.commit_laws.specs.Settled.{IsDecidedNow, IsSettledWith}
@@ -85,6 +85,16 @@ not_aborting false true false false trace isnt = inr (inl (refl, inr refl))
 not_aborting false false forth lost true isnt = inr (inr (refl, refl))
 not_aborting false false forth lost false isnt = absurd (isnt refl)
 
+-- and of one that commits
+committing : (known full forth lost trace : Bool) → fate_if known full forth lost trace ≡ commits
+    → (known ≡ true) ⊎ ((forth ≡ true) ⊎ (trace ≡ true))
+committing true full forth lost trace is = inl refl
+committing false true true lost trace is = inr (inl refl)
+committing false true false true trace is = absurd cc
+committing false true false false trace is = absurd cc
+committing false false forth lost true is = inr (inr refl)
+committing false false forth lost false is = absurd cc
+
 module _ (forth : ForthIsKnownAlways) where
   module _ (start : Start) (all : ℕ → List HostStep) (es : List HostStep) (moment : IsMoment start all es) (tx : TxId)
     where
@@ -115,6 +125,20 @@ module _ (forth : ForthIsKnownAlways) where
               subst (IsForth start logs) (same_tx-is one.one.tx tx one.passes)
               (each_of (λ (m : Marker). IsForth start logs m.tx) rows.lqh.markers one.one
               ((forth start all es moment).rows member there).markers one.inside)
+
+      -- whoever commits has gone forth
+      pub commits_forth : fate start (logs_of start es) tx ≡ commits → is_forth start (logs_of start es) tx ≡ true
+      commits_forth is =
+          by (committing (is_known start logs tx) (is_led_by_full start logs tx) (is_forth start logs tx)
+          (is_lost start logs tx) (has_trace start logs tx) is)
+        where
+          by : (is_known start logs tx ≡ true) ⊎ ((is_forth start logs tx ≡ true) ⊎ (has_trace start logs tx ≡ true))
+              → is_forth start logs tx ≡ true
+          by (inl known) = (forth start all es moment).known tx known
+          by (inr (inl gone)) = gone
+          by (inr (inr trace)) =
+              let one = passing (λ (member : Member). leave_trace tx (rows_at start logs member)) (members_now start logs) trace in
+              trace_forth one.one (member_made start all es moment one.one one.inside) one.passes
 
       -- of who is decided and doesn't abort nothing is asked any more
       pub kept_calm : IsKept start (logs_of start es) tx → IsCalm start (logs_of start es) tx

@@ -40,3 +40,5 @@ pub mod LdmGoes
 pub mod AppliedMarks
 pub mod EndsTold
 pub mod RowsEnd
+pub mod OwnersSay
+pub mod CommitsStep
