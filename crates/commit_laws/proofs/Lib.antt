@@ -42,3 +42,5 @@ pub mod EndsTold
 pub mod RowsEnd
 pub mod OwnersSay
 pub mod CommitsStep
+pub mod OwnersTurns
+pub mod OwnersCoordinator
