@@ -30,6 +30,7 @@ use Rattle.node_views.specs.WellFormed.{is_well_formed}
 use Rattle.key_laws.specs.Records.{found}
 use Rattle.key_laws.specs.Replica.{at_key}
 use Rattle.takeover_block.specs.declared.gathered.Gathered.{Gathered}
+use Rattle.takeover_block.specs.declared.stage.Stage.{Stage}
 use Rattle.takeover_block.specs.declared.stage.Stage.TheVariants as stage
 use Rattle.world_core.specs.Start.{Start, made}
 use Rattle.world_core.specs.Steps.{Addressed, HostStep}
@@ -49,6 +50,7 @@ use Rattle.request_laws.proofs.RouteHeaders.{sent_so}
 use Rattle.request_laws.proofs.RouteHosts.{PartHost, coordinates, is_beside, keeps_rows, part_host}
 use Rattle.commit_laws.specs.Answered.{AllWereCommittedIn, IsAnswered, WasCommittedIn}
 use Rattle.commit_laws.specs.Commits.{ComesFromTheEnd, ComesWhenDone, CommitsStand, HasWritten, HasWrittenOne, IsDone}
+use Rattle.commit_laws.specs.Fates.{commits, fate}
 use Rattle.commit_laws.specs.Forth.{ForthIsKnownAlways, IsForth, TellsForth}
 use Rattle.commit_laws.specs.Going.{decided_ops, is_decided, is_forth}
 use Rattle.commit_laws.specs.Markers.{CommitsAreRemembered}
@@ -68,6 +70,7 @@ use Rattle.commit_laws.proofs.KeptRows.{held_now, records_now}
 use Rattle.commit_laws.proofs.KeyGoes.{TakesNow}
 use Rattle.commit_laws.proofs.LocksNow.{let_go_now, prepared_now}
 use Rattle.commit_laws.proofs.OwnersSay.{IsAtCommit, IsOwnersWord, OwnersSayCommits}
+use Rattle.commit_laws.proofs.OwnersTakeover.{IsBusy}
 use Rattle.commit_laws.proofs.RowsEnd.{IsRowsWord, PassesOn, TellsCommit, TellsCompletion, rows_words}
 use Rattle.commit_laws.proofs.RowsGo.{IsBetween, IsTakenAt, RowsGo, enter, rest, rows_go, take}
 use Rattle.commit_laws.proofs.TakenChains.{chain_told}
@@ -286,10 +289,18 @@ module _ (forth : ForthIsKnownAlways) (remembered : CommitsAreRemembered) (ackno
       wrote_one : (tx : TxId) → IsAtCommit start old me tx → HasWrittenOne start new tx
       wrote_one tx at = subst (HasWrittenOne start new) at.tx_is (one_more at.gathered.tx decided ruled.1)
         where
-          ruled : IsRuled start old (stage.Committing at.epoch at.awaited) at.gathered
+          both : (one : Stage) → IsBusy one → IsRuled start old one at.gathered
+              → (fate start old at.gathered.tx ≡ commits) × HasWrittenOne start old at.gathered.tx
+          both (stage.Committing epoch awaited) busy is = is
+          both (stage.Completing epoch awaited) busy is = is
+          both stage.Resting busy is = absurd busy
+          both (stage.Gathering n) busy is = absurd busy
+          both (stage.Aborting n) busy is = absurd busy
+
+          ruled : (fate start old at.gathered.tx ≡ commits) × HasWrittenOne start old at.gathered.tx
           ruled =
-              subst (λ o. FirstIs start old (IsRuled start old (stage.Committing at.epoch at.awaited)) o) at.first
-              (subst (λ s. FirstIs start old (IsRuled start old s) (slice_get (takeover_at start old me).gathered 0)) at.stage_is
+              both (takeover_at start old me).stage at.busy
+              (subst (λ o. FirstIs start old (IsRuled start old (takeover_at start old me).stage) o) at.first
               ((follows.stood.takeovers.each me there).ruled at.number_is))
 
           decided : is_decided start old at.gathered.tx ≡ true

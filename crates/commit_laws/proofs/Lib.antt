@@ -44,3 +44,5 @@ pub mod OwnersSay
 pub mod CommitsStep
 pub mod OwnersTurns
 pub mod OwnersCoordinator
+pub mod OwnersTakeover
+pub mod OwnersHosts

@@ -11,7 +11,6 @@ use Rattle.sig_core.specs.declared.signal.Body.TheVariants.{Chain, Client}
 use Rattle.sig_core.specs.declared.signal.chain.ChainSignal.TheVariants.{Commit, Committed, Completed}
 use Rattle.sig_core.specs.declared.signal.client.ClientSignal.TheVariants.{TcCommitAck, TcKeyFailConf}
 use Rattle.takeover_block.specs.declared.gathered.Gathered.{Gathered}
-use Rattle.takeover_block.specs.declared.stage.Stage.TheVariants as stage
 use Rattle.world_core.specs.Start.{Start, made}
 use Rattle.world_core.specs.Steps.{HostStep}
 use Rattle.world_views.specs.Machine.{step_after}
@@ -19,13 +18,12 @@ use Rattle.view_laws.specs.Runs.{view_after}
 use Rattle.moment_laws.specs.Moments.{IsMoment, current, logs_of}
 use Rattle.moment_laws.specs.Places.{tc_of}
 use Rattle.commit_laws.specs.Takeovers.{takeover_at}
+use Rattle.commit_laws.proofs.OwnersTakeover.{IsBusy}
 
--- the takeover of the member is at the commit of the transaction, in the current view
+-- the takeover of the member is at the commit of the transaction, or at its completion, in the current view
 pub record IsAtCommit (start : Start) (logs : ℕ → List HostStep) (member : Member) (tx : TxId) : Type 0 where
   pub number_is : (view_after start (tc_of start member) (logs (tc_of start member))).number ≡ (current start logs).number
-  pub epoch : ℕ
-  pub awaited : ℕ
-  pub stage_is : (takeover_at start logs member).stage ≡ stage.Committing epoch awaited
+  pub busy : IsBusy (takeover_at start logs member).stage
   pub gathered : Gathered
   pub first : slice_get (takeover_at start logs member).gathered 0 ≡ Some gathered
   pub tx_is : gathered.tx ≡ tx
