@@ -49,12 +49,12 @@ use Rattle.request_laws.specs.Ways.{is_sent}
 use Rattle.request_laws.proofs.RouteHeaders.{sent_so}
 use Rattle.request_laws.proofs.RouteHosts.{PartHost, coordinates, is_beside, keeps_rows, part_host}
 use Rattle.commit_laws.specs.Answered.{AllWereCommittedIn, IsAnswered, WasCommittedIn}
-use Rattle.commit_laws.specs.Commits.{ComesFromTheEnd, ComesWhenDone, CommitsStand, HasWritten, HasWrittenOne, IsDone}
+use Rattle.commit_laws.specs.Commits.{ComesFromTheEnd, ComesWhenDone, CommitsStand, HasWritten, HasWrittenOne, IsDone, IsKept}
 use Rattle.commit_laws.specs.Fates.{commits, fate}
 use Rattle.commit_laws.specs.Forth.{ForthIsKnownAlways, IsForth, TellsForth}
 use Rattle.commit_laws.specs.Going.{decided_ops, is_decided, is_forth}
 use Rattle.commit_laws.specs.Markers.{CommitsAreRemembered}
-use Rattle.commit_laws.specs.Settled.{IsDecidedNow, IsSettledWith}
+use Rattle.commit_laws.specs.Settled.{IsSettledWith}
 use Rattle.commit_laws.specs.Takeovers.{FirstIs, IsRuled, takeover_at}
 use Rattle.commit_laws.specs.Together.{FatesMove, Follows}
 use Rattle.commit_laws.specs.Traces.{IsCommittedAtAll, has_marker_at, has_sent, is_acknowledgement, is_committed_at, is_committed_by, is_known, record_at, rows_at}
@@ -458,8 +458,8 @@ module _ (forth : ForthIsKnownAlways) (remembered : CommitsAreRemembered) (ackno
           by y (inr done) answers = done
 
       pub commits_stand : (moves : (tx : TxId) → FatesMove start e es tx)
-          → ((tx : TxId) → IsDecidedNow start e es tx → (key : List ℕ)
-          → IsSettledWith start (logs_of start es) key tx (decided_ops start (logs_of start (e ∷ es)) tx))
+          → ((tx : TxId) → IsKept start (logs_of start (e ∷ es)) tx → is_decided start (logs_of start es) tx ≡ false
+          → (key : List ℕ) → IsSettledWith start (logs_of start es) key tx (decided_ops start (logs_of start (e ∷ es)) tx))
           → CommitsStand start (logs_of start (e ∷ es))
       commits_stand moves settled = record {
         held = held_now forth remembered acknowledged start all e es moment follows.stood moves settled;

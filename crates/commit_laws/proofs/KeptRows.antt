@@ -35,14 +35,14 @@ use Rattle.commit_laws.specs.Commits.{HasWritten, HoldsImage, IsKept, LeavesTrac
 use Rattle.commit_laws.specs.Forth.{ForthIsKnownAlways}
 use Rattle.commit_laws.specs.Going.{decided_ops, image_by, is_decided, is_forth, is_written_by}
 use Rattle.commit_laws.specs.Markers.{CommitsAreRemembered}
-use Rattle.commit_laws.specs.Settled.{HasImageIf, IsDecidedNow, IsSettledWith, row_behind}
+use Rattle.commit_laws.specs.Settled.{HasImageIf, IsSettledWith, row_behind}
 use Rattle.commit_laws.specs.Together.{AllStand, FatesMove}
 use Rattle.commit_laws.specs.Traces.{IsReplicaOf, has_marker_at, is_known, record_at, replica_at, rows_at}
 use Rattle.commit_laws.proofs.Calm.{IsCalm, forth_calm}
 use Rattle.commit_laws.proofs.CommitsRemain.{AcknowledgedAreKnown, acknowledged_known, marker_forth, record_forth, record_remembered}
 use Rattle.commit_laws.proofs.DecidedStay.{forth_decided, ops_same, unknown_before, written_before, written_more}
 use Rattle.commit_laws.proofs.ImagesLeft.{image_is}
-use Rattle.commit_laws.proofs.KeptNow.{DecidesNow, any_of, decides_now, is_now, kept_before, kept_calm, rows_same}
+use Rattle.commit_laws.proofs.KeptNow.{DecidesNow, any_of, decides_now, kept_before, kept_calm, rows_same}
 use Rattle.commit_laws.proofs.KeyGoes.{IsAcknowledged, IsMarkedNow, KeyGoes, RecordGoes, TakesNow, is_aborted, is_committed, is_completed, key_goes, record_stays}
 use Rattle.commit_laws.proofs.RecordMoves.{now_by}
 use Rattle.commit_laws.proofs.ReplicasNow.{full_in, replica_before, replica_made, self}
@@ -67,8 +67,8 @@ some_is r own is = cc
 module _ (forth : ForthIsKnownAlways) (remembered : CommitsAreRemembered) (acknowledged : AcknowledgedAreKnown)
     (start : Start) (all : ℕ → List HostStep) (e : HostStep) (es : List HostStep) (moment : IsMoment start all (e ∷ es))
     (stood : AllStand start es) (moves : (tx : TxId) → FatesMove start e es tx)
-    (settled : (tx : TxId) → IsDecidedNow start e es tx → (key : List ℕ)
-    → IsSettledWith start (logs_of start es) key tx (decided_ops start (logs_of start (e ∷ es)) tx))
+    (settled : (tx : TxId) → IsKept start (logs_of start (e ∷ es)) tx → is_decided start (logs_of start es) tx ≡ false
+    → (key : List ℕ) → IsSettledWith start (logs_of start es) key tx (decided_ops start (logs_of start (e ∷ es)) tx))
   where
     abbrev old : ℕ → List HostStep
     old = logs_of start es
@@ -88,7 +88,7 @@ module _ (forth : ForthIsKnownAlways) (remembered : CommitsAreRemembered) (ackno
       ops = decided_ops start new tx
 
       settled_on : (key : List ℕ) → IsSettledWith start old key tx ops
-      settled_on key = settled tx (is_now forth start all e es moment tx decides isnt kept) key
+      settled_on key = settled tx kept isnt key
 
       record_same : (member : Member) → IsIn member (made start) → (key : List ℕ)
           → record_at start new member key tx ≡ record_at start old member key tx

@@ -46,3 +46,5 @@ pub mod OwnersTurns
 pub mod OwnersCoordinator
 pub mod OwnersTakeover
 pub mod OwnersHosts
+pub mod Settles
+pub mod CommitsKept
