@@ -48,3 +48,4 @@ pub mod OwnersTakeover
 pub mod OwnersHosts
 pub mod Settles
 pub mod CommitsKept
+pub mod CommitsFirst

@@ -92,7 +92,7 @@ install_so : (s : ReplicaState) (view : View) → AreSo s → AreSo (installed s
 install_so s view so = record { well = installations_keep_well s view so.well; once = so.once }
 
 -- none is there at first
-none_put : (s : RowsState) (rows : List (List ℕ × List ℕ)) (epoch : ℕ) → s.pending ≡ []
+pub none_put : (s : RowsState) (rows : List (List ℕ × List ℕ)) (epoch : ℕ) → s.pending ≡ []
     → (with_rows s rows epoch).pending ≡ []
 none_put s [] epoch none = none
 none_put s (r ∷ rows) epoch none = none_put (put_row s r.0 r.1 epoch) rows epoch none
