@@ -30,7 +30,7 @@ use Rattle.lqh_views.specs.Replica.{is_stale, replica_by, replica_row, serve_if}
 use Rattle.lqh_views.specs.Report.{go_on_by, is_orphaned_marker, is_orphaned_record, last_before, marker_by, record_by, reporting}
 use Rattle.lqh_views.specs.State.{ReplicaState}
 use Rattle.key_laws.specs.Records.{found}
-use Rattle.key_laws.specs.Replica.{Cell, at_key}
+use Rattle.key_laws.specs.Replica.{Cell}
 use Rattle.key_laws.proofs.EpochLemmas.{state_found}
 use Rattle.outcome_laws.proofs.StrictLists.{in_either}
 use Rattle.world_core.specs.Start.{Start, made}

@@ -1,6 +1,6 @@
 -- Of whoever was committed nothing is asked any more: it isn't given up, and has nothing unanswered; so rows do nothing for
 -- it in the current view but what commits, completions and aborts tell.
-use Rattle.std.proofs.Common.{◌≡◌, ◌≢◌, ◌≤◌, ◌<◌, ◌⊎◌, ◌==◌, ◌&&◌, ◌||◌, ◌+◌, ◌∙◌, ℕ, Bool, true, false, List, [], ◌∷◌, eq-eqb, refl, sym, ap, subst, arith, inl, inr}
+use Rattle.std.proofs.Common.{◌≡◌, ◌≤◌, ◌<◌, ◌⊎◌, ◌==◌, ◌&&◌, ◌||◌, ◌∙◌, ℕ, Bool, true, false, List, [], ◌∷◌, eq-eqb, refl, sym, ap, subst, arith, inl, inr}
 use Rattle.std.proofs.lemmas.Bool.{cases_lt, true≢false}
 use Rattle.std.specs.Prelude.{if◌then◌else◌, is_some, not, Option, None, Some}
 use Rattle.std.specs.List.{count_by, list_any}
@@ -11,7 +11,6 @@ use Rattle.sig_core.specs.declared.member.Member.{Member}
 use Rattle.sig_core.specs.declared.member.TxId.{TxId}
 use Rattle.sig_core.specs.declared.place.BlockId.TheVariants as block
 use Rattle.sig_core.specs.declared.place.Part.TheVariants.{Tc}
-use Rattle.sig_core.specs.declared.signal.Body.{Body}
 use Rattle.sig_core.specs.declared.signal.Signal.{Signal}
 use Rattle.sig_core.specs.declared.view.View.{View}
 use Rattle.sig_core.specs.Same.{same_tx}
@@ -30,20 +29,19 @@ use Rattle.world_core.specs.Marks.{has_mark}
 use Rattle.world_core.specs.Start.{Start, made}
 use Rattle.world_core.specs.Steps.{HostStep}
 use Rattle.world_views.specs.Sending.{is_own_work}
-use Rattle.view_laws.specs.Order.{sound_machine}
 use Rattle.view_laws.specs.Runs.{view_after}
-use Rattle.moment_laws.specs.Moments.{IsMoment, current, logs_of}
+use Rattle.moment_laws.specs.Moments.{IsMoment, logs_of}
 use Rattle.moment_laws.specs.Places.{ldm_of, tc_of}
 use Rattle.moment_laws.proofs.MomentHosts.{host_made}
 use Rattle.moment_laws.proofs.MomentTurns.{current_rises}
-use Rattle.moment_laws.proofs.MomentViews.{current_above, current_number, moment_less, moment_within}
+use Rattle.moment_laws.proofs.MomentViews.{current_above, moment_less, moment_within}
 use Rattle.moment_laws.proofs.PartTaken.{IsTakenNow}
 use Rattle.outcome_laws.specs.Counts.{coordinator_member, is_decision, one_if}
 use Rattle.outcome_laws.specs.Decided.{IsMarked}
 use Rattle.outcome_laws.proofs.TcLists.{count_more}
 use Rattle.request_laws.specs.Phases.{CoordinatorStands, HasGone, IsGivenWith, SaysIn, WaitsWith}
-use Rattle.request_laws.specs.Tokens.{IsAlone, IsQuiet, count_waiting, has_asked, is_token, is_token_in, may_go, number_now}
-use Rattle.request_laws.specs.Ways.{has_gone, has_gone_forth}
+use Rattle.request_laws.specs.Tokens.{IsAlone, IsQuiet, count_waiting, has_asked, is_token, may_go, number_now}
+use Rattle.request_laws.specs.Ways.{has_gone_forth}
 use Rattle.request_laws.proofs.PhaseStands.{coordinators_stand}
 use Rattle.request_laws.proofs.TokenAlone.{quiet_unless_asked, taken_alone}
 use Rattle.request_laws.proofs.TokenHosts.{token_plain}

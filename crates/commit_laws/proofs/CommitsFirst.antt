@@ -1,5 +1,5 @@
 -- What stands of commits before the first event: there are none.
-use Rattle.std.proofs.Common.{◌≡◌, ◌∙◌, ℕ, Bool, true, false, filter, map, List, [], refl, sym, ap, subst}
+use Rattle.std.proofs.Common.{◌≡◌, ◌∙◌, ℕ, true, false, filter, map, List, [], refl, sym, ap}
 use Rattle.std.proofs.lemmas.Bool.{true≢false}
 use Rattle.std.specs.Prelude.{None, Some}
 use Rattle.std.specs.List.{list_any}
@@ -9,7 +9,7 @@ use Rattle.sig_core.specs.declared.member.TxId.{TxId}
 use Rattle.sig_core.specs.declared.rows.PendingRecord.{PendingRecord}
 use Rattle.sig_core.specs.Rows.{is_on, no_rows}
 use Rattle.lqh_block.specs.Commit.{is_marker}
-use Rattle.node_core.specs.Fresh.{own_rows, with_rows}
+use Rattle.node_core.specs.Fresh.{own_rows}
 use Rattle.node_views.specs.declared.host.Host as node
 use Rattle.key_laws.specs.Records.{found, without_epoch}
 use Rattle.key_laws.specs.Replica.{at_key}
@@ -19,7 +19,7 @@ use Rattle.world_views.specs.Hosts.{epoch_before}
 use Rattle.moment_laws.specs.Moments.{IsMoment, logs_of}
 use Rattle.moment_laws.proofs.MomentHosts.{ldm_started}
 use Rattle.request_laws.specs.Blocks.{no_replica, rows_in}
-use Rattle.commit_laws.specs.Commits.{CommitsStand, HasWritten, LeavesTraceOn, committed_there, marked_there}
+use Rattle.commit_laws.specs.Commits.{CommitsStand, LeavesTraceOn, committed_there, marked_there}
 use Rattle.commit_laws.specs.Traces.{has_marker_at, record_at}
 use Rattle.commit_laws.proofs.RecordsOnce.{none_put}
 use Rattle.commit_laws.proofs.ReplicasNow.{member_made}

@@ -1,17 +1,12 @@
 -- What stands of commits at a moment stands behind the next event, where all stands at the moment; and it stands at first.
-use Rattle.std.proofs.Common.{◌≡◌, ◌∙◌, ℕ, true, false, List, [], ◌∷◌, refl, sym, ap, subst}
-use Rattle.std.proofs.lemmas.Bool.{true≢false}
-use Rattle.std.specs.Prelude.{None, Some}
 use Rattle.run_theory.specs.Links.{sent}
-use Rattle.run_theory.specs.Lists.{Each}
 use Rattle.run_theory.proofs.Pasts.{each_map}
 use Rattle.sig_core.specs.declared.signal.Body.{Body}
 use Rattle.sig_core.specs.declared.signal.Body.TheVariants.{Client}
 use Rattle.sig_core.specs.declared.signal.client.ClientSignal.TheVariants.{TcCommitAck}
-use Rattle.world_core.specs.Start.{Start}
-use Rattle.world_core.specs.Steps.{Addressed, HostStep}
+use Rattle.world_core.specs.Steps.{Addressed}
 use Rattle.view_laws.specs.Order.{sound_machine}
-use Rattle.moment_laws.specs.Moments.{IsMoment, logs_of}
+use Rattle.moment_laws.specs.Moments.{logs_of}
 use Rattle.commit_laws.specs.Forth.{IsForth}
 use Rattle.commit_laws.specs.Together.{EventsKeepCommits}
 use Rattle.commit_laws.specs.Transit.{MomentsHaveTransit}

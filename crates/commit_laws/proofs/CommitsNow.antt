@@ -1,10 +1,10 @@
 -- Behind a commit that rows take, the key is committed at their place of its chain and at those behind; at the first place
 -- it is so at all replicas, and was applied.
-use Rattle.std.proofs.Common.{◌≡◌, ◌<◌, ◌≤◌, ◌⊎◌, ◌||◌, ◌∙◌, ℕ, Bool, true, false, List, [], ◌∷◌, eq-or-lt_of_le, refl, sym, ap, subst, arith, inl, inr}
-use Rattle.std.proofs.lemmas.Bool.{cases_eq, or_left, or_right, true≢false}
+use Rattle.std.proofs.Common.{◌≡◌, ◌<◌, ◌≤◌, ◌⊎◌, ◌||◌, ◌∙◌, ℕ, Bool, true, false, List, ◌∷◌, eq-or-lt_of_le, refl, sym, ap, subst, arith, inl, inr}
+use Rattle.std.proofs.lemmas.Bool.{cases_eq, or_left, or_right}
 use Rattle.std.specs.Prelude.{Option, None, Some}
 use Rattle.std.specs.List.{slice_get}
-use Rattle.run_theory.specs.Lists.{Each, IsIn}
+use Rattle.run_theory.specs.Lists.{IsIn}
 use Rattle.run_theory.proofs.Runs.{log_of-other, log_of-own}
 use Rattle.frag_map.specs.Layout.{chain_of}
 use Rattle.outcome_laws.proofs.KnowReports.{in_front}
@@ -25,10 +25,9 @@ use Rattle.outcome_laws.specs.Decided.{IsMarked}
 use Rattle.request_laws.specs.Routed.{layout_in}
 use Rattle.commit_laws.specs.Commits.{ComesFromTheEnd, HasWritten, HoldsImage, IsDone, by_marker, by_record}
 use Rattle.commit_laws.specs.Forth.{ForthIsKnownAlways}
-use Rattle.commit_laws.specs.Going.{is_forth}
 use Rattle.commit_laws.specs.Markers.{CommitsAreRemembered}
 use Rattle.commit_laws.specs.Together.{AllStand}
-use Rattle.commit_laws.specs.Traces.{AreCommitted, IsApplied, IsCommittedAtAll, IsReplicaOf, has_marker_at, is_committed_at, is_committed_by, is_known, members_now, record_at}
+use Rattle.commit_laws.specs.Traces.{AreCommitted, IsApplied, IsCommittedAtAll, IsReplicaOf, has_marker_at, is_committed_at, is_committed_by, is_known, record_at}
 use Rattle.commit_laws.specs.Whole.{CommitsGoWhole}
 use Rattle.commit_laws.proofs.AppliedMarks.{applied_marked, marks_of_commit}
 use Rattle.commit_laws.proofs.CommitPlaces.{commit_place, commit_record, in_at, place_of}

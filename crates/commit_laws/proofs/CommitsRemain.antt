@@ -1,5 +1,5 @@
 -- Who is committed on a key at a member stays so; and so do keys that are committed at all replicas.
-use Rattle.std.proofs.Common.{◌≡◌, ◌≢◌, ◌⊎◌, ◌||◌, ◌∙◌, ℕ, Bool, true, false, List, [], ◌∷◌, refl, sym, ap, subst, inl, inr}
+use Rattle.std.proofs.Common.{◌≡◌, ◌⊎◌, ◌||◌, ◌∙◌, ℕ, Bool, true, false, List, [], ◌∷◌, refl, sym, ap, subst, inl, inr}
 use Rattle.std.proofs.lemmas.Bool.{and_parts, true≢false}
 use Rattle.std.specs.Prelude.{if◌then◌else◌, Option, None, Some}
 use Rattle.std.specs.List.{list_any}
@@ -12,7 +12,7 @@ use Rattle.sig_core.specs.declared.signal.Body.{Body}
 use Rattle.sig_core.specs.declared.signal.Body.TheVariants.{Client, Host}
 use Rattle.sig_core.specs.declared.signal.client.ClientSignal.TheVariants.{TcCommitAck}
 use Rattle.sig_core.specs.declared.signal.host.HostSignal.TheVariants.{Closed}
-use Rattle.sig_core.specs.Rows.{RowsState, is_of, record_of}
+use Rattle.sig_core.specs.Rows.{RowsState, record_of}
 use Rattle.sig_core.specs.Same.{same_key, same_tx}
 use Rattle.sig_core.proofs.TxLemmas.{same_tx-is}
 use Rattle.lqh_block.specs.Commit.{is_marker}
@@ -30,13 +30,13 @@ use Rattle.moment_laws.specs.Moments.{IsMoment, logs_of}
 use Rattle.moment_laws.proofs.MomentSignals.{taken_told}
 use Rattle.moment_laws.proofs.MomentViews.{moment_less}
 use Rattle.outcome_laws.specs.Known.{IsDecidedIf}
-use Rattle.commit_laws.specs.Commits.{HasWritten, IsDone}
+use Rattle.commit_laws.specs.Commits.{IsDone}
 use Rattle.commit_laws.specs.Forth.{ForthIsKnownAlways, IsForth}
 use Rattle.commit_laws.specs.Going.{is_decided, is_forth}
 use Rattle.commit_laws.specs.Markers.{CommitsAreRemembered, IsRemembered}
 use Rattle.commit_laws.specs.Traces.{AreCommitted, IsCommittedAtAll, has_marker_at, is_committed_at, is_committed_by, is_known, record_at, rows_at}
 use Rattle.commit_laws.proofs.Calm.{IsCalm, forth_calm}
-use Rattle.commit_laws.proofs.DecidedStay.{applied_more, forth_decided, known_more, written_before}
+use Rattle.commit_laws.proofs.DecidedStay.{applied_more, known_more, written_before}
 use Rattle.commit_laws.proofs.KeyGoes.{IsAcknowledged, KeyGoes, RecordGoes, is_aborted, is_committed, is_completed, key_goes, record_stays}
 use Rattle.commit_laws.proofs.RecordMoves.{now_by}
 use Rattle.commit_laws.proofs.ReplicasNow.{replica_before, replica_made}

@@ -1,13 +1,12 @@
 -- An event keeps what stands of commits.
-use Rattle.std.proofs.Common.{◌≡◌, ◌≢◌, ◌≤◌, ◌<◌, ◌+◌, ◌-◌, ◌⊎◌, ◌==◌, ◌||◌, ◌∙◌, ℕ, zero, suc, Bool, true, false, filter, length, List, [], ◌∷◌, refl, sym, ap, subst, arith, inl, inr}
-use Rattle.std.proofs.lemmas.Bool.{cases_eq, or_left, or_right, true≢false}
+use Rattle.std.proofs.Common.{◌≡◌, ◌≢◌, ◌≤◌, ◌<◌, ◌⊎◌, ◌==◌, ◌||◌, ◌∙◌, ℕ, zero, suc, Bool, true, false, length, List, [], ◌∷◌, refl, sym, ap, subst, arith, inl, inr}
+use Rattle.std.proofs.lemmas.Bool.{cases_eq, true≢false}
 use Rattle.std.specs.Prelude.{Option, None, Some}
 use Rattle.std.specs.List.{list_any, slice_get}
 use Rattle.run_theory.specs.Links.{sent}
 use Rattle.run_theory.specs.Lists.{Each, IsIn}
 use Rattle.run_theory.proofs.Pasts.{each_in, each_map}
 use Rattle.run_theory.proofs.Runs.{log_of-other, log_of-own}
-use Rattle.frag_map.specs.Layout.{chain_of}
 use Rattle.sig_core.specs.declared.member.Member.{Member}
 use Rattle.sig_core.specs.declared.member.TxId.{TxId}
 use Rattle.sig_core.specs.declared.outs.Outgoing.{Outgoing}
@@ -15,7 +14,6 @@ use Rattle.sig_core.specs.declared.place.Part.TheVariants.{Ldm}
 use Rattle.sig_core.specs.declared.rows.PendingRecord.{PendingRecord}
 use Rattle.sig_core.specs.declared.signal.Body.{Body}
 use Rattle.sig_core.specs.declared.signal.Body.TheVariants.{Chain, Client, Host}
-use Rattle.sig_core.specs.declared.signal.Signal.{Signal}
 use Rattle.sig_core.specs.declared.signal.chain.ChainSignal.TheVariants.{Commit, Committed, Complete, Completed}
 use Rattle.sig_core.specs.declared.signal.client.ClientSignal.{ClientSignal}
 use Rattle.sig_core.specs.declared.signal.client.ClientSignal.TheVariants.{TcCommitAck, TcCommitConf, TcKeyFailConf}
@@ -29,27 +27,25 @@ use Rattle.lqh_views.specs.State.{ReplicaState}
 use Rattle.node_views.specs.WellFormed.{is_well_formed}
 use Rattle.key_laws.specs.Records.{found}
 use Rattle.key_laws.specs.Replica.{at_key}
-use Rattle.takeover_block.specs.declared.gathered.Gathered.{Gathered}
 use Rattle.takeover_block.specs.declared.stage.Stage.{Stage}
 use Rattle.takeover_block.specs.declared.stage.Stage.TheVariants as stage
 use Rattle.world_core.specs.Start.{Start, made}
 use Rattle.world_core.specs.Steps.{Addressed, HostStep}
-use Rattle.world_views.specs.Machine.{IsOwnWork, machine, signals_of, step_after, stops_by}
-use Rattle.view_laws.specs.Order.{is_sound, sound_machine}
+use Rattle.world_views.specs.Machine.{IsOwnWork, machine, step_after}
+use Rattle.view_laws.specs.Order.{sound_machine}
 use Rattle.view_laws.specs.Runs.{view_after}
-use Rattle.moment_laws.specs.Moments.{IsMoment, current, logs_of}
+use Rattle.moment_laws.specs.Moments.{IsMoment, logs_of}
 use Rattle.moment_laws.specs.Places.{ldm_of, tc_of}
-use Rattle.moment_laws.proofs.MomentHosts.{host_made, ldm_started}
+use Rattle.moment_laws.proofs.MomentHosts.{host_made}
 use Rattle.moment_laws.proofs.MomentSignals.{EachSent, IsClosed, sent_below, sent_next, taken_told}
 use Rattle.moment_laws.proofs.MomentTurns.{Turn, host_low, keeps, raises, stands_behind, turn}
 use Rattle.moment_laws.proofs.MomentViews.{current_number, moment_less}
 use Rattle.request_laws.specs.Blocks.{rows_after}
-use Rattle.request_laws.specs.Routed.{layout_in}
 use Rattle.request_laws.specs.Ways.{is_sent}
 use Rattle.request_laws.proofs.RouteHeaders.{sent_so}
 use Rattle.request_laws.proofs.RouteHosts.{PartHost, coordinates, is_beside, keeps_rows, part_host}
-use Rattle.commit_laws.specs.Answered.{AllWereCommittedIn, IsAnswered, WasCommittedIn}
-use Rattle.commit_laws.specs.Commits.{ComesFromTheEnd, ComesWhenDone, CommitsStand, HasWritten, HasWrittenOne, IsDone, IsKept}
+use Rattle.commit_laws.specs.Answered.{AllWereCommittedIn, IsAnswered}
+use Rattle.commit_laws.specs.Commits.{ComesFromTheEnd, ComesWhenDone, CommitsStand, HasWrittenOne, IsDone, IsKept}
 use Rattle.commit_laws.specs.Fates.{commits, fate}
 use Rattle.commit_laws.specs.Forth.{ForthIsKnownAlways, IsForth, TellsForth}
 use Rattle.commit_laws.specs.Going.{decided_ops, is_decided, is_forth}
@@ -57,7 +53,7 @@ use Rattle.commit_laws.specs.Markers.{CommitsAreRemembered}
 use Rattle.commit_laws.specs.Settled.{IsSettledWith}
 use Rattle.commit_laws.specs.Takeovers.{FirstIs, IsRuled, takeover_at}
 use Rattle.commit_laws.specs.Together.{FatesMove, Follows}
-use Rattle.commit_laws.specs.Traces.{IsCommittedAtAll, has_marker_at, has_sent, is_acknowledgement, is_committed_at, is_committed_by, is_known, record_at, rows_at}
+use Rattle.commit_laws.specs.Traces.{has_marker_at, has_sent, is_acknowledgement, is_committed_at, is_committed_by, is_known, record_at, rows_at}
 use Rattle.commit_laws.specs.Whole.{CommitsGoWhole}
 use Rattle.commit_laws.proofs.CommitPlaces.{commit_place}
 use Rattle.commit_laws.proofs.CommitsNow.{applied_now, at_all_first, from_here}
@@ -71,7 +67,7 @@ use Rattle.commit_laws.proofs.KeyGoes.{TakesNow}
 use Rattle.commit_laws.proofs.LocksNow.{let_go_now, prepared_now}
 use Rattle.commit_laws.proofs.OwnersSay.{IsAtCommit, IsOwnersWord, OwnersSayCommits}
 use Rattle.commit_laws.proofs.OwnersTakeover.{IsBusy}
-use Rattle.commit_laws.proofs.RowsEnd.{IsRowsWord, PassesOn, TellsCommit, TellsCompletion, rows_words}
+use Rattle.commit_laws.proofs.RowsEnd.{IsRowsWord, rows_words}
 use Rattle.commit_laws.proofs.RowsGo.{IsBetween, IsTakenAt, RowsGo, enter, rest, rows_go, take}
 use Rattle.commit_laws.proofs.TakenChains.{chain_told}
 use Rattle.commit_laws.proofs.TracesNow.{alone_now, complete_done, written_now}

@@ -1,6 +1,6 @@
 -- Hosts that neither coordinate nor run rows send nothing about rows, and tell of no commit; but the client's side
 -- acknowledges what it is told.
-use Rattle.std.proofs.Common.{◌≡◌, ◌∙◌, ℕ, zero, suc, true, false, List, [], ◌∷◌, refl, sym, ap, subst}
+use Rattle.std.proofs.Common.{◌≡◌, ◌∙◌, ℕ, zero, suc, true, false, List, [], ◌∷◌, sym, ap}
 use Rattle.run_theory.specs.Lists.{Each}
 use Rattle.run_theory.proofs.Pasts.{each_append, each_from, each_in, each_map}
 use Rattle.sig_core.specs.declared.member.TxId.{TxId}

@@ -1,12 +1,11 @@
 -- The image that operations leave on a key which one of them wrote is the row after them, where their answers are right.
-use Rattle.std.proofs.Common.{◌≡◌, ◌||◌, ◌∙◌, ℕ, Bool, true, false, List, [], ◌∷◌, refl, sym, ap, subst}
+use Rattle.std.proofs.Common.{◌≡◌, ◌∙◌, ℕ, true, false, List, [], ◌∷◌, refl, sym, ap}
 use Rattle.std.proofs.lemmas.Bool.{true≢false}
-use Rattle.std.specs.Prelude.{Option, None, Some}
+use Rattle.std.specs.Prelude.{Option, None}
 use Rattle.std.specs.List.{list_any}
 use Rattle.sig_core.specs.declared.op.Answer.{Answer}
 use Rattle.sig_core.specs.declared.op.Answer.TheVariants.{Done, Found, Missing, E626, E630}
 use Rattle.sig_core.specs.declared.op.Op.{Op}
-use Rattle.sig_core.specs.Op.{answer_to, image_of}
 use Rattle.world_core.specs.History.{is_done}
 use Rattle.key_laws.specs.OneKey.{AreRight, row_after, row_after_all, row_by}
 use Rattle.commit_laws.specs.Going.{image_left}

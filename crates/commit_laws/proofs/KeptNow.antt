@@ -2,7 +2,7 @@
 -- decided by the event, and then each key is settled.
 use Rattle.std.proofs.Common.{◌≡◌, ◌≢◌, ◌≤◌, ◌⊎◌, ◌||◌, ◌&&◌, ◌∙◌, ℕ, Bool, true, false, List, [], ◌∷◌, refl, sym, ap, subst, arith, inl, inr}
 use Rattle.std.proofs.lemmas.Bool.{and_parts, cases_eq, true≢false}
-use Rattle.std.specs.Prelude.{not, Option, None, Some}
+use Rattle.std.specs.Prelude.{not}
 use Rattle.std.specs.List.{list_any}
 use Rattle.run_theory.specs.Lists.{Each, IsIn}
 use Rattle.run_theory.proofs.Runs.{log_of-other, log_of-own}
@@ -11,7 +11,7 @@ use Rattle.sig_core.specs.declared.member.Member.{Member}
 use Rattle.sig_core.specs.declared.member.TxId.{TxId}
 use Rattle.sig_core.specs.declared.rows.PendingRecord.{PendingRecord}
 use Rattle.sig_core.specs.declared.place.Part.TheVariants.{Tc}
-use Rattle.sig_core.specs.Same.{same_key, same_tx}
+use Rattle.sig_core.specs.Same.{same_tx}
 use Rattle.sig_core.proofs.TxLemmas.{same_tx-is}
 use Rattle.tc_block.specs.Doom.{is_among}
 use Rattle.lqh_block.specs.declared.request.Marker.{Marker}
@@ -32,14 +32,14 @@ use Rattle.request_laws.proofs.TokenPlaces.{ldm_no_tc}
 use Rattle.commit_laws.specs.Commits.{IsKept}
 use Rattle.commit_laws.specs.Fates.{aborts, commits, fate, fate_if, is_led_by_full}
 use Rattle.commit_laws.specs.Forth.{ForthIsKnownAlways, IsForth}
-use Rattle.commit_laws.specs.Going.{decided_ops, is_back, is_decided, is_forth, is_lost, own_coordinator}
-use Rattle.commit_laws.specs.Settled.{IsDecidedNow, IsSettledWith}
-use Rattle.commit_laws.specs.Together.{FatesMove, Follows}
+use Rattle.commit_laws.specs.Going.{is_back, is_decided, is_forth, is_lost, own_coordinator}
+use Rattle.commit_laws.specs.Settled.{IsDecidedNow}
+use Rattle.commit_laws.specs.Together.{FatesMove}
 use Rattle.commit_laws.specs.Traces.{has_sent, has_trace, is_acknowledgement, is_committed_of, is_known, is_marker_of, leave_trace, members_now, rows_at}
-use Rattle.commit_laws.proofs.Calm.{Decision, IsCalm, decided_calm, decided_made, decision_in, forth_calm}
+use Rattle.commit_laws.proofs.Calm.{IsCalm, decided_calm, decided_made, decision_in, forth_calm}
 use Rattle.commit_laws.proofs.DecidedStay.{forth_decided}
 use Rattle.commit_laws.proofs.LostStays.{lost_stay}
-use Rattle.commit_laws.proofs.ReplicasNow.{full_before, member_before, member_made}
+use Rattle.commit_laws.proofs.ReplicasNow.{full_before, member_made}
 
 or_either : (a b : Bool) → (a || b) ≡ true → (a ≡ true) ⊎ (b ≡ true)
 or_either true b is = inl refl

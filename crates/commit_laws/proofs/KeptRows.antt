@@ -1,11 +1,10 @@
 -- At an event: no replica comes to be without what is kept, records of it have the image that it leaves, and what is
 -- committed, or remembered of a commit, is of a key that it wrote.
-use Rattle.std.proofs.Common.{◌≡◌, ◌≢◌, ◌<◌, ◌⊎◌, ◌||◌, ◌∙◌, ℕ, suc, Bool, true, false, List, [], ◌∷◌, refl, sym, ap, subst, inl, inr}
-use Rattle.std.proofs.lemmas.Bool.{cases_eq, true≢false}
+use Rattle.std.proofs.Common.{◌≡◌, ◌⊎◌, ◌||◌, ◌∙◌, ℕ, Bool, true, false, List, [], ◌∷◌, refl, sym, ap, subst, inl, inr}
+use Rattle.std.proofs.lemmas.Bool.{true≢false}
 use Rattle.std.specs.Prelude.{if◌then◌else◌, Option, None, Some}
 use Rattle.std.specs.List.{list_any, slice_get}
-use Rattle.run_theory.specs.Lists.{Each, IsIn}
-use Rattle.run_theory.proofs.Runs.{log_of-other}
+use Rattle.run_theory.specs.Lists.{IsIn}
 use Rattle.frag_map.specs.Layout.{chain_of}
 use Rattle.frag_map.specs.Replicas.{is_member}
 use Rattle.sig_core.specs.declared.member.Member.{Member}
@@ -14,39 +13,32 @@ use Rattle.sig_core.specs.declared.op.Answer.{Answer}
 use Rattle.sig_core.specs.declared.op.Op.{Op}
 use Rattle.sig_core.specs.declared.rows.PendingRecord.{PendingRecord}
 use Rattle.sig_core.specs.declared.signal.Body.TheVariants.{Chain}
-use Rattle.sig_core.specs.declared.signal.chain.ChainSignal.TheVariants.{Abort, Commit}
+use Rattle.sig_core.specs.declared.signal.chain.ChainSignal.TheVariants.{Abort}
 use Rattle.key_laws.specs.OneKey.{ops_on}
 use Rattle.lqh_views.specs.State.{ReplicaState}
-use Rattle.key_laws.specs.Records.{as_committed, committed, found, if_committed, unless_committed}
+use Rattle.key_laws.specs.Records.{as_committed, committed, found, unless_committed}
 use Rattle.key_laws.specs.Replica.{at_key}
-use Rattle.world_core.specs.History.{is_done}
 use Rattle.world_core.specs.Start.{Start, made}
 use Rattle.world_core.specs.Steps.{HostStep}
-use Rattle.world_views.specs.Machine.{machine}
 use Rattle.moment_laws.specs.Moments.{IsMoment, current, logs_of}
-use Rattle.moment_laws.specs.Places.{ldm_of, tc_of}
 use Rattle.moment_laws.proofs.MomentViews.{moment_less}
-use Rattle.outcome_laws.specs.Counts.{coordinator_member}
-use Rattle.request_laws.specs.Blocks.{rows_after}
 use Rattle.request_laws.specs.Routed.{layout_in}
-use Rattle.request_laws.specs.Ways.{has_gone_forth}
-use Rattle.request_laws.proofs.TokenPlaces.{ldm_no_tc}
-use Rattle.commit_laws.specs.Commits.{HasWritten, HoldsImage, IsKept, LeavesTraceOn, by_marker, by_record, committed_there, marked_there}
+use Rattle.commit_laws.specs.Commits.{HasWritten, HoldsImage, IsKept, by_marker, by_record}
 use Rattle.commit_laws.specs.Forth.{ForthIsKnownAlways}
-use Rattle.commit_laws.specs.Going.{decided_ops, image_by, is_decided, is_forth, is_written_by}
+use Rattle.commit_laws.specs.Going.{decided_ops, image_by, is_decided, is_written_by}
 use Rattle.commit_laws.specs.Markers.{CommitsAreRemembered}
 use Rattle.commit_laws.specs.Settled.{HasImageIf, IsSettledWith, row_behind}
 use Rattle.commit_laws.specs.Together.{AllStand, FatesMove}
-use Rattle.commit_laws.specs.Traces.{IsReplicaOf, has_marker_at, is_known, record_at, replica_at, rows_at}
-use Rattle.commit_laws.proofs.Calm.{IsCalm, forth_calm}
-use Rattle.commit_laws.proofs.CommitsRemain.{AcknowledgedAreKnown, acknowledged_known, marker_forth, record_forth, record_remembered}
-use Rattle.commit_laws.proofs.DecidedStay.{forth_decided, ops_same, unknown_before, written_before, written_more}
+use Rattle.commit_laws.specs.Traces.{IsReplicaOf, has_marker_at, is_known, record_at, replica_at}
+use Rattle.commit_laws.proofs.Calm.{IsCalm}
+use Rattle.commit_laws.proofs.CommitsRemain.{AcknowledgedAreKnown, acknowledged_known, record_remembered}
+use Rattle.commit_laws.proofs.DecidedStay.{ops_same, unknown_before, written_before, written_more}
 use Rattle.commit_laws.proofs.ImagesLeft.{image_is}
 use Rattle.commit_laws.proofs.KeptNow.{DecidesNow, any_of, decides_now, kept_before, kept_calm, rows_same}
-use Rattle.commit_laws.proofs.KeyGoes.{IsAcknowledged, IsMarkedNow, KeyGoes, RecordGoes, TakesNow, is_aborted, is_committed, is_completed, key_goes, record_stays}
+use Rattle.commit_laws.proofs.KeyGoes.{IsAcknowledged, KeyGoes, RecordGoes, TakesNow, is_aborted, is_committed, is_completed, key_goes, record_stays}
 use Rattle.commit_laws.proofs.RecordMoves.{now_by}
 use Rattle.commit_laws.proofs.ReplicasNow.{full_in, replica_before, replica_made, self}
-use Rattle.commit_laws.proofs.TakenChains.{abort_aborts, commit_kept}
+use Rattle.commit_laws.proofs.TakenChains.{abort_aborts}
 
 -- a list with a member has a first one
 record First (xs : List Member) : Type 0 where

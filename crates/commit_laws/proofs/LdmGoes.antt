@@ -1,6 +1,6 @@
 -- What a step of a host that runs rows comes to, with its marks: a view is installed, or none is; and behind that the rows
 -- take the signal, and what they mark is marked; or they leave it alone, and none is marked to be applied.
-use Rattle.std.proofs.Common.{◌≡◌, ◌≤◌, ◌<◌, ◌⊎◌, ◌||◌, ◌++◌, ◌∙◌, ℕ, zero, suc, Bool, true, false, nat_lt, List, [], ◌∷◌, refl, sym, ap, subst, arith, inl, inr}
+use Rattle.std.proofs.Common.{◌≡◌, ◌≤◌, ◌⊎◌, ◌||◌, ◌++◌, ◌∙◌, ℕ, zero, suc, Bool, true, false, nat_lt, List, [], ◌∷◌, refl, sym, ap, subst, arith, inl, inr}
 use Rattle.std.proofs.lemmas.Bool.{ltb-false, ltb-true}
 use Rattle.std.specs.Prelude.{not, Option, None, Some}
 use Rattle.std.specs.List.{list_any}
@@ -10,14 +10,13 @@ use Rattle.sig_core.specs.declared.mark.Mark.{Mark}
 use Rattle.sig_core.specs.declared.mark.Mark.TheVariants.{Applied, Installed}
 use Rattle.sig_core.specs.declared.member.HostId.{HostId}
 use Rattle.sig_core.specs.declared.outcome.StopCause.{StopCause}
-use Rattle.sig_core.specs.declared.outs.Outgoing.{Outgoing}
 use Rattle.sig_core.specs.declared.signal.Body.{Body}
 use Rattle.sig_core.specs.declared.signal.Body.TheVariants.{Host}
 use Rattle.sig_core.specs.declared.signal.Signal.{Signal}
 use Rattle.sig_core.specs.declared.signal.host.HostSignal.TheVariants.{Closed, Cut, Kill}
 use Rattle.sig_core.specs.declared.view.Shape.{Shape}
 use Rattle.sig_core.specs.declared.view.View.{View}
-use Rattle.sig_core.specs.Step.{Effects, Step, joined}
+use Rattle.sig_core.specs.Step.{Effects, Step}
 use Rattle.api_views.specs.Members.{same_member}
 use Rattle.node_views.specs.declared.host.Host as hosts
 use Rattle.node_views.specs.declared.ldm_part.LdmPart.{LdmPart}
@@ -25,7 +24,7 @@ use Rattle.node_views.specs.declared.parts.Parts.TheVariants as part
 use Rattle.node_views.specs.declared.standing.Standing.{Standing}
 use Rattle.node_views.specs.Blocks.{fence_at}
 use Rattle.node_views.specs.Parts.{ldm_entered, ldm_row}
-use Rattle.node_views.specs.Row.{behind, blocks_row, closed_if, counted_row, cut_if, entered, entering_if, headed_if, headed_row, host_row, host_table, hushed, in_view, is_barred, is_cut, is_excluded, is_stop, kill_row, killed_after, marks_only, passed_if, passed_row, taken_if, unless_stopped}
+use Rattle.node_views.specs.Row.{blocks_row, closed_if, counted_row, cut_if, entered, entering_if, headed_if, headed_row, host_row, host_table, hushed, in_view, is_barred, is_cut, is_excluded, is_stop, kill_row, killed_after, passed_if, passed_row, taken_if, unless_stopped}
 use Rattle.node_views.specs.WellFormed.{is_first, is_well_formed}
 use Rattle.world_core.specs.Start.{Start}
 use Rattle.world_core.specs.Steps.{HostStep}

@@ -1,9 +1,8 @@
 -- Who holds the lock of a key exclusive goes on so at each event but those by which it lets go; and who has a record
 -- prepared holds it, if it holds it as it was let in.
-use Rattle.std.proofs.Common.{◌≡◌, ◌≢◌, ◌⊎◌, ◌||◌, ◌&&◌, ◌∙◌, ℕ, Bool, true, false, not, List, [], ◌∷◌, refl, sym, ap, subst, inl, inr}
+use Rattle.std.proofs.Common.{◌≡◌, ◌⊎◌, ◌∙◌, ℕ, Bool, true, false, not, List, [], ◌∷◌, refl, sym, ap, subst, inl, inr}
 use Rattle.std.proofs.lemmas.Bool.{not-true, true≢false}
 use Rattle.std.specs.Prelude.{if◌then◌else◌, Option, None, Some}
-use Rattle.run_theory.specs.Lists.{Each}
 use Rattle.sig_core.specs.declared.member.TxId.{TxId}
 use Rattle.sig_core.specs.declared.op.Answer.{Answer}
 use Rattle.sig_core.specs.declared.op.Answer.TheVariants.{Done, Found, Missing, E626, E630}
@@ -19,7 +18,6 @@ use Rattle.sig_core.specs.Same.{same_tx}
 use Rattle.sig_core.proofs.TxLemmas.{same_tx-is}
 use Rattle.row_locks.specs.declared.mode.Lock.{Lock}
 use Rattle.row_locks.specs.declared.mode.Lock.TheVariants.{Granted, Queued}
-use Rattle.row_locks.specs.declared.mode.Mode.{Mode}
 use Rattle.row_locks.specs.declared.mode.Mode.TheVariants.{Exclusive}
 use Rattle.row_locks.specs.Holders.{holds_enough}
 use Rattle.row_locks.specs.Orderly.{IsOrderly}

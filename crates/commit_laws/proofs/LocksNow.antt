@@ -1,10 +1,9 @@
 -- At an event: who has something prepared at a member of the current view holds the lock of its key, and whoever lets go of
 -- it, being committed there, is committed at all replicas.
-use Rattle.std.proofs.Common.{◌≡◌, ◌≢◌, ◌⊎◌, ◌==◌, ◌&&◌, ◌||◌, ◌∙◌, ℕ, Bool, true, false, cond, filter, List, [], ◌∷◌, refl, sym, ap, subst, inl, inr}
-use Rattle.std.proofs.lemmas.Bool.{and_parts, eqb-true, or_left, or_right, true≢false}
+use Rattle.std.proofs.Common.{◌≡◌, ◌⊎◌, ◌==◌, ◌&&◌, ◌||◌, ◌∙◌, ℕ, Bool, true, false, cond, filter, List, [], ◌∷◌, refl, sym, ap, subst, inl, inr}
+use Rattle.std.proofs.lemmas.Bool.{eqb-true, or_left, or_right, true≢false}
 use Rattle.std.specs.Prelude.{if◌then◌else◌, is_some, Option, None, Some}
-use Rattle.run_theory.specs.Lists.{Each, IsIn}
-use Rattle.sig_core.specs.declared.mark.Mark.TheVariants.{Applied}
+use Rattle.run_theory.specs.Lists.{IsIn}
 use Rattle.sig_core.specs.declared.member.Member.{Member}
 use Rattle.sig_core.specs.declared.member.TxId.{TxId}
 use Rattle.sig_core.specs.declared.rows.PendingRecord.{PendingRecord}
@@ -29,14 +28,13 @@ use Rattle.row_locks.specs.Orderly.{IsOrderly}
 use Rattle.row_locks.specs.Rounds.{expired}
 use Rattle.lqh_block.proofs.IndexLemmas.{same}
 use Rattle.lqh_block.specs.declared.request.Request.{Request}
-use Rattle.lqh_block.specs.Expire.{aged}
 use Rattle.lqh_block.specs.Operate.{is_granted}
 use Rattle.lqh_block.specs.State.{LqhState, storage_of}
 use Rattle.lqh_block.specs.Views.{goes_on_holding, is_coordinated}
-use Rattle.lqh_views.specs.Replica.{installed, replica_row}
+use Rattle.lqh_views.specs.Replica.{installed}
 use Rattle.lqh_views.specs.State.{ReplicaState}
 use Rattle.key_laws.specs.Records.{AreOnce, as_committed, found, if_committed, unless_committed}
-use Rattle.key_laws.specs.Replica.{Cell, Event, Replica, aborts, ages, asks, at_key, commits, completes, event_at, expired_by, expires, expires_if, if_on, is_refused, key_after, rests, serves, serves_if}
+use Rattle.key_laws.specs.Replica.{Cell, Event, Replica, aborts, asks, at_key, commits, completes, event_at, expires, expires_if, if_on, is_refused, key_after, rests, serves, serves_if}
 use Rattle.key_laws.proofs.EpochLemmas.{state_found}
 use Rattle.host_laws.specs.ReplicaLaws.{IsWell}
 use Rattle.world_core.specs.Start.{Start, made}
@@ -46,13 +44,13 @@ use Rattle.moment_laws.specs.Places.{ldm_of}
 use Rattle.moment_laws.proofs.MomentViews.{moment_less}
 use Rattle.request_laws.specs.Replicas.{event_under}
 use Rattle.request_laws.proofs.ReplicaEvents.{installations_are_events, signals_are_events}
-use Rattle.commit_laws.specs.Commits.{HasWritten, IsDone, committed_there}
-use Rattle.commit_laws.specs.Fates.{aborts as fate_aborts, commits as fate_commits, fate}
+use Rattle.commit_laws.specs.Commits.{HasWritten, committed_there}
+use Rattle.commit_laws.specs.Fates.{aborts as fate_aborts, commits as fate_commits}
 use Rattle.commit_laws.specs.Forth.{ForthIsKnownAlways}
 use Rattle.commit_laws.specs.Going.{is_forth}
 use Rattle.commit_laws.specs.Markers.{CommitsAreRemembered}
 use Rattle.commit_laws.specs.Together.{AllStand}
-use Rattle.commit_laws.specs.Traces.{IsCommittedAtAll, IsReplicaOf, has_marker_at, is_committed_at, is_committed_by, is_known, members_now, record_at, replica_at, rows_at}
+use Rattle.commit_laws.specs.Traces.{IsCommittedAtAll, has_marker_at, is_committed_at, is_committed_by, is_known, members_now, record_at, replica_at, rows_at}
 use Rattle.commit_laws.specs.Whole.{CommitsGoWhole}
 use Rattle.commit_laws.proofs.CommitPlaces.{as_before, cell_before, complete_place, well}
 use Rattle.commit_laws.proofs.CommitsNow.{at_all_first}

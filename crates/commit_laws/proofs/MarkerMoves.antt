@@ -1,6 +1,6 @@
 -- What a signal makes of the marker of one transaction on one key: it stays until the client's side knows of the commit,
 -- and comes where a prepared record is committed.
-use Rattle.std.proofs.Common.{◌≡◌, ◌⊎◌, ◌&&◌, ◌||◌, ◌++◌, ◌∙◌, ℕ, Bool, true, false, cond, filter, List, [], ◌∷◌, refl, sym, ap, subst, inl, inr}
+use Rattle.std.proofs.Common.{◌≡◌, ◌⊎◌, ◌||◌, ◌++◌, ◌∙◌, ℕ, Bool, true, false, cond, filter, List, [], ◌∷◌, refl, sym, ap, subst, inl, inr}
 use Rattle.std.proofs.lemmas.Bool.{and_parts, true≢false}
 use Rattle.std.specs.Prelude.{not, Option, None, Some}
 use Rattle.std.specs.List.{list_any}
@@ -16,10 +16,10 @@ use Rattle.sig_core.specs.Rows.{state_by}
 use Rattle.sig_core.specs.Same.{same_key, same_tx}
 use Rattle.sig_core.specs.Step.{Step}
 use Rattle.sig_core.proofs.TxLemmas.{same_tx-is}
-use Rattle.lqh_block.specs.Commit.{applied, is_marker, marked, marked_if, marker_of}
+use Rattle.lqh_block.specs.Commit.{applied, is_marker, marked_if, marker_of}
 use Rattle.lqh_block.specs.declared.request.Marker.{Marker}
 use Rattle.lqh_block.specs.Lqh.{lqh_table}
-use Rattle.lqh_block.specs.State.{LqhState, with_markers, with_storage}
+use Rattle.lqh_block.specs.State.{LqhState}
 use Rattle.lqh_block.specs.Storage.{StorageState}
 use Rattle.lqh_block.specs.Wait.{acknowledged, is_other}
 use Rattle.lqh_block.proofs.IndexLemmas.{same}

@@ -1,5 +1,5 @@
 -- At an event of the host of a coordinator and a takeover, what it sends of commits is as it should be.
-use Rattle.std.proofs.Common.{◌≡◌, ◌≤◌, ◌⊎◌, ◌++◌, ◌∙◌, ℕ, List, [], ◌∷◌, refl, sym, ap, subst, arith, inl, inr}
+use Rattle.std.proofs.Common.{◌≡◌, ◌⊎◌, ◌++◌, ◌∙◌, ℕ, List, [], ◌∷◌, refl, sym, ap, subst, arith, inl, inr}
 use Rattle.std.specs.Prelude.{Some}
 use Rattle.std.specs.List.{slice_get}
 use Rattle.run_theory.specs.Lists.{Each, IsIn}
@@ -16,7 +16,6 @@ use Rattle.sig_core.specs.declared.signal.chain.ChainSignal.TheVariants.{Commit,
 use Rattle.sig_core.specs.declared.signal.client.ClientSignal.TheVariants.{TcCommitAck, TcKeyFailConf}
 use Rattle.sig_core.specs.declared.view.View.{View}
 use Rattle.tc_views.specs.Views.{install_row}
-use Rattle.dih_node.specs.Dih.{dih_row}
 use Rattle.dih_node.specs.Orders as dih
 use Rattle.takeover_block.specs.declared.gathered.Gathered.{Gathered}
 use Rattle.takeover_block.specs.State.{TakeoverState}
@@ -27,7 +26,7 @@ use Rattle.world_core.specs.Start.{Start, made}
 use Rattle.world_core.specs.Steps.{HostStep}
 use Rattle.world_views.specs.Machine.{after, step_after}
 use Rattle.view_laws.specs.Runs.{view_after}
-use Rattle.moment_laws.specs.Moments.{IsMoment, current, logs_of}
+use Rattle.moment_laws.specs.Moments.{IsMoment, logs_of}
 use Rattle.moment_laws.specs.Parts.{IsPassed}
 use Rattle.moment_laws.specs.PartSteps.{PartEnters, PartTakes, handles, ignores, installs, remains, tc_kind}
 use Rattle.moment_laws.specs.Places.{tc_of}
@@ -42,7 +41,7 @@ use Rattle.commit_laws.proofs.ForthEpochs.{dih_installs_speak, dih_speaks}
 use Rattle.commit_laws.proofs.ForthSpeaks.{AreSpoken, Speaks}
 use Rattle.commit_laws.proofs.OwnersCoordinator.{coordinator_installs_words, coordinator_words}
 use Rattle.commit_laws.proofs.OwnersSay.{IsAtCommit, IsOwnersWord, OwnersSayCommits}
-use Rattle.commit_laws.proofs.OwnersTakeover.{AreTold, IsBusy, IsTold, takeover_told}
+use Rattle.commit_laws.proofs.OwnersTakeover.{IsBusy, IsTold, takeover_told}
 use Rattle.commit_laws.proofs.OwnersTurns.{AreWords, IsWord}
 
 module _ (start : Start) (all : ℕ → List HostStep) (e : HostStep) (es : List HostStep)

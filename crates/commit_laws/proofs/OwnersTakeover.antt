@@ -1,9 +1,9 @@
 -- What a takeover sends of commits: a commit goes to the last place of its chain, and the client's side is told of whom it
 -- commits.
-use Rattle.std.proofs.Common.{ℕ, Bool, true, false, List, map, refl}
+use Rattle.std.proofs.Common.{ℕ, Bool, true, false, List, map, ◌≡◌, ◌≤◌, ◌+◌, take, drop, length, nat_lt, sym, subst, arith}
 use Rattle.std.specs.Prelude.{Option, None, Some, remove, slice_get}
 use Rattle.std.specs.List.{flat_map}
-use Rattle.run_theory.proofs.EachSent.{each_flat, each_mapped}
+use Rattle.run_theory.proofs.EachSent.{each_flat, each_mapped, each_drop, each_take}
 use Rattle.run_theory.proofs.Pasts.{each_append}
 use Rattle.sig_core.specs.declared.member.Member.{Member}
 use Rattle.sig_core.specs.declared.member.TxId.{TxId}
@@ -16,14 +16,12 @@ use Rattle.frag_map.specs.Layout.{Layout, chain_of}
 use Rattle.takeover_block.specs.declared.gathered.Gathered.{Gathered}
 use Rattle.takeover_block.specs.declared.stage.Stage.{Stage}
 use Rattle.takeover_block.specs.declared.stage.Stage.TheVariants.{Resting, Gathering, Committing, Completing, Aborting}
-use Rattle.takeover_block.specs.Rule.{entering, finishing, ruling, ruling_by, way_of}
+use Rattle.takeover_block.specs.Rule.{entering, finishing, ruling, ruling_by, way_of, way_by}
 use Rattle.takeover_block.specs.Sends.{abort_at, ask_effects, ask_of, asks_of, front_sends, key_sends, key_sends_along, stage_effects, stage_sends}
 use Rattle.takeover_block.specs.State.{TakeoverState, with_gathered}
 use Rattle.takeover_block.specs.Takeover.{takeover_row}
 use Rattle.takeover_block.proofs.EachTakeover.{takeover_each}
-use Rattle.std.proofs.Common.{◌≡◌, ◌≤◌, ◌+◌, [], ◌∷◌, take, drop, length, nat_lt, sym, subst, arith}
 use Rattle.run_theory.specs.Lists.{Each}
-use Rattle.run_theory.proofs.EachSent.{each_drop, each_take}
 use Rattle.sig_core.specs.declared.outs.Outgoing.{Outgoing}
 use Rattle.sig_core.specs.declared.place.Place.{Place}
 use Rattle.sig_core.specs.declared.portion.TheConstants.{PORTION}
@@ -35,7 +33,6 @@ use Rattle.sig_core.specs.Portion.{portion_effects, rest_if}
 use Rattle.sig_core.specs.Same.{same_tx}
 use Rattle.sig_core.specs.Step.{Step}
 use Rattle.takeover_block.specs.Gathered.{first_of, only, only_of}
-use Rattle.takeover_block.specs.Rule.{way_by}
 
 -- it is at a commit, or at the completion behind it
 abbrev pub IsBusy : Stage → Type 0

@@ -1,10 +1,10 @@
 -- What coordinators send of commits: a commit goes to the last place of its chain, and there is no word of rows, and none
 -- of the client's side.
-use Rattle.std.proofs.Common.{◌==◌, ℕ, Bool, true, false, List, refl}
+use Rattle.std.proofs.Common.{◌==◌, ℕ, Bool, true, false, List, ◌≤◌, ◌+◌, take, drop, length, nat_lt, arith}
 use Rattle.std.specs.Prelude.{Option, None, Some, slice_get}
 use Rattle.std.specs.List.{flat_map}
 use Rattle.std.specs.Map.{values_of}
-use Rattle.run_theory.proofs.EachSent.{each_flat, each_mapped}
+use Rattle.run_theory.proofs.EachSent.{each_flat, each_mapped, each_drop, each_take}
 use Rattle.run_theory.proofs.Pasts.{each_append}
 use Rattle.sig_core.specs.declared.member.TxId.{TxId}
 use Rattle.sig_core.specs.declared.outcome.AbortCause.{AbortCause}
@@ -31,9 +31,7 @@ use Rattle.tc_block.specs.declared.touched.Touched.{Touched}
 use Rattle.tc_block.specs.declared.transaction.Transaction.{Transaction}
 use Rattle.tc_block.proofs.EachTc.{tc_each}
 use Rattle.tc_block.proofs.EachTurn.{AbortForms, CommittedForms, TurnForms, rows_of}
-use Rattle.std.proofs.Common.{◌≤◌, ◌+◌, take, drop, length, nat_lt, arith}
 use Rattle.run_theory.specs.Lists.{Each}
-use Rattle.run_theory.proofs.EachSent.{each_drop, each_take}
 use Rattle.sig_core.specs.declared.place.Place.{Place}
 use Rattle.sig_core.specs.declared.portion.TheConstants.{PORTION}
 use Rattle.sig_core.specs.declared.signal.Body.TheVariants.{Chain, Client}

@@ -27,7 +27,7 @@ use Rattle.lqh_views.specs.State.{ReplicaState}
 use Rattle.sig_core.specs.declared.view.View.{View}
 use Rattle.key_laws.specs.Records.{AreOnce, as_committed, edited, found, if_committed, put_back, unless_committed}
 use Rattle.key_laws.specs.Replica.{Event, Replica, aborts as gives_up, ages, asks, asks_for, at_key, commits as makes_so, completes as ends, event_at, expired_by, expires, expires_if, if_on, is_let_in, is_refused, key_after, rests, serves, serves_if}
-use Rattle.key_laws.proofs.RecordLemmas.{KeepsTx, committed_keeps, found-edited, if_keeps, unless_keeps}
+use Rattle.key_laws.proofs.RecordLemmas.{KeepsTx, committed_keeps, if_keeps, unless_keeps}
 use Rattle.key_laws.proofs.Waiting.{each-first_item}
 use Rattle.host_laws.specs.ReplicaLaws.{IsWell}
 use Rattle.host_laws.proofs.Replicas.{signals_are_events as rows_are_events}

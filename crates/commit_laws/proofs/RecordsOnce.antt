@@ -1,5 +1,5 @@
 -- No transaction has two records on a key, after every log of the host of the rows.
-use Rattle.std.proofs.Common.{◌≡◌, ◌∙◌, ℕ, Bool, true, false, filter, map, List, [], ◌∷◌, refl, sym, ap, subst}
+use Rattle.std.proofs.Common.{◌≡◌, ℕ, Bool, true, false, filter, map, List, [], ◌∷◌, refl, sym, subst}
 use Rattle.std.specs.Prelude.{Option, None, Some}
 use Rattle.run_theory.specs.Lists.{IsIn}
 use Rattle.sig_core.specs.declared.member.Member.{Member}
@@ -14,7 +14,7 @@ use Rattle.sig_core.specs.declared.signal.chain.RowWork.TheVariants.{Operate, St
 use Rattle.sig_core.specs.declared.view.View.{View}
 use Rattle.sig_core.specs.Firsts.{first}
 use Rattle.sig_core.specs.Op.{answer_to, image_of, key_of}
-use Rattle.sig_core.specs.Rows.{RowsState, is_on, no_rows, prepared, put_row, with_place}
+use Rattle.sig_core.specs.Rows.{RowsState, is_on, no_rows, prepared, put_row}
 use Rattle.row_locks.specs.declared.mode.Lock.{Lock}
 use Rattle.row_locks.specs.declared.mode.Lock.TheVariants.{Granted, Queued}
 use Rattle.row_locks.specs.Rows.{asked}

@@ -1,6 +1,6 @@
 -- The replicas of a key are full members of the current view; and each of them, and each member of the view, was one
 -- before an event.
-use Rattle.std.proofs.Common.{◌≡◌, ◌≤◌, ◌<◌, ◌⊎◌, ◌==◌, ◌&&◌, ◌||◌, ◌++◌, ◌+◌, ◌∙◌, ℕ, zero, suc, Bool, true, false, cond, length, take, List, [], ◌∷◌, refl, sym, ap, subst, arith, inl, inr}
+use Rattle.std.proofs.Common.{◌≡◌, ◌≤◌, ◌⊎◌, ◌==◌, ◌&&◌, ◌||◌, ◌++◌, ◌+◌, ◌∙◌, ℕ, zero, suc, Bool, true, false, cond, length, take, List, [], ◌∷◌, refl, sym, ap, subst, arith, inl, inr}
 use Rattle.std.proofs.lemmas.Bool.{and_parts, eq-eqb, eqb-true, true≢false}
 use Rattle.std.specs.List.{list_any}
 use Rattle.run_theory.specs.Lists.{IsIn}
@@ -15,7 +15,6 @@ use Rattle.outcome_laws.proofs.KnowReports.{in_front}
 use Rattle.outcome_laws.proofs.StrictLists.{in_either}
 use Rattle.world_core.specs.Start.{Start, made}
 use Rattle.world_core.specs.Steps.{HostStep}
-use Rattle.view_laws.specs.Sets.{all_of}
 use Rattle.moment_laws.specs.Moments.{IsMoment, current, logs_of}
 use Rattle.moment_laws.proofs.MomentMembers.{all_full, current_made, full_less}
 use Rattle.moment_laws.proofs.MomentTurns.{Turn, keeps, raises, turn}

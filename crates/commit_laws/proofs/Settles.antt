@@ -1,7 +1,7 @@
 -- What is decided and kept is settled for each key: it waited for its epoch with the operations with which it is decided.
-use Rattle.std.proofs.Common.{◌≡◌, ◌⊎◌, ◌||◌, ◌&&◌, ◌∙◌, ℕ, Bool, true, false, not, List, [], ◌∷◌, refl, sym, ap, subst, inl, inr}
+use Rattle.std.proofs.Common.{◌≡◌, ◌⊎◌, ◌||◌, ◌&&◌, ◌∙◌, ℕ, Bool, true, false, not, List, ◌∷◌, refl, sym, ap, subst, inl, inr}
 use Rattle.std.proofs.lemmas.Bool.{true≢false}
-use Rattle.std.specs.Prelude.{if◌then◌else◌, Option, None, Some}
+use Rattle.std.specs.Prelude.{if◌then◌else◌, None, Some}
 use Rattle.run_theory.specs.Lists.{Each, IsIn}
 use Rattle.run_theory.proofs.Pasts.{each_map}
 use Rattle.run_theory.proofs.Runs.{log_of-own}
@@ -12,9 +12,7 @@ use Rattle.sig_core.specs.declared.op.Answer.{Answer}
 use Rattle.sig_core.specs.declared.op.Op.{Op}
 use Rattle.sig_core.specs.declared.signal.Body.{Body}
 use Rattle.sig_core.proofs.Keys.{same_tx-self}
-use Rattle.tc_block.specs.declared.phase.Asked.{Asked}
 use Rattle.tc_block.specs.declared.phase.Phase.{Phase}
-use Rattle.tc_block.specs.declared.phase.Phase.TheVariants.{Verifying}
 use Rattle.tc_block.specs.declared.transaction.Transaction.{Transaction}
 use Rattle.tc_block.specs.Doom.{is_among, is_undecided}
 use Rattle.host_laws.proofs.OfLive.{each_found}
@@ -26,7 +24,7 @@ use Rattle.moment_laws.specs.Moments.{IsMoment, logs_of}
 use Rattle.moment_laws.specs.Places.{tc_of}
 use Rattle.moment_laws.proofs.MomentViews.{moment_less}
 use Rattle.outcome_laws.specs.Counts.{coordinator_member}
-use Rattle.request_laws.specs.Phases.{CoordinatorStands, HasGone, SaysIn, SaysOf, WaitsWith}
+use Rattle.request_laws.specs.Phases.{HasGone, SaysIn, SaysOf, WaitsWith}
 use Rattle.request_laws.proofs.PhaseAlong.{next}
 use Rattle.request_laws.proofs.PhaseAsks.{request, told_waits}
 use Rattle.request_laws.proofs.PhaseHeard.{heard_at}
@@ -36,7 +34,7 @@ use Rattle.request_laws.proofs.PhaseTold.{HasTold, Heard}
 use Rattle.commit_laws.specs.Commits.{IsKept}
 use Rattle.commit_laws.specs.Forth.{ForthIsKnownAlways}
 use Rattle.commit_laws.specs.Going.{decided_ops, is_back, is_decided, is_forth, is_lost, own_coordinator}
-use Rattle.commit_laws.specs.Parts.{IsHale, IsOff, PartsStand}
+use Rattle.commit_laws.specs.Parts.{IsHale, IsOff}
 use Rattle.commit_laws.specs.Settled.{IsDecidedNow, IsSettledWith}
 use Rattle.commit_laws.specs.Together.{Follows}
 use Rattle.commit_laws.specs.Transit.{MomentsHaveTransit}

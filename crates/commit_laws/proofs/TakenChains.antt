@@ -1,11 +1,9 @@
 -- A signal about a chain that rows take is of the current view, which stays as it was; what is told of each that was sent is
 -- told of it.
-use Rattle.std.proofs.Common.{◌≡◌, ◌≢◌, ◌≤◌, ◌∙◌, ℕ, true, false, List, [], ◌∷◌, refl, sym, ap, subst, arith}
-use Rattle.run_theory.specs.Lists.{Each}
+use Rattle.std.proofs.Common.{◌≡◌, ◌≢◌, ◌≤◌, ◌∙◌, ℕ, true, List, ◌∷◌, sym, ap, subst, arith}
 use Rattle.sig_core.specs.declared.member.Member.{Member}
 use Rattle.sig_core.specs.declared.member.TxId.{TxId}
 use Rattle.sig_core.specs.declared.place.BlockId.TheVariants as block
-use Rattle.sig_core.specs.declared.signal.Body.{Body}
 use Rattle.sig_core.specs.declared.signal.Body.TheVariants.{Chain}
 use Rattle.sig_core.specs.declared.signal.Signal.{Signal}
 use Rattle.sig_core.specs.declared.signal.chain.ChainSignal.{ChainSignal}
@@ -19,10 +17,10 @@ use Rattle.moment_laws.proofs.MomentViews.{current_number, moment_less}
 use Rattle.moment_laws.proofs.PartTaken.{IsTakenNow}
 use Rattle.request_laws.proofs.RouteAside.{is_of_rows}
 use Rattle.request_laws.proofs.RouteHeaders.{chain_fenced, told_of}
-use Rattle.commit_laws.specs.Commits.{ComesFromTheEnd, ComesWhenDone, CommitsStand, IsKept}
+use Rattle.commit_laws.specs.Commits.{IsKept}
 use Rattle.commit_laws.specs.Fates.{Fate, aborts, commits, fate}
 use Rattle.commit_laws.specs.Forth.{ForthIsKnownAlways, IsForth, TellsForth}
-use Rattle.commit_laws.specs.Going.{is_decided, is_forth}
+use Rattle.commit_laws.specs.Going.{is_forth}
 use Rattle.commit_laws.specs.Speaks.{AreSpokenTruly, SaysAbort, SaysCommit}
 use Rattle.commit_laws.proofs.DecidedStay.{forth_decided}
 

@@ -14,7 +14,6 @@ use Rattle.sig_core.specs.declared.signal.chain.ChainSignal.TheVariants.{Abort, 
 use Rattle.sig_core.specs.Same.{same_key, same_tx}
 use Rattle.sig_core.proofs.Keys.{same_tx-self}
 use Rattle.lqh_block.specs.Commit.{is_marker}
-use Rattle.lqh_block.specs.declared.request.Marker.{Marker}
 use Rattle.lqh_views.specs.State.{ReplicaState}
 use Rattle.key_laws.specs.Records.{as_committed, committed, found, if_committed, unless_committed}
 use Rattle.key_laws.specs.Replica.{at_key}
@@ -31,7 +30,7 @@ use Rattle.request_laws.proofs.TokenPlaces.{ldm_no_tc}
 use Rattle.commit_laws.specs.Commits.{ComesWhenDone, HasWritten, IsDone, LeavesTraceOn, committed_there, marked_there}
 use Rattle.commit_laws.specs.Fates.{aborts, commits, fate, fate_if, is_led_by_full}
 use Rattle.commit_laws.specs.Forth.{ForthIsKnownAlways}
-use Rattle.commit_laws.specs.Going.{is_decided, is_forth, is_lost}
+use Rattle.commit_laws.specs.Going.{is_forth, is_lost}
 use Rattle.commit_laws.specs.Markers.{CommitsAreRemembered}
 use Rattle.commit_laws.specs.Together.{AllStand}
 use Rattle.commit_laws.specs.Traces.{has_marker_at, has_trace, is_committed_of, is_known, is_marker_of, leave_trace, members_now, record_at, rows_at}
