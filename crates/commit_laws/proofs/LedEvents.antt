@@ -43,7 +43,7 @@ use Rattle.key_laws.proofs.LockHolding.{expiries_hold_on, grants_hold, releases_
 use Rattle.key_laws.proofs.LockWaiting.{attended_hold}
 use Rattle.key_laws.proofs.Waiting.{each-first_item}
 use Rattle.request_laws.specs.Replicas.{key_installed}
-use Rattle.commit_laws.specs.Led.{FairEventsLead, IsFairTo, IsReady, IsTidy, Leads}
+use Rattle.commit_laws.specs.Led.{FairEventsLead, IsFairTo, IsReady, IsTidy, IsUnkept, Leads}
 use Rattle.commit_laws.proofs.LedMoves.{aborts_lead, commits_lead, completions_lead, grants_lead, images_lead}
 
 -- the key with this cell and lock
@@ -65,7 +65,7 @@ writes_exclusive (Get key) (Some value) is = absurd cc
 writes_exclusive _ row is = refl
 
 module _ (decided final : TxId → Bool) (c : Cell) (lock : RowLock) (tx : TxId) (tidy : IsTidy decided (seen c lock))
-    (off : decided tx ≡ false) where
+    (off : IsUnkept decided final c.pending tx) where
   operated_leads : (op : Op) (refused : Bool) (answer : Answer)
       → (answer ≡ Done → holds_enough tx Exclusive lock.holders ≡ true)
       → Leads decided final (seen c lock) (seen (operated c tx op refused answer) lock)
@@ -87,7 +87,7 @@ module _ (decided final : TxId → Bool) (c : Cell) (lock : RowLock) (tx : TxId)
   work_leads false (Store key image) locked = images_lead decided final (seen c lock) tx key image tidy locked off
 
 module _ (decided final : TxId → Bool) (r : Replica) (ready : IsReady r) (tidy : IsTidy decided (backup_of r)) where
-  request_leads : (q : Request) (refused : Bool) → decided q.tx ≡ false
+  request_leads : (q : Request) (refused : Bool) → IsUnkept decided final r.cell.pending q.tx
       → Leads decided final (backup_of r) (backup_of (key_after (asks q refused) r))
   request_leads q refused off = by (asked r.lock q.tx (work_mode q.work)).answer refl
     where
@@ -107,7 +107,7 @@ module _ (decided final : TxId → Bool) (r : Replica) (ready : IsReady r) (tidy
           (grants_hold r.lock q.tx (work_mode q.work) ready.orderly e))
       by (Queued ahead) e = let_in
 
-  serving_leads : (refused : Bool) → Each (λ (q : Request). decided q.tx ≡ false) r.waiting
+  serving_leads : (refused : Bool) → Each (λ (q : Request). IsUnkept decided final r.cell.pending q.tx) r.waiting
       → Leads decided final (backup_of r) (backup_of (key_after (serves refused) r))
   serving_leads refused fair = by (first (is_let_in r.lock) r.waiting) refl
     where
@@ -116,7 +116,7 @@ module _ (decided final : TxId → Bool) (r : Replica) (ready : IsReady r) (tidy
       by None is = itself decided final (backup_of r) tidy
       by (Some q) is =
           work_leads decided final r.cell r.lock q.tx tidy
-          (each-first_item (λ (x : Request). decided x.tx ≡ false) (is_let_in r.lock) r.waiting q fair is) refused q.work
+          (each-first_item (λ (x : Request). IsUnkept decided final r.cell.pending x.tx) (is_let_in r.lock) r.waiting q fair is) refused q.work
           (attended_hold r.lock q.tx (work_mode q.work)
           (each-first_item (λ (x : Request). is_attended r.lock x.tx (work_mode x.work) ≡ true) (is_let_in r.lock) r.waiting
           q ready.attended is)

@@ -20,7 +20,7 @@ use Rattle.key_laws.specs.Records.{AreOnce, as_committed, committed, committed_r
 use Rattle.key_laws.proofs.Holding.{holds_so, only_holder}
 use Rattle.key_laws.proofs.PrimaryValue.{all_committed}
 use Rattle.key_laws.proofs.RecordLemmas.{KeepsTx, OnlyOf, committed_keeps, each-edited, each-stored, each_apart, each_both, each_found, if_keeps, if_same, kept_row-aborted, kept_row-committed, kept_row-completed, kept_row-one, kept_row-stored, none_first, once-edited, once-stored, unless_keeps, unless_same}
-use Rattle.commit_laws.specs.Led.{IsTidy, Leads}
+use Rattle.commit_laws.specs.Led.{IsTidy, IsUnkept, Leads}
 
 -- what is committed is decided
 abbrev IsOver : (TxId → Bool) → PendingRecord → Type 0
@@ -54,9 +54,6 @@ pub only_prepared : (decided : TxId → Bool) (b : Backup) → IsTidy decided b 
     → found tx b.pending ≡ Some x → x.committed ≡ false → OnlyOf tx b.pending
 only_prepared decided b tidy tx x is waits = only_held decided b tidy tx (prepared_holds decided b tidy tx x is waits)
 
-unkept : (decided final : TxId → Bool) (tx : TxId) → decided tx ≡ false → kept_of decided final tx ≡ false
-unkept decided final tx off = and_left (decided tx) (final tx) off
-
 -- an edit leaves records alone where the transaction has none
 pub edited_none : (f : PendingRecord → Option PendingRecord) (tx : TxId) (xs : List PendingRecord)
     → found tx xs ≡ None → edited f tx xs ≡ xs
@@ -81,6 +78,21 @@ edited_same tx (r ∷ rest) x is done = by (same_tx r.tx tx) refl is (λ more. e
         λ i. record { tx = r.tx; key = r.key; image = r.image; committed = sym own i; epoch = r.epoch } ∷ rest
     by false e is more = ap (λ w. r ∷ w) (more is)
 
+-- and an abort too
+edited_kept : (tx : TxId) (xs : List PendingRecord) (x : PendingRecord) → found tx xs ≡ Some x → x.committed ≡ true
+    → edited if_committed tx xs ≡ xs
+edited_kept tx [] x is done = absurd cc
+edited_kept tx (r ∷ rest) x is done = by (same_tx r.tx tx) refl is (λ more. edited_kept tx rest x more done)
+  where
+    by : (b : Bool) → same_tx r.tx tx ≡ b → (if b then Some r else found tx rest) ≡ Some x
+        → (found tx rest ≡ Some x → edited if_committed tx rest ≡ rest)
+        → (if b then put_back (if_committed r) rest else r ∷ edited if_committed tx rest) ≡ r ∷ rest
+    by true e is more =
+        let one : r ≡ x = cc in
+        let own : r.committed ≡ true = ap (λ (r : PendingRecord). r.committed) one ∙ done in
+        ap (λ c. put_back (if c then Some r else None) rest) own
+    by false e is more = ap (λ w. r ∷ w) (more is)
+
 -- What isn't spoilt afterwards wasn't before: where an image is stored, or a record is committed, or given up, or completed.
 module _ (final : TxId → Bool) where
   abbrev is_clean : List PendingRecord → Type 0
@@ -94,27 +106,22 @@ module _ (final : TxId → Bool) where
       → (is_spoilt final r ≡ false) × is_clean rest
   clean_parts r rest clean = or_parts (is_spoilt final r) (list_any (is_spoilt final) rest) clean
 
-  unspoilt : (decided : TxId → Bool) (r : PendingRecord) → decided r.tx ≡ false → IsOver decided r
-      → is_spoilt final r ≡ false
-  unspoilt decided r off over = by r.committed refl
-    where
-      by : (b : Bool) → r.committed ≡ b → (b && not (final r.tx)) ≡ false
-      by true e = absurd (true≢false (sym (over e) ∙ off))
-      by false e = refl
-
-  clean_stored : (decided : TxId → Bool) (r : PendingRecord) (xs : List PendingRecord) → decided r.tx ≡ false
-      → Each (IsOver decided) xs → is_clean (stored r xs) → is_clean xs
-  clean_stored decided r [] off over clean = refl
-  clean_stored decided r (x ∷ rest) off over clean =
-      by (same_tx x.tx r.tx) refl clean (clean_stored decided r rest off over.1)
+  clean_stored : (r : PendingRecord) (xs : List PendingRecord)
+      → ((x : PendingRecord) → found r.tx xs ≡ Some x → x.committed ≡ false) → is_clean (stored r xs) → is_clean xs
+  clean_stored r [] plain clean = refl
+  clean_stored r (x ∷ rest) plain clean = by (same_tx x.tx r.tx) refl clean (clean_stored r rest)
     where
       by : (b : Bool) → same_tx x.tx r.tx ≡ b → is_clean (if b then r ∷ rest else x ∷ stored r rest)
-          → (is_clean (stored r rest) → is_clean rest) → is_clean (x ∷ rest)
+          → (((y : PendingRecord) → found r.tx rest ≡ Some y → y.committed ≡ false) → is_clean (stored r rest)
+          → is_clean rest) → is_clean (x ∷ rest)
       by true e clean more =
-          clean_both x rest (unspoilt decided x (ap decided (same_tx-is x.tx r.tx e) ∙ off) over.0)
+          clean_both x rest
+          (and_left x.committed (not (final x.tx)) (plain x (ap (λ b. if b then Some x else found r.tx rest) e)))
           (clean_parts r rest clean).1
       by false e clean more =
-          let parts = clean_parts x (stored r rest) clean in clean_both x rest parts.0 (more parts.1)
+          let parts = clean_parts x (stored r rest) clean in
+          clean_both x rest parts.0
+          (more (λ y is. plain y (ap (λ b. if b then Some x else found r.tx rest) e ∙ is)) parts.1)
 
   module _ (tx : TxId) where
     -- how an edit may leave the transaction's record
@@ -176,9 +183,9 @@ grants_lead decided final b holders tidy on = record {
   led = λ value led. led;
 }
 
--- an image of a transaction that holds the lock exclusive, and isn't decided
+-- an image of a transaction that holds the lock exclusive, and isn't kept
 pub images_lead : (decided final : TxId → Bool) (b : Backup) (tx : TxId) (key : List ℕ) (image : Option (List ℕ))
-    → IsTidy decided b → holds_enough tx Exclusive b.holders ≡ true → decided tx ≡ false
+    → IsTidy decided b → holds_enough tx Exclusive b.holders ≡ true → IsUnkept decided final b.pending tx
     → Leads decided final b
     (record { row = b.row; pending = stored (rows.prepared tx key image) b.pending; holders = b.holders })
 images_lead decided final b tx key image tidy exclusive off = record {
@@ -189,8 +196,8 @@ images_lead decided final b tx key image tidy exclusive off = record {
     done = each-stored (IsOver decided) (rows.prepared tx key image) b.pending (λ over. absurd cc) tidy.done;
   };
   led = λ value led clean.
-      kept_row-stored (kept_of decided final) b.row (rows.prepared tx key image) b.pending (unkept decided final tx off)
-      ∙ led (clean_stored final decided (rows.prepared tx key image) b.pending off tidy.done clean);
+      kept_row-stored (kept_of decided final) b.row (rows.prepared tx key image) b.pending off.unkept
+      ∙ led (clean_stored final (rows.prepared tx key image) b.pending off.plain clean);
 }
 
 -- a commit, by which the transaction may let go of the lock
@@ -322,8 +329,28 @@ module _ (decided final : TxId → Bool) (b : Backup) (tx : TxId) (holders : Lis
         ∙ led (clean_completed final tx b.pending (λ x is. (told x is).1) clean);
   }
 
-  -- an abort, of one that isn't
-  pub aborts_lead : kept_of decided final tx ≡ false
+  -- an abort, of one that isn't, if it has something to give up
+  aborted_row : (HasPrepared tx b.pending → kept_of decided final tx ≡ false)
+      → kept_row (kept_of decided final) b.row (edited if_committed tx b.pending)
+      ≡ kept_row (kept_of decided final) b.row b.pending
+  aborted_row told = by (found tx b.pending) refl
+    where
+      at : (x : PendingRecord) → found tx b.pending ≡ Some x → (c : Bool) → x.committed ≡ c
+          → kept_row (kept_of decided final) b.row (edited if_committed tx b.pending)
+          ≡ kept_row (kept_of decided final) b.row b.pending
+      at x is true done =
+          ap (kept_row (kept_of decided final) b.row) (edited_kept tx b.pending x is done)
+      at x is false waits =
+          kept_row-aborted (kept_of decided final) b.row tx b.pending
+          (told (record { record_is = x; there = is; prepared = waits }))
+
+      by : (o : Option PendingRecord) → found tx b.pending ≡ o
+          → kept_row (kept_of decided final) b.row (edited if_committed tx b.pending)
+          ≡ kept_row (kept_of decided final) b.row b.pending
+      by None is = ap (kept_row (kept_of decided final) b.row) (edited_none if_committed tx b.pending is)
+      by (Some x) is = at x is x.committed refl
+
+  pub aborts_lead : (HasPrepared tx b.pending → kept_of decided final tx ≡ false)
       → Leads decided final b (record { row = b.row; pending = edited if_committed tx b.pending; holders = holders })
   aborts_lead off = record {
     tidy = record {
@@ -334,7 +361,7 @@ module _ (decided final : TxId → Bool) (b : Backup) (tx : TxId) (holders : Lis
       done = over_after if_committed if_same;
     };
     led = λ value led clean.
-        kept_row-aborted (kept_of decided final) b.row tx b.pending off ∙ led (clean_given_up final tx b.pending clean);
+        aborted_row off ∙ led (clean_given_up final tx b.pending clean);
   }
     where
       stayed : (r y : PendingRecord) (c : Bool) → r.committed ≡ c → (if c then Some r else None) ≡ Some y

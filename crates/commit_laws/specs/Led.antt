@@ -28,15 +28,20 @@ pub record Leads (decided final : TxId → Bool) (before after : Backup) : Type 
   pub led : (value : Option (List ℕ)) → IsLedUnlessSpoilt decided final value before
       → IsLedUnlessSpoilt decided final value after
 
--- What the rest of the machine owes the key: requests are of transactions that aren't decided, commits of those that are;
--- completions come behind the commit, of those that are kept in the end; and aborts are of those that aren't kept.
+-- the transaction isn't kept in the end, and has nothing committed here
+pub record IsUnkept (decided final : TxId → Bool) (pending : List PendingRecord) (tx : TxId) : Type 0 where
+  pub unkept : kept_of decided final tx ≡ false
+  pub plain : (x : PendingRecord) → found tx pending ≡ Some x → x.committed ≡ false
+
+-- What the rest of the machine owes the key: requests are of transactions that aren't kept, commits of those that are
+-- decided; completions come behind the commit, of those that are kept in the end; and what is given up isn't kept.
 abbrev pub IsFairTo : (decided final : TxId → Bool) → Replica → Event → Type 0
-IsFairTo decided final r (asks q refused) = decided q.tx ≡ false
-IsFairTo decided final r (serves refused) = Each (λ (q : Request). decided q.tx ≡ false) r.waiting
+IsFairTo decided final r (asks q refused) = IsUnkept decided final r.cell.pending q.tx
+IsFairTo decided final r (serves refused) = Each (λ (q : Request). IsUnkept decided final r.cell.pending q.tx) r.waiting
 IsFairTo decided final r (commits tx first) = HasPrepared tx r.cell.pending → decided tx ≡ true
 IsFairTo decided final r (completes tx) =
     (x : PendingRecord) → found tx r.cell.pending ≡ Some x → (x.committed ≡ true) × (final tx ≡ true)
-IsFairTo decided final r (aborts tx) = kept_of decided final tx ≡ false
+IsFairTo decided final r (aborts tx) = HasPrepared tx r.cell.pending → kept_of decided final tx ≡ false
 IsFairTo decided final r event = Unit {0}
 
 -- who waits for the lock of the key is attended to
