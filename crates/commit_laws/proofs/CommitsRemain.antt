@@ -98,7 +98,8 @@ record_there P s tx key r all is = by (record_of s tx key) refl
         }
 
 -- what is so of each marker is so of the transaction of one that is there
-marker_so : (F : TxId → Type 0) (tx : TxId) (key : List ℕ) (markers : List Marker) → Each (λ (m : Marker). F m.tx) markers
+marker_so : (F : TxId → Type 0) (tx : TxId) (key : List ℕ) (markers : List Marker)
+    → Each (λ (m : Marker). F m.tx) markers
     → list_any (is_marker tx key) markers ≡ true → F tx
 marker_so F tx key [] all is = absurd (true≢false (sym is))
 marker_so F tx key (m ∷ markers) all is =
@@ -168,7 +169,8 @@ module _ (forth : ForthIsKnownAlways) where
             (taken_told start (λ (x : Addressed). IsKnownIf start old x.signal.body) all e es moment
             (acknowledged start all es before) ack.takes.now.sound
             (λ own. absurd (subst (IsOwnWork start e.host) ack.body_is own))
-            (λ closes. absurd (let both : Client (TcCommitAck tx) ≡ Host (Closed closes.cause) = sym ack.body_is ∙ closes.is in cc)))
+            (λ closes. absurd (let both : Client (TcCommitAck tx) ≡ Host (Closed closes.cause) = sym ack.body_is
+            ∙ closes.is in cc)))
 
         abbrev record_was : Option PendingRecord
         record_was = record_at start old member key tx
@@ -196,7 +198,8 @@ module _ (forth : ForthIsKnownAlways) where
               by (inr told) = known told
 
           -- a committed record is remembered
-          pub record_remembered : (r : PendingRecord) → record_was ≡ Some r → r.committed ≡ true → is_remembered old ≡ true
+          pub record_remembered : (r : PendingRecord) → record_was ≡ Some r → r.committed ≡ true
+              → is_remembered old ≡ true
           record_remembered r is done =
               let own =
               record_there (IsRemembered start old member)

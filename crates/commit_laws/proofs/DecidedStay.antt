@@ -93,7 +93,8 @@ module _ (start : Start) (all : ℕ → List HostStep) (e : HostStep) (es : List
 
     pub forth_more : (tx : TxId) → is_forth start old tx ≡ true → is_forth start new tx ≡ true
     forth_more tx is =
-        log_grows (λ log. has_gone_forth start (coordinator_member tx) tx log ≡ true) (tc_of start (coordinator_member tx))
+        log_grows (λ log. has_gone_forth start (coordinator_member tx) tx log ≡ true)
+        (tc_of start (coordinator_member tx))
         (λ at was. gone_stays start (coordinator_member tx) tx is_in_commit (tells_commit tx)
         (old (tc_of start (coordinator_member tx))) e was) is
 

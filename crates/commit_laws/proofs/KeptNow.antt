@@ -103,9 +103,11 @@ module _ (forth : ForthIsKnownAlways) where
 
       -- rows that have a trace of it tell that it was committed
       pub trace_forth : (member : Member) → IsIn member (made start)
-          → leave_trace tx (rows_at start (logs_of start es) member) ≡ true → is_forth start (logs_of start es) tx ≡ true
+          → leave_trace tx (rows_at start (logs_of start es) member) ≡ true
+          → is_forth start (logs_of start es) tx ≡ true
       trace_forth member there is =
-          by (or_either (list_any (is_committed_of tx) rows.lqh.rows.pending) (list_any (is_marker_of tx) rows.lqh.markers) is)
+          by (or_either (list_any (is_committed_of tx) rows.lqh.rows.pending)
+              (list_any (is_marker_of tx) rows.lqh.markers) is)
         where
           rows : ReplicaState
           rows = rows_at start logs member
@@ -116,7 +118,8 @@ module _ (forth : ForthIsKnownAlways) where
               let one = passing (is_committed_of tx) rows.lqh.rows.pending some in
               let own = and_parts (same_tx one.one.tx tx) one.one.committed one.passes in
               let told =
-              each_of (λ (r : PendingRecord). IsDecidedIf (λ u epoch. IsForth start logs u) (IsForth start logs) r r.committed)
+              each_of (λ (r : PendingRecord). IsDecidedIf (λ u epoch. IsForth start logs u) (IsForth start logs) r
+              r.committed)
               rows.lqh.rows.pending one.one ((forth start all es moment).rows member there).records one.inside in
               subst (IsForth start logs) (same_tx-is one.one.tx tx own.0)
               (subst (λ b. IsDecidedIf (λ u epoch. IsForth start logs u) (IsForth start logs) one.one b) own.1 told)
@@ -137,7 +140,8 @@ module _ (forth : ForthIsKnownAlways) where
           by (inl known) = (forth start all es moment).known tx known
           by (inr (inl gone)) = gone
           by (inr (inr trace)) =
-              let one = passing (λ (member : Member). leave_trace tx (rows_at start logs member)) (members_now start logs) trace in
+              let one = passing (λ (member : Member). leave_trace tx (rows_at start logs member))
+                  (members_now start logs) trace in
               trace_forth one.one (member_made start all es moment one.one one.inside) one.passes
 
       -- of who is decided and doesn't abort nothing is asked any more
@@ -167,7 +171,8 @@ module _ (forth : ForthIsKnownAlways) where
           by (inr (inl (full, inl is))) = gone is
           by (inr (inl (full, inr off))) = either (spared (is_forth start logs tx) (is_back start logs tx) _ off)
           by (inr (inr (full, trace))) =
-              let one = passing (λ (member : Member). leave_trace tx (rows_at start logs member)) (members_now start logs) trace in
+              let one = passing (λ (member : Member). leave_trace tx (rows_at start logs member))
+                  (members_now start logs) trace in
               gone (trace_forth one.one (member_made start all es moment one.one one.inside) one.passes)
 
   module _ (start : Start) (all : ℕ → List HostStep) (e : HostStep) (es : List HostStep)
@@ -225,7 +230,8 @@ module _ (forth : ForthIsKnownAlways) where
 
       module _ (decides : DecidesNow) where
         -- rows, and what the client's side knows, are as before
-        pub rows_same : (member : Member) → IsIn member (made start) → rows_at start new member ≡ rows_at start old member
+        pub rows_same : (member : Member) → IsIn member (made start)
+            → rows_at start new member ≡ rows_at start old member
         rows_same member there =
             ap (rows_after start member)
             (log_of-other (machine start) e es (ldm_of start member)
@@ -245,7 +251,8 @@ module _ (forth : ForthIsKnownAlways) where
         is_now isnt kept = record {
           epoch = decides.epoch;
           marked = decides.marked;
-          full = full_was (by_fate (not_aborting (is_known start new tx) (is_led_by_full start new tx) (is_forth start new tx)
+          full = full_was (by_fate (not_aborting (is_known start new tx) (is_led_by_full start new tx)
+              (is_forth start new tx)
               (is_lost start new tx) (has_trace start new tx) kept.fate_is));
           spared = spared (is_lost start old tx) refl
               (not_aborting (is_known start new tx) (is_led_by_full start new tx) (is_forth start new tx)

@@ -103,7 +103,8 @@ module _ (forth : ForthIsKnownAlways) (remembered : CommitsAreRemembered) (ackno
           let there = replica_made start all es before key member was in
           let primary = first_of (chain_of (layout_in start (current start old)) key) member was.chained in
           by there primary
-          (subst (λ b. HasImageIf b (row_behind start old key primary.one ops) (record_at start old member key tx)) written
+          (subst (λ b. HasImageIf b (row_behind start old key primary.one ops) (record_at start old member key tx))
+          written
           ((settled_on key).images primary.one primary.is member was))
         where
           by : IsIn member (made start)
@@ -155,7 +156,8 @@ module _ (forth : ForthIsKnownAlways) (remembered : CommitsAreRemembered) (ackno
           })
           by false full c chained =
               nowhere (λ replica.
-              true≢false (sym (any_of (is_member member) (current start old).full member replica.full (self member)) ∙ full))
+              true≢false (sym (any_of (is_member member) (current start old).full member replica.full (self member))
+              ∙ full))
           by true full false chained =
               nowhere (λ replica.
               true≢false (sym (any_of (is_member member) (chain_of (layout_in start (current start old)) key) member
@@ -174,12 +176,14 @@ module _ (forth : ForthIsKnownAlways) (remembered : CommitsAreRemembered) (ackno
       not_aborted : (member : Member) (there : IsIn member (made start)) (key : List ℕ)
           → TakesNow start all e es moment member there → e.step.taken.body ≡ Chain (Abort tx key) → ⊥
       not_aborted member there key takes about =
-          kept.fate_is (abort_aborts start all e es moment takes.now (Abort tx key) about forth stood.spoken tx key refl)
+          kept.fate_is (abort_aborts start all e es moment takes.now (Abort tx key) about forth stood.spoken tx key
+          refl)
 
       old_records : (member : Member) → IsIn member (made start) → (key : List ℕ) (r : PendingRecord)
           → record_at start new member key tx ≡ Some r
           → HasWritten start old tx key × (r.image ≡ image_by (decided_ops start old tx) key)
-      old_records member there key r is = by (goes member there key).record_goes (record_at start old member key tx) refl
+      old_records member there key r is = by (goes member there key).record_goes (record_at start old member key tx)
+          refl
         where
           was : (own : PendingRecord) → record_at start old member key tx ≡ Some own → r.image ≡ own.image
               → HasWritten start old tx key × (r.image ≡ image_by (decided_ops start old tx) key)
@@ -262,7 +266,8 @@ module _ (forth : ForthIsKnownAlways) (remembered : CommitsAreRemembered) (ackno
     pub held_now : (tx : TxId) → IsKept start (logs_of start (e ∷ es)) tx
         → is_known start (logs_of start (e ∷ es)) tx ≡ false → (key : List ℕ)
         → HasWritten start (logs_of start (e ∷ es)) tx key → (member : Member)
-        → IsReplicaOf start (logs_of start (e ∷ es)) key member → HoldsImage start (logs_of start (e ∷ es)) member key tx
+        → IsReplicaOf start (logs_of start (e ∷ es)) key member
+        → HoldsImage start (logs_of start (e ∷ es)) member key tx
     held_now tx kept unknown key written member is = by (is_decided start old tx) refl
       where
         by : (b : Bool) → is_decided start old tx ≡ b → HoldsImage start new member key tx
@@ -272,7 +277,8 @@ module _ (forth : ForthIsKnownAlways) (remembered : CommitsAreRemembered) (ackno
             let replica = replica_before start all e es moment key member is in
             let off = unknown_before start all e es moment tx unknown in
             old_held tx was off member (replica_made start all es before key member replica) key
-            (stood.commits.held tx was off key (written_before start all e es moment tx key decided written) member replica)
+            (stood.commits.held tx was off key (written_before start all e es moment tx key decided written) member
+            replica)
 
     pub records_now : (tx : TxId) → IsKept start (logs_of start (e ∷ es)) tx → (member : Member)
         → IsIn member (made start) → (key : List ℕ) (r : PendingRecord)

@@ -1,5 +1,5 @@
--- What a signal makes of the marker of one transaction on one key: it stays until the client's side knows of the commit,
--- and comes where a prepared record is committed.
+-- What a signal makes of the marker of one transaction on one key: it stays until the client's side knows of the
+-- commit, and comes where a prepared record is committed.
 use Rattle.std.proofs.Common.{◌≡◌, ◌⊎◌, ◌||◌, ◌++◌, ◌∙◌, ℕ, Bool, true, false, cond, filter, List, [], ◌∷◌, refl, sym, ap, subst, inl, inr}
 use Rattle.std.proofs.lemmas.Bool.{and_parts, true≢false}
 use Rattle.std.specs.Prelude.{not, Option, None, Some}
