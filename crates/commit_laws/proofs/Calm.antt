@@ -1,7 +1,7 @@
 -- Of whoever was committed nothing is asked any more: it isn't given up, and has nothing unanswered; so rows do nothing
 -- for it in the current view but what commits, completions and aborts tell.
 use Rattle.std.proofs.Common.{◌≡◌, ◌≤◌, ◌<◌, ◌⊎◌, ◌==◌, ◌&&◌, ◌||◌, ◌∙◌, ℕ, Bool, true, false, List, [], ◌∷◌, eq-eqb, refl, sym, ap, subst, arith, inl, inr}
-use Rattle.std.proofs.lemmas.Bool.{cases_lt, true≢false}
+use Rattle.std.proofs.lemmas.Bool.{cases_lt, or_cases, true≢false}
 use Rattle.std.specs.Prelude.{if◌then◌else◌, is_some, not, Option, None, Some}
 use Rattle.std.specs.List.{count_by, list_any}
 use Rattle.run_theory.specs.Lists.{Each, IsIn}
@@ -75,10 +75,6 @@ pub record IsDecidedAt (log : List HostStep) (tx : TxId) : Type 0 where
   pub epoch : ℕ
   pub marked : IsMarked (Decided tx epoch) log
 
-or_either : (a b : Bool) → (a || b) ≡ true → (a ≡ true) ⊎ (b ≡ true)
-or_either true b is = inl refl
-or_either false b is = inr is
-
 -- one of these marks is a decision of it
 pub record Decision (tx : TxId) (marks : List Mark) : Type 0 where
   pub epoch : ℕ
@@ -86,7 +82,7 @@ pub record Decision (tx : TxId) (marks : List Mark) : Type 0 where
 
 pub decision_in : (tx : TxId) (marks : List Mark) → list_any (is_decision tx) marks ≡ true → Decision tx marks
 decision_in tx [] is = absurd (true≢false (sym is))
-decision_in tx (mark ∷ marks) is = by mark (or_either (is_decision tx mark) (list_any (is_decision tx) marks) is)
+decision_in tx (mark ∷ marks) is = by mark (or_cases (is_decision tx mark) (list_any (is_decision tx) marks) is)
     (decision_in tx marks)
   where
     more : (mark : Mark) → Decision tx marks → Decision tx (mark ∷ marks)
@@ -102,7 +98,7 @@ decision_in tx (mark ∷ marks) is = by mark (or_either (is_decision tx mark) (l
 pub decided_at : (log : List HostStep) (tx : TxId) → has_mark (is_decision tx) log ≡ true → IsDecidedAt log tx
 decided_at [] tx is = absurd (true≢false (sym is))
 decided_at (e ∷ log) tx is =
-    by (or_either (list_any (is_decision tx) e.step.marks) (has_mark (is_decision tx) log) is) (decided_at log tx)
+    by (or_cases (list_any (is_decision tx) e.step.marks) (has_mark (is_decision tx) log) is) (decided_at log tx)
   where
     by : (list_any (is_decision tx) e.step.marks ≡ true) ⊎ (has_mark (is_decision tx) log ≡ true)
         → (has_mark (is_decision tx) log ≡ true → IsDecidedAt log tx) → IsDecidedAt (e ∷ log) tx
