@@ -1,4 +1,5 @@
--- Rows mark a key to be applied where they take the commit of a record at the first place of its chain, and nowhere else.
+-- Rows mark a key to be applied where they take the commit of a record at the first place of its chain, and nowhere
+-- else.
 use Rattle.std.proofs.Common.{◌≡◌, ◌⊎◌, ◌==◌, ◌++◌, ◌∙◌, ℕ, Bool, true, false, List, [], ◌∷◌, refl, sym, ap, subst, inl, inr}
 use Rattle.std.proofs.lemmas.Bool.{eqb-true, true≢false}
 use Rattle.std.specs.Prelude.{Option, None, Some}
@@ -99,11 +100,13 @@ record Applies (s : ReplicaState) (x : Signal) (tx : TxId) (key : List ℕ) : Ty
 abbrev IsOf : ReplicaState → Signal → TxId → List ℕ → Mark → Type 0
 IsOf s x tx key mark = mark ≡ Applied tx key → Applies s x tx key
 
-rows_apply : (s : ReplicaState) (x : Signal) (tx : TxId) (key : List ℕ) → Each (IsOf s x tx key) (replica_row s x).effects.marks
+rows_apply : (s : ReplicaState) (x : Signal) (tx : TxId) (key : List ℕ)
+    → Each (IsOf s x tx key) (replica_row s x).effects.marks
 rows_apply s x tx key =
     rows_mark_each (IsOf s x tx key) s x (record {
       prepared = λ u own is. absurd cc;
-      applied = λ u own epoch chain at committed about first there is. applies u own epoch chain at committed about first there is;
+      applied = λ u own epoch chain at committed about first there is. applies u own epoch chain at committed about
+          first there is;
       completed = λ u own chain at about is. absurd cc;
       given_up = λ u own about there is. absurd cc;
       expired = λ u own is. absurd cc;
@@ -137,7 +140,8 @@ in_back x [] ys there = there
 in_back x (y ∷ xs) ys there = inr (in_back x xs ys there)
 
 module _ (start : Start) (all : ℕ → List HostStep) (e : HostStep) (es : List HostStep)
-    (moment : IsMoment start all (e ∷ es)) (member : Member) (there : IsIn member (made start)) (tx : TxId) (key : List ℕ)
+    (moment : IsMoment start all (e ∷ es)) (member : Member) (there : IsIn member (made start)) (tx : TxId)
+    (key : List ℕ)
   where
     abbrev old : ℕ → List HostStep
     old = logs_of start es
@@ -155,7 +159,8 @@ module _ (start : Start) (all : ℕ → List HostStep) (e : HostStep) (es : List
         subst (IsIn (Applied tx key)) (sym takes.taken.marks_are)
         (in_back (Applied tx key) takes.taken.front (replica_row takes.rows e.step.taken).effects.marks
         (subst (IsIn (Applied tx key))
-        (sym (commit_marks takes.rows e.step.taken tx key epoch chain about own.committed (state_was takes ∙ ap state_by is)))
+        (sym (commit_marks takes.rows e.step.taken tx key epoch chain about own.committed
+        (state_was takes ∙ ap state_by is)))
         (inl refl)))
 
     -- rows take a commit of a record at the first place
@@ -181,7 +186,8 @@ module _ (start : Start) (all : ℕ → List HostStep) (e : HostStep) (es : List
       where
         none : Each (λ mark. is_applied mark ≡ false) e.step.marks → ⊥
         none all_off =
-            not_applied (Applied tx key) (each_in (λ mark. is_applied mark ≡ false) (Applied tx key) e.step.marks all_off marked)
+            not_applied (Applied tx key) (each_in (λ mark. is_applied mark ≡ false) (Applied tx key) e.step.marks
+            all_off marked)
             refl
 
         from_rows : (s : ReplicaState) (between : IsBetween start all e es moment member there s)

@@ -1,7 +1,7 @@
--- Of whoever was committed nothing is asked any more: it isn't given up, and has nothing unanswered; so rows do nothing for
--- it in the current view but what commits, completions and aborts tell.
+-- Of whoever was committed nothing is asked any more: it isn't given up, and has nothing unanswered; so rows do nothing
+-- for it in the current view but what commits, completions and aborts tell.
 use Rattle.std.proofs.Common.{◌≡◌, ◌≤◌, ◌<◌, ◌⊎◌, ◌==◌, ◌&&◌, ◌||◌, ◌∙◌, ℕ, Bool, true, false, List, [], ◌∷◌, eq-eqb, refl, sym, ap, subst, arith, inl, inr}
-use Rattle.std.proofs.lemmas.Bool.{cases_lt, true≢false}
+use Rattle.std.proofs.lemmas.Bool.{cases_lt, or_cases, true≢false}
 use Rattle.std.specs.Prelude.{if◌then◌else◌, is_some, not, Option, None, Some}
 use Rattle.std.specs.List.{count_by, list_any}
 use Rattle.run_theory.specs.Lists.{Each, IsIn}
@@ -75,10 +75,6 @@ pub record IsDecidedAt (log : List HostStep) (tx : TxId) : Type 0 where
   pub epoch : ℕ
   pub marked : IsMarked (Decided tx epoch) log
 
-or_either : (a b : Bool) → (a || b) ≡ true → (a ≡ true) ⊎ (b ≡ true)
-or_either true b is = inl refl
-or_either false b is = inr is
-
 -- one of these marks is a decision of it
 pub record Decision (tx : TxId) (marks : List Mark) : Type 0 where
   pub epoch : ℕ
@@ -86,7 +82,8 @@ pub record Decision (tx : TxId) (marks : List Mark) : Type 0 where
 
 pub decision_in : (tx : TxId) (marks : List Mark) → list_any (is_decision tx) marks ≡ true → Decision tx marks
 decision_in tx [] is = absurd (true≢false (sym is))
-decision_in tx (mark ∷ marks) is = by mark (or_either (is_decision tx mark) (list_any (is_decision tx) marks) is) (decision_in tx marks)
+decision_in tx (mark ∷ marks) is = by mark (or_cases (is_decision tx mark) (list_any (is_decision tx) marks) is)
+    (decision_in tx marks)
   where
     more : (mark : Mark) → Decision tx marks → Decision tx (mark ∷ marks)
     more mark d = record { epoch = d.epoch; inside = inr d.inside }
@@ -101,7 +98,7 @@ decision_in tx (mark ∷ marks) is = by mark (or_either (is_decision tx mark) (l
 pub decided_at : (log : List HostStep) (tx : TxId) → has_mark (is_decision tx) log ≡ true → IsDecidedAt log tx
 decided_at [] tx is = absurd (true≢false (sym is))
 decided_at (e ∷ log) tx is =
-    by (or_either (list_any (is_decision tx) e.step.marks) (has_mark (is_decision tx) log) is) (decided_at log tx)
+    by (or_cases (list_any (is_decision tx) e.step.marks) (has_mark (is_decision tx) log) is) (decided_at log tx)
   where
     by : (list_any (is_decision tx) e.step.marks ≡ true) ⊎ (has_mark (is_decision tx) log ≡ true)
         → (has_mark (is_decision tx) log ≡ true → IsDecidedAt log tx) → IsDecidedAt (e ∷ log) tx
@@ -115,7 +112,8 @@ pub record IsCalm (start : Start) (logs : ℕ → List HostStep) (tx : TxId) : T
   pub back : is_back start logs tx ≡ false
   pub answered : has_asked (own_live start logs tx) ≡ false
 
-module _ (start : Start) (all : ℕ → List HostStep) (es : List HostStep) (moment : IsMoment start all es) (tx : TxId) where
+module _ (start : Start) (all : ℕ → List HostStep) (es : List HostStep) (moment : IsMoment start all es) (tx : TxId)
+    where
   abbrev logs : ℕ → List HostStep
   logs = logs_of start es
 
@@ -176,7 +174,8 @@ module _ (start : Start) (all : ℕ → List HostStep) (es : List HostStep) (mom
       given = (stands there).decided tx at.epoch at.marked
 
       by : HasGone start (coordinator_member tx) (own_log start logs tx) tx
-          ⊎ WaitsWith start (coordinator_member tx) (own_log start logs tx) tx given.ops → has_asked (own_live start logs tx) ≡ false
+          ⊎ WaitsWith start (coordinator_member tx) (own_log start logs tx) tx given.ops
+          → has_asked (own_live start logs tx) ≡ false
       by (inl (inl forth)) = forth_answered there forth (own_live start logs tx) refl
       by (inl (inr gone)) = absurd (true≢false (sym gone ∙ back))
       by (inr waits) =
@@ -245,7 +244,8 @@ module _ (start : Start) (all : ℕ → List HostStep) (e : HostStep) (es : List
         → Each (λ (q : Request). same_tx q.tx tx ≡ false) s.lqh.waiting
     alone_waits s between taken is = by between
       where
-        by : IsBetween start all e es moment member there s → Each (λ (q : Request). same_tx q.tx tx ≡ false) s.lqh.waiting
+        by : IsBetween start all e es moment member there s
+            → Each (λ (q : Request). same_tx q.tx tx ≡ false) s.lqh.waiting
         by (as_was same stays) =
             let stood =
             sym (ap (λ (v : View). v.number) stays)
@@ -296,7 +296,8 @@ module _ (start : Start) (all : ℕ → List HostStep) (e : HostStep) (es : List
             let alone : IsAlone start old tx now =
             taken_alone start all e es moment tx calm.made
             (asked (x.from.0 == e.host) (is_own_work x.body) (is_well_formed start.shape x) plain.0 taken.sound)
-            (both (is_token tx x.body) (x.view.number == now) is (eq-eqb x.view.number now (taken.fresh (plain.1 x)))) in
+            (both (is_token tx x.body) (x.view.number == now) is (eq-eqb x.view.number now (taken.fresh (plain.1 x))))
+            in
             absurd (true≢false (sym alone.may ∙ calm_stops start all es before tx now calm))
 
     none_wait : view_after start (ldm_of start member) (e ∷ old (ldm_of start member))
@@ -312,7 +313,8 @@ module _ (start : Start) (all : ℕ → List HostStep) (e : HostStep) (es : List
 
         quiet : IsQuiet start old tx (number_now start old)
         quiet =
-            quiet_unless_asked start all es before tx calm.made (calm_stops start all es before tx (number_now start old) calm)
+            quiet_unless_asked start all es before tx calm.made
+            (calm_stops start all es before tx (number_now start old) calm)
 
         stood : number ≡ now
         stood =
@@ -337,7 +339,8 @@ module _ (start : Start) (all : ℕ → List HostStep) (e : HostStep) (es : List
         → IsTakenAt start all e es moment member there s → IsIdle tx key s.lqh x.body
     calm_idle key s between taken = record { taken = no_token taken.now; waits = by between }
       where
-        by : IsBetween start all e es moment member there s → Each (λ (q : Request). same_tx q.tx tx ≡ false) s.lqh.waiting
+        by : IsBetween start all e es moment member there s
+            → Each (λ (q : Request). same_tx q.tx tx ≡ false) s.lqh.waiting
         by (as_was is stays) =
             subst (λ (s : ReplicaState). Each (λ (q : Request). same_tx q.tx tx ≡ false) s.lqh.waiting) (sym is)
             (none_wait stays taken.at taken.now)

@@ -1,5 +1,5 @@
--- Where rows take a commit or a completion: the record is committed, and the chain is that of the key in the current view,
--- with their member at the place.
+-- Where rows take a commit or a completion: the record is committed, and the chain is that of the key in the current
+-- view, with their member at the place.
 use Rattle.std.proofs.Common.{◌≡◌, ◌<◌, ◌==◌, ◌∙◌, ℕ, zero, suc, Bool, true, false, length, List, [], ◌∷◌, refl, sym, ap, subst, arith, inl, inr}
 use Rattle.std.specs.Prelude.{if◌then◌else◌, Some}
 use Rattle.std.specs.List.{slice_get}
@@ -129,7 +129,8 @@ module _ (start : Start) (all : ℕ → List HostStep) (e : HostStep) (es : List
     module _ (tx : TxId) (key : List ℕ) (epoch : ℕ) (chain : List Member) (at : ℕ)
         (about : e.step.taken.body ≡ Chain (Commit tx key epoch chain at))
       where
-        pub commit_event : replica_at start new member key ≡ key_after (commits tx (at == 0)) (at_key key takes.rows.lqh)
+        pub commit_event : replica_at start new member key
+            ≡ key_after (commits tx (at == 0)) (at_key key takes.rows.lqh)
         commit_event =
             chain_event (Commit tx key epoch chain at) about key
             ∙ ap (λ event. key_after event (at_key key s.lqh)) (on_self key (commits tx (at == 0)))
@@ -163,7 +164,8 @@ module _ (start : Start) (all : ℕ → List HostStep) (e : HostStep) (es : List
       routed : IsRouted (layout_in start (current start old)) (WasAskedIn start old (current start old))
           (WasDrivenIn start old (current start old)) (IsGivenUp start old) x.to (Chain signal)
       routed =
-          subst (λ v. IsRouted (layout_in start v) (WasAskedIn start old v) (WasDrivenIn start old v) (IsGivenUp start old) x.to
+          subst (λ v. IsRouted (layout_in start v) (WasAskedIn start old v) (WasDrivenIn start old v)
+          (IsGivenUp start old) x.to
           (Chain signal)) header
           (subst (IsRouted (layout_in start x.view) (WasAskedIn start old x.view) (WasDrivenIn start old x.view)
           (IsGivenUp start old) x.to) is
@@ -171,7 +173,8 @@ module _ (start : Start) (all : ℕ → List HostStep) (e : HostStep) (es : List
           (signals_are_routed start all es before).signals))
 
       placed : x.to ≡ rows_of member.node
-      placed = is_for_rows start all e es moment member there takes.at takes.now.sound takes.now.block (ap is_of_rows is)
+      placed = is_for_rows start all e es moment member there takes.at takes.now.sound takes.now.block
+          (ap is_of_rows is)
 
       -- who stands at the place to which it went
       module _ (key : List ℕ) (chain : List Member) (at : ℕ)
@@ -205,7 +208,8 @@ module _ (start : Start) (all : ℕ → List HostStep) (e : HostStep) (es : List
     commit_place whole tx key epoch chain at about written =
         (along, taker_place (Commit tx key epoch chain at) about key chain at along way.0.inside way.0.place)
       where
-        way : IsCommitRouted (layout_in start (current start old)) x.to key chain at × WasDrivenIn start old (current start old) tx
+        way : IsCommitRouted (layout_in start (current start old)) x.to key chain at
+            × WasDrivenIn start old (current start old) tx
         way = routed (Commit tx key epoch chain at) about
 
         along : chain ≡ chain_of (layout_in start (current start old)) key

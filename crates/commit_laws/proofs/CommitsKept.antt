@@ -1,4 +1,5 @@
--- What stands of commits at a moment stands behind the next event, where all stands at the moment; and it stands at first.
+-- What stands of commits at a moment stands behind the next event, where all stands at the moment; and it stands at
+-- first.
 use Rattle.run_theory.specs.Links.{sent}
 use Rattle.run_theory.proofs.Pasts.{each_map}
 use Rattle.sig_core.specs.declared.signal.Body.{Body}

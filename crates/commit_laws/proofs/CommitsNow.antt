@@ -1,5 +1,5 @@
--- Behind a commit that rows take, the key is committed at their place of its chain and at those behind; at the first place
--- it is so at all replicas, and was applied.
+-- Behind a commit that rows take, the key is committed at their place of its chain and at those behind; at the first
+-- place it is so at all replicas, and was applied.
 use Rattle.std.proofs.Common.{◌≡◌, ◌<◌, ◌≤◌, ◌⊎◌, ◌||◌, ◌∙◌, ℕ, Bool, true, false, List, ◌∷◌, eq-or-lt_of_le, refl, sym, ap, subst, arith, inl, inr}
 use Rattle.std.proofs.lemmas.Bool.{cases_eq, or_left, or_right}
 use Rattle.std.specs.Prelude.{Option, None, Some}
@@ -59,9 +59,11 @@ module _ (forth : ForthIsKnownAlways) (remembered : CommitsAreRemembered) (ackno
         (tx : TxId) (key : List ℕ) (epoch : ℕ) (chain : List Member) (at : ℕ)
         (about : e.step.taken.body ≡ Chain (Commit tx key epoch chain at)) (written : HasWritten start old tx key)
       where
-        abbrev kept : IsKeptForth start all e es moment takes.now (Commit tx key epoch chain at) about forth stood.spoken tx
+        abbrev kept : IsKeptForth start all e es moment takes.now (Commit tx key epoch chain at) about forth
+            stood.spoken tx
         kept =
-            commit_kept start all e es moment takes.now (Commit tx key epoch chain at) about forth stood.spoken tx key epoch
+            commit_kept start all e es moment takes.now (Commit tx key epoch chain at) about forth stood.spoken tx key
+            epoch
             chain at refl
 
         place : slice_get (chain_now key) at ≡ Some member
@@ -123,12 +125,14 @@ module _ (forth : ForthIsKnownAlways) (remembered : CommitsAreRemembered) (ackno
                 stays m (replica_made start all es before key m m_replica)
                 (subst (ComesFromTheEnd start old) about
                 (chain_told start all e es moment takes.now (Commit tx key epoch chain at) about
-                (λ (y : Addressed). y.signal.view.number ≡ current_number start old → ComesFromTheEnd start old y.signal.body)
+                (λ (y : Addressed). y.signal.view.number ≡ current_number start old
+                → ComesFromTheEnd start old y.signal.body)
                 stood.commits.commits
                 (chain_number start all e es moment takes.now (Commit tx key epoch chain at) about))
                 written at_place m less
                 (subst (λ ms. slice_get ms at_place ≡ Some m)
-                (sym (commit_place start all e es moment member there takes whole tx key epoch chain at about written).0) is))
+                (sym (commit_place start all e es moment member there takes whole tx key epoch chain at about
+                written).0) is))
 
         pub all_at_first : at ≡ 0 → AreCommitted start new tx key
         all_at_first first m is =
@@ -147,7 +151,8 @@ module _ (forth : ForthIsKnownAlways) (remembered : CommitsAreRemembered) (ackno
                 → (has_marker_at start old member key tx ≡ true) ⊎ (is_known start old tx ≡ true)
                 → IsApplied start new tx key
             none is (inl on) =
-                done (stood.commits.alone member (in_front member (current start old).full (current start old).starting replica.full)
+                done (stood.commits.alone member
+                (in_front member (current start old).full (current start old).starting replica.full)
                 key tx on is)
             none is (inr known) = done (stood.commits.known tx known)
 
@@ -157,7 +162,8 @@ module _ (forth : ForthIsKnownAlways) (remembered : CommitsAreRemembered) (ackno
               member = member;
               is_made = there;
               marked =
-                  subst (IsMarked (Applied tx key)) (sym (log_of-own (machine start) e es (ldm_of start member) takes.at))
+                  subst (IsMarked (Applied tx key))
+                  (sym (log_of-own (machine start) e es (ldm_of start member) takes.at))
                   (inl (applied_marked start all e es moment member there tx key takes epoch chain
                   (about ∙ ap (λ n. Chain (Commit tx key epoch chain n)) first) r is));
             }
@@ -173,13 +179,15 @@ module _ (forth : ForthIsKnownAlways) (remembered : CommitsAreRemembered) (ackno
         was : IsMarked (Applied tx key) (old (ldm_of start applied.member)) → AreCommitted start new tx key
         was marked =
             all_stay forth remembered acknowledged start all e es moment tx key
-            (stood.commits.applied tx key (record { member = applied.member; is_made = applied.is_made; marked = marked }))
+            (stood.commits.applied tx key (record
+            { member = applied.member; is_made = applied.is_made; marked = marked }))
 
         now : e.host ≡ ldm_of start applied.member → IsIn (Applied tx key) e.step.marks → AreCommitted start new tx key
         now at marked =
             let one = marks_of_commit start all e es moment applied.member applied.is_made tx key at marked in
             all_at_first applied.member applied.is_made one.takes tx key one.epoch one.chain 0 one.body_is
-            (commit_written forth start all e es moment remembered acknowledged stood applied.member applied.is_made key tx
+            (commit_written forth start all e es moment remembered acknowledged stood applied.member applied.is_made
+            key tx
             one.takes one.epoch one.chain 0 one.body_is one.own one.record_is) refl
 
         either : e.host ≡ ldm_of start applied.member
@@ -191,6 +199,8 @@ module _ (forth : ForthIsKnownAlways) (remembered : CommitsAreRemembered) (ackno
         by : (e.host ≡ ldm_of start applied.member) ⊎ (e.host ≡ ldm_of start applied.member → ⊥)
             → IsMarked (Applied tx key) (new (ldm_of start applied.member)) → AreCommitted start new tx key
         by (inl at) marked =
-            either at (subst (IsMarked (Applied tx key)) (log_of-own (machine start) e es (ldm_of start applied.member) at) marked)
+            either at (subst (IsMarked (Applied tx key))
+                (log_of-own (machine start) e es (ldm_of start applied.member) at) marked)
         by (inr other) marked =
-            was (subst (IsMarked (Applied tx key)) (log_of-other (machine start) e es (ldm_of start applied.member) other) marked)
+            was (subst (IsMarked (Applied tx key))
+            (log_of-other (machine start) e es (ldm_of start applied.member) other) marked)

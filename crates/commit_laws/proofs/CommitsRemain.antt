@@ -1,6 +1,6 @@
 -- Who is committed on a key at a member stays so; and so do keys that are committed at all replicas.
 use Rattle.std.proofs.Common.{◌≡◌, ◌⊎◌, ◌||◌, ◌∙◌, ℕ, Bool, true, false, List, [], ◌∷◌, refl, sym, ap, subst, inl, inr}
-use Rattle.std.proofs.lemmas.Bool.{and_parts, true≢false}
+use Rattle.std.proofs.lemmas.Bool.{and_parts, or_cases, or_left, or_right, true≢false}
 use Rattle.std.specs.Prelude.{if◌then◌else◌, Option, None, Some}
 use Rattle.std.specs.List.{list_any}
 use Rattle.run_theory.specs.Links.{sent}
@@ -52,18 +52,6 @@ AcknowledgedAreKnown =
     → (i j : ℕ) → Each (λ (x : Addressed). IsKnownIf start (logs_of start es) x.signal.body)
     (sent (sound_machine start) i j (logs_of start es i))
 
-or_left : (a b : Bool) → a ≡ true → (a || b) ≡ true
-or_left true b is = refl
-or_left false b is = absurd (true≢false (sym is))
-
-or_right : (a b : Bool) → b ≡ true → (a || b) ≡ true
-or_right true b is = refl
-or_right false b is = is
-
-or_either : (a b : Bool) → (a || b) ≡ true → (a ≡ true) ⊎ (b ≡ true)
-or_either true b is = inl refl
-or_either false b is = inr is
-
 -- the record that is found on a key is one of all, but for its epoch
 pub record IsRecordOf (P : PendingRecord → Type 0) (tx : TxId) (key : List ℕ) (r : PendingRecord) : Type 0 where
   pub own : PendingRecord
@@ -98,11 +86,12 @@ record_there P s tx key r all is = by (record_of s tx key) refl
         }
 
 -- what is so of each marker is so of the transaction of one that is there
-marker_so : (F : TxId → Type 0) (tx : TxId) (key : List ℕ) (markers : List Marker) → Each (λ (m : Marker). F m.tx) markers
+marker_so : (F : TxId → Type 0) (tx : TxId) (key : List ℕ) (markers : List Marker)
+    → Each (λ (m : Marker). F m.tx) markers
     → list_any (is_marker tx key) markers ≡ true → F tx
 marker_so F tx key [] all is = absurd (true≢false (sym is))
 marker_so F tx key (m ∷ markers) all is =
-    by (or_either (is_marker tx key m) (list_any (is_marker tx key) markers) is) (marker_so F tx key markers all.1)
+    by (or_cases (is_marker tx key m) (list_any (is_marker tx key) markers) is) (marker_so F tx key markers all.1)
   where
     by : (is_marker tx key m ≡ true) ⊎ (list_any (is_marker tx key) markers ≡ true)
         → (list_any (is_marker tx key) markers ≡ true → F tx) → F tx
@@ -144,7 +133,7 @@ module _ (forth : ForthIsKnownAlways) where
           by : (o : Option PendingRecord) → record_at start logs member key tx ≡ o
               → is_committed_by (has_marker_at start logs member key tx || is_known start logs tx) o ≡ true
               → is_forth start logs tx ≡ true
-          by None none is = known (or_either (has_marker_at start logs member key tx) (is_known start logs tx) is)
+          by None none is = known (or_cases (has_marker_at start logs member key tx) (is_known start logs tx) is)
           by (Some r) there is = record_forth r there is
 
   module _ (remembered : CommitsAreRemembered) (acknowledged : AcknowledgedAreKnown) (start : Start)
@@ -168,7 +157,8 @@ module _ (forth : ForthIsKnownAlways) where
             (taken_told start (λ (x : Addressed). IsKnownIf start old x.signal.body) all e es moment
             (acknowledged start all es before) ack.takes.now.sound
             (λ own. absurd (subst (IsOwnWork start e.host) ack.body_is own))
-            (λ closes. absurd (let both : Client (TcCommitAck tx) ≡ Host (Closed closes.cause) = sym ack.body_is ∙ closes.is in cc)))
+            (λ closes. absurd (let both : Client (TcCommitAck tx) ≡ Host (Closed closes.cause) = sym ack.body_is
+            ∙ closes.is in cc)))
 
         abbrev record_was : Option PendingRecord
         record_was = record_at start old member key tx
@@ -179,7 +169,7 @@ module _ (forth : ForthIsKnownAlways) where
         module _ (goes : KeyGoes start all e es moment member there key tx) where
           -- what is remembered stays so
           remembered_more : is_remembered old ≡ true → is_remembered new ≡ true
-          remembered_more is = by (or_either (has_marker_at start old member key tx) (is_known start old tx) is)
+          remembered_more is = by (or_cases (has_marker_at start old member key tx) (is_known start old tx) is)
             where
               known : is_known start old tx ≡ true → is_remembered new ≡ true
               known told = or_right (has_marker_at start new member key tx) (is_known start new tx)
@@ -196,7 +186,8 @@ module _ (forth : ForthIsKnownAlways) where
               by (inr told) = known told
 
           -- a committed record is remembered
-          pub record_remembered : (r : PendingRecord) → record_was ≡ Some r → r.committed ≡ true → is_remembered old ≡ true
+          pub record_remembered : (r : PendingRecord) → record_was ≡ Some r → r.committed ≡ true
+              → is_remembered old ≡ true
           record_remembered r is done =
               let own =
               record_there (IsRemembered start old member)

@@ -150,7 +150,8 @@ module _ (forth : ForthIsKnownAlways) (remembered : CommitsAreRemembered) (ackno
         done_stays forth remembered acknowledged start all e es moment tx (decided_of tx gone) done
 
     one_more : (tx : TxId) → is_decided start old tx ≡ true → HasWrittenOne start old tx → HasWrittenOne start new tx
-    one_more tx decided one = record { key = one.key; written = written_more start all e es moment tx one.key decided one.written }
+    one_more tx decided one = record { key = one.key; written = written_more start all e es moment tx one.key decided
+        one.written }
 
     -- what was told before stays so
     end_stays : (body : Body) → TellsForth (IsForth start old) body → ComesFromTheEnd start old body
@@ -241,7 +242,8 @@ module _ (forth : ForthIsKnownAlways) (remembered : CommitsAreRemembered) (ackno
             (decided_of tx (gone_of tx key epoch chain one.at one.body_is)) written in
             let some = not_first one.at one.behind in
             let front_is = one.front_is in
-            from_here forth remembered acknowledged whole start all e es moment follows.stood me there takes tx key epoch
+            from_here forth remembered acknowledged whole start all e es moment follows.stood me there takes tx key
+            epoch
             chain one.at one.body_is was place member (omega (arith, some, less, front_is))
             (subst (λ ms. slice_get ms place ≡ Some member)
             (commit_place start all e es moment me there takes whole tx key epoch chain one.at one.body_is was).0 is)
@@ -256,7 +258,8 @@ module _ (forth : ForthIsKnownAlways) (remembered : CommitsAreRemembered) (ackno
             (subst (TellsForth (IsForth start old)) one.body_is
             (chain_told start all e es moment taken.now (Complete tx key one.chain one.at) one.body_is
             (λ (y : Addressed). TellsForth (IsForth start old) y.signal.body) old_forth))
-            (complete_done forth start all e es moment remembered acknowledged follows.stood me there takes tx key one.chain
+            (complete_done forth start all e es moment remembered acknowledged follows.stood me there takes tx key
+            one.chain
             one.at one.body_is)
         rows_new (Client (TcCommitAck tx)) one = absurd one
         rows_new (Client (TcKeyFailConf tx epoch)) one = absurd one
@@ -267,7 +270,8 @@ module _ (forth : ForthIsKnownAlways) (remembered : CommitsAreRemembered) (ackno
             each_map (λ (o : Outgoing). IsRowsWord e.step.taken.body o.body) (λ (o : Outgoing). NewWord o.body)
             (replica_row s e.step.taken).effects.sends (λ o one. rows_new o.body one) (rows_words s e.step.taken)
 
-    rows_sent : (me : Member) (there : IsIn me (made start)) → e.host ≡ ldm_of start me → AreNew (sends_at (ldm_of start me))
+    rows_sent : (me : Member) (there : IsIn me (made start)) → e.host ≡ ldm_of start me
+        → AreNew (sends_at (ldm_of start me))
     rows_sent me there at = by (rows_go start all e es moment me there)
       where
         by : RowsGo start all e es moment me there → AreNew (sends_at (ldm_of start me))
@@ -319,7 +323,8 @@ module _ (forth : ForthIsKnownAlways) (remembered : CommitsAreRemembered) (ackno
         by (coordinates me there at) =
             subst (λ h. AreNew (sends_at h)) (sym at)
             (each_map (λ (o : Outgoing). IsOwnersWord start old me o.body) (λ (o : Outgoing). NewWord o.body)
-            (sends_at (tc_of start me)) (λ o is. owner_new me there o.body is) (owners start all e es moment me there at))
+            (sends_at (tc_of start me)) (λ o is. owner_new me there o.body is)
+            (owners start all e es moment me there at))
         by (keeps_rows me there at) = subst (λ h. AreNew (sends_at h)) (sym at) (rows_sent me there at)
         by (is_beside first) =
             each_map (λ (o : Outgoing). IsEnd (λ tx. IsDone start new tx) o.body) (λ (o : Outgoing). NewWord o.body)
@@ -388,10 +393,12 @@ module _ (forth : ForthIsKnownAlways) (remembered : CommitsAreRemembered) (ackno
 
         by : (e.host ≡ 0) ⊎ (e.host ≢ 0) → IsDone start new tx
         by (inr other) =
-            was (subst (λ log. has_sent start (is_acknowledgement tx) 0 log ≡ true) (log_of-other (machine start) e es 0 other) is)
+            was (subst (λ log. has_sent start (is_acknowledgement tx) 0 log ≡ true)
+            (log_of-other (machine start) e es 0 other) is)
         by (inl at) =
             either (is_sent (is_acknowledgement tx) (sends_at 0)) refl
-            (subst (λ log. has_sent start (is_acknowledgement tx) 0 log ≡ true) (log_of-own (machine start) e es 0 at) is)
+            (subst (λ log. has_sent start (is_acknowledgement tx) 0 log ≡ true) (log_of-own (machine start) e es 0 at)
+            is)
           where
             either : (b : Bool) → is_sent (is_acknowledgement tx) (sends_at 0) ≡ b
                 → (b || has_sent start (is_acknowledgement tx) 0 (old 0)) ≡ true → IsDone start new tx
@@ -421,11 +428,13 @@ module _ (forth : ForthIsKnownAlways) (remembered : CommitsAreRemembered) (ackno
           (λ o is. inl (ap (λ (v : View). v.number) (stands_behind start all e es moment goes), is)) all_new))
 
       -- all answers of the current view are of what is committed at all replicas
-      all_done : (number : ℕ) (tx : TxId) → number ≡ new_number → AllWereCommittedIn start new number tx → IsDone start new tx
+      all_done : (number : ℕ) (tx : TxId) → number ≡ new_number → AllWereCommittedIn start new number tx
+          → IsDone start new tx
       all_done number tx is were key written =
           let one = were key written in
           subst (ComesFromTheEnd start new) one.body
-          (each_in EndNow one.signal (sent (sound_machine start) one.from one.to (new one.from)) (commits_new one.from one.to)
+          (each_in EndNow one.signal (sent (sound_machine start) one.from one.to (new one.from))
+          (commits_new one.from one.to)
           one.there (one.view ∙ is)) written
 
       either_done : (number : ℕ) (tx : TxId) → number ≡ new_number
@@ -455,7 +464,8 @@ module _ (forth : ForthIsKnownAlways) (remembered : CommitsAreRemembered) (ackno
 
       pub commits_stand : (moves : (tx : TxId) → FatesMove start e es tx)
           → ((tx : TxId) → IsKept start (logs_of start (e ∷ es)) tx → is_decided start (logs_of start es) tx ≡ false
-          → (key : List ℕ) → IsSettledWith start (logs_of start es) key tx (decided_ops start (logs_of start (e ∷ es)) tx))
+          → (key : List ℕ) → IsSettledWith start (logs_of start es) key tx
+              (decided_ops start (logs_of start (e ∷ es)) tx))
           → CommitsStand start (logs_of start (e ∷ es))
       commits_stand moves settled = record {
         held = held_now forth remembered acknowledged start all e es moment follows.stood moves settled;

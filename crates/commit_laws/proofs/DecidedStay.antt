@@ -1,6 +1,6 @@
 -- What was decided stays so, with its operations; who was committed stays so, and what the client's side knows.
-use Rattle.std.proofs.Common.{◌≡◌, ◌≢◌, ◌⊎◌, ◌||◌, ◌∙◌, ℕ, Bool, true, false, List, [], ◌∷◌, refl, sym, ap, subst, inl, inr}
-use Rattle.std.proofs.lemmas.Bool.{cases_eq, true≢false}
+use Rattle.std.proofs.Common.{◌≡◌, ◌≢◌, ◌⊎◌, ◌∙◌, ℕ, Bool, true, false, List, [], ◌∷◌, refl, sym, ap, subst, inl, inr}
+use Rattle.std.proofs.lemmas.Bool.{cases_eq, or_left, or_right, true≢false}
 use Rattle.std.specs.List.{list_any}
 use Rattle.run_theory.specs.Lists.{IsIn}
 use Rattle.run_theory.proofs.Runs.{log_of-other, log_of-own}
@@ -32,14 +32,6 @@ use Rattle.commit_laws.specs.Commits.{HasWritten}
 use Rattle.commit_laws.specs.Going.{decided_ops, is_decided, is_forth, is_written_by, own_log}
 use Rattle.commit_laws.specs.Traces.{IsApplied, has_sent, is_acknowledgement, is_known}
 use Rattle.commit_laws.proofs.Calm.{decided_at, decided_made, forth_made}
-
-or_right : (a b : Bool) → b ≡ true → (a || b) ≡ true
-or_right true b is = refl
-or_right false b is = is
-
-or_left : (a b : Bool) → a ≡ true → (a || b) ≡ true
-or_left true b is = refl
-or_left false b is = absurd (true≢false (sym is))
 
 -- a mark of a decision makes it one
 decided_mark : (tx : TxId) (epoch : ℕ) (marks : List Mark) → IsIn (Decided tx epoch) marks
@@ -93,7 +85,8 @@ module _ (start : Start) (all : ℕ → List HostStep) (e : HostStep) (es : List
 
     pub forth_more : (tx : TxId) → is_forth start old tx ≡ true → is_forth start new tx ≡ true
     forth_more tx is =
-        log_grows (λ log. has_gone_forth start (coordinator_member tx) tx log ≡ true) (tc_of start (coordinator_member tx))
+        log_grows (λ log. has_gone_forth start (coordinator_member tx) tx log ≡ true)
+        (tc_of start (coordinator_member tx))
         (λ at was. gone_stays start (coordinator_member tx) tx is_in_commit (tells_commit tx)
         (old (tc_of start (coordinator_member tx))) e was) is
 

@@ -1,10 +1,11 @@
 -- Transactions that are decided and don't abort: nothing more is asked for them; they were so before, unless they are
 -- decided by the event, and then each key is settled.
-use Rattle.std.proofs.Common.{◌≡◌, ◌≢◌, ◌≤◌, ◌⊎◌, ◌||◌, ◌&&◌, ◌∙◌, ℕ, Bool, true, false, List, [], ◌∷◌, refl, sym, ap, subst, arith, inl, inr}
-use Rattle.std.proofs.lemmas.Bool.{and_parts, cases_eq, true≢false}
+use Rattle.std.proofs.Common.{◌≡◌, ◌≢◌, ◌≤◌, ◌⊎◌, ◌||◌, ◌&&◌, ◌∙◌, ℕ, Bool, true, false, List, ◌∷◌, refl, sym, ap, subst, arith, inl, inr}
+use Rattle.std.proofs.lemmas.Bool.{and_parts, cases_eq, or_cases, true≢false}
 use Rattle.std.specs.Prelude.{not}
 use Rattle.std.specs.List.{list_any}
-use Rattle.run_theory.specs.Lists.{Each, IsIn}
+use Rattle.run_theory.specs.Lists.{IsIn}
+use Rattle.run_theory.proofs.Pasts.{each_in}
 use Rattle.run_theory.proofs.Runs.{log_of-other, log_of-own}
 use Rattle.sig_core.specs.declared.mark.Mark.TheVariants.{Decided}
 use Rattle.sig_core.specs.declared.member.Member.{Member}
@@ -39,41 +40,8 @@ use Rattle.commit_laws.specs.Traces.{has_sent, has_trace, is_acknowledgement, is
 use Rattle.commit_laws.proofs.Calm.{IsCalm, decided_calm, decided_made, decision_in, forth_calm}
 use Rattle.commit_laws.proofs.DecidedStay.{forth_decided}
 use Rattle.commit_laws.proofs.LostStays.{lost_stay}
+use Rattle.commit_laws.proofs.Passing.{passed, passing}
 use Rattle.commit_laws.proofs.ReplicasNow.{full_before, member_made}
-
-or_either : (a b : Bool) → (a || b) ≡ true → (a ≡ true) ⊎ (b ≡ true)
-or_either true b is = inl refl
-or_either false b is = inr is
-
--- one that passes
-pub record Passing {A : Type 0} (p : A → Bool) (xs : List A) : Type 0 where
-  pub one : A
-  pub inside : IsIn one xs
-  pub passes : p one ≡ true
-
-pub passing : {A : Type 0} (p : A → Bool) (xs : List A) → list_any p xs ≡ true → Passing p xs
-passing p [] some = absurd (true≢false (sym some))
-passing p (x ∷ xs) some = by (or_either (p x) (list_any p xs) some) (passing p xs)
-  where
-    by : (p x ≡ true) ⊎ (list_any p xs ≡ true) → (list_any p xs ≡ true → Passing p xs) → Passing p (x ∷ xs)
-    by (inl own) more = record { one = x; inside = inl refl; passes = own }
-    by (inr rest) more =
-        let found = more rest in record { one = found.one; inside = inr found.inside; passes = found.passes }
-
-pub any_of : {A : Type 0} (p : A → Bool) (xs : List A) (x : A) → IsIn x xs → p x ≡ true → list_any p xs ≡ true
-any_of p [] x inside passes = absurd inside
-any_of p (y ∷ ys) x (inl same) passes = ap (λ b. b || list_any p ys) (ap p (sym same) ∙ passes)
-any_of p (y ∷ ys) x (inr inside) passes = by (p y) (any_of p ys x inside passes)
-  where
-    by : (b : Bool) → list_any p ys ≡ true → (b || list_any p ys) ≡ true
-    by true rest = refl
-    by false rest = rest
-
--- what is so of each is so of one of them
-pub each_of : {A : Type 0} (P : A → Type 0) (xs : List A) (x : A) → Each P xs → IsIn x xs → P x
-each_of P [] x all there = absurd there
-each_of P (y ∷ ys) x all (inl same) = subst P (sym same) all.0
-each_of P (y ∷ ys) x all (inr there) = each_of P ys x all.1 there
 
 -- which is told of a transaction that doesn't abort
 not_aborting : (known full forth lost trace : Bool) → fate_if known full forth lost trace ≢ aborts
@@ -103,9 +71,11 @@ module _ (forth : ForthIsKnownAlways) where
 
       -- rows that have a trace of it tell that it was committed
       pub trace_forth : (member : Member) → IsIn member (made start)
-          → leave_trace tx (rows_at start (logs_of start es) member) ≡ true → is_forth start (logs_of start es) tx ≡ true
+          → leave_trace tx (rows_at start (logs_of start es) member) ≡ true
+          → is_forth start (logs_of start es) tx ≡ true
       trace_forth member there is =
-          by (or_either (list_any (is_committed_of tx) rows.lqh.rows.pending) (list_any (is_marker_of tx) rows.lqh.markers) is)
+          by (or_cases (list_any (is_committed_of tx) rows.lqh.rows.pending)
+              (list_any (is_marker_of tx) rows.lqh.markers) is)
         where
           rows : ReplicaState
           rows = rows_at start logs member
@@ -114,17 +84,18 @@ module _ (forth : ForthIsKnownAlways) where
               ⊎ (list_any (is_marker_of tx) rows.lqh.markers ≡ true) → is_forth start logs tx ≡ true
           by (inl some) =
               let one = passing (is_committed_of tx) rows.lqh.rows.pending some in
-              let own = and_parts (same_tx one.one.tx tx) one.one.committed one.passes in
+              let own = and_parts (same_tx one.item.tx tx) one.item.committed one.is in
               let told =
-              each_of (λ (r : PendingRecord). IsDecidedIf (λ u epoch. IsForth start logs u) (IsForth start logs) r r.committed)
-              rows.lqh.rows.pending one.one ((forth start all es moment).rows member there).records one.inside in
-              subst (IsForth start logs) (same_tx-is one.one.tx tx own.0)
-              (subst (λ b. IsDecidedIf (λ u epoch. IsForth start logs u) (IsForth start logs) one.one b) own.1 told)
+              each_in (λ (r : PendingRecord). IsDecidedIf (λ u epoch. IsForth start logs u) (IsForth start logs) r
+              r.committed)
+              one.item rows.lqh.rows.pending ((forth start all es moment).rows member there).records one.there in
+              subst (IsForth start logs) (same_tx-is one.item.tx tx own.0)
+              (subst (λ b. IsDecidedIf (λ u epoch. IsForth start logs u) (IsForth start logs) one.item b) own.1 told)
           by (inr some) =
               let one = passing (is_marker_of tx) rows.lqh.markers some in
-              subst (IsForth start logs) (same_tx-is one.one.tx tx one.passes)
-              (each_of (λ (m : Marker). IsForth start logs m.tx) rows.lqh.markers one.one
-              ((forth start all es moment).rows member there).markers one.inside)
+              subst (IsForth start logs) (same_tx-is one.item.tx tx one.is)
+              (each_in (λ (m : Marker). IsForth start logs m.tx) one.item rows.lqh.markers
+              ((forth start all es moment).rows member there).markers one.there)
 
       -- whoever commits has gone forth
       pub commits_forth : fate start (logs_of start es) tx ≡ commits → is_forth start (logs_of start es) tx ≡ true
@@ -137,8 +108,9 @@ module _ (forth : ForthIsKnownAlways) where
           by (inl known) = (forth start all es moment).known tx known
           by (inr (inl gone)) = gone
           by (inr (inr trace)) =
-              let one = passing (λ (member : Member). leave_trace tx (rows_at start logs member)) (members_now start logs) trace in
-              trace_forth one.one (member_made start all es moment one.one one.inside) one.passes
+              let one = passing (λ (member : Member). leave_trace tx (rows_at start logs member))
+                  (members_now start logs) trace in
+              trace_forth one.item (member_made start all es moment one.item one.there) one.is
 
       -- of who is decided and doesn't abort nothing is asked any more
       pub kept_calm : IsKept start (logs_of start es) tx → IsCalm start (logs_of start es) tx
@@ -167,8 +139,9 @@ module _ (forth : ForthIsKnownAlways) where
           by (inr (inl (full, inl is))) = gone is
           by (inr (inl (full, inr off))) = either (spared (is_forth start logs tx) (is_back start logs tx) _ off)
           by (inr (inr (full, trace))) =
-              let one = passing (λ (member : Member). leave_trace tx (rows_at start logs member)) (members_now start logs) trace in
-              gone (trace_forth one.one (member_made start all es moment one.one one.inside) one.passes)
+              let one = passing (λ (member : Member). leave_trace tx (rows_at start logs member))
+                  (members_now start logs) trace in
+              gone (trace_forth one.item (member_made start all es moment one.item one.there) one.is)
 
   module _ (start : Start) (all : ℕ → List HostStep) (e : HostStep) (es : List HostStep)
       (moment : IsMoment start all (e ∷ es)) (tx : TxId)
@@ -202,7 +175,7 @@ module _ (forth : ForthIsKnownAlways) where
           home = tc_of start (coordinator_member tx)
 
           now : e.host ≡ home → list_any (is_decision tx) e.step.marks ≡ true
-          now at = either (or_either (list_any (is_decision tx) e.step.marks) (has_mark (is_decision tx) (old home))
+          now at = either (or_cases (list_any (is_decision tx) e.step.marks) (has_mark (is_decision tx) (old home))
               (sym (ap (has_mark (is_decision tx)) (log_of-own (machine start) e es home at)) ∙ is))
             where
               either : (list_any (is_decision tx) e.step.marks ≡ true) ⊎ (has_mark (is_decision tx) (old home) ≡ true)
@@ -225,7 +198,8 @@ module _ (forth : ForthIsKnownAlways) where
 
       module _ (decides : DecidesNow) where
         -- rows, and what the client's side knows, are as before
-        pub rows_same : (member : Member) → IsIn member (made start) → rows_at start new member ≡ rows_at start old member
+        pub rows_same : (member : Member) → IsIn member (made start)
+            → rows_at start new member ≡ rows_at start old member
         rows_same member there =
             ap (rows_after start member)
             (log_of-other (machine start) e es (ldm_of start member)
@@ -245,7 +219,8 @@ module _ (forth : ForthIsKnownAlways) where
         is_now isnt kept = record {
           epoch = decides.epoch;
           marked = decides.marked;
-          full = full_was (by_fate (not_aborting (is_known start new tx) (is_led_by_full start new tx) (is_forth start new tx)
+          full = full_was (by_fate (not_aborting (is_known start new tx) (is_led_by_full start new tx)
+              (is_forth start new tx)
               (is_lost start new tx) (has_trace start new tx) kept.fate_is));
           spared = spared (is_lost start old tx) refl
               (not_aborting (is_known start new tx) (is_led_by_full start new tx) (is_forth start new tx)
@@ -262,9 +237,9 @@ module _ (forth : ForthIsKnownAlways) where
             untraced is =
                 let one =
                 passing (λ (member : Member). leave_trace tx (rows_at start new member)) (members_now start new) is in
-                let there = member_made start all (e ∷ es) moment one.one one.inside in
-                not_forth (trace_forth start all es before tx one.one there
-                (ap (leave_trace tx) (sym (rows_same one.one there)) ∙ one.passes))
+                let there = member_made start all (e ∷ es) moment one.item one.there in
+                not_forth (trace_forth start all es before tx one.item there
+                (ap (leave_trace tx) (sym (rows_same one.item there)) ∙ one.is))
 
             Fates : Type 0
             Fates =
@@ -281,8 +256,8 @@ module _ (forth : ForthIsKnownAlways) where
             full_was : is_led_by_full start new tx ≡ true → is_led_by_full start old tx ≡ true
             full_was is =
                 let one = passing (was_begun_by tx) (current start new).full is in
-                any_of (was_begun_by tx) (current start old).full one.one
-                (full_before start all e es moment one.one one.inside) one.passes
+                passed (was_begun_by tx) one.item (current start old).full
+                (full_before start all e es moment one.item one.there) one.is
 
             lost_not_forth : is_lost start new tx ≡ true → is_forth start new tx ≡ false
             lost_not_forth is =

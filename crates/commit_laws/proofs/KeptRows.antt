@@ -1,7 +1,7 @@
 -- At an event: no replica comes to be without what is kept, records of it have the image that it leaves, and what is
 -- committed, or remembered of a commit, is of a key that it wrote.
-use Rattle.std.proofs.Common.{◌≡◌, ◌⊎◌, ◌||◌, ◌∙◌, ℕ, Bool, true, false, List, [], ◌∷◌, refl, sym, ap, subst, inl, inr}
-use Rattle.std.proofs.lemmas.Bool.{true≢false}
+use Rattle.std.proofs.Common.{◌≡◌, ◌⊎◌, ◌∙◌, ℕ, Bool, true, false, List, [], ◌∷◌, refl, sym, ap, subst, inl, inr}
+use Rattle.std.proofs.lemmas.Bool.{or_cases, true≢false}
 use Rattle.std.specs.Prelude.{if◌then◌else◌, Option, None, Some}
 use Rattle.std.specs.List.{list_any, slice_get}
 use Rattle.run_theory.specs.Lists.{IsIn}
@@ -34,8 +34,9 @@ use Rattle.commit_laws.proofs.Calm.{IsCalm}
 use Rattle.commit_laws.proofs.CommitsRemain.{AcknowledgedAreKnown, acknowledged_known, record_remembered}
 use Rattle.commit_laws.proofs.DecidedStay.{ops_same, unknown_before, written_before, written_more}
 use Rattle.commit_laws.proofs.ImagesLeft.{image_is}
-use Rattle.commit_laws.proofs.KeptNow.{DecidesNow, any_of, decides_now, kept_before, kept_calm, rows_same}
+use Rattle.commit_laws.proofs.KeptNow.{DecidesNow, decides_now, kept_before, kept_calm, rows_same}
 use Rattle.commit_laws.proofs.KeyGoes.{IsAcknowledged, KeyGoes, RecordGoes, TakesNow, is_aborted, is_committed, is_completed, key_goes, record_stays}
+use Rattle.commit_laws.proofs.Passing.{passed}
 use Rattle.commit_laws.proofs.RecordMoves.{now_by}
 use Rattle.commit_laws.proofs.ReplicasNow.{full_in, replica_before, replica_made, self}
 use Rattle.commit_laws.proofs.TakenChains.{abort_aborts}
@@ -48,10 +49,6 @@ record First (xs : List Member) : Type 0 where
 first_of : (xs : List Member) (x : Member) → IsIn x xs → First xs
 first_of [] x there = absurd there
 first_of (y ∷ ys) x there = record { one = y; is = refl }
-
-or_either : (a b : Bool) → (a || b) ≡ true → (a ≡ true) ⊎ (b ≡ true)
-or_either true b is = inl refl
-or_either false b is = inr is
 
 some_is : (r own : PendingRecord) → Some r ≡ Some own → r ≡ own
 some_is r own is = cc
@@ -103,7 +100,8 @@ module _ (forth : ForthIsKnownAlways) (remembered : CommitsAreRemembered) (ackno
           let there = replica_made start all es before key member was in
           let primary = first_of (chain_of (layout_in start (current start old)) key) member was.chained in
           by there primary
-          (subst (λ b. HasImageIf b (row_behind start old key primary.one ops) (record_at start old member key tx)) written
+          (subst (λ b. HasImageIf b (row_behind start old key primary.one ops) (record_at start old member key tx))
+          written
           ((settled_on key).images primary.one primary.is member was))
         where
           by : IsIn member (made start)
@@ -155,10 +153,11 @@ module _ (forth : ForthIsKnownAlways) (remembered : CommitsAreRemembered) (ackno
           })
           by false full c chained =
               nowhere (λ replica.
-              true≢false (sym (any_of (is_member member) (current start old).full member replica.full (self member)) ∙ full))
+              true≢false (sym (passed (is_member member) member (current start old).full replica.full (self member))
+              ∙ full))
           by true full false chained =
               nowhere (λ replica.
-              true≢false (sym (any_of (is_member member) (chain_of (layout_in start (current start old)) key) member
+              true≢false (sym (passed (is_member member) member (chain_of (layout_in start (current start old)) key)
               replica.chained (self member)) ∙ chained))
 
     -- one that was decided, and kept, before
@@ -174,12 +173,14 @@ module _ (forth : ForthIsKnownAlways) (remembered : CommitsAreRemembered) (ackno
       not_aborted : (member : Member) (there : IsIn member (made start)) (key : List ℕ)
           → TakesNow start all e es moment member there → e.step.taken.body ≡ Chain (Abort tx key) → ⊥
       not_aborted member there key takes about =
-          kept.fate_is (abort_aborts start all e es moment takes.now (Abort tx key) about forth stood.spoken tx key refl)
+          kept.fate_is (abort_aborts start all e es moment takes.now (Abort tx key) about forth stood.spoken tx key
+          refl)
 
       old_records : (member : Member) → IsIn member (made start) → (key : List ℕ) (r : PendingRecord)
           → record_at start new member key tx ≡ Some r
           → HasWritten start old tx key × (r.image ≡ image_by (decided_ops start old tx) key)
-      old_records member there key r is = by (goes member there key).record_goes (record_at start old member key tx) refl
+      old_records member there key r is = by (goes member there key).record_goes (record_at start old member key tx)
+          refl
         where
           was : (own : PendingRecord) → record_at start old member key tx ≡ Some own → r.image ≡ own.image
               → HasWritten start old tx key × (r.image ≡ image_by (decided_ops start old tx) key)
@@ -241,7 +242,7 @@ module _ (forth : ForthIsKnownAlways) (remembered : CommitsAreRemembered) (ackno
                 → record_at start new member key tx ≡ (if b then None else Some r) → HoldsImage start new member key tx
             completed false off now = still now
             completed true done now =
-                either (or_either (has_marker_at start old member key tx) (is_known start old tx)
+                either (or_cases (has_marker_at start old member key tx) (is_known start old tx)
                 (record_remembered forth remembered acknowledged start all e es moment member there key tx
                 (goes member there key) r is done))
               where
@@ -262,7 +263,8 @@ module _ (forth : ForthIsKnownAlways) (remembered : CommitsAreRemembered) (ackno
     pub held_now : (tx : TxId) → IsKept start (logs_of start (e ∷ es)) tx
         → is_known start (logs_of start (e ∷ es)) tx ≡ false → (key : List ℕ)
         → HasWritten start (logs_of start (e ∷ es)) tx key → (member : Member)
-        → IsReplicaOf start (logs_of start (e ∷ es)) key member → HoldsImage start (logs_of start (e ∷ es)) member key tx
+        → IsReplicaOf start (logs_of start (e ∷ es)) key member
+        → HoldsImage start (logs_of start (e ∷ es)) member key tx
     held_now tx kept unknown key written member is = by (is_decided start old tx) refl
       where
         by : (b : Bool) → is_decided start old tx ≡ b → HoldsImage start new member key tx
@@ -272,7 +274,8 @@ module _ (forth : ForthIsKnownAlways) (remembered : CommitsAreRemembered) (ackno
             let replica = replica_before start all e es moment key member is in
             let off = unknown_before start all e es moment tx unknown in
             old_held tx was off member (replica_made start all es before key member replica) key
-            (stood.commits.held tx was off key (written_before start all e es moment tx key decided written) member replica)
+            (stood.commits.held tx was off key (written_before start all e es moment tx key decided written) member
+            replica)
 
     pub records_now : (tx : TxId) → IsKept start (logs_of start (e ∷ es)) tx → (member : Member)
         → IsIn member (made start) → (key : List ℕ) (r : PendingRecord)

@@ -99,7 +99,8 @@ module _ (start : Start) (all : ℕ → List HostStep) (e : HostStep) (es : List
         marker_gives = λ has. inl (sym (ap marker_of is ∙ marker_is) ∙ has);
       }
 
-      module _ (calm : IsCalm start old tx) (s : ReplicaState) (between : IsBetween start all e es moment member there s)
+      module _ (calm : IsCalm start old tx) (s : ReplicaState)
+          (between : IsBetween start all e es moment member there s)
           (taken : IsTakenAt start all e es moment member there s) where
         abbrev x : Signal
         x = e.step.taken
@@ -141,7 +142,8 @@ module _ (start : Start) (all : ℕ → List HostStep) (e : HostStep) (es : List
             (λ view. rows_once start member there (old (ldm_of start member)) key)
 
         moves : RecordMoves tx key body (record_of s) (record_of (replica_row s x).state)
-        moves = record_moves tx key s x well once (calm_idle start all e es moment member there tx calm key s between taken)
+        moves = record_moves tx key s x well once
+            (calm_idle start all e es moment member there tx calm key s between taken)
 
         marks : MarkerMoves tx key body (record_of s) (marker_of s) (marker_of (replica_row s x).state)
         marks = marker_moves tx key s x

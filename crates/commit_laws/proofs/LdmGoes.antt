@@ -1,5 +1,5 @@
--- What a step of a host that runs rows comes to, with its marks: a view is installed, or none is; and behind that the rows
--- take the signal, and what they mark is marked; or they leave it alone, and none is marked to be applied.
+-- What a step of a host that runs rows comes to, with its marks: a view is installed, or none is; and behind that the
+-- rows take the signal, and what they mark is marked; or they leave it alone, and none is marked to be applied.
 use Rattle.std.proofs.Common.{◌≡◌, ◌≤◌, ◌⊎◌, ◌||◌, ◌++◌, ◌∙◌, ℕ, zero, suc, Bool, true, false, nat_lt, List, [], ◌∷◌, refl, sym, ap, subst, arith, inl, inr}
 use Rattle.std.proofs.lemmas.Bool.{ltb-false, ltb-true}
 use Rattle.std.specs.Prelude.{not, Option, None, Some}
@@ -112,7 +112,8 @@ module _ (x : Signal) where
         → x.view.number ≤ seen.number → (front : List Mark) → AreUnapplied front → (step now : Step hosts.Host)
         → now.state ≡ step.state → now.effects.sends ≡ step.effects.sends
         → now.effects.marks ≡ front ++ step.effects.marks → Passes between seen x step → Goes shape p view x now
-    goes_behind p between view seen entering low front none step now state sends marks (rests parts stood quiet unmarked) =
+    goes_behind p between view seen entering low front none step now state sends marks
+        (rests parts stood quiet unmarked) =
         leaves between seen entering (ap (λ (h : hosts.Host). h.parts) state ∙ parts)
         (ap (λ (h : hosts.Host). h.standing.view) state ∙ stood) (sends ∙ quiet)
         (subst AreUnapplied (sym marks)

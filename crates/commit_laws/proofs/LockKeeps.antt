@@ -155,7 +155,8 @@ module _ (tx : TxId) where
       → (u : TxId) → same_tx u tx ≡ true → HasPrepared (edited f u pending) → IsLeft f pending
   own_left f keeps pending once u same h =
       by (found tx pending) refl
-      (sym (ap (λ t. found tx (edited f t pending)) (same_tx-is u tx same) ∙ found_own f keeps tx pending once) ∙ h.there)
+      (sym (ap (λ t. found tx (edited f t pending)) (same_tx-is u tx same) ∙ found_own f keeps tx pending once)
+      ∙ h.there)
     where
       by : (o : Option PendingRecord) → found tx pending ≡ o → now_by f o ≡ Some h.own → IsLeft f pending
       by None is none = absurd cc
@@ -235,7 +236,8 @@ module _ (tx : TxId) where
           subst (λ t. holds_enough t Exclusive r.lock.holders ≡ true) (same_tx-is q.tx tx own_is.0)
           (subst (λ m. holds_enough q.tx m r.lock.holders ≡ true) own_is.1
           (attended_hold r.lock q.tx (work_mode q.work)
-          (each-first_item (λ (q : Request). is_attended r.lock q.tx (work_mode q.work) ≡ true) (is_let_in r.lock) r.waiting q
+          (each-first_item (λ (q : Request). is_attended r.lock q.tx (work_mode q.work) ≡ true) (is_let_in r.lock)
+          r.waiting q
           attended.attended is)
           (not-true (waits q.tx r.lock.queue) (first_passes (is_let_in r.lock) r.waiting q is))))
 
@@ -250,14 +252,17 @@ module _ (tx : TxId) where
       by (Some q) is h = either q is (worked_prepared r.cell q.tx refused q.work h)
   prepared_after (commits u true) r orderly once attended fair held now =
       edited_held as_committed committed_keeps (commits u true) u r orderly refl (λ off. off)
-      (λ same h. not_committing r.cell.pending (own_left as_committed committed_keeps r.cell.pending once u same h)) held now
+      (λ same h. not_committing r.cell.pending (own_left as_committed committed_keeps r.cell.pending once u same h))
+      held now
   prepared_after (commits u false) r orderly once attended fair held now =
       edited_held as_committed committed_keeps (commits u false) u r orderly refl (λ off. refl)
-      (λ same h. not_committing r.cell.pending (own_left as_committed committed_keeps r.cell.pending once u same h)) held now
+      (λ same h. not_committing r.cell.pending (own_left as_committed committed_keeps r.cell.pending once u same h))
+      held now
   prepared_after (completes u) r orderly once attended fair held now =
       edited_held unless_committed unless_keeps (completes u) u r orderly refl (λ off. off)
       (λ same h.
-      fair same (kept_prepared r.cell.pending (own_left unless_committed unless_keeps r.cell.pending once u same h))) held now
+      fair same (kept_prepared r.cell.pending (own_left unless_committed unless_keeps r.cell.pending once u same h)))
+      held now
   prepared_after (aborts u) r orderly once attended fair held now =
       edited_held if_committed if_keeps (aborts u) u r orderly refl (λ off. off)
       (λ same h. not_aborting r.cell.pending (own_left if_committed if_keeps r.cell.pending once u same h)) held now

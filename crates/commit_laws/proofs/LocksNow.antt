@@ -1,5 +1,5 @@
--- At an event: who has something prepared at a member of the current view holds the lock of its key, and whoever lets go of
--- it, being committed there, is committed at all replicas.
+-- At an event: who has something prepared at a member of the current view holds the lock of its key, and whoever lets
+-- go of it, being committed there, is committed at all replicas.
 use Rattle.std.proofs.Common.{◌≡◌, ◌⊎◌, ◌==◌, ◌&&◌, ◌||◌, ◌∙◌, ℕ, Bool, true, false, cond, filter, List, [], ◌∷◌, refl, sym, ap, subst, inl, inr}
 use Rattle.std.proofs.lemmas.Bool.{eqb-true, or_left, or_right, true≢false}
 use Rattle.std.specs.Prelude.{if◌then◌else◌, is_some, Option, None, Some}
@@ -81,7 +81,8 @@ stays_holding stays tx mode (h ∷ hs) on is =
     by : (b : Bool) → stays h.tx ≡ b → (t : Bool) → same_tx h.tx tx ≡ t
         → ((t && is_enough h.mode mode) || holds_enough tx mode hs) ≡ true
         → (holds_enough tx mode hs ≡ true → holds_enough tx mode (filter (λ (h : Holder). stays h.tx) hs) ≡ true)
-        → holds_enough tx mode (cond b (h ∷ filter (λ (h : Holder). stays h.tx) hs) (filter (λ (h : Holder). stays h.tx) hs))
+        → holds_enough tx mode (cond b (h ∷ filter (λ (h : Holder). stays h.tx) hs)
+        (filter (λ (h : Holder). stays h.tx) hs))
         ≡ true
     by true e true f is more =
         either (own (holds_enough tx mode hs) (is_enough h.mode mode) is)
@@ -96,7 +97,8 @@ stays_holding stays tx mode (h ∷ hs) on is =
             (ap (λ b. b && is_enough h.mode mode) f ∙ enough)
         either (inr others) = or_right (same_tx h.tx tx && is_enough h.mode mode) rest_of (more others)
     by true e false f is more =
-        or_right (same_tx h.tx tx && is_enough h.mode mode) (holds_enough tx mode (filter (λ (h : Holder). stays h.tx) hs))
+        or_right (same_tx h.tx tx && is_enough h.mode mode)
+        (holds_enough tx mode (filter (λ (h : Holder). stays h.tx) hs))
         (more is)
     by false e true f is more =
         absurd (true≢false (sym on ∙ (ap stays (sym (same_tx-is h.tx tx f)) ∙ e)))
@@ -144,7 +146,8 @@ module _ (tx : TxId) (key : List ℕ) (s : LqhState) where
       ∙ quiet_on (work_key asked)
       (asks (record { tx = u; work = asked; chain = chain; at = at })
       (is_refused (storage_of s) (record { tx = u; work = asked; chain = chain; at = at }))) refl))
-  lets_go_by (Host (Continue work.Granted at)) is = absurd (true≢false (sym is ∙ by (first (is_granted s.locks) s.waiting)))
+  lets_go_by (Host (Continue work.Granted at)) is = absurd
+      (true≢false (sym is ∙ by (first (is_granted s.locks) s.waiting)))
     where
       by : (o : Option Request) → lets_go tx (serves_if key s o) ≡ false
       by None = refl
@@ -225,7 +228,8 @@ module _ (forth : ForthIsKnownAlways) (remembered : CommitsAreRemembered) (ackno
 
         held_s : IsHeld tx r
         held_s =
-            as_before start all e es moment member there takes_own (λ s. IsHeld tx (at_key key s.lqh)) held_old held_installed
+            as_before start all e es moment member there takes_own (λ s. IsHeld tx (at_key key s.lqh)) held_old
+            held_installed
 
         now_is : replica_at start new member key ≡ key_after (event_under key s x) r
         now_is =
@@ -246,12 +250,14 @@ module _ (forth : ForthIsKnownAlways) (remembered : CommitsAreRemembered) (ackno
 
             kept : IsKeptForth start all e es moment taken.now (Complete tx key chain at) about forth stood.spoken tx
             kept =
-                complete_kept start all e es moment taken.now (Complete tx key chain at) about forth stood.spoken tx key chain at
+                complete_kept start all e es moment taken.now (Complete tx key chain at) about forth stood.spoken tx
+                key chain at
                 refl
 
             done_here : is_committed_at start old member key tx ≡ true
             done_here =
-                (complete_done forth start all e es moment remembered acknowledged stood member there takes_own tx key chain at about
+                (complete_done forth start all e es moment remembered acknowledged stood member there takes_own tx key
+                chain at about
                 key (stood.commits.records tx kept.kept member there key h.own was).0).committed member
                 (complete_place start all e es moment member there takes_own tx key chain at about)
 
@@ -311,14 +317,16 @@ module _ (forth : ForthIsKnownAlways) (remembered : CommitsAreRemembered) (ackno
             by : (b : Bool) → lets_go tx (event_under key s x) ≡ b → LetsGo tx key x.body
             by true lets = from_event (under_is key s x) lets
             by false stays =
-                absurd (true≢false (sym (ap (holds tx) now_is ∙ hold_after tx (event_under key s x) r orderly_s stays held)
+                absurd (true≢false (sym (ap (holds tx) now_is
+                ∙ hold_after tx (event_under key s x) r orderly_s stays held)
                 ∙ gone))
 
     -- so whoever has something prepared holds the lock
     pub prepared_now : (r : PendingRecord) → record_at start (logs_of start (e ∷ es)) member key tx ≡ Some r
         → r.committed ≡ false
         → holds_enough tx Exclusive (replica_at start (logs_of start (e ∷ es)) member key).lock.holders ≡ true
-    prepared_now r is still = by (rows_go start all e es moment member there) (record { own = r; there = is; still = still })
+    prepared_now r is still = by (rows_go start all e es moment member there)
+        (record { own = r; there = is; still = still })
       where
         by : RowsGo start all e es moment member there → IsHeld tx (replica_at start new member key)
         by (rest is quiet) = subst (λ (s : ReplicaState). IsHeld tx (at_key key s.lqh)) (sym is) held_old
@@ -408,10 +416,12 @@ module _ (forth : ForthIsKnownAlways) (remembered : CommitsAreRemembered) (ackno
 
           let_go : LetsGo tx key x.body → IsCommittedAtAll start new tx key
           let_go (by_commit epoch chain at first about) =
-              at_all_first forth remembered acknowledged whole start all e es moment stood member there takes_s tx key epoch
+              at_all_first forth remembered acknowledged whole start all e es moment stood member there takes_s tx key
+              epoch
               chain at about written first
           let_go (by_completion chain at about) =
-              stays (complete_done forth start all e es moment remembered acknowledged stood member there takes_s tx key chain
+              stays (complete_done forth start all e es moment remembered acknowledged stood member there takes_s tx
+              key chain
               at about key written)
           let_go (by_abort about) =
               let was = was_committed about in

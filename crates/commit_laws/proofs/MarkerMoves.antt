@@ -1,7 +1,7 @@
--- What a signal makes of the marker of one transaction on one key: it stays until the client's side knows of the commit,
--- and comes where a prepared record is committed.
+-- What a signal makes of the marker of one transaction on one key: it stays until the client's side knows of the
+-- commit, and comes where a prepared record is committed.
 use Rattle.std.proofs.Common.{◌≡◌, ◌⊎◌, ◌||◌, ◌++◌, ◌∙◌, ℕ, Bool, true, false, cond, filter, List, [], ◌∷◌, refl, sym, ap, subst, inl, inr}
-use Rattle.std.proofs.lemmas.Bool.{and_parts, true≢false}
+use Rattle.std.proofs.lemmas.Bool.{and_parts, or_cases, or_left, or_right, true≢false}
 use Rattle.std.specs.Prelude.{not, Option, None, Some}
 use Rattle.std.specs.List.{list_any}
 use Rattle.sig_core.specs.declared.member.Member.{Member}
@@ -31,21 +31,9 @@ use Rattle.key_laws.specs.Records.{found}
 use Rattle.key_laws.proofs.EpochLemmas.{state_found}
 use Rattle.request_laws.proofs.RouteWaiters.{rows_within}
 
-or_left : (a b : Bool) → a ≡ true → (a || b) ≡ true
-or_left true b is = refl
-or_left false b is = absurd (true≢false (sym is))
-
-or_right : (a b : Bool) → b ≡ true → (a || b) ≡ true
-or_right true b is = refl
-or_right false b is = is
-
-or_either : (a b : Bool) → (a || b) ≡ true → (a ≡ true) ⊎ (b ≡ true)
-or_either true b is = inl refl
-or_either false b is = inr is
-
 module _ {A : Type 0} (p : A → Bool) where
   first_or : (x : A) (more now : Bool) → (more ≡ true → now ≡ true) → (p x || more) ≡ true → (p x || now) ≡ true
-  first_or x more now f is = by (or_either (p x) more is)
+  first_or x more now f is = by (or_cases (p x) more is)
     where
       by : (p x ≡ true) ⊎ (more ≡ true) → (p x || now) ≡ true
       by (inl own) = or_left (p x) now own
@@ -56,7 +44,7 @@ module _ {A : Type 0} (p : A → Bool) where
   any_front (x ∷ xs) ys is = first_or x (list_any p xs) (list_any p (xs ++ ys)) (any_front xs ys) is
 
   last_of : (y : A) → (p y || false) ≡ true → (false ≡ true) ⊎ (p y ≡ true)
-  last_of y is = by (or_either (p y) false is)
+  last_of y is = by (or_cases (p y) false is)
     where
       by : (p y ≡ true) ⊎ (false ≡ true) → (false ≡ true) ⊎ (p y ≡ true)
       by (inl own) = inr own
@@ -64,7 +52,7 @@ module _ {A : Type 0} (p : A → Bool) where
 
   pub any_last : (xs : List A) (y : A) → list_any p (xs ++ y ∷ []) ≡ true → (list_any p xs ≡ true) ⊎ (p y ≡ true)
   any_last [] y is = last_of y is
-  any_last (x ∷ xs) y is = by (or_either (p x) (list_any p (xs ++ y ∷ [])) is) (any_last xs y)
+  any_last (x ∷ xs) y is = by (or_cases (p x) (list_any p (xs ++ y ∷ [])) is) (any_last xs y)
     where
       rest : (list_any p xs ≡ true) ⊎ (p y ≡ true) → ((p x || list_any p xs) ≡ true) ⊎ (p y ≡ true)
       rest (inl more) = inl (or_right (p x) (list_any p xs) more)
@@ -94,7 +82,7 @@ module _ {A : Type 0} (p : A → Bool) where
       by : (b : Bool) → q x ≡ b → (list_any p xs ≡ true → list_any p (filter q xs) ≡ true)
           → list_any p (cond b (x ∷ filter q xs) (filter q xs)) ≡ true
       by true e more = first_or x (list_any p xs) (list_any p (filter q xs)) more is
-      by false e more = gone (or_either (p x) (list_any p xs) is)
+      by false e more = gone (or_cases (p x) (list_any p xs) is)
         where
           gone : (p x ≡ true) ⊎ (list_any p xs ≡ true) → list_any p (filter q xs) ≡ true
           gone (inl here) = absurd (true≢false (sym (both x here) ∙ e))

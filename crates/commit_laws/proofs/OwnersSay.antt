@@ -22,7 +22,8 @@ use Rattle.commit_laws.proofs.OwnersTakeover.{IsBusy}
 
 -- the takeover of the member is at the commit of the transaction, or at its completion, in the current view
 pub record IsAtCommit (start : Start) (logs : ℕ → List HostStep) (member : Member) (tx : TxId) : Type 0 where
-  pub number_is : (view_after start (tc_of start member) (logs (tc_of start member))).number ≡ (current start logs).number
+  pub number_is : (view_after start (tc_of start member) (logs (tc_of start member))).number
+      ≡ (current start logs).number
   pub busy : IsBusy (takeover_at start logs member).stage
   pub gathered : Gathered
   pub first : slice_get (takeover_at start logs member).gathered 0 ≡ Some gathered

@@ -1,5 +1,5 @@
--- What a takeover sends of commits: a commit goes to the last place of its chain, and the client's side is told of whom it
--- commits.
+-- What a takeover sends of commits: a commit goes to the last place of its chain, and the client's side is told of whom
+-- it commits.
 use Rattle.std.proofs.Common.{ℕ, Bool, true, false, List, map, ◌≡◌, ◌≤◌, ◌+◌, take, drop, length, nat_lt, sym, subst, arith}
 use Rattle.std.specs.Prelude.{Option, None, Some, remove, slice_get}
 use Rattle.std.specs.List.{flat_map}

@@ -1,5 +1,5 @@
--- What coordinators send of commits: a commit goes to the last place of its chain, and there is no word of rows, and none
--- of the client's side.
+-- What coordinators send of commits: a commit goes to the last place of its chain, and there is no word of rows, and
+-- none of the client's side.
 use Rattle.std.proofs.Common.{◌==◌, ℕ, Bool, true, false, List, ◌≤◌, ◌+◌, take, drop, length, nat_lt, arith}
 use Rattle.std.specs.Prelude.{Option, None, Some, slice_get}
 use Rattle.std.specs.List.{flat_map}

@@ -71,7 +71,8 @@ module _ (shape : Shape) (fragment : ℕ) where
           → length (in_turn shape view fragment n
           ++ cond b (first_start (node_in_turn shape fragment n) ∷ []) []) ≤ suc n
       by true few =
-          omega (arith, few, length_both (in_turn shape view fragment n) (first_start (node_in_turn shape fragment n) ∷ []))
+          omega (arith, few, length_both (in_turn shape view fragment n)
+          (first_start (node_in_turn shape fragment n) ∷ []))
       by false few = omega (arith, few, length_both (in_turn shape view fragment n) [])
 
   turn_full : (view : View) (n : ℕ) (m : Member) → IsIn m (in_turn shape view fragment n) → is_full view m ≡ true
@@ -138,7 +139,8 @@ module _ (start : Start) (key : List ℕ) where
     chained m there =
         subst (IsIn m) (sym chain_turns)
         (in_all 8 (replicas view) m
-        (omega (arith, turn_few start.shape (frag_of start.shape key) view start.shape.replicas, is.replicas_few)) there)
+        (omega (arith, turn_few start.shape (frag_of start.shape key) view start.shape.replicas, is.replicas_few))
+        there)
 
     in_turns : (m : Member) → IsIn m (chain_of (layout_in start view) key) → IsIn m (replicas view)
     in_turns m there = in_some 8 (replicas view) m (subst (IsIn m) chain_turns there)
@@ -153,10 +155,12 @@ module _ (start : Start) (all : ℕ → List HostStep) (es : List HostStep) (mom
   view = current start (logs_of start es)
 
   now_later : NobodyLater (current start (logs_of start es))
-  now_later = nobody_later start all moment.cluster (current start (logs_of start es)) (moment_installed start all es moment)
+  now_later = nobody_later start all moment.cluster (current start (logs_of start es))
+      (moment_installed start all es moment)
 
   -- who is in the chain of a key is a replica of it
-  pub chain_replica : (key : List ℕ) (m : Member) → IsIn m (chain_of (layout_in start (current start (logs_of start es))) key)
+  pub chain_replica : (key : List ℕ) (m : Member)
+      → IsIn m (chain_of (layout_in start (current start (logs_of start es))) key)
       → IsReplicaOf start (logs_of start es) key m
   chain_replica key m there =
       record { full = chain_full start key moment.cluster.shape view now_later m there; chained = there }

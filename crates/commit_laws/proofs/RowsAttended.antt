@@ -1,5 +1,5 @@
--- At each moment the transaction of each request that waits at rows for a key holds its lock as it needs to, or waits for
--- it, and no two are of one transaction.
+-- At each moment the transaction of each request that waits at rows for a key holds its lock as it needs to, or waits
+-- for it, and no two are of one transaction.
 use Rattle.std.proofs.Common.{◌≡◌, ◌⊎◌, ◌==◌, ◌∙◌, ℕ, Bool, true, false, List, [], ◌∷◌, refl, sym, ap, subst, inl, inr}
 use Rattle.std.specs.Prelude.{if◌then◌else◌, Option, None, Some}
 use Rattle.run_theory.specs.Lists.{Each, IsIn}
@@ -80,7 +80,8 @@ on_so P own key event none is = by (same_key own key)
 module _ (forth : ForthIsKnownAlways) (start : Start) (all : ℕ → List HostStep) where
   module _ (e : HostStep) (es : List HostStep) (moment : IsMoment start all (e ∷ es)) (member : Member)
       (there : IsIn member (made start)) (key : List ℕ) (s : ReplicaState)
-      (between : IsBetween start all e es moment member there s) (taken : IsTakenAt start all e es moment member there s)
+      (between : IsBetween start all e es moment member there s)
+      (taken : IsTakenAt start all e es moment member there s)
     where
       abbrev old : ℕ → List HostStep
       old = logs_of start es
@@ -159,10 +160,12 @@ module _ (forth : ForthIsKnownAlways) (start : Start) (all : ℕ → List HostSt
         where
           by : IsBetween start all e es moment member there s → IsWell s.lqh
           by (as_was is stood) =
-              subst (λ (s : ReplicaState). IsWell s.lqh) (sym is) (rows_well start member there (old (ldm_of start member)))
+              subst (λ (s : ReplicaState). IsWell s.lqh) (sym is)
+              (rows_well start member there (old (ldm_of start member)))
           by (entered view is) =
               subst (λ (s : ReplicaState). IsWell s.lqh) (sym is)
-              (installations_keep_well (rows_at start old member) view (rows_well start member there (old (ldm_of start member))))
+              (installations_keep_well (rows_at start old member) view
+              (rows_well start member there (old (ldm_of start member))))
 
       -- it is so of the rows before they take the signal
       pub attended_between : AreAttended (replica_at start old member key) → AreAttended r
@@ -174,7 +177,8 @@ module _ (forth : ForthIsKnownAlways) (start : Start) (all : ℕ → List HostSt
               subst (λ (s : ReplicaState). AreAttended (at_key key s.lqh)) (sym is)
               (installed_are_attended (rows_at start old member) view key)
 
-      taken_attended : AreAttended (replica_at start old member key) → AreAttended (at_key key (replica_row s x).state.lqh)
+      taken_attended : AreAttended (replica_at start old member key)
+          → AreAttended (at_key key (replica_row s x).state.lqh)
       taken_attended was = signals_keep_attended s x key well_between one_by_one (attended_between was)
 
   pub rows_attended : (es : List HostStep) → IsMoment start all es → (member : Member) → IsIn member (made start)

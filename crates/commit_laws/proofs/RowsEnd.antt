@@ -1,5 +1,5 @@
--- What rows send of commits: they pass a commit on to the place in front of theirs, and tell of it at the first place; and
--- so with completions.
+-- What rows send of commits: they pass a commit on to the place in front of theirs, and tell of it at the first place;
+-- and so with completions.
 use Rattle.std.proofs.Common.{◌≡◌, ◌==◌, ◌-◌, ℕ, Bool, true, false, List, [], ◌∷◌, map, refl, sym, subst}
 use Rattle.std.proofs.lemmas.Bool.{eqb-true}
 use Rattle.std.specs.Prelude.{Option, None, Some}
@@ -72,7 +72,8 @@ module _ (taken : Body) where
     passes = λ image next is. tt;
   }
 
-  addressed_words : (view : View) (sends : List Outgoing) → AreRowsWords sends → AreRowsWords (map (addressed view) sends)
+  addressed_words : (view : View) (sends : List Outgoing) → AreRowsWords sends
+      → AreRowsWords (map (addressed view) sends)
   addressed_words view [] all = tt
   addressed_words view (send ∷ sends) all =
       (subst IsRowsWord (sym (same-body view send)) all.0, addressed_words view sends all.1)
@@ -116,7 +117,8 @@ table_words s body =
       waited = λ at r is. request_words body r;
       grants_more = tt;
       expires_more = tt;
-      commits_on = λ tx key epoch chain at is behind. record { at = at; body_is = is; behind = behind; front_is = refl };
+      commits_on = λ tx key epoch chain at is behind. record
+          { at = at; body_is = is; behind = behind; front_is = refl };
       committed = λ tx key epoch chain at is first.
           record { epoch = epoch; chain = chain; at = at; body_is = is; first = eqb-true at 0 first };
       completes_on = λ tx key chain at is behind. tt;
@@ -130,7 +132,8 @@ table_words s body =
 
 module _ (s : ReplicaState) (x : Signal) where
   passed_words : AreRowsWords x.body (passed s x).effects.sends
-  passed_words = addressed_words x.body s.lqh.layout.view (lqh_table s.lqh x.body).effects.sends (table_words s.lqh x.body)
+  passed_words = addressed_words x.body s.lqh.layout.view (lqh_table s.lqh x.body).effects.sends
+      (table_words s.lqh x.body)
 
   serve_words : (b : Bool) → AreRowsWords x.body (serve_if s x b).effects.sends
   serve_words true = tt

@@ -1,5 +1,5 @@
--- What becomes of the rows of a member at an event: nothing, or a view is installed, or they take the signal of the event,
--- which then is of the current view, if it is of a kind that fences stop.
+-- What becomes of the rows of a member at an event: nothing, or a view is installed, or they take the signal of the
+-- event, which then is of the current view, if it is of a kind that fences stop.
 use Rattle.std.proofs.Common.{◌≡◌, ◌≢◌, ◌⊎◌, ◌++◌, ◌∙◌, ℕ, List, [], ◌∷◌, append-nil, refl, sym, ap, subst, inl, inr}
 use Rattle.std.proofs.lemmas.Bool.{cases_eq}
 use Rattle.run_theory.specs.Lists.{IsIn}
@@ -52,13 +52,14 @@ module _ (start : Start) (all : ℕ → List HostStep) (e : HostStep) (es : List
     abbrev h : ℕ
     h = ldm_of start member
 
-    -- the rows before the signal is taken: as they were, where their host stood in its view before, or with another view
+    -- the rows before the signal is taken: as they were, where their host stood in its view before, or with another
+    -- view
     pub data IsBetween (s : ReplicaState) : Type 0 where
       as_was : s ≡ rows_at start old member → view_after start h (e ∷ old h) ≡ view_after start h (old h) → IsBetween s
       entered : (view : View) → s ≡ installed (rows_at start old member) view → IsBetween s
 
-    -- what the host of the rows sends is what these send, or nothing; and its marks are theirs, behind some that mark nothing
-    -- to be applied
+    -- what the host of the rows sends is what these send, or nothing; and its marks are theirs, behind some that mark
+    -- nothing to be applied
     pub record IsTakenAt (s : ReplicaState) : Type 0 where
       pub at : e.host ≡ h
       pub now : IsTakenNow start all e es moment block.Lqh
@@ -121,7 +122,8 @@ module _ (start : Start) (all : ℕ → List HostStep) (e : HostStep) (es : List
       between_is between seen (remains same stands none) stood =
           as_was (ap (λ (q : LdmPart). q.replica) same ∙ sym was) (view_is seen stood ∙ stands)
       between_is between seen (installs above same stands is) stood =
-          entered x.view (ap (λ (q : LdmPart). q.replica) same ∙ ap (λ (s : ReplicaState). installed s x.view) (sym was))
+          entered x.view (ap (λ (q : LdmPart). q.replica) same
+          ∙ ap (λ (s : ReplicaState). installed s x.view) (sym was))
 
       -- the rows take nothing
       idle : (between : LdmPart) (seen : View) → Entering p view_was x between seen
@@ -188,4 +190,5 @@ module _ (start : Start) (all : ℕ → List HostStep) (e : HostStep) (es : List
         by : (e.host ≡ h) ⊎ (e.host ≢ h) → RowsGo
         by (inl at) = own_go at
         by (inr other) =
-            rest (ap (rows_after start member) (log_of-other (machine start) e es h other)) (λ here. absurd (other here))
+            rest (ap (rows_after start member) (log_of-other (machine start) e es h other))
+            (λ here. absurd (other here))

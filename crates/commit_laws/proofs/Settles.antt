@@ -1,4 +1,5 @@
--- What is decided and kept is settled for each key: it waited for its epoch with the operations with which it is decided.
+-- What is decided and kept is settled for each key: it waited for its epoch with the operations with which it is
+-- decided.
 use Rattle.std.proofs.Common.{◌≡◌, ◌⊎◌, ◌||◌, ◌&&◌, ◌∙◌, ℕ, Bool, true, false, not, List, ◌∷◌, refl, sym, ap, subst, inl, inr}
 use Rattle.std.proofs.lemmas.Bool.{true≢false}
 use Rattle.std.specs.Prelude.{if◌then◌else◌, None, Some}
@@ -76,7 +77,8 @@ module _ (forth : ForthIsKnownAlways) (transit : MomentsHaveTransit) (start : St
     own = log_of-own (machine start) e es (tc_of start (coordinator_member tx)) decides.at
 
     heard : Heard start (coordinator_member tx) (e ∷ log)
-    heard = subst (Heard start (coordinator_member tx)) own (heard_at start all (coordinator_member tx) there (e ∷ es) moment)
+    heard = subst (Heard start (coordinator_member tx)) own
+        (heard_at start all (coordinator_member tx) there (e ∷ es) moment)
 
     kept_log : IsKeptLog start (coordinator_member tx) there log
     kept_log = is_kept start (coordinator_member tx) there log heard.1

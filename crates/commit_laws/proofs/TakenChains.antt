@@ -1,5 +1,5 @@
--- A signal about a chain that rows take is of the current view, which stays as it was; what is told of each that was sent is
--- told of it.
+-- A signal about a chain that rows take is of the current view, which stays as it was; what is told of each that was
+-- sent is told of it.
 use Rattle.std.proofs.Common.{◌≡◌, ◌≢◌, ◌≤◌, ◌∙◌, ℕ, true, List, ◌∷◌, sym, ap, subst, arith}
 use Rattle.sig_core.specs.declared.member.Member.{Member}
 use Rattle.sig_core.specs.declared.member.TxId.{TxId}
@@ -67,7 +67,8 @@ module _ (start : Start) (all : ℕ → List HostStep) (e : HostStep) (es : List
       says =
           subst (SaysCommit (fate start old)) is
           (chain_told
-          (λ (y : Addressed). y.signal.view.number ≡ current_number start old → SaysCommit (fate start old) y.signal.body)
+          (λ (y : Addressed). y.signal.view.number ≡ current_number start old
+          → SaysCommit (fate start old) y.signal.body)
           spoken.commits_said chain_number)
 
       pub says_abort : SaysAbort (fate start (logs_of start es)) (Chain signal)
@@ -78,7 +79,8 @@ module _ (start : Start) (all : ℕ → List HostStep) (e : HostStep) (es : List
       tells : TellsForth (IsForth start old) (Chain signal)
       tells =
           subst (TellsForth (IsForth start old)) is
-          (chain_told (λ (y : Addressed). TellsForth (IsForth start old) y.signal.body) (forth start all es before).signals)
+          (chain_told (λ (y : Addressed). TellsForth (IsForth start old) y.signal.body)
+          (forth start all es before).signals)
 
       commits_not : (f : Fate) → f ≡ commits → f ≢ aborts
       commits_not f is same = let both : commits ≡ aborts = sym is ∙ same in cc

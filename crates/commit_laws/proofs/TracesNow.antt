@@ -1,5 +1,5 @@
--- At an event: what is committed, or remembered of a commit, is of a key that its transaction wrote; and a marker comes to
--- stand alone when all is done.
+-- At an event: what is committed, or remembered of a commit, is of a key that its transaction wrote; and a marker comes
+-- to stand alone when all is done.
 use Rattle.std.proofs.Common.{◌≡◌, ◌≢◌, ◌⊎◌, ◌||◌, ◌&&◌, ◌∙◌, ℕ, Bool, true, false, List, [], ◌∷◌, refl, sym, ap, subst, inl, inr}
 use Rattle.std.proofs.lemmas.Bool.{and_parts, cases_eq, or_left, or_right, true≢false}
 use Rattle.std.specs.Prelude.{if◌then◌else◌, Option, None, Some}
@@ -83,7 +83,8 @@ module _ (forth : ForthIsKnownAlways) where
       pub marker_commits : has_marker_at start (logs_of start es) member key tx ≡ true
           → fate start (logs_of start es) tx ≡ commits
       marker_commits on =
-          traced (marker_forth forth start all es moment member (member_made start all es moment member among) key tx on)
+          traced (marker_forth forth start all es moment member (member_made start all es moment member among) key tx
+          on)
           (or_right (list_any (is_committed_of tx) (rows_at start logs member).lqh.rows.pending)
           (list_any (is_marker_of tx) (rows_at start logs member).lqh.markers) left)
         where
@@ -98,15 +99,18 @@ module _ (forth : ForthIsKnownAlways) where
           → r.committed ≡ true → fate start (logs_of start es) tx ≡ commits
       record_commits r is done =
           traced
-          (record_forth forth start all es moment member (member_made start all es moment member among) key tx r is done)
+          (record_forth forth start all es moment member (member_made start all es moment member among) key tx r is
+          done)
           (or_left (list_any (is_committed_of tx) (rows_at start logs member).lqh.rows.pending)
-          (list_any (is_marker_of tx) (rows_at start logs member).lqh.markers) (by (list_any (is_committed_of tx) (rows_at start logs member).lqh.rows.pending) refl))
+          (list_any (is_marker_of tx) (rows_at start logs member).lqh.markers)
+          (by (list_any (is_committed_of tx) (rows_at start logs member).lqh.rows.pending) refl))
         where
           by : (b : Bool) → list_any (is_committed_of tx) (rows_at start logs member).lqh.rows.pending ≡ b → b ≡ true
           by true some = refl
           by false none =
               let one =
-              record_there (λ (x : PendingRecord). is_committed_of tx x ≡ false) (rows_at start logs member).lqh.rows tx key r
+              record_there (λ (x : PendingRecord). is_committed_of tx x ≡ false) (rows_at start logs member).lqh.rows
+              tx key r
               (each_fails (is_committed_of tx) (rows_at start logs member).lqh.rows.pending none) is in
               absurd (true≢false
               (sym (ap (λ t. same_tx t tx && one.own.committed) one.tx_is
@@ -156,7 +160,8 @@ module _ (forth : ForthIsKnownAlways) where
                 marker_forth forth start all es before member there key tx
                 (sym (ap (λ (s : ReplicaState). list_any (is_marker tx key) s.lqh.markers) (other_rows other)) ∙ on)
 
-      module _ (remembered : CommitsAreRemembered) (acknowledged : AcknowledgedAreKnown) (stood : AllStand start es) where
+      module _ (remembered : CommitsAreRemembered) (acknowledged : AcknowledgedAreKnown) (stood : AllStand start es)
+          where
         module _ (member : Member) (there : IsIn member (made start)) (key : List ℕ) (tx : TxId) where
           -- a commit of a record is of a key that it wrote
           pub commit_written : TakesNow start all e es moment member there → (epoch : ℕ) (chain : List Member) (at : ℕ)
@@ -164,7 +169,8 @@ module _ (forth : ForthIsKnownAlways) where
               → record_at start (logs_of start es) member key tx ≡ Some r → HasWritten start (logs_of start es) tx key
           commit_written takes epoch chain at about r is =
               let one =
-              commit_kept start all e es moment takes.now (Commit tx key epoch chain at) about forth stood.spoken tx key epoch
+              commit_kept start all e es moment takes.now (Commit tx key epoch chain at) about forth stood.spoken tx
+              key epoch
               chain at refl in
               (stood.commits.records tx one.kept member there key r is).0
 
@@ -192,7 +198,8 @@ module _ (forth : ForthIsKnownAlways) where
                     → (if b then None else Some own) ≡ Some r → HasWritten start old tx key
                 unless_so own true so same = absurd cc
                 unless_so own false so same =
-                    absurd (true≢false (sym done ∙ (ap (λ (x : PendingRecord). x.committed) (sym (some_is own r same)) ∙ so)))
+                    absurd (true≢false (sym done
+                    ∙ (ap (λ (x : PendingRecord). x.committed) (sym (some_is own r same)) ∙ so)))
 
                 by : RecordGoes start all e es moment member there key tx → (o : Option PendingRecord)
                     → record_at start old member key tx ≡ o → HasWritten start old tx key
@@ -213,7 +220,8 @@ module _ (forth : ForthIsKnownAlways) where
             marker_written : has_marker_at start new member key tx ≡ true → HasWritten start old tx key
             marker_written on = by (goes.marker_gives on)
               where
-                by : (has_marker_at start old member key tx ≡ true) ⊎ IsMarkedNow start all e es moment member there key tx
+                by : (has_marker_at start old member key tx ≡ true)
+                    ⊎ IsMarkedNow start all e es moment member there key tx
                     → HasWritten start old tx key
                 by (inl was) = stood.commits.written tx member there key (marked_there was)
                 by (inr now) =
@@ -246,7 +254,8 @@ module _ (forth : ForthIsKnownAlways) where
             → record_at start (logs_of start (e ∷ es)) member key tx ≡ None
             → IsDone start (logs_of start (e ∷ es)) tx
         alone_now member among key tx on none =
-            done_stays forth remembered acknowledged start all e es moment tx (forth_decided start all es before tx gone)
+            done_stays forth remembered acknowledged start all e es moment tx
+            (forth_decided start all es before tx gone)
             (by ((goes member there key tx gone).marker_gives on))
           where
             was_among : IsIn member (members_now start old)
@@ -273,7 +282,8 @@ module _ (forth : ForthIsKnownAlways) where
             old_marker was (is_aborted takes about now) (Some own) is =
                 absurd (let both : commits ≡ aborts =
                 sym (marker_commits start all es before member was_among key tx was)
-                ∙ abort_aborts start all e es moment takes.now (Abort tx key) about forth stood.spoken tx key refl in cc)
+                ∙ abort_aborts start all e es moment takes.now (Abort tx key) about forth stood.spoken tx key refl in
+                cc)
 
             new_marker : IsMarkedNow start all e es moment member there key tx
                 → RecordGoes start all e es moment member there key tx → IsDone start old tx
@@ -283,7 +293,8 @@ module _ (forth : ForthIsKnownAlways) where
             new_marker now (is_completed takes chain at about is) =
                 complete_done member there takes tx key chain at about
             new_marker now (is_aborted takes about is) =
-                absurd (let both : Chain (Abort tx key) ≡ Chain (Commit tx key now.commits.epoch now.commits.chain now.commits.at) =
+                absurd (let both : Chain (Abort tx key)
+                    ≡ Chain (Commit tx key now.commits.epoch now.commits.chain now.commits.at) =
                 sym about ∙ now.commits.body_is in cc)
 
             by : (has_marker_at start old member key tx ≡ true) ⊎ IsMarkedNow start all e es moment member there key tx
