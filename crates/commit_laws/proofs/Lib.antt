@@ -29,6 +29,7 @@ pub mod ImagesLeft
 pub mod KeptNow
 pub mod KeptRows
 pub mod KeyGoes
+pub mod KnownComes
 pub mod LdmGoes
 pub mod LedAlong
 pub mod LedDecisions
