@@ -20,6 +20,7 @@ use Rattle.sig_core.proofs.TxLemmas.{same_tx-is}
 use Rattle.node_views.specs.WellFormed.{is_well_formed}
 use Rattle.world_core.specs.Start.{Start}
 use Rattle.world_core.specs.Steps.{Addressed, HostStep}
+use Rattle.world_views.specs.Hosts.{started}
 use Rattle.world_views.specs.Machine.{IsOwnWork, machine, step_after}
 use Rattle.moment_laws.specs.Moments.{IsMoment, current, logs_of}
 use Rattle.moment_laws.proofs.MomentSignals.{EachSent, IsClosed, taken_told}
@@ -78,6 +79,7 @@ module _ (tellers : TellersAreFull) (start : Start) (all : ℕ → List HostStep
       told : IsToldOf tx e.step.taken.body
 
     ends : AreEnds TakesWord sends
+    unfolding started
     ends = beside_ends start 0 tt TakesWord (old 0) e (λ sound tx told. record { sound = sound; told = told })
 
     word_of : (tx : TxId) (body : Body) → IsEnd TakesWord body → is_acknowledgement tx body ≡ true → TakesWord tx

@@ -1,5 +1,6 @@
 pub mod AppliedMarks
 pub mod Calm
+pub mod ClientViews
 pub mod CommitPlaces
 pub mod CommitsFirst
 pub mod CommitsKept
