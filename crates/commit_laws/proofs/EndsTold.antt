@@ -10,7 +10,7 @@ use Rattle.sig_core.specs.declared.place.BlockId.TheVariants as block
 use Rattle.sig_core.specs.declared.signal.Body.{Body}
 use Rattle.sig_core.specs.declared.signal.Body.TheVariants.{Chain, Client, Takeover}
 use Rattle.sig_core.specs.declared.signal.Signal.{Signal}
-use Rattle.sig_core.specs.declared.signal.client.ClientSignal.TheVariants.{TcCommitAck, TcKeyFailConf, ViewRep}
+use Rattle.sig_core.specs.declared.signal.client.ClientSignal.TheVariants.{TcCommitAck, TcCommitConf, TcKeyFailConf, ViewRep}
 use Rattle.sig_core.specs.declared.view.View.{View}
 use Rattle.sig_core.specs.Step.{Effects, Step}
 use Rattle.api_views.specs.Client.{client_row}
@@ -48,6 +48,7 @@ module _ (D : TxId → Type 0) where
   abbrev pub IsEnd : Body → Type 0
   IsEnd (Chain signal) = ⊥
   IsEnd (Client (TcCommitAck tx)) = D tx
+  IsEnd (Client (TcCommitConf tx epoch)) = ⊥
   IsEnd (Client (TcKeyFailConf tx epoch)) = ⊥
   IsEnd body = Unit {0}
 
@@ -81,6 +82,7 @@ module _ (D : TxId → Type 0) where
   module _ (x : Signal) (so : (tx : TxId) → IsToldOf tx x.body → D tx) where
     answers_end : (body : Body) → is_of_client body ≡ true → Answers x.body body → IsEnd body
     answers_end (Client (TcCommitAck tx)) kind answers = so tx answers
+    answers_end (Client (TcCommitConf tx epoch)) kind answers = absurd cc
     answers_end (Client (TcKeyFailConf tx epoch)) kind answers = absurd cc
     answers_end (Chain signal) kind answers = absurd answers
     answers_end (Takeover signal) kind answers = absurd answers

@@ -48,6 +48,7 @@ pub mod MarkerLists
 pub mod MarkerMoves
 pub mod MarkerRows
 pub mod MarkerSteps
+pub mod OwnTellers
 pub mod OwnersCoordinator
 pub mod OwnersHosts
 pub mod OwnersSay

@@ -12,7 +12,7 @@ use Rattle.sig_core.specs.declared.signal.Body.{Body}
 use Rattle.sig_core.specs.declared.signal.Body.TheVariants.{Chain, Client, Epoch, Host, Membership, Takeover}
 use Rattle.sig_core.specs.declared.signal.Signal.{Signal}
 use Rattle.sig_core.specs.declared.signal.chain.ChainSignal.TheVariants.{Commit, Committed, Complete, Completed}
-use Rattle.sig_core.specs.declared.signal.client.ClientSignal.TheVariants.{TcCommitAck, TcKeyFailConf}
+use Rattle.sig_core.specs.declared.signal.client.ClientSignal.TheVariants.{TcCommitAck, TcCommitConf, TcKeyFailConf}
 use Rattle.sig_core.specs.declared.signal.epoch.EpochSignal.{EpochSignal}
 use Rattle.sig_core.specs.declared.signal.epoch.EpochSignal.TheVariants.{GcpClosed, GcpSaveReq, GcpStateReq}
 use Rattle.sig_core.specs.declared.signal.host.HostSignal.TheVariants.{Continue}
@@ -58,6 +58,7 @@ module _ (taken : Body) where
   IsRowsWord (Chain (Committed tx key)) = TellsCommit tx key
   IsRowsWord (Chain (Completed tx key)) = TellsCompletion tx key
   IsRowsWord (Client (TcCommitAck tx)) = ⊥
+  IsRowsWord (Client (TcCommitConf tx epoch)) = ⊥
   IsRowsWord (Client (TcKeyFailConf tx epoch)) = ⊥
   IsRowsWord body = Unit {0}
 
