@@ -40,22 +40,14 @@ use Rattle.commit_laws.proofs.ForthAll.{forth_is_known}
 use Rattle.commit_laws.proofs.ForthClient.{IsToldOf, by_coordinator, by_takeover}
 use Rattle.commit_laws.proofs.Passing.{passing}
 use Rattle.commit_laws.proofs.ReplicasNow.{chain_replica, members_full}
+use Rattle.commit_laws.proofs.TellersFull.{teller_full}
 use Rattle.commit_laws.proofs.TracesNow.{marker_commits, record_commits}
-
--- the client's side acknowledges what it is told by full members of the current view
-abbrev pub TellersAreFull : Type 0
-TellersAreFull =
-    (start : Start) (all : ℕ → List HostStep) (e : HostStep) (es : List HostStep) → IsMoment start all (e ∷ es)
-    → e.host ≡ 0 → is_well_formed start.shape e.step.taken ≡ true → (tx : TxId) (epoch : ℕ)
-    → e.step.taken.body ≡ Client (TcCommitConf tx epoch)
-    → is_sent (is_acknowledgement tx) (step_after start 0 (logs_of start es 0) e).effects.sends ≡ true
-    → is_led_by_full start (logs_of start es) tx ≡ true
 
 -- a closing tells of nothing
 not_closing : (signal : ClientSignal) (body : Body) → body ≡ Client signal → IsClosed body → ⊥
 not_closing signal body is closes = let both : Client signal ≡ Host (Closed closes.cause) = sym is ∙ closes.is in cc
 
-module _ (tellers : TellersAreFull) (start : Start) (all : ℕ → List HostStep) (e : HostStep) (es : List HostStep)
+module _ (start : Start) (all : ℕ → List HostStep) (e : HostStep) (es : List HostStep)
     (follows : Follows start all e es)
   where
     abbrev old : ℕ → List HostStep
@@ -162,7 +154,7 @@ module _ (tellers : TellersAreFull) (start : Start) (all : ℕ → List HostStep
             by (by_coordinator epoch body_is) =
                 forth_commits (is_known start old tx) (is_led_by_full start old tx) (is_forth start old tx)
                 (is_lost start old tx) (has_trace start old tx)
-                (tellers start all e es moment at word.sound tx epoch body_is acknowledges)
+                (teller_full start all e es moment at word.sound tx epoch body_is acknowledges)
                 (told_of (TellsForth (IsForth start old)) (TcCommitConf tx epoch) body_is
                 (forth_is_known start all es before).signals)
             by (by_takeover epoch body_is) =
@@ -170,5 +162,5 @@ module _ (tellers : TellersAreFull) (start : Start) (all : ℕ → List HostStep
                 told_of (ComesWhenDone start old) (TcKeyFailConf tx epoch) body_is follows.stood.commits.done in
                 traced done.1.key (done.0 done.1.key done.1.written)
 
-pub known_comes : TellersAreFull → KnownCommit
-known_comes tellers start all e es follows tx is off = comes tellers start all e es follows tx off is
+pub known_commit : KnownCommit
+known_commit start all e es follows tx is off = comes start all e es follows tx off is

@@ -62,5 +62,7 @@ pub mod RowsAttended
 pub mod RowsEnd
 pub mod RowsGo
 pub mod Settles
+pub mod ShellSees
 pub mod TakenChains
+pub mod TellersFull
 pub mod TracesNow
