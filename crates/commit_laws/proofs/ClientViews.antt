@@ -23,7 +23,7 @@ use Rattle.sig_core.specs.Step.{Step, stay}
 use Rattle.api_block.specs.declared.opened.OpenTransaction.{OpenTransaction}
 use Rattle.api_block.specs.Api.{api_table, request_row}
 use Rattle.api_block.specs.Commands.{ticked_if}
-use Rattle.api_block.specs.Opened.{begins_at, has_tx, if_there, is_unanswered, own_place, place_named, where_at}
+use Rattle.api_block.specs.Opened.{if_there, is_unanswered, own_place, place_named, where_at}
 use Rattle.api_block.specs.Outcome.{abort_report_row, commit_report_row}
 use Rattle.api_block.specs.State.{ApiState}
 use Rattle.api_block.specs.Views.{dump_node}
@@ -37,7 +37,7 @@ use Rattle.api_views.specs.Closings.{asked_if, closed_if, closed_row, closing_ro
 use Rattle.api_views.specs.Commands.{begin_if, begin_row, cut_by, cut_row, kill_if, kill_row, lone_by, lone_row, lowest, node_for, on_api, rows_if, rows_row, serves, show_row}
 use Rattle.api_views.specs.Members.{noted}
 use Rattle.api_views.specs.Pending.{client_pending_row, closing_left, obstacle, obstructed, obstructed_by, waits_by, waits_if}
-use Rattle.api_views.specs.Reports.{broken_by, complete_row, dump_breaks, ended_by, going_on, place_due, report_row, stop_row, stop_told_if, told_if, unasked, unasked_if, verdict, with_stop}
+use Rattle.api_views.specs.Reports.{broken_by, complete_row, dump_breaks, ended_by, place_due, report_row, stop_row, stop_told_if, told_if, unasked_if, verdict, with_stop}
 use Rattle.api_views.specs.Rounds.{round_effects, tick_row, ticked_if as last_ticked_if}
 use Rattle.api_views.specs.State.{ClientState, aside}
 use Rattle.api_views.specs.Stops.{is_down, is_sibling, is_told, runs}

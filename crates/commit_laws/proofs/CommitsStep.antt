@@ -89,7 +89,7 @@ not_first zero off = absurd (true≢false off)
 not_first (suc at) off = omega arith
 
 -- a closing tells of nothing
-not_closing : (signal : ClientSignal) (body : Body) → body ≡ Client signal → IsClosed body → ⊥
+pub not_closing : (signal : ClientSignal) (body : Body) → body ≡ Client signal → IsClosed body → ⊥
 not_closing signal body is closes = let both : Client signal ≡ Host (Closed closes.cause) = sym is ∙ closes.is in cc
 
 module _ (forth : ForthIsKnownAlways) (remembered : CommitsAreRemembered) (acknowledged : AcknowledgedAreKnown)

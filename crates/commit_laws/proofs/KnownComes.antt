@@ -12,10 +12,9 @@ use Rattle.sig_core.specs.declared.member.TxId.{TxId}
 use Rattle.sig_core.specs.declared.outs.Outgoing.{Outgoing}
 use Rattle.sig_core.specs.declared.rows.PendingRecord.{PendingRecord}
 use Rattle.sig_core.specs.declared.signal.Body.{Body}
-use Rattle.sig_core.specs.declared.signal.Body.TheVariants.{Client, Host}
+use Rattle.sig_core.specs.declared.signal.Body.TheVariants.{Client}
 use Rattle.sig_core.specs.declared.signal.client.ClientSignal.{ClientSignal}
 use Rattle.sig_core.specs.declared.signal.client.ClientSignal.TheVariants.{TcCommitAck, TcCommitConf, TcKeyFailConf}
-use Rattle.sig_core.specs.declared.signal.host.HostSignal.TheVariants.{Closed}
 use Rattle.sig_core.proofs.TxLemmas.{same_tx-is}
 use Rattle.node_views.specs.WellFormed.{is_well_formed}
 use Rattle.world_core.specs.Start.{Start}
@@ -23,7 +22,7 @@ use Rattle.world_core.specs.Steps.{Addressed, HostStep}
 use Rattle.world_views.specs.Hosts.{started}
 use Rattle.world_views.specs.Machine.{IsOwnWork, machine, step_after}
 use Rattle.moment_laws.specs.Moments.{IsMoment, current, logs_of}
-use Rattle.moment_laws.proofs.MomentSignals.{EachSent, IsClosed, taken_told}
+use Rattle.moment_laws.proofs.MomentSignals.{EachSent, taken_told}
 use Rattle.moment_laws.proofs.MomentViews.{moment_installed, moment_less}
 use Rattle.request_laws.specs.Routed.{layout_in}
 use Rattle.request_laws.specs.Ways.{is_sent}
@@ -34,6 +33,7 @@ use Rattle.commit_laws.specs.Forth.{IsForth, TellsForth}
 use Rattle.commit_laws.specs.Going.{is_forth, is_lost}
 use Rattle.commit_laws.specs.Together.{Follows, KnownCommit}
 use Rattle.commit_laws.specs.Traces.{IsCommittedAtAll, IsReplicaOf, has_marker_at, has_sent, has_trace, is_acknowledgement, is_committed_by, is_known, members_now, record_at}
+use Rattle.commit_laws.proofs.CommitsStep.{not_closing}
 use Rattle.commit_laws.proofs.EndsTold.{AreEnds, IsEnd, beside_ends}
 use Rattle.commit_laws.proofs.FateCases.{forth_commits}
 use Rattle.commit_laws.proofs.ForthAll.{forth_is_known}
@@ -42,10 +42,6 @@ use Rattle.commit_laws.proofs.Passing.{passing}
 use Rattle.commit_laws.proofs.ReplicasNow.{chain_replica, members_full}
 use Rattle.commit_laws.proofs.TellersFull.{teller_full}
 use Rattle.commit_laws.proofs.TracesNow.{marker_commits, record_commits}
-
--- a closing tells of nothing
-not_closing : (signal : ClientSignal) (body : Body) → body ≡ Client signal → IsClosed body → ⊥
-not_closing signal body is closes = let both : Client signal ≡ Host (Closed closes.cause) = sym is ∙ closes.is in cc
 
 module _ (start : Start) (all : ℕ → List HostStep) (e : HostStep) (es : List HostStep)
     (follows : Follows start all e es)

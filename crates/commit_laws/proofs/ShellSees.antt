@@ -1,5 +1,5 @@
 -- The client's side sees the view in which its host stands, and so when it takes a signal.
-use Rattle.std.proofs.Common.{◌≡◌, ◌≤◌, ◌<◌, ◌∙◌, Bool, true, false, nat_lt, List, [], ◌∷◌, refl, sym, ap, subst, arith}
+use Rattle.std.proofs.Common.{◌≡◌, ◌≤◌, ◌<◌, ◌∙◌, Bool, true, false, nat_lt, List, [], ◌∷◌, refl, sym, ap, arith}
 use Rattle.std.proofs.lemmas.Bool.{lt-ltb, ltb-true}
 use Rattle.std.specs.Prelude.{if◌then◌else◌}
 use Rattle.sig_core.specs.declared.place.BlockId.{BlockId}

@@ -1,18 +1,15 @@
 -- The client's side acknowledges the word of coordinators alone that are full members of the current view.
 use Rattle.std.proofs.Common.{◌≡◌, ◌≤◌, ◌⊎◌, ◌==◌, ◌&&◌, ◌||◌, ◌++◌, ◌∙◌, ℕ, Bool, true, false, List, [], ◌∷◌, refl, sym, ap, subst, inl, inr}
 use Rattle.std.proofs.lemmas.Bool.{and_parts, eq-eqb, eqb-true, or_cases, true≢false}
-use Rattle.std.specs.List.{list_any}
-use Rattle.run_theory.specs.Lists.{Each, IsIn}
 use Rattle.sig_core.specs.declared.member.Member.{Member}
 use Rattle.sig_core.specs.declared.member.TxId.{TxId}
 use Rattle.sig_core.specs.declared.outs.Outgoing.{Outgoing}
 use Rattle.sig_core.specs.declared.place.BlockId.{BlockId}
 use Rattle.sig_core.specs.declared.place.BlockId.TheVariants as block
 use Rattle.sig_core.specs.declared.signal.Body.{Body}
-use Rattle.sig_core.specs.declared.signal.Body.TheVariants.{Client, Host}
+use Rattle.sig_core.specs.declared.signal.Body.TheVariants.{Client}
 use Rattle.sig_core.specs.declared.signal.Signal.{Signal}
 use Rattle.sig_core.specs.declared.signal.client.ClientSignal.TheVariants.{TcCommitAck, TcCommitConf}
-use Rattle.sig_core.specs.declared.signal.host.HostSignal.TheVariants.{Closed}
 use Rattle.sig_core.specs.declared.view.View.{View}
 use Rattle.api_views.specs.Client.{client_row, client_table, is_known as is_vouched, vouched_table}
 use Rattle.api_views.specs.Members.{is_among, is_member, noted, same_member}
@@ -22,12 +19,12 @@ use Rattle.lqh_block.specs.Views.{is_coordinated, was_begun_by}
 use Rattle.node_views.specs.Parts.{shell_row}
 use Rattle.node_views.specs.WellFormed.{is_well_formed}
 use Rattle.world_core.specs.Start.{Start}
-use Rattle.world_core.specs.Steps.{Addressed, HostStep}
+use Rattle.world_core.specs.Steps.{HostStep}
 use Rattle.world_views.specs.Machine.{IsOwnWork, step_after}
 use Rattle.view_laws.specs.Runs.{view_after}
 use Rattle.moment_laws.specs.Moments.{IsMoment, current, logs_of}
 use Rattle.moment_laws.specs.PartSteps.{PartEnters, PartTakes, ShellDoes, handles, ignores, installs, remains, shell_kind}
-use Rattle.moment_laws.proofs.MomentSignals.{IsClosed, taken_told}
+use Rattle.moment_laws.proofs.MomentSignals.{taken_told}
 use Rattle.moment_laws.proofs.MomentTurns.{taker_stands}
 use Rattle.moment_laws.proofs.MomentViews.{moment_installed, moment_less}
 use Rattle.outcome_laws.specs.Counts.{coordinator_member}
@@ -37,7 +34,8 @@ use Rattle.request_laws.specs.Ways.{is_sent}
 use Rattle.request_laws.proofs.RouteViews.{nobody_later}
 use Rattle.commit_laws.specs.Fates.{is_led_by_full}
 use Rattle.commit_laws.specs.Traces.{is_acknowledgement}
-use Rattle.commit_laws.proofs.FateViews.{IsSome, any_of, led_was, some_of}
+use Rattle.commit_laws.proofs.CommitsStep.{not_closing}
+use Rattle.commit_laws.proofs.FateViews.{any_of, led_was, some_of}
 use Rattle.commit_laws.proofs.OwnTellers.{IsOfOwn, IsToldByOwn, own_tellers}
 use Rattle.commit_laws.proofs.ShellSees.{IsSeeing, did, noted_sees, seeing}
 
@@ -183,9 +181,7 @@ module _ (start : Start) (all : ℕ → List HostStep) (e : HostStep) (es : List
         (taken_told start IsToldByOwn all e es moment
         (own_tellers start all es (moment_less start all e es moment)) sound
         (λ work. absurd (subst (IsOwnWork start e.host) body_is work))
-        (λ closes.
-        absurd (let both : Client (TcCommitConf tx epoch) ≡ Host (Closed closes.cause) = sym body_is ∙ closes.is in
-        cc)))
+        (not_closing (TcCommitConf tx epoch) x.body body_is))
 
     pub teller_full : is_led_by_full start (logs_of start es) tx ≡ true
     teller_full =
