@@ -187,6 +187,7 @@ module _ (start : Start) (all : ℕ → List HostStep) (e : HostStep) (es : List
     teller_full =
         led_was start all e es moment tx
         (member_leads tx (current start new)
-        (nobody_later start all moment.cluster (current start new) (moment_installed start all (e ∷ es) moment)).starting
+        (nobody_later start all moment.cluster (current start new)
+        (moment_installed start all (e ∷ es) moment)).starting
         (ap (is_member (current start new)) own
         ∙ (ap (λ view. is_member view x.member) (sym stands) ∙ is_known_there.known)))
