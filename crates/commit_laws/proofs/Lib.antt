@@ -34,9 +34,11 @@ pub mod LedAlong
 pub mod LedDecisions
 pub mod LedEntries
 pub mod LedEvents
+pub mod LedFair
 pub mod LedHistories
 pub mod LedKeys
 pub mod LedMoves
+pub mod LedReplicas
 pub mod LockKeeps
 pub mod LocksNow
 pub mod LostDoomed

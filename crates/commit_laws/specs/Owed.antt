@@ -10,14 +10,17 @@ use Rattle.sig_core.specs.declared.member.Member.{Member}
 use Rattle.sig_core.specs.declared.member.TxId.{TxId}
 use Rattle.sig_core.specs.declared.rows.PendingRecord.{PendingRecord}
 use Rattle.key_laws.specs.BackupEvents.{backup_of}
-use Rattle.key_laws.specs.Primary.{ended_too}
+use Rattle.key_laws.specs.Primary.{HasPrepared, ended_too}
 use Rattle.world_core.specs.Start.{Start}
 use Rattle.world_core.specs.Steps.{HostStep}
 use Rattle.view_laws.specs.Order.{decisions}
 use Rattle.moment_laws.specs.Moments.{IsMoment, logs_of}
+use Rattle.commit_laws.specs.Fates.{fate}
+use Rattle.commit_laws.specs.Fates as Fates
+use Rattle.commit_laws.specs.Going.{is_back}
 use Rattle.commit_laws.specs.Led.{IsTidy, Leads}
 use Rattle.commit_laws.specs.Settled.{DecisionsAreSettled, IsDecidedNow, IsPrimary}
-use Rattle.commit_laws.specs.Traces.{IsReplicaOf, record_at, replica_at}
+use Rattle.commit_laws.specs.Traces.{IsApplied, IsReplicaOf, record_at, replica_at}
 use Rattle.commit_laws.specs.Values.{decided_at, first_row, is_final, is_final_entry}
 
 -- the key has a primary, which is one of its replicas
@@ -86,6 +89,26 @@ WhoLetGoAreFinal =
     → record_at start (logs_of start es) member key v ≡ Some r → r.committed ≡ true
     → holds_enough v Exclusive (replica_at start (logs_of start es) member key).lock.holders ≡ false
     → is_final start end v ≡ true
+
+-- whoever is final is never given up by its coordinator
+abbrev pub FinalsGoForward : Type 0
+FinalsGoForward =
+    (start : Start) (all : ℕ → List HostStep) (end es : List HostStep) → IsAlong start all end es → (v : TxId)
+    → is_final start end v ≡ true → is_back start (logs_of start es) v ≡ false
+
+-- whoever was applied is final
+abbrev pub AppliedAreFinal : Type 0
+AppliedAreFinal =
+    (start : Start) (all : ℕ → List HostStep) (end es : List HostStep) → IsAlong start all end es → (v : TxId) (key : List ℕ)
+    → IsApplied start (logs_of start es) v key → is_final start end v ≡ true
+
+-- whoever aborts, and has something prepared, isn't
+abbrev pub AbortedAreNotFinal : Type 0
+AbortedAreNotFinal =
+    (start : Start) (all : ℕ → List HostStep) (end es : List HostStep) → IsAlong start all end es
+    → (key : List ℕ) (member : Member) → IsReplicaOf start (logs_of start es) key member → (v : TxId)
+    → fate start (logs_of start es) v ≡ Fates.aborts
+    → HasPrepared v (replica_at start (logs_of start es) member key).cell.pending → is_final start end v ≡ false
 
 -- what an event does to a key that is tidy at a replica
 abbrev pub EventsLead : Type 0
