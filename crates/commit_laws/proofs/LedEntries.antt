@@ -35,7 +35,7 @@ use Rattle.commit_laws.specs.Owed.{AreFresh, DecisionsAreFresh, EntriesAreFinal,
 use Rattle.commit_laws.specs.Values.{decided_at, history_at, is_final, is_final_entry}
 use Rattle.commit_laws.proofs.FateViews.{any_of, some_of}
 
-any_counts : {A : Type 0} (p : A → Bool) (xs : List A) → list_any p xs ≡ true → 1 ≤ count_by p xs
+pub any_counts : {A : Type 0} (p : A → Bool) (xs : List A) → list_any p xs ≡ true → 1 ≤ count_by p xs
 any_counts p [] any = absurd (true≢false (sym any))
 any_counts {A} p (x ∷ xs) any = by (p x) refl any (any_counts p xs)
   where
