@@ -50,11 +50,11 @@ use Rattle.commit_laws.proofs.LedMoves.{aborts_lead, commits_lead, completions_l
 abbrev seen : Cell → RowLock → Backup
 seen c lock = record { row = c.row; pending = c.pending; holders = lock.holders }
 
-both_lead : (decided final : TxId → Bool) (a b c : Backup) → Leads decided final a b → Leads decided final b c
+pub both_lead : (decided final : TxId → Bool) (a b c : Backup) → Leads decided final a b → Leads decided final b c
     → Leads decided final a c
 both_lead decided final a b c one other = record { tidy = other.tidy; led = λ value led. other.led value (one.led value led) }
 
-itself : (decided final : TxId → Bool) (b : Backup) → IsTidy decided b → Leads decided final b b
+pub itself : (decided final : TxId → Bool) (b : Backup) → IsTidy decided b → Leads decided final b b
 itself decided final b tidy = record { tidy = tidy; led = λ value led. led }
 
 -- only a write takes effect, and that needs the lock exclusive

@@ -39,6 +39,7 @@ pub mod LedHistories
 pub mod LedKeys
 pub mod LedMoves
 pub mod LedReplicas
+pub mod LedRows
 pub mod LockKeeps
 pub mod LocksNow
 pub mod LostDoomed
