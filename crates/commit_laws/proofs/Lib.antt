@@ -31,6 +31,7 @@ pub mod KeptRows
 pub mod KeyGoes
 pub mod LdmGoes
 pub mod LedAlong
+pub mod LedApplied
 pub mod LedDecisions
 pub mod LedEntries
 pub mod LedEvents
