@@ -32,6 +32,7 @@ pub mod KeyGoes
 pub mod LdmGoes
 pub mod LedAlong
 pub mod LedApplied
+pub mod LedBegins
 pub mod LedDecisions
 pub mod LedEntries
 pub mod LedEvents
