@@ -40,6 +40,7 @@ pub mod LedFair
 pub mod LedHistories
 pub mod LedKeys
 pub mod LedMoves
+pub mod LedOwed
 pub mod LedReplicas
 pub mod LedRows
 pub mod LockKeeps

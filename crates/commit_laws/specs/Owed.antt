@@ -17,7 +17,7 @@ use Rattle.view_laws.specs.Order.{decisions}
 use Rattle.moment_laws.specs.Moments.{IsMoment, logs_of}
 use Rattle.commit_laws.specs.Fates.{fate}
 use Rattle.commit_laws.specs.Fates as Fates
-use Rattle.commit_laws.specs.Going.{is_back}
+use Rattle.commit_laws.specs.Going.{is_back, is_forth}
 use Rattle.commit_laws.specs.Led.{IsTidy, Leads}
 use Rattle.commit_laws.specs.Settled.{DecisionsAreSettled, IsDecidedNow, IsPrimary}
 use Rattle.commit_laws.specs.Traces.{IsApplied, IsReplicaOf, record_at, replica_at}
@@ -90,7 +90,13 @@ WhoLetGoAreFinal =
     → holds_enough v Exclusive (replica_at start (logs_of start es) member key).lock.holders ≡ false
     → is_final start end v ≡ true
 
--- whoever is final is never given up by its coordinator
+-- whoever is final was committed by its coordinator
+abbrev pub FinalsAreForth : Type 0
+FinalsAreForth =
+    (start : Start) (all : ℕ → List HostStep) (end : List HostStep) → IsMoment start all end → (v : TxId)
+    → is_final start end v ≡ true → is_forth start (logs_of start end) v ≡ true
+
+-- and never given up
 abbrev pub FinalsGoForward : Type 0
 FinalsGoForward =
     (start : Start) (all : ℕ → List HostStep) (end es : List HostStep) → IsAlong start all end es → (v : TxId)
