@@ -96,7 +96,7 @@ fresh_from decided (mark ∷ marks) new few =
 
 module _ (start : Start) (all : ℕ → List HostStep) (e : HostStep) (es : List HostStep) (moment : IsMoment start all (e ∷ es))
     (u : TxId) where
-  abbrev home : ℕ
+  abbrev pub home : ℕ
   home = tc_of start (coordinator_member u)
 
   -- the decisions of the step, and those before
@@ -110,10 +110,10 @@ module _ (start : Start) (all : ℕ → List HostStep) (e : HostStep) (es : List
   step_few : count_by (is_decision u) e.step.marks ≤ 1
   step_few = omega (arith, own_counts, decided_few start all moment.cluster u e.host)
 
-  step_elsewhere : e.host ≢ home → count_by (is_decision u) e.step.marks ≤ 0
+  pub step_elsewhere : e.host ≢ home → count_by (is_decision u) e.step.marks ≤ 0
   step_elsewhere off = omega (arith, own_counts, none_elsewhere start all moment.cluster u e.host off)
 
-  new_there : (end : List HostStep) → list_any (is_decision u) e.step.marks ≡ true → decided_at start end es u ≡ false
+  pub new_there : (end : List HostStep) → list_any (is_decision u) e.step.marks ≡ true → decided_at start end es u ≡ false
   new_there end any = by (decided_at start end es u) refl (cases_eq e.host home)
     where
       by : (b : Bool) → decided_at start end es u ≡ b → (e.host ≡ home) ⊎ (e.host ≢ home) → b ≡ false

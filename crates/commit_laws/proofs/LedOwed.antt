@@ -15,8 +15,8 @@ use Rattle.request_laws.proofs.PhaseStands.{coordinators_stand}
 use Rattle.request_laws.specs.Ways.{has_gone_back, tells_abort}
 use Rattle.commit_laws.specs.Going.{is_back, is_forth, is_lost}
 use Rattle.commit_laws.specs.Owed.{AbortedAreNotFinal, AreOwed, FinalsAreDecidedNow, FinalsAreForth, FinalsGoForward, IsAlong}
-use Rattle.commit_laws.specs.Settled.{DecisionsAreSettled}
 use Rattle.commit_laws.specs.Together.{AllStandAlways}
+use Rattle.commit_laws.specs.Transit.{MomentsHaveTransit}
 use Rattle.commit_laws.specs.Values.{KeysAreLed, is_final}
 use Rattle.commit_laws.proofs.Calm.{forth_made}
 use Rattle.commit_laws.proofs.DecidedStay.{log_grows}
@@ -28,6 +28,7 @@ use Rattle.commit_laws.proofs.LedEntries.{decisions_fresh, entries_final}
 use Rattle.commit_laws.proofs.LedReplicas.{keys_have_primaries, replicas_were_so, who_let_go_are_final}
 use Rattle.commit_laws.proofs.LedRows.{events_lead}
 use Rattle.commit_laws.proofs.LostStays.{lost_stay}
+use Rattle.commit_laws.proofs.SettledDecisions.{decisions_are_settled}
 
 -- who was given up stays so
 back_past : (start : Start) (all : ℕ → List HostStep) (newer es : List HostStep) → IsMoment start all (newer ++ es)
@@ -87,11 +88,11 @@ finals_are_spared forth start all end es along v is = by (is_lost start (logs_of
         (forth_made start all end along.moment v gone) e)) ∙ not_lost _ _ gone))
 
 -- all of it
-pub keys_are_led : AllStandAlways → DecisionsAreSettled → FinalsAreForth → FinalsAreDecidedNow → AbortedAreNotFinal → KeysAreLed
-keys_are_led stand settled forth finals aborted =
+pub keys_are_led : AllStandAlways → MomentsHaveTransit → FinalsAreForth → FinalsAreDecidedNow → AbortedAreNotFinal → KeysAreLed
+keys_are_led stand transit forth finals aborted =
     let applied = applied_are_final forth_is_known stand in
     keys_led (record {
-      settled = settled;
+      settled = decisions_are_settled forth_is_known transit stand;
       primaries = keys_have_primaries;
       replicas = replicas_were_so;
       begin = replicas_begin_at_rest;

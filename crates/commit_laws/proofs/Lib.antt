@@ -64,6 +64,7 @@ pub mod ReplicasNow
 pub mod RowsAttended
 pub mod RowsEnd
 pub mod RowsGo
+pub mod SettledDecisions
 pub mod Settles
 pub mod TakenChains
 pub mod TracesNow
