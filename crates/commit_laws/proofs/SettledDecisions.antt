@@ -24,7 +24,7 @@ use Rattle.commit_laws.specs.Transit.{MomentsHaveTransit}
 use Rattle.commit_laws.proofs.LedEntries.{any_counts, new_there, step_elsewhere}
 use Rattle.commit_laws.proofs.Settles.{settled_then}
 
-any_decided : (tx : TxId) (epoch : ℕ) (marks : List Mark) → IsIn (Decided tx epoch) marks
+pub any_decided : (tx : TxId) (epoch : ℕ) (marks : List Mark) → IsIn (Decided tx epoch) marks
     → list_any (is_decision tx) marks ≡ true
 any_decided tx epoch [] there = absurd there
 any_decided tx epoch (mark ∷ marks) (inl same) =
@@ -33,7 +33,7 @@ any_decided tx epoch (mark ∷ marks) (inr there) =
     or_right (is_decision tx mark) (list_any (is_decision tx) marks) (any_decided tx epoch marks there)
 
 -- its coordinator's host decides it
-decided_now : (start : Start) (all : ℕ → List HostStep) (e : HostStep) (es : List HostStep)
+pub decided_now : (start : Start) (all : ℕ → List HostStep) (e : HostStep) (es : List HostStep)
     → IsMoment start all (e ∷ es) → (tx : TxId) → list_any (is_decision tx) e.step.marks ≡ true
     → is_decided start (logs_of start (e ∷ es)) tx ≡ true
 decided_now start all e es moment tx any = by (cases_eq e.host (tc_of start (coordinator_member tx)))

@@ -13,6 +13,7 @@ use Rattle.key_laws.specs.BackupEvents.{backup_of}
 use Rattle.key_laws.specs.Primary.{HasPrepared, ended_too}
 use Rattle.world_core.specs.Start.{Start}
 use Rattle.world_core.specs.Steps.{HostStep}
+use Rattle.world_views.specs.Machine.{stops_by}
 use Rattle.view_laws.specs.Order.{decisions}
 use Rattle.moment_laws.specs.Moments.{IsMoment, logs_of}
 use Rattle.commit_laws.specs.Fates.{fate}
@@ -73,6 +74,12 @@ abbrev pub EntriesAreFinal : Type 0
 EntriesAreFinal =
     (start : Start) (all : ℕ → List HostStep) (end es : List HostStep) → IsAlong start all end es → (z : Entry)
     → IsIn z (decisions start es) → is_final_entry start end z ≡ is_final start end z.tx
+
+-- a host that decides goes on
+abbrev pub DecidersGoOn : Type 0
+DecidersGoOn =
+    (start : Start) (all : ℕ → List HostStep) (e : HostStep) (es : List HostStep) → IsMoment start all (e ∷ es)
+    → (tx : TxId) (epoch : ℕ) → IsIn (Decided tx epoch) e.step.marks → stops_by e.step.marks ≡ false
 
 -- whoever is final isn't lost when it is decided
 abbrev pub FinalsAreDecidedNow : Type 0
