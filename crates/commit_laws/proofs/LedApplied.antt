@@ -75,7 +75,8 @@ applied_written forth stand start all (e ∷ es) moment v key applied =
         let c = marks_of_commit start all e es moment applied.member applied.is_made v key at marked in
         let stood = stand start all es before in
         let kept =
-        (commit_kept start all e es moment c.takes.now (Commit v key c.epoch c.chain 0) c.body_is forth stood.spoken v key
+        (commit_kept start all e es moment c.takes.now
+        (Commit v key c.epoch c.chain 0) c.body_is forth stood.spoken v key
         c.epoch c.chain 0 refl).kept in
         record {
           decided = kept.decided;
@@ -95,7 +96,8 @@ applied_written forth stand start all (e ∷ es) moment v key applied =
 
 -- it stays applied
 applied_past : (start : Start) (all : ℕ → List HostStep) (newer es : List HostStep) → IsMoment start all (newer ++ es)
-    → (v : TxId) (key : List ℕ) → IsApplied start (logs_of start es) v key → IsApplied start (logs_of start (newer ++ es)) v key
+    → (v : TxId) (key : List ℕ) → IsApplied start (logs_of start es) v key → IsApplied start
+    (logs_of start (newer ++ es)) v key
 applied_past start all [] es moment v key applied = applied
 applied_past start all (e ∷ newer) es moment v key applied =
     applied_more start all e (newer ++ es) moment v key
@@ -139,7 +141,8 @@ entry_of_decided : (start : Start) (all : ℕ → List HostStep) (es : List Host
     → is_decided start (logs_of start es) v ≡ true → HasEntryOf start es v
 entry_of_decided start all [] moment v is = absurd (true≢false (sym is))
 entry_of_decided start all (e ∷ es) moment v is =
-    by (is_decided start (logs_of start es) v) refl (entry_of_decided start all es (moment_less start all e es moment) v)
+    by (is_decided start (logs_of start es) v) refl
+    (entry_of_decided start all es (moment_less start all e es moment) v)
   where
     h : ℕ
     h = tc_of start (coordinator_member v)
@@ -158,10 +161,13 @@ entry_of_decided start all (e ∷ es) moment v is =
         let d = decision_in v e.step.marks marked in
         record {
           entry = entry_of e.host e.step.stamp (e ∷ logs_of start es e.host) v d.epoch;
-          there = entry_there e.host e.step.stamp (e ∷ logs_of start es e.host) v d.epoch e.step.marks (decisions start es) d.inside;
+          there =
+              entry_there e.host e.step.stamp (e ∷ logs_of start es e.host) v d.epoch e.step.marks
+              (decisions start es) d.inside;
           tx_is = refl;
           ops_is =
-              ap (λ k. ops_of v (e ∷ logs_of start es k)) at ∙ sym (ap (ops_of v) (log_of-own (machine start) e es h at));
+              ap (λ k. ops_of v (e ∷ logs_of start es k)) at ∙ sym
+              (ap (ops_of v) (log_of-own (machine start) e es h at));
         }
 
     by : (b : Bool) → is_decided start (logs_of start es) v ≡ b
@@ -171,7 +177,8 @@ entry_of_decided start all (e ∷ es) moment v is =
         record {
           entry = old.entry;
           there =
-              entry_stays e.host e.step.stamp (e ∷ logs_of start es e.host) old.entry e.step.marks (decisions start es) old.there;
+              entry_stays e.host e.step.stamp (e ∷ logs_of start es e.host) old.entry e.step.marks
+              (decisions start es) old.there;
           tx_is = old.tx_is;
           ops_is = old.ops_is ∙ sym (ops_same start all e es moment v was);
         }
@@ -238,7 +245,8 @@ applied_are_final forth stand start all end es along v key applied =
     applied_end : IsApplied start (logs_of start end) v key
     applied_end =
         subst (λ list. IsApplied start (logs_of start list) v key) (sym along.past.is)
-        (applied_past start all along.past.newer es (subst (IsMoment start all) along.past.is along.moment) v key applied)
+        (applied_past start all along.past.newer es
+        (subst (IsMoment start all) along.past.is along.moment) v key applied)
 
     marked : have_mark (is_applied own.entry.tx) (hosts start) (logs_of start end) ≡ true
     marked =

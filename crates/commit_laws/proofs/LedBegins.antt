@@ -51,7 +51,8 @@ replica_holds : (start : Start) (all : ℕ → List HostStep) → IsMoment start
     → IsReplicaOf start (logs_of start []) key member → holds start.shape member.node key ≡ true
 replica_holds start all moment key member is =
     let chained : IsIn member (first_chain start.shape key) =
-    subst (λ (view : View). IsIn member (chain_of (layout_in start view) key)) (first_current start all moment) is.chained in
+    subst (λ (view : View). IsIn member (chain_of (layout_in start view) key))
+    (first_current start all moment) is.chained in
     let place = place_of (first_chain start.shape key) member chained in
     subst (λ n. holds start.shape n key ≡ true) (ap node_of place.is)
     (first_group start.shape moment.cluster.shape key place.at

@@ -95,7 +95,8 @@ module _ (start : Start) (all : ℕ → List HostStep) (es : List HostStep) (mom
       true≢false (sym goes.1 ∙ calm_stops start all es moment tx goes.0 calm)
 
 -- what is so of each record is so of each on a key, where its epoch makes no difference
-each_epochless : (P : PendingRecord → Type 0) (xs : List PendingRecord) → ((r : PendingRecord) → P r → P (without_epoch r))
+each_epochless : (P : PendingRecord → Type 0) (xs : List PendingRecord) →
+    ((r : PendingRecord) → P r → P (without_epoch r))
     → Each P xs → Each P (map without_epoch xs)
 each_epochless P [] same all = tt
 each_epochless P (r ∷ xs) same all = (same r all.0, each_epochless P xs same all.1)
@@ -148,10 +149,12 @@ module _ (forth : ForthIsKnownAlways) (stand : AllStandAlways) (forward : Finals
         by (inl at) =
             let rows = ldm_step start member there e.host taken.at (old e.host) e in
             let coordinates =
-            tc_step start (coordinator_member v) (decided_made start all (e ∷ es) moment v is) e.host at (old e.host) e in
+            tc_step start (coordinator_member v) (decided_made start all (e ∷ es) moment v is) e.host at
+            (old e.host) e in
             absurd (let both : part.Ldm rows.own ≡ part.Tc coordinates.own = sym rows.runs ∙ coordinates.runs in cc)
         by (inr off) =
-            sym (ap (has_mark (is_decision v)) (log_of-other (machine start) e es (tc_of start (coordinator_member v)) off)) ∙ is
+            sym (ap (has_mark (is_decision v))
+            (log_of-other (machine start) e es (tc_of start (coordinator_member v)) off)) ∙ is
 
     now_decided : (v : TxId) → is_decided start old v ≡ true → decided v ≡ true
     now_decided v is = decided_more start all e es moment v is
@@ -164,7 +167,8 @@ module _ (forth : ForthIsKnownAlways) (stand : AllStandAlways) (forward : Finals
     known_here =
         each_epochless IsKnown (filter (is_on key) (rows_at start old member).lqh.rows.pending) (λ y known. known)
         (each_filter IsKnown (is_on key) (rows_at start old member).lqh.rows.pending
-        (each_map (λ (y : PendingRecord). IsDecidedIf (λ tx epoch. IsForth start old tx) (IsForth start old) y y.committed)
+        (each_map
+        (λ (y : PendingRecord). IsDecidedIf (λ tx epoch. IsForth start old tx) (IsForth start old) y y.committed)
         IsKnown (rows_at start old member).lqh.rows.pending
         (λ y known done. subst (IsDecidedIf (λ tx epoch. IsForth start old tx) (IsForth start old) y) done known)
         ((forth start all es before).rows member there).records))
@@ -175,7 +179,8 @@ module _ (forth : ForthIsKnownAlways) (stand : AllStandAlways) (forward : Finals
 
     asked_unkept : (tx : TxId) → May tx → IsUnkept decided final r.cell.pending tx
     asked_unkept tx may = record {
-      unkept = may_unkept start all es before decided final tx (was_decided tx) (forward start all end es along_old tx) may;
+      unkept =
+          may_unkept start all es before decided final tx (was_decided tx) (forward start all end es along_old tx) may;
       plain = λ y is. plain y (subst (λ (c : Cell). found tx c.pending ≡ Some y) cell_is is) y.committed refl;
     }
       where
@@ -188,7 +193,8 @@ module _ (forth : ForthIsKnownAlways) (stand : AllStandAlways) (forward : Finals
 
     token_may : (tx : TxId) → is_token tx x.body ≡ true → May tx
     token_may tx is own =
-        (number_now start (logs_of start (e ∷ es)), (token_alone start all e es moment member there tx own taken.now is).may)
+        (number_now start (logs_of start (e ∷ es)),
+        (token_alone start all e es moment member there tx own taken.now is).may)
 
     waiting_may : (q : Request) → IsIn q s.lqh.waiting → May q.tx
     waiting_may q inside own = by between
@@ -241,7 +247,9 @@ module _ (forth : ForthIsKnownAlways) (stand : AllStandAlways) (forward : Finals
         there_y = subst (λ (c : Cell). found tx c.pending ≡ Some y) cell_is found_y
 
         kept : IsKeptForth start all e es moment taken.now (Complete tx key chain at) is forth stood.spoken tx
-        kept = complete_kept start all e es moment taken.now (Complete tx key chain at) is forth stood.spoken tx key chain at refl
+        kept =
+            complete_kept start all e es moment taken.now
+            (Complete tx key chain at) is forth stood.spoken tx key chain at refl
 
         all_done : IsCommittedAtAll start old tx key
         all_done =
@@ -252,7 +260,8 @@ module _ (forth : ForthIsKnownAlways) (stand : AllStandAlways) (forward : Finals
 
         is_committed : y.committed ≡ true
         is_committed =
-            subst (λ o. is_committed_by (has_marker_at start old member key tx || is_known start old tx) o ≡ true) there_y
+            subst (λ o. is_committed_by
+            (has_marker_at start old member key tx || is_known start old tx) o ≡ true) there_y
             (all_done.committed member replica)
 
     given_up : (tx : TxId) → x.body ≡ Chain (Abort tx key) → IsFairTo decided final r (aborts tx)
@@ -262,7 +271,8 @@ module _ (forth : ForthIsKnownAlways) (stand : AllStandAlways) (forward : Finals
         (abort_aborts start all e es moment taken.now (Abort tx key) is forth stood.spoken tx key refl)
         (subst (λ (c : Cell). HasPrepared tx c.pending) cell_is prepared))
 
-    on_own : (P : Event → Type 0) (own : List ℕ) (event : Event) → P rests → (own ≡ key → P event) → P (if_on own key event)
+    on_own : (P : Event → Type 0) (own : List ℕ) (event : Event) → P rests → (own ≡ key → P event) → P
+        (if_on own key event)
     on_own P own event none is = by (same_key own key) refl
       where
         by : (b : Bool) → same_key own key ≡ b → P (if b then event else rests)
@@ -278,19 +288,22 @@ module _ (forth : ForthIsKnownAlways) (stand : AllStandAlways) (forward : Finals
     fair_event (Chain (Commit tx own epoch chain at)) is =
         on_so (IsFairTo decided final r) own key (commits tx (at == 0)) tt
         (λ prepared. now_decided tx
-        (commit_kept start all e es moment taken.now (Commit tx own epoch chain at) is forth stood.spoken tx own epoch chain at
+        (commit_kept start all e es moment taken.now
+        (Commit tx own epoch chain at) is forth stood.spoken tx own epoch chain at
         refl).kept.decided)
     fair_event (Chain (Complete tx own chain at)) is =
         on_own (IsFairTo decided final r) own (completes tx) tt
         (λ same. completed tx chain at (is ∙ ap (λ k. Chain (Complete tx k chain at)) same))
     fair_event (Chain (Abort tx own)) is =
-        on_own (IsFairTo decided final r) own (aborts tx) tt (λ same. given_up tx (is ∙ ap (λ k. Chain (Abort tx k)) same))
+        on_own (IsFairTo decided final r) own (aborts tx) tt
+        (λ same. given_up tx (is ∙ ap (λ k. Chain (Abort tx k)) same))
     fair_event (Host (Continue work.Granted at)) is = by (first (is_granted s.lqh.locks) s.lqh.waiting)
       where
         by : (o : Option Request) → IsFairTo decided final r (serves_if key s.lqh o)
         by None = tt
         by (Some q) =
-            on_so (IsFairTo decided final r) (work_key q.work) key (serves (is_refused (storage_of s.lqh) q)) tt waiting_unkept
+            on_so (IsFairTo decided final r) (work_key q.work) key
+            (serves (is_refused (storage_of s.lqh) q)) tt waiting_unkept
     fair_event (Host Round) is = tt
     fair_event (Host (Continue work.Expired at)) is = by (expired s.lqh.locks)
       where

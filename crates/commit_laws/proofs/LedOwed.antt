@@ -121,8 +121,10 @@ module _ (forth : FinalsAreForth) (going : DecidersGoOn) (start : Start) (all : 
   full_now =
       let h = tc_of start (coordinator_member tx) in
       let stands : view_after start e.host (logs_of start (e ∷ es) e.host) ≡ current start (logs_of start (e ∷ es)) =
-      own_behind start all e es moment ∙ stands_behind start all e es moment (going start all e es moment tx epoch there) in
-      subst (λ m. IsIn m (current start (logs_of start (e ∷ es))).full) (tc_member start (coordinator_member tx) made_own)
+      own_behind start all e es moment ∙ stands_behind start all e es moment
+      (going start all e es moment tx epoch there) in
+      subst (λ m. IsIn m (current start (logs_of start (e ∷ es))).full)
+      (tc_member start (coordinator_member tx) made_own)
       (current_host start all (e ∷ es) moment h (part_some start Tc (coordinator_member tx))
       (tc_low start (coordinator_member tx) made_own)
       (subst (λ k. view_after start k (logs_of start (e ∷ es) k) ≡ current start (logs_of start (e ∷ es))) home stands))
@@ -139,7 +141,8 @@ module _ (forth : FinalsAreForth) (going : DecidersGoOn) (start : Start) (all : 
     marked = there;
     full = full_old;
     spared =
-        finals_are_spared forth start all end es (record { moment = along.moment; past = past_less e along.past }) tx final;
+        finals_are_spared forth start all end es (record { moment =
+            along.moment; past = past_less e along.past }) tx final;
   }
 
 pub finals_are_decided_now : FinalsAreForth → DecidersGoOn → FinalsAreDecidedNow

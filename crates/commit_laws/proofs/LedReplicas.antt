@@ -46,5 +46,6 @@ who_let_go_are_final stand applied start all end es along key member is v r ther
     let moment = moment_at start all end es along in
     let commits = (stand start all es moment).commits in
     applied start all end es along v key
-    (commits.let_go member (subst (IsIn member) (sym (members_full start all es moment)) is.full) key v r there committed
+    (commits.let_go member
+    (subst (IsIn member) (sym (members_full start all es moment)) is.full) key v r there committed
     off).applied

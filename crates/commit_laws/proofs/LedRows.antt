@@ -59,7 +59,8 @@ installed_leads : (decided final : TxId → Bool) (s : ReplicaState) (view : Vie
 installed_leads decided final s view key well tidy =
     subst (λ r. Leads decided final (backup_of (at_key key s.lqh)) (backup_of r))
     (sym (installations_are_events s view key well))
-    (installation_leads decided final (goes_on_holding s.lqh.rows view.full key) (at_key key s.lqh) (well.orderly.each key)
+    (installation_leads decided final (goes_on_holding s.lqh.rows view.full key) (at_key key s.lqh)
+    (well.orderly.each key)
     (record_holds s view key) tidy)
 
 module _ (forth : ForthIsKnownAlways) (stand : AllStandAlways) (forward : FinalsGoForward) (applied : AppliedAreFinal)
@@ -87,7 +88,8 @@ module _ (forth : ForthIsKnownAlways) (stand : AllStandAlways) (forward : Finals
   there : IsIn member (made start)
   there = replica_made start all es (moment_less start all e es now) key member replica
 
-  module _ (inside : IsIn member (made start)) (tidy : IsTidy decided (backup_of (replica_at start (logs_of start es) member key)))
+  module _ (inside : IsIn member (made start))
+      (tidy : IsTidy decided (backup_of (replica_at start (logs_of start es) member key)))
     where
       well_was : IsWell (rows_at start old member).lqh
       well_was = rows_well start member inside (old (ldm_of start member))
@@ -122,13 +124,15 @@ module _ (forth : ForthIsKnownAlways) (stand : AllStandAlways) (forward : Finals
               by (as_was same stays) =
                   subst LeadsTo (sym same) (itself decided final (backup_of (replica_at start old member key)) tidy)
               by (entered view same) =
-                  subst LeadsTo (sym same) (installed_leads decided final (rows_at start old member) view key well_was tidy)
+                  subst LeadsTo (sym same)
+                  (installed_leads decided final (rows_at start old member) view key well_was tidy)
 
           attended_s : AreAttended (at_key key s.lqh)
           attended_s = by between
             where
               by : IsBetween start all e es now member inside s → AreAttended (at_key key s.lqh)
-              by (as_was same stays) = subst (λ (s : ReplicaState). AreAttended (at_key key s.lqh)) (sym same) attended_was
+              by (as_was same stays) =
+                  subst (λ (s : ReplicaState). AreAttended (at_key key s.lqh)) (sym same) attended_was
               by (entered view same) =
                   subst (λ (s : ReplicaState). AreAttended (at_key key s.lqh)) (sym same)
                   (installed_are_attended (rows_at start old member) view key)
@@ -143,7 +147,8 @@ module _ (forth : ForthIsKnownAlways) (stand : AllStandAlways) (forward : Finals
               subst LeadsTo (sym same) (installed_leads decided final (rows_at start old member) view key well_was tidy)
           by (take s between taken) = taken_leads s between taken
 
-pub events_lead : ForthIsKnownAlways → AllStandAlways → FinalsGoForward → AppliedAreFinal → AbortedAreNotFinal → EventsLead
+pub events_lead : ForthIsKnownAlways → AllStandAlways → FinalsGoForward → AppliedAreFinal → AbortedAreNotFinal
+    → EventsLead
 events_lead forth stand forward applied aborted start all end e es along key member is tidy =
     leads_now forth stand forward applied aborted start all end e es along key member is
     (there forth stand forward applied aborted start all end e es along key member is) tidy

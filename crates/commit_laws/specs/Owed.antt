@@ -92,7 +92,8 @@ FinalsAreDecidedNow =
 abbrev pub WhoLetGoAreFinal : Type 0
 WhoLetGoAreFinal =
     (start : Start) (all : ℕ → List HostStep) (end es : List HostStep) → IsAlong start all end es
-    → (key : List ℕ) (member : Member) → IsReplicaOf start (logs_of start es) key member → (v : TxId) (r : PendingRecord)
+    → (key : List ℕ) (member : Member) → IsReplicaOf start (logs_of start es) key member → (v : TxId)
+    (r : PendingRecord)
     → record_at start (logs_of start es) member key v ≡ Some r → r.committed ≡ true
     → holds_enough v Exclusive (replica_at start (logs_of start es) member key).lock.holders ≡ false
     → is_final start end v ≡ true
@@ -112,7 +113,8 @@ FinalsGoForward =
 -- whoever was applied is final
 abbrev pub AppliedAreFinal : Type 0
 AppliedAreFinal =
-    (start : Start) (all : ℕ → List HostStep) (end es : List HostStep) → IsAlong start all end es → (v : TxId) (key : List ℕ)
+    (start : Start) (all : ℕ → List HostStep) (end es : List HostStep) → IsAlong start all end es → (v : TxId)
+    (key : List ℕ)
     → IsApplied start (logs_of start es) v key → is_final start end v ≡ true
 
 -- whoever aborts, and has something prepared, isn't
