@@ -180,8 +180,8 @@ module _ (owed : AreOwed) (start : Start) (all : ℕ → List HostStep) (end : L
           (good.tidy p.primary p.replica).once
           (λ v r is own committed off.
               ap (is_final start end) own
-              ∙ owed.let_go start all end es (record { moment =
-                  moment; past = past_less e past }) key p.primary p.replica v r
+              ∙ owed.let_go start all end es
+              (record { moment = moment; past = past_less e past }) key p.primary p.replica v r
               is committed
               (ap (λ t. holds_enough t Exclusive (replica_at start (logs_of start es) p.primary key).lock.holders)
               (sym own)

@@ -212,8 +212,11 @@ module _ (decided final : TxId → Bool) (b : Backup) (tx : TxId) (holders : Lis
 
   abbrev committed_here : Backup
   committed_here =
-      record { row =
-          committed_row b.row (found tx b.pending); pending = edited as_committed tx b.pending; holders = holders }
+      record {
+        row = committed_row b.row (found tx b.pending);
+        pending = edited as_committed tx b.pending;
+        holders = holders;
+      }
 
   commits_with : Each (IsOver decided) (edited as_committed tx b.pending)
       → ((value : Option (List ℕ)) → IsLedUnlessSpoilt decided final value b
@@ -322,8 +325,8 @@ module _ (decided final : TxId → Bool) (b : Backup) (tx : TxId) (holders : Lis
 
   -- a completion, behind the commit, of one that is kept in the end
   pub completions_lead : ((x : PendingRecord) → found tx b.pending ≡ Some x → (x.committed ≡ true) × (final tx ≡ true))
-      → Leads decided final b (record { row =
-          b.row; pending = edited unless_committed tx b.pending; holders = holders })
+      → Leads decided final b
+      (record { row = b.row; pending = edited unless_committed tx b.pending; holders = holders })
   completions_lead told = record {
     tidy = record {
       once = once-edited unless_committed unless_keeps tx b.pending tidy.once;

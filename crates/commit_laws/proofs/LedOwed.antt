@@ -141,8 +141,8 @@ module _ (forth : FinalsAreForth) (going : DecidersGoOn) (start : Start) (all : 
     marked = there;
     full = full_old;
     spared =
-        finals_are_spared forth start all end es (record { moment =
-            along.moment; past = past_less e along.past }) tx final;
+        finals_are_spared forth start all end es
+        (record { moment = along.moment; past = past_less e along.past }) tx final;
   }
 
 pub finals_are_decided_now : FinalsAreForth → DecidersGoOn → FinalsAreDecidedNow
