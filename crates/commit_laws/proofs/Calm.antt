@@ -220,7 +220,7 @@ module _ (start : Start) (all : ℕ → List HostStep) (e : HostStep) (es : List
     both_true true b is other = other
     both_true false b is other = absurd (true≢false (sym is))
 
-    token_alone : IsTakenNow start all e es moment block.Lqh → is_token tx e.step.taken.body ≡ true
+    pub token_alone : IsTakenNow start all e es moment block.Lqh → is_token tx e.step.taken.body ≡ true
         → IsAlone start (logs_of start es) tx now_number
     unfolding is_fenced
     token_alone taken is =

@@ -86,7 +86,8 @@ in_decisions h stamp log z (Decided tx epoch ∷ marks) before there =
     in_decisions h stamp log z marks (entry_of h stamp log tx epoch ∷ before) (inr there)
 in_decisions h stamp log z (mark ∷ marks) before there = in_decisions h stamp log z marks before there
 
-module _ (owed : AreOwed) (start : Start) (all : ℕ → List HostStep) (end : List HostStep) (moment : IsMoment start all end)
+module _ (owed : AreOwed) (start : Start) (all : ℕ → List HostStep) (end : List HostStep)
+    (moment : IsMoment start all end)
     (key : List ℕ) where
   abbrev Good : (ℕ → List HostStep) → (TxId → Bool) → List Entry → Type 0
   Good logs decided history = IsGood start (is_final start end) (first_row start end key) key logs decided history
@@ -171,16 +172,19 @@ module _ (owed : AreOwed) (start : Start) (all : ℕ → List HostStep) (end : L
       p : HasPrimary start (logs_of start es) key
       p = owed.primaries start all es old_moment key
 
-      let_go : AreKeptWhoLetGo decided (is_final start end) (backup_of (replica_at start (logs_of start es) p.primary key)) tx
+      let_go : AreKeptWhoLetGo decided (is_final start end)
+          (backup_of (replica_at start (logs_of start es) p.primary key)) tx
           (good.tidy p.primary p.replica)
       let_go =
           each_by_found _ (replica_at start (logs_of start es) p.primary key).cell.pending
           (good.tidy p.primary p.replica).once
           (λ v r is own committed off.
               ap (is_final start end) own
-              ∙ owed.let_go start all end es (record { moment = moment; past = past_less e past }) key p.primary p.replica v r
+              ∙ owed.let_go start all end es
+              (record { moment = moment; past = past_less e past }) key p.primary p.replica v r
               is committed
-              (ap (λ t. holds_enough t Exclusive (replica_at start (logs_of start es) p.primary key).lock.holders) (sym own)
+              (ap (λ t. holds_enough t Exclusive (replica_at start (logs_of start es) p.primary key).lock.holders)
+              (sym own)
               ∙ off))
 
       one_good : Good (logs_of start es) (ended_too decided tx) (kept_among (z ∷ list))
@@ -190,10 +194,13 @@ module _ (owed : AreOwed) (start : Start) (all : ℕ → List HostStep) (end : L
               → Good (logs_of start es) (ended_too decided tx) (kept_among (z ∷ list))
           by true is =
               subst (Good (logs_of start es) (ended_too decided tx))
-              (sym (ap (filter (is_final_entry start end)) turned ∙ filter_last (is_final_entry start end) (reverse list) z is))
-              (kept_good start (is_final start end) (first_row start end key) key (logs_of start es) decided (kept_among list)
+              (sym (ap (filter (is_final_entry start end)) turned ∙ filter_last (is_final_entry start end)
+              (reverse list) z is))
+              (kept_good start (is_final start end) (first_row start end key) key (logs_of start es) decided
+              (kept_among list)
               good tx (sym final_is ∙ is) new (decided_ops start (logs_of start (e ∷ es)) tx)
-              (owed.settled start all e es less tx (owed.finals start all end e es along tx epoch there (sym final_is ∙ is)) key)
+              (owed.settled start all e es less tx
+              (owed.finals start all end e es along tx epoch there (sym final_is ∙ is)) key)
               p let_go z (ops_are tx epoch there))
           by false is =
               subst (Good (logs_of start es) (ended_too decided tx))
@@ -211,7 +218,8 @@ module _ (owed : AreOwed) (start : Start) (all : ℕ → List HostStep) (end : L
         (kept_among (entries_in e.host e.step.stamp log marks list))
     all_good [] decided list among inside fresh good = good
     all_good (Decided tx epoch ∷ marks) decided list among inside fresh good =
-        all_good marks (ended_too decided tx) (entry tx epoch ∷ list) (λ v k there. among v k (inr there)) inside fresh.1
+        all_good marks (ended_too decided tx) (entry tx epoch ∷ list)
+        (λ v k there. among v k (inr there)) inside fresh.1
         (one_good decided list good tx epoch (among tx epoch (inl refl))
         (inside (entry tx epoch)
         (in_decisions e.host e.step.stamp log (entry tx epoch) marks (entry tx epoch ∷ list) (inl refl))) fresh.0)

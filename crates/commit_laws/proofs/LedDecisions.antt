@@ -52,7 +52,8 @@ module _ (decided final : TxId → Bool) (b : Backup) (tx : TxId) (tidy : IsTidy
           (only_prepared decided b tidy tx has.is_record has.there has.waits) has.there has.waits own
           ∙ has.image_is
       by (inr none) clean =
-          kept_row-others (kept_of decided final) (kept_of (ended_too decided tx) final) b.row tx b.pending others none.0
+          kept_row-others (kept_of decided final)
+          (kept_of (ended_too decided tx) final) b.row tx b.pending others none.0
           ∙ led clean ∙ sym none.1
 
   -- one that isn't changes nothing
@@ -73,7 +74,8 @@ module _ (decided final : TxId → Bool) (b : Backup) (tx : TxId) (tidy : IsTidy
   -- who was committed here and has let go of the lock is kept in the end
   abbrev pub AreKeptWhoLetGo : Type 0
   AreKeptWhoLetGo =
-      Each (λ (r : PendingRecord). r.committed ≡ true → holds_enough r.tx Exclusive b.holders ≡ false → final r.tx ≡ true) b.pending
+      Each (λ (r : PendingRecord). r.committed ≡ true → holds_enough r.tx Exclusive b.holders ≡ false
+      → final r.tx ≡ true) b.pending
 
   -- While one that isn't decided holds the lock the row is the value that it is led to.
   module _ (new : decided tx ≡ false) (held : holds tx b.holders ≡ true) (let_go : AreKeptWhoLetGo) where
@@ -96,14 +98,16 @@ module _ (decided final : TxId → Bool) (b : Backup) (tx : TxId) (tidy : IsTidy
         )
         by false e true f own = (
           and_left r.committed (not (final r.tx)) e,
-          and_right (not r.committed) (kept_of decided final r.tx) (and_left (decided r.tx) (final r.tx) (undecided r f)),
+          and_right (not r.committed) (kept_of decided final r.tx)
+          (and_left (decided r.tx) (final r.tx) (undecided r f)),
         )
         by false e false f (inl done) = absurd (true≢false (sym done ∙ e))
         by false e false f (inr exclusive) = absurd (true≢false (sym exclusive ∙ f))
 
     all_clear : (xs : List PendingRecord) → Each (IsOwned b.holders) xs
         → Each (λ (r : PendingRecord). r.committed ≡ true → decided r.tx ≡ true) xs
-        → Each (λ (r : PendingRecord). r.committed ≡ true → holds_enough r.tx Exclusive b.holders ≡ false → final r.tx ≡ true) xs
+        → Each (λ (r : PendingRecord). r.committed ≡ true → holds_enough r.tx Exclusive b.holders ≡ false
+        → final r.tx ≡ true) xs
         → Each IsClear xs
     all_clear [] owned over kept = tt
     all_clear (r ∷ rest) owned over kept = (clear r owned.0 over.0 kept.0, all_clear rest owned.1 over.1 kept.1)
@@ -116,5 +120,6 @@ module _ (decided final : TxId → Bool) (b : Backup) (tx : TxId) (tidy : IsTidy
     row_is_value value led =
         let all = all_clear b.pending tidy.owned tidy.done let_go in
         sym (kept_row-none (kept_of decided final) b.row b.pending
-        (each_map IsClear (λ (r : PendingRecord). is_kept (kept_of decided final) r ≡ false) b.pending (λ r both. both.1) all))
+        (each_map IsClear (λ (r : PendingRecord). is_kept (kept_of decided final) r ≡ false) b.pending
+        (λ r both. both.1) all))
         ∙ led (clean b.pending all)

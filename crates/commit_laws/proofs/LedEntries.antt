@@ -35,7 +35,7 @@ use Rattle.commit_laws.specs.Owed.{AreFresh, DecisionsAreFresh, EntriesAreFinal,
 use Rattle.commit_laws.specs.Values.{decided_at, history_at, is_final, is_final_entry}
 use Rattle.commit_laws.proofs.FateViews.{any_of, some_of}
 
-any_counts : {A : Type 0} (p : A → Bool) (xs : List A) → list_any p xs ≡ true → 1 ≤ count_by p xs
+pub any_counts : {A : Type 0} (p : A → Bool) (xs : List A) → list_any p xs ≡ true → 1 ≤ count_by p xs
 any_counts p [] any = absurd (true≢false (sym any))
 any_counts {A} p (x ∷ xs) any = by (p x) refl any (any_counts p xs)
   where
@@ -94,9 +94,10 @@ fresh_from decided (mark ∷ marks) new few =
     or_right true b is = refl
     or_right false b is = is
 
-module _ (start : Start) (all : ℕ → List HostStep) (e : HostStep) (es : List HostStep) (moment : IsMoment start all (e ∷ es))
+module _ (start : Start) (all : ℕ → List HostStep) (e : HostStep) (es : List HostStep)
+    (moment : IsMoment start all (e ∷ es))
     (u : TxId) where
-  abbrev home : ℕ
+  abbrev pub home : ℕ
   home = tc_of start (coordinator_member u)
 
   -- the decisions of the step, and those before
@@ -110,10 +111,11 @@ module _ (start : Start) (all : ℕ → List HostStep) (e : HostStep) (es : List
   step_few : count_by (is_decision u) e.step.marks ≤ 1
   step_few = omega (arith, own_counts, decided_few start all moment.cluster u e.host)
 
-  step_elsewhere : e.host ≢ home → count_by (is_decision u) e.step.marks ≤ 0
+  pub step_elsewhere : e.host ≢ home → count_by (is_decision u) e.step.marks ≤ 0
   step_elsewhere off = omega (arith, own_counts, none_elsewhere start all moment.cluster u e.host off)
 
-  new_there : (end : List HostStep) → list_any (is_decision u) e.step.marks ≡ true → decided_at start end es u ≡ false
+  pub new_there : (end : List HostStep) → list_any (is_decision u) e.step.marks ≡ true
+      → decided_at start end es u ≡ false
   new_there end any = by (decided_at start end es u) refl (cases_eq e.host home)
     where
       by : (b : Bool) → decided_at start end es u ≡ b → (e.host ≡ home) ⊎ (e.host ≢ home) → b ≡ false
@@ -167,7 +169,8 @@ decisions_count start all (e ∷ es) moment tx =
     more = step_entries tx e.host e.step.stamp (e ∷ logs_of start es e.host) e.step.marks (decisions start es)
 
     by : (e.host ≡ h) ⊎ (e.host ≢ h)
-        → count_by (λ (a : Entry). same_tx a.tx tx) (decisions start es) ≡ marks_in (is_decision tx) (logs_of start es h)
+        → count_by (λ (a : Entry). same_tx a.tx tx) (decisions start es) ≡ marks_in (is_decision tx)
+        (logs_of start es h)
         → count_by (λ (a : Entry). same_tx a.tx tx) (decisions start (e ∷ es))
         ≡ marks_in (is_decision tx) (logs_of start (e ∷ es) h)
     by (inl at) rest =

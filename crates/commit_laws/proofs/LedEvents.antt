@@ -50,11 +50,12 @@ use Rattle.commit_laws.proofs.LedMoves.{aborts_lead, commits_lead, completions_l
 abbrev seen : Cell → RowLock → Backup
 seen c lock = record { row = c.row; pending = c.pending; holders = lock.holders }
 
-both_lead : (decided final : TxId → Bool) (a b c : Backup) → Leads decided final a b → Leads decided final b c
+pub both_lead : (decided final : TxId → Bool) (a b c : Backup) → Leads decided final a b → Leads decided final b c
     → Leads decided final a c
-both_lead decided final a b c one other = record { tidy = other.tidy; led = λ value led. other.led value (one.led value led) }
+both_lead decided final a b c one other =
+    record { tidy = other.tidy; led = λ value led. other.led value (one.led value led) }
 
-itself : (decided final : TxId → Bool) (b : Backup) → IsTidy decided b → Leads decided final b b
+pub itself : (decided final : TxId → Bool) (b : Backup) → IsTidy decided b → Leads decided final b b
 itself decided final b tidy = record { tidy = tidy; led = λ value led. led }
 
 -- only a write takes effect, and that needs the lock exclusive
@@ -82,7 +83,8 @@ module _ (decided final : TxId → Bool) (c : Cell) (lock : RowLock) (tx : TxId)
       → Leads decided final (seen c lock) (seen (worked c tx refused w) lock)
   work_leads refused (Operate op) locked =
       operated_leads op refused (answer_to op (seen_by c.row (found tx c.pending)))
-      (λ is. ap (λ mode. holds_enough tx mode lock.holders) (sym (writes_exclusive op (seen_by c.row (found tx c.pending)) is)) ∙ locked)
+      (λ is. ap (λ mode. holds_enough tx mode lock.holders)
+      (sym (writes_exclusive op (seen_by c.row (found tx c.pending)) is)) ∙ locked)
   work_leads true (Store key image) locked = itself decided final (seen c lock) tidy
   work_leads false (Store key image) locked = images_lead decided final (seen c lock) tx key image tidy locked off
 
@@ -116,9 +118,11 @@ module _ (decided final : TxId → Bool) (r : Replica) (ready : IsReady r) (tidy
       by None is = itself decided final (backup_of r) tidy
       by (Some q) is =
           work_leads decided final r.cell r.lock q.tx tidy
-          (each-first_item (λ (x : Request). IsUnkept decided final r.cell.pending x.tx) (is_let_in r.lock) r.waiting q fair is) refused q.work
+          (each-first_item (λ (x : Request). IsUnkept decided final r.cell.pending x.tx)
+          (is_let_in r.lock) r.waiting q fair is) refused q.work
           (attended_hold r.lock q.tx (work_mode q.work)
-          (each-first_item (λ (x : Request). is_attended r.lock x.tx (work_mode x.work) ≡ true) (is_let_in r.lock) r.waiting
+          (each-first_item (λ (x : Request). is_attended r.lock x.tx (work_mode x.work) ≡ true)
+          (is_let_in r.lock) r.waiting
           q ready.attended is)
           (not-true (waits q.tx r.lock.queue) (first_passes (is_let_in r.lock) r.waiting q is)))
 

@@ -71,7 +71,8 @@ module _ (start : Start) (final : TxId → Bool) (first : Option (List ℕ)) (ke
               → (own ≡ []) ⊎ ((replica_at start logs p.primary key).cell.row ≡ value)
           by (inl none) = inl none
           by (inr held) =
-              inr (row_is_value decided final (backup p.primary) tx (good.tidy p.primary p.replica) new held let_go value
+              inr (row_is_value decided final (backup p.primary) tx
+              (good.tidy p.primary p.replica) new held let_go value
               (good.led p.primary p.replica))
 
       right_ops : AreRight value own
@@ -88,7 +89,8 @@ module _ (start : Start) (final : TxId → Bool) (first : Option (List ℕ)) (ke
           by : (b : Bool) → is_written_by ops key ≡ b
               → HasImageIf b (row_behind start logs key p.primary ops) (record_at start logs member key tx)
               → (own ≡ []) ⊎ ((replica_at start logs p.primary key).cell.row ≡ value)
-              → HasImage tx after (backup member).pending ⊎ ((found tx (backup member).pending ≡ None) × (after ≡ value))
+              → HasImage tx after (backup member).pending ⊎
+              ((found tx (backup member).pending ≡ None) × (after ≡ value))
           by true e image (inl none) =
               absurd (true≢false (sym e ∙ ap (list_any (λ (op : Op × Answer). is_done op.1)) none))
           by true e image (inr same) =
@@ -107,10 +109,12 @@ module _ (start : Start) (final : TxId → Bool) (first : Option (List ℕ)) (ke
           end_last key first history z ∙ ap (λ w. row_after_all value (ops_on key w)) same in
           record {
             right =
-                right_last key first history z good.right (subst (λ w. AreRight value (ops_on key w)) (sym same) right_ops);
+                right_last key first history z good.right
+                (subst (λ w. AreRight value (ops_on key w)) (sym same) right_ops);
             tidy = λ member is. more_tidy decided final (backup member) tx (good.tidy member is);
             led = λ member is.
                 subst (λ w. IsLedUnlessSpoilt (ended_too decided tx) final w (backup member)) (sym to)
-                (decision_leads decided final (backup member) tx (good.tidy member is) value after (good.led member is) kept
+                (decision_leads decided final (backup member) tx (good.tidy member is) value after
+                (good.led member is) kept
                 (told member is));
           }

@@ -93,7 +93,7 @@ edited_kept tx (r ∷ rest) x is done = by (same_tx r.tx tx) refl is (λ more. e
         ap (λ c. put_back (if c then Some r else None) rest) own
     by false e is more = ap (λ w. r ∷ w) (more is)
 
--- What isn't spoilt afterwards wasn't before: where an image is stored, or a record is committed, or given up, or completed.
+-- What isn't spoilt afterwards wasn't before: where an image is stored, or a record is committed, given up or completed.
 module _ (final : TxId → Bool) where
   abbrev is_clean : List PendingRecord → Type 0
   is_clean xs = list_any (is_spoilt final) xs ≡ false
@@ -151,7 +151,8 @@ module _ (final : TxId → Bool) where
         clean
 
     clean_given_up : (xs : List PendingRecord) → is_clean (edited if_committed tx xs) → is_clean xs
-    clean_given_up xs clean = clean_edited if_committed xs (λ r rest is own after. by r rest r.committed refl after) clean
+    clean_given_up xs clean =
+        clean_edited if_committed xs (λ r rest is own after. by r rest r.committed refl after) clean
       where
         by : (r : PendingRecord) (rest : List PendingRecord) (b : Bool) → r.committed ≡ b
             → is_clean (put_back (if b then Some r else None) rest) → is_clean (r ∷ rest)
@@ -163,7 +164,8 @@ module _ (final : TxId → Bool) where
     clean_completed xs told clean =
         clean_edited unless_committed xs (λ r rest is own after. by r rest own (told r is) r.committed refl after) clean
       where
-        by : (r : PendingRecord) (rest : List PendingRecord) → r.tx ≡ tx → final tx ≡ true → (b : Bool) → r.committed ≡ b
+        by : (r : PendingRecord) (rest : List PendingRecord) → r.tx ≡ tx → final tx ≡ true → (b : Bool)
+            → r.committed ≡ b
             → is_clean (put_back (if b then None else Some r) rest) → is_clean (r ∷ rest)
         by r rest own on true e after =
             clean_both r rest (and_right r.committed (not (final r.tx)) (ap not (ap final own ∙ on))) after
@@ -176,7 +178,9 @@ pub grants_lead : (decided final : TxId → Bool) (b : Backup) (holders : List H
 grants_lead decided final b holders tidy on = record {
   tidy = record {
     once = tidy.once;
-    owned = each_map (IsOwned b.holders) (IsOwned holders) b.pending (λ r is. still_owned nobody_gone b.holders holders on r refl is) tidy.owned;
+    owned =
+        each_map (IsOwned b.holders) (IsOwned holders) b.pending
+        (λ r is. still_owned nobody_gone b.holders holders on r refl is) tidy.owned;
     agreed = on.agreed;
     done = tidy.done;
   };
@@ -208,7 +212,11 @@ module _ (decided final : TxId → Bool) (b : Backup) (tx : TxId) (holders : Lis
 
   abbrev committed_here : Backup
   committed_here =
-      record { row = committed_row b.row (found tx b.pending); pending = edited as_committed tx b.pending; holders = holders }
+      record {
+        row = committed_row b.row (found tx b.pending);
+        pending = edited as_committed tx b.pending;
+        holders = holders;
+      }
 
   commits_with : Each (IsOver decided) (edited as_committed tx b.pending)
       → ((value : Option (List ℕ)) → IsLedUnlessSpoilt decided final value b
@@ -218,7 +226,8 @@ module _ (decided final : TxId → Bool) (b : Backup) (tx : TxId) (holders : Lis
     tidy = record {
       once = once-edited as_committed committed_keeps tx b.pending tidy.once;
       owned = each-edited (IsOwned b.holders) (IsOwned holders) as_committed tx b.pending tidy.once others_owned
-          (λ r y same edit own. inl (let one : committed r ≡ y = cc in sym (ap (λ (x : PendingRecord). x.committed) one)))
+          (λ r y same edit own. inl
+          (let one : committed r ≡ y = cc in sym (ap (λ (x : PendingRecord). x.committed) one)))
           tidy.owned;
       agreed = on.agreed;
       done = over;
@@ -308,14 +317,16 @@ module _ (decided final : TxId → Bool) (b : Backup) (tx : TxId) (holders : Lis
       by true e more =
           subst (λ o. Each (IsOwned holders) (put_back o rest))
           (sym (gone r (ap (λ c. if c then Some r else found tx rest) e)))
-          (each_both (λ (x : PendingRecord). same_tx x.tx tx ≡ false) (IsOwned b.holders) (IsOwned holders) rest others_owned
+          (each_both (λ (x : PendingRecord). same_tx x.tx tx ≡ false) (IsOwned b.holders)
+          (IsOwned holders) rest others_owned
           (each_apart tx rest (ap (λ t. found t rest) (sym (same_tx-is r.tx tx e)) ∙ once.0)) all.1)
       by false e more =
           (others_owned r e all.0, more (λ x is. gone x (ap (λ c. if c then Some r else found tx rest) e ∙ is)))
 
   -- a completion, behind the commit, of one that is kept in the end
   pub completions_lead : ((x : PendingRecord) → found tx b.pending ≡ Some x → (x.committed ≡ true) × (final tx ≡ true))
-      → Leads decided final b (record { row = b.row; pending = edited unless_committed tx b.pending; holders = holders })
+      → Leads decided final b
+      (record { row = b.row; pending = edited unless_committed tx b.pending; holders = holders })
   completions_lead told = record {
     tidy = record {
       once = once-edited unless_committed unless_keeps tx b.pending tidy.once;

@@ -33,12 +33,18 @@ pub mod KeyGoes
 pub mod KnownComes
 pub mod LdmGoes
 pub mod LedAlong
+pub mod LedApplied
+pub mod LedBegins
 pub mod LedDecisions
 pub mod LedEntries
 pub mod LedEvents
+pub mod LedFair
 pub mod LedHistories
 pub mod LedKeys
 pub mod LedMoves
+pub mod LedOwed
+pub mod LedReplicas
+pub mod LedRows
 pub mod LockKeeps
 pub mod LocksNow
 pub mod LostDoomed
@@ -61,6 +67,7 @@ pub mod ReplicasNow
 pub mod RowsAttended
 pub mod RowsEnd
 pub mod RowsGo
+pub mod SettledDecisions
 pub mod Settles
 pub mod ShellSees
 pub mod TakenChains

@@ -44,7 +44,8 @@ use Rattle.commit_laws.proofs.KeptNow.{DecidesNow, decides_now, is_now}
 
 module _ (forth : ForthIsKnownAlways) (transit : MomentsHaveTransit) (start : Start) (all : ℕ → List HostStep)
     (e : HostStep) (es : List HostStep) (follows : Follows start all e es) (tx : TxId)
-    (kept : IsKept start (logs_of start (e ∷ es)) tx) (isnt : is_decided start (logs_of start es) tx ≡ false)
+    (is : is_decided start (logs_of start (e ∷ es)) tx ≡ true) (now : IsDecidedNow start e es tx)
+    (isnt : is_decided start (logs_of start es) tx ≡ false)
   where
     abbrev old : ℕ → List HostStep
     old = logs_of start es
@@ -59,10 +60,7 @@ module _ (forth : ForthIsKnownAlways) (transit : MomentsHaveTransit) (start : St
     before = moment_less start all e es moment
 
     decides : DecidesNow forth start all e es moment tx
-    decides = decides_now forth start all e es moment tx kept.decided isnt
-
-    now : IsDecidedNow start e es tx
-    now = is_now forth start all e es moment tx decides isnt kept
+    decides = decides_now forth start all e es moment tx is isnt
 
     abbrev member : Member
     member = coordinator_member tx
@@ -153,9 +151,19 @@ module _ (forth : ForthIsKnownAlways) (transit : MomentsHaveTransit) (start : St
     off : (key : List ℕ) → IsOff start old key tx waits.transaction waits.transaction.asked
     off key = subst (IsOff start old key tx waits.transaction) (sym answered) tt
 
-    pub settled_now : (key : List ℕ)
+    pub settled_then : (key : List ℕ)
         → IsSettledWith start (logs_of start es) key tx (decided_ops start (logs_of start (e ∷ es)) tx)
-    settled_now key =
+    settled_then key =
         let one = transit start all es before in
         subst (IsSettledWith start old key tx) (waits.ops_are ∙ sym (ap (ops_of tx) own))
         ((follows.stood.parts one.0 one.1).rests tx waits.transaction hale key (off key))
+
+-- and so it is of one that is kept
+pub settled_now : (forth : ForthIsKnownAlways) → MomentsHaveTransit → (start : Start) (all : ℕ → List HostStep) (e : HostStep)
+    (es : List HostStep) → Follows start all e es → (tx : TxId) → IsKept start (logs_of start (e ∷ es)) tx
+    → is_decided start (logs_of start es) tx ≡ false → (key : List ℕ)
+    → IsSettledWith start (logs_of start es) key tx (decided_ops start (logs_of start (e ∷ es)) tx)
+settled_now forth transit start all e es follows tx kept isnt key =
+    settled_then forth transit start all e es follows tx kept.decided
+    (is_now forth start all e es follows.moment tx (decides_now forth start all e es follows.moment tx kept.decided isnt) isnt
+    kept) isnt key

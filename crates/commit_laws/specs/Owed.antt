@@ -10,14 +10,18 @@ use Rattle.sig_core.specs.declared.member.Member.{Member}
 use Rattle.sig_core.specs.declared.member.TxId.{TxId}
 use Rattle.sig_core.specs.declared.rows.PendingRecord.{PendingRecord}
 use Rattle.key_laws.specs.BackupEvents.{backup_of}
-use Rattle.key_laws.specs.Primary.{ended_too}
+use Rattle.key_laws.specs.Primary.{HasPrepared, ended_too}
 use Rattle.world_core.specs.Start.{Start}
 use Rattle.world_core.specs.Steps.{HostStep}
+use Rattle.world_views.specs.Machine.{stops_by}
 use Rattle.view_laws.specs.Order.{decisions}
 use Rattle.moment_laws.specs.Moments.{IsMoment, logs_of}
+use Rattle.commit_laws.specs.Fates.{fate}
+use Rattle.commit_laws.specs.Fates as Fates
+use Rattle.commit_laws.specs.Going.{is_back, is_forth}
 use Rattle.commit_laws.specs.Led.{IsTidy, Leads}
 use Rattle.commit_laws.specs.Settled.{DecisionsAreSettled, IsDecidedNow, IsPrimary}
-use Rattle.commit_laws.specs.Traces.{IsReplicaOf, record_at, replica_at}
+use Rattle.commit_laws.specs.Traces.{IsApplied, IsReplicaOf, record_at, replica_at}
 use Rattle.commit_laws.specs.Values.{decided_at, first_row, is_final, is_final_entry}
 
 -- the key has a primary, which is one of its replicas
@@ -71,6 +75,12 @@ EntriesAreFinal =
     (start : Start) (all : ℕ → List HostStep) (end es : List HostStep) → IsAlong start all end es → (z : Entry)
     → IsIn z (decisions start es) → is_final_entry start end z ≡ is_final start end z.tx
 
+-- a host that decides goes on
+abbrev pub DecidersGoOn : Type 0
+DecidersGoOn =
+    (start : Start) (all : ℕ → List HostStep) (e : HostStep) (es : List HostStep) → IsMoment start all (e ∷ es)
+    → (tx : TxId) (epoch : ℕ) → IsIn (Decided tx epoch) e.step.marks → stops_by e.step.marks ≡ false
+
 -- whoever is final isn't lost when it is decided
 abbrev pub FinalsAreDecidedNow : Type 0
 FinalsAreDecidedNow =
@@ -82,10 +92,38 @@ FinalsAreDecidedNow =
 abbrev pub WhoLetGoAreFinal : Type 0
 WhoLetGoAreFinal =
     (start : Start) (all : ℕ → List HostStep) (end es : List HostStep) → IsAlong start all end es
-    → (key : List ℕ) (member : Member) → IsReplicaOf start (logs_of start es) key member → (v : TxId) (r : PendingRecord)
+    → (key : List ℕ) (member : Member) → IsReplicaOf start (logs_of start es) key member → (v : TxId)
+    (r : PendingRecord)
     → record_at start (logs_of start es) member key v ≡ Some r → r.committed ≡ true
     → holds_enough v Exclusive (replica_at start (logs_of start es) member key).lock.holders ≡ false
     → is_final start end v ≡ true
+
+-- whoever is final was committed by its coordinator
+abbrev pub FinalsAreForth : Type 0
+FinalsAreForth =
+    (start : Start) (all : ℕ → List HostStep) (end : List HostStep) → IsMoment start all end → (v : TxId)
+    → is_final start end v ≡ true → is_forth start (logs_of start end) v ≡ true
+
+-- and never given up
+abbrev pub FinalsGoForward : Type 0
+FinalsGoForward =
+    (start : Start) (all : ℕ → List HostStep) (end es : List HostStep) → IsAlong start all end es → (v : TxId)
+    → is_final start end v ≡ true → is_back start (logs_of start es) v ≡ false
+
+-- whoever was applied is final
+abbrev pub AppliedAreFinal : Type 0
+AppliedAreFinal =
+    (start : Start) (all : ℕ → List HostStep) (end es : List HostStep) → IsAlong start all end es → (v : TxId)
+    (key : List ℕ)
+    → IsApplied start (logs_of start es) v key → is_final start end v ≡ true
+
+-- whoever aborts, and has something prepared, isn't
+abbrev pub AbortedAreNotFinal : Type 0
+AbortedAreNotFinal =
+    (start : Start) (all : ℕ → List HostStep) (end es : List HostStep) → IsAlong start all end es
+    → (key : List ℕ) (member : Member) → IsReplicaOf start (logs_of start es) key member → (v : TxId)
+    → fate start (logs_of start es) v ≡ Fates.aborts
+    → HasPrepared v (replica_at start (logs_of start es) member key).cell.pending → is_final start end v ≡ false
 
 -- what an event does to a key that is tidy at a replica
 abbrev pub EventsLead : Type 0
