@@ -6,3 +6,7 @@ pub mod SpokenTurns
 pub mod SpokenCoordinator
 pub mod SpokenTakeover
 pub mod SpokenRuling
+pub mod SpokenAside
+pub mod FateCases
+pub mod SpokenOwn
+pub mod SpokenHost

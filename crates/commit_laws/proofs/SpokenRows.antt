@@ -6,7 +6,7 @@ use Rattle.sig_core.specs.declared.member.TxId.{TxId}
 use Rattle.sig_core.specs.declared.outs.Outgoing.{Outgoing}
 use Rattle.sig_core.specs.declared.rows.PendingRecord.{PendingRecord}
 use Rattle.sig_core.specs.declared.signal.Body.{Body}
-use Rattle.sig_core.specs.declared.signal.Body.TheVariants.{Epoch, Host, Membership, Takeover}
+use Rattle.sig_core.specs.declared.signal.Body.TheVariants.{Chain, Epoch, Host, Membership, Takeover}
 use Rattle.sig_core.specs.declared.signal.Signal.{Signal}
 use Rattle.sig_core.specs.declared.signal.epoch.EpochSignal.{EpochSignal}
 use Rattle.sig_core.specs.declared.signal.epoch.EpochSignal.TheVariants.{GcpClosed, GcpSaveReq, GcpStateReq}
@@ -43,18 +43,23 @@ module _ (A C : TxId → Type 0) where
     passes = λ image next is. tt;
   }
 
-  table_speaks : (s : LqhState) (body : Body) → Speaks A C body → SendsFit (lqh_table s body)
+  -- what a signal of chains says
+  abbrev pub Hears : Body → Type 0
+  Hears (Chain signal) = Speaks A C (Chain signal)
+  Hears body = Unit {0}
+
+  table_speaks : (s : LqhState) (body : Body) → Hears body → SendsFit (lqh_table s body)
   table_speaks s body spoken =
       lqh_sends_each (IsSpoken A C) s body (record {
         asked = λ r is. request_speaks r;
         waited = λ at r is. request_speaks r;
         grants_more = tt;
         expires_more = tt;
-        commits_on = λ tx key epoch chain at is behind. subst (Speaks A C) is spoken;
-        committed = λ tx key epoch chain at is first. subst (Speaks A C) is spoken;
-        completes_on = λ tx key chain at is behind. subst (Speaks A C) is spoken;
-        completed = λ tx key chain at is first. subst (Speaks A C) is spoken;
-        aborted = λ tx key is. subst (Speaks A C) is spoken;
+        commits_on = λ tx key epoch chain at is behind. subst Hears is spoken;
+        committed = λ tx key epoch chain at is first. subst Hears is spoken;
+        completes_on = λ tx key chain at is behind. subst Hears is spoken;
+        completed = λ tx key chain at is first. subst Hears is spoken;
+        aborted = λ tx key is. subst Hears is spoken;
         gives_up = λ tx key is. tt;
         times_out = λ tx key. tt;
         waits = λ tx key ahead is there. tt;
@@ -99,7 +104,7 @@ module _ (A C : TxId → Type 0) where
     epochs_speak from GcpStateReq = (tt, tt)
     epochs_speak from _ = tt
 
-    module _ (x : Signal) (spoken : Speaks A C x.body) where
+    module _ (x : Signal) (spoken : Hears x.body) where
       passed_speaks : SendsFit (passed s x)
       passed_speaks =
           addressed_speak s.lqh.layout.view (lqh_row s.lqh x).effects.sends (table_speaks s.lqh x.body spoken)
@@ -118,5 +123,5 @@ module _ (A C : TxId → Type 0) where
       by_speaks _ = passed_speaks
 
   -- whatever they take
-  pub rows_speak : (s : ReplicaState) (x : Signal) → Speaks A C x.body → AreSpoken A C (replica_row s x).effects.sends
+  pub rows_speak : (s : ReplicaState) (x : Signal) → Hears x.body → AreSpoken A C (replica_row s x).effects.sends
   rows_speak s x spoken = by_speaks s x spoken x.body
