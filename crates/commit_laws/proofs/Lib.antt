@@ -10,3 +10,4 @@ pub mod SpokenAside
 pub mod FateCases
 pub mod SpokenOwn
 pub mod SpokenHost
+pub mod SpokenEvents

@@ -92,3 +92,20 @@ module _ (F : TxId → Fate) where
   both_said (Chain (Complete tx key chain at)) abort commit = commit
   both_said (Chain (Completed tx key)) abort commit = commit
   both_said body abort commit = tt
+
+-- what is said of some fates is said of others
+module _ (F G : TxId → Fate) where
+  pub aborts_grow : ((tx : TxId) → F tx ≡ aborts → G tx ≡ aborts) → (body : Body) → SaysAbort F body → SaysAbort G body
+  aborts_grow so (Chain (Abort tx key)) says = so tx says
+  aborts_grow so (Chain (Aborted tx key)) says = so tx says
+  aborts_grow so (Client (TcRollbackRep tx cause)) says = so tx says
+  aborts_grow so (Client (TcKeyFailRef tx)) says = so tx says
+  aborts_grow so body says = tt
+
+  pub commits_grow : ((tx : TxId) → F tx ≡ commits → G tx ≡ commits) → (body : Body) → SaysCommit F body
+      → SaysCommit G body
+  commits_grow so (Chain (Commit tx key epoch chain at)) says = so tx says
+  commits_grow so (Chain (Committed tx key)) says = so tx says
+  commits_grow so (Chain (Complete tx key chain at)) says = so tx says
+  commits_grow so (Chain (Completed tx key)) says = so tx says
+  commits_grow so body says = tt
