@@ -11,3 +11,4 @@ pub mod FateCases
 pub mod SpokenOwn
 pub mod SpokenHost
 pub mod SpokenEvents
+pub mod TakeoverWords

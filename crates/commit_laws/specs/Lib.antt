@@ -16,3 +16,4 @@ pub mod Values
 pub mod Ends
 pub mod Parts
 pub mod Together
+pub mod Gathering
