@@ -12,3 +12,9 @@ pub mod SpokenOwn
 pub mod SpokenHost
 pub mod SpokenEvents
 pub mod TakeoverWords
+pub mod RecordMoves
+pub mod MarkerMoves
+pub mod RowsGo
+pub mod Calm
+pub mod RecordsOnce
+pub mod KeyGoes

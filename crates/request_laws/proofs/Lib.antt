@@ -59,8 +59,12 @@ pub mod StrayNumbers
 pub mod StrayPromises
 pub mod StrayRows
 pub mod StrayWalk
+pub mod TokenAlone
+pub mod TokenCoordinators
 pub mod TokenHosts
+pub mod TokenMoments
 pub mod TokenNone
+pub mod TokenPlaces
 pub mod TokenRows
 pub mod TokenSteps
 pub mod TokenSums

@@ -1,6 +1,6 @@
--- What a host of rows sends of the tokens of a transaction at an event of a moment: no more than it takes and than waits
--- there no longer.
-use Rattle.std.proofs.Common.{◌≡◌, ◌≤◌, ◌<◌, ◌+◌, ◌⊎◌, ◌==◌, ◌&&◌, ◌||◌, ◌++◌, ℕ, Bool, true, false, List, [], ◌∷◌, eq-eqb, filter, refl, sym, ap, subst, arith, inl, inr, ◌∙◌}
+-- What a host of rows sends of the tokens of a transaction at an event of a moment: no more than it takes and than
+-- waits there no longer.
+use Rattle.std.proofs.Common.{◌≡◌, ◌≤◌, ◌+◌, ◌⊎◌, ◌==◌, ◌&&◌, ◌||◌, ◌++◌, ℕ, Bool, true, false, List, [], ◌∷◌, eq-eqb, filter, refl, sym, ap, subst, arith, inl, inr, ◌∙◌}
 use Rattle.std.proofs.lemmas.Bool.{true≢false}
 use Rattle.std.specs.Prelude.{not, if◌then◌else◌}
 use Rattle.std.specs.List.{count_by}
@@ -16,10 +16,9 @@ use Rattle.sig_core.specs.declared.signal.Body.{Body}
 use Rattle.sig_core.specs.declared.signal.Body.TheVariants.{Chain}
 use Rattle.sig_core.specs.declared.signal.Signal.{Signal}
 use Rattle.sig_core.specs.declared.view.View.{View}
-use Rattle.lqh_views.specs.Replica.{installed, replica_row}
+use Rattle.lqh_views.specs.Replica.{replica_row}
 use Rattle.lqh_views.specs.State.{ReplicaState}
 use Rattle.node_views.specs.declared.ldm_part.LdmPart.{LdmPart}
-use Rattle.node_views.specs.declared.parts.Parts.{Parts}
 use Rattle.node_views.specs.declared.parts.Parts.TheVariants.{Ldm}
 use Rattle.node_views.specs.declared.standing.Standing.{Standing}
 use Rattle.node_views.specs.Fence.{is_body_fenced, is_fenced}
@@ -34,9 +33,9 @@ use Rattle.world_views.specs.Machine.{after, sender, sent_count, signals_of, ste
 use Rattle.world_views.specs.Sending.{Routed, addressed, all_addressed, is_kept_back, is_own_work, routed, routed_all, routed_if}
 use Rattle.view_laws.specs.Order.{is_sound, sound_machine}
 use Rattle.view_laws.specs.Runs.{view_after}
-use Rattle.moment_laws.specs.Moments.{IsMoment, current, logs_of}
+use Rattle.moment_laws.specs.Moments.{IsMoment, logs_of}
 use Rattle.moment_laws.specs.Parts.{IsPassed}
-use Rattle.moment_laws.specs.PartSteps.{LdmDoes, PartEnters, PartTakes, handles, ignores, installs, ldm_kind, remains}
+use Rattle.moment_laws.specs.PartSteps.{PartEnters, PartTakes, handles, ignores, installs, ldm_kind, remains}
 use Rattle.moment_laws.specs.Places.{ldm_of}
 use Rattle.moment_laws.proofs.MomentHosts.{part_some}
 use Rattle.moment_laws.proofs.MomentViews.{current_number}
@@ -47,8 +46,8 @@ use Rattle.outcome_laws.specs.Counts.{count_sent, one_if}
 use Rattle.outcome_laws.proofs.TcLists.{count_both, count_more}
 use Rattle.request_laws.specs.Blocks.{no_replica, rows_after, rows_in}
 use Rattle.request_laws.specs.Tokens.{count_waiting, is_token, is_token_in}
-use Rattle.request_laws.proofs.RowsAlong.{AreRows}
-use Rattle.request_laws.proofs.TokenRows.{installed_asks, rows_conserve, rows_run}
+use Rattle.request_laws.proofs.RouteWaiters.{none_ask_installed}
+use Rattle.request_laws.proofs.TokenRows.{rows_conserve, rows_run}
 use Rattle.request_laws.proofs.TokenViews.{sent_now, taken_now}
 
 -- of signals that a host sends no more pass a test than of what its blocks send
@@ -62,7 +61,7 @@ module _ (q : Body → Bool) where
         arith,
         count_more (λ (r : Routed). q r.sent.body) r rs,
         count_more (λ (x : Addressed). q x.signal.body) (addressed by (count r.to) r)
-        (all_addressed by (counted r.to count) rs),
+            (all_addressed by (counted r.to count) rs),
         addressed_count by (counted r.to count) rs,
       )
 
@@ -133,7 +132,7 @@ module _ (start : Start) (tx : TxId) (number : ℕ) where
             filter_count p (is_sound start) (signals_of start h log e),
             count_less p (λ (x : Addressed). is_token tx x.signal.body) in_less (signals_of start h log e),
             addressed_count (is_token tx) (sender (made start) h e.step.stamp standing.view) (sent_count start h log)
-            (routed_all (made start) h standing sends),
+                (routed_all (made start) h standing sends),
             routed_count (is_token tx) (made start) h standing sends,
           )
 
@@ -233,7 +232,8 @@ module _ (start : Start) (all : ℕ → List HostStep) (e : HostStep) (es : List
             front_none (remains same stands none) = none
             front_none (installs above same stands none) = none
 
-            out : (sends ≡ front ++ rest) ⊎ (sends ≡ []) → count_sent (is_token tx) sends ≤ count_sent (is_token tx) rest
+            out : (sends ≡ front ++ rest) ⊎ (sends ≡ [])
+                → count_sent (is_token tx) sends ≤ count_sent (is_token tx) rest
             out (inl is) =
                 let none : count_sent (is_token tx) front ≡ 0 = ap (count_sent (is_token tx)) (front_none entering) in
                 omega (
@@ -242,7 +242,8 @@ module _ (start : Start) (all : ℕ → List HostStep) (e : HostStep) (es : List
                   count_both (λ (o : Outgoing). is_token tx o.body) front rest,
                   none,
                 )
-            out (inr is) = let none : count_sent (is_token tx) sends ≡ 0 = ap (count_sent (is_token tx)) is in omega (arith, none)
+            out (inr is) =
+                let none : count_sent (is_token tx) sends ≡ 0 = ap (count_sent (is_token tx)) is in omega (arith, none)
 
             left : PartEnters ldm_kind p view x between seen front → own ≡ between → rest ≡ [] → Few own
             left (remains same stands none) is nothing =
@@ -283,7 +284,7 @@ module _ (start : Start) (all : ℕ → List HostStep) (e : HostStep) (es : List
             between_ask (remains same stands none) =
                 subst (λ (r : LdmPart). WaitersAsk r.replica.lqh) (sym same) ask
             between_ask (installs above same stands front_is) =
-                subst (λ (r : LdmPart). WaitersAsk r.replica.lqh) (sym same) (installed_asks p.replica x.view)
+                subst (λ (r : LdmPart). WaitersAsk r.replica.lqh) (sym same) (none_ask_installed p.replica x.view)
 
             row : IsPassed start.shape (Ldm between) seen x → (b : BlockId) → x.to.block ≡ b
                 → own ≡ (ldm_row between b x).state → rest ≡ (ldm_row between b x).effects.sends → Few own

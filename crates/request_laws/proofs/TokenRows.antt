@@ -1,6 +1,6 @@
 -- Rows conserve tokens: of a transaction they send no more than came and no longer waits, and an installation ends all
 -- that waits.
-use Rattle.std.proofs.Common.{◌≡◌, ◌≤◌, ◌+◌, ◌==◌, ℕ, Bool, true, false, List, [], ◌∷◌, map, refl, sym, ap, subst, arith, ◌∙◌}
+use Rattle.std.proofs.Common.{◌≡◌, ◌≤◌, ◌+◌, ◌==◌, ℕ, Bool, true, false, List, [], ◌∷◌, map, refl, sym, ap, arith, ◌∙◌}
 use Rattle.std.specs.Prelude.{Option, None, Some}
 use Rattle.std.specs.FinMap as finite
 use Rattle.std.specs.List.{count_by}
@@ -26,18 +26,15 @@ use Rattle.sig_core.specs.Same.{same_tx}
 use Rattle.sig_core.specs.Step.{Step}
 use Rattle.row_locks.specs.Queues.{waits}
 use Rattle.row_locks.specs.Rows.{RowLock}
-use Rattle.row_locks.specs.Tables.{lock_at, or_unlocked}
+use Rattle.row_locks.specs.Tables.{or_unlocked}
 use Rattle.row_locks.proofs.LocksLemmas.{key_cmp}
-use Rattle.row_locks.proofs.KeepingLemmas.{lock-left}
 use Rattle.lqh_block.specs.declared.request.Marker.{Marker}
 use Rattle.lqh_block.specs.declared.request.Request.{Request}
 use Rattle.lqh_block.specs.Lqh.{lqh_row}
-use Rattle.lqh_block.specs.State.{LqhState}
-use Rattle.lqh_block.specs.Views.{goes_on_holding}
 use Rattle.lqh_views.specs.Address.{addressed}
 use Rattle.lqh_views.specs.declared.report.Report.{Report}
 use Rattle.lqh_views.specs.Epochs.{epoch_table}
-use Rattle.lqh_views.specs.Replica.{installed, is_stale, passed, replica_by, replica_row, serve_if}
+use Rattle.lqh_views.specs.Replica.{is_stale, passed, replica_by, replica_row, serve_if}
 use Rattle.lqh_views.specs.Report.{go_on_by, is_orphaned_marker, is_orphaned_record, last_before, marker_by, record_by, reporting, telling, told_record_if}
 use Rattle.lqh_views.specs.State.{ReplicaState}
 use Rattle.lqh_views.proofs.AddressLemmas.{same-body}
@@ -46,14 +43,14 @@ use Rattle.world_views.specs.Machine.{after}
 use Rattle.moment_laws.specs.Places.{ldm_of}
 use Rattle.run_laws.specs.Tokens as plain
 use Rattle.run_laws.proofs.LqhTokens.{is_own, lqh_tokens, tokens_out}
-use Rattle.run_laws.proofs.LqhWaits.{WaitersAsk, lqh_asks}
+use Rattle.run_laws.proofs.LqhWaits.{WaitersAsk}
 use Rattle.world_core.specs.Start.{Start, made}
 use Rattle.world_core.specs.Steps.{HostStep}
 use Rattle.outcome_laws.specs.Counts.{count_sent, one_if}
 use Rattle.outcome_laws.proofs.TcLists.{count_more}
 use Rattle.request_laws.specs.Blocks.{rows_after}
 use Rattle.request_laws.specs.Tokens.{count_waiting, is_token}
-use Rattle.request_laws.proofs.ReplicaEvents.{epoch_same, go_on_same, reporting_same}
+use Rattle.request_laws.proofs.RouteWaiters.{none_ask_installed, waiters_ask as signal_asks}
 use Rattle.request_laws.proofs.RowsAlong.{AreRows, always, first_rows, rows_so}
 
 -- two ways to say one where a test passes
@@ -170,58 +167,26 @@ pub rows_conserve : (s : ReplicaState) (x : Signal) (tx : TxId) → WaitersAsk s
     ≤ count_waiting tx s + one_if (is_token tx x.body)
 rows_conserve s x tx ask = by_conserves tx s x ask x.body
 
--- and where a view is installed nothing waits
-pub installed_none : (s : ReplicaState) (view : View) (tx : TxId) → count_waiting tx (installed s view) ≡ 0
-installed_none s view tx = refl
-
 -- so it is of the rows of a member along logs
-pub signal_ask : (s : ReplicaState) (x : Signal) → WaitersAsk s.lqh → WaitersAsk (replica_row s x).state.lqh
-signal_ask s x ask = by x.body
-  where
-    same : (now : LqhState) → now ≡ s.lqh → WaitersAsk now
-    same now is = subst WaitersAsk (sym is) ask
-
-    served : (stale : Bool) → WaitersAsk (serve_if s x stale).state.lqh
-    served true = ask
-    served false = lqh_asks s.lqh x.body ask
-
-    by : (body : Body) → WaitersAsk (replica_by s x body).state.lqh
-    by (Membership (FenceReq proposal)) = ask
-    by (Takeover LqhTransReq) = same _ (reporting_same s _)
-    by (Host (Continue work.Report at)) =
-        same _ (go_on_same s (x.view.number == s.lqh.layout.view.number) s.report)
-    by (Host (Continue work.Granted at)) = served (is_stale s x)
-    by (Host (Continue work.Expired at)) = served (is_stale s x)
-    by (Epoch signal) = same _ (epoch_same s x.member.node signal)
-    by _ = lqh_asks s.lqh x.body ask
-
-none_ask : (s : LqhState) → ((key : List ℕ) → (lock_at s.locks key).queue ≡ []) → WaitersAsk s
-none_ask s none = record {
-  asks = λ key tx is. absurd (true≢false (sym is ∙ ap (waits tx) (none key)));
-}
-
-pub installed_asks : (s : ReplicaState) (view : View) → WaitersAsk (installed s view).lqh
-installed_asks s view =
-    none_ask (installed s view).lqh
-    (λ key. ap (λ (lock : RowLock). lock.queue) (lock-left (goes_on_holding s.lqh.rows view.full) s.lqh.locks key))
-
 first_asks : (start : Start) (member : Member) → WaitersAsk (first_rows start member).lqh
-first_asks start member =
-    none_ask (first_rows start member).lqh
-    (λ key. ap (λ (lock : RowLock). lock.queue) (ap or_unlocked (finite.get-empty key_cmp key)))
+first_asks start member = record {
+  asks = λ key tx is.
+      absurd (true≢false (sym is ∙ ap (λ (lock : RowLock). waits tx lock.queue)
+      (ap or_unlocked (finite.get-empty key_cmp key))));
+}
 
 -- a host runs rows in which each wait has a request
 abbrev pub RunsRows : Parts → Type 0
-RunsRows = AreRows (λ (s : ReplicaState). WaitersAsk s.lqh) signal_ask (λ s view ask. installed_asks s view)
+RunsRows = AreRows (λ (s : ReplicaState). WaitersAsk s.lqh) signal_asks (λ s view ask. none_ask_installed s view)
 
 pub rows_run : (start : Start) (member : Member) → IsIn member (made start) → (log : List HostStep)
     → RunsRows (after start (ldm_of start member) log).parts
 rows_run start member there log =
-    rows_so (λ (s : ReplicaState). WaitersAsk s.lqh) signal_ask (λ s view ask. installed_asks s view) start member there
-    (first_asks start member) log
+    rows_so (λ (s : ReplicaState). WaitersAsk s.lqh) signal_asks (λ s view ask. none_ask_installed s view) start member
+    there (first_asks start member) log
 
 pub waiters_ask : (start : Start) (member : Member) → IsIn member (made start) → (log : List HostStep)
     → WaitersAsk (rows_after start member log).lqh
 waiters_ask start member there =
-    always (λ (s : ReplicaState). WaitersAsk s.lqh) signal_ask (λ s view ask. installed_asks s view) start member there
-    (first_asks start member)
+    always (λ (s : ReplicaState). WaitersAsk s.lqh) signal_asks (λ s view ask. none_ask_installed s view) start member
+    there (first_asks start member)

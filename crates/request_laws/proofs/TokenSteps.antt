@@ -1,10 +1,9 @@
--- What a step of a coordinator sends of the tokens of a transaction, and how that comes to have an operation unanswered.
-use Rattle.std.proofs.Common.{◌≡◌, ◌⊎◌, ◌||◌, ◌++◌, ◌+◌, ◌<◌, ℕ, Bool, true, false, List, [], ◌∷◌, refl, sym, ap, subst, arith, inl, inr, ◌∙◌}
+-- What a step of a coordinator sends of the tokens of a transaction, and how that comes to have an operation
+-- unanswered.
+use Rattle.std.proofs.Common.{◌≡◌, ◌⊎◌, ◌||◌, ◌++◌, ◌<◌, ℕ, Bool, true, false, List, [], ◌∷◌, refl, sym, ap, subst, arith, inl, inr, ◌∙◌}
 use Rattle.std.proofs.lemmas.Bool.{leb-false, leb-true, or_cases, or_left, or_right, true≢false}
 use Rattle.std.proofs.lemmas.List.{append-nil}
 use Rattle.std.specs.Prelude.{is_some, nat_le, if◌then◌else◌, Option, None, Some}
-use Rattle.std.specs.List.{list_any}
-use Rattle.run_theory.specs.Lists.{Each}
 use Rattle.run_theory.proofs.Pasts.{each_map}
 use Rattle.sig_core.specs.declared.member.Member.{Member}
 use Rattle.sig_core.specs.declared.member.TxId.{TxId}
@@ -14,9 +13,7 @@ use Rattle.sig_core.specs.declared.signal.Body.TheVariants.{Chain, Client}
 use Rattle.sig_core.specs.declared.signal.Signal.{Signal}
 use Rattle.sig_core.specs.declared.signal.chain.ChainSignal.TheVariants.{LqhKeyConf, LqhKeyRef, LqhKeyReq}
 use Rattle.sig_core.specs.declared.signal.client.ClientSignal.TheVariants.{TcRollbackRep}
-use Rattle.sig_core.specs.declared.view.View.{View}
 use Rattle.sig_core.specs.Step.{Step}
-use Rattle.frag_map.specs.Layout.{Layout}
 use Rattle.host_laws.proofs.OfLive.{each_found}
 use Rattle.host_laws.proofs.TcOps.{is_right}
 use Rattle.tc_block.specs.declared.phase.Asked.{Asked}
@@ -28,30 +25,24 @@ use Rattle.tc_block.specs.Phases.{is_aborting}
 use Rattle.tc_block.specs.Resume.{resume_row}
 use Rattle.tc_block.specs.Turn.{Turn}
 use Rattle.tc_block.proofs.EachTurn.{rows_at, rows_of}
-use Rattle.tc_block.proofs.TurnRows.{is_turn, turn_for, turn_with, tx_in}
+use Rattle.tc_block.proofs.TurnRows.{turn_for, turn_with}
 use Rattle.tc_views.specs.Coordinator.{coordinator_row}
 use Rattle.tc_views.specs.State.{CoordinatorState, go_on_if, go_on_with}
-use Rattle.tc_views.specs.Views as views
 use Rattle.outcome_laws.specs.Counts.{IsCoordinatorOf, coordinator_member, count_sent, is_unborn}
 use Rattle.outcome_laws.proofs.TcLists.{count_both, none_counted}
 use Rattle.outcome_laws.proofs.TcWalk as walk
 use Rattle.outcome_laws.proofs.TcWalk.{ResumeForms}
 use Rattle.request_laws.specs.Drives.{is_request}
-use Rattle.request_laws.specs.Tokens.{is_token}
+use Rattle.request_laws.specs.Tokens.{has_asked, is_token}
 use Rattle.request_laws.specs.Ways.{entry_of, is_at, is_sent, tells_abort}
 use Rattle.request_laws.proofs.PhaseSends.{AreSpared}
 use Rattle.request_laws.proofs.PhaseTurns.{Changes, back, decides, forth, is_abort_told, opens, resume_changes, turn_changes, waits}
 use Rattle.request_laws.proofs.PhaseTurns as changes
-use Rattle.request_laws.proofs.PhaseWalk.{AreAway, Walks, begins, coordinator_walks, install_away, install_leaves, is_about, left_of, passes, resumes, stays, turns}
+use Rattle.request_laws.proofs.PhaseWalk.{AreAway, Walks, begins, coordinator_walks, is_about, left_of, passes, resumes, stays, turns}
 use Rattle.request_laws.proofs.TokenTurns.{TokenTurn, asks, ends, falls, hears, rests, resumes_move, turns_move}
 
--- it has an operation unanswered
-abbrev pub asks_now : Option Transaction → Bool
-asks_now None = false
-asks_now (Some t) = is_some t.asked
-
--- What is so of a transaction that has gone back, or hasn't: only where it may, it has something unanswered, and once it has
--- gone back it is aborted or forgotten for good.
+-- What is so of a transaction that has gone back, or hasn't: it has something unanswered only where it may, and once it
+-- has gone back it is aborted or forgotten for good.
 abbrev pub IsFit : Bool → Bool → Option Transaction → Type 0
 IsFit gone unborn None = gone ≡ true → unborn ≡ false
 IsFit gone unborn (Some t) = (is_right t.asked t.phase ≡ true) × (gone ≡ true → is_aborting t.phase ≡ true)
@@ -61,16 +52,17 @@ abbrev pub gone_behind : TxId → Bool → Option Transaction → List Outgoing 
 gone_behind tx gone now sends = is_at is_aborting now || (is_sent (tells_abort tx) sends || gone)
 
 -- what a step sends of its tokens
-pub data TokenMove (tx : TxId) (body : Body) (gone : Bool) (was now : Option Transaction) (sends : List Outgoing) : Type 0
+pub data TokenMove (tx : TxId) (body : Body) (gone : Bool) (was now : Option Transaction) (sends : List Outgoing)
+    : Type 0
   where
-  -- none; and what was unanswered is so, or is answered, or it has gone back
-  quiet : count_sent (is_token tx) sends ≡ 0
-      → (asks_now was ≡ true
-      → (asks_now now ≡ true) ⊎ ((is_token tx body ≡ true) ⊎ (gone_behind tx gone now sends ≡ true)))
-      → TokenMove tx body gone was now sends
-  -- a request, where nothing was unanswered
-  sends_one : count_sent (is_token tx) sends ≡ 1 → is_sent (is_request tx) sends ≡ true → asks_now was ≡ false
-      → asks_now now ≡ true → gone ≡ false → TokenMove tx body gone was now sends
+    -- none; and what was unanswered is so, or is answered, or it has gone back
+    quiet : count_sent (is_token tx) sends ≡ 0
+        → (has_asked was ≡ true
+        → (has_asked now ≡ true) ⊎ ((is_token tx body ≡ true) ⊎ (gone_behind tx gone now sends ≡ true)))
+        → TokenMove tx body gone was now sends
+    -- a request, where nothing was unanswered
+    sends_one : count_sent (is_token tx) sends ≡ 1 → is_sent (is_request tx) sends ≡ true → has_asked was ≡ false
+        → has_asked now ≡ true → gone ≡ false → TokenMove tx body gone was now sends
 
 pub record TokenStep (tx : TxId) (body : Body) (gone : Bool) (was now : Option Transaction) (unborn : Bool)
     (sends : List Outgoing) : Type 0 where
@@ -89,12 +81,12 @@ module _ (tx : TxId) where
   away_abort (Client (TcRollbackRep one cause)) off = off
   away_abort _ off = refl
 
-  away_none : (sends : List Outgoing) → AreAway tx sends → count_sent (is_token tx) sends ≡ 0
+  pub away_none : (sends : List Outgoing) → AreAway tx sends → count_sent (is_token tx) sends ≡ 0
   away_none sends away =
       none_counted (is_token tx) sends
       (each_map _ _ sends (λ (o : Outgoing) off. away_token o.body off) away)
 
-  away_untold : (sends : List Outgoing) → AreAway tx sends → is_sent (tells_abort tx) sends ≡ false
+  pub away_untold : (sends : List Outgoing) → AreAway tx sends → is_sent (tells_abort tx) sends ≡ false
   away_untold [] away = refl
   away_untold (o ∷ sends) away =
       ap (λ b. b || is_sent (tells_abort tx) sends) (away_abort o.body away.0) ∙ away_untold sends away.1
@@ -260,21 +252,22 @@ module _ (member : Member) (s : CoordinatorState) (of : IsCoordinatorOf member s
         TokenStep tx body gone (entry_of s tx) (entry_of step.state tx) (is_unborn step.state tx) step.effects.sends
 
     -- nothing comes to it
-    same_goes : (body : Body) (now : Option Transaction) (unborn : Bool) (sends : List Outgoing) → now ≡ entry_of s tx
-        → unborn ≡ is_unborn s tx → count_sent (is_token tx) sends ≡ 0 → is_sent (tells_abort tx) sends ≡ false
-        → TokenStep tx body gone (entry_of s tx) now unborn sends
+    pub same_goes : (body : Body) (now : Option Transaction) (unborn : Bool) (sends : List Outgoing)
+        → now ≡ entry_of s tx → unborn ≡ is_unborn s tx → count_sent (is_token tx) sends ≡ 0
+        → is_sent (tells_abort tx) sends ≡ false → TokenStep tx body gone (entry_of s tx) now unborn sends
     same_goes body now unborn sends same again none untold = record {
       fit =
           subst (λ o. IsFit (gone_behind tx gone o sends) unborn o) (sym same)
           (subst (λ b. IsFit (gone_behind tx gone (entry_of s tx) sends) b (entry_of s tx)) (sym again)
           (by (entry_of s tx) fit));
-      moves = quiet none (λ asked. inl (ap asks_now same ∙ asked));
+      moves = quiet none (λ asked. inl (ap has_asked same ∙ asked));
     }
       where
         by : (o : Option Transaction) → IsFit gone (is_unborn s tx) o
             → IsFit (gone_behind tx gone o sends) (is_unborn s tx) o
         by None fit = λ g. fit (sym (ap (λ b. b || gone) untold) ∙ g)
-        by (Some t) fit = (fit.0, λ g. at t fit (or_cases (is_aborting t.phase) (is_sent (tells_abort tx) sends || gone) g))
+        by (Some t) fit =
+            (fit.0, λ g. at t fit (or_cases (is_aborting t.phase) (is_sent (tells_abort tx) sends || gone) g))
           where
             at : (t : Transaction) → IsFit gone (is_unborn s tx) (Some t)
                 → (is_aborting t.phase ≡ true) ⊎ ((is_sent (tells_abort tx) sends || gone) ≡ true)
@@ -370,14 +363,6 @@ module _ (member : Member) (s : CoordinatorState) (of : IsCoordinatorOf member s
 
     pub coordinator_tokens : (x : Signal) → Goes x.body (coordinator_row s x)
     coordinator_tokens x = walked x.view.number x.body (coordinator_row s x) (coordinator_walks member s of tx x)
-
-    -- an installation leaves it
-    pub install_tokens : (body : Body) (view : View) → Goes body (views.install_row s view)
-    unfolding views.install_row
-    install_tokens body view =
-        same_goes body (entry_of s tx) (is_unborn s tx) (views.install_row s view).effects.sends refl refl
-        (away_none tx (views.install_row s view).effects.sends (go_on_away tx s.tc.node _))
-        (away_untold tx (views.install_row s view).effects.sends (go_on_away tx s.tc.node _))
 
 -- the transactions of other members send none
 pub others_send_none : (member : Member) (s : CoordinatorState) → IsCoordinatorOf member s → (tx : TxId)

@@ -1,14 +1,14 @@
 -- Over all hosts no more signals of a kind are taken from links than were sent.
-use Rattle.std.proofs.Common.{◌≡◌, ◌≢◌, ◌≤◌, ◌<◌, ◌+◌, ◌⊎◌, ◌==◌, ◌&&◌, ℕ, zero, suc, Bool, true, false, List, [], ◌∷◌, ◌++◌, refl, sym, ap, subst, arith, inl, inr, ◌∙◌}
+use Rattle.std.proofs.Common.{◌≡◌, ◌≤◌, ◌<◌, ◌+◌, ◌⊎◌, ◌==◌, ◌&&◌, ℕ, zero, suc, Bool, true, false, List, [], ◌∷◌, refl, sym, ap, arith, inl, inr, ◌∙◌}
 use Rattle.std.proofs.lemmas.Bool.{cases_lt, eq-eqb, true≢false}
 use Rattle.std.specs.Prelude.{not, if◌then◌else◌}
 use Rattle.std.specs.List.{count_by}
 use Rattle.run_theory.specs.Counts.{one_if as plain_one, total}
-use Rattle.run_theory.specs.Links.{Closes, IsGiven, is_from, put, sent, sent_by, taken}
+use Rattle.run_theory.specs.Links.{IsGiven, put, sent, sent_by, taken}
 use Rattle.run_theory.specs.Lists.{IsPast}
 use Rattle.run_theory.specs.Machine.{Machine}
-use Rattle.run_theory.specs.Runs.{AreLogs}
-use Rattle.run_theory.proofs.Runs.{logs_of_run}
+use Rattle.run_theory.specs.Runs.{AreLogs, IsWithin}
+use Rattle.run_theory.proofs.Runs.{given_taken, logs_of_run}
 use Rattle.host_laws.proofs.Sums.{total_add, total_le, total_same, total_zero, unit_below, unit_few}
 use Rattle.sig_core.specs.declared.member.TxId.{TxId}
 use Rattle.sig_core.specs.declared.signal.Signal.{Signal}
@@ -17,7 +17,7 @@ use Rattle.world_core.specs.Start.{Start}
 use Rattle.world_core.specs.Steps.{Addressed, HostStep}
 use Rattle.view_laws.specs.Order.{sound_machine}
 use Rattle.moment_laws.specs.Moments.{IsMoment, logs_of}
-use Rattle.moment_laws.proofs.MomentViews.{moment_within}
+use Rattle.moment_laws.proofs.MomentViews.{moment_less, moment_within}
 use Rattle.outcome_laws.specs.Counts.{one_if}
 use Rattle.outcome_laws.proofs.TcLists.{count_both, count_more}
 use Rattle.request_laws.specs.Tokens.{TakesAreFew, all_sent, all_taken, is_token, sent_along, taken_along}
@@ -55,8 +55,8 @@ module _ (start : Start) (p : Signal → Bool) where
         arith,
         put_total m xs (λ j. if x.to == j then x ∷ before j else before j),
         total_same m (λ j. count_on (if x.to == j then x ∷ before j else before j))
-        (λ j. plain_one ((x.to == j) && passes x) + count_on (before j))
-        (λ j low. count_if (x.to == j) x (before j)),
+            (λ j. plain_one ((x.to == j) && passes x) + count_on (before j))
+            (λ j low. count_if (x.to == j) x (before j)),
         total_add m (λ j. plain_one ((x.to == j) && passes x)) (λ j. count_on (before j)),
         unit_few m x.to (passes x),
         count_more passes x xs,
@@ -111,8 +111,8 @@ module _ (start : Start) (p : Signal → Bool) where
         along_more e log,
         taken_total m log (λ i high. omega (arith, none i high, taken_more i e log)),
         total_same m (λ i. count_on (taken n i (e ∷ log)))
-        (λ i. plain_one ((e.step.taken.from.0 == i) && takes e) + count_on (taken n i log))
-        (λ i low. taken_more i e log),
+            (λ i. plain_one ((e.step.taken.from.0 == i) && takes e) + count_on (taken n i log))
+            (λ i low. taken_more i e log),
         total_add m (λ i. plain_one ((e.step.taken.from.0 == i) && takes e)) (λ i. count_on (taken n i log)),
         one (cases_lt e.step.taken.from.0 m),
       )
@@ -158,39 +158,49 @@ module _ (start : Start) (p : Signal → Bool) where
           past_count closing.rest (sent n i j (e ∷ log)) closing.past,
         )
 
-    module _ (all : ℕ → List HostStep) (es : List HostStep) (moment : IsMoment start all es) where
-      abbrev logs : ℕ → List HostStep
-      logs = logs_of start es
+    module _ (m : ℕ) (before now : ℕ → List HostStep) (within : IsWithin m before)
+        (each_link : (i j : ℕ) → count_on (taken n i (now j)) ≤ count_on (sent n i j (before i)))
+      where
+        none_above : (j : ℕ) → NoneAbove m (now j)
+        none_above j i high =
+            let none : count_on (sent n i j (before i)) ≡ 0 = ap (λ log. count_on (sent n i j log)) (within i high) in
+            omega (arith, each_link i j, none)
 
-      abbrev m : ℕ
-      m = hosts start
+        -- all that hosts took was sent by hosts
+        links_few : total m (λ j. taken_along start p (now j)) ≤ total m (λ i. sent_along start p i (before i))
+        links_few =
+            omega (
+              arith,
+              total_le m (λ j. taken_along start p (now j)) (λ j. total m (λ i. count_on (taken n i (now j))))
+                  (λ j low. taken_total m (now j) (none_above j)),
+              total_le m (λ j. total m (λ i. count_on (taken n i (now j))))
+                  (λ j. total m (λ i. count_on (sent n i j (before i))))
+                  (λ j low. total_le m (λ i. count_on (taken n i (now j))) (λ i. count_on (sent n i j (before i)))
+                  (λ i under. each_link i j)),
+              total_swap m m (λ i j. count_on (sent n i j (before i))),
+              total_le m (λ i. total m (λ j. count_on (sent n i j (before i))))
+                  (λ i. sent_along start p i (before i)) (λ i low. sent_total m i (before i)),
+            )
 
-      right : AreLogs n logs
-      right = logs_of_run n es moment.run
+    pub takes_few : (all : ℕ → List HostStep) (es : List HostStep) → IsMoment start all es
+        → all_taken start p (logs_of start es) ≤ all_sent start p (logs_of start es)
+    takes_few all es moment =
+        let logs = logs_of start es in
+        let right : AreLogs n logs = logs_of_run n es moment.run in
+        links_few (hosts start) logs logs (moment_within start all es moment)
+        (λ i j. given_count i j (logs i) (taken n i (logs j)) (right.linked i j))
 
-      each_link : (i j : ℕ) → count_on (taken n i (logs j)) ≤ count_on (sent n i j (logs i))
-      each_link i j = given_count i j (logs i) (taken n i (logs j)) (right.linked i j)
-
-      none_above : (j : ℕ) → NoneAbove m (logs j)
-      none_above j i high =
-          let none : count_on (sent n i j (logs i)) ≡ 0 =
-          ap (λ log. count_on (sent n i j log)) (moment_within start all es moment i high) in
-          omega (arith, each_link i j, none)
-
-      pub takes_few : all_taken start p logs ≤ all_sent start p logs
-      takes_few =
-          omega (
-            arith,
-            total_le m (λ j. taken_along start p (logs j)) (λ j. total m (λ i. count_on (taken n i (logs j))))
-            (λ j low. taken_total m (logs j) (none_above j)),
-            total_le m (λ j. total m (λ i. count_on (taken n i (logs j))))
-            (λ j. total m (λ i. count_on (sent n i j (logs i))))
-            (λ j low. total_le m (λ i. count_on (taken n i (logs j))) (λ i. count_on (sent n i j (logs i)))
-            (λ i under. each_link i j)),
-            total_swap m m (λ i j. count_on (sent n i j (logs i))),
-            total_le m (λ i. total m (λ j. count_on (sent n i j (logs i)))) (λ i. sent_along start p i (logs i))
-            (λ i low. sent_total m i (logs i)),
-          )
+    -- what an event takes was sent before it
+    pub takes_before : (all : ℕ → List HostStep) (e : HostStep) (es : List HostStep) → IsMoment start all (e ∷ es)
+        → all_taken start p (logs_of start (e ∷ es)) ≤ all_sent start p (logs_of start es)
+    takes_before all e es moment =
+        let before = logs_of start es in
+        let now = logs_of start (e ∷ es) in
+        let right : AreLogs n before = logs_of_run n es moment.run.0 in
+        links_few (hosts start) before now
+        (moment_within start all es (moment_less start all e es moment))
+        (λ i j.
+        given_count i j (before i) (taken n i (now j)) (given_taken n es e i j moment.run.1 (right.linked i j)))
 
 pub takes_are_few : TakesAreFew
 takes_are_few start all es moment p only = takes_few start p only all es moment

@@ -1,21 +1,15 @@
--- What a coordinator does to a transaction that has an operation unanswered, and when it sends a request: an operation is
--- asked for while nothing is unanswered, and ends by an answer or as the transaction goes back.
-use Rattle.std.proofs.Common.{◌≡◌, ◌⊎◌, ◌||◌, ◌++◌, ℕ, Bool, true, false, List, [], ◌∷◌, refl, sym, ap, subst, arith, inl, inr, ◌∙◌}
+-- What a coordinator does to a transaction that has an operation unanswered, and when it sends a request: an operation
+-- is asked for while nothing is unanswered, and ends by an answer or as the transaction goes back.
+use Rattle.std.proofs.Common.{◌≡◌, ◌||◌, ℕ, Bool, true, false, List, refl, sym, ap, ◌∙◌}
 use Rattle.std.proofs.lemmas.Bool.{and_parts, true≢false}
 use Rattle.std.specs.Prelude.{◌+◌, cond, is_some, map, Option, None, Some}
-use Rattle.run_theory.specs.Lists.{Each}
-use Rattle.run_theory.proofs.Pasts.{each_map}
-use Rattle.sig_core.specs.declared.member.Member.{Member}
 use Rattle.sig_core.specs.declared.member.TxId.{TxId}
 use Rattle.sig_core.specs.declared.outcome.AbortCause.{AbortCause}
 use Rattle.sig_core.specs.declared.outs.Outgoing.{Outgoing}
 use Rattle.sig_core.specs.declared.signal.Body.{Body}
-use Rattle.sig_core.specs.declared.signal.Body.TheVariants.{Chain, Client}
-use Rattle.sig_core.specs.declared.signal.Signal.{Signal}
-use Rattle.sig_core.specs.declared.signal.chain.ChainSignal.TheVariants.{LqhKeyConf, LqhKeyRef, LqhKeyReq}
+use Rattle.sig_core.specs.declared.signal.Body.TheVariants.{Client}
 use Rattle.sig_core.specs.declared.signal.client.ClientSignal.TheVariants.{TcCommitReq}
-use Rattle.sig_core.specs.declared.view.View.{View}
-use Rattle.sig_core.specs.Step.{sends_only, stay}
+use Rattle.sig_core.specs.Step.{sends_only}
 use Rattle.sig_core.proofs.Keys.{same_tx-self}
 use Rattle.frag_map.specs.Layout.{Layout}
 use Rattle.host_laws.proofs.TcOps.{is_right}
@@ -70,7 +64,8 @@ module _ (node : ℕ) (layout : Layout) (tx : TxId) where
   unfolding entering
   enters_none u phase =
       none_out _
-      ((turns_still tx tx node layout (at_phase u phase) (Client (TcCommitReq tx)) (λ op is. absurd cc)).goes_on 0).sends
+      ((turns_still tx tx node layout (at_phase u phase) (Client (TcCommitReq tx)) (λ op is.
+      absurd cc)).goes_on 0).sends
 
   end_none : (why : AbortCause) (verifying : Bool)
       → count_sent (is_token tx) (abort_end node tx why verifying) ≡ 0

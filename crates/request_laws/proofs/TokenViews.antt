@@ -1,10 +1,9 @@
 -- The first moment in a view: no token has its number yet, and no host stands in it; and sums over members.
-use Rattle.std.proofs.Common.{◌≡◌, ◌≢◌, ◌≤◌, ◌<◌, ◌+◌, ◌⊎◌, ◌==◌, ◌&&◌, ◌++◌, ℕ, zero, suc, Bool, true, false, List, [], ◌∷◌, refl, sym, ap, subst, arith, inl, inr, ◌∙◌}
+use Rattle.std.proofs.Common.{◌≡◌, ◌≢◌, ◌≤◌, ◌<◌, ◌+◌, ◌⊎◌, ◌==◌, ◌&&◌, ◌++◌, ℕ, zero, suc, Bool, true, false, List, [], ◌∷◌, refl, sym, ap, arith, inl, inr}
 use Rattle.std.proofs.lemmas.Bool.{cases_eq, eqb-true}
 use Rattle.std.specs.Prelude.{if◌then◌else◌}
 use Rattle.std.specs.List.{count_by}
 use Rattle.frag_map.specs.Layout.{members}
-use Rattle.run_theory.specs.Counts.{total}
 use Rattle.run_theory.specs.Links.{sent_by}
 use Rattle.run_theory.specs.Lists.{Each, IsIn}
 use Rattle.run_theory.proofs.Links.{sent_by_each}
@@ -15,7 +14,7 @@ use Rattle.sig_core.specs.declared.member.TxId.{TxId}
 use Rattle.sig_core.specs.declared.signal.Signal.{Signal}
 use Rattle.sig_core.specs.declared.view.View.{View}
 use Rattle.world_core.specs.Hosts.{hosts}
-use Rattle.world_core.specs.Start.{Start, made}
+use Rattle.world_core.specs.Start.{Start}
 use Rattle.world_core.specs.Steps.{Addressed, HostStep}
 use Rattle.world_views.specs.Machine.{signals_of}
 use Rattle.view_laws.specs.Order.{is_sound, sound_machine}
@@ -23,8 +22,7 @@ use Rattle.view_laws.specs.Runs.{view_after}
 use Rattle.view_laws.proofs.EraRises.{view_rises}
 use Rattle.view_laws.proofs.EraSound.{each_filter}
 use Rattle.view_laws.proofs.FollowSends.{each_sent}
-use Rattle.moment_laws.specs.Moments.{IsMoment, current, logs_of}
-use Rattle.moment_laws.specs.Places.{ldm_of}
+use Rattle.moment_laws.specs.Moments.{IsMoment, logs_of}
 use Rattle.moment_laws.proofs.MomentTurns.{host_low, other_log, own_log}
 use Rattle.moment_laws.proofs.MomentViews.{current_above, current_number}
 use Rattle.outcome_laws.proofs.TcLists.{count_more}
@@ -46,12 +44,12 @@ total_of_last : (ms : List Member) (m : Member) (f : Member → ℕ) → total_o
 total_of_last [] m f = omega arith
 total_of_last (x ∷ ms) m f = omega (arith, total_of_last ms m f)
 
-abbrev node_of : ℕ → Member
+abbrev pub node_of : ℕ → Member
 node_of node = record { node = node; start = 0 }
 
 -- one of them changes: that of a node
 pub total_of_one : (n : ℕ) (f g : Member → ℕ) (node : ℕ) → 1 ≤ node → node ≤ n
-    → ((k : ℕ) → 1 ≤ k → k ≢ node → g (node_of k) ≡ f (node_of k))
+    → ((k : ℕ) → 1 ≤ k → k ≤ n → k ≢ node → g (node_of k) ≡ f (node_of k))
     → total_of (members n) g + f (node_of node) ≡ total_of (members n) f + g (node_of node)
 total_of_one zero f g node some low same = absurd (omega (arith, some, low))
 total_of_one (suc n) f g node some low same =
@@ -64,7 +62,7 @@ total_of_one (suc n) f g node some low same =
     last_g = total_of_last (members n) (node_of (n + 1)) g
 
     by : ((n + 1) ≡ node) ⊎ ((n + 1) ≢ node)
-        → (node ≤ n → ((k : ℕ) → 1 ≤ k → k ≢ node → g (node_of k) ≡ f (node_of k))
+        → (node ≤ n → ((k : ℕ) → 1 ≤ k → k ≤ n → k ≢ node → g (node_of k) ≡ f (node_of k))
         → total_of (members n) g + f (node_of node) ≡ total_of (members n) f + g (node_of node))
         → total_of (members (suc n)) g + f (node_of node) ≡ total_of (members (suc n)) f + g (node_of node)
     by (inl at) rest =
@@ -85,15 +83,15 @@ total_of_one (suc n) f g node some low same =
               total_of_last (members m) (node_of (m + 1)) f,
               total_of_last (members m) (node_of (m + 1)) g,
               below m (omega (arith, high)),
-              same (m + 1) (omega arith) (λ is. absurd (omega (arith, is, high))),
+              same (m + 1) (omega arith) (omega (arith, high, low)) (λ is. absurd (omega (arith, is, high))),
             )
     by (inr other) rest =
         omega (
           arith,
           last_f,
           last_g,
-          same (n + 1) (omega arith) other,
-          rest (omega (arith, low, other)) same,
+          same (n + 1) (omega arith) (omega arith) other,
+          rest (omega (arith, low, other)) (λ k some low. same k some (omega (arith, low))),
         )
 
 -- signals that are tokens in a view
@@ -129,11 +127,11 @@ module _ (start : Start) (tx : TxId) (number : ℕ) where
       omega (
         arith,
         low_none (sent_by (sound_machine start) h log e)
-        (sent_by_each (sound_machine start) (λ (x : Addressed). x.signal.view.number < number) h log e
-        (λ goes. each_filter _ (is_sound start) (signals_of start h log e)
-        (each_map _ (λ (x : Addressed). x.signal.view.number < number) (signals_of start h log e)
-        (λ x one. let same = ap (λ (v : View). v.number) one.view_is in omega (arith, same, low))
-        (each_sent start h log e)))),
+            (sent_by_each (sound_machine start) (λ (x : Addressed). x.signal.view.number < number) h log e
+            (λ goes. each_filter _ (is_sound start) (signals_of start h log e)
+            (each_map _ (λ (x : Addressed). x.signal.view.number < number) (signals_of start h log e)
+            (λ x one. let same = ap (λ (v : View). v.number) one.view_is in omega (arith, same, low))
+            (each_sent start h log e)))),
         sent_low_none h log (omega (arith, low, rises)),
       )
 
@@ -143,8 +141,8 @@ module _ (start : Start) (tx : TxId) (number : ℕ) where
       omega (
         arith,
         total_same (hosts start) (λ h. sent_along start p h (logs h)) (λ h. 0)
-        (λ h low.
-        let under = current_above start logs h low in sent_low_none h (logs h) (omega (arith, under, above))),
+            (λ h low.
+            let under = current_above start logs h low in sent_low_none h (logs h) (omega (arith, under, above))),
         total_zero (hosts start) (λ h. 0) (λ h. refl),
       )
 
@@ -173,8 +171,8 @@ module _ (start : Start) (all : ℕ → List HostStep) (e : HostStep) (es : List
         omega (
           arith,
           total_one (hosts start) (λ h. sent_along start p h (old h)) (λ h. sent_along start p h (new h)) e.host
-          (host_low start all e es moment)
-          (λ k off. ap (sent_along start p k) (others_apart k off)),
+              (host_low start all e es moment)
+              (λ k off. ap (sent_along start p k) (others_apart k off)),
           ap (sent_along start p e.host) (own_log start all e es moment),
         )
 
@@ -183,7 +181,7 @@ module _ (start : Start) (all : ℕ → List HostStep) (e : HostStep) (es : List
         omega (
           arith,
           total_one (hosts start) (λ h. taken_along start p (old h)) (λ h. taken_along start p (new h)) e.host
-          (host_low start all e es moment)
-          (λ k off. ap (taken_along start p) (others_apart k off)),
+              (host_low start all e es moment)
+              (λ k off. ap (taken_along start p) (others_apart k off)),
           ap (taken_along start p) (own_log start all e es moment),
         )

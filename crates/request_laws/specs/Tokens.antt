@@ -1,5 +1,5 @@
 -- The operations of a transaction are under way one at a time, in each view.
-use Rattle.std.specs.Prelude.{◌≡◌, ◌≤◌, ◌+◌, ◌&&◌, ◌==◌, ◌||◌, if◌then◌else◌, ℕ, Bool, true, false, List, [], ◌∷◌, Option, None, Some, is_some}
+use Rattle.std.specs.Prelude.{◌≡◌, ◌≢◌, ◌≤◌, ◌+◌, ◌&&◌, ◌==◌, ◌||◌, if◌then◌else◌, ℕ, Bool, true, false, List, [], ◌∷◌, Option, None, Some, is_some}
 use Rattle.std.specs.List.{count_by}
 use Rattle.run_theory.specs.Counts.{total}
 use Rattle.run_theory.specs.Lists.{IsIn}
@@ -64,39 +64,54 @@ abbrev pub total_of : List Member → (Member → ℕ) → ℕ
 total_of [] f = 0
 total_of (member ∷ members) f = f member + total_of members f
 
-module _ (start : Start) (logs : ℕ → List HostStep) (tx : TxId) where
-  abbrev pub number_now : ℕ
-  number_now = (current start logs).number
+-- the transaction has an operation unanswered
+abbrev pub has_asked : Option Transaction → Bool
+has_asked None = false
+has_asked (Some t) = is_some t.asked
 
-  -- requests that wait at the rows of members whose hosts stand in the current view
+-- of the view of this number
+module _ (start : Start) (tx : TxId) (number : ℕ) where
+  -- requests that wait at the rows of a member, if their host stands in the view behind its log
+  abbrev pub waits_behind : Member → List HostStep → ℕ
+  waits_behind member log =
+      if (view_after start (ldm_of start member) log).number == number
+      then count_waiting tx (rows_after start member log) else 0
+
+  -- Behind a log of its coordinator's host one may be under way if the last operation was asked for in the view, and is
+  -- unanswered, or the transaction is given up.
+  abbrev pub may_behind : List HostStep → Bool
+  may_behind log =
+      let member = coordinator_member tx in
+      (has_gone_back start member tx log || has_asked (entry_of (coordinator_after start member log) tx))
+      && (asked_in start member tx log == number)
+
+-- of all hosts with these logs
+module _ (start : Start) (logs : ℕ → List HostStep) (tx : TxId) (number : ℕ) where
   abbrev pub waiting_at : Member → ℕ
-  waiting_at member =
-      if (view_after start (ldm_of start member) (logs (ldm_of start member))).number == number_now
-      then count_waiting tx (rows_after start member (logs (ldm_of start member))) else 0
+  waiting_at member = waits_behind start tx number member (logs (ldm_of start member))
 
   abbrev pub all_waiting : ℕ
   all_waiting = total_of (made start) waiting_at
 
-  -- how many may be under way: one of who is given up, or has an operation unanswered that was asked for in the current view
-  abbrev pub has_asked : Option Transaction → Bool
-  has_asked None = false
-  has_asked (Some t) = is_some t.asked
+  abbrev pub may_go : Bool
+  may_go = may_behind start tx number (logs (tc_of start (coordinator_member tx)))
 
   abbrev pub budget : ℕ
-  budget =
-      let member = coordinator_member tx in
-      let log = logs (tc_of start member) in
-      one_if (has_gone_back start member tx log
-      || (has_asked (entry_of (coordinator_after start member log) tx) && (asked_in start member tx log == number_now)))
+  budget = one_if may_go
 
+-- the number of the current view
+abbrev pub number_now : Start → (ℕ → List HostStep) → ℕ
+number_now start logs = (current start logs).number
+
+-- of the current view, what was sent and what waits is no more than what was taken and may be under way
 abbrev pub OneAtATime : Type 0
 OneAtATime =
     (start : Start) (all : ℕ → List HostStep) (es : List HostStep) → IsMoment start all es → (tx : TxId)
     → IsIn (coordinator_member tx) (made start)
-    → all_sent start (is_token_in tx (number_now start (logs_of start es) tx)) (logs_of start es)
-    + all_waiting start (logs_of start es) tx
-    ≤ all_taken start (is_token_in tx (number_now start (logs_of start es) tx)) (logs_of start es)
-    + budget start (logs_of start es) tx
+    → all_sent start (is_token_in tx (number_now start (logs_of start es))) (logs_of start es)
+    + all_waiting start (logs_of start es) tx (number_now start (logs_of start es))
+    ≤ all_taken start (is_token_in tx (number_now start (logs_of start es))) (logs_of start es)
+    + budget start (logs_of start es) tx (number_now start (logs_of start es))
 
 -- no more is taken than was sent, of signals that aren't closings
 abbrev pub TakesAreFew : Type 0
@@ -104,3 +119,48 @@ TakesAreFew =
     (start : Start) (all : ℕ → List HostStep) (es : List HostStep) → IsMoment start all es → (p : Signal → Bool)
     → ((x : Signal) → p x ≡ true → (tx : TxId) × (is_token tx x.body ≡ true))
     → all_taken start p (logs_of start es) ≤ all_sent start p (logs_of start es)
+
+-- in the view of this number nothing of the transaction waits, and none of its signals is under way
+pub record IsQuiet (start : Start) (logs : ℕ → List HostStep) (tx : TxId) (number : ℕ) : Type 0 where
+  pub waits : (member : Member) → IsIn member (made start) → waiting_at start logs tx number member ≡ 0
+  pub goes : all_sent start (is_token_in tx number) logs ≡ all_taken start (is_token_in tx number) logs
+
+-- so it is where none may be under way
+abbrev pub QuietUnlessAsked : Type 0
+QuietUnlessAsked =
+    (start : Start) (all : ℕ → List HostStep) (es : List HostStep) → IsMoment start all es → (tx : TxId)
+    → IsIn (coordinator_member tx) (made start)
+    → may_go start (logs_of start es) tx (number_now start (logs_of start es)) ≡ false
+    → IsQuiet start (logs_of start es) tx (number_now start (logs_of start es))
+
+-- In the view of this number nothing of the transaction waits, one signal of it is under way, and it may.
+pub record IsAlone (start : Start) (logs : ℕ → List HostStep) (tx : TxId) (number : ℕ) : Type 0 where
+  pub waits : (member : Member) → IsIn member (made start) → waiting_at start logs tx number member ≡ 0
+  pub goes : all_sent start (is_token_in tx number) logs ≡ all_taken start (is_token_in tx number) logs + 1
+  pub may : may_go start logs tx number ≡ true
+
+-- so it was of one that is taken, before the event
+abbrev pub TakenIsAlone : Type 0
+TakenIsAlone =
+    (start : Start) (all : ℕ → List HostStep) (e : HostStep) (es : List HostStep) → IsMoment start all (e ∷ es)
+    → (tx : TxId) → IsIn (coordinator_member tx) (made start) → (sound_machine start).asked e ≡ false
+    → is_token_in tx (number_now start (logs_of start (e ∷ es))) e.step.taken ≡ true
+    → IsAlone start (logs_of start es) tx (number_now start (logs_of start (e ∷ es)))
+
+-- In the view of this number one request of the transaction waits at the rows of a member, and no other anywhere; none
+-- of its signals is under way, and it may.
+pub record WaitsAlone (start : Start) (logs : ℕ → List HostStep) (tx : TxId) (number : ℕ) (member : Member) : Type 0
+  where
+    pub here : waiting_at start logs tx number member ≡ 1
+    pub elsewhere : (other : Member) → IsIn other (made start) → other ≢ member
+        → waiting_at start logs tx number other ≡ 0
+    pub goes : all_sent start (is_token_in tx number) logs ≡ all_taken start (is_token_in tx number) logs
+    pub may : may_go start logs tx number ≡ true
+
+-- so it is of one that waits
+abbrev pub WaitingIsAlone : Type 0
+WaitingIsAlone =
+    (start : Start) (all : ℕ → List HostStep) (es : List HostStep) → IsMoment start all es → (tx : TxId)
+    → IsIn (coordinator_member tx) (made start) → (member : Member) → IsIn member (made start)
+    → 1 ≤ waiting_at start (logs_of start es) tx (number_now start (logs_of start es)) member
+    → WaitsAlone start (logs_of start es) tx (number_now start (logs_of start es)) member
