@@ -35,3 +35,5 @@ pub mod MarkerLists
 pub mod MarkerRows
 pub mod MarkerSteps
 pub mod MarkerAll
+pub mod ReplicasNow
+pub mod DecidedStay

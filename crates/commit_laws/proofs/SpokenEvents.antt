@@ -62,7 +62,8 @@ module _ (start : Start) (all : ℕ → List HostStep) (e : HostStep) (es : List
 
 module _ (known : ForthIsKnownAlways) (start : Start) (all : ℕ → List HostStep) (e : HostStep) (es : List HostStep)
     (follows : Follows start all e es) (moves : (tx : TxId) → FatesMove start e es tx) (W : Gathered → Type 0)
-    (goes : (member : Member) → IsIn member (made start) → e.host ≡ tc_of start member → TakeoverGoes start e es member W)
+    (goes : (member : Member) → IsIn member (made start) → e.host ≡ tc_of start member
+    → TakeoverGoes start all e es follows.moment member W)
   where
     abbrev old : ℕ → List HostStep
     old = logs_of start es
@@ -82,7 +83,7 @@ module _ (known : ForthIsKnownAlways) (start : Start) (all : ℕ → List HostSt
     abbrev C : TxId → Type 0
     C tx = fate start (logs_of start (e ∷ es)) tx ≡ commits
 
-    moment : IsMoment start all (e ∷ es)
+    abbrev moment : IsMoment start all (e ∷ es)
     moment = follows.moment
 
     abbrev Aborts : Addressed → Type 0

@@ -2,7 +2,7 @@
 use Rattle.std.proofs.Common.{◌≡◌, ◌⊎◌, ◌++◌, ◌∙◌, ◌≤◌, ◌<◌, ℕ, Bool, true, false, List, [], ◌∷◌, inl, inr, refl, sym, ap, subst, nat_lt, arith}
 use Rattle.std.specs.Prelude.{None}
 use Rattle.run_theory.specs.Lists.{Each, IsIn}
-use Rattle.run_theory.proofs.Pasts.{each_append}
+use Rattle.run_theory.proofs.Pasts.{each_append, each_map}
 use Rattle.sig_core.specs.declared.member.Member.{Member}
 use Rattle.sig_core.specs.declared.member.TxId.{TxId}
 use Rattle.sig_core.specs.declared.outs.Outgoing.{Outgoing}
@@ -51,7 +51,8 @@ use Rattle.commit_laws.proofs.SpokenCoordinator.{coordinator_installs_speak, coo
 use Rattle.commit_laws.proofs.SpokenOwn.{shown_back, shown_forth}
 use Rattle.commit_laws.proofs.SpokenRuling.{takeover_speaks}
 use Rattle.commit_laws.proofs.SpokenTakeover.{ClosesBy, TakeoverIs, is_installed}
-use Rattle.commit_laws.proofs.SpokenWords.{AreSpoken, IsSpoken}
+use Rattle.commit_laws.proofs.SpokenWords.{AreSpoken, IsSpoken, speaks_so}
+use Rattle.commit_laws.proofs.TakeoverWords.{Aborts, Commits}
 
 -- what stands of a takeover where its host takes a signal in the view in which it stood
 pub record StandsStill (start : Start) (e : HostStep) (es : List HostStep) (member : Member) : Type 0 where
@@ -59,21 +60,19 @@ pub record StandsStill (start : Start) (e : HostStep) (es : List HostStep) (memb
   pub number_is : number_in start (logs_of start es) (tc_of start member) ≡ current_number start (logs_of start es)
 
 -- of a takeover that stood still: it has what it should, and all that it has gathered is so if all members end by the event
-pub record TakeoverGoes (start : Start) (e : HostStep) (es : List HostStep) (member : Member)
-    (W : Gathered → Type 0) : Type 0 where
-  pub rules : (g : Gathered) → W g → g.epoch ≡ None → fate start (logs_of start (e ∷ es)) g.tx ≡ aborts
+pub record TakeoverGoes (start : Start) (all : ℕ → List HostStep) (e : HostStep) (es : List HostStep)
+    (moment : IsMoment start all (e ∷ es)) (member : Member) (W : Gathered → Type 0) : Type 0 where
+  pub rules : (g : Gathered) → W g → g.epoch ≡ None → Aborts start (logs_of start (e ∷ es)) g.tx
   pub stands : StandsStill start e es member
-      → TakeoverIs (λ tx. fate start (logs_of start (e ∷ es)) tx ≡ aborts)
-      (λ tx. fate start (logs_of start (e ∷ es)) tx ≡ commits) W
+      → TakeoverIs (Aborts start (logs_of start (e ∷ es))) (Commits start (logs_of start (e ∷ es))) W
       (takeover_after start member (logs_of start es (tc_of start member)))
-  pub closes : StandsStill start e es member → e.step.taken.to.block ≡ block.Takeover
-      → ClosesBy (λ tx. fate start (logs_of start (e ∷ es)) tx ≡ aborts)
-      (λ tx. fate start (logs_of start (e ∷ es)) tx ≡ commits) W
+  pub closes : StandsStill start e es member → IsTakenNow start all e es moment block.Takeover
+      → ClosesBy (Aborts start (logs_of start (e ∷ es))) (Commits start (logs_of start (e ∷ es))) W
       (takeover_after start member (logs_of start es (tc_of start member))) e.step.taken.body
 
 module _ (start : Start) (all : ℕ → List HostStep) (e : HostStep) (es : List HostStep)
     (moment : IsMoment start all (e ∷ es)) (member : Member) (there : IsIn member (made start))
-    (at : e.host ≡ tc_of start member) (W : Gathered → Type 0) (goes : TakeoverGoes start e es member W)
+    (at : e.host ≡ tc_of start member) (W : Gathered → Type 0) (goes : TakeoverGoes start all e es moment member W)
   where
     abbrev old : ℕ → List HostStep
     old = logs_of start es
@@ -104,6 +103,10 @@ module _ (start : Start) (all : ℕ → List HostStep) (e : HostStep) (es : List
 
     abbrev C : TxId → Type 0
     C tx = fate start (logs_of start (e ∷ es)) tx ≡ commits
+
+    -- whom a takeover commits wrote something
+    abbrev D : TxId → Type 0
+    D = Commits start (logs_of start (e ∷ es))
 
     abbrev pub step : TcStep start (tc_of start member) (logs_of start es (tc_of start member)) e
     step = own_tc start member there log e
@@ -190,28 +193,28 @@ module _ (start : Start) (all : ℕ → List HostStep) (e : HostStep) (es : List
               number_is = omega (arith, low, rises, here, still);
             }
 
-        pub between_is : TakeoverIs A C W between.takeover
+        pub between_is : TakeoverIs A D W between.takeover
         between_is = by entering
           where
-            by : PartEnters tc_kind p stood x between view step.does.front → TakeoverIs A C W between.takeover
+            by : PartEnters tc_kind p stood x between view step.does.front → TakeoverIs A D W between.takeover
             by (remains same stands none) =
-                subst (λ (q : TcPart). TakeoverIs A C W q.takeover) (sym same)
-                (subst (TakeoverIs A C W) (takeover_is start member h log refl p step.runs)
+                subst (λ (q : TcPart). TakeoverIs A D W q.takeover) (sym same)
+                (subst (TakeoverIs A D W) (takeover_is start member h log refl p step.runs)
                 (goes.stands (stands_still stands)))
             by (installs above same stands is) =
-                subst (λ (q : TcPart). TakeoverIs A C W q.takeover) (sym same) (is_installed A C W p.takeover x.view)
+                subst (λ (q : TcPart). TakeoverIs A D W q.takeover) (sym same) (is_installed A D W p.takeover x.view)
 
-        pub between_closes : x.to.block ≡ block.Takeover → ClosesBy A C W between.takeover x.body
+        pub between_closes : x.to.block ≡ block.Takeover → ClosesBy A D W between.takeover x.body
         between_closes to = by entering
           where
             idle : (n : ℕ) → Resting ≡ Gathering n → ⊥
             idle n is = absurd cc
 
-            by : PartEnters tc_kind p stood x between view step.does.front → ClosesBy A C W between.takeover x.body
+            by : PartEnters tc_kind p stood x between view step.does.front → ClosesBy A D W between.takeover x.body
             by (remains same stands none) =
-                subst (λ (q : TcPart). ClosesBy A C W q.takeover x.body) (sym same)
-                (subst (λ (s : TakeoverState). ClosesBy A C W s x.body)
-                (takeover_is start member h log refl p step.runs) (goes.closes (stands_still stands) to))
+                subst (λ (q : TcPart). ClosesBy A D W q.takeover x.body) (sym same)
+                (subst (λ (s : TakeoverState). ClosesBy A D W s x.body)
+                (takeover_is start member h log refl p step.runs) (goes.closes (stands_still stands) (taken block.Takeover to)))
             by (installs above same stands is) =
                 λ n ends gathers last.
                     absurd (idle n (sym (ap (λ (q : TcPart). q.takeover.stage) same) ∙ gathers))
@@ -259,7 +262,8 @@ module _ (start : Start) (all : ℕ → List HostStep) (e : HostStep) (es : List
               by : (b : BlockId) → x.to.block ≡ b → AreSpoken A C (tc_row between b x).effects.sends
               by block.Tc to = coordinator_true to
               by block.Takeover to =
-                  takeover_speaks A C W goes.rules between.takeover between_is x (between_closes to)
+                  each_map (IsSpoken A D) (IsSpoken A C) _ (λ o says. speaks_so A D A C (λ tx is. is) (λ tx is. is.0) o.body says)
+                  (takeover_speaks A D W goes.rules between.takeover between_is x (between_closes to))
               by block.Dih to = epochs_speak A C between.dih x
               by _ to = tt
 

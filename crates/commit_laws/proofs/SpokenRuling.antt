@@ -28,7 +28,8 @@ use Rattle.takeover_block.proofs.EachTakeover.{takeover_each}
 use Rattle.takeover_block.proofs.LawLemmas.{first_found}
 use Rattle.outcome_laws.specs.Known.{IsDecidedAt}
 use Rattle.outcome_laws.proofs.TakeoverKnows.{IsKnown, KnowsAll}
-use Rattle.commit_laws.proofs.SpokenTakeover.{Anyone, ClosesBy, IsAbortingAt, Of, TakeoverIs, closed_at, way_aborts, way_commits}
+use Rattle.commit_laws.proofs.ForthSpeaks.{Anyone, Of}
+use Rattle.commit_laws.proofs.SpokenTakeover.{ClosesBy, IsAbortingAt, TakeoverIs, closed_at, way_aborts, way_commits}
 use Rattle.commit_laws.proofs.SpokenWords.{AreSpoken, IsSpoken}
 
 module _ (A C : TxId → Type 0) where

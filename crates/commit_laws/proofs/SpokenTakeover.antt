@@ -21,13 +21,7 @@ use Rattle.takeover_block.proofs.EachTakeover.{takeover_each}
 use Rattle.outcome_laws.specs.Known.{IsDecidedAs, IsDecidedAt, TakeoverKnows}
 use Rattle.outcome_laws.specs.Tells.{Tells}
 use Rattle.outcome_laws.proofs.TakeoverKnows.{takeover_install_knows, takeover_knows}
-
--- said of whoever commits, whatever the epoch; and said of anyone
-abbrev pub Of : (TxId → Type 0) → TxId → ℕ → Type 0
-Of C tx epoch = C tx
-
-abbrev pub Anyone : TxId → Type 0
-Anyone tx = Unit {0}
+use Rattle.commit_laws.proofs.ForthSpeaks.{Anyone, Of}
 
 -- what is so of all that is gathered, once all members have ended
 abbrev pub IsOnceClosed : (Gathered → Type 0) → Stage → Gathered → Type 0

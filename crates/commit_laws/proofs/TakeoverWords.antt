@@ -11,9 +11,11 @@ use Rattle.takeover_block.specs.State.{TakeoverState}
 use Rattle.world_core.specs.Start.{Start}
 use Rattle.world_core.specs.Steps.{HostStep}
 use Rattle.outcome_laws.specs.Known.{IsDecidedAs, IsDecidedAt}
+use Rattle.commit_laws.specs.Commits.{HasWrittenOne}
 use Rattle.commit_laws.specs.Fates.{aborts, commits, fate}
 use Rattle.commit_laws.specs.Takeovers.{AbortsIfUntold, FirstIs, HasAllKeys, IsLeft, IsRuled, IsWhole, TellsFate}
-use Rattle.commit_laws.proofs.SpokenTakeover.{Anyone, IsAbortingAt, IsOnceClosed, Of, TakeoverIs}
+use Rattle.commit_laws.proofs.ForthSpeaks.{Anyone, Of}
+use Rattle.commit_laws.proofs.SpokenTakeover.{IsAbortingAt, IsOnceClosed, TakeoverIs}
 
 -- what is so of each that is gathered, once all members have ended
 abbrev pub IsRight : Start → (ℕ → List HostStep) → Gathered → Type 0
@@ -23,21 +25,22 @@ module _ (start : Start) (logs : ℕ → List HostStep) where
   abbrev pub Aborts : TxId → Type 0
   Aborts tx = fate start logs tx ≡ aborts
 
+  -- it commits, and wrote something
   abbrev pub Commits : TxId → Type 0
-  Commits tx = fate start logs tx ≡ commits
+  Commits tx = (fate start logs tx ≡ commits) × HasWrittenOne start logs tx
 
   -- all of it, of a takeover
   pub record Stands (s : TakeoverState) : Type 0 where
-    pub told : Each (λ (g : Gathered). TellsFate (fate start logs) g.tx g.epoch) s.gathered
+    pub told : Each (λ (g : Gathered). TellsFate start logs g.tx g.epoch) s.gathered
     pub ruled : FirstIs start logs (IsRuled start logs s.stage) (slice_get s.gathered 0)
     pub whole : Each (IsWhole start logs s.stage) s.gathered
     pub left : Each (IsLeft start logs s.stage) s.gathered
 
-  tells_as : (tx : TxId) (epoch : Option ℕ) → TellsFate (fate start logs) tx epoch → IsDecidedAs (Of Commits) Anyone tx epoch
+  tells_as : (tx : TxId) (epoch : Option ℕ) → TellsFate start logs tx epoch → IsDecidedAs (Of Commits) Anyone tx epoch
   tells_as tx None told = tt
   tells_as tx (Some epoch) told = told
 
-  as_tells : (tx : TxId) (epoch : Option ℕ) → IsDecidedAs (Of Commits) Anyone tx epoch → TellsFate (fate start logs) tx epoch
+  as_tells : (tx : TxId) (epoch : Option ℕ) → IsDecidedAs (Of Commits) Anyone tx epoch → TellsFate start logs tx epoch
   as_tells tx None told = tt
   as_tells tx (Some epoch) told = told
 
