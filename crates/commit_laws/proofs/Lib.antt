@@ -37,3 +37,5 @@ pub mod MarkerSteps
 pub mod MarkerAll
 pub mod ReplicasNow
 pub mod DecidedStay
+pub mod KnownTold
+pub mod FateForth
