@@ -39,3 +39,4 @@ pub mod ReplicasNow
 pub mod DecidedStay
 pub mod KnownTold
 pub mod FateForth
+pub mod TakeoverCloses
