@@ -40,3 +40,6 @@ pub mod DecidedStay
 pub mod KnownTold
 pub mod FateForth
 pub mod TakeoverCloses
+pub mod TakeoverGoing
+pub mod TakeoverNext
+pub mod TakeoverReports

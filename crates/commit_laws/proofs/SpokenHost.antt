@@ -167,7 +167,7 @@ module _ (start : Start) (all : ℕ → List HostStep) (e : HostStep) (es : List
 
       -- the block takes the signal in the current view
       module _ (passed : IsPassed start.shape (part.Tc between) view x) where
-        taken : (b : BlockId) → x.to.block ≡ b → IsTakenNow start all e es moment b
+        pub taken : (b : BlockId) → x.to.block ≡ b → IsTakenNow start all e es moment b
         taken b to =
             handled_now start all e es moment tc_kind tc_is p
             (subst (λ k. (after start k (old k)).parts ≡ part.Tc p) (sym at) step.runs) between step.does.front
@@ -182,7 +182,7 @@ module _ (start : Start) (all : ℕ → List HostStep) (e : HostStep) (es : List
         view_is =
             subst (λ k. view_after start k (e ∷ old k) ≡ current start new) at (taken x.to.block refl).stands
 
-        stands_still : view ≡ stood → StandsStill start e es member
+        pub stands_still : view ≡ stood → StandsStill start e es member
         stands_still same =
             let low = current_above start old h (tc_low start member there) in
             let rises = current_rises start all e es moment in

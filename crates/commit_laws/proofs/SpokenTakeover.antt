@@ -6,9 +6,10 @@ use Rattle.run_theory.proofs.EachSent.{each_get, each_removed}
 use Rattle.run_theory.proofs.Pasts.{each_map}
 use Rattle.sig_core.specs.declared.member.TxId.{TxId}
 use Rattle.sig_core.specs.declared.signal.Body.{Body}
-use Rattle.sig_core.specs.declared.signal.Body.TheVariants.{Takeover}
+use Rattle.sig_core.specs.declared.signal.Body.TheVariants.{Chain, Client, Epoch, Takeover}
+use Rattle.sig_core.specs.declared.signal.chain.ChainSignal.TheVariants.{Commit}
 use Rattle.sig_core.specs.declared.signal.Signal.{Signal}
-use Rattle.sig_core.specs.declared.signal.takeover.TakeoverSignal.TheVariants.{LqhTransEnd}
+use Rattle.sig_core.specs.declared.signal.takeover.TakeoverSignal.TheVariants.{LqhTransConf, LqhTransEnd}
 use Rattle.sig_core.specs.declared.view.View.{View}
 use Rattle.frag_map.specs.Layout.{Layout}
 use Rattle.takeover_block.specs.declared.gathered.Gathered.{Gathered}
@@ -16,10 +17,10 @@ use Rattle.takeover_block.specs.declared.stage.Stage.{Stage}
 use Rattle.takeover_block.specs.declared.stage.Stage.TheVariants.{Aborting, Committing, Completing, Gathering, Resting}
 use Rattle.takeover_block.specs.Rule.{entering, finishing, ruling, ruling_by, way_by, way_of}
 use Rattle.takeover_block.specs.State.{TakeoverState, in_view, with_gathered}
-use Rattle.takeover_block.specs.Takeover.{takeover_row}
+use Rattle.takeover_block.specs.Takeover.{takeover_row, takeover_table}
 use Rattle.takeover_block.proofs.EachTakeover.{takeover_each}
 use Rattle.outcome_laws.specs.Known.{IsDecidedAs, IsDecidedAt, TakeoverKnows}
-use Rattle.outcome_laws.specs.Tells.{Tells}
+use Rattle.outcome_laws.specs.Tells.{TellsOfRecord}
 use Rattle.outcome_laws.proofs.TakeoverKnows.{takeover_install_knows, takeover_knows}
 use Rattle.commit_laws.proofs.ForthSpeaks.{Anyone, Of}
 
@@ -43,6 +44,11 @@ module _ (A C : TxId → Type 0) (W : Gathered → Type 0) where
   pub is_installed : (s : TakeoverState) (view : View) → TakeoverIs (in_view s view)
   is_installed s view =
       record { knows = takeover_install_knows (Of C) Anyone s view; aborting = tt; closed = tt }
+
+  -- what a member tells of a transaction
+  abbrev pub Hears : Body → Type 0
+  Hears (Takeover (LqhTransConf tx key told epoch)) = TellsOfRecord (Of C) Anyone tx told epoch
+  Hears body = Unit {0}
 
   -- where all members end by the signal, it is so of all that is gathered
   abbrev pub ClosesBy : TakeoverState → Body → Type 0
@@ -158,9 +164,17 @@ module _ (A C : TxId → Type 0) (W : Gathered → Type 0) where
               goes_on = λ tx place g is due at first. record { aborting = own.aborting; closed = own.closed };
             })
 
-        pub goes_on_so : Tells (Of C) Anyone x.body → TakeoverIs (takeover_row s x).state
-        goes_on_so told = record {
-          knows = takeover_knows (Of C) Anyone s x own.knows told;
-          aborting = so.aborting;
-          closed = so.closed;
-        }
+        -- what it knows, if what a member tells it is true
+        knows_on : Hears x.body → TakeoverKnows (Of C) Anyone (takeover_row s x).state
+        knows_on heard = by x.body heard
+          where
+            by : (body : Body) → Hears body → TakeoverKnows (Of C) Anyone (takeover_table s body).state
+            by (Takeover (LqhTransConf tx key told epoch)) heard =
+                takeover_knows (Of C) Anyone s (record x { body = Takeover (LqhTransConf tx key told epoch) }) own.knows heard
+            by (Client signal) heard = own.knows
+            by (Epoch signal) heard = own.knows
+            by (Chain (Commit tx key epoch chain at)) heard = own.knows
+            by body heard = takeover_knows (Of C) Anyone s (record x { body = body }) own.knows tt
+
+        pub goes_on_so : Hears x.body → TakeoverIs (takeover_row s x).state
+        goes_on_so heard = record { knows = knows_on heard; aborting = so.aborting; closed = so.closed }
