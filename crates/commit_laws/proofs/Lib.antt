@@ -43,3 +43,5 @@ pub mod TakeoverCloses
 pub mod TakeoverGoing
 pub mod TakeoverNext
 pub mod TakeoverReports
+pub mod TakeoverTold
+pub mod TakeoverEvents
