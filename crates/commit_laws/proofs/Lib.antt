@@ -45,3 +45,4 @@ pub mod TakeoverNext
 pub mod TakeoverReports
 pub mod TakeoverTold
 pub mod TakeoverEvents
+pub mod GatheringWhole

@@ -17,3 +17,4 @@ pub mod Ends
 pub mod Parts
 pub mod Together
 pub mod Gathering
+pub mod Telling
