@@ -25,7 +25,7 @@ use Rattle.commit_laws.specs.Takeovers.{IsOrphan}
 use Rattle.commit_laws.specs.Together.{FatesMove}
 use Rattle.commit_laws.specs.Traces.{has_trace, is_committed_of, is_known, is_marker_of, leave_trace, members_now, rows_at}
 use Rattle.commit_laws.proofs.DecidedStay.{forth_decided, unknown_before, written_before, written_more}
-use Rattle.commit_laws.proofs.FateCases.{commits_by, gone_either}
+use Rattle.commit_laws.proofs.FateReasons.{commits_by, gone_either}
 use Rattle.commit_laws.proofs.ForthAll.{forth_is_known}
 use Rattle.commit_laws.proofs.Passing.{Passes, passing}
 use Rattle.commit_laws.proofs.ReplicasNow.{member_made}

@@ -7,7 +7,7 @@ pub mod SpokenCoordinator
 pub mod SpokenTakeover
 pub mod SpokenRuling
 pub mod SpokenAside
-pub mod FateCases
+pub mod FateReasons
 pub mod SpokenOwn
 pub mod SpokenHost
 pub mod SpokenEvents

@@ -35,7 +35,7 @@ use Rattle.commit_laws.specs.Fates.{aborts, commits, fate, is_led_by_full}
 use Rattle.commit_laws.specs.Forth.{ForthIsKnown}
 use Rattle.commit_laws.specs.Going.{is_back, is_forth, is_lost, own_coordinator}
 use Rattle.commit_laws.specs.Traces.{has_trace, is_known}
-use Rattle.commit_laws.proofs.FateCases.{forth_commits, lost_aborts}
+use Rattle.commit_laws.proofs.FateReasons.{forth_commits, lost_aborts}
 use Rattle.commit_laws.proofs.SpokenCoordinator.{IsShown, Shows, before_it, behind_it, tells_it}
 
 not_true : (b : Bool) → (b ≡ true → ⊥) → b ≡ false

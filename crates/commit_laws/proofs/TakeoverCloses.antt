@@ -34,7 +34,7 @@ use Rattle.commit_laws.specs.Gathering.{AllIsTold, IsPreparedSomewhere}
 use Rattle.commit_laws.specs.Going.{is_forth, is_lost}
 use Rattle.commit_laws.specs.Takeovers.{HasAllKeys, IsOrphan, takeover_at}
 use Rattle.commit_laws.specs.Traces.{IsReplicaOf, has_marker_at, has_trace, is_committed_by, is_committed_of, is_known, is_marker_of, leave_trace, members_now, record_at, rows_at}
-use Rattle.commit_laws.proofs.FateCases.{known_commits, none_aborts, not_both}
+use Rattle.commit_laws.proofs.FateReasons.{known_commits, none_aborts, not_both}
 use Rattle.commit_laws.proofs.FateForth.{fate_decided}
 use Rattle.commit_laws.proofs.ForthClient.{IsToldOf, by_coordinator, by_takeover}
 use Rattle.commit_laws.proofs.KnownTold.{WasTold, known_told}

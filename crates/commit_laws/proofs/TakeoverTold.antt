@@ -55,7 +55,7 @@ use Rattle.commit_laws.specs.Takeovers.{IsOrphan, IsTrueReport, TellsFate}
 use Rattle.commit_laws.specs.Together.{FatesMove, Follows}
 use Rattle.commit_laws.specs.Traces.{has_marker_at, has_trace, is_committed_of, is_known, is_marker_of, leave_trace, members_now, record_at, rows_at}
 use Rattle.commit_laws.proofs.DecidedStay.{forth_decided, written_more}
-use Rattle.commit_laws.proofs.FateCases.{known_commits, trace_commits}
+use Rattle.commit_laws.proofs.FateReasons.{known_commits, trace_commits}
 use Rattle.commit_laws.proofs.FateForth.{commits_more, left_forth}
 use Rattle.commit_laws.proofs.MarkerAll.{traces_stay}
 use Rattle.commit_laws.proofs.Passing.{passed}
