@@ -1,10 +1,9 @@
 -- Whoever commits has gone forth at its coordinator, and is decided; and what becomes of whoever has no coordinator in the
 -- current view.
-use Rattle.std.proofs.Common.{◌≡◌, ◌≢◌, ◌⊎◌, ◌∙◌, ◌||◌, ◌&&◌, ℕ, Bool, true, false, List, ◌∷◌, inl, inr, refl, sym, ap, subst}
+use Rattle.std.proofs.Common.{◌≡◌, ◌≢◌, ◌⊎◌, ◌||◌, ℕ, Bool, true, false, List, ◌∷◌, inl, inr, refl, sym, subst}
 use Rattle.std.proofs.lemmas.Bool.{and_parts, true≢false}
 use Rattle.std.specs.List.{list_any}
-use Rattle.std.specs.Prelude.{Option, None, Some}
-use Rattle.run_theory.specs.Lists.{Each, IsIn}
+use Rattle.run_theory.specs.Lists.{IsIn}
 use Rattle.run_theory.proofs.Pasts.{each_in}
 use Rattle.sig_core.specs.declared.member.Member.{Member}
 use Rattle.sig_core.specs.declared.member.TxId.{TxId}
@@ -17,7 +16,6 @@ use Rattle.world_core.specs.Steps.{HostStep}
 use Rattle.moment_laws.specs.Moments.{IsMoment, current, logs_of}
 use Rattle.moment_laws.proofs.MomentViews.{moment_less}
 use Rattle.outcome_laws.specs.Known.{IsDecidedIf}
-use Rattle.commit_laws.specs.Commits.{IsKept}
 use Rattle.commit_laws.specs.Fates.{aborts, commits, fate, is_led_by_full}
 use Rattle.commit_laws.specs.Forth.{ForthIsKnown, IsForth}
 use Rattle.commit_laws.specs.Going.{is_decided, is_forth, is_lost}
@@ -27,7 +25,7 @@ use Rattle.commit_laws.specs.Traces.{has_trace, is_committed_of, is_known, is_ma
 use Rattle.commit_laws.proofs.DecidedStay.{forth_decided, unknown_before, written_before, written_more}
 use Rattle.commit_laws.proofs.FateReasons.{commits_by, gone_either}
 use Rattle.commit_laws.proofs.ForthAll.{forth_is_known}
-use Rattle.commit_laws.proofs.Passing.{Passes, passing}
+use Rattle.commit_laws.proofs.Passing.{passing}
 use Rattle.commit_laws.proofs.ReplicasNow.{member_made}
 use Rattle.commit_laws.proofs.TakeoverWords.{Commits, IsRight}
 

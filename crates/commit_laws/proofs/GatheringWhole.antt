@@ -1,6 +1,5 @@
 -- A takeover was told of all that members have when the last of them ends, since each told it in front of its end.
-use Rattle.std.proofs.Common.{◌≡◌, ◌⊎◌, ◌++◌, ◌∙◌, ◌&&◌, ◌==◌, not, ℕ, Bool, true, false, List, [], ◌∷◌, inl, inr, refl, sym, ap, subst}
-use Rattle.std.proofs.lemmas.Bool.{true≢false}
+use Rattle.std.proofs.Common.{◌≡◌, ◌++◌, ◌∙◌, ℕ, Bool, true, false, List, [], ◌∷◌, inl, inr, refl, sym, ap, subst}
 use Rattle.std.proofs.lemmas.List.{append_assoc}
 use Rattle.std.specs.Prelude.{if◌then◌else◌, None, is_some}
 use Rattle.run_theory.specs.Links.{IsClosing, IsGiven, is_from, sent, taken}
@@ -15,7 +14,7 @@ use Rattle.sig_core.specs.declared.signal.host.HostSignal.TheVariants.{Closed}
 use Rattle.sig_core.specs.declared.signal.takeover.TakeoverSignal.TheVariants.{LqhTransEnd}
 use Rattle.takeover_block.specs.declared.gathered.Gathered.{Gathered}
 use Rattle.takeover_block.specs.Keys.{has_key}
-use Rattle.world_core.specs.Start.{Start, made}
+use Rattle.world_core.specs.Start.{Start}
 use Rattle.world_core.specs.Steps.{Addressed, HostStep}
 use Rattle.world_views.specs.Machine.{cause_in, machine}
 use Rattle.view_laws.specs.Order.{sound_machine}
@@ -23,7 +22,7 @@ use Rattle.moment_laws.specs.Moments.{IsMoment, current, logs_of}
 use Rattle.moment_laws.specs.Places.{ldm_of, tc_of}
 use Rattle.commit_laws.specs.Gathering.{AllIsTold, EndsGathering, GatheringsAreWhole}
 use Rattle.commit_laws.specs.Takeovers.{IsOrphan, takeover_at}
-use Rattle.commit_laws.specs.Telling.{AllHaveEnded, EndsComeBehind, HasEnded, IsAmong, IsEnd, IsGathered, TellingsAreGathered}
+use Rattle.commit_laws.specs.Telling.{AllHaveEnded, EndsComeBehind, HasEnded, IsAmong, IsGathered, TellingsAreGathered}
 use Rattle.commit_laws.specs.Traces.{has_marker_at, record_at}
 
 -- an entry of a list stands between those that are newer and those that are older

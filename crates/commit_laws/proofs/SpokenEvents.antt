@@ -1,5 +1,5 @@
 -- Who speaks of commits and aborts says what becomes of them, behind each event.
-use Rattle.std.proofs.Common.{◌≡◌, ◌≢◌, ◌⊎◌, ◌++◌, ◌∙◌, ◌≤◌, ◌<◌, ℕ, true, List, [], ◌∷◌, inl, inr, refl, sym, ap, subst, arith}
+use Rattle.std.proofs.Common.{◌≡◌, ◌⊎◌, ◌++◌, ◌∙◌, ◌≤◌, ℕ, true, List, [], ◌∷◌, inl, inr, refl, sym, ap, subst, arith}
 use Rattle.run_theory.specs.Links.{sent}
 use Rattle.run_theory.specs.Lists.{Each, IsIn}
 use Rattle.run_theory.proofs.Pasts.{each_append, each_map}
@@ -13,7 +13,6 @@ use Rattle.sig_core.specs.declared.signal.Body.{Body}
 use Rattle.sig_core.specs.declared.signal.Body.TheVariants.{Chain}
 use Rattle.sig_core.specs.declared.signal.Signal.{Signal}
 use Rattle.sig_core.specs.declared.view.View.{View}
-use Rattle.lqh_views.specs.Replica.{replica_row}
 use Rattle.takeover_block.specs.declared.gathered.Gathered.{Gathered}
 use Rattle.node_views.specs.Parts.{ldm_row}
 use Rattle.node_views.specs.Fence.{is_fenced}

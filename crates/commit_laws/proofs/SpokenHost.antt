@@ -1,7 +1,7 @@
 -- What the host of a coordinator and a takeover sends at an event speaks truly, if what the takeover has stands.
-use Rattle.std.proofs.Common.{◌≡◌, ◌⊎◌, ◌++◌, ◌∙◌, ◌≤◌, ◌<◌, ℕ, Bool, true, false, List, [], ◌∷◌, inl, inr, refl, sym, ap, subst, nat_lt, arith}
+use Rattle.std.proofs.Common.{◌≡◌, ◌⊎◌, ◌++◌, ◌∙◌, ℕ, Bool, true, List, [], ◌∷◌, inl, inr, refl, sym, ap, subst, arith}
 use Rattle.std.specs.Prelude.{None}
-use Rattle.run_theory.specs.Lists.{Each, IsIn}
+use Rattle.run_theory.specs.Lists.{IsIn}
 use Rattle.run_theory.proofs.Pasts.{each_append, each_map}
 use Rattle.sig_core.specs.declared.member.Member.{Member}
 use Rattle.sig_core.specs.declared.member.TxId.{TxId}
@@ -9,13 +9,10 @@ use Rattle.sig_core.specs.declared.outs.Outgoing.{Outgoing}
 use Rattle.sig_core.specs.declared.place.BlockId.{BlockId}
 use Rattle.sig_core.specs.declared.place.BlockId.TheVariants as block
 use Rattle.sig_core.specs.declared.signal.Body.{Body}
-use Rattle.sig_core.specs.declared.signal.Body.TheVariants.{Takeover}
 use Rattle.sig_core.specs.declared.signal.Signal.{Signal}
-use Rattle.sig_core.specs.declared.signal.takeover.TakeoverSignal.TheVariants.{LqhTransEnd}
 use Rattle.sig_core.specs.declared.view.View.{View}
 use Rattle.dih_node.specs.Orders as dih
 use Rattle.takeover_block.specs.declared.gathered.Gathered.{Gathered}
-use Rattle.takeover_block.specs.declared.stage.Stage.{Stage}
 use Rattle.takeover_block.specs.declared.stage.Stage.TheVariants.{Gathering, Resting}
 use Rattle.takeover_block.specs.State.{TakeoverState}
 use Rattle.tc_views.specs.Coordinator.{coordinator_row}
@@ -23,7 +20,7 @@ use Rattle.tc_views.specs.State.{CoordinatorState}
 use Rattle.tc_views.specs.Views.{install_row}
 use Rattle.node_views.specs.declared.parts.Parts.TheVariants as part
 use Rattle.node_views.specs.declared.tc_part.TcPart.{TcPart}
-use Rattle.node_views.specs.Parts.{tc_entered, tc_row}
+use Rattle.node_views.specs.Parts.{tc_row}
 use Rattle.world_core.specs.Start.{Start, made}
 use Rattle.world_core.specs.Steps.{HostStep}
 use Rattle.world_views.specs.Machine.{after, step_after}
@@ -37,7 +34,7 @@ use Rattle.moment_laws.proofs.MomentTurns.{current_rises, old_current}
 use Rattle.moment_laws.proofs.MomentViews.{current_above, current_number, moment_less, number_in}
 use Rattle.moment_laws.proofs.PartKinds.{tc_is}
 use Rattle.moment_laws.proofs.PartTaken.{IsTakenNow, handled_now}
-use Rattle.outcome_laws.specs.Counts.{IsCoordinatorOf, coordinator_member}
+use Rattle.outcome_laws.specs.Counts.{IsCoordinatorOf}
 use Rattle.request_laws.specs.Blocks.{coordinator_after, takeover_after}
 use Rattle.request_laws.specs.Ways.{entry_of, is_sent}
 use Rattle.request_laws.proofs.PhaseStands.{coordinators_stand}

@@ -1,6 +1,6 @@
 -- At an event of the host of a coordinator it speaks truly of its own transactions: who has gone forth there commits, and
 -- who is given up aborts.
-use Rattle.std.proofs.Common.{◌≡◌, ◌⊎◌, ◌++◌, ◌||◌, ◌&&◌, ◌∙◌, not, ℕ, Bool, true, false, List, ◌∷◌, inl, inr, refl, sym, ap, subst}
+use Rattle.std.proofs.Common.{◌≡◌, ◌||◌, ◌&&◌, ◌∙◌, not, ℕ, Bool, true, false, List, ◌∷◌, refl, sym, ap, subst}
 use Rattle.std.proofs.lemmas.Bool.{true≢false}
 use Rattle.std.specs.Prelude.{Option, None, Some}
 use Rattle.run_theory.specs.Lists.{IsIn}
@@ -9,26 +9,20 @@ use Rattle.sig_core.specs.declared.member.Member.{Member}
 use Rattle.sig_core.specs.declared.member.TxId.{TxId}
 use Rattle.sig_core.specs.declared.outs.Outgoing.{Outgoing}
 use Rattle.sig_core.specs.declared.signal.Body.{Body}
-use Rattle.sig_core.specs.declared.signal.Signal.{Signal}
-use Rattle.sig_core.specs.declared.view.View.{View}
 use Rattle.tc_block.specs.declared.phase.Phase.{Phase}
 use Rattle.tc_block.specs.declared.transaction.Transaction.{Transaction}
 use Rattle.tc_block.specs.Doom.{is_among}
 use Rattle.tc_block.specs.Phases.{is_aborting, is_decided}
-use Rattle.tc_views.specs.Coordinator.{coordinator_row}
 use Rattle.tc_views.specs.State.{CoordinatorState}
-use Rattle.tc_views.specs.Views.{install_row}
-use Rattle.node_views.specs.declared.tc_part.TcPart.{TcPart}
 use Rattle.world_core.specs.Start.{Start, made}
 use Rattle.world_core.specs.Steps.{HostStep}
 use Rattle.world_views.specs.Machine.{machine, step_after}
 use Rattle.moment_laws.specs.Moments.{IsMoment, current, logs_of}
 use Rattle.moment_laws.specs.Places.{tc_of}
-use Rattle.outcome_laws.specs.Counts.{IsCoordinatorOf, coordinator_member}
+use Rattle.outcome_laws.specs.Counts.{coordinator_member}
 use Rattle.request_laws.specs.Blocks.{coordinator_after}
 use Rattle.request_laws.specs.Ways.{entry_of, has_gone, has_gone_back, has_gone_forth, is_at, is_sent, tells_abort, tells_commit}
 use Rattle.request_laws.proofs.PhaseGone.{gone_here, gone_stays, gone_told}
-use Rattle.request_laws.proofs.PhaseStands.{coordinators_stand}
 use Rattle.request_laws.proofs.PhaseWays.{at_aborting, at_decided, goes_one_way}
 use Rattle.request_laws.proofs.RouteReports.{coordinated}
 use Rattle.commit_laws.specs.Fates.{aborts, commits, fate, is_led_by_full}
@@ -36,7 +30,7 @@ use Rattle.commit_laws.specs.Forth.{ForthIsKnown}
 use Rattle.commit_laws.specs.Going.{is_back, is_forth, is_lost, own_coordinator}
 use Rattle.commit_laws.specs.Traces.{has_trace, is_known}
 use Rattle.commit_laws.proofs.FateReasons.{forth_commits, lost_aborts}
-use Rattle.commit_laws.proofs.SpokenCoordinator.{IsShown, Shows, before_it, behind_it, tells_it}
+use Rattle.commit_laws.proofs.SpokenCoordinator.{Shows, before_it, behind_it, tells_it}
 
 not_true : (b : Bool) → (b ≡ true → ⊥) → b ≡ false
 not_true true never = absurd (never refl)

@@ -1,5 +1,5 @@
 -- A takeover commits whom it was told to be committed, and aborts whom nobody told to be, once all members have ended.
-use Rattle.std.proofs.Common.{◌≡◌, ◌-◌, ℕ, true, false, List, [], ◌∷◌, nat_lt, refl, sym, subst}
+use Rattle.std.proofs.Common.{◌≡◌, ◌-◌, ℕ, false, List, [], ◌∷◌, nat_lt, refl, sym, subst}
 use Rattle.std.specs.Prelude.{Option, None, Some, remove, slice_get}
 use Rattle.run_theory.specs.Lists.{Each}
 use Rattle.run_theory.proofs.EachSent.{each_get, each_removed}

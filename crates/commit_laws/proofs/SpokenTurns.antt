@@ -1,5 +1,5 @@
 -- A turn speaks of its own transaction: of its commit where it is decided, and of its abort where it is given up.
-use Rattle.std.proofs.Common.{◌≡◌, ◌+◌, ◌||◌, ℕ, Bool, true, false, List, [], ◌∷◌, drop, length, nat_lt, refl, ap, take}
+use Rattle.std.proofs.Common.{◌≡◌, ◌+◌, ◌||◌, ℕ, Bool, true, false, List, drop, length, nat_lt, refl, ap, take}
 use Rattle.std.specs.List.{flat_map}
 use Rattle.std.specs.Prelude.{None}
 use Rattle.run_theory.specs.Lists.{Each}

@@ -1,9 +1,9 @@
 -- When all members have ended, whoever none of them told to be committed aborts, and of each that commits all keys are
 -- gathered.
-use Rattle.std.proofs.Common.{◌≡◌, ◌≢◌, ◌⊎◌, ◌∙◌, ◌||◌, ◌&&◌, ◌<◌, ℕ, zero, Bool, true, false, List, [], ◌∷◌, inl, inr, length, refl, sym, ap, subst, arith}
+use Rattle.std.proofs.Common.{◌≡◌, ◌⊎◌, ◌∙◌, ◌||◌, ◌&&◌, ◌<◌, ℕ, Bool, true, false, List, [], ◌∷◌, inl, inr, length, refl, sym, ap, subst, arith}
 use Rattle.std.proofs.lemmas.Bool.{and_parts, true≢false}
 use Rattle.std.specs.List.{list_any}
-use Rattle.std.specs.Prelude.{Option, None, Some, is_some}
+use Rattle.std.specs.Prelude.{None, is_some}
 use Rattle.run_theory.specs.Links.{sent}
 use Rattle.run_theory.specs.Lists.{Each, IsIn}
 use Rattle.run_theory.proofs.Pasts.{each_from, each_in}
@@ -11,29 +11,25 @@ use Rattle.frag_map.specs.Layout.{chain_of}
 use Rattle.sig_core.specs.declared.member.Member.{Member}
 use Rattle.sig_core.specs.declared.member.TxId.{TxId}
 use Rattle.sig_core.specs.declared.rows.PendingRecord.{PendingRecord}
-use Rattle.sig_core.specs.declared.signal.Body.{Body}
-use Rattle.sig_core.specs.declared.signal.Body.TheVariants.{Client}
-use Rattle.sig_core.specs.declared.signal.client.ClientSignal.TheVariants.{TcCommitConf, TcKeyFailConf}
-use Rattle.sig_core.specs.Same.{same_key, same_tx}
-use Rattle.sig_core.proofs.Keys.{same_key-self, same_tx-self}
+use Rattle.sig_core.specs.Same.{same_key}
+use Rattle.sig_core.proofs.Keys.{same_key-self}
 use Rattle.sig_core.proofs.TxLemmas.{same_tx-is}
 use Rattle.lqh_block.specs.Commit.{is_marker}
-use Rattle.lqh_block.specs.declared.request.Marker.{Marker}
 use Rattle.takeover_block.specs.declared.gathered.Gathered.{Gathered}
 use Rattle.takeover_block.specs.Keys.{has_key}
-use Rattle.world_core.specs.Start.{Start, made}
+use Rattle.world_core.specs.Start.{Start}
 use Rattle.world_core.specs.Steps.{Addressed, HostStep}
 use Rattle.view_laws.specs.Order.{sound_machine}
 use Rattle.moment_laws.specs.Moments.{IsMoment, current, logs_of}
 use Rattle.moment_laws.proofs.MomentViews.{moment_installed}
 use Rattle.request_laws.specs.Routed.{layout_in}
 use Rattle.request_laws.proofs.RouteViews.{chains_in}
-use Rattle.commit_laws.specs.Commits.{ComesWhenDone, CommitsStand, HasWritten, HoldsImage, IsDone, IsKept, by_marker, by_record}
+use Rattle.commit_laws.specs.Commits.{ComesWhenDone, CommitsStand, HoldsImage, IsDone, IsKept, by_marker, by_record}
 use Rattle.commit_laws.specs.Fates.{aborts, commits, fate, is_led_by_full}
 use Rattle.commit_laws.specs.Gathering.{AllIsTold, IsPreparedSomewhere}
 use Rattle.commit_laws.specs.Going.{is_forth, is_lost}
 use Rattle.commit_laws.specs.Takeovers.{HasAllKeys, IsOrphan, takeover_at}
-use Rattle.commit_laws.specs.Traces.{IsReplicaOf, has_marker_at, has_trace, is_committed_by, is_committed_of, is_known, is_marker_of, leave_trace, members_now, record_at, rows_at}
+use Rattle.commit_laws.specs.Traces.{IsReplicaOf, has_marker_at, has_trace, is_committed_by, is_committed_of, is_known, is_marker_of, leave_trace, members_now, rows_at}
 use Rattle.commit_laws.proofs.FateReasons.{known_commits, none_aborts, not_both}
 use Rattle.commit_laws.proofs.FateForth.{fate_decided}
 use Rattle.commit_laws.proofs.ForthClient.{IsToldOf, by_coordinator, by_takeover}

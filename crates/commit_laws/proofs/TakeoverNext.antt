@@ -1,5 +1,5 @@
 -- What stands of takeovers stands behind each event.
-use Rattle.std.proofs.Common.{◌≡◌, ◌≢◌, ◌⊎◌, ◌∙◌, ◌≤◌, ◌<◌, ℕ, true, List, ◌∷◌, inl, inr, refl, sym, ap, subst, arith}
+use Rattle.std.proofs.Common.{◌≡◌, ◌≢◌, ◌⊎◌, ◌∙◌, ◌≤◌, ℕ, true, List, ◌∷◌, inl, inr, refl, sym, ap, subst, arith}
 use Rattle.std.proofs.lemmas.Bool.{cases_eq}
 use Rattle.run_theory.specs.Lists.{Each, IsIn}
 use Rattle.run_theory.proofs.Runs.{log_of-other, log_of-own}
@@ -18,7 +18,6 @@ use Rattle.frag_map.specs.Layout.{Layout}
 use Rattle.takeover_block.specs.declared.gathered.Gathered.{Gathered}
 use Rattle.takeover_block.specs.Gathered.{told_epoch}
 use Rattle.takeover_block.specs.State.{TakeoverState}
-use Rattle.takeover_block.specs.Takeover.{takeover_row}
 use Rattle.node_views.specs.declared.parts.Parts.TheVariants as part
 use Rattle.node_views.specs.declared.tc_part.TcPart.{TcPart}
 use Rattle.node_views.specs.Parts.{tc_row}
@@ -32,11 +31,10 @@ use Rattle.moment_laws.specs.PartSteps.{PartEnters, PartTakes, handles, ignores,
 use Rattle.moment_laws.specs.Places.{tc_of}
 use Rattle.moment_laws.proofs.MomentHosts.{tc_low}
 use Rattle.moment_laws.proofs.MomentTurns.{current_rises, old_current}
-use Rattle.moment_laws.proofs.MomentViews.{current_above, current_number, moment_less, number_in}
+use Rattle.moment_laws.proofs.MomentViews.{current_above, current_number, number_in}
 use Rattle.moment_laws.proofs.PartTaken.{IsTakenNow}
 use Rattle.outcome_laws.specs.Tells.{TellsOfRecord}
 use Rattle.request_laws.specs.Blocks.{takeover_after}
-use Rattle.request_laws.specs.Routed.{layout_in}
 use Rattle.request_laws.proofs.RouteAside.{is_of_rows}
 use Rattle.request_laws.proofs.RouteHeaders.{takeover_fenced, told_of}
 use Rattle.request_laws.proofs.RouteLayouts.{runs_tc}
@@ -48,7 +46,7 @@ use Rattle.commit_laws.specs.Together.{FatesMove, Follows}
 use Rattle.commit_laws.proofs.FateForth.{commits_more}
 use Rattle.commit_laws.proofs.ForthSpeaks.{Anyone, Of}
 use Rattle.commit_laws.proofs.SpokenEvents.{fenced_keeps}
-use Rattle.commit_laws.proofs.SpokenHost.{StandsStill, between_closes, between_is, taken}
+use Rattle.commit_laws.proofs.SpokenHost.{StandsStill, between_closes, taken}
 use Rattle.commit_laws.proofs.SpokenTakeover.{Hears, TakeoverIs, goes_on_so, is_installed}
 use Rattle.commit_laws.proofs.TakeoverGoing.{stands_on, takeover_goes}
 use Rattle.commit_laws.proofs.TakeoverWords.{Aborts, Commits, IsRight, Stands, is_stands}

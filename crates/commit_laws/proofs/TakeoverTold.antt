@@ -1,6 +1,6 @@
 -- What takeovers are told stays true behind each event, and what they are told by it is true.
-use Rattle.std.proofs.Common.{◌≡◌, ◌≢◌, ◌⊎◌, ◌++◌, ◌∙◌, ◌||◌, ◌&&◌, ◌≤◌, ◌<◌, ℕ, Bool, true, false, List, [], ◌∷◌, filter, inl, inr, map, refl, sym, ap, subst, arith}
-use Rattle.std.proofs.lemmas.Bool.{cases_eq, true≢false}
+use Rattle.std.proofs.Common.{◌≡◌, ◌⊎◌, ◌++◌, ◌∙◌, ◌||◌, ◌&&◌, ℕ, Bool, true, false, List, [], ◌∷◌, filter, inl, inr, map, refl, sym, ap, subst, arith}
+use Rattle.std.proofs.lemmas.Bool.{true≢false}
 use Rattle.std.specs.List.{list_any}
 use Rattle.std.specs.Prelude.{if◌then◌else◌, cond, Option, None, Some, slice_get}
 use Rattle.run_theory.specs.Links.{sent}
@@ -22,7 +22,6 @@ use Rattle.sig_core.specs.Same.{same_key, same_tx}
 use Rattle.sig_core.proofs.Keys.{same_key-self, same_tx-self}
 use Rattle.sig_core.proofs.TxLemmas.{same_tx-is}
 use Rattle.lqh_block.specs.Commit.{is_marker}
-use Rattle.lqh_block.specs.declared.request.Marker.{Marker}
 use Rattle.sig_core.specs.Rows.{is_on}
 use Rattle.lqh_views.specs.Replica.{installed, replica_row}
 use Rattle.lqh_views.specs.State.{ReplicaState}
@@ -35,13 +34,12 @@ use Rattle.view_laws.specs.Order.{sound_machine}
 use Rattle.view_laws.specs.Runs.{view_after}
 use Rattle.moment_laws.specs.Moments.{IsMoment, current, logs_of}
 use Rattle.moment_laws.specs.PartSteps.{PartEnters, PartTakes, handles, ignores, installs, remains, tc_kind}
-use Rattle.moment_laws.specs.Places.{ldm_of, tc_of}
+use Rattle.moment_laws.specs.Places.{ldm_of}
 use Rattle.moment_laws.proofs.MomentHosts.{ldm_member, part_some}
 use Rattle.moment_laws.proofs.MomentMembers.{current_host}
 use Rattle.moment_laws.proofs.MomentSignals.{EachSent, sent_below, sent_next}
 use Rattle.moment_laws.proofs.MomentTurns.{Turn, host_low, keeps, own_behind, raises, turn}
-use Rattle.moment_laws.proofs.MomentViews.{current_number, moment_installed, moment_less, number_in, stands_in_current}
-use Rattle.moment_laws.proofs.PartTaken.{IsTakenNow}
+use Rattle.moment_laws.proofs.MomentViews.{current_number, moment_less, stands_in_current}
 use Rattle.request_laws.proofs.RouteHeaders.{sent_so}
 use Rattle.request_laws.proofs.RouteHosts.{PartHost, beside_sends, coordinates, is_beside, keeps_rows, part_host}
 use Rattle.request_laws.proofs.RouteOrphans.{takeovers_are_of_orphans}
@@ -53,7 +51,7 @@ use Rattle.commit_laws.specs.Fates.{commits, fate, is_led_by_full}
 use Rattle.commit_laws.specs.Going.{is_decided, is_forth, is_lost}
 use Rattle.commit_laws.specs.Takeovers.{IsOrphan, IsTrueReport, TellsFate}
 use Rattle.commit_laws.specs.Together.{FatesMove, Follows}
-use Rattle.commit_laws.specs.Traces.{has_marker_at, has_trace, is_committed_of, is_known, is_marker_of, leave_trace, members_now, record_at, rows_at}
+use Rattle.commit_laws.specs.Traces.{has_trace, is_committed_of, is_known, is_marker_of, leave_trace, members_now, record_at, rows_at}
 use Rattle.commit_laws.proofs.DecidedStay.{forth_decided, written_more}
 use Rattle.commit_laws.proofs.FateReasons.{known_commits, trace_commits}
 use Rattle.commit_laws.proofs.FateForth.{commits_more, left_forth}
