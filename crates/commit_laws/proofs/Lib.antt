@@ -46,3 +46,8 @@ pub mod TakeoverReports
 pub mod TakeoverTold
 pub mod TakeoverEvents
 pub mod GatheringWhole
+pub mod OrderWords
+pub mod OrderMembership
+pub mod OrderMaster
+pub mod OrderRows
+pub mod OrderAside
