@@ -51,3 +51,4 @@ pub mod OrderMembership
 pub mod OrderMaster
 pub mod OrderRows
 pub mod OrderAside
+pub mod OrderCounts
