@@ -52,3 +52,4 @@ pub mod OrderMaster
 pub mod OrderRows
 pub mod OrderAside
 pub mod OrderCounts
+pub mod OrderMain
