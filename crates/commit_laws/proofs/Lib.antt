@@ -53,3 +53,5 @@ pub mod OrderRows
 pub mod OrderAside
 pub mod OrderCounts
 pub mod OrderMain
+pub mod OrderSent
+pub mod OrderSteps

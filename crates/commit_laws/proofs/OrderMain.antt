@@ -193,3 +193,16 @@ module _ (p : MainPart) (x : Signal) where
           few false = omega arith
       by me false true = omega arith
       by me false false = omega arith
+
+  -- none, where it isn't the oldest of that view
+  pub enters_none : (last : ℕ) (view : View) → is_oldest (installing p.qmgr.known view) ≡ false
+      → count_orders last (main_entered p view).effects.sends ≡ 0
+  unfolding installed_row
+  enters_none last view younger =
+      by (installing p.qmgr.known view).me (is_oldest (installing p.qmgr.known view))
+      (is_some_suspect (installing p.qmgr.known view).suspects) younger
+    where
+      by : (me : Member) (b c : Bool) → b ≡ false → count_orders last (left_by me b c) ≡ 0
+      by me true c is = absurd (true≢false is)
+      by me false true is = refl
+      by me false false is = refl
