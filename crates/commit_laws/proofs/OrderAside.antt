@@ -14,7 +14,7 @@ use Rattle.sig_core.specs.declared.signal.host.Work.TheVariants.{Held}
 use Rattle.sig_core.specs.declared.signal.membership.MembershipSignal.TheVariants.{FenceReq}
 use Rattle.sig_core.specs.declared.signal.Signal.{Signal}
 use Rattle.sig_core.specs.declared.view.View.{View}
-use Rattle.sig_core.specs.Step.{Effects, Step, stay}
+use Rattle.sig_core.specs.Step.{Step, stay}
 use Rattle.api_views.specs.Client.{client_row}
 use Rattle.api_views.specs.State.{ClientState}
 use Rattle.dih_node.specs.declared.dih.Report.{Report}
@@ -24,29 +24,11 @@ use Rattle.dih_node.specs.Orders.{close_row, commit_if, commit_row, committed, c
 use Rattle.dih_node.specs.Orders as dih
 use Rattle.dih_node.specs.State.{DihState, can_serve, gives, go_on_if, is_unfinished}
 use Rattle.dih_node.specs.Verify.{end_row, ended, given, report_by, report_if, reported, serve_by, serve_if, serve_row, take_if, verify_if, verify_row}
-use Rattle.node_views.specs.Blocks.{parts_entered, parts_row}
-use Rattle.node_views.specs.declared.host.Host as hosts
-use Rattle.node_views.specs.declared.main_part.MainPart.{MainPart}
-use Rattle.node_views.specs.declared.parts.Parts.{Parts}
-use Rattle.node_views.specs.declared.parts.Parts.TheVariants.{Shell, Main, Tc, Ldm}
 use Rattle.node_views.specs.declared.shell_part.ShellPart.{ShellPart}
-use Rattle.node_views.specs.Parts.{main_row, shell_row}
-use Rattle.node_views.specs.Replies.{giving}
-use Rattle.world_core.specs.Start.{Start}
-use Rattle.world_core.specs.Steps.{HostStep}
-use Rattle.world_views.specs.Hosts.{started}
-use Rattle.world_views.specs.Machine.{after, step_after, step_by, told}
-use Rattle.gcp_master.specs.Master.{master_row}
+use Rattle.node_views.specs.Parts.{shell_row}
 use Rattle.arbiter_block.specs.Arbiter.{arbiter_row}
-use Rattle.qmgr_block.specs.Qmgr.{qmgr_installed, qmgr_row}
 use Rattle.outcome_laws.proofs.ClientTurns.{client_turns}
-use Rattle.outcome_laws.proofs.KnowMaster.{master_tells_nothing}
-use Rattle.outcome_laws.proofs.KnowMembership.{membership_installs_nothing, membership_tells_nothing}
-use Rattle.outcome_laws.proofs.KnowParts.{arbiter_tells_nothing}
-use Rattle.outcome_laws.proofs.KnowWalk.{IsOfEffects, step_keeps}
-use Rattle.request_laws.proofs.RouteHosts.{IsBeside}
 use Rattle.commit_laws.proofs.OrderWords.{AreNoOrders, IsNoOrder, is_order}
-
 use Rattle.run_theory.specs.Lists.{Each}
 use Rattle.run_theory.proofs.Pasts.{each_map}
 use Rattle.sig_core.specs.declared.member.Member.{Member}

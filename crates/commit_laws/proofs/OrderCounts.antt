@@ -1,13 +1,11 @@
 -- A membership orders a takeover once along its list of orders: where it takes a signal to go on from a place in front of
 -- that order it sends the order, or the signal to go on from another such place, and nothing of the kind behind it.
-use Rattle.std.proofs.Common.{◌≡◌, ◌≤◌, ◌<◌, ◌+◌, ◌++◌, ◌&&◌, ◌⊎◌, ◌∙◌, ℕ, zero, suc, Bool, true, false, cond, List, [], ◌∷◌, drop, inl, inr, length, map, nat_le, nat_lt, refl, sym, ap, subst, take, arith}
+use Rattle.std.proofs.Common.{◌≡◌, ◌≤◌, ◌<◌, ◌+◌, ◌++◌, ◌&&◌, ◌⊎◌, ℕ, zero, suc, Bool, true, false, List, [], ◌∷◌, drop, inl, inr, length, nat_le, refl, ap, take, arith}
 use Rattle.std.proofs.lemmas.Bool.{cases_lt, true≢false}
 use Rattle.std.proofs.lemmas.Bool.Decides.{nat_tests}
 use Rattle.std.specs.List.{count_by}
-use Rattle.run_theory.specs.Lists.{Each}
-use Rattle.run_theory.proofs.EachSent.{each_drop, each_mapped, each_take}
-use Rattle.run_theory.proofs.Pasts.{each_append, each_map}
-use Rattle.sig_core.specs.declared.member.Member.{Member}
+use Rattle.run_theory.proofs.EachSent.{each_drop, each_take}
+use Rattle.run_theory.proofs.Pasts.{each_map}
 use Rattle.sig_core.specs.declared.outs.Outgoing.{Outgoing}
 use Rattle.sig_core.specs.declared.place.BlockId.{BlockId}
 use Rattle.sig_core.specs.declared.portion.TheConstants.{PORTION}
@@ -139,11 +137,23 @@ module _ (node : ℕ) (front : List Outgoing) (order : Outgoing) (back : List Ou
             → count_orders last (take PORTION (drop at all) ++ rest_if (membership node) Members at b)
             ≤ one_if (nat_le at last)
         goes low (inl here) =
-            omega (arith, both, take_few last PORTION (drop at all), drop_few last at all, whole_few,
-            rest_none at b here, le_one at last low)
+            omega (
+              arith,
+              both,
+              take_few last PORTION (drop at all),
+              drop_few last at all,
+              whole_few,
+              rest_none at b here,
+              le_one at last low,
+            )
         goes low (inr later) =
-            omega (arith, both, quiet_none last (take PORTION (drop at all)) (front_quiet front (order ∷ back) first at PORTION later),
-            rest_few at b, le_one at last low)
+            omega (
+              arith,
+              both,
+              quiet_none last (take PORTION (drop at all)) (front_quiet front (order ∷ back) first at PORTION later),
+              rest_few at b,
+              le_one at last low,
+            )
 
         by : (last < at) ⊎ (at ≤ last)
             → count_orders last (take PORTION (drop at all) ++ rest_if (membership node) Members at b)

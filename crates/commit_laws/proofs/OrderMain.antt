@@ -1,10 +1,9 @@
 -- What a membership and the master beside it send of orders at an event of their host.
-use Rattle.std.proofs.Common.{◌≡◌, ◌≤◌, ◌<◌, ◌+◌, ◌++◌, ◌&&◌, ◌⊎◌, ◌∙◌, ◌==◌, ℕ, Bool, true, false, List, [], ◌∷◌, append_assoc, drop, inl, inr, length, map, nat_le, nat_lt, refl, sym, ap, subst, take, arith}
+use Rattle.std.proofs.Common.{◌≡◌, ◌≤◌, ◌+◌, ◌++◌, ◌&&◌, ◌∙◌, ◌==◌, ℕ, Bool, true, false, List, [], ◌∷◌, append_assoc, drop, length, map, nat_le, nat_lt, refl, sym, ap, subst, take, arith}
 use Rattle.std.proofs.lemmas.Bool.{true≢false}
 use Rattle.std.proofs.lemmas.List.{length-map}
 use Rattle.std.specs.List.{count_by}
-use Rattle.std.specs.Prelude.{Option, None, Some}
-use Rattle.run_theory.specs.Lists.{Each}
+use Rattle.std.specs.Prelude.{Some}
 use Rattle.run_theory.proofs.EachSent.{each_mapped}
 use Rattle.run_theory.proofs.Pasts.{each_append}
 use Rattle.sig_core.specs.declared.member.Member.{Member}
@@ -13,12 +12,10 @@ use Rattle.sig_core.specs.declared.place.BlockId.{BlockId}
 use Rattle.sig_core.specs.declared.place.BlockId.TheVariants as block
 use Rattle.sig_core.specs.declared.portion.TheConstants.{PORTION}
 use Rattle.sig_core.specs.declared.signal.Body.{Body}
-use Rattle.sig_core.specs.declared.signal.Body.TheVariants.{Epoch, Host, Membership, Takeover}
+use Rattle.sig_core.specs.declared.signal.Body.TheVariants.{Host, Takeover}
 use Rattle.sig_core.specs.declared.signal.Signal.{Signal}
-use Rattle.sig_core.specs.declared.signal.host.HostSignal.{HostSignal}
 use Rattle.sig_core.specs.declared.signal.host.HostSignal.TheVariants.{Continue}
 use Rattle.sig_core.specs.declared.signal.host.Work.TheVariants.{Members}
-use Rattle.sig_core.specs.declared.signal.membership.MembershipSignal.TheVariants.{ArbitConf, PrepFailConf}
 use Rattle.sig_core.specs.declared.signal.takeover.TakeoverSignal.TheVariants.{TakeoverOrd}
 use Rattle.sig_core.specs.declared.view.View.{View}
 use Rattle.sig_core.specs.Place.{membership, takeover}
@@ -28,7 +25,7 @@ use Rattle.gcp_master.specs.Master.{master_row}
 use Rattle.qmgr_block.specs.declared.install.TheConstants.{ORDERS}
 use Rattle.qmgr_block.specs.declared.known.Known.{Known}
 use Rattle.qmgr_block.specs.Install.{commit_of, copy_of, installed_row, installing, is_of_view, is_oldest, is_some_suspect, left_by, order_if, order_row, orders, own_orders, work_if}
-use Rattle.qmgr_block.specs.Qmgr.{qmgr_installed, qmgr_row, qmgr_table}
+use Rattle.qmgr_block.specs.Qmgr.{qmgr_row, qmgr_table}
 use Rattle.qmgr_block.specs.Sets.{members_of}
 use Rattle.qmgr_block.specs.State.{QmgrState}
 use Rattle.node_views.specs.declared.main_part.MainPart.{MainPart}

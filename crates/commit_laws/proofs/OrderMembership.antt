@@ -1,5 +1,5 @@
 -- A membership orders no takeover but where it goes on with its orders.
-use Rattle.std.proofs.Common.{◌≡◌, ◌==◌, ◌&&◌, ◌++◌, ◌||◌, ℕ, Bool, true, false, List, [], ◌∷◌, map, nat_lt, refl}
+use Rattle.std.proofs.Common.{◌≡◌, ◌==◌, ◌&&◌, ◌||◌, ℕ, Bool, true, false, List, [], ◌∷◌, map, refl}
 use Rattle.std.specs.Prelude.{if◌then◌else◌, is_some, not, Option, None, Some, position, slice_get}
 use Rattle.run_theory.proofs.EachSent.{each_mapped}
 use Rattle.run_theory.proofs.Pasts.{each_append}
@@ -17,19 +17,17 @@ use Rattle.sig_core.specs.declared.signal.joining.JoiningSignal.TheVariants.{Pro
 use Rattle.sig_core.specs.declared.signal.membership.MembershipSignal.{MembershipSignal}
 use Rattle.sig_core.specs.declared.signal.membership.MembershipSignal.TheVariants.{ArbitConf, ArbitRef, FailRep, FenceConf, Heartbeat, PrepFailConf, PrepFailRef, PrepFailReq, StopSet}
 use Rattle.sig_core.specs.declared.view.View.{View}
-use Rattle.sig_core.specs.Place.{membership}
 use Rattle.sig_core.specs.Step.{stay}
 use Rattle.frag_map.specs.Groups.{lost_group}
-use Rattle.qmgr_block.specs.declared.install.TheConstants.{ORDERS}
 use Rattle.qmgr_block.specs.declared.known.Known.{Known}
 use Rattle.qmgr_block.specs.declared.known.Proposal.{Proposal}
 use Rattle.qmgr_block.specs.declared.promise.Promise.{Promise}
 use Rattle.qmgr_block.specs.Decide.{awaits, confirm_by, confirm_if, confirm_row, confirmed_all, confirmed_one, granted_by, granted_if, granted_row, heard, is_asked, needs_no_grant, refused_by, refused_cause, refused_if, refused_row, stop_row, stopping, unpromised_by, unpromised_if, unpromised_row, with_unlike}
-use Rattle.qmgr_block.specs.Install.{commit_of, copy_of, installed_row, installing, is_of_view, is_oldest, is_some_suspect, left_by, order_if, order_row, orders, own_orders, work_by, work_if, work_row}
+use Rattle.qmgr_block.specs.Install.{is_of_view, is_some_suspect, work_by, work_row}
 use Rattle.qmgr_block.specs.Join.{has_node, is_settled, promote_row, start_by, start_row}
 use Rattle.qmgr_block.specs.Promise.{confirmed_at, confirmed_if, confirmed_place, fence_row, is_fenced, is_ldm, less, may_promise, promise_by, promise_row, promising, waits_for, with_absent}
 use Rattle.qmgr_block.specs.Propose.{has_number, next_number, proposal_sends, proposed_if, proposed_view, propose, remaining_view, request_of, stop_of, stop_sends}
-use Rattle.qmgr_block.specs.Qmgr.{host_table, joining_table, membership_table, qmgr_installed, qmgr_row, qmgr_table}
+use Rattle.qmgr_block.specs.Qmgr.{host_table, joining_table, membership_table, qmgr_row, qmgr_table}
 use Rattle.qmgr_block.specs.Ring.{heartbeat_row, round_by, round_row, sides, with_missing, with_round}
 use Rattle.qmgr_block.specs.Sets.{is_among, is_in, joined_view, members_of, promoted_view, without}
 use Rattle.qmgr_block.specs.Starts.{covers}

@@ -214,7 +214,7 @@ module _ (start : Start) (all : ℕ → List HostStep) (e : HostStep) (es : List
                 (takeover_is start member h log refl p step.runs) (goes.closes (stands_still stands) (taken block.Takeover to)))
             by (installs above same stands is) =
                 λ n ends gathers last.
-                    absurd (idle n (sym (ap (λ (q : TcPart). q.takeover.stage) same) ∙ gathers))
+                absurd (idle n (sym (ap (λ (q : TcPart). q.takeover.stage) same) ∙ gathers))
 
         module _ (forth : ForthIsKnown start (logs_of start (e ∷ es)))
             (own_is : step.does.own ≡ (tc_row between x.to.block x).state)
