@@ -82,11 +82,11 @@ or_either true b is = inl refl
 or_either false b is = inr is
 
 -- one of these marks is a decision of it
-record Decision (tx : TxId) (marks : List Mark) : Type 0 where
-  epoch : ℕ
-  inside : IsIn (Decided tx epoch) marks
+pub record Decision (tx : TxId) (marks : List Mark) : Type 0 where
+  pub epoch : ℕ
+  pub inside : IsIn (Decided tx epoch) marks
 
-decision_in : (tx : TxId) (marks : List Mark) → list_any (is_decision tx) marks ≡ true → Decision tx marks
+pub decision_in : (tx : TxId) (marks : List Mark) → list_any (is_decision tx) marks ≡ true → Decision tx marks
 decision_in tx [] is = absurd (true≢false (sym is))
 decision_in tx (mark ∷ marks) is = by mark (or_either (is_decision tx mark) (list_any (is_decision tx) marks) is) (decision_in tx marks)
   where
@@ -203,6 +203,62 @@ none_passes p (x ∷ xs) none = (by (p x) refl, none_passes p xs (omega (arith, 
     by : (b : Bool) → p x ≡ b → b ≡ false
     by false is = refl
     by true is = absurd (omega (arith, none, count_more p x xs, ap one_if is))
+
+-- where a token is taken, none of its transaction waits at the rows that take it
+module _ (start : Start) (all : ℕ → List HostStep) (e : HostStep) (es : List HostStep)
+    (moment : IsMoment start all (e ∷ es)) (member : Member) (there : IsIn member (made start)) (tx : TxId)
+    (own : IsIn (coordinator_member tx) (made start))
+  where
+    abbrev now_number : ℕ
+    now_number = number_now start (logs_of start (e ∷ es))
+
+    asked_off : (own work sound : Bool) → work ≡ false → sound ≡ true → ((own && work) || not sound) ≡ false
+    asked_off true true sound e f = absurd (true≢false e)
+    asked_off true false true e f = refl
+    asked_off true false false e f = absurd (true≢false (sym f))
+    asked_off false work true e f = refl
+    asked_off false work false e f = absurd (true≢false (sym f))
+
+    both_true : (a b : Bool) → a ≡ true → b ≡ true → (a && b) ≡ true
+    both_true true b is other = other
+    both_true false b is other = absurd (true≢false (sym is))
+
+    token_alone : IsTakenNow start all e es moment block.Lqh → is_token tx e.step.taken.body ≡ true
+        → IsAlone start (logs_of start es) tx now_number
+    unfolding is_fenced
+    token_alone taken is =
+        let x = e.step.taken in
+        let plain = token_plain tx x.body is in
+        taken_alone start all e es moment tx own
+        (asked_off (x.from.0 == e.host) (is_own_work x.body) (is_well_formed start.shape x) plain.0 taken.sound)
+        (both_true (is_token tx x.body) (x.view.number == now_number) is
+        (eq-eqb x.view.number now_number (taken.fresh (plain.1 x))))
+
+    waits_none : (number : ℕ) → number ≡ now_number
+        → (if number == now_number then count_waiting tx (rows_at start (logs_of start es) member) else 0) ≡ 0
+        → Each (λ (q : Request). same_tx q.tx tx ≡ false) (rows_at start (logs_of start es) member).lqh.waiting
+    waits_none number same none =
+        none_passes (λ (q : Request). same_tx q.tx tx) (rows_at start (logs_of start es) member).lqh.waiting
+        (sym (ap (λ b. if b then count_waiting tx (rows_at start (logs_of start es) member) else 0)
+        (eq-eqb number now_number same)) ∙ none)
+
+    pub alone_waits : (s : ReplicaState) → IsBetween start all e es moment member there s
+        → IsTakenAt start all e es moment member there s → is_token tx e.step.taken.body ≡ true
+        → Each (λ (q : Request). same_tx q.tx tx ≡ false) s.lqh.waiting
+    alone_waits s between taken is = by between
+      where
+        by : IsBetween start all e es moment member there s → Each (λ (q : Request). same_tx q.tx tx ≡ false) s.lqh.waiting
+        by (as_was same stays) =
+            let stood =
+            sym (ap (λ (v : View). v.number) stays)
+            ∙ ap (λ k. (view_after start k (e ∷ logs_of start es k)).number) (sym taken.at)
+            ∙ ap (λ (v : View). v.number) taken.now.stands in
+            subst (λ (s : ReplicaState). Each (λ (q : Request). same_tx q.tx tx ≡ false) s.lqh.waiting) (sym same)
+            (waits_none
+            (view_after start (ldm_of start member) (logs_of start es (ldm_of start member))).number stood
+            ((token_alone taken.now is).waits member there))
+        by (entered view same) =
+            subst (λ (s : ReplicaState). Each (λ (q : Request). same_tx q.tx tx ≡ false) s.lqh.waiting) (sym same) tt
 
 module _ (start : Start) (all : ℕ → List HostStep) (e : HostStep) (es : List HostStep)
     (moment : IsMoment start all (e ∷ es)) (member : Member) (there : IsIn member (made start)) (tx : TxId)

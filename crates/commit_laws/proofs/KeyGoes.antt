@@ -47,6 +47,9 @@ module _ (start : Start) (all : ℕ → List HostStep) (e : HostStep) (es : List
 
     -- the rows of the member take the signal of the event
     pub record TakesNow : Type 0 where
+      pub rows : ReplicaState
+      pub between : IsBetween start all e es moment member there rows
+      pub taken : IsTakenAt start all e es moment member there rows
       pub at : e.host ≡ ldm_of start member
       pub now : IsTakenNow start all e es moment block.Lqh
 
@@ -102,7 +105,7 @@ module _ (start : Start) (all : ℕ → List HostStep) (e : HostStep) (es : List
         x = e.step.taken
 
         takes : TakesNow
-        takes = record { at = taken.at; now = taken.now }
+        takes = record { rows = s; between = between; taken = taken; at = taken.at; now = taken.now }
 
         well : IsWell s.lqh
         well = by between

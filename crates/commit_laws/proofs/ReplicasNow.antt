@@ -51,6 +51,9 @@ member_is a b is =
     let parts = and_parts (a.node == b.node) (a.start == b.start) is in
     λ i. record { node = eqb-true a.node b.node parts.0 i; start = eqb-true a.start b.start parts.1 i }
 
+pub self : (m : Member) → is_member m m ≡ true
+self m = λ i. eq-eqb m.node m.node refl i && eq-eqb m.start m.start refl i
+
 pub full_in : (xs : List Member) (m : Member) → list_any (is_member m) xs ≡ true → IsIn m xs
 full_in [] m is = absurd (true≢false (sym is))
 full_in (x ∷ xs) m is = by (is_member m x) refl is (full_in xs m)
@@ -201,6 +204,3 @@ module _ (start : Start) (all : ℕ → List HostStep) (e : HostStep) (es : List
           (now_later start all (e ∷ es) moment) m is.chained)
           (any_in (is_member m) m (current start (logs_of start es)).full (full_before m is.full) (self m)));
     }
-      where
-        self : (m : Member) → is_member m m ≡ true
-        self m = λ i. eq-eqb m.node m.node refl i && eq-eqb m.start m.start refl i
