@@ -238,8 +238,8 @@ module _ (start : Start) (all : ℕ → List HostStep) (e : HostStep) (es : List
           has_was s (entered set is) tx has = moved (subst (HasTrace tx) is has)
             where
               moved : HasTrace tx (installed rows set) → HasTrace tx rows
-              moved (by_record at r there_r own committed) = by_record at r there_r own committed
-              moved (by_marker at m there_m own) = by_marker at m there_m own
+              moved (by_record place r there_r mine committed) = by_record place r there_r mine committed
+              moved (by_marker place m there_m mine) = by_marker place m there_m mine
 
           told : (s : ReplicaState) → IsBetween start all e es moment member there s
               → IsTakenAt start all e es moment member there s → (body : Body) → Fated (TracesIf s) body → Fated If body
@@ -252,8 +252,8 @@ module _ (start : Start) (all : ℕ → List HostStep) (e : HostStep) (es : List
           told s between taken body fated = tt
 
           by : RowsGo start all e es moment member there → AreFated If sends
-          by (rest is quiet) = none (quiet at)
-          by (enter set is quiet) = none (quiet at)
+          by (rest is quiet) = none (quiet at).sends
+          by (enter set is quiet) = none (quiet at).sends
           by (take s between taken) = sent_by taken.sent
             where
               all_told : AreFated If (replica_row s x).effects.sends
