@@ -74,3 +74,4 @@ pub mod OwnersSay
 pub mod CommitsStep
 pub mod OwnersTurns
 pub mod OwnersCoordinator
+pub mod OrphanRows
