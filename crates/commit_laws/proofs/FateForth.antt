@@ -28,10 +28,7 @@ use Rattle.commit_laws.proofs.ForthAll.{forth_is_known}
 use Rattle.commit_laws.proofs.Passing.{passing}
 use Rattle.commit_laws.proofs.ReplicasNow.{member_made}
 use Rattle.commit_laws.proofs.TakeoverWords.{Commits, IsRight}
-
-either : (a b : Bool) → (a || b) ≡ true → (a ≡ true) ⊎ (b ≡ true)
-either true b is = inl refl
-either false b is = inr is
+use Rattle.commit_laws.proofs.Truths.{either}
 
 module _ (start : Start) (all : ℕ → List HostStep) (es : List HostStep) (moment : IsMoment start all es) where
   abbrev logs : ℕ → List HostStep

@@ -75,3 +75,4 @@ pub mod CommitsStep
 pub mod OwnersTurns
 pub mod OwnersCoordinator
 pub mod OrphanRows
+pub mod Truths

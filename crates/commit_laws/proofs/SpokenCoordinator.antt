@@ -36,6 +36,7 @@ use Rattle.outcome_laws.proofs.TcWalk as walk
 use Rattle.request_laws.specs.Ways.{entry_of, is_at, is_sent, tells_abort, tells_commit}
 use Rattle.request_laws.proofs.PhaseEvents.{in_either}
 use Rattle.request_laws.proofs.PhaseWalk.{Walks, begins, coordinator_walks, is_about, left_of, passes, resumes, stays, turns}
+use Rattle.request_laws.proofs.PhaseWays.{sent_before}
 use Rattle.commit_laws.proofs.SpokenTurns.{BackBy, ByTurn, ForthBy, Goes, Owns, before, behind, resume_goes, telling, turn_goes}
 use Rattle.commit_laws.proofs.SpokenWords.{AreSpoken, IsSpoken, Speaks}
 
@@ -50,15 +51,6 @@ pub record IsShown (p : Phase → Bool) (told : TxId → Body → Bool) (member 
     (sends : List Outgoing) : Type 0 where
   pub own : coordinator_member tx ≡ member
   pub shows : Shows p told s now tx sends
-
-sent_either : (p : Body → Bool) (xs ys : List Outgoing) → is_sent p xs ≡ true → is_sent p (xs ++ ys) ≡ true
-sent_either p [] ys is = absurd (true≢false (sym is))
-sent_either p (x ∷ xs) ys is = by (p x.body) is (sent_either p xs ys)
-  where
-    by : (b : Bool) → (b || is_sent p xs) ≡ true → (is_sent p xs ≡ true → is_sent p (xs ++ ys) ≡ true)
-        → (b || is_sent p (xs ++ ys)) ≡ true
-    by true is more = refl
-    by false is more = more is
 
 -- what names no such transaction owns nothing of it
 away_owned : (A C : Type 0) (tx : TxId) (body : Body) → is_about tx body ≡ false → Owns A C tx body
@@ -106,7 +98,7 @@ module _ (member : Member) (s : CoordinatorState) (of : IsCoordinatorOf member s
       record {
         own = own_is t there;
         shows = tells_it (ap (is_sent (told tx)) sends
-            ∙ sent_either (told tx) turn.step.effects.sends more is);
+            ∙ sent_before (told tx) turn.step.effects.sends more is);
       }
 
   abbrev IsOwn : Outgoing → Type 0

@@ -31,14 +31,7 @@ use Rattle.commit_laws.specs.Going.{is_back, is_forth, is_lost, own_coordinator}
 use Rattle.commit_laws.specs.Traces.{has_trace, is_known}
 use Rattle.commit_laws.proofs.FateReasons.{forth_commits, lost_aborts}
 use Rattle.commit_laws.proofs.SpokenCoordinator.{Shows, before_it, behind_it, tells_it}
-
-not_true : (b : Bool) → (b ≡ true → ⊥) → b ≡ false
-not_true true never = absurd (never refl)
-not_true false never = refl
-
-or_true : (b c : Bool) → b ≡ true → (b || c) ≡ true
-or_true true c is = refl
-or_true false c is = absurd (true≢false (sym is))
+use Rattle.commit_laws.proofs.Truths.{not_true, or_left}
 
 -- behind an event of the host of a member's coordinator
 module _ (start : Start) (all : ℕ → List HostStep) (e : HostStep) (es : List HostStep)
@@ -81,7 +74,7 @@ module _ (start : Start) (all : ℕ → List HostStep) (e : HostStep) (es : List
           (is_lost start new tx) (has_trace start new tx)
           (not_true (is_known start new tx) (λ known. true≢false (sym (forth.known tx known) ∙ unmoved))) led unmoved
           (lost (is_forth start new tx) (is_back start new tx || is_among (own_coordinator start new tx).doomed tx) unmoved
-          (or_true (is_back start new tx) (is_among (own_coordinator start new tx).doomed tx) back))
+          (or_left (is_back start new tx) (is_among (own_coordinator start new tx).doomed tx) back))
         where
           back : is_back start new tx ≡ true
           back = way_is (λ m l. has_gone_back start m tx l) is

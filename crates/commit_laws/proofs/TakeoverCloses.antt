@@ -38,14 +38,7 @@ use Rattle.commit_laws.proofs.MarkerAll.{commits_are_remembered}
 use Rattle.commit_laws.proofs.Passing.{passed, passing}
 use Rattle.commit_laws.proofs.ReplicasNow.{chain_replica, member_made, members_full, replica_made}
 use Rattle.commit_laws.proofs.TakeoverWords.{IsRight}
-
-not_true : (b : Bool) → (b ≡ true → ⊥) → b ≡ false
-not_true true never = absurd (never refl)
-not_true false never = refl
-
-either : (a b : Bool) → (a || b) ≡ true → (a ≡ true) ⊎ (b ≡ true)
-either true b is = inl refl
-either false b is = inr is
+use Rattle.commit_laws.proofs.Truths.{either, not_true}
 
 -- a list that isn't empty has an entry
 record HasOne (xs : List Member) : Type 0 where

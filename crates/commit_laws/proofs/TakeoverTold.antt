@@ -62,22 +62,7 @@ use Rattle.commit_laws.proofs.ReplicasNow.{members_full}
 use Rattle.commit_laws.proofs.RowsGo.{IsBetween, IsTakenAt, RowsGo, as_was, enter, entered, rest, rows_go, take}
 use Rattle.commit_laws.proofs.TakeoverReports.{AreFated, Fated, HasTrace, IsFated, TracesIf, all_aside_fated, by_marker, by_record, rows_trace, tc_enters_fated, tc_fated}
 use Rattle.commit_laws.proofs.TakeoverWords.{Commits}
-
-or_left : (a b : Bool) → a ≡ true → (a || b) ≡ true
-or_left true b is = refl
-or_left false b is = absurd (true≢false (sym is))
-
-or_right : (a b : Bool) → b ≡ true → (a || b) ≡ true
-or_right true b is = refl
-or_right false b is = is
-
-either : (a b : Bool) → (a || b) ≡ true → (a ≡ true) ⊎ (b ≡ true)
-either true b is = inl refl
-either false b is = inr is
-
-both : (a b : Bool) → a ≡ true → b ≡ true → (a && b) ≡ true
-both true b one other = other
-both false b one other = absurd (true≢false (sym one))
+use Rattle.commit_laws.proofs.Truths.{both, either, or_left, or_right}
 
 -- what stands at a place of a list is in it
 in_get : {A : Type 0} (xs : List A) (at : ℕ) (x : A) → slice_get xs at ≡ Some x → IsIn x xs
