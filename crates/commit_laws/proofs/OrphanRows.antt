@@ -1,6 +1,6 @@
 -- In the current view rows ask, answer and refuse nothing of a transaction that has no coordinator in it: so its records there
 -- change only by a commit, a completion or an abort, and none comes.
-use Rattle.std.proofs.Common.{◌≡◌, ◌⊎◌, ◌∙◌, ℕ, Bool, true, false, List, [], ◌∷◌, refl, sym, ap, subst}
+use Rattle.std.proofs.Common.{◌≡◌, ◌∙◌, ℕ, Bool, true, false, List, ◌∷◌, refl, sym, ap, subst}
 use Rattle.std.proofs.lemmas.Bool.{true≢false}
 use Rattle.std.specs.Prelude.{Option, None, Some, is_some}
 use Rattle.run_theory.specs.Lists.{Each, IsIn}
@@ -15,10 +15,8 @@ use Rattle.sig_core.specs.declared.signal.Signal.{Signal}
 use Rattle.sig_core.specs.declared.signal.chain.ChainSignal.TheVariants.{LqhKeyConf, LqhKeyRef, LqhKeyReq}
 use Rattle.sig_core.specs.declared.view.View.{View}
 use Rattle.sig_core.specs.Same.{same_tx}
-use Rattle.sig_core.specs.Work.{work_key}
 use Rattle.sig_core.proofs.TxLemmas.{same_tx-is}
 use Rattle.lqh_block.specs.declared.request.Request.{Request}
-use Rattle.lqh_views.specs.Replica.{installed}
 use Rattle.lqh_views.specs.State.{ReplicaState}
 use Rattle.key_laws.specs.Records.{as_committed, if_committed, unless_committed}
 use Rattle.world_core.specs.Start.{Start, made}
@@ -30,7 +28,7 @@ use Rattle.moment_laws.proofs.MomentViews.{moment_less}
 use Rattle.moment_laws.proofs.PartTaken.{IsTakenNow}
 use Rattle.outcome_laws.specs.Counts.{coordinator_member}
 use Rattle.request_laws.specs.Routed.{AllRouted, IsGivenUp, IsRoutedSignal, WasAskedIn, WasDrivenIn, layout_in}
-use Rattle.request_laws.specs.Routes.{IsRequestRouted, IsRouted}
+use Rattle.request_laws.specs.Routes.{IsRouted}
 use Rattle.request_laws.specs.Tokens.{is_token}
 use Rattle.request_laws.proofs.RouteAll.{signals_are_routed}
 use Rattle.request_laws.proofs.RouteAside.{is_of_rows}
