@@ -76,3 +76,5 @@ pub mod OwnersTurns
 pub mod OwnersCoordinator
 pub mod OrphanRows
 pub mod Truths
+pub mod RulingRests
+pub mod RulingQuiet

@@ -44,7 +44,7 @@ module _ (A C : TxId → Type 0) where
       (each_take (IsSpoken A C) PORTION (drop at sends) (each_drop (IsSpoken A C) at sends all))
       (rest_spoken by w at (nat_lt (at + PORTION) (length sends)))
 
-  asks_spoken : (node : ℕ) (view : View) (at : ℕ) → AreSpoken A C (ask_effects node view at).sends
+  pub asks_spoken : (node : ℕ) (view : View) (at : ℕ) → AreSpoken A C (ask_effects node view at).sends
   unfolding ask_effects asks_of
   asks_spoken node view at =
       portion_spoken (takeover node) work.Members (asks_of view) at

@@ -18,3 +18,4 @@ pub mod Parts
 pub mod Together
 pub mod Gathering
 pub mod Telling
+pub mod Ruling
