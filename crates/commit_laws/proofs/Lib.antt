@@ -78,3 +78,4 @@ pub mod OrphanRows
 pub mod Truths
 pub mod RulingRests
 pub mod RulingQuiet
+pub mod OrphanStays
