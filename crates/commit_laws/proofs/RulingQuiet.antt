@@ -1,6 +1,6 @@
 -- Coordinators end their own transactions alone, and rows only whom they are told to: so nobody ends an orphan of the current
 -- view until a takeover is at work.
-use Rattle.std.proofs.Common.{◌≡◌, ◌≢◌, ◌⊎◌, ◌++◌, ◌∙◌, ◌≤◌, ◌<◌, ℕ, true, false, List, [], ◌∷◌, inl, inr, refl, sym, ap, subst, arith}
+use Rattle.std.proofs.Common.{◌≡◌, ◌⊎◌, ◌++◌, ◌∙◌, ◌<◌, ℕ, false, List, [], ◌∷◌, inl, inr, refl, sym, ap, subst, arith}
 use Rattle.std.proofs.lemmas.Bool.{true≢false}
 use Rattle.run_theory.specs.Links.{sent}
 use Rattle.run_theory.specs.Lists.{Each, IsIn}
@@ -19,14 +19,10 @@ use Rattle.sig_core.specs.declared.signal.Signal.{Signal}
 use Rattle.sig_core.specs.declared.view.View.{View}
 use Rattle.frag_map.specs.Layout.{first_layout}
 use Rattle.dih_node.specs.Orders as dih
-use Rattle.lqh_views.specs.Replica.{replica_row}
 use Rattle.takeover_block.specs.Rule.{is_at_work}
 use Rattle.takeover_block.specs.State.{TakeoverState, resting}
-use Rattle.tc_views.specs.Coordinator.{coordinator_row}
-use Rattle.tc_views.specs.State.{CoordinatorState}
 use Rattle.tc_views.specs.Views.{install_row}
 use Rattle.node_views.specs.declared.host.Host as hosts
-use Rattle.node_views.specs.declared.parts.Parts.TheVariants as part
 use Rattle.node_views.specs.declared.tc_part.TcPart.{TcPart}
 use Rattle.node_views.specs.Parts.{ldm_row, tc_row}
 use Rattle.world_core.specs.Start.{Start, made}
@@ -39,8 +35,8 @@ use Rattle.moment_laws.specs.PartSteps.{PartEnters, PartTakes, handles, ignores,
 use Rattle.moment_laws.specs.Places.{tc_of}
 use Rattle.moment_laws.proofs.MomentHosts.{tc_low, tc_started}
 use Rattle.moment_laws.proofs.MomentSignals.{EachSent, sent_below, sent_next}
-use Rattle.moment_laws.proofs.MomentTurns.{Turn, current_rises, host_low, keeps, own_behind, raises, turn}
-use Rattle.moment_laws.proofs.MomentViews.{current_above, current_number, moment_less, number_in, stands_in_current}
+use Rattle.moment_laws.proofs.MomentTurns.{Turn, current_rises, host_low, keeps, raises, turn}
+use Rattle.moment_laws.proofs.MomentViews.{current_above, current_number, moment_less, stands_in_current}
 use Rattle.moment_laws.proofs.PartKinds.{ldm_is}
 use Rattle.moment_laws.proofs.PartTaken.{IsTakenNow, handled_now}
 use Rattle.outcome_laws.specs.Counts.{IsCoordinatorOf, coordinator_member}
@@ -59,7 +55,7 @@ use Rattle.commit_laws.proofs.SpokenAside.{beside_speaks, epochs_install_speak, 
 use Rattle.commit_laws.proofs.SpokenCoordinator.{coordinator_installs_speak, coordinator_speaks}
 use Rattle.commit_laws.proofs.SpokenEvents.{fenced_keeps}
 use Rattle.commit_laws.proofs.SpokenRows.{Hears, rows_speak}
-use Rattle.commit_laws.proofs.SpokenWords.{AreSpoken, IsSpoken, Speaks, speaks_so}
+use Rattle.commit_laws.proofs.SpokenWords.{AreSpoken, IsSpoken, Speaks}
 
 -- it has a coordinator in the view
 abbrev IsLed : View → TxId → Type 0
@@ -251,8 +247,13 @@ module _ (start : Start) where
                   by : Turn start all e es moment → NoneRuled start es
                   by (keeps same_view stands_too) = before same_view
                   by (raises above stands_too) =
-                      absurd (omega (arith, current_above start old (tc_of start member) (tc_low start member there), above,
-                      number, stands))
+                      absurd (omega (
+                        arith,
+                        current_above start old (tc_of start member) (tc_low start member there),
+                        above,
+                        number,
+                        stands,
+                      ))
           was_rests (installs above same still nothing) = ap (λ (q : TcPart). is_at_work q.takeover.stage) same
 
           now_rests : is_at_work step.does.own.takeover.stage ≡ false

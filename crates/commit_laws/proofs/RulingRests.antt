@@ -1,5 +1,5 @@
 -- A takeover that is at work on nobody, before a step and behind it, speaks of nobody by it.
-use Rattle.std.proofs.Common.{◌≡◌, ◌∙◌, ℕ, Bool, true, false, List, refl, sym, ap}
+use Rattle.std.proofs.Common.{◌≡◌, ◌∙◌, ℕ, true, false, List, refl, sym, ap}
 use Rattle.std.proofs.lemmas.Bool.{true≢false}
 use Rattle.std.specs.Prelude.{Option, None, Some, slice_get}
 use Rattle.sig_core.specs.declared.member.TxId.{TxId}
