@@ -1,7 +1,7 @@
 -- What becomes, at an event, of the record and the marker of a transaction on a key at a member, where nothing of the
--- transaction is asked any more.
-use Rattle.std.proofs.Common.{◌≡◌, ◌⊎◌, ◌∙◌, ℕ, Bool, true, List, ◌∷◌, refl, sym, ap, subst, inl, inr}
-use Rattle.std.specs.Prelude.{Option}
+-- transaction is asked by it.
+use Rattle.std.proofs.Common.{◌≡◌, ◌⊎◌, ◌∙◌, ℕ, Bool, true, false, List, [], ◌∷◌, refl, sym, ap, subst, inl, inr}
+use Rattle.std.specs.Prelude.{Option, None, Some}
 use Rattle.std.specs.List.{list_any}
 use Rattle.run_theory.specs.Lists.{IsIn}
 use Rattle.sig_core.specs.declared.member.Member.{Member}
@@ -29,7 +29,7 @@ use Rattle.request_laws.proofs.ReplicaEvents.{installations_keep_well}
 use Rattle.commit_laws.specs.Traces.{has_marker_at, record_at, rows_at}
 use Rattle.commit_laws.proofs.Calm.{IsCalm, calm_idle}
 use Rattle.commit_laws.proofs.MarkerMoves.{CommitsPrepared, MarkerMoves, marker_moves}
-use Rattle.commit_laws.proofs.RecordMoves.{RecordMoves, aborts, commits, completes, now_by, record_moves, stays}
+use Rattle.commit_laws.proofs.RecordMoves.{IsIdle, RecordMoves, aborts, commits, completes, now_by, record_moves, stays}
 use Rattle.commit_laws.proofs.RecordsOnce.{rows_once, rows_well}
 use Rattle.commit_laws.proofs.RowsGo.{IsBetween, IsTakenAt, RowsGo, as_was, enter, entered, rest, rows_go, take}
 
@@ -99,9 +99,8 @@ module _ (start : Start) (all : ℕ → List HostStep) (e : HostStep) (es : List
         marker_gives = λ has. inl (sym (ap marker_of is ∙ marker_is) ∙ has);
       }
 
-      module _ (calm : IsCalm start old tx) (s : ReplicaState)
-          (between : IsBetween start all e es moment member there s)
-          (taken : IsTakenAt start all e es moment member there s) where
+      module _ (s : ReplicaState) (between : IsBetween start all e es moment member there s)
+          (taken : IsTakenAt start all e es moment member there s) (idle : IsIdle tx key s.lqh e.step.taken.body) where
         abbrev x : Signal
         x = e.step.taken
 
@@ -142,8 +141,7 @@ module _ (start : Start) (all : ℕ → List HostStep) (e : HostStep) (es : List
             (λ view. rows_once start member there (old (ldm_of start member)) key)
 
         moves : RecordMoves tx key body (record_of s) (record_of (replica_row s x).state)
-        moves = record_moves tx key s x well once
-            (calm_idle start all e es moment member there tx calm key s between taken)
+        moves = record_moves tx key s x well once idle
 
         marks : MarkerMoves tx key body (record_of s) (marker_of s) (marker_of (replica_row s x).state)
         marks = marker_moves tx key s x
@@ -179,10 +177,15 @@ module _ (start : Start) (all : ℕ → List HostStep) (e : HostStep) (es : List
             gives (inr new) =
                 inr (record { takes = takes; commits = subst (CommitsPrepared tx key body) record_before new })
 
-      pub key_goes : IsCalm start old tx → KeyGoes
-      key_goes calm = by (rows_go start all e es moment member there)
+      -- where rows that take the signal of the event do nothing else for the transaction
+      pub idle_goes : ((s : ReplicaState) → IsBetween start all e es moment member there s
+          → IsTakenAt start all e es moment member there s → IsIdle tx key s.lqh e.step.taken.body) → KeyGoes
+      idle_goes idle = by (rows_go start all e es moment member there)
         where
           by : RowsGo start all e es moment member there → KeyGoes
           by (rest is quiet) = same_goes (rows_at start old member) is refl refl
           by (enter view is quiet) = same_goes (installed (rows_at start old member) view) is refl refl
-          by (take s between taken) = taken_goes calm s between taken
+          by (take s between taken) = taken_goes s between taken (idle s between taken)
+
+      pub key_goes : IsCalm start old tx → KeyGoes
+      key_goes calm = idle_goes (calm_idle start all e es moment member there tx calm key)

@@ -19,3 +19,6 @@ pub mod Owed
 pub mod Ends
 pub mod Parts
 pub mod Together
+pub mod Gathering
+pub mod Telling
+pub mod Ruling

@@ -65,6 +65,15 @@ module _ (start : Start) (logs : ℕ → List HostStep) where
   IsWhole (stage.Gathering awaited) g = Unit {0}
   IsWhole other g = HasAllKeys g
 
+  -- and whoever none of them told to be committed aborts
+  abbrev pub AbortsIfUntold : Gathered → Type 0
+  AbortsIfUntold g = g.epoch ≡ None → fate start logs g.tx ≡ aborts
+
+  abbrev pub IsLeft : Stage → Gathered → Type 0
+  IsLeft stage.Resting g = Unit {0}
+  IsLeft (stage.Gathering awaited) g = Unit {0}
+  IsLeft other g = AbortsIfUntold g
+
   abbrev pub FirstIs : (Gathered → Type 0) → Option Gathered → Type 0
   FirstIs P None = Unit {0}
   FirstIs P (Some g) = P g
@@ -78,6 +87,8 @@ module _ (start : Start) (logs : ℕ → List HostStep) where
         → FirstIs (IsRuled (takeover_at member).stage) (slice_get (takeover_at member).gathered 0)
     pub whole : (view_after start (tc_of start member) (logs (tc_of start member))).number ≡ (current start logs).number
         → Each (IsWhole (takeover_at member).stage) (takeover_at member).gathered
+    pub left : (view_after start (tc_of start member) (logs (tc_of start member))).number ≡ (current start logs).number
+        → Each (IsLeft (takeover_at member).stage) (takeover_at member).gathered
 
   pub record TakeoversStand : Type 0 where
     pub each : (member : Member) → IsIn member (made start) → TakeoverStands member
