@@ -1,3 +1,5 @@
+pub mod DriveKinds
+pub mod DriveRows
 pub mod FateViews
 pub mod ForthAll
 pub mod ForthClient
