@@ -11,6 +11,7 @@ use Rattle.run_theory.proofs.Pasts.{each_map}
 use Rattle.host_laws.proofs.Sums.{total_one, total_same, total_zero}
 use Rattle.sig_core.specs.declared.member.Member.{Member}
 use Rattle.sig_core.specs.declared.member.TxId.{TxId}
+use Rattle.sig_core.specs.declared.signal.Body.{Body}
 use Rattle.sig_core.specs.declared.signal.Signal.{Signal}
 use Rattle.sig_core.specs.declared.view.View.{View}
 use Rattle.world_core.specs.Hosts.{hosts}
@@ -94,10 +95,10 @@ total_of_one (suc n) f g node some low same =
           rest (omega (arith, low, other)) (λ k some low. same k some (omega (arith, low))),
         )
 
--- signals that are tokens in a view
-module _ (start : Start) (tx : TxId) (number : ℕ) where
+-- signals that pass a test of their bodies, in the view of a number
+module _ (start : Start) (q : Body → Bool) (number : ℕ) where
   abbrev p : Signal → Bool
-  p = is_token_in tx number
+  p x = q x.body && (x.view.number == number)
 
   -- none was sent by a host that stands below it
   low_none : (xs : List Addressed) → Each (λ (x : Addressed). x.signal.view.number < number) xs
@@ -112,7 +113,7 @@ module _ (start : Start) (tx : TxId) (number : ℕ) where
       )
     where
       off : (x : Signal) → x.view.number < number → p x ≡ false
-      off x low = by (is_token tx x.body) (x.view.number == number) refl
+      off x low = by (q x.body) (x.view.number == number) refl
         where
           by : (b c : Bool) → (x.view.number == number) ≡ c → (b && c) ≡ false
           by false c e = refl
