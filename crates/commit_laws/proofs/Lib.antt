@@ -1,4 +1,6 @@
+pub mod DriveHosts
 pub mod DriveKinds
+pub mod DriveMoments
 pub mod DriveRows
 pub mod FateViews
 pub mod ForthAll
