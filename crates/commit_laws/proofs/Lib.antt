@@ -2,6 +2,7 @@ pub mod DriveHosts
 pub mod DriveKinds
 pub mod DriveMoments
 pub mod DriveRows
+pub mod DriveTurns
 pub mod FateViews
 pub mod ForthAll
 pub mod ForthClient
