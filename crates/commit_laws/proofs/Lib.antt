@@ -1,5 +1,6 @@
 pub mod DriveHosts
 pub mod DriveKinds
+pub mod DriveLists
 pub mod DriveMoments
 pub mod DriveRows
 pub mod DriveTurns
