@@ -1,5 +1,5 @@
 -- What a coordinator's transaction does about its commits and completions, turn by turn.
-use Rattle.std.proofs.Common.{◌≡◌, ◌==◌, ◌+◌, ℕ, Bool, true, false, List, [], ◌∷◌, arith, drop, length, nat_lt, refl, sym, ap, take, ◌∙◌}
+use Rattle.std.proofs.Common.{◌≡◌, ◌⊎◌, ◌==◌, ◌+◌, ℕ, Bool, true, false, List, [], ◌∷◌, arith, drop, inl, inr, length, nat_lt, refl, sym, ap, take, ◌∙◌}
 use Rattle.std.proofs.lemmas.Bool.{and_parts, eqb-true, true≢false}
 use Rattle.std.specs.Prelude.{◌-◌, Option, None, Some}
 use Rattle.run_theory.specs.Lists.{Each}
@@ -35,11 +35,13 @@ use Rattle.tc_block.specs.Operate.{answered, is_ready, late_answer, operating}
 use Rattle.tc_block.specs.Part.{part_effects, rest_if}
 use Rattle.tc_block.specs.Touched.{fits}
 use Rattle.tc_block.specs.Phases.{is_aborting, is_decided}
-use Rattle.tc_block.specs.Resume.{anew_if, redriven}
+use Rattle.tc_block.specs.Resume.{anew_if, redriven, resume_by, resume_row}
+use Rattle.tc_block.specs.declared.task.Verdict.{Verdict}
+use Rattle.tc_block.specs.declared.task.Verdict.TheVariants.{AbortAnew, Fail, Redrive}
 use Rattle.tc_block.specs.Sends.{abort_of, aborts_of, entering, go_on_if, key_sends, front_sends, phase_sends, wait_of, waits_of}
 use Rattle.tc_block.specs.Turn.{Turn, asking, at_phase, ending, going}
 use Rattle.tc_block.proofs.EachTurn.{AbortForms, CommittedForms, TurnFormsAt, ready_is}
-use Rattle.outcome_laws.proofs.TcWalk.{ResumeForms}
+use Rattle.outcome_laws.proofs.TcWalk.{ResumeForms, resumes}
 use Rattle.request_laws.proofs.PhaseSends.{AreSpared}
 
 -- the signal commits or completes a key
@@ -71,6 +73,11 @@ none_no_key sends all =
     one (Chain (Complete tx key chain at)) is = absurd (true≢false is)
     one body is = refl
 
+-- the task is to commit all keys once more
+abbrev pub is_redrive : Verdict → Bool
+is_redrive Redrive = true
+is_redrive verdict = false
+
 -- a turn of the transaction at a signal
 pub data DriveTurn (node : ℕ) (layout : Layout) (tx : TxId) (t : Transaction) (body : Body) (turn : Turn) : Type 0 where
   -- it stays as far as it was
@@ -90,7 +97,7 @@ pub data DriveTurn (node : ℕ) (layout : Layout) (tx : TxId) (t : Transaction) 
   counts : (key : List ℕ) (epoch awaited : ℕ) → body ≡ Chain (Committed tx key) → t.phase ≡ Committing epoch awaited
       → nat_lt 1 awaited ≡ true → turn ≡ going (stay (at_phase t (Committing epoch (awaited - 1))))
       → DriveTurn node layout tx t body turn
-  completes : (key : List ℕ) (epoch awaited : ℕ) → body ≡ Chain (Committed tx key) → t.phase ≡ Committing epoch awaited
+  counts_last : (key : List ℕ) (epoch awaited : ℕ) → body ≡ Chain (Committed tx key) → t.phase ≡ Committing epoch awaited
       → nat_lt 1 awaited ≡ false → turn ≡ going (entering node layout tx t (Completing epoch (written_count t.touched)))
       → DriveTurn node layout tx t body turn
   -- a key was completed
@@ -102,9 +109,12 @@ pub data DriveTurn (node : ℕ) (layout : Layout) (tx : TxId) (t : Transaction) 
       → turn ≡ going (go_on_if node layout tx t at true) → DriveTurn node layout tx t body turn
   -- it ends
   ends : turn.over ≡ true → DriveNone turn.step.effects.sends → DriveTurn node layout tx t body turn
-  -- its keys are committed once more
-  redrives : (epoch : ℕ) → is_decided t.phase ≡ true → turn ≡ going (redriven node layout tx t epoch)
-      → DriveTurn node layout tx t body turn
+
+-- its keys are committed once more
+pub record Redrives (node : ℕ) (layout : Layout) (tx : TxId) (t : Transaction) (turn : Turn) : Type 0 where
+  pub epoch : ℕ
+  pub decided : is_decided t.phase ≡ true
+  pub is : turn ≡ going (redriven node layout tx t epoch)
 
 module _ (node : ℕ) (layout : Layout) (tx : TxId) where
   -- commits and completions aside, nothing that it sends drives keys
@@ -148,6 +158,13 @@ module _ (node : ℕ) (layout : Layout) (tx : TxId) where
       part_no_key (phase_sends layout tx (Aborting why verifying awaited) u.touched) 0
       (none_no_key (phase_sends layout tx (Aborting why verifying awaited) u.touched)
       (aborting_plain why verifying awaited u.touched))
+
+  pub aborting_part : (why : AbortCause) (verifying : Bool) (awaited : ℕ) (touched : List Touched) (at : ℕ)
+      → DriveNoKey (part_effects node tx (phase_sends layout tx (Aborting why verifying awaited) touched) at).sends
+  aborting_part why verifying awaited touched at =
+      part_no_key (phase_sends layout tx (Aborting why verifying awaited) touched) at
+      (none_no_key (phase_sends layout tx (Aborting why verifying awaited) touched)
+      (aborting_plain why verifying awaited touched))
 
   module _ (t : Transaction) (body : Body) where
     abbrev R : Turn → Type 0
@@ -208,7 +225,7 @@ module _ (node : ℕ) (layout : Layout) (tx : TxId) where
       };
       committed = λ key epoch awaited is at more. counts key epoch awaited is at more refl;
       committed_all = λ key epoch awaited is at last. record {
-        enters = λ some. completes key epoch awaited is at last refl;
+        enters = λ some. counts_last key epoch awaited is at last refl;
         ends = λ none. ends refl (refl, (refl, tt));
       };
       completed = λ key epoch awaited is at more. counts_on key epoch awaited is at refl;
@@ -224,13 +241,17 @@ module _ (node : ℕ) (layout : Layout) (tx : TxId) where
         none_written [] is = refl
         none_written (u ∷ touched) is = absurd (let none = eqb-true (length (u ∷ touched)) 0 is in omega (arith, none))
 
-    pub resumes_drive : ResumeForms node layout tx t R
-    resumes_drive = record {
-      stays = stays_so;
-      fails = λ number is. aborts (asking t None) (NodeFail number) (undecided t.phase is);
-      anew = λ why verifying awaited at b. anew why verifying b (ap is_decided at);
-      recommits = λ epoch awaited at. redrives epoch (ap is_decided at) refl;
-      recompletes = λ epoch awaited at. redrives epoch (ap is_decided at) refl;
+    -- it does what an installation left to do
+    abbrev Resumed : Turn → Type 0
+    Resumed turn = R turn ⊎ Redrives node layout tx t turn
+
+    resumes_so : ResumeForms node layout tx t Resumed
+    resumes_so = record {
+      stays = inl stays_so;
+      fails = λ number is. fails (NodeFail number) (undecided t.phase is);
+      anew = λ why verifying awaited at b. inl (anew why verifying b (ap is_decided at));
+      recommits = λ epoch awaited at. inr (record { epoch = epoch; decided = ap is_decided at; is = refl });
+      recompletes = λ epoch awaited at. inr (record { epoch = epoch; decided = ap is_decided at; is = refl });
     }
       where
         undecided : (phase : Phase) → is_undecided phase ≡ true → is_decided phase ≡ false
@@ -240,8 +261,45 @@ module _ (node : ℕ) (layout : Layout) (tx : TxId) where
         undecided (Committing epoch awaited) is = absurd (true≢false (sym is))
         undecided (Completing epoch awaited) is = absurd (true≢false (sym is))
 
+        fails : (why : AbortCause) → is_decided t.phase ≡ false → AbortForms node layout tx (asking t None) why Resumed
+        fails why off = record {
+          enters = λ some. inl ((aborts (asking t None) why off).enters some);
+          ends = λ none. inl ((aborts (asking t None) why off).ends none);
+        }
+
         anew : (why : AbortCause) (verifying b : Bool) → is_decided t.phase ≡ false
             → R (anew_if node layout tx (asking t None) why verifying b)
         anew why verifying true off = is_back (asking t None) why verifying
         anew why verifying false off =
             goes_back (asking t None) why verifying (replica_count layout t.touched) off
+
+    -- only one whose verdict is that is driven once more
+    pub resumes_drive : (verdict : Verdict) (number : ℕ)
+        → R (resume_row node layout tx t verdict number)
+        ⊎ (Redrives node layout tx t (resume_row node layout tx t verdict number) × (is_redrive verdict ≡ true))
+    unfolding resume_row
+    resumes_drive verdict number =
+        by verdict t.phase refl (resumes node layout tx t Resumed resumes_so number verdict t.phase refl)
+      where
+        Does : Verdict → Phase → Type 0
+        Does v phase =
+            R (resume_by node layout tx t number v phase)
+            ⊎ (Redrives node layout tx t (resume_by node layout tx t number v phase) × (is_redrive v ≡ true))
+
+        open_only : (v : Verdict) (phase : Phase) → t.phase ≡ phase → is_decided phase ≡ false
+            → Resumed (resume_by node layout tx t number v phase) → Does v phase
+        open_only v phase at off (inl turn) = inl turn
+        open_only v phase at off (inr again) =
+            absurd (true≢false (sym again.decided ∙ (ap is_decided at ∙ off)))
+
+        by : (v : Verdict) (phase : Phase) → t.phase ≡ phase → Resumed (resume_by node layout tx t number v phase)
+            → Does v phase
+        by Redrive phase at (inl turn) = inl turn
+        by Redrive phase at (inr again) = inr (again, refl)
+        by v Open at did = open_only v Open at refl did
+        by v Verifying at did = open_only v Verifying at refl did
+        by v (Aborting why verifying awaited) at did = open_only v (Aborting why verifying awaited) at refl did
+        by Fail (Committing epoch awaited) at did = inl stays_so
+        by AbortAnew (Committing epoch awaited) at did = inl stays_so
+        by Fail (Completing epoch awaited) at did = inl stays_so
+        by AbortAnew (Completing epoch awaited) at did = inl stays_so

@@ -3,6 +3,8 @@ pub mod DriveKinds
 pub mod DriveLists
 pub mod DriveMoments
 pub mod DriveRows
+pub mod DriveStates
+pub mod DriveSteps
 pub mod DriveTurns
 pub mod FateViews
 pub mod ForthAll
