@@ -1,3 +1,4 @@
+pub mod DriveCoordinators
 pub mod DriveHosts
 pub mod DriveKinds
 pub mod DriveLists
@@ -5,6 +6,7 @@ pub mod DriveMoments
 pub mod DriveRows
 pub mod DriveStates
 pub mod DriveSteps
+pub mod DriveTasks
 pub mod DriveTurns
 pub mod FateViews
 pub mod ForthAll
