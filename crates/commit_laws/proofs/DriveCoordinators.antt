@@ -40,7 +40,7 @@ use Rattle.outcome_laws.specs.Counts.{IsCoordinatorOf, coordinator_member, count
 use Rattle.outcome_laws.proofs.TcLists.{count_both, count_more, keys_once, none_counted}
 use Rattle.request_laws.specs.Ways.{entry_of}
 use Rattle.request_laws.proofs.PhaseSends.{IsSpared}
-use Rattle.request_laws.proofs.PhaseWalk.{AreAway, Walks, begins, coordinator_walks, is_about, left_of, passes, resumes, stays, turns}
+use Rattle.request_laws.proofs.PhaseWalk.{AreAway, Walks, begins, coordinator_walks, is_about, is_held_back, left_of, passes, resumes, stays, turns}
 use Rattle.commit_laws.proofs.DriveKinds.{Drive, committing, completing, goes}
 use Rattle.commit_laws.proofs.DriveLists.{mine, only, onward}
 use Rattle.commit_laws.proofs.DriveStates.{AreOnce, Counts, Drives, DrivesLeft, Knows, Moves, Untouched, given_up, still_drives, still_once, still_untouched, undecided, waits}
@@ -147,7 +147,7 @@ module _ (member : Member) (s : CoordinatorState) (of : IsCoordinatorOf member s
     (own : coordinator_member tx ≡ member) (layout : Layout) (laid : s.tc.layout ≡ layout)
     (sent taken sent_now taken_now : Counts) (x : Signal)
     (moves : Moves tx layout sent taken sent_now taken_now (coordinator_row s x).effects.sends)
-    (knows : Knows tx layout sent taken taken_now x.body)
+    (knows : is_held_back s x.view.number x.body ≡ false → Knows tx layout sent taken taken_now x.body)
     (apart : (t : Transaction) → entry_of s tx ≡ Some t → AreApart t.touched)
     (was : Stands layout tx sent taken (entry_of s tx) (is_unborn s tx) (listed tx s))
   where
@@ -238,7 +238,7 @@ module _ (member : Member) (s : CoordinatorState) (of : IsCoordinatorOf member s
     walked (turns t found takes about free left next out) =
         turned t found (left_of turn)
         (turn_drives s.tc.node layout tx sent taken sent_now taken_now t x.body turn (listed tx s) (listed tx step.state)
-        (subst (λ sends. Moves tx layout sent taken sent_now taken_now sends) out moves) knows (apart t found) less
+        (subst (λ sends. Moves tx layout sent taken sent_now taken_now sends) out moves) (knows free) (apart t found) less
         did (drives_of t found))
         next left
       where
@@ -257,6 +257,9 @@ module _ (member : Member) (s : CoordinatorState) (of : IsCoordinatorOf member s
       where
         turn : Turn
         turn = resume_row s.tc.node s.tc.layout tx t verdict s.number
+
+        known : Knows tx layout sent taken taken_now x.body
+        known = knows (ap (is_held_back s x.view.number) about)
 
         more_keys : (drive : Drive) (wk : List ℕ → Bool)
             → count_sent (goes drive (mine tx wk)) (turn.step.effects.sends ++ go_on_with node rest)
@@ -311,11 +314,11 @@ module _ (member : Member) (s : CoordinatorState) (of : IsCoordinatorOf member s
             → DrivesLeft tx layout sent_now taken_now (left_of turn) (listed tx step.state)
         by (inl did) =
             turn_drives s.tc.node layout tx sent taken sent_now taken_now t x.body turn (listed tx s)
-            (listed tx step.state) own_moves knows (apart t found) less
+            (listed tx step.state) own_moves known (apart t found) less
             (subst (λ l. DriveTurn s.tc.node l tx t x.body turn) laid did) (drives_of t found)
         by (inr (again, is)) =
             redrive_drives s.tc.node layout tx sent taken sent_now taken_now t x.body turn (listed tx s)
-            (listed tx step.state) own_moves knows (apart t found) less
+            (listed tx step.state) own_moves known (apart t found) less
             (subst (λ l. Redrives s.tc.node l tx t turn) laid again)
             (let few = fewer is in omega (arith, few)) (fewer is) (drives_of t found)
 

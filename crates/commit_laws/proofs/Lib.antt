@@ -3,6 +3,7 @@ pub mod DriveHosts
 pub mod DriveKinds
 pub mod DriveLists
 pub mod DriveMoments
+pub mod DriveParts
 pub mod DriveRows
 pub mod DriveStates
 pub mod DriveSteps
