@@ -1,8 +1,10 @@
 pub mod DriveCoordinators
+pub mod DriveForeign
 pub mod DriveHosts
 pub mod DriveKinds
 pub mod DriveLists
 pub mod DriveMoments
+pub mod DriveOnwards
 pub mod DriveParts
 pub mod DriveRows
 pub mod DriveStates

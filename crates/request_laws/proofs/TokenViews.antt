@@ -120,7 +120,7 @@ module _ (start : Start) (q : Body → Bool) (number : ℕ) where
           by true false e = refl
           by true true e = absurd (omega (arith, low, eqb-true x.view.number number e))
 
-  sent_low_none : (h : ℕ) (log : List HostStep) → (view_after start h log).number < number
+  pub sent_low_none : (h : ℕ) (log : List HostStep) → (view_after start h log).number < number
       → sent_along start p h log ≡ 0
   sent_low_none h [] low = refl
   sent_low_none h (e ∷ log) low =
