@@ -124,7 +124,7 @@ module _ (start : Start) (all : ℕ → List HostStep) (e : HostStep) (es : List
         subst (IsCoordinatorOf me) (coordinator_is start me e.host log at step.own step.runs)
         (coordinator_of start me there log)
 
-    entering : PartEnters tc_kind step.own stood x step.does.between view step.does.front
+    pub entering : PartEnters tc_kind step.own stood x step.does.between view step.does.front
     entering = step.does.enters
 
     pub between_of : IsCoordinatorOf me step.does.between.coordinator
@@ -161,7 +161,7 @@ module _ (start : Start) (all : ℕ → List HostStep) (e : HostStep) (es : List
         by (installs above same stands front_is) =
             subst (λ (q : TcPart). GatheredAre (IsOrphan view) q.takeover) (sym same) tt
 
-    between_laid : IsLaid (layout_in start view) step.does.between
+    pub between_laid : IsLaid (layout_in start view) step.does.between
     between_laid = tc_enters start step.own stood x step.does.between view step.does.front entering step.laid
 
     -- what becomes of a transaction that a full member leads
@@ -177,7 +177,7 @@ module _ (start : Start) (all : ℕ → List HostStep) (e : HostStep) (es : List
           part_off view (layout_in start view) (chains_in start all moment.cluster view installed) tx led me
           step.does.between between_of between_laid.takeover between_orphans x x.to.block other
 
-      rest_off : (x.to.block ≡ block.Tc → coordinator_member tx ≡ me → ⊥) → AreOff tx step.does.rest
+      pub rest_off : (x.to.block ≡ block.Tc → coordinator_member tx ≡ me → ⊥) → AreOff tx step.does.rest
       rest_off other = by step.does.takes
         where
           by : PartTakes tc_kind start.shape step.does.between view x step.does.own step.does.rest
@@ -235,7 +235,7 @@ module _ (start : Start) (all : ℕ → List HostStep) (tx : TxId) (number : ℕ
   -- an event of another host that coordinates
   module _ (e : HostStep) (es : List HostStep) (moment : IsMoment start all (e ∷ es)) where
     -- what it doesn't send in this view isn't counted
-    none_now : (p : Body → Bool)
+    pub none_now : (p : Body → Bool)
         → ((view_after start e.host (e ∷ logs_of start es e.host)).number ≡ number
         → count_sent p (step_after start e.host (logs_of start es e.host) e).effects.sends ≡ 0)
         → sent_now start all e es moment (numbered number p) ≡ 0
@@ -251,7 +251,7 @@ module _ (start : Start) (all : ℕ → List HostStep) (tx : TxId) (number : ℕ
             )
         by false off = unseen_none start e.host (logs_of start es e.host) e number p off
 
-    other_now : (me : Member) → IsIn me (made start) → (coordinator_member tx ≡ me → ⊥) → e.host ≡ tc_of start me
+    pub other_now : (me : Member) → IsIn me (made start) → (coordinator_member tx ≡ me → ⊥) → e.host ≡ tc_of start me
         → ((drive : Drive) (wk : List ℕ → Bool)
         → sent_now start all e es moment (numbered number (goes drive (mine tx wk))) ≡ 0)
         × ((place : ℕ) → sent_now start all e es moment (numbered number (onward tx place)) ≡ 0)
@@ -268,7 +268,7 @@ module _ (start : Start) (all : ℕ → List HostStep) (tx : TxId) (number : ℕ
             (λ to. other)
 
     -- rows and hosts beside don't go on
-    rows_now : (me : Member) → IsIn me (made start) → e.host ≡ ldm_of start me → (place : ℕ)
+    pub rows_now : (me : Member) → IsIn me (made start) → e.host ≡ ldm_of start me → (place : ℕ)
         → sent_now start all e es moment (numbered number (onward tx place)) ≡ 0
     unfolding ldm_row
     rows_now me there at place = none_now (onward tx place) (λ same. none)

@@ -2,6 +2,7 @@ pub mod DriveCoordinators
 pub mod DriveForeign
 pub mod DriveHosts
 pub mod DriveKinds
+pub mod DriveLed
 pub mod DriveLists
 pub mod DriveMoments
 pub mod DriveOnwards
