@@ -16,6 +16,8 @@ use Rattle.sig_core.specs.declared.signal.Body.{Body}
 use Rattle.sig_core.specs.declared.signal.Signal.{Signal}
 use Rattle.sig_core.specs.declared.view.View.{View}
 use Rattle.lqh_block.specs.Views.{is_coordinated}
+use Rattle.tc_views.specs.State.{CoordinatorState}
+use Rattle.tc_views.specs.Views.{install_row}
 use Rattle.node_views.specs.declared.ldm_part.LdmPart.{LdmPart}
 use Rattle.node_views.specs.declared.tc_part.TcPart.{TcPart}
 use Rattle.node_views.specs.Parts.{ldm_row, tc_row}
@@ -48,6 +50,7 @@ use Rattle.request_laws.proofs.RouteOrphans.{takeovers_are_of_orphans}
 use Rattle.request_laws.proofs.RouteSteps.{LdmStep, TcStep, coordinator_is, ldm_step, takeover_is, tc_step}
 use Rattle.request_laws.proofs.RouteTakeover.{ChainsAreSome}
 use Rattle.request_laws.proofs.RouteViews.{chains_in, was_in}
+use Rattle.request_laws.proofs.StrayNumbers.{have_the_number}
 use Rattle.request_laws.proofs.TokenCoordinators.{front_away}
 use Rattle.request_laws.proofs.TokenHosts.{sent_few}
 use Rattle.request_laws.proofs.TokenViews.{sent_now}
@@ -163,6 +166,24 @@ module _ (start : Start) (all : ℕ → List HostStep) (e : HostStep) (es : List
 
     pub between_laid : IsLaid (layout_in start view) step.does.between
     between_laid = tc_enters start step.own stood x step.does.between view step.does.front entering step.laid
+
+    -- it has the number of the view
+    pub between_number : step.does.between.coordinator.number ≡ view.number
+    unfolding install_row
+    between_number = by entering
+      where
+        own_number : step.own.coordinator.number ≡ stood.number
+        own_number =
+            ap (λ (s : CoordinatorState). s.number) (sym (coordinator_is start me e.host log at step.own step.runs))
+            ∙ (have_the_number start me log there ∙ ap (λ k. (view_after start k log).number) (sym at))
+
+        by : PartEnters tc_kind step.own stood x step.does.between view step.does.front
+            → step.does.between.coordinator.number ≡ view.number
+        by (remains same stands none) =
+            ap (λ (q : TcPart). q.coordinator.number) same
+            ∙ (own_number ∙ sym (ap (λ (v : View). v.number) stands))
+        by (installs above same stands front_is) =
+            ap (λ (q : TcPart). q.coordinator.number) same ∙ sym (ap (λ (v : View). v.number) stands)
 
     -- what becomes of a transaction that a full member leads
     module _ (tx : TxId) (led : is_coordinated view.full tx ≡ true) where

@@ -6,6 +6,7 @@ pub mod DriveLed
 pub mod DriveLists
 pub mod DriveMoments
 pub mod DriveOnwards
+pub mod DriveOwn
 pub mod DriveParts
 pub mod DriveRows
 pub mod DriveStates
