@@ -44,7 +44,7 @@ use Rattle.moment_laws.specs.Moments.{IsMoment, logs_of}
 use Rattle.moment_laws.specs.Parts.{IsPassed}
 use Rattle.moment_laws.specs.PartSteps.{PartEnters, PartTakes, handles, ignores, installs, remains, tc_kind}
 use Rattle.moment_laws.specs.Places.{tc_of}
-use Rattle.moment_laws.proofs.MomentTurns.{host_low, own_log}
+use Rattle.moment_laws.proofs.MomentTurns.{host_low, other_log, own_log}
 use Rattle.moment_laws.proofs.MomentViews.{moment_less}
 use Rattle.moment_laws.proofs.PartKinds.{tc_is}
 use Rattle.moment_laws.proofs.PartTaken.{IsTakenNow, handled_now}
@@ -349,3 +349,123 @@ module _ (start : Start) (member : Member) (there : IsIn member (made start)) (t
               → Knows tx layout sent taken taken_now x.body
           known free =
               record { takes_one = takes_one free; goes_on = goes_on_known; comes_back = comes_known }
+
+        abbrev StandsFor : CoordinatorState → Type 0
+        StandsFor s = Stands layout tx sent_now taken_now (entry_of s tx) (is_unborn s tx) (listed tx s)
+
+        -- its transactions are those that it had
+        between_entry : entry_of between.coordinator tx ≡ entry_of (coordinator_after start member log) tx
+        unfolding install_row
+        between_entry = by (entering start all e es moment member there at)
+          where
+            by : PartEnters tc_kind tc.own (view_after start e.host log) x between view tc.does.front
+                → entry_of between.coordinator tx ≡ entry_of (coordinator_after start member log) tx
+            by (remains same stands none) =
+                ap (λ (q : TcPart). entry_of q.coordinator tx) same ∙ ap (λ s. entry_of s tx) (sym own_is)
+            by (installs above same stands front_is) =
+                ap (λ (q : TcPart). entry_of q.coordinator tx) same ∙ ap (λ s. entry_of s tx) (sym own_is)
+
+        -- nothing comes to it
+        quiet : ((drive : Drive) (wk : List ℕ → Bool) → count_sent (goes drive (mine tx wk)) tc.does.rest ≡ 0)
+            → ((place : ℕ) → count_sent (onward tx place) tc.does.rest ≡ 0) → StandsFor between.coordinator
+        quiet keys onwards =
+            still_stands layout tx sent taken sent_now taken_now
+            (moves_less layout tx sent taken sent_now taken_now [] tc.does.rest keys onwards moves)
+            (entry_of between.coordinator tx) (is_unborn between.coordinator tx) (is_unborn between.coordinator tx)
+            (listed tx between.coordinator) (listed tx between.coordinator) refl (omega arith) stands_between
+
+        quiet_off : AreOff tx tc.does.rest → StandsFor between.coordinator
+        quiet_off off = quiet off.keys off.goes_on
+
+        row : IsPassed start.shape (part.Tc between) view x → (b : BlockId) → x.to.block ≡ b
+            → tc.does.own ≡ (tc_row between b x).state → tc.does.rest ≡ (tc_row between b x).effects.sends
+            → StandsFor tc.does.own.coordinator
+        unfolding tc_row
+        row passed block.Tc to is sends_are =
+            subst (λ (q : TcPart). StandsFor q.coordinator) (sym is)
+            (row_stands member between.coordinator (between_of start all e es moment member there at) tx own layout
+            (between_laid start all e es moment member there at).coordinator sent taken sent_now taken_now x
+            (subst (λ rest. Moves tx layout sent taken sent_now taken_now rest) sends_are moves)
+            (λ free. known passed to free)
+            (λ t found. apart_of log t (sym between_entry ∙ found)) stands_between)
+        row passed block.Takeover to is sends_are =
+            subst (λ (q : TcPart). StandsFor q.coordinator) (sym is)
+            (quiet_off
+            (rest_off start all e es moment member there at tx led
+            (λ same. absurd (let both : block.Takeover ≡ block.Tc = sym to ∙ same in cc))))
+        row passed block.Dih to is sends_are =
+            subst (λ (q : TcPart). StandsFor q.coordinator) (sym is)
+            (quiet_off
+            (rest_off start all e es moment member there at tx led
+            (λ same. absurd (let both : block.Dih ≡ block.Tc = sym to ∙ same in cc))))
+        row passed b to is sends_are =
+            subst (λ (q : TcPart). StandsFor q.coordinator) (sym is)
+            (quiet (λ drive wk. ap (count_sent (goes drive (mine tx wk))) sends_are)
+            (λ place. ap (count_sent (onward tx place)) sends_are))
+
+        stands_own : StandsFor tc.does.own.coordinator
+        stands_own = by tc.does.takes
+          where
+            by : PartTakes tc_kind start.shape between view x tc.does.own tc.does.rest → StandsFor tc.does.own.coordinator
+            by (ignores is nothing) =
+                subst (λ (q : TcPart). StandsFor q.coordinator) (sym is)
+                (quiet (λ drive wk. ap (count_sent (goes drive (mine tx wk))) nothing)
+                (λ place. ap (count_sent (onward tx place)) nothing))
+            by (handles passed is sends_are) = row passed x.to.block refl is sends_are
+
+        stands_behind : StandsFor (coordinator_after start member (e ∷ log))
+        stands_behind =
+            subst StandsFor (sym (coordinator_is start member e.host (e ∷ log) at tc.does.own tc.does.is)) stands_own
+
+        once_now : AreOnce tx layout sent_now
+        once_now = by (entry_of (coordinator_after start member (e ∷ log)) tx) refl stands_behind.drives
+          where
+            by : (o : Option Transaction) → entry_of (coordinator_after start member (e ∷ log)) tx ≡ o
+                → DrivesLeft tx layout sent_now taken_now o (listed tx (coordinator_after start member (e ∷ log)))
+                → AreOnce tx layout sent_now
+            by None is once = once
+            by (Some t) is drives =
+                drives_once tx layout sent_now taken_now t
+                (listed tx (coordinator_after start member (e ∷ log))) (apart_of (e ∷ log) t is) drives
+
+        pub driven_next : IsDriven start member tx e.host (e ∷ log)
+        driven_next = record { now = stands_behind; once = λ number drive key. by number drive key (n == number) refl }
+          where
+            by : (number : ℕ) (drive : Drive) (key : List ℕ) (b : Bool) → (n == number) ≡ b
+                → sent_in start member tx e.host number (e ∷ log) (goes drive (mine tx (only key))) ≤ 1
+            by number drive key true is =
+                subst (λ m. sent_in start member tx e.host m (e ∷ log) (goes drive (mine tx (only key))) ≤ 1)
+                (eqb-true n number is) (once_now drive key)
+            by number drive key false off =
+                omega (
+                  arith,
+                  unseen_none start e.host log e number (goes drive (mine tx (only key))) off,
+                  before.once number drive key,
+                )
+
+    -- at each moment
+    pub driven : (all : ℕ → List HostStep) (es : List HostStep) → IsMoment start all es
+        → IsDriven start member tx (tc_of start member) (logs_of start es (tc_of start member))
+    driven all [] moment = driven_first (tc_of start member)
+    driven all (e ∷ es) moment =
+        by (cases_eq e.host (tc_of start member)) (driven all es (moment_less start all e es moment))
+      where
+        by : (e.host ≡ tc_of start member) ⊎ (e.host ≢ tc_of start member)
+            → IsDriven start member tx (tc_of start member) (logs_of start es (tc_of start member))
+            → IsDriven start member tx (tc_of start member) (logs_of start (e ∷ es) (tc_of start member))
+        by (inl at) before =
+            subst (λ h. IsDriven start member tx h (logs_of start (e ∷ es) h)) at
+            (subst (IsDriven start member tx e.host) (sym (own_log start all e es moment))
+            (driven_next all e es moment at
+            (subst (λ h. IsDriven start member tx h (logs_of start es h)) (sym at) before)))
+        by (inr off) before =
+            subst (IsDriven start member tx (tc_of start member))
+            (sym (other_log start all e es moment (tc_of start member) off)) before
+
+-- so it sends each commit and each completion once at most in a view
+pub coordinators_drive_once : (start : Start) (all : ℕ → List HostStep) (es : List HostStep) → IsMoment start all es
+    → (tx : TxId) → IsIn (coordinator_member tx) (made start) → (number : ℕ) (drive : Drive) (key : List ℕ)
+    → sent_along start (numbered number (goes drive (mine tx (only key)))) (tc_of start (coordinator_member tx))
+    (logs_of start es (tc_of start (coordinator_member tx))) ≤ 1
+coordinators_drive_once start all es moment tx there number drive key =
+    (driven start (coordinator_member tx) there tx refl all es moment).once number drive key
