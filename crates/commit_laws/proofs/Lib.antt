@@ -5,6 +5,7 @@ pub mod DriveKinds
 pub mod DriveLed
 pub mod DriveLists
 pub mod DriveMoments
+pub mod DriveOnce
 pub mod DriveOnwards
 pub mod DriveOwn
 pub mod DriveParts
