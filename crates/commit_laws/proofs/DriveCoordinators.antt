@@ -1,8 +1,7 @@
 -- Whatever a coordinator takes, it leads on with the commits of each of its transactions as it should.
 use Rattle.std.proofs.Common.{◌≡◌, ◌≤◌, ◌<◌, ◌+◌, ◌⊎◌, ◌==◌, ◌&&◌, ◌++◌, ◌∙◌, ℕ, Bool, true, false, List, [], ◌∷◌, inl, inr, length, nat_lt, refl, sym, ap, arith, subst}
 use Rattle.std.proofs.lemmas.Bool.{leb-false, leb-true, true≢false}
-use Rattle.std.proofs.lemmas.List.{append-nil}
-use Rattle.std.specs.Prelude.{if◌then◌else◌, nat_le, Option, None, Some}
+use Rattle.std.specs.Prelude.{nat_le, Option, None, Some}
 use Rattle.std.specs.List.{count_by}
 use Rattle.sig_core.specs.declared.member.Member.{Member}
 use Rattle.sig_core.specs.declared.member.TxId.{TxId}
@@ -22,13 +21,9 @@ use Rattle.sig_core.proofs.Keys.{same_tx-self}
 use Rattle.run_theory.proofs.Pasts.{each_map}
 use Rattle.frag_map.specs.Layout.{Layout}
 use Rattle.host_laws.proofs.OfLive.{each_found}
-use Rattle.tc_block.specs.declared.task.Verdict.{Verdict}
-use Rattle.tc_block.specs.declared.task.Verdict.TheVariants.{Redrive}
 use Rattle.tc_block.specs.declared.transaction.Transaction.{Transaction}
-use Rattle.tc_block.specs.Operate.{fresh}
 use Rattle.tc_block.specs.Phases.{is_aborting, is_decided}
 use Rattle.tc_block.specs.Resume.{resume_row}
-use Rattle.tc_block.specs.Tc.{next_tx}
 use Rattle.tc_block.specs.Turn.{Turn}
 use Rattle.tc_block.proofs.EachTurn.{rows_at}
 use Rattle.tc_block.proofs.TurnRows.{turn_for, turn_with}
@@ -43,7 +38,7 @@ use Rattle.request_laws.proofs.PhaseSends.{IsSpared}
 use Rattle.request_laws.proofs.PhaseWalk.{AreAway, Walks, begins, coordinator_walks, is_about, is_held_back, left_of, passes, resumes, stays, turns}
 use Rattle.commit_laws.proofs.DriveKinds.{Drive, committing, completing, goes}
 use Rattle.commit_laws.proofs.DriveLists.{mine, only, onward}
-use Rattle.commit_laws.proofs.DriveStates.{AreOnce, Counts, Drives, DrivesLeft, Knows, Moves, Untouched, given_up, still_drives, still_once, still_untouched, undecided, waits}
+use Rattle.commit_laws.proofs.DriveStates.{Counts, Drives, DrivesLeft, Knows, Moves, Untouched, given_up, still_drives, still_once, still_untouched, undecided, waits}
 use Rattle.commit_laws.proofs.DriveSteps.{redrive_drives, turn_drives}
 use Rattle.commit_laws.proofs.DriveTasks.{decided_now, installed_listed, is_listed, listed, resumed_listed, row_listed}
 use Rattle.commit_laws.proofs.DriveTurns.{DriveTurn, Redrives, is_redrive, resumes_drive, turns_drive}

@@ -1,7 +1,7 @@
 -- For a transaction whose coordinator is a full member of the view of a number, no other host that coordinates commits or
 -- completes a key in that view, and no other host at all goes on with that.
-use Rattle.std.proofs.Common.{◌≡◌, ◌≢◌, ◌≤◌, ◌<◌, ◌+◌, ◌⊎◌, ◌==◌, ◌&&◌, ◌++◌, ◌∙◌, ℕ, Bool, true, false, None, Some, List, [], ◌∷◌, inl, inr, refl, sym, ap, arith, subst}
-use Rattle.std.proofs.lemmas.Bool.{cases_eq, eq-eqb, eqb-true, true≢false}
+use Rattle.std.proofs.Common.{◌≡◌, ◌≤◌, ◌⊎◌, ◌==◌, ◌&&◌, ◌++◌, ◌∙◌, ℕ, Bool, true, false, List, [], ◌∷◌, inl, inr, refl, sym, ap, arith, subst}
+use Rattle.std.proofs.lemmas.Bool.{eqb-true}
 use Rattle.std.specs.List.{count_by}
 use Rattle.run_theory.specs.Links.{sent_by}
 use Rattle.run_theory.specs.Lists.{Each, IsIn}
@@ -18,14 +18,11 @@ use Rattle.sig_core.specs.declared.view.View.{View}
 use Rattle.lqh_block.specs.Views.{is_coordinated}
 use Rattle.tc_views.specs.State.{CoordinatorState}
 use Rattle.tc_views.specs.Views.{install_row}
-use Rattle.node_views.specs.declared.ldm_part.LdmPart.{LdmPart}
 use Rattle.node_views.specs.declared.tc_part.TcPart.{TcPart}
 use Rattle.node_views.specs.Parts.{ldm_row, tc_row}
-use Rattle.world_core.specs.Hosts.{hosts}
 use Rattle.world_core.specs.Start.{Start, made}
 use Rattle.world_core.specs.Steps.{Addressed, HostStep}
-use Rattle.world_views.specs.Hosts.{started}
-use Rattle.world_views.specs.Machine.{after, signals_of, step_after}
+use Rattle.world_views.specs.Machine.{signals_of, step_after}
 use Rattle.view_laws.specs.Order.{is_sound, sound_machine}
 use Rattle.view_laws.specs.Runs.{WasInstalled, view_after}
 use Rattle.view_laws.proofs.EraSound.{each_filter}
@@ -33,32 +30,28 @@ use Rattle.view_laws.proofs.FollowSends.{each_sent}
 use Rattle.moment_laws.specs.Moments.{IsMoment, logs_of}
 use Rattle.moment_laws.specs.PartSteps.{PartEnters, PartTakes, handles, ignores, installs, ldm_kind, remains, tc_kind}
 use Rattle.moment_laws.specs.Places.{ldm_of, tc_of}
-use Rattle.moment_laws.proofs.MomentTurns.{host_low, other_log, own_log}
 use Rattle.moment_laws.proofs.MomentViews.{moment_less}
 use Rattle.outcome_laws.specs.Counts.{IsCoordinatorOf, coordinator_member, count_sent, one_if}
 use Rattle.outcome_laws.proofs.TcCounts.{coordinator_of_installed}
 use Rattle.outcome_laws.proofs.TcLists.{count_both, count_more}
-use Rattle.request_laws.specs.Blocks.{coordinator_after, takeover_after}
-use Rattle.request_laws.specs.Orphans.{AllOrphans, GatheredAre, IsOrphan, TakeoversAreOfOrphans}
+use Rattle.request_laws.specs.Blocks.{takeover_after}
+use Rattle.request_laws.specs.Orphans.{AllOrphans, GatheredAre, IsOrphan}
 use Rattle.request_laws.specs.Routed.{layout_in}
 use Rattle.request_laws.specs.Tokens.{sent_along}
 use Rattle.request_laws.proofs.PhaseAlong.{coordinator_of}
 use Rattle.request_laws.proofs.RouteHeaders.{own_installed}
-use Rattle.request_laws.proofs.RouteHosts.{IsBeside, PartHost, beside_sends, coordinates, is_beside, keeps_rows, part_host}
 use Rattle.request_laws.proofs.RouteLayouts.{IsLaid, tc_enters}
 use Rattle.request_laws.proofs.RouteOrphans.{takeovers_are_of_orphans}
 use Rattle.request_laws.proofs.RouteSteps.{LdmStep, TcStep, coordinator_is, ldm_step, takeover_is, tc_step}
-use Rattle.request_laws.proofs.RouteTakeover.{ChainsAreSome}
-use Rattle.request_laws.proofs.RouteViews.{chains_in, was_in}
+use Rattle.request_laws.proofs.RouteViews.{chains_in}
 use Rattle.request_laws.proofs.StrayNumbers.{have_the_number}
 use Rattle.request_laws.proofs.TokenCoordinators.{front_away}
 use Rattle.request_laws.proofs.TokenHosts.{sent_few}
 use Rattle.request_laws.proofs.TokenViews.{sent_now}
 use Rattle.commit_laws.proofs.DriveKinds.{Drive, goes, numbered}
 use Rattle.commit_laws.proofs.DriveLists.{mine, onward}
-use Rattle.commit_laws.proofs.DriveMoments.{along_other, along_own}
 use Rattle.commit_laws.proofs.DriveOnwards.{rows_stay}
-use Rattle.commit_laws.proofs.DriveParts.{AreOff, aside_off, away_off, both_off, none_off, part_off}
+use Rattle.commit_laws.proofs.DriveParts.{AreOff, away_off, both_off, none_off, part_off}
 
 -- of another view than that in which the host stands nothing is sent
 module _ (start : Start) (h : ℕ) (log : List HostStep) (e : HostStep) (number : ℕ) (p : Body → Bool)

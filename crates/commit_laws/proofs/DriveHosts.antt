@@ -1,6 +1,6 @@
 -- What hosts send of commits and completions at an event of a moment: a host of rows no more than it takes, and a host
 -- that coordinates none that tells of an end.
-use Rattle.std.proofs.Common.{◌≡◌, ◌≤◌, ◌+◌, ◌⊎◌, ◌==◌, ◌&&◌, ◌||◌, ◌++◌, ◌∙◌, ℕ, Bool, true, false, List, [], ◌∷◌, filter, refl, sym, ap, subst, arith, inl, inr, ⊎_elim}
+use Rattle.std.proofs.Common.{◌≡◌, ◌≤◌, ◌⊎◌, ◌==◌, ◌&&◌, ◌++◌, ◌∙◌, ℕ, Bool, true, false, List, [], ◌∷◌, refl, sym, ap, subst, arith, inl, inr, ⊎_elim}
 use Rattle.std.proofs.lemmas.Bool.{eq-eqb, eqb-true, true≢false}
 use Rattle.std.specs.List.{count_by}
 use Rattle.run_theory.specs.Links.{sent_by}
@@ -18,19 +18,17 @@ use Rattle.sig_core.specs.declared.signal.Signal.{Signal}
 use Rattle.sig_core.specs.declared.view.View.{View}
 use Rattle.dih_node.specs.Dih.{dih_row}
 use Rattle.dih_node.specs.Orders as dih
-use Rattle.lqh_views.specs.Replica.{replica_row}
 use Rattle.takeover_block.specs.Takeover.{takeover_row}
 use Rattle.tc_views.specs.Coordinator.{coordinator_row}
 use Rattle.tc_views.specs.Views as coordinator
-use Rattle.node_views.specs.declared.ldm_part.LdmPart.{LdmPart}
-use Rattle.node_views.specs.declared.parts.Parts.TheVariants.{Ldm, Tc}
+use Rattle.node_views.specs.declared.parts.Parts.TheVariants.{Ldm}
 use Rattle.node_views.specs.declared.tc_part.TcPart.{TcPart}
 use Rattle.node_views.specs.Fence.{is_body_fenced}
 use Rattle.node_views.specs.Parts.{ldm_row, tc_entered, tc_row}
 use Rattle.world_core.specs.Start.{Start, made}
 use Rattle.world_core.specs.Steps.{Addressed, HostStep}
 use Rattle.world_views.specs.Hosts.{started}
-use Rattle.world_views.specs.Machine.{after, signals_of, step_after}
+use Rattle.world_views.specs.Machine.{signals_of, step_after}
 use Rattle.world_views.specs.Sending.{is_own_work}
 use Rattle.view_laws.specs.Order.{is_sound, sound_machine}
 use Rattle.view_laws.specs.Runs.{view_after}
@@ -49,7 +47,7 @@ use Rattle.moment_laws.proofs.MomentViews.{current_number}
 use Rattle.moment_laws.proofs.PartKinds.{ldm_is}
 use Rattle.moment_laws.proofs.PartTaken.{handled_now}
 use Rattle.outcome_laws.specs.Counts.{count_sent, one_if}
-use Rattle.outcome_laws.proofs.TcLists.{count_both, count_more, none_counted}
+use Rattle.outcome_laws.proofs.TcLists.{count_more, none_counted}
 use Rattle.request_laws.proofs.RouteAside.{epochs_aside, epochs_install_aside, is_of_rows}
 use Rattle.request_laws.proofs.RouteHosts.{IsBeside, beside_sends}
 use Rattle.request_laws.proofs.RouteSteps.{LdmStep, TcStep, ldm_step, tc_step}

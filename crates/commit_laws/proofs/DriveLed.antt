@@ -1,8 +1,7 @@
 -- In a view in which a transaction's coordinator is a full member, what it sent itself is all that owners sent, and all
 -- that goes on.
-use Rattle.std.proofs.Common.{◌≡◌, ◌≢◌, ◌≤◌, ◌<◌, ◌+◌, ◌⊎◌, ◌∙◌, ℕ, Bool, List, [], ◌∷◌, inl, inr, refl, sym, ap, arith, subst}
+use Rattle.std.proofs.Common.{◌≡◌, ◌≢◌, ◌≤◌, ◌<◌, ◌⊎◌, ◌∙◌, ℕ, Bool, List, [], ◌∷◌, inl, inr, refl, sym, ap, arith}
 use Rattle.std.proofs.lemmas.Bool.{cases_eq}
-use Rattle.run_theory.specs.Counts.{total}
 use Rattle.run_theory.specs.Lists.{IsIn}
 use Rattle.host_laws.proofs.Sums.{total_one, total_zero}
 use Rattle.sig_core.specs.declared.member.Member.{Member}
@@ -19,7 +18,7 @@ use Rattle.moment_laws.specs.Places.{tc_of}
 use Rattle.moment_laws.proofs.MomentTurns.{host_low}
 use Rattle.moment_laws.proofs.MomentViews.{moment_less}
 use Rattle.outcome_laws.specs.Counts.{coordinator_member}
-use Rattle.request_laws.specs.Tokens.{all_sent, sent_along, total_of}
+use Rattle.request_laws.specs.Tokens.{all_sent, sent_along}
 use Rattle.request_laws.proofs.RouteHosts.{PartHost, beside_sends, coordinates, is_beside, keeps_rows, part_host}
 use Rattle.request_laws.proofs.TokenViews.{node_of, sent_now, total_of_one, total_of_zero}
 use Rattle.commit_laws.specs.Once.{owners_sent}

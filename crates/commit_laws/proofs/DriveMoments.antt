@@ -1,37 +1,32 @@
 -- At each moment, in each view, no more keys were committed than their owners sent commits of, and no more completed.
-use Rattle.std.proofs.Common.{◌≡◌, ◌≢◌, ◌≤◌, ◌<◌, ◌+◌, ◌⊎◌, ◌==◌, ◌&&◌, ◌||◌, ◌∙◌, ℕ, Bool, true, false, List, [], ◌∷◌, refl, sym, ap, subst, arith, inl, inr}
+use Rattle.std.proofs.Common.{◌≡◌, ◌≢◌, ◌≤◌, ◌+◌, ◌⊎◌, ◌==◌, ◌&&◌, ◌||◌, ◌∙◌, ℕ, Bool, true, false, List, [], ◌∷◌, refl, sym, ap, subst, arith, inl, inr}
 use Rattle.std.proofs.lemmas.Bool.{and_parts, cases_eq, eqb-true, true≢false}
 use Rattle.std.specs.List.{count_by}
-use Rattle.run_theory.specs.Counts.{total}
 use Rattle.run_theory.specs.Links.{sent_by}
-use Rattle.run_theory.specs.Lists.{Each, IsIn}
-use Rattle.run_theory.proofs.Pasts.{each_map}
+use Rattle.run_theory.specs.Lists.{IsIn}
 use Rattle.host_laws.proofs.Sums.{total_add, total_same, total_zero}
 use Rattle.sig_core.specs.declared.member.Member.{Member}
-use Rattle.sig_core.specs.declared.outs.Outgoing.{Outgoing}
-use Rattle.sig_core.specs.declared.signal.Body.{Body}
 use Rattle.sig_core.specs.declared.signal.Signal.{Signal}
 use Rattle.frag_map.specs.Replicas.{first_start}
 use Rattle.world_core.specs.Hosts.{hosts}
 use Rattle.world_core.specs.Start.{Start, made}
 use Rattle.world_core.specs.Steps.{Addressed, HostStep}
-use Rattle.world_views.specs.Hosts.{started}
 use Rattle.world_views.specs.Machine.{step_after}
 use Rattle.view_laws.specs.Order.{sound_machine}
 use Rattle.view_laws.proofs.FollowHosts.{first_of}
 use Rattle.view_laws.proofs.RunMade.{first_in, node_low, node_some}
 use Rattle.moment_laws.specs.Moments.{IsMoment, logs_of}
-use Rattle.moment_laws.specs.Places.{ldm_of, tc_of}
+use Rattle.moment_laws.specs.Places.{tc_of}
 use Rattle.moment_laws.proofs.MomentHosts.{tc_number}
 use Rattle.moment_laws.proofs.MomentTurns.{host_low, other_log, own_log}
 use Rattle.moment_laws.proofs.MomentViews.{current_number, moment_less}
-use Rattle.outcome_laws.specs.Counts.{count_sent, one_if}
+use Rattle.outcome_laws.specs.Counts.{one_if}
 use Rattle.outcome_laws.proofs.TcLists.{count_more, none_counted}
 use Rattle.request_laws.specs.Tokens.{all_sent, all_taken, sent_along, total_of}
 use Rattle.request_laws.proofs.RouteAside.{is_of_rows}
 use Rattle.request_laws.proofs.RouteHosts.{PartHost, coordinates, is_beside, keeps_rows, part_host}
 use Rattle.request_laws.proofs.TokenHosts.{sent_few}
-use Rattle.request_laws.proofs.TokenSums.{takes_before, takes_few}
+use Rattle.request_laws.proofs.TokenSums.{takes_few}
 use Rattle.request_laws.proofs.TokenViews.{all_sent_more, all_taken_more, node_of, sent_now, taken_now, total_of_one}
 use Rattle.commit_laws.specs.Once.{owners_sent}
 use Rattle.commit_laws.proofs.DriveHosts.{beside_none, coordinator_tells_none, other_none, rows_few}

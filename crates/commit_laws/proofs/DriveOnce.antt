@@ -1,11 +1,10 @@
 -- In each view each key of a transaction is committed once at most, and completed once at most, where takeovers commit and
 -- complete each once.
-use Rattle.std.proofs.Common.{◌≡◌, ◌≢◌, ◌≤◌, ◌<◌, ◌+◌, ◌⊎◌, ◌==◌, ◌&&◌, ◌∙◌, ℕ, Bool, true, false, List, [], ◌∷◌, inl, inr, refl, sym, ap, arith, subst, nat_eq}
-use Rattle.std.proofs.lemmas.Bool.{and_parts, cases_eq, eqb-true, true≢false}
+use Rattle.std.proofs.Common.{◌≡◌, ◌≢◌, ◌≤◌, ◌⊎◌, ◌==◌, ◌&&◌, ◌∙◌, ℕ, Bool, true, false, List, [], ◌∷◌, inl, inr, refl, sym, ap, arith, subst, nat_eq}
+use Rattle.std.proofs.lemmas.Bool.{and_parts, cases_eq, eqb-true}
 use Rattle.std.specs.List.{count_by}
-use Rattle.run_theory.specs.Counts.{total}
 use Rattle.run_theory.specs.Links.{sent_by}
-use Rattle.run_theory.specs.Lists.{Each, IsIn}
+use Rattle.run_theory.specs.Lists.{IsIn}
 use Rattle.run_theory.proofs.Pasts.{each_in}
 use Rattle.host_laws.proofs.Sums.{total_same}
 use Rattle.sig_core.specs.declared.member.Member.{Member}
@@ -25,15 +24,14 @@ use Rattle.view_laws.proofs.RunKept.{have_orderly}
 use Rattle.view_laws.proofs.RunViews.{one_view}
 use Rattle.moment_laws.specs.Moments.{IsMoment, logs_of}
 use Rattle.moment_laws.specs.Places.{tc_of}
-use Rattle.moment_laws.proofs.MomentTurns.{host_low}
 use Rattle.moment_laws.proofs.MomentViews.{moment_less}
 use Rattle.outcome_laws.specs.Counts.{coordinator_member, one_if}
 use Rattle.outcome_laws.proofs.TcLists.{count_more}
-use Rattle.request_laws.specs.Tokens.{all_sent, sent_along, total_of}
+use Rattle.request_laws.specs.Tokens.{all_sent, sent_along}
 use Rattle.request_laws.proofs.RouteHeaders.{own_installed}
 use Rattle.request_laws.proofs.RouteViews.{first_part}
 use Rattle.request_laws.proofs.TokenViews.{total_of_same, total_of_zero}
-use Rattle.commit_laws.specs.Once.{AreDrivenOnce, KeysAreDrivenOnce, commits, completes, has_committed, has_completed, in_number, is_of, owners_sent}
+use Rattle.commit_laws.specs.Once.{KeysAreDrivenOnce, commits, completes, has_committed, has_completed, in_number, owners_sent}
 use Rattle.commit_laws.proofs.DriveForeign.{IsLedIn, unseen_none}
 use Rattle.commit_laws.proofs.DriveKinds.{Drive, comes, committing, completing, goes, numbered}
 use Rattle.commit_laws.proofs.DriveLed.{owners_own}

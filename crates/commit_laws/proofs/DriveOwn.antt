@@ -1,10 +1,8 @@
 -- A coordinator commits each key of a transaction once at most in each view, and completes it once at most.
-use Rattle.std.proofs.Common.{◌≡◌, ◌≢◌, ◌≤◌, ◌<◌, ◌+◌, ◌⊎◌, ◌==◌, ◌&&◌, ◌||◌, ◌++◌, ◌∙◌, ℕ, Bool, true, false, None, Some, Option, List, [], ◌∷◌, inl, inr, nat_lt, refl, sym, ap, arith, subst}
+use Rattle.std.proofs.Common.{◌≡◌, ◌≢◌, ◌≤◌, ◌<◌, ◌+◌, ◌⊎◌, ◌==◌, ◌&&◌, ◌||◌, ◌∙◌, ℕ, Bool, true, false, None, Some, Option, List, [], ◌∷◌, inl, inr, refl, sym, ap, arith, subst}
 use Rattle.std.proofs.lemmas.Bool.{and_parts, cases_eq, eq-eqb, eqb-true, ltb-false, true≢false}
-use Rattle.std.specs.List.{count_by}
 use Rattle.std.specs.Prelude.{if◌then◌else◌, not}
-use Rattle.run_theory.specs.Links.{sent_by}
-use Rattle.run_theory.specs.Lists.{Each, IsIn, IsPast}
+use Rattle.run_theory.specs.Lists.{IsIn, IsPast}
 use Rattle.host_laws.proofs.OfLive.{each_found}
 use Rattle.host_laws.proofs.Sums.{total_at}
 use Rattle.sig_core.specs.declared.member.Member.{Member}
@@ -14,7 +12,6 @@ use Rattle.sig_core.specs.declared.place.BlockId.{BlockId}
 use Rattle.sig_core.specs.declared.place.BlockId.TheVariants as block
 use Rattle.sig_core.specs.declared.signal.Body.{Body}
 use Rattle.sig_core.specs.declared.signal.Body.TheVariants.{Chain, Host}
-use Rattle.sig_core.specs.declared.signal.chain.ChainSignal.TheVariants.{Committed, Completed}
 use Rattle.sig_core.specs.declared.signal.host.HostSignal.TheVariants.{Continue}
 use Rattle.sig_core.specs.declared.signal.host.Work.TheVariants as work
 use Rattle.sig_core.specs.declared.signal.Signal.{Signal}
@@ -22,7 +19,6 @@ use Rattle.sig_core.specs.declared.view.View.{View}
 use Rattle.frag_map.specs.Layout.{Layout}
 use Rattle.lqh_block.specs.Views.{is_coordinated}
 use Rattle.tc_block.specs.declared.transaction.Transaction.{Transaction}
-use Rattle.tc_views.specs.Coordinator.{coordinator_row}
 use Rattle.tc_views.specs.State.{CoordinatorState}
 use Rattle.tc_views.specs.Views.{install_row}
 use Rattle.node_views.specs.declared.parts.Parts.TheVariants as part
@@ -33,11 +29,11 @@ use Rattle.node_views.specs.WellFormed.{is_well_formed}
 use Rattle.run_laws.specs.Keyed.{AreApart, IsTouchedRightly}
 use Rattle.world_core.specs.Hosts.{hosts}
 use Rattle.world_core.specs.Start.{Start, made}
-use Rattle.world_core.specs.Steps.{Addressed, HostStep}
-use Rattle.world_views.specs.Machine.{after, step_after}
+use Rattle.world_core.specs.Steps.{HostStep}
+use Rattle.world_views.specs.Machine.{step_after}
 use Rattle.world_views.specs.Sending.{is_own_work}
 use Rattle.view_laws.specs.Order.{sound_machine}
-use Rattle.view_laws.specs.Runs.{WasInstalled, view_after}
+use Rattle.view_laws.specs.Runs.{view_after}
 use Rattle.view_laws.proofs.RunKept.{have_orderly}
 use Rattle.view_laws.proofs.RunViews.{one_view}
 use Rattle.moment_laws.specs.Moments.{IsMoment, logs_of}
@@ -60,13 +56,12 @@ use Rattle.request_laws.proofs.RouteHeaders.{chain_fenced, event_past}
 use Rattle.request_laws.proofs.RouteReports.{coordinated}
 use Rattle.request_laws.proofs.RouteSteps.{TcStep, coordinator_is}
 use Rattle.request_laws.proofs.RouteViews.{member_full}
-use Rattle.request_laws.proofs.StrayNumbers.{have_the_number}
 use Rattle.request_laws.proofs.TokenHosts.{sent_few}
 use Rattle.request_laws.proofs.TokenSums.{takes_before}
 use Rattle.request_laws.proofs.TokenViews.{sent_low_none}
 use Rattle.commit_laws.proofs.DriveCoordinators.{Stands, installed_stands, moves_less, row_stands, still_stands, untouched_stands}
 use Rattle.commit_laws.proofs.DriveForeign.{IsLedIn, between_laid, between_number, between_of, entering, installed, rest_off, sends_keys, sends_onward, step, unseen_none}
-use Rattle.commit_laws.proofs.DriveKinds.{Drive, comes, committing, completing, either_chain, goes, numbered}
+use Rattle.commit_laws.proofs.DriveKinds.{Drive, comes, committing, completing, goes, numbered}
 use Rattle.commit_laws.proofs.DriveLed.{onward_own, owners_own}
 use Rattle.commit_laws.proofs.DriveLists.{any, mine, only, onward}
 use Rattle.commit_laws.proofs.DriveMoments.{told_few}

@@ -1,40 +1,29 @@
 -- How far a coordinator has come with the commits of a transaction in one view, by what it has sent and taken in it; and
 -- that each turn leads on.
-use Rattle.std.proofs.Common.{◌≡◌, ◌≤◌, ◌<◌, ◌+◌, ◌⊎◌, ◌==◌, ◌&&◌, ◌∙◌, ℕ, Bool, true, false, List, [], drop, inl, inr, length, map, nat_lt, refl, sym, ap, arith, subst, take}
-use Rattle.std.proofs.lemmas.Bool.{eqb-true, ltb-false, ltb-true, true≢false}
+use Rattle.std.proofs.Common.{◌≡◌, ◌≤◌, ◌+◌, ◌==◌, ◌&&◌, ◌∙◌, ℕ, Bool, true, false, List, [], length, nat_lt, refl, sym, ap, arith, subst, take}
+use Rattle.std.proofs.lemmas.Bool.{eqb-true, true≢false}
 use Rattle.std.specs.List.{count_by}
-use Rattle.std.specs.Prelude.{◌-◌, if◌then◌else◌, Option, None, Some}
+use Rattle.std.specs.Prelude.{Option, None, Some}
 use Rattle.sig_core.specs.declared.member.TxId.{TxId}
 use Rattle.sig_core.specs.declared.outs.Outgoing.{Outgoing}
 use Rattle.sig_core.specs.declared.portion.TheConstants.{PORTION}
 use Rattle.sig_core.specs.declared.signal.Body.{Body}
-use Rattle.sig_core.specs.declared.signal.Body.TheVariants.{Chain, Epoch, Host}
+use Rattle.sig_core.specs.declared.signal.Body.TheVariants.{Chain, Host}
 use Rattle.sig_core.specs.declared.signal.chain.ChainSignal.TheVariants.{Commit, Committed, Complete, Completed}
-use Rattle.sig_core.specs.declared.signal.epoch.EpochSignal.TheVariants.{DiVerifyConf}
 use Rattle.sig_core.specs.declared.signal.host.HostSignal.TheVariants.{Continue}
 use Rattle.sig_core.specs.declared.signal.host.Work.TheVariants as work
-use Rattle.sig_core.specs.Same.{same_tx}
-use Rattle.sig_core.specs.Step.{stay}
-use Rattle.sig_core.proofs.Keys.{same_tx-self}
 use Rattle.frag_map.specs.Layout.{Layout}
-use Rattle.tc_block.specs.declared.phase.Phase.{Phase}
-use Rattle.tc_block.specs.declared.phase.Phase.TheVariants.{Aborting, Committing, Completing, Open, Verifying}
-use Rattle.tc_block.specs.declared.touched.Touched.{Touched}
+use Rattle.tc_block.specs.declared.phase.Phase.TheVariants.{Committing, Completing}
 use Rattle.tc_block.specs.declared.transaction.Transaction.{Transaction}
-use Rattle.tc_block.specs.Complete.{written_count}
 use Rattle.tc_block.specs.Part.{part_effects}
 use Rattle.tc_block.specs.Phases.{is_aborting, is_decided}
-use Rattle.tc_block.specs.Resume.{rechained, redriven}
-use Rattle.tc_block.specs.Sends.{entering, go_on_if}
-use Rattle.tc_block.specs.Turn.{Turn, at_phase, going}
 use Rattle.run_laws.specs.Keyed.{AreApart}
 use Rattle.outcome_laws.specs.Counts.{count_sent, one_if}
 use Rattle.outcome_laws.proofs.TcLists.{none_counted}
 use Rattle.run_theory.proofs.Pasts.{each_map}
-use Rattle.request_laws.proofs.PhaseWalk.{left_of}
-use Rattle.commit_laws.proofs.DriveKinds.{Drive, Keys, comes, committing, completing, goes}
-use Rattle.commit_laws.proofs.DriveLists.{any, commits_alone, commits_length, commits_of, commits_plain, commits_same, completions_of, completions_plain, completions_same, mine, once_in_commits, only, onward, part_keys, part_onward, portion_more, taken_few, taken_less}
-use Rattle.commit_laws.proofs.DriveTurns.{DriveNoKey, DriveNone, DriveTurn, Redrives, begins, counts, counts_last, counts_on, drives, drives_key, ends, goes_on, loosens, none_no_key, rests}
+use Rattle.commit_laws.proofs.DriveKinds.{Drive, comes, committing, completing, goes}
+use Rattle.commit_laws.proofs.DriveLists.{any, commits_of, completions_of, mine, once_in_commits, only, onward, part_keys, portion_more, taken_less}
+use Rattle.commit_laws.proofs.DriveTurns.{DriveNoKey, DriveNone, drives, drives_key, none_no_key}
 
 -- how many signals there are that pass a test
 abbrev pub Counts : Type 0

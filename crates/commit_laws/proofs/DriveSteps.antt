@@ -1,8 +1,7 @@
 -- Each turn of a coordinator's transaction leads on with its commits as it should, and so does what an installation left
 -- to do.
-use Rattle.std.proofs.Common.{◌≡◌, ◌≤◌, ◌<◌, ◌+◌, ◌⊎◌, ◌==◌, ◌&&◌, ◌∙◌, ℕ, suc, Bool, true, false, List, [], ◌∷◌, inl, inr, length, map, nat_lt, refl, sym, ap, arith, subst, take}
-use Rattle.std.proofs.lemmas.Bool.{eq-eqb, eqb-true, ltb-false, ltb-true, true≢false}
-use Rattle.std.specs.List.{count_by}
+use Rattle.std.proofs.Common.{◌≡◌, ◌≤◌, ◌+◌, ◌==◌, ◌&&◌, ◌∙◌, ℕ, suc, Bool, true, false, List, [], ◌∷◌, length, map, nat_lt, refl, sym, ap, arith, subst}
+use Rattle.std.proofs.lemmas.Bool.{eq-eqb, ltb-false, ltb-true, true≢false}
 use Rattle.std.specs.Prelude.{◌-◌, if◌then◌else◌, Option, None, Some}
 use Rattle.sig_core.specs.declared.member.TxId.{TxId}
 use Rattle.sig_core.specs.declared.outs.Outgoing.{Outgoing}
@@ -29,10 +28,10 @@ use Rattle.tc_block.specs.Turn.{Turn, at_phase, going}
 use Rattle.run_laws.specs.Keyed.{AreApart}
 use Rattle.outcome_laws.specs.Counts.{count_sent, one_if}
 use Rattle.request_laws.proofs.PhaseWalk.{left_of}
-use Rattle.commit_laws.proofs.DriveKinds.{Drive, Keys, comes, committing, completing, goes}
-use Rattle.commit_laws.proofs.DriveLists.{any, commits_alone, commits_length, commits_of, commits_plain, commits_same, completions_of, completions_plain, completions_same, mine, only, onward, part_onward, taken_few, taken_less}
-use Rattle.commit_laws.proofs.DriveStates.{AreOnce, Counts, Drives, DrivesLeft, Knows, Moves, Sending, Untouched, begins_sending, commits, completes, drives_once, given_up, goes_on_sending, is_counted, no_keys, still_drives, still_none, still_once, still_sending, still_untouched, undecided, waits}
-use Rattle.commit_laws.proofs.DriveTurns.{aborting_part, DriveNoKey, DriveNone, DriveTurn, Redrives, begins, counts, counts_last, counts_on, ends, goes_on, loosens, none_no_key, rests}
+use Rattle.commit_laws.proofs.DriveKinds.{Drive, comes, committing, completing, goes}
+use Rattle.commit_laws.proofs.DriveLists.{any, commits_length, commits_of, commits_plain, commits_same, completions_of, completions_plain, completions_same, mine, only, onward, part_onward, taken_few, taken_less}
+use Rattle.commit_laws.proofs.DriveStates.{AreOnce, Counts, Drives, DrivesLeft, Knows, Moves, Sending, Untouched, begins_sending, commits, completes, drives_once, given_up, goes_on_sending, is_counted, still_drives, still_none, still_once, still_sending, still_untouched, undecided, waits}
+use Rattle.commit_laws.proofs.DriveTurns.{aborting_part, DriveNoKey, DriveNone, DriveTurn, Redrives, begins, counts, counts_last, counts_on, ends, goes_on, loosens, rests}
 
 -- one of two numbers is as the other
 own_one : (tx : TxId) (b : Bool) → (same_tx tx tx && b) ≡ b

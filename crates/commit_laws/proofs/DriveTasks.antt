@@ -1,8 +1,7 @@
 -- How often a transaction is listed to be driven once more: once at most as a view is installed, if it is decided; and no
 -- more often later.
-use Rattle.std.proofs.Common.{◌≡◌, ◌≤◌, ◌+◌, ◌⊎◌, ◌==◌, ◌&&◌, ◌||◌, ◌++◌, ◌∙◌, ℕ, Bool, true, false, List, [], ◌∷◌, inl, inr, nat_lt, refl, sym, ap, arith, subst}
-use Rattle.std.proofs.lemmas.Bool.{true≢false}
-use Rattle.std.specs.List.{count_by, flat_map}
+use Rattle.std.proofs.Common.{◌≡◌, ◌≤◌, ◌==◌, ◌&&◌, ◌||◌, ◌++◌, ◌∙◌, ℕ, Bool, true, false, List, [], ◌∷◌, nat_lt, refl, sym, ap, arith}
+use Rattle.std.specs.List.{count_by}
 use Rattle.std.specs.Prelude.{if◌then◌else◌, is_some, Option, None, Some}
 use Rattle.run_theory.specs.Lists.{Each}
 use Rattle.run_theory.proofs.Pasts.{each_map}
@@ -17,7 +16,7 @@ use Rattle.sig_core.specs.declared.signal.membership.MembershipSignal.TheVariant
 use Rattle.sig_core.specs.declared.signal.Signal.{Signal}
 use Rattle.sig_core.specs.declared.view.View.{View}
 use Rattle.sig_core.specs.Same.{same_tx}
-use Rattle.sig_core.proofs.TxLemmas.{same_tx-is, same_tx-swap}
+use Rattle.sig_core.proofs.TxLemmas.{same_tx-is}
 use Rattle.host_laws.specs.Live.{of_live}
 use Rattle.tc_block.specs.declared.phase.Phase.{Phase}
 use Rattle.tc_block.specs.declared.phase.Phase.TheVariants.{Aborting, Committing, Completing, Open, Verifying}
@@ -31,7 +30,7 @@ use Rattle.tc_block.specs.Resume.{task_if, task_of, tasks_in, verdict_by, verdic
 use Rattle.tc_block.proofs.LiveSplit.{KeysOnce, Live}
 use Rattle.tc_views.specs.Coordinator.{calm_unless, coordinator_row, coordinator_table, is_to_fail}
 use Rattle.tc_views.specs.State.{CoordinatorState, within}
-use Rattle.tc_views.specs.Views.{fence_row, install_row, resume_by, resume_if, resume_row, tasks_at, tasks_if}
+use Rattle.tc_views.specs.Views.{fence_row, install_row, resume_by, resume_if, resume_row, tasks_if}
 use Rattle.outcome_laws.specs.Counts.{one_if}
 use Rattle.outcome_laws.proofs.TcLists.{count_both, count_more}
 use Rattle.commit_laws.proofs.DriveTurns.{is_redrive}
