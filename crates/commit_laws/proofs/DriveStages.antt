@@ -58,6 +58,12 @@ one_few : (b : Bool) → one_if b ≤ 1
 one_few true = omega arith
 one_few false = omega arith
 
+-- the stage commits keys, or completes them
+abbrev pub is_way : Drive → Stage → Bool
+is_way committing (Committing e n) = true
+is_way completing (Completing e n) = true
+is_way drive stage = false
+
 module _ (layout : Layout) (g : Gathered) where
   -- what is sent for one key
   module _ (drive : Drive) (w : Keys) where
@@ -169,3 +175,41 @@ module _ (layout : Layout) (g : Gathered) where
           front_none drive own stage,
           once_for g.keys apart,
         )
+
+    -- what doesn't commit, or doesn't complete, has none
+    pub stage_none : is_way drive stage ≡ false → (w : Keys) → count_sent (goes drive w) (stage_sends layout stage g) ≡ 0
+    unfolding stage_sends key_sends
+    stage_none off w =
+        omega (
+          arith,
+          count_both (λ (o : Outgoing). goes drive w o.body) (front_sends g.tx stage) (list_for g.keys),
+          front_none drive w stage,
+          all_off g.keys,
+        )
+      where
+        one : (d : Drive) (stage : Stage) → is_way d stage ≡ false → (u : List ℕ)
+            → count_sent (goes d w) (key_sends_along g.tx stage u (chain_of layout u)) ≡ 0
+        one committing (Committing e n) off u = absurd (true≢false off)
+        one completing (Committing e n) off u = refl
+        one committing (Completing e n) off u = refl
+        one completing (Completing e n) off u = absurd (true≢false off)
+        one committing (Aborting n) off u =
+            none_counted (goes committing w) (key_sends_along g.tx (Aborting n) u (chain_of layout u))
+            (each_mapped (λ (o : Outgoing). goes committing w o.body ≡ false) (abort_at g.tx u) (chain_of layout u) (λ m. refl))
+        one completing (Aborting n) off u =
+            none_counted (goes completing w) (key_sends_along g.tx (Aborting n) u (chain_of layout u))
+            (each_mapped (λ (o : Outgoing). goes completing w o.body ≡ false) (abort_at g.tx u) (chain_of layout u) (λ m. refl))
+        one committing Resting off u = refl
+        one completing Resting off u = refl
+        one committing (Gathering n) off u = refl
+        one completing (Gathering n) off u = refl
+
+        all_off : (keys : List (List ℕ)) → count_sent (goes drive w) (list_for keys) ≡ 0
+        all_off [] = refl
+        all_off (u ∷ keys) =
+            omega (
+              arith,
+              count_both (λ (o : Outgoing). goes drive w o.body) (key_sends layout g.tx stage u) (list_for keys),
+              one drive stage off u,
+              all_off keys,
+            )

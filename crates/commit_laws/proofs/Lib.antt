@@ -10,6 +10,7 @@ pub mod DriveOnwards
 pub mod DriveOwn
 pub mod DriveParts
 pub mod DriveRows
+pub mod DriveRulings
 pub mod DriveStages
 pub mod DriveStates
 pub mod DriveSteps
