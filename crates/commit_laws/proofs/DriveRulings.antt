@@ -95,7 +95,7 @@ module _ (tx : TxId) (key : List ℕ) where
     at_once Resting work left sent is drive = absurd (true≢false (sym work))
     at_once (Gathering n) work left sent is drive = absurd (true≢false (sym work))
 
-  works_once : (layout : Layout) (stage : Stage) (left : ℕ) (g : Gathered) (rest : List Gathered) (sent : Drive → ℕ)
+  pub works_once : (layout : Layout) (stage : Stage) (left : ℕ) (g : Gathered) (rest : List Gathered) (sent : Drive → ℕ)
       → is_at_work stage ≡ true → KeysApart g.keys → Works layout stage left g rest sent → (drive : Drive)
       → sent drive ≤ 1
   works_once layout stage left g rest sent work apart is drive = by (same_tx g.tx tx) refl

@@ -99,7 +99,7 @@ module _ (layout : Layout) (g : Gathered) where
         by committing (Gathering n) = omega arith
         by completing (Gathering n) = omega arith
 
-    front_none : (stage : Stage) → count (front_sends g.tx stage) ≡ 0
+    pub front_none : (stage : Stage) → count (front_sends g.tx stage) ≡ 0
     unfolding front_sends
     front_none stage = by drive stage
       where

@@ -14,6 +14,7 @@ pub mod DriveRulings
 pub mod DriveStages
 pub mod DriveStates
 pub mod DriveSteps
+pub mod DriveTakeover
 pub mod DriveTasks
 pub mod DriveTurns
 pub mod FateViews
