@@ -27,7 +27,7 @@ use Rattle.takeover_block.specs.declared.stage.Stage.TheVariants.{Aborting, Comm
 use Rattle.takeover_block.specs.Laws.{AreInOrder}
 use Rattle.takeover_block.specs.Rule.{entering, finishing, is_at_work, is_left, ruling, ruling_by, way_by, way_of}
 use Rattle.takeover_block.specs.Sends.{ask_effects, ask_of, asks_of, front_sends, key_sends, left_if, stage_effects, stage_left, stage_sends, told_over}
-use Rattle.takeover_block.specs.State.{TakeoverState}
+use Rattle.takeover_block.specs.State.{TakeoverState, with_gathered}
 use Rattle.takeover_block.specs.Takeover.{takeover_row}
 use Rattle.takeover_block.proofs.EachTakeover.{takeover_each}
 use Rattle.outcome_laws.specs.Counts.{count_sent, one_if}
@@ -223,3 +223,178 @@ module _ (tx : TxId) (key : List ℕ) where
       unfolding ruling
       rules gs is none few adds =
           subst Comes (sym (ap (λ (gs : List Gathered). slice_get gs 0) is)) (ruled_on gs is none few) adds
+
+-- how many are awaited doesn't matter
+commits_alike : (layout : Layout) (e n m : ℕ) (g : Gathered)
+    → stage_sends layout (Committing e n) g ≡ stage_sends layout (Committing e m) g
+unfolding stage_sends key_sends front_sends
+commits_alike layout e n m g = refl
+
+completions_alike : (layout : Layout) (e n m : ℕ) (g : Gathered)
+    → stage_sends layout (Completing e n) g ≡ stage_sends layout (Completing e m) g
+unfolding stage_sends key_sends front_sends
+completions_alike layout e n m g = refl
+
+module _ (tx : TxId) (key : List ℕ) (s : TakeoverState) (sent sent_now : Drive → ℕ)
+    (apart : Each (λ (g : Gathered). KeysApart g.keys) s.gathered) (alone : (g : Gathered) (rest : List Gathered)
+    → s.gathered ≡ g ∷ rest → same_tx g.tx tx ≡ true → has_tx tx key rest ≡ false)
+    (was : Rules tx key s sent)
+  where
+    abbrev Less : Type 0
+    Less = (drive : Drive) → sent_now drive ≤ sent drive
+
+    -- at work on one of these
+    record IsWorking (stage : Stage) : Type 0 where
+      g : Gathered
+      rest : List Gathered
+      is : s.gathered ≡ g ∷ rest
+      own : Works tx key s.layout stage s.left g rest sent
+
+    working : (stage : Stage) → s.stage ≡ stage → is_at_work stage ≡ true → IsWorking stage
+    working stage at work = by was
+      where
+        by : Rules tx key s sent → IsWorking stage
+        by (awaits off none) = absurd (true≢false (sym work ∙ (sym (ap is_at_work at) ∙ off)))
+        by (works on g rest is own) =
+            record {
+              g = g;
+              rest = rest;
+              is = is;
+              own = subst (λ st. Works tx key s.layout st s.left g rest sent) at own;
+            }
+        by (rests resting few) = absurd (true≢false (sym work ∙ (sym (ap is_at_work at) ∙ ap is_at_work resting)))
+
+    -- it gathers
+    gathering : (n : ℕ) → s.stage ≡ Gathering n → (drive : Drive) → sent drive ≡ 0
+    gathering n at = by was
+      where
+        by : Rules tx key s sent → (drive : Drive) → sent drive ≡ 0
+        by (awaits off none) drive = none drive
+        by (works on g rest is own) drive = absurd (true≢false (sym on ∙ ap is_at_work at))
+        by (rests resting few) drive = absurd (let both : Resting ≡ Gathering n = sym resting ∙ at in cc)
+
+    sent_less : (left count count_now : ℕ) (drive : Drive) (one other : List Outgoing) → one ≡ other → count_now ≤ count
+        → IsSentTo tx key left count drive one → IsSentTo tx key left count_now drive other
+    sent_less left count count_now drive one other same less is = record {
+      place = is.place;
+      left_is = is.left_is;
+      few =
+          let own = is.few in
+          let alike = ap (λ list. counted tx key drive (take is.place list)) same in
+          omega (arith, own, alike, less);
+    }
+
+    -- a count falls
+    less_commits : (e n m : ℕ) (g : Gathered) → Less → IsAt tx key s.layout (Committing e n) s.left g sent
+        → IsAt tx key s.layout (Committing e m) s.left g sent_now
+    less_commits e n m g less is =
+        let nothing = is.1 in
+        let none = less completing in
+        (
+          sent_less s.left (sent committing) (sent_now committing) committing (stage_sends s.layout (Committing e n) g)
+              (stage_sends s.layout (Committing e m) g) (commits_alike s.layout e n m g) (less committing) is.0,
+          omega (arith, nothing, none),
+        )
+
+    less_completes : (e n m : ℕ) (g : Gathered) → Less → IsAt tx key s.layout (Completing e n) s.left g sent
+        → IsAt tx key s.layout (Completing e m) s.left g sent_now
+    less_completes e n m g less is =
+        let few = is.1 in
+        let fewer = less committing in
+        (
+          sent_less s.left (sent completing) (sent_now completing) completing (stage_sends s.layout (Completing e n) g)
+              (stage_sends s.layout (Completing e m) g) (completions_alike s.layout e n m g) (less completing) is.0,
+          omega (arith, few, fewer),
+        )
+
+    less_aborts : (n m : ℕ) (g : Gathered) → Less → IsAt tx key s.layout (Aborting n) s.left g sent
+        → IsAt tx key s.layout (Aborting m) s.left g sent_now
+    less_aborts n m g less is =
+        let one = is.0 in
+        let other = is.1 in
+        let none = less committing in
+        let nothing = less completing in
+        (omega (arith, one, none), omega (arith, other, nothing))
+
+    less_at : (stage : Stage) (g : Gathered) → Less → IsAt tx key s.layout stage s.left g sent
+        → IsAt tx key s.layout stage s.left g sent_now
+    less_at (Committing e n) g less is = less_commits e n n g less is
+    less_at (Completing e n) g less is = less_completes e n n g less is
+    less_at (Aborting n) g less is = less_aborts n n g less is
+    less_at Resting g less is = tt
+    less_at (Gathering n) g less is = tt
+
+    less_works : (stage now : Stage) (left : ℕ) (g : Gathered) (rest : List Gathered) → Less
+        → (IsAt tx key s.layout stage s.left g sent → IsAt tx key s.layout now left g sent_now)
+        → Works tx key s.layout stage s.left g rest sent → Works tx key s.layout now left g rest sent_now
+    less_works stage now left g rest less at own = record {
+      own = λ same. at (own.own same);
+      later = λ off has drive.
+          let nothing = own.later off has drive in let none = less drive in omega (arith, nothing, none);
+      gone = λ off drive. let few = own.gone off drive in let fewer = less drive in omega (arith, few, fewer);
+    }
+
+    less_rules : Less → Rules tx key s sent_now
+    less_rules less = by was
+      where
+        by : Rules tx key s sent → Rules tx key s sent_now
+        by (awaits off none) =
+            awaits off (λ drive. let nothing = none drive in let under = less drive in omega (arith, nothing, under))
+        by (works on g rest is own) =
+            works on g rest is (less_works s.stage s.stage s.left g rest less (less_at s.stage g less) own)
+        by (rests resting few) =
+            rests resting (λ drive. let own = few drive in let under = less drive in omega (arith, own, under))
+
+    first_is : (g one : Gathered) (rest : List Gathered) → s.gathered ≡ g ∷ rest → slice_get s.gathered 0 ≡ Some one
+        → g ≡ one
+    first_is g one rest is there = let both : Some g ≡ Some one = sym (ap (λ gs. slice_get gs 0) is) ∙ there in cc
+
+    -- the next is ruled on
+    finishes : (stage : Stage) → s.stage ≡ stage → is_at_work stage ≡ true
+        → Adds tx key sent sent_now (finishing s).effects.sends → Rules tx key (finishing s).state sent_now
+    unfolding finishing
+    finishes stage at work adds =
+        let own = working stage at work in
+        rules tx key sent sent_now (with_gathered s (remove s.gathered 0)) own.rest
+        (ap (λ gs. remove gs 0) own.is) (none own (same_tx own.g.tx tx) refl)
+        (works_once tx key s.layout stage s.left own.g own.rest sent work
+        (subst (Each (λ (g : Gathered). KeysApart g.keys)) own.is apart).0 own.own) adds
+      where
+        none : (own : IsWorking stage) (b : Bool) → same_tx own.g.tx tx ≡ b → has_tx tx key own.rest ≡ true
+            → (drive : Drive) → sent drive ≡ 0
+        none own true same has drive = absurd (true≢false (sym has ∙ alone own.g own.rest own.is same))
+        none own false off has drive = own.own.later off has drive
+
+    -- all its keys are committed
+    completes_all : (e n : ℕ) (one : Gathered) → s.stage ≡ Committing e n → slice_get s.gathered 0 ≡ Some one
+        → Adds tx key sent sent_now (entering s one (Completing e (length one.keys))).effects.sends
+        → Rules tx key (entering s one (Completing e (length one.keys))).state sent_now
+    unfolding entering
+    completes_all e n one at there adds =
+        let own = working (Committing e n) at refl in
+        let same = first_is own.g one own.rest own.is there in
+        subst
+        (λ g. Adds tx key sent sent_now (entering s g (Completing e (length g.keys))).effects.sends
+        → Rules tx key (entering s g (Completing e (length g.keys))).state sent_now) same
+        (λ adds.
+        works refl own.g own.rest own.is (record {
+          own = λ is.
+              let before = own.own.own is in
+              enters_at tx key sent sent_now s.node s.layout (Completing e (length own.g.keys)) own.g
+              (λ way. absurd (true≢false (sym way)))
+              (λ way.
+              (before.1,
+              works_once tx key s.layout (Committing e n) s.left own.g own.rest sent refl
+              (subst (Each (λ (g : Gathered). KeysApart g.keys)) own.is apart).0 own.own committing))
+              (λ way. absurd (true≢false (sym way))) (λ off other. absurd (true≢false off)) adds;
+          later = λ off has drive.
+              let nothing = own.own.later off has drive in
+              let under =
+              others_add tx key sent sent_now s.node s.layout (Completing e (length own.g.keys)) own.g 0 off adds drive in
+              omega (arith, nothing, under);
+          gone = λ off drive.
+              let few = own.own.gone off drive in
+              let under =
+              others_add tx key sent sent_now s.node s.layout (Completing e (length own.g.keys)) own.g 0 off adds drive in
+              omega (arith, few, under);
+        })) adds
