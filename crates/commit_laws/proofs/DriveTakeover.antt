@@ -6,6 +6,7 @@ use Rattle.std.specs.Prelude.{◌-◌, remove, slice_get}
 use Rattle.run_theory.specs.Lists.{Each}
 use Rattle.run_theory.proofs.EachSent.{each_drop, each_mapped, each_take}
 use Rattle.run_theory.proofs.Pasts.{each_append}
+use Rattle.sig_core.specs.declared.member.Member.{Member}
 use Rattle.sig_core.specs.declared.member.TxId.{TxId}
 use Rattle.sig_core.specs.declared.outs.Outgoing.{Outgoing}
 use Rattle.sig_core.specs.declared.portion.TheConstants.{PORTION}
@@ -25,13 +26,16 @@ use Rattle.takeover_block.specs.declared.gathered.Gathered.{Gathered}
 use Rattle.takeover_block.specs.declared.stage.Stage.{Stage}
 use Rattle.takeover_block.specs.declared.stage.Stage.TheVariants.{Aborting, Committing, Completing, Gathering, Resting}
 use Rattle.takeover_block.specs.Laws.{AreInOrder}
-use Rattle.takeover_block.specs.Rule.{entering, finishing, is_at_work, is_left, ruling, ruling_by, way_by, way_of}
-use Rattle.takeover_block.specs.Sends.{ask_effects, ask_of, asks_of, front_sends, key_sends, left_if, stage_effects, stage_left, stage_sends, told_over}
+use Rattle.takeover_block.specs.Gather.{asking, member_count}
+use Rattle.takeover_block.specs.declared.sends.TheConstants.{SENDS}
+use Rattle.takeover_block.proofs.LawLemmas.{first_found}
+use Rattle.takeover_block.specs.Rule.{sending_on, entering, finishing, is_at_work, is_left, ruling, ruling_by, way_by, way_of}
+use Rattle.takeover_block.specs.Sends.{ask_effects, ask_of, asks_of, front_sends, key_sends, left_if, stage_effects, stage_left, stage_sends, told_aborted, told_over}
 use Rattle.takeover_block.specs.State.{TakeoverState, with_gathered}
 use Rattle.takeover_block.specs.Takeover.{takeover_row}
 use Rattle.takeover_block.proofs.EachTakeover.{takeover_each}
 use Rattle.outcome_laws.specs.Counts.{count_sent, one_if}
-use Rattle.outcome_laws.proofs.TcLists.{count_both, none_counted}
+use Rattle.outcome_laws.proofs.TcLists.{count_both, count_more, none_counted}
 use Rattle.commit_laws.proofs.DriveKinds.{Drive, Keys, committing, completing, goes}
 use Rattle.commit_laws.proofs.DriveLists.{mine, only, portion_more, taken_less}
 use Rattle.commit_laws.proofs.DriveRulings.{IsAt, IsSentTo, Rules, Works, awaits, counted, has_tx, rests, works, works_once}
@@ -398,3 +402,183 @@ module _ (tx : TxId) (key : List ℕ) (s : TakeoverState) (sent sent_now : Drive
               others_add tx key sent sent_now s.node s.layout (Completing e (length own.g.keys)) own.g 0 off adds drive in
               omega (arith, few, under);
         })) adds
+
+    -- its list goes on from the place that is left
+    further : (place : ℕ) (g : Gathered) (stage : Stage) → 0 < place → place ≡ s.left
+        → IsAt tx key s.layout stage s.left g sent
+        → Adds tx key sent sent_now (stage_effects s.node s.layout stage g place).sends
+        → IsAt tx key s.layout stage (stage_left s.layout stage g place) g sent_now
+    further place g stage some due is adds = by stage is adds
+      where
+        from_place : (drive : Drive) (list : List Outgoing) → IsSentTo tx key s.left (sent drive) drive list
+            → sent drive ≤ counted tx key drive (take place list)
+        from_place drive list to = at_place to.left_is
+          where
+            at_place : (s.left ≡ 0) ⊎ (s.left ≡ to.place) → sent drive ≤ counted tx key drive (take place list)
+            at_place (inl none) = absurd (omega (arith, some, due, none))
+            at_place (inr same) =
+                let few = to.few in
+                let alike = ap (λ n. counted tx key drive (take n list)) (due ∙ same) in
+                omega (arith, few, alike)
+
+        by : (stage : Stage) → IsAt tx key s.layout stage s.left g sent
+            → Adds tx key sent sent_now (stage_effects s.node s.layout stage g place).sends
+            → IsAt tx key s.layout stage (stage_left s.layout stage g place) g sent_now
+        by (Committing e n) is adds =
+            let nothing = is.1 in
+            let other = other_way tx key sent sent_now s.node s.layout (Committing e n) g place completing refl adds in
+            (
+              goes_further tx key sent sent_now s.node s.layout (Committing e n) g place committing
+                  (from_place committing (stage_sends s.layout (Committing e n) g) is.0) adds,
+              omega (arith, nothing, other),
+            )
+        by (Completing e n) is adds =
+            let few = is.1 in
+            let other = other_way tx key sent sent_now s.node s.layout (Completing e n) g place committing refl adds in
+            (
+              goes_further tx key sent sent_now s.node s.layout (Completing e n) g place completing
+                  (from_place completing (stage_sends s.layout (Completing e n) g) is.0) adds,
+              omega (arith, few, other),
+            )
+        by (Aborting n) is adds =
+            let one = is.0 in
+            let two = is.1 in
+            let first = other_way tx key sent sent_now s.node s.layout (Aborting n) g place committing refl adds in
+            let second = other_way tx key sent sent_now s.node s.layout (Aborting n) g place completing refl adds in
+            (omega (arith, one, first), omega (arith, two, second))
+        by Resting is adds = tt
+        by (Gathering n) is adds = tt
+
+    goes_on_so : (place : ℕ) (one : Gathered) → is_left s place ≡ true → is_at_work s.stage ≡ true
+        → slice_get s.gathered 0 ≡ Some one → Adds tx key sent sent_now (sending_on s one place).effects.sends
+        → Rules tx key (sending_on s one place).state sent_now
+    goes_on_so place one due work there adds =
+        let own = working s.stage refl work in
+        let same = first_is own.g one own.rest own.is there in
+        let parts = and_parts (nat_lt 0 place) ((place == s.left) && nat_lt place SENDS) due in
+        let left = and_parts (place == s.left) (nat_lt place SENDS) parts.1 in
+        subst
+        (λ g. Adds tx key sent sent_now (sending_on s g place).effects.sends
+        → Rules tx key (sending_on s g place).state sent_now) same
+        (λ adds.
+        works work own.g own.rest own.is (record {
+          own = λ is.
+              further place own.g s.stage (ltb-true 0 place parts.0) (eqb-true place s.left left.0) (own.own.own is) adds;
+          later = λ off has drive.
+              let nothing = own.own.later off has drive in
+              let under = others_add tx key sent sent_now s.node s.layout s.stage own.g place off adds drive in
+              omega (arith, nothing, under);
+          gone = λ off drive.
+              let few = own.own.gone off drive in
+              let under = others_add tx key sent sent_now s.node s.layout s.stage own.g place off adds drive in
+              omega (arith, few, under);
+        })) adds
+
+    -- no key is driven by what it asks
+    asks_none : (node : ℕ) (view : View) (at : ℕ) (drive : Drive)
+        → counted tx key drive (ask_effects node view at).sends ≡ 0
+    unfolding ask_effects asks_of
+    asks_none node view at drive =
+        omega (
+          arith,
+          count_both own (take PORTION (drop at asks)) (rest_if (takeover node) work.Members at (nat_lt (at + PORTION) (length asks))),
+          none_counted (goes drive (mine tx (only key))) (take PORTION (drop at asks))
+              (each_take No PORTION (drop at asks) (each_drop No at asks
+              (each_append No (map ask_of view.full) (map ask_of view.starting)
+              (each_mapped No ask_of view.full (λ m. off drive m)) (each_mapped No ask_of view.starting (λ m. off drive m))))),
+          rest drive (nat_lt (at + PORTION) (length asks)),
+        )
+      where
+        own : Outgoing → Bool
+        own o = goes drive (mine tx (only key)) o.body
+
+        No : Outgoing → Type 0
+        No o = goes drive (mine tx (only key)) o.body ≡ false
+
+        asks : List Outgoing
+        asks = map ask_of view.full ++ map ask_of view.starting
+
+        off : (d : Drive) (m : Member) → goes d (mine tx (only key)) (ask_of m).body ≡ false
+        off committing m = refl
+        off completing m = refl
+
+        rest : (d : Drive) (b : Bool) → counted tx key d (rest_if (takeover node) work.Members at b) ≡ 0
+        rest committing true = refl
+        rest completing true = refl
+        rest committing false = refl
+        rest completing false = refl
+
+    abbrev Does : Step TakeoverState → Type 0
+    Does step = Adds tx key sent sent_now step.effects.sends → Rules tx key step.state sent_now
+
+    nothing_less : Adds tx key sent sent_now [] → Less
+    nothing_less adds drive = let own = adds drive in let none : counted tx key drive [] ≡ 0 = refl in omega (arith, own, none)
+
+    gathers : (n : ℕ) → s.stage ≡ Gathering n → Less → (drive : Drive) → sent_now drive ≡ 0
+    gathers n at less drive =
+        let before = gathering n at drive in let under = less drive in omega (arith, before, under)
+
+    pub takeover_drives : (x : Signal) → (x.body ≡ Takeover TakeoverOrd → (drive : Drive) → sent drive ≡ 0)
+        → Adds tx key sent sent_now (takeover_row s x).effects.sends → Rules tx key (takeover_row s x).state sent_now
+    takeover_drives x unsent =
+        takeover_each s Does x.body (record {
+          stays = λ off adds. less_rules (nothing_less adds);
+          untold = λ one other state epoch is off adds. less_rules (nothing_less adds);
+          unended = λ is off adds. less_rules (nothing_less adds);
+          orders = λ is some adds.
+              awaits refl
+              (λ drive.
+              let own = adds drive in
+              let before = unsent is drive in
+              omega (arith, own, before, asks_none s.node s.layout.view 0 drive));
+          orders_nobody = λ is none adds.
+              rules tx key sent sent_now (asking s (member_count s.layout.view) 0) [] refl (λ has. unsent is)
+              (λ drive. let before = unsent is drive in omega (arith, before)) adds;
+          asks = λ place n is due at adds.
+              awaits (ap is_at_work at)
+              (gathers n at
+              (λ drive. let own = adds drive in omega (arith, own, asks_none s.node s.layout.view place drive)));
+          tells = λ one other state epoch n is at adds. awaits (ap is_at_work at) (gathers n at (nothing_less adds));
+          ends = λ n is at more adds. awaits refl (gathers n at (nothing_less adds));
+          all_end = λ n is at last adds.
+              rules tx key sent sent_now s s.gathered refl (λ has. gathering n at)
+              (λ drive. let before = gathering n at drive in omega (arith, before)) adds;
+          commits = λ one other g e n is first at more adds.
+              let own = working (Committing e n) at refl in
+              works refl own.g own.rest own.is
+              (less_works (Committing e n) (Committing e (n - 1)) s.left own.g own.rest (nothing_less adds)
+              (less_commits e n (n - 1) own.g (nothing_less adds)) own.own);
+          all_commit = λ one other g e n is first at last adds.
+              completes_all e n g at (first_found s.gathered one g first).there adds;
+          completes = λ one other g e n is first at more adds.
+              let own = working (Completing e n) at refl in
+              works refl own.g own.rest own.is
+              (less_works (Completing e n) (Completing e (n - 1)) s.left own.g own.rest (nothing_less adds)
+              (less_completes e n (n - 1) own.g (nothing_less adds)) own.own);
+          all_complete = λ one other g e n is first at last adds. finishes (Completing e n) at refl adds;
+          aborts = λ one other g n is first at more adds.
+              let own = working (Aborting n) at refl in
+              works refl own.g own.rest own.is
+              (less_works (Aborting n) (Aborting (n - 1)) s.left own.g own.rest (nothing_less adds)
+              (less_aborts n (n - 1) own.g (nothing_less adds)) own.own);
+          all_abort = λ one other g n is first at last adds.
+              finishes (Aborting n) at refl
+              (λ drive.
+              let own = adds drive in
+              omega (arith, own, told_more one (finishing s).effects.sends drive));
+          goes_on = λ one place g is due work first adds.
+              goes_on_so place g due work (first_found s.gathered one g first).there adds;
+        })
+      where
+        told_more : (one : TxId) (sends : List Outgoing) (drive : Drive)
+            → counted tx key drive (told_aborted one ∷ sends) ≡ counted tx key drive sends
+        told_more one sends drive =
+            omega (
+              arith,
+              count_more (λ (o : Outgoing). goes drive (mine tx (only key)) o.body) (told_aborted one) sends,
+              none drive,
+            )
+          where
+            none : (d : Drive) → one_if (goes d (mine tx (only key)) (told_aborted one).body) ≡ 0
+            none committing = refl
+            none completing = refl
