@@ -1,5 +1,6 @@
 pub mod DriveCoordinators
 pub mod DriveForeign
+pub mod DriveGathered
 pub mod DriveHosts
 pub mod DriveKinds
 pub mod DriveLed
