@@ -2,6 +2,7 @@ pub mod DriveCoordinators
 pub mod DriveForeign
 pub mod DriveGathered
 pub mod DriveHosts
+pub mod DriveIdle
 pub mod DriveKinds
 pub mod DriveLed
 pub mod DriveLists
