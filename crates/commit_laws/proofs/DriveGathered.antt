@@ -31,7 +31,7 @@ pub record AreFit (gs : List Gathered) : Type 0 where
   pub keys : Each (λ (g : Gathered). KeysApart g.keys) gs
   pub order : AreInOrder gs
 
-none_fit : AreFit []
+pub none_fit : AreFit []
 none_fit = record { keys = tt; order = tt }
 
 abbrev Apart : Gathered → Type 0

@@ -338,7 +338,7 @@ module _ (tx : TxId) (key : List ℕ) (s : TakeoverState) (sent sent_now : Drive
       gone = λ off drive. let few = own.gone off drive in let fewer = less drive in omega (arith, few, fewer);
     }
 
-    less_rules : Less → Rules tx key s sent_now
+    pub less_rules : Less → Rules tx key s sent_now
     less_rules less = by was
       where
         by : Rules tx key s sent → Rules tx key s sent_now

@@ -12,6 +12,7 @@ pub mod DriveOnwards
 pub mod DriveOwn
 pub mod DriveParts
 pub mod DriveRows
+pub mod DriveRuled
 pub mod DriveRulings
 pub mod DriveStages
 pub mod DriveStates
