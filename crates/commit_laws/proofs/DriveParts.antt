@@ -91,6 +91,29 @@ aside_off tx sends all = record {
     on at (Host (Continue (work.Transaction one) left)) is = absurd (true≢false is)
     on at body is = refl
 
+-- a coordinator sends nothing for transactions of others
+pub other_off : (tx : TxId) (member : Member) (s : CoordinatorState) → IsCoordinatorOf member s
+    → (coordinator_member tx ≡ member → ⊥) → (x : Signal) → AreOff tx (coordinator_row s x).effects.sends
+other_off tx member s of other x = by (coordinator_walks member s of tx x)
+  where
+    off : (t : Transaction) → entry_of s tx ≡ Some t → ⊥
+    off t found =
+        other
+        (each_found (λ (e : TxId × Transaction). coordinator_member e.0 ≡ member) s.tc.live tx t of.own found)
+
+    told : (o : Outgoing) → is_of_rows o.body ≡ false → AreOff tx (o ∷ [])
+    told o is = aside_off tx (o ∷ []) (is, tt)
+
+    by : Walks member s x.view.number x.body tx (coordinator_row s x)
+        → AreOff tx (coordinator_row s x).effects.sends
+    by (stays same unborn away) = away_off tx (coordinator_row s x).effects.sends away
+    by (passes ahead about same next out) =
+        subst (AreOff tx) (sym out) (told (to_place client (Client (TcWaitConf tx ahead))) refl)
+    by (begins name about room is none some next out) =
+        subst (AreOff tx) (sym out) (told (to_place client (Client (TcBeginConf name tx))) refl)
+    by (turns t found takes about free left next out) = absurd (off t found)
+    by (resumes t verdict rest at node found about newer is_left left next out) = absurd (off t found)
+
 -- a takeover drives orphans alone
 module _ (view : View) (layout : Layout) (some : ChainsAreSome layout) (tx : TxId)
     (led : is_coordinated view.full tx ≡ true)
@@ -138,35 +161,12 @@ module _ (view : View) (layout : Layout) (some : ChainsAreSome layout) (tx : TxI
         routed : Each (IsSentRouted layout Nobody (IsOrphan view) Nobody) sends
         routed = takeover_sends_routed Nobody (IsOrphan view) Nobody layout s x laid some all
 
-    -- nor does a coordinator for transactions of others
-    pub other_off : (member : Member) (s : CoordinatorState) → IsCoordinatorOf member s
-        → (coordinator_member tx ≡ member → ⊥) → (x : Signal) → AreOff tx (coordinator_row s x).effects.sends
-    other_off member s of other x = by (coordinator_walks member s of tx x)
-      where
-        off : (t : Transaction) → entry_of s tx ≡ Some t → ⊥
-        off t found =
-            other
-            (each_found (λ (e : TxId × Transaction). coordinator_member e.0 ≡ member) s.tc.live tx t of.own found)
-
-        told : (o : Outgoing) → is_of_rows o.body ≡ false → AreOff tx (o ∷ [])
-        told o is = aside_off tx (o ∷ []) (is, tt)
-
-        by : Walks member s x.view.number x.body tx (coordinator_row s x)
-            → AreOff tx (coordinator_row s x).effects.sends
-        by (stays same unborn away) = away_off tx (coordinator_row s x).effects.sends away
-        by (passes ahead about same next out) =
-            subst (AreOff tx) (sym out) (told (to_place client (Client (TcWaitConf tx ahead))) refl)
-        by (begins name about room is none some next out) =
-            subst (AreOff tx) (sym out) (told (to_place client (Client (TcBeginConf name tx))) refl)
-        by (turns t found takes about free left next out) = absurd (off t found)
-        by (resumes t verdict rest at node found about newer is_left left next out) = absurd (off t found)
-
     -- whatever block of the part takes the signal, but for the coordinator of its own transactions
     pub part_off : (member : Member) (p : TcPart) → IsCoordinatorOf member p.coordinator → p.takeover.layout ≡ layout
         → GatheredAre (IsOrphan view) p.takeover → (x : Signal) (b : BlockId)
         → (b ≡ block.Tc → coordinator_member tx ≡ member → ⊥) → AreOff tx (tc_row p b x).effects.sends
     unfolding tc_row
-    part_off member p of laid all x block.Tc other = other_off member p.coordinator of (other refl) x
+    part_off member p of laid all x block.Tc other = other_off tx member p.coordinator of (other refl) x
     part_off member p of laid all x block.Takeover other = takeover_off p.takeover x laid all
     part_off member p of laid all x block.Dih other =
         aside_off tx (dih_row p.dih x).effects.sends (epochs_aside p.dih x)

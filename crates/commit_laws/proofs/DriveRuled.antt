@@ -1,6 +1,6 @@
 -- The takeover of a member commits each key of a transaction that is left in a view once at most there, and only when it
 -- was ordered; where it is ordered once.
-use Rattle.std.proofs.Common.{◌≡◌, ◌≢◌, ◌≤◌, ◌<◌, ◌+◌, ◌⊎◌, ◌==◌, ◌&&◌, ◌++◌, ◌∙◌, ℕ, Bool, true, false, List, [], ◌∷◌, inl, inr, refl, sym, ap, arith, subst}
+use Rattle.std.proofs.Common.{◌≡◌, ◌≢◌, ◌≤◌, ◌<◌, ◌+◌, ◌⊎◌, ◌==◌, ◌&&◌, ◌++◌, ◌∙◌, ℕ, zero, suc, Bool, true, false, List, [], ◌∷◌, inl, inr, refl, sym, ap, arith, subst}
 use Rattle.std.proofs.lemmas.Bool.{and_parts, cases_eq, eqb-true, true≢false}
 use Rattle.run_theory.specs.Lists.{IsIn, IsPast}
 use Rattle.host_laws.proofs.Sums.{total_at}
@@ -57,8 +57,8 @@ use Rattle.commit_laws.proofs.DriveGathered.{AreFit, first_alone, fit_stays, non
 use Rattle.commit_laws.proofs.DriveIdle.{idle_stays}
 use Rattle.commit_laws.proofs.DriveKinds.{Drive, goes, numbered}
 use Rattle.commit_laws.proofs.DriveLists.{mine, only}
-use Rattle.commit_laws.proofs.DriveParts.{AreOff, aside_off, away_off}
-use Rattle.commit_laws.proofs.DriveRulings.{Rules, awaits, counted}
+use Rattle.commit_laws.proofs.DriveParts.{AreOff, aside_off, away_off, other_off}
+use Rattle.commit_laws.proofs.DriveRulings.{Rules, awaits, counted, rules_once}
 use Rattle.commit_laws.proofs.DriveTakeover.{Adds, less_rules, takeover_drives}
 use Rattle.sig_core.specs.Step.{Step, stay}
 
@@ -252,3 +252,94 @@ module _ (orders : OrdersAreOnce) (start : Start) (all : ℕ → List HostStep) 
             still unordered =
                 idle_stays between.takeover x (before.idle (omega (arith, unordered)))
                 (λ order. absurd (let first = first_order passed to order in let more = first.0 in omega (arith, more, unordered)))
+
+    -- the coordinator of the transaction isn't a full member
+    module _ (orphan : is_coordinated view.full tx ≡ false) (was : IsRuled start me tx key number e.host log) where
+      full : IsIn me view.full
+      full =
+          subst (λ h. IsIn me (view_after start h (e ∷ logs_of start es h)).full) (sym at)
+          (member_full start all moment.cluster me there (e ∷ logs_of start es (tc_of start me))
+          (subst (λ h. IsPast (e ∷ logs_of start es h) (all h)) at (event_past start all e es moment)))
+
+      other : coordinator_member tx ≡ me → ⊥
+      other own =
+          true≢false
+          (sym (coordinated view.full tx (subst (λ (m : Member). IsIn m view.full) (sym own) full)) ∙ orphan)
+
+      before_between : StandsRuled start me tx key number e.host log between.takeover
+      before_between = by (entering start all e es moment me there at)
+        where
+          by : PartEnters tc_kind tc.own (view_after start e.host log) x between view tc.does.front
+              → StandsRuled start me tx key number e.host log between.takeover
+          by (remains same stands none) =
+              subst (λ (q : TcPart). StandsRuled start me tx key number e.host log q.takeover) (sym same)
+              (subst (StandsRuled start me tx key number e.host log)
+              (takeover_is start me e.host log at tc.own tc.runs)
+              (was.now (sym (ap (λ (v : View). v.number) stands))))
+          by (installs above same stands front_is) =
+              subst (λ (q : TcPart). StandsRuled start me tx key number e.host log q.takeover) (sym same)
+              (record {
+                fit = none_fit;
+                rules =
+                    awaits refl
+                    (λ drive.
+                    sent_low_none start (goes drive (mine tx (only key))) number e.host log
+                    (let same_number = ap (λ (v : View). v.number) stands in omega (arith, same_number, above)));
+                idle = λ none. refl;
+              })
+
+      row : IsPassed start.shape (part.Tc between) view x → (b : BlockId) → x.to.block ≡ b
+          → tc.does.own ≡ (tc_row between b x).state → tc.does.rest ≡ (tc_row between b x).effects.sends
+          → Comes before_between was.few tc.does.own.takeover
+      unfolding tc_row
+      row passed block.Takeover to is sends_are =
+          subst (λ (q : TcPart). Comes before_between was.few q.takeover) (sym is)
+          (takes_it before_between was.few passed to sends_are)
+      row passed block.Tc to is sends_are =
+          subst (λ (q : TcPart). Comes before_between was.few q.takeover) (sym is)
+          (quiet before_between was.few
+          (λ drive.
+          ap (counted tx key drive) sends_are
+          ∙ (other_off tx me between.coordinator (between_of start all e es moment me there at) other x).keys drive
+          (only key)))
+      row passed block.Dih to is sends_are =
+          subst (λ (q : TcPart). Comes before_between was.few q.takeover) (sym is)
+          (quiet before_between was.few
+          (λ drive.
+          ap (counted tx key drive) sends_are
+          ∙ (aside_off tx (dih_row between.dih x).effects.sends (epochs_aside between.dih x)).keys drive (only key)))
+      row passed b to is sends_are =
+          subst (λ (q : TcPart). Comes before_between was.few q.takeover) (sym is)
+          (quiet before_between was.few (λ drive. ap (counted tx key drive) sends_are))
+
+      comes : Comes before_between was.few tc.does.own.takeover
+      comes = by tc.does.takes
+        where
+          by : PartTakes tc_kind start.shape between view x tc.does.own tc.does.rest
+              → Comes before_between was.few tc.does.own.takeover
+          by (ignores is nothing) =
+              subst (λ (q : TcPart). Comes before_between was.few q.takeover) (sym is)
+              (quiet before_between was.few (λ drive. ap (counted tx key drive) nothing))
+          by (handles passed is sends_are) = row passed x.to.block refl is sends_are
+
+      pub ruled_next : IsRuled start me tx key number e.host (e ∷ log)
+      ruled_next = record {
+        few = λ drive. by drive (cases_eq ordered_behind 0);
+        now = λ same.
+            subst (StandsRuled start me tx key number e.host (e ∷ log))
+            (sym (takeover_is start me e.host (e ∷ log) at tc.does.own tc.does.is)) comes.stands;
+      }
+        where
+          by : (drive : Drive) → (ordered_behind ≡ 0) ⊎ (ordered_behind ≢ 0) → sent_behind drive ≤ ordered_behind
+          by drive (inl none) =
+              let own = adds drive in
+              let silent = comes.silent none drive in
+              let few = was.few drive in
+              omega (arith, own, silent, few)
+          by drive (inr some) =
+              let once = rules_once tx key tc.does.own.takeover sent_behind comes.stands.fit.keys comes.stands.rules drive in
+              omega (arith, once, some_is ordered_behind some)
+            where
+              some_is : (n : ℕ) → n ≢ 0 → 1 ≤ n
+              some_is zero off = absurd (off refl)
+              some_is (suc n) off = omega arith
