@@ -9,6 +9,7 @@ pub mod DriveLists
 pub mod DriveMoments
 pub mod DriveOnce
 pub mod DriveOnwards
+pub mod DriveOrdered
 pub mod DriveOwn
 pub mod DriveParts
 pub mod DriveRows
