@@ -1,20 +1,16 @@
 -- A takeover that wasn't ordered yet does nothing until it is.
-use Rattle.std.proofs.Common.{◌≡◌, ◌∙◌, Bool, true, false, None, Some, Option, List, [], ◌∷◌, refl, sym, ap}
+use Rattle.std.proofs.Common.{◌≡◌, ◌∙◌, Bool, true, false, refl, sym, ap}
 use Rattle.std.proofs.lemmas.Bool.{true≢false}
-use Rattle.std.specs.Prelude.{slice_get}
-use Rattle.sig_core.specs.declared.member.TxId.{TxId}
 use Rattle.sig_core.specs.declared.signal.Body.TheVariants.{Takeover}
 use Rattle.sig_core.specs.declared.signal.Signal.{Signal}
 use Rattle.sig_core.specs.declared.signal.takeover.TakeoverSignal.TheVariants.{TakeoverOrd}
 use Rattle.sig_core.specs.Step.{Step, stay}
-use Rattle.takeover_block.specs.declared.gathered.Gathered.{Gathered}
 use Rattle.takeover_block.specs.declared.stage.Stage.{Stage}
 use Rattle.takeover_block.specs.declared.stage.Stage.TheVariants.{Resting}
-use Rattle.takeover_block.specs.Gathered.{first_of}
 use Rattle.takeover_block.specs.Rule.{is_at_work}
 use Rattle.takeover_block.specs.State.{TakeoverState}
 use Rattle.takeover_block.specs.Takeover.{takeover_row}
-use Rattle.takeover_block.proofs.EachTakeover.{is_gathering, takeover_each}
+use Rattle.takeover_block.proofs.EachTakeover.{takeover_each}
 
 -- it rests
 abbrev pub is_resting : Stage → Bool

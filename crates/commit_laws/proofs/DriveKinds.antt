@@ -43,10 +43,7 @@ either_aside drive w (Chain signal) aside = absurd (true≢false aside)
 either_aside committing w body aside = refl
 either_aside completing w body aside = refl
 
--- such a signal is of a chain
-pub record IsChain (body : Body) : Type 0 where
-  pub about_rows : is_of_rows body ≡ true
-
+-- such a signal is about rows
 pub either_chain : (drive : Drive) (w : Keys) (body : Body) → either drive w body ≡ true → is_of_rows body ≡ true
 either_chain drive w body is = by (is_of_rows body) refl
   where

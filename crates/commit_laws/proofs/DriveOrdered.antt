@@ -1,6 +1,6 @@
 -- Takeovers commit each key of a transaction that is left in a view once at most there, and complete it once at most, where
 -- one of them is ordered once.
-use Rattle.std.proofs.Common.{◌≡◌, ◌≢◌, ◌≤◌, ◌<◌, ◌+◌, ◌*◌, ◌⊎◌, ◌==◌, ◌++◌, ◌∙◌, ℕ, zero, suc, Bool, true, false, List, [], ◌∷◌, inl, inr, refl, sym, ap, arith, subst}
+use Rattle.std.proofs.Common.{◌≡◌, ◌≢◌, ◌≤◌, ◌+◌, ◌*◌, ◌⊎◌, ◌==◌, ◌++◌, ◌∙◌, ℕ, zero, suc, Bool, true, false, List, [], ◌∷◌, inl, inr, refl, sym, ap, arith, subst}
 use Rattle.std.proofs.lemmas.Bool.{cases_eq, eq-eqb, eqb-true, true≢false}
 use Rattle.std.specs.Prelude.{◌-◌}
 use Rattle.run_theory.specs.Counts.{total}
@@ -22,14 +22,14 @@ use Rattle.moment_laws.specs.Places.{tc_of}
 use Rattle.moment_laws.proofs.MomentHosts.{tc_number}
 use Rattle.moment_laws.proofs.MomentTurns.{other_log, own_log}
 use Rattle.moment_laws.proofs.MomentViews.{moment_less}
-use Rattle.request_laws.specs.Tokens.{all_taken, sent_along, taken_along, total_of}
+use Rattle.request_laws.specs.Tokens.{sent_along, taken_along, total_of}
 use Rattle.request_laws.proofs.TokenViews.{node_of, total_of_same}
-use Rattle.commit_laws.specs.Once.{KeysAreDrivenOnce, owners_sent}
+use Rattle.commit_laws.specs.Once.{KeysAreDrivenOnce}
 use Rattle.commit_laws.proofs.DriveForeign.{installed, unseen_none}
-use Rattle.commit_laws.proofs.DriveKinds.{Drive, goes, numbered}
+use Rattle.commit_laws.proofs.DriveKinds.{goes, numbered}
 use Rattle.commit_laws.proofs.DriveLists.{mine, only}
 use Rattle.commit_laws.proofs.DriveMoments.{total_of_below}
-use Rattle.commit_laws.proofs.DriveOnce.{IsLeftIn, TakeoversDriveOnce, keys_are_driven_once}
+use Rattle.commit_laws.proofs.DriveOnce.{TakeoversDriveOnce, keys_are_driven_once}
 use Rattle.commit_laws.proofs.DriveRuled.{IsRuled, OrdersAreOnce, is_order, ruled_first, ruled_next}
 
 module _ (orders : OrdersAreOnce) (start : Start) (all : ℕ → List HostStep) (tx : TxId) (key : List ℕ) (number : ℕ)

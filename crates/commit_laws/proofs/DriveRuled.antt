@@ -1,7 +1,7 @@
 -- The takeover of a member commits each key of a transaction that is left in a view once at most there, and only when it
 -- was ordered; where it is ordered once.
-use Rattle.std.proofs.Common.{◌≡◌, ◌≢◌, ◌≤◌, ◌<◌, ◌+◌, ◌⊎◌, ◌==◌, ◌&&◌, ◌++◌, ◌∙◌, ℕ, zero, suc, Bool, true, false, List, [], ◌∷◌, inl, inr, refl, sym, ap, arith, subst}
-use Rattle.std.proofs.lemmas.Bool.{and_parts, cases_eq, eqb-true, true≢false}
+use Rattle.std.proofs.Common.{◌≡◌, ◌≢◌, ◌≤◌, ◌+◌, ◌⊎◌, ◌++◌, ◌∙◌, ℕ, zero, suc, Bool, true, false, List, [], ◌∷◌, inl, inr, refl, sym, ap, arith, subst}
+use Rattle.std.proofs.lemmas.Bool.{cases_eq, true≢false}
 use Rattle.run_theory.specs.Lists.{IsIn, IsPast}
 use Rattle.host_laws.proofs.Sums.{total_at}
 use Rattle.sig_core.specs.declared.member.Member.{Member}
@@ -30,21 +30,20 @@ use Rattle.world_core.specs.Start.{Start, made}
 use Rattle.world_core.specs.Steps.{HostStep}
 use Rattle.world_views.specs.Machine.{step_after}
 use Rattle.world_views.specs.Sending.{is_own_work}
-use Rattle.view_laws.specs.Runs.{WasInstalled, view_after}
+use Rattle.view_laws.specs.Runs.{view_after}
 use Rattle.moment_laws.specs.Moments.{IsMoment, logs_of}
 use Rattle.moment_laws.specs.Parts.{IsPassed}
 use Rattle.moment_laws.specs.PartSteps.{PartEnters, PartTakes, handles, ignores, installs, remains, tc_kind}
 use Rattle.moment_laws.specs.Places.{tc_of}
 use Rattle.moment_laws.proofs.MomentHosts.{tc_started}
 use Rattle.moment_laws.proofs.MomentTurns.{host_low, own_log}
-use Rattle.moment_laws.proofs.MomentViews.{moment_less}
 use Rattle.moment_laws.proofs.PartKinds.{tc_is}
 use Rattle.moment_laws.proofs.PartTaken.{IsTakenNow, handled_now}
-use Rattle.outcome_laws.specs.Counts.{coordinator_member, count_sent, one_if}
+use Rattle.outcome_laws.specs.Counts.{coordinator_member, one_if}
 use Rattle.outcome_laws.proofs.TcLists.{count_both}
 use Rattle.request_laws.specs.Blocks.{takeover_after, takeover_in}
-use Rattle.request_laws.specs.Tokens.{all_sent, all_taken, sent_along, taken_along}
-use Rattle.request_laws.proofs.RouteAside.{epochs_aside, is_of_rows}
+use Rattle.request_laws.specs.Tokens.{all_taken, sent_along, taken_along}
+use Rattle.request_laws.proofs.RouteAside.{epochs_aside}
 use Rattle.request_laws.proofs.RouteHeaders.{event_past}
 use Rattle.request_laws.proofs.RouteReports.{coordinated}
 use Rattle.request_laws.proofs.RouteSteps.{TcStep, takeover_is}
@@ -52,7 +51,7 @@ use Rattle.request_laws.proofs.RouteViews.{member_full}
 use Rattle.request_laws.proofs.TokenCoordinators.{front_away}
 use Rattle.request_laws.proofs.TokenHosts.{sent_few, test_taken}
 use Rattle.request_laws.proofs.TokenViews.{sent_low_none, taken_now}
-use Rattle.commit_laws.proofs.DriveForeign.{between_of, entering, installed, own_of, step, unseen_none}
+use Rattle.commit_laws.proofs.DriveForeign.{between_of, entering, own_of, step}
 use Rattle.commit_laws.proofs.DriveGathered.{AreFit, first_alone, fit_stays, none_fit}
 use Rattle.commit_laws.proofs.DriveIdle.{idle_stays}
 use Rattle.commit_laws.proofs.DriveKinds.{Drive, goes, numbered}

@@ -1,29 +1,23 @@
 -- How far a takeover has come with the commits of a transaction on one key in a view; and that each of its steps leads on.
-use Rattle.std.proofs.Common.{◌≡◌, ◌≤◌, ◌<◌, ◌+◌, ◌⊎◌, ◌==◌, ◌&&◌, ◌||◌, ◌++◌, ◌∙◌, ℕ, Bool, true, false, None, Some, Option, List, [], ◌∷◌, drop, inl, inr, length, nat_lt, refl, sym, ap, arith, subst, take}
-use Rattle.std.proofs.lemmas.Bool.{and_parts, eqb-true, ltb-true, true≢false}
-use Rattle.std.specs.List.{count_by, list_any}
-use Rattle.std.specs.Prelude.{remove, slice_get}
+use Rattle.std.proofs.Common.{◌≡◌, ◌≤◌, ◌⊎◌, ℕ, Bool, true, false, List, ◌∷◌, refl, sym, arith, subst, take}
+use Rattle.std.proofs.lemmas.Bool.{true≢false}
+use Rattle.std.specs.List.{list_any}
 use Rattle.run_theory.specs.Lists.{Each}
 use Rattle.sig_core.specs.declared.member.TxId.{TxId}
 use Rattle.sig_core.specs.declared.outs.Outgoing.{Outgoing}
-use Rattle.sig_core.specs.declared.portion.TheConstants.{PORTION}
-use Rattle.sig_core.specs.declared.signal.host.Work.TheVariants as work
-use Rattle.sig_core.specs.Place.{takeover}
-use Rattle.sig_core.specs.Portion.{portion_effects, rest_if}
 use Rattle.sig_core.specs.Same.{same_tx}
 use Rattle.sig_core.proofs.TxLemmas.{same_tx-is}
 use Rattle.frag_map.specs.Layout.{Layout}
 use Rattle.takeover_block.specs.declared.gathered.Gathered.{Gathered}
 use Rattle.takeover_block.specs.declared.stage.Stage.{Stage}
 use Rattle.takeover_block.specs.declared.stage.Stage.TheVariants.{Aborting, Committing, Completing, Gathering, Resting}
-use Rattle.takeover_block.specs.Rule.{entering, is_at_work, ruling, ruling_by, way_by, way_of}
-use Rattle.takeover_block.specs.Sends.{left_if, stage_effects, stage_left, stage_sends}
+use Rattle.takeover_block.specs.Rule.{is_at_work}
+use Rattle.takeover_block.specs.Sends.{stage_sends}
 use Rattle.takeover_block.specs.State.{TakeoverState}
-use Rattle.outcome_laws.specs.Counts.{count_sent, one_if}
-use Rattle.outcome_laws.proofs.TcLists.{count_both}
-use Rattle.commit_laws.proofs.DriveKinds.{Drive, Keys, committing, completing, goes}
-use Rattle.commit_laws.proofs.DriveLists.{mine, only, portion_more, taken_less}
-use Rattle.commit_laws.proofs.DriveStages.{KeysApart, stage_none, stage_once}
+use Rattle.outcome_laws.specs.Counts.{count_sent}
+use Rattle.commit_laws.proofs.DriveKinds.{Drive, committing, completing, goes}
+use Rattle.commit_laws.proofs.DriveLists.{mine, only, taken_less}
+use Rattle.commit_laws.proofs.DriveStages.{KeysApart, stage_once}
 
 module _ (tx : TxId) (key : List ℕ) where
   -- how many commits of the key, and completions, are among these

@@ -1,14 +1,9 @@
 -- The lists of commits and completions of a takeover: each names a key once, since each key was gathered once.
-use Rattle.std.proofs.Common.{◌≡◌, ◌≤◌, ◌+◌, ◌==◌, ◌&&◌, ◌||◌, ◌++◌, ◌∙◌, ℕ, zero, suc, Bool, true, false, List, [], ◌∷◌, drop, length, nat_lt, refl, sym, ap, arith, take}
+use Rattle.std.proofs.Common.{◌≡◌, ◌≤◌, ◌+◌, ◌&&◌, ◌||◌, ◌++◌, ◌∙◌, ℕ, Bool, true, false, List, [], ◌∷◌, refl, sym, ap, arith}
 use Rattle.std.proofs.lemmas.Bool.{true≢false}
-use Rattle.std.specs.List.{count_by, flat_map, list_any}
+use Rattle.std.specs.List.{flat_map}
 use Rattle.run_theory.specs.Lists.{Each}
-use Rattle.sig_core.specs.declared.member.TxId.{TxId}
 use Rattle.sig_core.specs.declared.outs.Outgoing.{Outgoing}
-use Rattle.sig_core.specs.declared.portion.TheConstants.{PORTION}
-use Rattle.sig_core.specs.declared.signal.host.Work.TheVariants as work
-use Rattle.sig_core.specs.Place.{takeover}
-use Rattle.sig_core.specs.Portion.{portion_effects, rest_if}
 use Rattle.sig_core.specs.Same.{same_key, same_tx}
 use Rattle.frag_map.specs.Layout.{Layout, chain_of}
 use Rattle.lqh_block.proofs.IndexLemmas.{same as same_keys}
@@ -16,13 +11,13 @@ use Rattle.takeover_block.specs.declared.gathered.Gathered.{Gathered}
 use Rattle.takeover_block.specs.declared.stage.Stage.{Stage}
 use Rattle.takeover_block.specs.declared.stage.Stage.TheVariants.{Aborting, Committing, Completing, Gathering, Resting}
 use Rattle.takeover_block.specs.Keys.{has_key, with_key, with_key_if}
-use Rattle.takeover_block.specs.Sends.{abort_at, commit_along, complete_along, front_sends, key_sends, key_sends_along, left_if, stage_effects, stage_left, stage_sends, told_committed}
+use Rattle.takeover_block.specs.Sends.{abort_at, commit_along, complete_along, front_sends, key_sends, key_sends_along, stage_sends}
 use Rattle.outcome_laws.specs.Counts.{count_sent, one_if}
 use Rattle.outcome_laws.proofs.TcLists.{count_both, count_more, none_counted}
 use Rattle.run_theory.proofs.EachSent.{each_mapped}
 use Rattle.run_theory.proofs.Pasts.{each_append}
 use Rattle.commit_laws.proofs.DriveKinds.{Drive, Keys, committing, completing, goes}
-use Rattle.commit_laws.proofs.DriveLists.{mine, only, portion_more, taken_less}
+use Rattle.commit_laws.proofs.DriveLists.{mine, only}
 
 -- no key stands twice
 abbrev pub KeysApart : List (List ℕ) → Type 0

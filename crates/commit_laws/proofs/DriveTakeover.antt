@@ -1,7 +1,7 @@
 -- Each step of a takeover leads on with the commits of a transaction on a key as it should.
-use Rattle.std.proofs.Common.{◌≡◌, ◌≤◌, ◌<◌, ◌+◌, ◌⊎◌, ◌==◌, ◌&&◌, ◌||◌, ◌++◌, ◌∙◌, ℕ, Bool, true, false, None, Some, Option, List, [], ◌∷◌, drop, inl, inr, length, map, nat_lt, refl, sym, ap, arith, subst, take}
+use Rattle.std.proofs.Common.{◌≡◌, ◌≤◌, ◌<◌, ◌+◌, ◌⊎◌, ◌==◌, ◌&&◌, ◌++◌, ◌∙◌, ℕ, Bool, true, false, None, Some, Option, List, [], ◌∷◌, drop, inl, inr, length, map, nat_lt, refl, sym, ap, arith, subst, take}
 use Rattle.std.proofs.lemmas.Bool.{and_parts, eqb-true, ltb-true, or_left, or_right, true≢false}
-use Rattle.std.specs.List.{count_by, flat_map, list_any}
+use Rattle.std.specs.List.{flat_map}
 use Rattle.std.specs.Prelude.{◌-◌, remove, slice_get}
 use Rattle.run_theory.specs.Lists.{Each}
 use Rattle.run_theory.proofs.EachSent.{each_drop, each_mapped, each_take}
@@ -10,7 +10,6 @@ use Rattle.sig_core.specs.declared.member.Member.{Member}
 use Rattle.sig_core.specs.declared.member.TxId.{TxId}
 use Rattle.sig_core.specs.declared.outs.Outgoing.{Outgoing}
 use Rattle.sig_core.specs.declared.portion.TheConstants.{PORTION}
-use Rattle.sig_core.specs.declared.signal.Body.{Body}
 use Rattle.sig_core.specs.declared.signal.Body.TheVariants.{Takeover}
 use Rattle.sig_core.specs.declared.signal.host.Work.TheVariants as work
 use Rattle.sig_core.specs.declared.signal.Signal.{Signal}
@@ -20,12 +19,10 @@ use Rattle.sig_core.specs.Place.{takeover}
 use Rattle.sig_core.specs.Portion.{rest_if}
 use Rattle.sig_core.specs.Same.{same_tx}
 use Rattle.sig_core.specs.Step.{Step, sends_only}
-use Rattle.sig_core.proofs.TxLemmas.{same_tx-is}
 use Rattle.frag_map.specs.Layout.{Layout}
 use Rattle.takeover_block.specs.declared.gathered.Gathered.{Gathered}
 use Rattle.takeover_block.specs.declared.stage.Stage.{Stage}
 use Rattle.takeover_block.specs.declared.stage.Stage.TheVariants.{Aborting, Committing, Completing, Gathering, Resting}
-use Rattle.takeover_block.specs.Laws.{AreInOrder}
 use Rattle.takeover_block.specs.Gather.{asking, member_count}
 use Rattle.takeover_block.specs.declared.sends.TheConstants.{SENDS}
 use Rattle.takeover_block.proofs.LawLemmas.{first_found}
@@ -34,9 +31,9 @@ use Rattle.takeover_block.specs.Sends.{ask_effects, ask_of, asks_of, front_sends
 use Rattle.takeover_block.specs.State.{TakeoverState, with_gathered}
 use Rattle.takeover_block.specs.Takeover.{takeover_row}
 use Rattle.takeover_block.proofs.EachTakeover.{takeover_each}
-use Rattle.outcome_laws.specs.Counts.{count_sent, one_if}
+use Rattle.outcome_laws.specs.Counts.{one_if}
 use Rattle.outcome_laws.proofs.TcLists.{count_both, count_more, none_counted}
-use Rattle.commit_laws.proofs.DriveKinds.{Drive, Keys, committing, completing, goes}
+use Rattle.commit_laws.proofs.DriveKinds.{Drive, committing, completing, goes}
 use Rattle.commit_laws.proofs.DriveLists.{mine, only, portion_more, taken_less}
 use Rattle.commit_laws.proofs.DriveRulings.{IsAt, IsSentTo, Rules, Works, awaits, counted, has_tx, rests, works, works_once}
 use Rattle.commit_laws.proofs.DriveStages.{KeysApart, front_none, is_way, key_count, stage_none}

@@ -10,7 +10,6 @@ use Rattle.run_theory.proofs.Links.{sent_by_each}
 use Rattle.run_theory.proofs.Pasts.{each_map}
 use Rattle.host_laws.proofs.Sums.{total_one, total_same, total_zero}
 use Rattle.sig_core.specs.declared.member.Member.{Member}
-use Rattle.sig_core.specs.declared.member.TxId.{TxId}
 use Rattle.sig_core.specs.declared.signal.Body.{Body}
 use Rattle.sig_core.specs.declared.signal.Signal.{Signal}
 use Rattle.sig_core.specs.declared.view.View.{View}
@@ -28,7 +27,7 @@ use Rattle.moment_laws.proofs.MomentTurns.{host_low, other_log, own_log}
 use Rattle.moment_laws.proofs.MomentViews.{current_above, current_number}
 use Rattle.outcome_laws.proofs.TcLists.{count_more}
 use Rattle.outcome_laws.specs.Counts.{one_if}
-use Rattle.request_laws.specs.Tokens.{all_sent, all_taken, is_token, is_token_in, sent_along, taken_along, total_of}
+use Rattle.request_laws.specs.Tokens.{all_sent, all_taken, sent_along, taken_along, total_of}
 
 -- sums over members
 pub total_of_same : (ms : List Member) (f g : Member → ℕ) → ((m : Member) → IsIn m ms → f m ≡ g m)
