@@ -11,6 +11,8 @@ use Rattle.run_theory.specs.Runs.{AreLogs, IsWithin}
 use Rattle.run_theory.proofs.Runs.{given_taken, logs_of_run}
 use Rattle.host_laws.proofs.Sums.{total_add, total_le, total_same, total_zero, unit_below, unit_few}
 use Rattle.sig_core.specs.declared.member.TxId.{TxId}
+use Rattle.sig_core.specs.declared.signal.Body.{Body}
+use Rattle.sig_core.specs.declared.signal.Body.TheVariants.{Chain}
 use Rattle.sig_core.specs.declared.signal.Signal.{Signal}
 use Rattle.world_core.specs.Hosts.{hosts}
 use Rattle.world_core.specs.Start.{Start}
@@ -21,6 +23,7 @@ use Rattle.moment_laws.proofs.MomentViews.{moment_less, moment_within}
 use Rattle.outcome_laws.specs.Counts.{one_if}
 use Rattle.outcome_laws.proofs.TcLists.{count_both, count_more}
 use Rattle.request_laws.specs.Tokens.{TakesAreFew, all_sent, all_taken, is_token, sent_along, taken_along}
+use Rattle.request_laws.proofs.RouteAside.{is_of_rows}
 use Rattle.request_laws.proofs.TokenRows.{one_same}
 
 -- a sum of sums may be taken in the other order
@@ -132,7 +135,8 @@ module _ (start : Start) (p : Signal → Bool) where
           omega (arith, none from high, taken_more from e log) in
           omega (arith, at_from (from == from) refl none_there)
 
-  module _ (only : (x : Signal) → p x ≡ true → (tx : TxId) × (is_token tx x.body ≡ true)) where
+  -- of signals about rows
+  module _ (only : (x : Signal) → p x ≡ true → is_of_rows x.body ≡ true) where
     -- a link gives no more than was sent, since what closes it doesn't count
     past_count : (xs ys : List Addressed) → IsPast xs ys → count_on xs ≤ count_on ys
     past_count xs ys past = omega (arith, ap count_on past.is, count_both passes past.newer xs)
@@ -142,7 +146,7 @@ module _ (start : Start) (p : Signal → Bool) where
       where
         by : (b : Bool) → p (n.closing i log e j).signal ≡ b → b ≡ false
         by false is = refl
-        by true is = let token = only (n.closing i log e j).signal is in absurd (true≢false (sym token.1))
+        by true is = let rows = only (n.closing i log e j).signal is in absurd (true≢false (sym rows))
 
     given_count : (i j : ℕ) (log : List HostStep) (xs : List Addressed) → IsGiven n i j log xs
         → count_on xs ≤ count_on (sent n i j log)
@@ -202,5 +206,11 @@ module _ (start : Start) (p : Signal → Bool) where
         (λ i j.
         given_count i j (before i) (taken n i (now j)) (given_taken n es e i j moment.run.1 (right.linked i j)))
 
+-- tokens are such
+pub token_of_rows : (tx : TxId) (body : Body) → is_token tx body ≡ true → is_of_rows body ≡ true
+token_of_rows tx (Chain signal) is = refl
+token_of_rows tx body is = absurd (true≢false (sym is))
+
 pub takes_are_few : TakesAreFew
-takes_are_few start all es moment p only = takes_few start p only all es moment
+takes_are_few start all es moment p only =
+    takes_few start p (λ x is. let token = only x is in token_of_rows token.0 x.body token.1) all es moment
