@@ -32,9 +32,10 @@ use Rattle.world_core.specs.Steps.{HostStep}
 use Rattle.world_views.specs.Machine.{after, machine, step_after}
 use Rattle.view_laws.specs.Runs.{view_after}
 use Rattle.moment_laws.specs.Moments.{IsMoment, logs_of}
-use Rattle.moment_laws.specs.Found as does
-use Rattle.moment_laws.specs.Parts.{IsPassed}
+use Rattle.moment_laws.specs.PartSteps as does
 use Rattle.moment_laws.specs.Places.{ldm_of}
+use Rattle.moment_laws.proofs.PartKinds.{ldm_is}
+use Rattle.moment_laws.proofs.PartTaken.{IsTakenNow, handled_now}
 use Rattle.outcome_laws.specs.Known.{IsDecidedIf, RowsKnow}
 use Rattle.outcome_laws.specs.Tells.{Tells}
 use Rattle.outcome_laws.proofs.RowsKnowledge.{rows_know}
@@ -190,11 +191,11 @@ module _ (start : Start) (all : ℕ → List HostStep) (e : HostStep) (es : List
   abbrev h : ℕ
   h = ldm_of start member
 
-  -- the rows take a commit of the transaction, in the view in which their host stands then
+  -- the rows take a commit of the transaction
   pub record TakesCommit : Type 0 where
     pub host : e.host ≡ ldm_of start member
     pub commit : IsCommitOf tx e.step.taken.body
-    pub passed : IsPassed start.shape (after start e.host (old e.host)).parts (view_after start e.host (e ∷ old e.host)) e.step.taken
+    pub taken : IsTakenNow start all e es moment e.step.taken.to.block
 
   abbrev Untraced : LdmPart → Type 0
   Untraced p = leave_trace tx p.replica ≡ false
@@ -203,3 +204,54 @@ module _ (start : Start) (all : ℕ → List HostStep) (e : HostStep) (es : List
       → does.PartEnters does.ldm_kind p view e.step.taken between seen front → Untraced p → Untraced between
   entered_untraced p between view seen front (does.remains same stands none) untraced = subst Untraced (sym same) untraced
   entered_untraced p between view seen front (does.installs above same stands sent) untraced = subst Untraced (sym same) untraced
+
+  row_by : (p : LdmPart) (to : BlockId) → Untraced p → (IsCommitOf tx e.step.taken.body → ⊥)
+      → Untraced (ldm_row p to e.step.taken).state
+  unfolding ldm_row
+  row_by p block.Lqh untraced not_own = row_untraced tx p.replica e.step.taken untraced not_own
+  row_by p _ untraced not_own = untraced
+
+  -- where it isn't such a commit, what had no trace has none
+  module _ (at : e.host ≡ h) where
+    did : LdmStep start e.host (old e.host) e
+    did = ldm_step start member there e.host at (old e.host) e
+
+    was : rows_at start old member ≡ did.own.replica
+    was = ap (λ k. rows_after start member (old k)) (sym at) ∙ rows_are start member e.host (old e.host) at did.own did.runs
+
+    now : rows_at start new member ≡ did.does.own.replica
+    now =
+        ap (rows_after start member) (log_of-own (machine start) e es h at ∙ ap (λ k. e ∷ old k) (sym at))
+        ∙ rows_are start member e.host (e ∷ old e.host) at did.does.own did.does.is
+
+    untraced_here : leave_trace tx (rows_at start old member) ≡ false → (TakesCommit → ⊥)
+        → leave_trace tx (rows_at start new member) ≡ false
+    untraced_here none no_commit = ap (leave_trace tx) now ∙ by did.does.takes
+      where
+        before : Untraced did.does.between
+        before =
+            entered_untraced did.own did.does.between (view_after start e.host (old e.host))
+            (view_after start e.host (e ∷ old e.host)) did.does.front did.does.enters (ap (leave_trace tx) (sym was) ∙ none)
+
+        by : does.PartTakes does.ldm_kind start.shape did.does.between (view_after start e.host (e ∷ old e.host)) e.step.taken
+            did.does.own did.does.rest → Untraced did.does.own
+        by (does.ignores same rests) = subst Untraced (sym same) before
+        by (does.handles passes same sends) =
+            subst Untraced (sym same)
+            (row_by did.does.between e.step.taken.to.block before
+            (λ commit. no_commit (record {
+              host = at;
+              commit = commit;
+              taken =
+                  handled_now start all e es moment does.ldm_kind ldm_is did.own did.runs did.does.between did.does.front
+                  did.does.enters passes e.step.taken.to.block refl;
+            })))
+
+  pub trace_comes : leave_trace tx (rows_at start old member) ≡ false → (TakesCommit → ⊥)
+      → leave_trace tx (rows_at start new member) ≡ false
+  trace_comes none no_commit = by (cases_eq e.host h)
+    where
+      by : (e.host ≡ h) ⊎ (e.host ≢ h) → leave_trace tx (rows_at start new member) ≡ false
+      by (inl at) = untraced_here at none no_commit
+      by (inr other) =
+          ap (λ log. leave_trace tx (rows_after start member log)) (log_of-other (machine start) e es h other) ∙ none

@@ -10,12 +10,13 @@ use Rattle.sig_core.specs.declared.member.Member.{Member}
 use Rattle.sig_core.specs.declared.member.TxId.{TxId}
 use Rattle.sig_core.specs.declared.view.View.{View}
 use Rattle.lqh_block.specs.Views.{is_coordinated, was_begun_by}
-use Rattle.world_core.specs.Start.{Start}
+use Rattle.world_core.specs.Start.{Start, made}
 use Rattle.world_core.specs.Steps.{HostStep}
 use Rattle.view_laws.specs.Sets.{IsPart}
 use Rattle.view_laws.proofs.RunShrink.{views_shrink}
 use Rattle.view_laws.proofs.SetLemmas.{part_self}
 use Rattle.moment_laws.specs.Moments.{IsMoment, current, logs_of}
+use Rattle.moment_laws.proofs.MomentMembers.{current_made}
 use Rattle.moment_laws.proofs.MomentTurns as moments
 use Rattle.moment_laws.proofs.MomentTurns.{Turn, turn}
 use Rattle.moment_laws.proofs.MomentViews.{current_number, moment_installed, moment_less}
@@ -45,6 +46,17 @@ any_of test (y ∷ xs) x (inr there) passes = or_right (test y) (list_any test x
     or_right : (a b : Bool) → b ≡ true → (a || b) ≡ true
     or_right true b is = refl
     or_right false b is = is
+
+-- the members of the current view are full ones, and were made
+module _ (start : Start) (all : ℕ → List HostStep) (es : List HostStep) (moment : IsMoment start all es) where
+  pub full_only : members_now start (logs_of start es) ≡ (current start (logs_of start es)).full
+  full_only =
+      ap (λ more. (current start (logs_of start es)).full ++ more)
+      (nobody_later start all moment.cluster (current start (logs_of start es)) (moment_installed start all es moment)).starting
+      ∙ append-nil (current start (logs_of start es)).full
+
+  pub members_made : (member : Member) → IsIn member (members_now start (logs_of start es)) → IsIn member (made start)
+  members_made member there = current_made start all es moment member (subst (IsIn member) full_only there)
 
 module _ (start : Start) (all : ℕ → List HostStep) (e : HostStep) (es : List HostStep) (moment : IsMoment start all (e ∷ es))
   where
@@ -76,25 +88,14 @@ module _ (start : Start) (all : ℕ → List HostStep) (e : HostStep) (es : List
         let one = some_of (was_begun_by tx) (current start new).full is in
         any_of (was_begun_by tx) (current start old).full one.one (full_was one.one one.there) one.passes
 
-    none_starting : (some : List HostStep) → IsMoment start all some → (current start (logs_of start some)).starting ≡ []
-    none_starting some at =
-        (nobody_later start all at.cluster (current start (logs_of start some)) (moment_installed start all some at)).starting
-
-    -- all members are full ones
-    full_only : (some : List HostStep) → IsMoment start all some
-        → members_now start (logs_of start some) ≡ (current start (logs_of start some)).full
-    full_only some at =
-        ap (λ more. (current start (logs_of start some)).full ++ more) (none_starting some at)
-        ∙ append-nil (current start (logs_of start some)).full
-
     -- and members of the view now were members before
     pub member_was : (member : Member) → IsIn member (members_now start new) → IsIn member (members_now start old)
     member_was member there =
-        subst (IsIn member) (sym (full_only es (moment_less start all e es moment)))
-        (full_was member (subst (IsIn member) (full_only (e ∷ es) moment) there))
+        subst (IsIn member) (sym (full_only start all es (moment_less start all e es moment)))
+        (full_was member (subst (IsIn member) (full_only start all (e ∷ es) moment) there))
 
     pub member_full : (member : Member) → IsIn member (members_now start old) → IsIn member (current start old).full
-    member_full member there = subst (IsIn member) (full_only es (moment_less start all e es moment)) there
+    member_full member there = subst (IsIn member) (full_only start all es (moment_less start all e es moment)) there
 
     pub full_member : (member : Member) → IsIn member (current start old).full → IsIn member (members_now start old)
-    full_member member there = subst (IsIn member) (sym (full_only es (moment_less start all e es moment))) there
+    full_member member there = subst (IsIn member) (sym (full_only start all es (moment_less start all e es moment))) there

@@ -1,3 +1,6 @@
+pub mod FateCases
+pub mod FateMoves
+pub mod FateRows
 pub mod FateViews
 pub mod ForthAll
 pub mod ForthClient
@@ -18,4 +21,3 @@ pub mod MarkerLists
 pub mod MarkerRows
 pub mod MarkerSteps
 pub mod Passing
-pub mod FateRows

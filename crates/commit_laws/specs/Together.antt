@@ -1,5 +1,5 @@
 -- What stands together at each moment: each part of it is kept by an event behind a moment at which all of it stands.
-use Rattle.std.specs.Prelude.{◌≡◌, ℕ, List, ◌∷◌}
+use Rattle.std.specs.Prelude.{◌≡◌, ℕ, true, false, List, ◌∷◌}
 use Rattle.run_theory.specs.Links.{sent}
 use Rattle.run_theory.specs.Lists.{Each}
 use Rattle.sig_core.specs.declared.member.TxId.{TxId}
@@ -13,6 +13,7 @@ use Rattle.commit_laws.specs.Fates.{aborts, commits, fate}
 use Rattle.commit_laws.specs.Parts.{PartsStand}
 use Rattle.commit_laws.specs.Speaks.{AreSpokenTruly}
 use Rattle.commit_laws.specs.Takeovers.{TakeoversStand}
+use Rattle.commit_laws.specs.Traces.{is_known}
 use Rattle.commit_laws.specs.Transit.{AreInTransit}
 
 pub record AllStand (start : Start) (es : List HostStep) : Type 0 where
@@ -77,3 +78,10 @@ EventsKeepParts =
 abbrev pub AllStandAlways : Type 0
 AllStandAlways =
     (start : Start) (all : ℕ → List HostStep) (es : List HostStep) → IsMoment start all es → AllStand start es
+
+-- whoever comes to be known to the client's side commits
+abbrev pub KnownCommit : Type 0
+KnownCommit =
+    (start : Start) (all : ℕ → List HostStep) (e : HostStep) (es : List HostStep) → Follows start all e es → (tx : TxId)
+    → is_known start (logs_of start (e ∷ es)) tx ≡ true → is_known start (logs_of start es) tx ≡ false
+    → fate start (logs_of start es) tx ≡ commits
