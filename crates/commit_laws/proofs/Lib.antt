@@ -21,3 +21,4 @@ pub mod MarkerLists
 pub mod MarkerRows
 pub mod MarkerSteps
 pub mod Passing
+pub mod TransitLinks
