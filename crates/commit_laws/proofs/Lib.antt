@@ -21,4 +21,5 @@ pub mod MarkerLists
 pub mod MarkerRows
 pub mod MarkerSteps
 pub mod Passing
+pub mod TransitCounts
 pub mod TransitLinks
