@@ -93,6 +93,12 @@ module _ (start : Start) (logs : ℕ → List HostStep) where
         → record_at start logs member key tx ≡ Some r → r.committed ≡ true
         → holds_enough tx Exclusive (replica_at start logs member key).lock.holders ≡ false
         → IsCommittedAtAll start logs tx key
+    -- who has something prepared holds the lock
+    pub prepared : (member : Member) → IsIn member (members_now start logs) → (key : List ℕ) (tx : TxId) (r : PendingRecord)
+        → record_at start logs member key tx ≡ Some r → r.committed ≡ false
+        → holds_enough tx Exclusive (replica_at start logs member key).lock.holders ≡ true
+    -- whatever the client's side knows to be committed is done
+    pub known : (tx : TxId) → is_known start logs tx ≡ true → IsDone tx
 
 abbrev pub CommitsStandAlways : Type 0
 CommitsStandAlways =
