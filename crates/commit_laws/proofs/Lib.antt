@@ -23,6 +23,7 @@ pub mod ImagesLeft
 pub mod KeptNow
 pub mod KeptRows
 pub mod KeyGoes
+pub mod KeyStays
 pub mod LockKeeps
 pub mod LostDoomed
 pub mod LostStays
