@@ -1,6 +1,6 @@
 -- What becomes of the rows of a member at an event: nothing, or a view is installed, or they take the signal of the event,
 -- which then is of the current view, if it is of a kind that fences stop.
-use Rattle.std.proofs.Common.{◌≡◌, ◌≢◌, ◌⊎◌, ◌++◌, ◌∙◌, ℕ, true, false, List, [], ◌∷◌, refl, sym, ap, subst, inl, inr}
+use Rattle.std.proofs.Common.{◌≡◌, ◌≢◌, ◌⊎◌, ◌++◌, ◌∙◌, ℕ, true, false, List, [], ◌∷◌, refl, sym, ap, subst, inl, inr, arith}
 use Rattle.std.proofs.lemmas.Bool.{cases_eq}
 use Rattle.run_theory.specs.Lists.{Each, IsIn}
 use Rattle.run_theory.proofs.Runs.{log_of-other, log_of-own}
@@ -19,11 +19,12 @@ use Rattle.world_core.specs.Start.{Start, made}
 use Rattle.world_core.specs.Steps.{HostStep}
 use Rattle.world_views.specs.Machine.{after, machine, step_after}
 use Rattle.view_laws.specs.Runs.{view_after}
-use Rattle.moment_laws.specs.Moments.{IsMoment, logs_of}
+use Rattle.moment_laws.specs.Moments.{IsMoment, current, logs_of}
 use Rattle.moment_laws.specs.Parts.{IsPassed}
 use Rattle.moment_laws.specs.PartSteps.{PartEnters, PartTakes, handles, ignores, installs, ldm_kind, remains}
 use Rattle.moment_laws.specs.Places.{ldm_of}
 use Rattle.moment_laws.proofs.PartKinds.{ldm_is}
+use Rattle.moment_laws.proofs.MomentTurns.{taker_stands}
 use Rattle.moment_laws.proofs.PartTaken.{IsTakenNow, handled_now}
 use Rattle.request_laws.specs.Blocks.{rows_after}
 use Rattle.request_laws.proofs.RouteSteps.{LdmStep, own_ldm, rows_are}
@@ -63,6 +64,21 @@ module _ (start : Start) (all : ℕ → List HostStep) (e : HostStep) (es : List
       enter : (view : View) → rows_at start new member ≡ installed (rows_at start old member) view
           → (e.host ≡ h → (step_after start h (old h) e).effects.sends ≡ []) → RowsGo
       take : (s : ReplicaState) → IsBetween s → IsTakenAt s → RowsGo
+
+    -- the same, and which view it is: the current one
+    pub data RowsTurn : Type 0 where
+      rest_now : rows_at start new member ≡ rows_at start old member
+          → (e.host ≡ h → (step_after start h (old h) e).effects.sends ≡ []) → RowsTurn
+      enter_now : rows_at start new member ≡ installed (rows_at start old member) (current start new)
+          → (e.host ≡ h → (step_after start h (old h) e).effects.sends ≡ []) → RowsTurn
+      take_now : (s : ReplicaState) → IsBetween s
+          → (s ≡ rows_at start old member) ⊎ (s ≡ installed (rows_at start old member) (current start new))
+          → IsTakenAt s → RowsTurn
+
+    forgets : RowsTurn → RowsGo
+    forgets (rest_now is quiet) = rest is quiet
+    forgets (enter_now is quiet) = enter (current start new) is quiet
+    forgets (take_now s between which taken) = take s between taken
 
     module _ (at : e.host ≡ h) where
       abbrev log : List HostStep
@@ -112,6 +128,21 @@ module _ (start : Start) (all : ℕ → List HostStep) (e : HostStep) (es : List
       between_is (installs above same stands is) =
           entered x.view (ap (λ (q : LdmPart). q.replica) same ∙ ap (λ (s : ReplicaState). installed s x.view) (sym was))
 
+      -- a view that is installed is the current one
+      seen_now : view_after start h (e ∷ log) ≡ x.view → x.view ≡ current start new
+      seen_now stands =
+          let own : view_after start e.host (e ∷ old e.host) ≡ x.view =
+          ap (λ k. view_after start k (e ∷ old k)) at ∙ stands in
+          let number : (view_after start e.host (e ∷ old e.host)).number ≡ x.view.number =
+          ap (λ (v : View). v.number) own in
+          sym own ∙ taker_stands start all e es moment (omega (arith, number))
+
+      which_is : Entering → (between.replica ≡ rows_at start old member)
+          ⊎ (between.replica ≡ installed (rows_at start old member) (current start new))
+      which_is (remains same stands none) = inl (ap (λ (q : LdmPart). q.replica) same ∙ sym was)
+      which_is (installs above same stands is) =
+          inr (ap (λ (q : LdmPart). q.replica) same ∙ (λ i. installed (sym was i) (seen_now stands i)))
+
       sent_is : Entering → (rest_of ≡ [] → sends ≡ [])
           × ((own : List Outgoing) → rest_of ≡ own → (sends ≡ own) ⊎ (sends ≡ []))
       sent_is entering = (λ none. quiet none step.does.sent, λ own is. loud own is step.does.sent)
@@ -128,17 +159,17 @@ module _ (start : Start) (all : ℕ → List HostStep) (e : HostStep) (es : List
           loud own is (inl all) = inl (whole own is all)
           loud own is (inr nothing) = inr nothing
 
-      idle : later.replica ≡ between.replica → rest_of ≡ [] → RowsGo
+      idle : later.replica ≡ between.replica → rest_of ≡ [] → RowsTurn
       idle same none = by step.does.enters
         where
-          by : Entering → RowsGo
+          by : Entering → RowsTurn
           by (remains is stands nothing) =
-              rest (now ∙ (same ∙ (ap (λ (q : LdmPart). q.replica) is ∙ sym was)))
+              rest_now (now ∙ (same ∙ (ap (λ (q : LdmPart). q.replica) is ∙ sym was)))
               (λ here. (sent_is step.does.enters).0 none)
           by (installs above is stands nothing) =
-              enter x.view
+              enter_now
               (now ∙ (same ∙ (ap (λ (q : LdmPart). q.replica) is
-              ∙ ap (λ (s : ReplicaState). installed s x.view) (sym was))))
+              ∙ (λ i. installed (sym was i) (seen_now stands i)))))
               (λ here. (sent_is step.does.enters).0 none)
 
       passed_to : IsPassed start.shape (part.Ldm between) (view_after start h (e ∷ log)) x → x.to.block ≡ block.Lqh
@@ -152,15 +183,15 @@ module _ (start : Start) (all : ℕ → List HostStep) (e : HostStep) (es : List
           (subst (λ k. IsPassed start.shape (part.Ldm between) (view_after start k (e ∷ old k)) x) (sym at) passed)
           block.Lqh to
 
-      own_go : RowsGo
+      own_go : RowsTurn
       unfolding ldm_row
       own_go = by step.does.takes
         where
           taking : IsPassed start.shape (part.Ldm between) (view_after start h (e ∷ log)) x → (b : BlockId)
               → x.to.block ≡ b → later ≡ (ldm_row between b x).state → rest_of ≡ (ldm_row between b x).effects.sends
-              → RowsGo
+              → RowsTurn
           taking passed block.Lqh to same is =
-              take between.replica (between_is step.does.enters) (record {
+              take_now between.replica (between_is step.does.enters) (which_is step.does.enters) (record {
                 at = at;
                 now = passed_to passed to;
                 rows_are = now ∙ ap (λ (q : LdmPart). q.replica) same;
@@ -168,14 +199,17 @@ module _ (start : Start) (all : ℕ → List HostStep) (e : HostStep) (es : List
               })
           taking passed _ to same is = idle (ap (λ (q : LdmPart). q.replica) same) is
 
-          by : PartTakes ldm_kind start.shape between (view_after start h (e ∷ log)) x later rest_of → RowsGo
+          by : PartTakes ldm_kind start.shape between (view_after start h (e ∷ log)) x later rest_of → RowsTurn
           by (ignores same none) = idle (ap (λ (q : LdmPart). q.replica) same) none
           by (handles passed same is) = taking passed x.to.block refl same is
 
-    pub rows_go : RowsGo
-    rows_go = by (cases_eq e.host h)
+    pub rows_turn : RowsTurn
+    rows_turn = by (cases_eq e.host h)
       where
-        by : (e.host ≡ h) ⊎ (e.host ≢ h) → RowsGo
+        by : (e.host ≡ h) ⊎ (e.host ≢ h) → RowsTurn
         by (inl at) = own_go at
         by (inr other) =
-            rest (ap (rows_after start member) (log_of-other (machine start) e es h other)) (λ here. absurd (other here))
+            rest_now (ap (rows_after start member) (log_of-other (machine start) e es h other)) (λ here. absurd (other here))
+
+    pub rows_go : RowsGo
+    rows_go = forgets rows_turn
