@@ -32,6 +32,7 @@ pub mod MarkerLists
 pub mod MarkerMoves
 pub mod MarkerRows
 pub mod MarkerSteps
+pub mod MemberKeeps
 pub mod Passing
 pub mod RecordMoves
 pub mod RecordsOnce
