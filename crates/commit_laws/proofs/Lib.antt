@@ -40,6 +40,7 @@ pub mod ReplicasNow
 pub mod RowsAttended
 pub mod RowsGo
 pub mod TakenChains
+pub mod SettledKept
 pub mod TracesNow
 pub mod TransitCounts
 pub mod TransitLinks
