@@ -29,7 +29,28 @@ use Rattle.key_laws.specs.Records.{committed_row, found, seen_by}
 use Rattle.key_laws.specs.Replica.{Cell, Event, Replica, aborts, ages, asked_by, asks, commits, completes, expires, is_let_in, key_after, operated, rests, served_by, serves, storing, worked}
 use Rattle.key_laws.proofs.Holding.{only_holder}
 use Rattle.key_laws.proofs.LockHolding.{expiries_hold_on, releases_hold_on, requests_hold_on}
-use Rattle.run_laws.proofs.OthersStay.{event_of, is_of}
+use Rattle.run_laws.proofs.OthersStay.{is_of, of_first, others_stay}
+
+-- The transaction of which an event does something, but for ending a wait: it asks, is served, or comes to its end there.
+abbrev pub worker_of : Event → Replica → Option TxId
+worker_of (asks q refused) r = Some q.tx
+worker_of (serves refused) r = of_first (first (is_let_in r.lock) r.waiting)
+worker_of (commits u first) r = Some u
+worker_of (completes u) r = Some u
+worker_of (aborts u) r = Some u
+worker_of event r = None
+
+pub record_stays : (tx : TxId) (event : Event) (r : Replica) → is_of tx (worker_of event r) ≡ false
+    → found tx (key_after event r).cell.pending ≡ found tx r.cell.pending
+record_stays tx rests r off = refl
+record_stays tx (asks q refused) r off = (others_stay tx (asks q refused) r off).found_is
+record_stays tx (serves refused) r off = (others_stay tx (serves refused) r off).found_is
+record_stays tx (commits u first) r off = (others_stay tx (commits u first) r off).found_is
+record_stays tx (completes u) r off = (others_stay tx (completes u) r off).found_is
+record_stays tx (aborts u) r off = (others_stay tx (aborts u) r off).found_is
+record_stays tx (expires u) r off = refl
+record_stays tx (ages None) r off = refl
+record_stays tx (ages (Some u)) r off = refl
 
 -- whoever has something prepared on the key holds its lock exclusive
 abbrev pub AreHeld : Replica → Type 0
@@ -85,7 +106,7 @@ module _ (tx : TxId) (r : Replica) (orderly : IsOrderly r.lock) where
           let same : tx ≡ u = only_holder r.lock.holders orderly.agreed u tx exclusive own in
           absurd (true≢false (sym (ap (λ t. same_tx t tx) (sym same) ∙ same_tx-self tx) ∙ off))
 
-  pub row_stays : (event : Event) → AreHeld r → is_of tx (event_of event r) ≡ false → holds tx r.lock.holders ≡ true
+  pub row_stays : (event : Event) → AreHeld r → is_of tx (worker_of event r) ≡ false → holds tx r.lock.holders ≡ true
       → (key_after event r).cell.row ≡ r.cell.row
   row_stays rests held off own = refl
   row_stays (asks q refused) held off own =
@@ -114,7 +135,7 @@ module _ (tx : TxId) (r : Replica) (orderly : IsOrderly r.lock) where
       let on = expiries_hold_on (grown_old r.lock) u (grown_old_orderly r.lock orderly) in
       record { held = λ is. on.held tx refl is; exclusive = λ is. on.exclusive tx refl is }
 
-  pub holds_stay : (event : Event) → is_of tx (event_of event r) ≡ false → HoldsOn r.lock (key_after event r).lock
+  pub holds_stay : (event : Event) → is_of tx (worker_of event r) ≡ false → HoldsOn r.lock (key_after event r).lock
   holds_stay rests off = record { held = λ is. is; exclusive = λ is. is }
   holds_stay (asks q refused) off =
       subst (HoldsOn r.lock)

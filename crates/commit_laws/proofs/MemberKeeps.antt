@@ -26,7 +26,7 @@ use Rattle.key_laws.specs.Records.{found}
 use Rattle.key_laws.specs.Replica.{Event, Replica, at_key, key_after}
 use Rattle.key_laws.proofs.EpochLemmas.{state_found}
 use Rattle.host_laws.specs.ReplicaLaws.{IsWell}
-use Rattle.run_laws.proofs.OthersStay.{event_of, is_of, others_stay}
+use Rattle.run_laws.proofs.OthersStay.{is_of}
 use Rattle.world_core.specs.Start.{Start, made}
 use Rattle.world_core.specs.Steps.{HostStep}
 use Rattle.moment_laws.specs.Moments.{IsMoment, current, logs_of}
@@ -35,7 +35,7 @@ use Rattle.request_laws.specs.Replicas.{event_under, key_installed}
 use Rattle.request_laws.proofs.ReplicaEvents.{installations_are_events, installations_keep_well, signals_are_events}
 use Rattle.commit_laws.specs.Fates.{is_led_by_full}
 use Rattle.commit_laws.specs.Traces.{record_at, replica_at, rows_at}
-use Rattle.commit_laws.proofs.KeyStays.{AreHeld, HoldsOn, holds_stay, row_stays}
+use Rattle.commit_laws.proofs.KeyStays.{AreHeld, HoldsOn, holds_stay, record_stays, row_stays, worker_of}
 use Rattle.commit_laws.proofs.RecordsOnce.{rows_well}
 use Rattle.commit_laws.proofs.RowsGo.{IsBetween, IsTakenAt, RowsTurn, enter_now, rest_now, rows_turn, take_now}
 
@@ -128,12 +128,12 @@ keeps_both tx a b c more one other = record {
   row = λ held is. other.row (more held) (one.held is) ∙ one.row held is;
 }
 
-event_keeps : (tx : TxId) (r : Replica) (event : Event) → IsOrderly r.lock → is_of tx (event_of event r) ≡ false
+event_keeps : (tx : TxId) (r : Replica) (event : Event) → IsOrderly r.lock → is_of tx (worker_of event r) ≡ false
     → KeepsFor tx r (key_after event r)
 event_keeps tx r event orderly off =
     let on = holds_stay tx r orderly event off in
     record {
-      found_is = (others_stay tx event r off).found_is;
+      found_is = record_stays tx event r off;
       held = on.held;
       exclusive = on.exclusive;
       row = λ held is. row_stays tx r orderly event held off is;
@@ -155,7 +155,7 @@ module _ (start : Start) (all : ℕ → List HostStep) (e : HostStep) (es : List
     abbrev pub IsOfOther : Type 0
     IsOfOther =
         (s : ReplicaState) → IsBetween start all e es moment member there s → IsTakenAt start all e es moment member there s
-        → is_of tx (event_of (event_under key s x) (at_key key s.lqh)) ≡ false
+        → is_of tx (worker_of (event_under key s x) (at_key key s.lqh)) ≡ false
 
     abbrev rows_old : ReplicaState
     rows_old = rows_at start old member
