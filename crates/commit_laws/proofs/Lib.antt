@@ -19,6 +19,7 @@ pub mod ForthSpeaks
 pub mod ForthTakeover
 pub mod ForthTc
 pub mod ForthTurns
+pub mod HaleOthers
 pub mod ImagesLeft
 pub mod KeptNow
 pub mod KeptRows
