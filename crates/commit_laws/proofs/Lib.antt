@@ -36,6 +36,7 @@ pub mod MarkerSteps
 pub mod MemberKeeps
 pub mod PartRests
 pub mod PartsQuiet
+pub mod PartTurns
 pub mod Passing
 pub mod RecordMoves
 pub mod RecordsOnce
