@@ -46,6 +46,7 @@ pub mod RowsAttended
 pub mod RowsGo
 pub mod TakenChains
 pub mod SettledKept
+pub mod TellsKept
 pub mod TracesNow
 pub mod TransitCounts
 pub mod TransitLinks

@@ -64,20 +64,20 @@ module _ (member : Member) (s : CoordinatorState) (of : IsCoordinatorOf member s
   pub data Walked : Type 0 where
     kept_so : entry_of s tx ≡ Some u → Walked
     begun_so : entry_of s tx ≡ None → u ≡ fresh → Walked
-    moved_so : (t : Transaction) → entry_of s tx ≡ Some t → (own more : List Outgoing)
+    moved_so : (t : Transaction) → entry_of s tx ≡ Some t → is_undecided t.phase ≡ true → (own more : List Outgoing)
         → PartMove s.tc.layout tx t x.body u own → (coordinator_row s x).effects.sends ≡ own ++ more → Walked
 
   a_turn : (t : Transaction) → entry_of s tx ≡ Some t → (turn : Turn) → entry_of step.state tx ≡ left_of turn
       → (turn.over ≡ false → is_undecided turn.step.state.phase ≡ true
-      → PartMove s.tc.layout tx t x.body turn.step.state turn.step.effects.sends)
+      → (is_undecided t.phase ≡ true)
+      × PartMove s.tc.layout tx t x.body turn.step.state turn.step.effects.sends)
       → (more : List Outgoing) → step.effects.sends ≡ turn.step.effects.sends ++ more
       → entry_of step.state tx ≡ Some u → is_undecided u.phase ≡ true → Walked
   a_turn t was turn left goes more sends is undecided =
       let so = turn_left turn u (sym left ∙ is) in
-      moved_so t was turn.step.effects.sends more
-      (subst (λ v. PartMove s.tc.layout tx t x.body v turn.step.effects.sends) so.1
-      (goes so.0 (ap (λ (v : Transaction). is_undecided v.phase) so.1 ∙ undecided)))
-      sends
+      let move = goes so.0 (ap (λ (v : Transaction). is_undecided v.phase) so.1 ∙ undecided) in
+      moved_so t was move.0 turn.step.effects.sends more
+      (subst (λ v. PartMove s.tc.layout tx t x.body v turn.step.effects.sends) so.1 move.1) sends
 
   pub walked : entry_of (coordinator_row s x).state tx ≡ Some u → is_undecided u.phase ≡ true → Walked
   walked is undecided = by (coordinator_walks member s of tx x)
@@ -121,7 +121,8 @@ module _ (start : Start) (member : Member) (there : IsIn member (made start)) (t
     pub data EntryGoes : Type 0 where
       kept : entry_of (coordinator_after start member log) tx ≡ Some u → EntryGoes
       begun : entry_of (coordinator_after start member log) tx ≡ None → u ≡ fresh → EntryGoes
-      moved : (t : Transaction) → entry_of (coordinator_after start member log) tx ≡ Some t → (own : List Outgoing)
+      moved : (t : Transaction) → entry_of (coordinator_after start member log) tx ≡ Some t
+          → is_undecided t.phase ≡ true → (own : List Outgoing)
           → PartMove (layout_in start (view_after start (tc_of start member) (e ∷ log))) tx t e.step.taken.body u own
           → IsHandled start (tc_of start member) log e block.Tc
           → Sends own ⊎ ((step_after start (tc_of start member) log e).effects.sends ≡ []) → EntryGoes
@@ -201,8 +202,8 @@ module _ (start : Start) (member : Member) (there : IsIn member (made start)) (t
             by : Walked member between.coordinator alike.fits tx x u → EntryGoes
             by (kept_so same) = kept (sym entry_was ∙ same)
             by (begun_so none same) = begun (sym entry_was ∙ none) same
-            by (moved_so t same own more move sent) =
-                moved t (sym entry_was ∙ same) own
+            by (moved_so t same before own more move sent) =
+                moved t (sym entry_was ∙ same) before own
                 (subst (λ (l : Layout). PartMove l tx t x.body u own) layout_is move) handled
                 (sent_so own more sent st.does.sent)
 

@@ -54,7 +54,7 @@ module _ (layout : Layout) (tx : TxId) where
     abbrev pub Moves : Turn → Type 0
     Moves turn =
         turn.over ≡ false → is_undecided turn.step.state.phase ≡ true
-        → PartMove t body turn.step.state turn.step.effects.sends
+        → (is_undecided t.phase ≡ true) × PartMove t body turn.step.state turn.step.effects.sends
 
     -- it ends, or comes to a phase in which it isn't undecided
     abort_moves : (u : Transaction) (why : AbortCause) → AbortForms node layout tx u why Moves
@@ -76,18 +76,25 @@ module _ (layout : Layout) (tx : TxId) where
         let parts = and_parts (is_ready t.phase t.asked) (fits t.touched (key_of op)) can in
         (ready_is t.phase t.asked parts.0).1
 
+    ready_open : (op : Op) → (is_ready t.phase t.asked && fits t.touched (key_of op)) ≡ true → t.phase ≡ Open
+    ready_open op can =
+        let parts = and_parts (is_ready t.phase t.asked) (fits t.touched (key_of op)) can in
+        (ready_is t.phase t.asked parts.0).0
+
     forms : TurnFormsAt node layout tx t body Moves
     unfolding entering
     forms = record {
-      stays = λ other missed going_on undecided. rests refl refl;
-      stops = λ at is high going_on undecided. rests refl refl;
-      goes_on = λ at is low going_on undecided. rests refl refl;
-      operates = λ op is can going_on undecided. asks op (ready_asks op can) refl refl refl;
-      answers = λ key answer asked is own at going_on undecided. gets key answer asked is own.is own.on refl refl;
+      stays = λ other missed going_on undecided. (undecided, rests refl refl);
+      stops = λ at is high going_on undecided. (undecided, rests refl refl);
+      goes_on = λ at is low going_on undecided. (undecided, rests refl refl);
+      operates = λ op is can going_on undecided.
+          (ap is_undecided (ready_open op can), asks op (ready_asks op can) refl refl refl);
+      answers = λ key answer asked is own at going_on undecided. 
+          (ap is_undecided at, gets key answer asked is own.is own.on refl refl);
       late = λ key asked why verifying awaited is own at going_on undecided.
           absurd (true≢false (sym undecided ∙ ap is_undecided at));
-      waits = λ asked is some going_on undecided. rests refl refl;
-      decides = λ is ready going_on undecided. rests refl refl;
+      waits = λ asked is some going_on undecided. (undecided, rests refl refl);
+      decides = λ is ready going_on undecided. (ap is_undecided (ready_is t.phase t.asked ready).0, rests refl refl);
       commits = λ epoch is at some going_on undecided. absurd (true≢false (sym undecided));
       commits_none = λ epoch is at none. committed_moves epoch;
       committed = λ key epoch awaited is at more going_on undecided. absurd (true≢false (sym undecided));
@@ -103,7 +110,7 @@ module _ (layout : Layout) (tx : TxId) where
     -- at a signal about it
     pub turn_moves : tx_in body ≡ tx → Moves (turn_for node layout tx body t)
     turn_moves same =
-        turn_with node layout tx body t Moves (rows_at node layout tx t body Moves forms) same (λ off going_on undecided. rests refl refl)
+        turn_with node layout tx body t Moves (rows_at node layout tx t body Moves forms) same (λ off going_on undecided. (undecided, rests refl refl))
 
     again : (u : Transaction) (why : AbortCause) (verifying b : Bool) → Moves (anew_if node layout tx u why verifying b)
     unfolding entering
@@ -113,7 +120,7 @@ module _ (layout : Layout) (tx : TxId) where
     resume_forms : walk.ResumeForms node layout tx t Moves
     unfolding entering
     resume_forms = record {
-      stays = λ going_on undecided. rests refl refl;
+      stays = λ going_on undecided. (undecided, rests refl refl);
       fails = λ number is. abort_moves _ _;
       anew = λ why verifying awaited at none. again _ why verifying none;
       recommits = λ epoch awaited at going_on undecided. absurd (true≢false (sym undecided));
