@@ -35,6 +35,7 @@ pub mod MarkerRows
 pub mod MarkerSteps
 pub mod MemberKeeps
 pub mod PartHosts
+pub mod PartOwn
 pub mod PartRests
 pub mod PartsQuiet
 pub mod PartTurns

@@ -69,7 +69,7 @@ module _ (start : Start) where
     sent_before e es all i j =
         each_past P (sent_past i j (logs_of start es i) (logs_of start (e ∷ es) i) (log_of-past n e es i)) (all i j)
 
-    takes_less : (e : HostStep) (before between : List Addressed) → Takes start e before between → Each P before
+    pub takes_less : (e : HostStep) (before between : List Addressed) → Takes start e before between → Each P before
         → Each P between
     takes_less e before between takes all = by (n.asked e || is_closing e.step.taken.body) refl
       where
