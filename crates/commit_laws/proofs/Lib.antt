@@ -34,6 +34,7 @@ pub mod MarkerMoves
 pub mod MarkerRows
 pub mod MarkerSteps
 pub mod MemberKeeps
+pub mod PartAside
 pub mod PartHome
 pub mod PartHosts
 pub mod PartOwn
