@@ -45,6 +45,7 @@ pub mod Passing
 pub mod RecordMoves
 pub mod RecordsOnce
 pub mod ReplicasNow
+pub mod RowTokens
 pub mod RowsAttended
 pub mod RowsGo
 pub mod TakenChains
