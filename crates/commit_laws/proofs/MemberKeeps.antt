@@ -199,7 +199,7 @@ module _ (start : Start) (all : ℕ → List HostStep) (e : HostStep) (es : List
 
         by : RowsTurn start all e es moment member there
             → KeepsFor tx (replica_at start old member key) (replica_at start new member key)
-        by (rest_now is quiet) = subst Kept (sym is) (keeps_self tx (replica_at start old member key))
+        by (rest_now is quiet stays) = subst Kept (sym is) (keeps_self tx (replica_at start old member key))
         by (enter_now is quiet) =
             subst Kept (sym is) (between_keeps led (installed rows_old (current start new)) (inr refl)).keeps
         by (take_now s between which taken) =

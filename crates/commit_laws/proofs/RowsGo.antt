@@ -68,7 +68,8 @@ module _ (start : Start) (all : ℕ → List HostStep) (e : HostStep) (es : List
     -- the same, and which view it is: the current one
     pub data RowsTurn : Type 0 where
       rest_now : rows_at start new member ≡ rows_at start old member
-          → (e.host ≡ h → (step_after start h (old h) e).effects.sends ≡ []) → RowsTurn
+          → (e.host ≡ h → (step_after start h (old h) e).effects.sends ≡ [])
+          → (e.host ≡ h → view_after start h (e ∷ old h) ≡ view_after start h (old h)) → RowsTurn
       enter_now : rows_at start new member ≡ installed (rows_at start old member) (current start new)
           → (e.host ≡ h → (step_after start h (old h) e).effects.sends ≡ []) → RowsTurn
       take_now : (s : ReplicaState) → IsBetween s
@@ -76,7 +77,7 @@ module _ (start : Start) (all : ℕ → List HostStep) (e : HostStep) (es : List
           → IsTakenAt s → RowsTurn
 
     forgets : RowsTurn → RowsGo
-    forgets (rest_now is quiet) = rest is quiet
+    forgets (rest_now is quiet stays) = rest is quiet
     forgets (enter_now is quiet) = enter (current start new) is quiet
     forgets (take_now s between which taken) = take s between taken
 
@@ -166,6 +167,7 @@ module _ (start : Start) (all : ℕ → List HostStep) (e : HostStep) (es : List
           by (remains is stands nothing) =
               rest_now (now ∙ (same ∙ (ap (λ (q : LdmPart). q.replica) is ∙ sym was)))
               (λ here. (sent_is step.does.enters).0 none)
+              (λ here. stands)
           by (installs above is stands nothing) =
               enter_now
               (now ∙ (same ∙ (ap (λ (q : LdmPart). q.replica) is
@@ -210,6 +212,7 @@ module _ (start : Start) (all : ℕ → List HostStep) (e : HostStep) (es : List
         by (inl at) = own_go at
         by (inr other) =
             rest_now (ap (rows_after start member) (log_of-other (machine start) e es h other)) (λ here. absurd (other here))
+            (λ here. absurd (other here))
 
     pub rows_go : RowsGo
     rows_go = forgets rows_turn

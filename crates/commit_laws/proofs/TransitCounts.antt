@@ -55,7 +55,7 @@ module _ (start : Start) where
     EachSent es = (i j : ℕ) → Each P (sent n i j (logs_of start es i))
 
     -- what is told of all that was sent by an event is told of what it sends
-    event_sent : (e : HostStep) (es : List HostStep) → EachSent (e ∷ es)
+    pub event_sent : (e : HostStep) (es : List HostStep) → EachSent (e ∷ es)
         → Each P (sent_by n e.host (logs_of start es e.host) e)
     event_sent e es all =
         each_from P (sent_by n e.host (logs_of start es e.host) e)
