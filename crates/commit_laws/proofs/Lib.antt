@@ -41,6 +41,7 @@ pub mod PartOwn
 pub mod PartRests
 pub mod PartsQuiet
 pub mod PartTurns
+pub mod PartsSent
 pub mod Passing
 pub mod RecordMoves
 pub mod RecordsOnce
