@@ -38,6 +38,7 @@ pub mod PartAside
 pub mod PartHome
 pub mod PartHosts
 pub mod PartOwn
+pub mod PartPerforms
 pub mod PartRests
 pub mod PartsQuiet
 pub mod PartTurns
