@@ -249,3 +249,150 @@ module _ (start : Start) (old new : ℕ → List HostStep) (same : current start
               (was.held p is)))
           held_at p is (inr kept) =
               ap (λ r. holds_enough tx Exclusive r.lock.holders) kept ∙ was.held p is
+
+    -- An operation is performed here, at the primary.
+    module _ (primary : IsPrimary start old key me) (settled : IsSettledWith start old key tx t.ops) (op : Op)
+        (asks : IsAsked start old key tx t op)
+      where
+        abbrev left : Option (List ℕ)
+        left = row_behind start old key me t.ops
+
+        replica_me : IsReplicaOf start old key me
+        replica_me = (chain_made 0 me primary).0
+
+        is_me : (p : Member) → IsPrimary start new key p → p ≡ me
+        is_me p is = some_is p me (sym (was_at 0 p is) ∙ primary)
+
+        left_same : row_behind start new key me t.ops ≡ row_behind start old key me t.ops
+        left_same = ap (λ row. row_after_all row (ops_on key t.ops)) row_same
+
+        -- the row that it sees is the one that the operations before it leave
+        pub seen_is : seen_by (replica_at start old me key).cell.row (record_at start old me key tx)
+            ≡ row_behind start old key me t.ops
+        seen_is = by (is_written_by t.ops key) refl
+          where
+            by : (b : Bool) → is_written_by t.ops key ≡ b
+                → seen_by (replica_at start old me key).cell.row (record_at start old me key tx) ≡ left
+            by true wrote =
+                let image : HasImageIf true left (record_at start old me key tx) =
+                subst (λ b. HasImageIf b left (record_at start old me key tx)) wrote (settled.images me primary me replica_me) in
+                ap (seen_by (replica_at start old me key).cell.row) image.1.0 ∙ image.1.1.1
+            by false off =
+                ap (seen_by (replica_at start old me key).cell.row)
+                (subst (λ b. HasImageIf b left (record_at start old me key tx)) off (settled.images me primary me replica_me))
+                ∙ sym (row_unwritten (replica_at start old me key).cell.row (ops_on key t.ops) (settled.right me primary) off)
+
+        right_me : AreRight (replica_at start new me key).cell.row (ops_on key t.ops)
+        right_me = subst (λ row. AreRight row (ops_on key t.ops)) (sym row_same) (settled.right me primary)
+
+        at_me : (P : Member → Type 0) → P me → (p : Member) → IsPrimary start new key p → P p
+        at_me P is p first = subst P (sym (is_me p first)) is
+
+        -- it takes effect, and its image is prepared
+        pub stored_first : answer_to op (row_behind start old key me t.ops) ≡ Done
+            → holds_enough tx Exclusive (replica_at start new me key).lock.holders ≡ true
+            → HasImageIf true (image_of op) (record_at start new me key tx)
+            → IsStoredTo start new key tx t (image_of op) 1
+        stored_first done exclusive has = record {
+          op = op;
+          asks = now_asked op asks;
+          image_is = refl;
+          takes_effect =
+              at_me (λ p. answer_to op (row_behind start new key p t.ops) ≡ Done) (ap (answer_to op) left_same ∙ done);
+          right = at_me (λ p. AreRight (replica_at start new p key).cell.row (ops_on key t.ops)) right_me;
+          stored = λ k m low is. stored_at k m (was_at k m is) low;
+          others = λ m there off.
+              others_none (image_of op) has replica_me m there off
+              (settled.others m there (λ is. off (is_replica m is)));
+          held = at_me (λ p. holds_enough tx Exclusive (replica_at start new p key).lock.holders ≡ true) exclusive;
+        }
+          where
+            stored_at : (k : ℕ) (m : Member) → slice_get chain_old k ≡ Some m → k < 1
+                → HasImageIf true (image_of op) (record_at start new m key tx)
+            stored_at zero m is low =
+                subst (λ n. HasImageIf true (image_of op) (record_at start new n key tx))
+                (some_is me m (sym primary ∙ is)) has
+            stored_at (suc k) m is low = absurd (omega (arith, low))
+
+        -- it takes none, and is answered
+        module _ (answer : Answer) (answer_is : answer ≡ answer_to op (row_behind start old key me t.ops))
+            (off : is_done answer ≡ false) (rec : record_at start new me key tx ≡ record_at start old me key tx)
+            (held_now : holds tx (replica_at start new me key).lock.holders ≡ true)
+            (kept : holds_enough tx Exclusive (replica_at start old me key).lock.holders ≡ true
+            → holds_enough tx Exclusive (replica_at start new me key).lock.holders ≡ true)
+            (for_change : is_get op ≡ false → holds_enough tx Exclusive (replica_at start new me key).lock.holders ≡ true)
+          where
+            abbrev more : List (Op × Answer)
+            more = t.ops ++ (op, answer) ∷ []
+
+            rec_same : (m : Member) → IsIn m (made start) → record_at start new m key tx ≡ record_at start old m key tx
+            rec_same m there = by (others_same m there)
+              where
+                by : (m ≡ me) ⊎ (replica_at start new m key ≡ replica_at start old m key)
+                    → record_at start new m key tx ≡ record_at start old m key tx
+                by (inl is) =
+                    subst (λ k. record_at start new k key tx ≡ record_at start old k key tx) (sym is) rec
+                by (inr is) = ap (λ r. found tx r.cell.pending) is
+
+            written_same : is_written_by more key ≡ is_written_by t.ops key
+            written_same =
+                written_more start old key tx t.ops op answer asks.here
+                ∙ or_none (is_written_by t.ops key) (is_done answer) off
+
+            left_more : row_behind start new key me more ≡ left
+            left_more =
+                behind_more start new key tx me t.ops op answer asks.here
+                ∙ (ap (row_after op) left_same
+                ∙ (ap (λ a. row_by a op left) (sym answer_is) ∙ row_unless answer op left off))
+
+            right_then : AreRight (replica_at start new me key).cell.row (ops_on key more)
+            right_then =
+                subst (AreRight (replica_at start new me key).cell.row)
+                (sym (own_more start old key tx t.ops op answer asks.here))
+                (right_more (replica_at start new me key).cell.row (ops_on key t.ops) op answer right_me
+                (answer_is ∙ ap (answer_to op) (sym left_same)))
+
+            images_me : (m : Member) → IsReplicaOf start new key m
+                → HasImageIf (is_written_by more key) (row_behind start new key me more) (record_at start new m key tx)
+            images_me m replica =
+                let was = was_replica m replica in
+                let place = place_of chain_old m was.chained in
+                subst (λ b. HasImageIf b (row_behind start new key me more) (record_at start new m key tx)) (sym written_same)
+                (subst (λ w. HasImageIf (is_written_by t.ops key) w (record_at start new m key tx)) (sym left_more)
+                (subst (HasImageIf (is_written_by t.ops key) left) (sym (rec_same m (chain_made place.at m place.is).1))
+                (settled.images me primary m was)))
+
+            changing : is_changing (ops_on key more) ≡ true
+                → holds_enough tx Exclusive (replica_at start new me key).lock.holders ≡ true
+            changing is =
+                by (or_cases (is_changing (ops_on key t.ops)) (not (is_get op))
+                (sym (changing_more start old key tx t.ops op answer asks.here) ∙ is))
+              where
+                not_true : (b : Bool) → not b ≡ true → b ≡ false
+                not_true true is = absurd (true≢false (sym is))
+                not_true false is = refl
+
+                by : (is_changing (ops_on key t.ops) ≡ true) ⊎ (not (is_get op) ≡ true)
+                    → holds_enough tx Exclusive (replica_at start new me key).lock.holders ≡ true
+                by (inl before) = kept (settled.exclusive me primary before)
+                by (inr now) = for_change (not_true (is_get op) now)
+
+            pub answered_settles : IsSettledWith start new key tx (t.ops ++ (op, answer) ∷ [])
+            answered_settles = record {
+              right = at_me (λ p. AreRight (replica_at start new p key).cell.row (ops_on key more)) right_then;
+              images =
+                  at_me
+                  (λ p. (m : Member) → IsReplicaOf start new key m
+                  → HasImageIf (is_written_by more key) (row_behind start new key p more) (record_at start new m key tx))
+                  images_me;
+              others = λ m there no_replica.
+                  rec_same m there ∙ settled.others m there (λ is. no_replica (is_replica m is));
+              held =
+                  at_me
+                  (λ p. (ops_on key more ≡ []) ⊎ (holds tx (replica_at start new p key).lock.holders ≡ true))
+                  (inr held_now);
+              exclusive =
+                  at_me
+                  (λ p. is_changing (ops_on key more) ≡ true
+                  → holds_enough tx Exclusive (replica_at start new p key).lock.holders ≡ true) changing;
+            }
