@@ -35,6 +35,7 @@ pub mod MarkerRows
 pub mod MarkerSteps
 pub mod MemberKeeps
 pub mod PartAside
+pub mod PartDoes
 pub mod PartHome
 pub mod PartHosts
 pub mod PartOwn
