@@ -1,8 +1,8 @@
 -- What is so of a transaction that goes on: it went no way, nobody aborts it; and where no part of its operation on a key is at
 -- rows, what these do on the key isn't of it.
-use Rattle.std.proofs.Common.{◌≡◌, ◌≢◌, ◌⊎◌, ◌&&◌, ◌==◌, ◌∙◌, ℕ, Bool, true, false, cond, filter, List, [], ◌∷◌, refl, sym, ap, subst, inl, inr}
-use Rattle.std.proofs.lemmas.Bool.{and_parts, true≢false}
-use Rattle.std.specs.Prelude.{◌||◌, if◌then◌else◌, is_some, not, Option, None, Some}
+use Rattle.std.proofs.Common.{◌≡◌, ◌⊎◌, ◌==◌, ◌∙◌, ℕ, Bool, true, false, cond, filter, List, [], ◌∷◌, refl, sym, ap, subst, inl, inr}
+use Rattle.std.proofs.lemmas.Bool.{true≢false}
+use Rattle.std.specs.Prelude.{if◌then◌else◌, is_some, Option, None, Some}
 use Rattle.run_theory.specs.Lists.{Each, IsIn}
 use Rattle.sig_core.specs.declared.member.Member.{Member}
 use Rattle.sig_core.specs.declared.member.TxId.{TxId}
@@ -21,15 +21,14 @@ use Rattle.tc_block.specs.declared.phase.Asked.{Asked}
 use Rattle.tc_block.specs.declared.phase.Phase.{Phase}
 use Rattle.tc_block.specs.declared.phase.Phase.TheVariants.{Aborting, Committing, Completing, Open, Verifying}
 use Rattle.tc_block.specs.declared.transaction.Transaction.{Transaction}
-use Rattle.tc_block.specs.Doom.{is_among, is_undecided}
+use Rattle.tc_block.specs.Doom.{is_undecided}
 use Rattle.row_locks.specs.Rounds.{expired}
 use Rattle.lqh_block.specs.declared.request.Request.{Request}
-use Rattle.lqh_block.specs.Expire.{aged}
 use Rattle.lqh_block.specs.Operate.{is_granted}
 use Rattle.lqh_block.specs.State.{storage_of}
-use Rattle.lqh_block.specs.Views.{is_coordinated, was_begun_by}
+use Rattle.lqh_block.specs.Views.{was_begun_by}
 use Rattle.lqh_views.specs.State.{ReplicaState}
-use Rattle.key_laws.specs.Replica.{Event, Replica, aborts as gives_up, ages, asks, asks_for, at_key, commits as makes_so, completes as ends, event_at, expired_by, expires, expires_if, if_on, is_let_in, is_refused, rests, serves, serves_if}
+use Rattle.key_laws.specs.Replica.{Event, Replica, aborts as gives_up, asks, asks_for, at_key, commits as makes_so, completes as ends, event_at, expires, expires_if, if_on, is_let_in, is_refused, rests, serves, serves_if}
 use Rattle.key_laws.proofs.Waiting.{each-first_item}
 use Rattle.host_laws.proofs.OfLive.{each_found}
 use Rattle.run_laws.proofs.OthersStay.{is_of, of_first}
@@ -42,8 +41,8 @@ use Rattle.request_laws.specs.Phases.{CoordinatorStands, SaysIn}
 use Rattle.request_laws.specs.Replicas.{event_under}
 use Rattle.request_laws.specs.Tokens.{has_asked}
 use Rattle.request_laws.proofs.PhaseStands.{coordinators_stand}
-use Rattle.commit_laws.specs.Fates.{Fate, aborts, commits, fate, fate_here, fate_if, is_led_by_full, undetermined}
-use Rattle.commit_laws.specs.Going.{is_back, is_forth, is_lost, own_live, own_log}
+use Rattle.commit_laws.specs.Fates.{aborts, fate, fate_if}
+use Rattle.commit_laws.specs.Going.{is_back, is_forth, is_lost, own_log}
 use Rattle.commit_laws.specs.Parts.{IsHale}
 use Rattle.commit_laws.specs.Traces.{has_trace, is_known}
 use Rattle.commit_laws.proofs.Calm.{IsCalm}

@@ -1,5 +1,5 @@
 -- What an event of another transaction leaves one that holds the lock of a key: its record, its hold on the lock, and the row.
-use Rattle.std.proofs.Common.{◌≡◌, ◌∙◌, ℕ, Bool, true, false, List, [], ◌∷◌, refl, sym, ap, subst}
+use Rattle.std.proofs.Common.{◌≡◌, ◌∙◌, ℕ, Bool, true, false, List, refl, sym, ap, subst}
 use Rattle.std.proofs.lemmas.Bool.{true≢false}
 use Rattle.std.specs.Prelude.{if◌then◌else◌, Option, None, Some}
 use Rattle.sig_core.specs.declared.member.TxId.{TxId}
@@ -13,7 +13,6 @@ use Rattle.sig_core.specs.Firsts.{first}
 use Rattle.sig_core.specs.Op.{answer_to, image_of, key_of}
 use Rattle.sig_core.specs.Same.{same_tx}
 use Rattle.sig_core.proofs.Keys.{same_tx-self}
-use Rattle.row_locks.specs.declared.claim.Holder.{Holder}
 use Rattle.row_locks.specs.declared.mode.Lock.{Lock}
 use Rattle.row_locks.specs.declared.mode.Lock.TheVariants.{Granted, Queued}
 use Rattle.row_locks.specs.declared.mode.Mode.TheVariants.{Exclusive}

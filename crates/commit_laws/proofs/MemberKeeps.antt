@@ -2,11 +2,10 @@
 -- on the lock, and the row, if it holds the lock.
 use Rattle.std.proofs.Common.{◌≡◌, ◌⊎◌, ◌||◌, ◌&&◌, ◌∙◌, ℕ, Bool, true, false, cond, List, [], ◌∷◌, filter, refl, sym, ap, subst, inl, inr}
 use Rattle.std.proofs.lemmas.Bool.{or_left, or_right, true≢false}
-use Rattle.std.specs.Prelude.{is_some, Option, None, Some}
+use Rattle.std.specs.Prelude.{is_some}
 use Rattle.run_theory.specs.Lists.{IsIn}
 use Rattle.sig_core.specs.declared.member.Member.{Member}
 use Rattle.sig_core.specs.declared.member.TxId.{TxId}
-use Rattle.sig_core.specs.declared.rows.PendingRecord.{PendingRecord}
 use Rattle.sig_core.specs.declared.signal.Signal.{Signal}
 use Rattle.sig_core.specs.declared.view.View.{View}
 use Rattle.sig_core.specs.Rows.{record_state, state_by}
@@ -34,8 +33,8 @@ use Rattle.moment_laws.specs.Places.{ldm_of}
 use Rattle.request_laws.specs.Replicas.{event_under, key_installed}
 use Rattle.request_laws.proofs.ReplicaEvents.{installations_are_events, installations_keep_well, signals_are_events}
 use Rattle.commit_laws.specs.Fates.{is_led_by_full}
-use Rattle.commit_laws.specs.Traces.{record_at, replica_at, rows_at}
-use Rattle.commit_laws.proofs.KeyStays.{AreHeld, HoldsOn, holds_stay, record_stays, row_stays, worker_of}
+use Rattle.commit_laws.specs.Traces.{replica_at, rows_at}
+use Rattle.commit_laws.proofs.KeyStays.{AreHeld, holds_stay, record_stays, row_stays, worker_of}
 use Rattle.commit_laws.proofs.RecordsOnce.{rows_well}
 use Rattle.commit_laws.proofs.RowsGo.{IsBetween, IsTakenAt, RowsTurn, enter_now, rest_now, rows_turn, take_now}
 

@@ -1,5 +1,5 @@
 -- What a member sends for a part of an operation that it performs tells the truth.
-use Rattle.std.proofs.Common.{◌≡◌, ◌⊎◌, ◌+◌, ◌++◌, ◌∙◌, ℕ, Bool, true, false, List, [], ◌∷◌, refl, sym, ap, subst, inl, inr}
+use Rattle.std.proofs.Common.{◌≡◌, ◌⊎◌, ◌+◌, ◌++◌, ◌∙◌, ℕ, Bool, true, false, List, [], ◌∷◌, refl, sym, ap, subst}
 use Rattle.std.specs.List.{slice_get}
 use Rattle.std.specs.Prelude.{if◌then◌else◌, Option, None, Some}
 use Rattle.run_theory.specs.Lists.{IsIn}
@@ -17,11 +17,10 @@ use Rattle.sig_core.specs.declared.signal.chain.RowWork.{RowWork}
 use Rattle.sig_core.specs.declared.signal.chain.RowWork.TheVariants.{Operate, Store}
 use Rattle.sig_core.specs.Op.{answer_to, image_of, key_of}
 use Rattle.sig_core.specs.Rows.{prepared}
-use Rattle.sig_core.specs.Same.{same_tx}
 use Rattle.sig_core.proofs.Keys.{same_tx-self}
 use Rattle.tc_block.specs.declared.transaction.Transaction.{Transaction}
 use Rattle.lqh_block.specs.Work.{op_mode, work_mode}
-use Rattle.key_laws.specs.Records.{found, seen_by, stored}
+use Rattle.key_laws.specs.Records.{found, seen_by}
 use Rattle.key_laws.specs.Replica.{Cell, operated, storing, worked}
 use Rattle.key_laws.proofs.Holding.{holds_so}
 use Rattle.key_laws.proofs.RecordLemmas.{found-stored}

@@ -1,8 +1,8 @@
 -- The parts of a transaction's operations behind an event of its coordinator's host in the current view.
-use Rattle.std.proofs.Common.{◌≡◌, ◌≢◌, ◌≤◌, ◌⊎◌, ◌&&◌, ◌==◌, ◌||◌, ◌+◌, ◌++◌, ◌∙◌, ℕ, Bool, true, false, List, [], ◌∷◌, eq-eqb, refl, sym, ap, subst, inl, inr, arith}
+use Rattle.std.proofs.Common.{◌≡◌, ◌≤◌, ◌⊎◌, ◌&&◌, ◌==◌, ◌||◌, ◌+◌, ◌++◌, ◌∙◌, ℕ, Bool, true, false, List, [], ◌∷◌, eq-eqb, refl, sym, ap, subst, inl, inr, arith}
 use Rattle.std.proofs.lemmas.Bool.{and_parts, eqb-true, true≢false}
 use Rattle.std.specs.List.{list_any}
-use Rattle.std.specs.Prelude.{if◌then◌else◌, is_some, Option, None, Some}
+use Rattle.std.specs.Prelude.{if◌then◌else◌, is_some, None, Some}
 use Rattle.run_theory.proofs.Pasts.{each_append, each_map}
 use Rattle.run_theory.proofs.Runs.{log_of-other, log_of-own}
 use Rattle.run_theory.specs.Lists.{Each, IsIn}
@@ -16,7 +16,7 @@ use Rattle.sig_core.specs.declared.place.BlockId.TheVariants as block
 use Rattle.sig_core.specs.declared.signal.Body.{Body}
 use Rattle.sig_core.specs.declared.signal.Body.TheVariants.{Chain}
 use Rattle.sig_core.specs.declared.signal.Signal.{Signal}
-use Rattle.sig_core.specs.declared.signal.chain.ChainSignal.TheVariants.{LqhKeyConf, LqhKeyReq}
+use Rattle.sig_core.specs.declared.signal.chain.ChainSignal.TheVariants.{LqhKeyConf}
 use Rattle.sig_core.specs.declared.signal.chain.RowWork.TheVariants.{Operate}
 use Rattle.sig_core.specs.Op.{key_of}
 use Rattle.sig_core.specs.Same.{same_key, same_tx}
@@ -50,27 +50,27 @@ use Rattle.moment_laws.proofs.PartTaken.{IsTakenNow, handled_now}
 use Rattle.outcome_laws.specs.Counts.{coordinator_member, count_sent, one_if}
 use Rattle.outcome_laws.proofs.TcLists.{count_both, count_more}
 use Rattle.request_laws.specs.Blocks.{coordinator_after, rows_after}
-use Rattle.request_laws.specs.Drives.{asked_in, is_request}
+use Rattle.request_laws.specs.Drives.{asked_in}
 use Rattle.request_laws.specs.Routed.{layout_in}
-use Rattle.request_laws.specs.Tokens.{IsAlone, has_asked, is_token, is_token_in, number_now}
-use Rattle.request_laws.specs.Ways.{entry_of, has_gone_back, is_sent}
+use Rattle.request_laws.specs.Tokens.{IsAlone, has_asked, is_token, number_now}
+use Rattle.request_laws.specs.Ways.{entry_of, has_gone_back}
 use Rattle.request_laws.proofs.RouteHeaders.{chain_fenced}
 use Rattle.request_laws.proofs.TokenAlone.{taken_alone}
 use Rattle.request_laws.proofs.TokenCoordinators.{IsHandled, StepTokens, always_fits, step_tokens}
 use Rattle.request_laws.proofs.TokenPlaces.{ldm_no_tc}
 use Rattle.request_laws.proofs.TokenSteps.{TokenMove, quiet, sends_one}
 use Rattle.commit_laws.specs.Going.{own_live, own_log}
-use Rattle.commit_laws.specs.Parts.{IsAsked, IsHale, IsOff, Part, PartsStand, Tells, Told, answers, part_if, part_of, performs}
+use Rattle.commit_laws.specs.Parts.{IsHale, IsOff, Tells, Told, answers, part_if, part_of, performs}
 use Rattle.commit_laws.specs.Settled.{HasImageIf, IsSettledWith, is_changing}
 use Rattle.commit_laws.specs.Together.{Follows}
-use Rattle.commit_laws.specs.Traces.{IsReplicaOf, record_at, replica_at, rows_at}
+use Rattle.commit_laws.specs.Traces.{record_at, replica_at, rows_at}
 use Rattle.commit_laws.specs.Transit.{AreInTransit, Takes, is_closing}
 use Rattle.commit_laws.proofs.Calm.{none_passes}
 use Rattle.commit_laws.proofs.HaleOthers.{hale_made}
 use Rattle.commit_laws.proofs.PartHosts.{EntryGoes, Sends, begun, entry_goes, kept, moved}
 use Rattle.commit_laws.proofs.PartOwn.{PartsOf, bodies_sent, goes_on_so, hale_was, members_still, no_request, sent_now}
 use Rattle.commit_laws.proofs.PartRests.{link_gave, rests_stay}
-use Rattle.commit_laws.proofs.PartTurns.{PartMove, asks, gets, request_of, rests}
+use Rattle.commit_laws.proofs.PartTurns.{asks, gets, request_of, rests}
 use Rattle.commit_laws.proofs.PartsQuiet.{IsIdle, idle_told, idle_waits, no_part, unasked_idle}
 use Rattle.commit_laws.proofs.TellsKept.{settled_still}
 use Rattle.commit_laws.proofs.TransitCounts.{each_taken, takes_less}

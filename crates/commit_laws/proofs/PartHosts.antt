@@ -1,8 +1,7 @@
 -- How a transaction goes on that is undecided behind an event of its coordinator's host: as it was, or it begins, or it takes a
 -- turn.
-use Rattle.std.proofs.Common.{◌≡◌, ◌⊎◌, ◌++◌, ◌∙◌, ℕ, Bool, true, false, List, [], ◌∷◌, append-nil, append_assoc, refl, sym, ap, subst, inl, inr}
-use Rattle.std.proofs.lemmas.Bool.{true≢false}
-use Rattle.std.specs.Prelude.{if◌then◌else◌, Option, None, Some}
+use Rattle.std.proofs.Common.{◌≡◌, ◌⊎◌, ◌++◌, ◌∙◌, ℕ, Bool, true, false, List, [], ◌∷◌, append-nil, refl, sym, ap, subst, inl, inr}
+use Rattle.std.specs.Prelude.{if◌then◌else◌, None, Some}
 use Rattle.run_theory.specs.Lists.{IsIn}
 use Rattle.frag_map.specs.Layout.{Layout}
 use Rattle.sig_core.specs.declared.member.Member.{Member}
@@ -10,9 +9,7 @@ use Rattle.sig_core.specs.declared.member.TxId.{TxId}
 use Rattle.sig_core.specs.declared.outs.Outgoing.{Outgoing}
 use Rattle.sig_core.specs.declared.place.BlockId.{BlockId}
 use Rattle.sig_core.specs.declared.place.BlockId.TheVariants as block
-use Rattle.sig_core.specs.declared.signal.Body.{Body}
 use Rattle.sig_core.specs.declared.signal.Signal.{Signal}
-use Rattle.sig_core.specs.declared.view.View.{View}
 use Rattle.sig_core.specs.Step.{Step}
 use Rattle.tc_block.specs.declared.transaction.Transaction.{Transaction}
 use Rattle.tc_block.specs.Doom.{is_undecided}
@@ -44,7 +41,7 @@ use Rattle.request_laws.proofs.PhaseWalk.{Walks, begins, coordinator_walks, left
 use Rattle.request_laws.proofs.RouteLayouts.{coordinator_laid, coordinator_layout}
 use Rattle.request_laws.proofs.RouteSteps.{TcStep, coordinator_is, own_tc}
 use Rattle.request_laws.proofs.TokenCoordinators.{IsHandled}
-use Rattle.commit_laws.proofs.PartTurns.{PartMove, resume_moves, rests, turn_moves}
+use Rattle.commit_laws.proofs.PartTurns.{PartMove, resume_moves, turn_moves}
 
 -- what a turn leaves is there where it isn't over
 turn_left : (turn : Turn) (u : Transaction) → left_of turn ≡ Some u → (turn.over ≡ false) × (turn.step.state ≡ u)

@@ -1,11 +1,9 @@
 -- The parts of a transaction's operations at an event of its coordinator's host in the current view.
-use Rattle.std.proofs.Common.{◌≡◌, ◌≢◌, ◌⊎◌, ◌&&◌, ◌==◌, ◌||◌, ◌+◌, ◌++◌, ◌∙◌, ℕ, Bool, true, false, List, [], ◌∷◌, eq-eqb, refl, sym, ap, subst, inl, inr, arith}
+use Rattle.std.proofs.Common.{◌≡◌, ◌⊎◌, ◌||◌, ◌∙◌, ℕ, Bool, true, false, List, [], ◌∷◌, refl, sym, ap, subst}
 use Rattle.std.proofs.lemmas.Bool.{true≢false}
-use Rattle.std.specs.List.{list_any}
-use Rattle.std.specs.Prelude.{if◌then◌else◌, Option, None, Some}
+use Rattle.std.specs.Prelude.{None, Some}
 use Rattle.run_theory.proofs.Links.{sent_by_each}
-use Rattle.run_theory.proofs.Pasts.{each_append, each_in, each_map}
-use Rattle.run_theory.proofs.Runs.{log_of-other, log_of-own}
+use Rattle.run_theory.proofs.Pasts.{each_in, each_map}
 use Rattle.run_theory.specs.Links.{sent_by}
 use Rattle.run_theory.specs.Lists.{Each, IsIn}
 use Rattle.sig_core.specs.declared.member.Member.{Member}
@@ -13,7 +11,6 @@ use Rattle.sig_core.specs.declared.member.TxId.{TxId}
 use Rattle.sig_core.specs.declared.outs.Outgoing.{Outgoing}
 use Rattle.sig_core.specs.declared.signal.Body.{Body}
 use Rattle.sig_core.specs.declared.signal.Body.TheVariants.{Chain}
-use Rattle.sig_core.specs.declared.signal.Signal.{Signal}
 use Rattle.sig_core.specs.declared.signal.chain.ChainSignal.TheVariants.{LqhKeyReq}
 use Rattle.sig_core.specs.Same.{same_key, same_tx}
 use Rattle.sig_core.specs.Work.{work_key}
@@ -26,20 +23,18 @@ use Rattle.run_laws.specs.Transit.{joined}
 use Rattle.run_laws.proofs.Weighing.{joined_each}
 use Rattle.world_core.specs.Start.{Start, made}
 use Rattle.world_core.specs.Steps.{Addressed, HostStep}
-use Rattle.world_views.specs.Machine.{machine, signals_of, step_after}
+use Rattle.world_views.specs.Machine.{signals_of, step_after}
 use Rattle.view_laws.specs.Order.{is_sound, sound_machine}
 use Rattle.view_laws.specs.Runs.{view_after}
 use Rattle.view_laws.proofs.EraSound.{each_filter}
 use Rattle.view_laws.proofs.FollowSends.{each_sent}
 use Rattle.moment_laws.specs.Moments.{IsMoment, current, logs_of}
-use Rattle.moment_laws.specs.Places.{ldm_of, tc_of}
-use Rattle.moment_laws.proofs.MomentViews.{moment_less}
-use Rattle.outcome_laws.specs.Counts.{coordinator_member, count_sent}
-use Rattle.request_laws.specs.Blocks.{coordinator_after, rows_after}
+use Rattle.moment_laws.specs.Places.{ldm_of}
+use Rattle.outcome_laws.specs.Counts.{coordinator_member}
+use Rattle.request_laws.specs.Blocks.{rows_after}
 use Rattle.request_laws.specs.Drives.{asked_in, is_request}
-use Rattle.request_laws.specs.Tokens.{has_asked, is_token}
-use Rattle.request_laws.specs.Ways.{entry_of, is_sent}
-use Rattle.request_laws.proofs.TokenPlaces.{ldm_no_tc}
+use Rattle.request_laws.specs.Tokens.{is_token}
+use Rattle.request_laws.specs.Ways.{is_sent}
 use Rattle.commit_laws.specs.Fates.{is_led_by_full}
 use Rattle.commit_laws.specs.Going.{is_lost, own_live, own_log}
 use Rattle.commit_laws.specs.Parts.{IsHale, IsOff, PartsStand, Tells, Told, part_of, performs}
@@ -47,13 +42,12 @@ use Rattle.commit_laws.specs.Settled.{IsSettledWith}
 use Rattle.commit_laws.specs.Together.{Follows}
 use Rattle.commit_laws.specs.Traces.{replica_at, rows_at}
 use Rattle.commit_laws.specs.Transit.{AreInTransit, Takes}
-use Rattle.commit_laws.proofs.Calm.{none_passes}
 use Rattle.commit_laws.proofs.FateViews.{led_was}
 use Rattle.commit_laws.proofs.LostStays.{lost_stay}
 use Rattle.commit_laws.proofs.MemberKeeps.{KeepsFor, keeps_self}
 use Rattle.commit_laws.proofs.PartRests.{rests_stay}
 use Rattle.commit_laws.proofs.PartsQuiet.{no_part}
-use Rattle.commit_laws.proofs.TellsKept.{MembersKeepIt, tells_still, told_still}
+use Rattle.commit_laws.proofs.TellsKept.{tells_still, told_still}
 use Rattle.commit_laws.proofs.TransitCounts.{takes_less}
 
 -- what is so of the bodies of all that blocks send is so of those of the signals

@@ -1,5 +1,5 @@
 -- At an event in the current view: a key on which a transaction that goes on has nothing unanswered stays settled.
-use Rattle.std.proofs.Common.{◌≡◌, ◌≢◌, ◌≤◌, ◌⊎◌, ◌&&◌, ◌==◌, ◌||◌, ◌∙◌, ℕ, Bool, true, false, List, [], ◌∷◌, refl, sym, ap, subst, inl, inr, arith}
+use Rattle.std.proofs.Common.{◌≡◌, ◌&&◌, ◌==◌, ◌||◌, ◌∙◌, ℕ, Bool, true, false, List, ◌∷◌, refl, sym, ap, subst, inr, arith}
 use Rattle.std.proofs.lemmas.Bool.{true≢false}
 use Rattle.std.specs.List.{slice_get}
 use Rattle.std.specs.Prelude.{not, Option, None, Some}
@@ -9,9 +9,7 @@ use Rattle.run_theory.specs.Lists.{Each, IsIn}
 use Rattle.sig_core.specs.declared.member.Member.{Member}
 use Rattle.sig_core.specs.declared.member.TxId.{TxId}
 use Rattle.sig_core.specs.declared.op.Op.{Op}
-use Rattle.sig_core.specs.declared.place.BlockId.TheVariants as block
 use Rattle.sig_core.specs.declared.signal.Signal.{Signal}
-use Rattle.sig_core.specs.declared.signal.Body.{Body}
 use Rattle.sig_core.specs.declared.signal.Body.TheVariants.{Chain}
 use Rattle.sig_core.specs.declared.signal.chain.ChainSignal.{ChainSignal}
 use Rattle.sig_core.specs.declared.signal.chain.ChainSignal.TheVariants.{Abort, Commit, Complete, LqhKeyReq}
@@ -22,7 +20,6 @@ use Rattle.sig_core.specs.Op.{key_of}
 use Rattle.sig_core.specs.Same.{same_key, same_tx}
 use Rattle.sig_core.specs.Work.{work_key}
 use Rattle.sig_core.proofs.Keys.{same_tx-self}
-use Rattle.sig_core.proofs.TxLemmas.{same_tx-is}
 use Rattle.tc_block.specs.declared.phase.Asked.{Asked}
 use Rattle.tc_block.specs.declared.transaction.Transaction.{Transaction}
 use Rattle.lqh_block.specs.declared.request.Request.{Request}
@@ -31,7 +28,6 @@ use Rattle.key_laws.specs.Replica.{asks_for}
 use Rattle.node_views.specs.WellFormed.{is_well_formed}
 use Rattle.world_core.specs.Start.{Start, made}
 use Rattle.world_core.specs.Steps.{Addressed, HostStep}
-use Rattle.run_laws.specs.Transit.{taken_by}
 use Rattle.world_views.specs.Sending.{is_own_work}
 use Rattle.view_laws.specs.Order.{sound_machine}
 use Rattle.view_laws.specs.Runs.{view_after}
@@ -41,21 +37,20 @@ use Rattle.moment_laws.proofs.MomentTurns.{current_rises}
 use Rattle.moment_laws.proofs.MomentViews.{current_above, current_number, moment_less}
 use Rattle.request_laws.specs.Routed.{layout_in}
 use Rattle.request_laws.proofs.TokenPlaces.{ldm_low}
-use Rattle.commit_laws.specs.Commits.{CommitsStand}
-use Rattle.commit_laws.specs.Fates.{aborts, fate, is_led_by_full}
+use Rattle.commit_laws.specs.Fates.{fate, is_led_by_full}
 use Rattle.commit_laws.specs.Forth.{IsForth, TellsForth}
 use Rattle.commit_laws.specs.Going.{is_forth}
-use Rattle.commit_laws.specs.Parts.{IsAsked, IsHale, IsOff, Part, PartsStand, Tells, Told, part_if, part_of, performs}
+use Rattle.commit_laws.specs.Parts.{IsAsked, IsHale, IsOff, PartsStand, Tells, Told, part_if, part_of, performs}
 use Rattle.commit_laws.specs.Settled.{IsPrimary, IsSettledWith}
 use Rattle.commit_laws.specs.Speaks.{SaysAbort}
-use Rattle.commit_laws.specs.Together.{AllStand, Follows}
+use Rattle.commit_laws.specs.Together.{Follows}
 use Rattle.commit_laws.specs.Traces.{IsReplicaOf, rows_at}
 use Rattle.commit_laws.specs.Transit.{AreInTransit, Takes, is_closing}
 use Rattle.commit_laws.proofs.ForthAll.{forth_is_known}
 use Rattle.commit_laws.proofs.HaleOthers.{IsNotAt, hale_fate, hale_ways, others_do}
 use Rattle.commit_laws.proofs.MemberKeeps.{IsOfOther, member_keeps}
 use Rattle.commit_laws.proofs.RowsGo.{IsBetween, IsTakenAt, as_was, entered}
-use Rattle.commit_laws.proofs.SettledKept.{AreSame, settled_kept}
+use Rattle.commit_laws.proofs.SettledKept.{settled_kept}
 use Rattle.commit_laws.proofs.TakenChains.{chain_number, chain_told}
 use Rattle.commit_laws.proofs.TransitCounts.{each_taken}
 

@@ -1,8 +1,8 @@
 -- How an open transaction goes on at its coordinator: as it was, or it asks for an operation, or the one that it asked for is
 -- answered.
-use Rattle.std.proofs.Common.{◌≡◌, ◌++◌, ◌==◌, ◌∙◌, ℕ, Bool, true, false, List, [], ◌∷◌, refl, sym, ap}
+use Rattle.std.proofs.Common.{◌≡◌, ◌++◌, ◌∙◌, ℕ, Bool, true, false, List, [], ◌∷◌, refl, sym, ap}
 use Rattle.std.proofs.lemmas.Bool.{and_parts, true≢false}
-use Rattle.std.specs.Prelude.{◌&&◌, Option, None, Some}
+use Rattle.std.specs.Prelude.{◌&&◌, None, Some}
 use Rattle.frag_map.specs.Layout.{Layout, chain_of}
 use Rattle.sig_core.specs.declared.member.TxId.{TxId}
 use Rattle.sig_core.specs.declared.op.Answer.{Answer}
@@ -17,20 +17,19 @@ use Rattle.sig_core.specs.Chain.{node_at}
 use Rattle.sig_core.specs.Op.{key_of}
 use Rattle.sig_core.specs.Place.{rows_of as rows_place}
 use Rattle.sig_core.specs.Same.{same_key}
-use Rattle.sig_core.specs.Step.{Step, to_place}
+use Rattle.sig_core.specs.Step.{to_place}
 use Rattle.tc_block.specs.declared.phase.Asked.{Asked}
-use Rattle.tc_block.specs.declared.phase.Phase.{Phase}
-use Rattle.tc_block.specs.declared.phase.Phase.TheVariants.{Aborting, Committing, Completing, Open, Verifying}
+use Rattle.tc_block.specs.declared.phase.Phase.TheVariants.{Open}
 use Rattle.tc_block.specs.declared.task.Verdict.{Verdict}
 use Rattle.tc_block.specs.declared.transaction.Transaction.{Transaction}
 use Rattle.tc_block.specs.Doom.{is_undecided}
 use Rattle.tc_block.specs.Operate.{is_ready}
-use Rattle.tc_block.specs.Resume.{anew_if, resume_by, resume_row}
+use Rattle.tc_block.specs.Resume.{anew_if, resume_row}
 use Rattle.tc_block.specs.Sends.{entering}
 use Rattle.tc_block.specs.Touched.{fits}
-use Rattle.tc_block.specs.Turn.{Turn, going}
+use Rattle.tc_block.specs.Turn.{Turn}
 use Rattle.tc_block.proofs.EachTurn.{AbortForms, CommittedForms, TurnFormsAt, ready_is, rows_at}
-use Rattle.tc_block.proofs.TurnRows.{is_turn, turn_for, turn_with, tx_in}
+use Rattle.tc_block.proofs.TurnRows.{turn_for, turn_with, tx_in}
 use Rattle.outcome_laws.proofs.TcWalk as walk
 
 module _ (layout : Layout) (tx : TxId) where

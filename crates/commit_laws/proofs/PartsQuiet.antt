@@ -1,7 +1,7 @@
 -- Of a transaction that goes on and has nothing unanswered no part is under way in the current view.
-use Rattle.std.proofs.Common.{◌≡◌, ◌&&◌, ◌==◌, ◌∙◌, ℕ, Bool, true, false, List, [], ◌∷◌, eq-eqb, refl, sym, ap, subst}
+use Rattle.std.proofs.Common.{◌≡◌, ◌&&◌, ◌==◌, ◌∙◌, ℕ, Bool, true, false, List, eq-eqb, refl, sym, ap, subst}
 use Rattle.std.proofs.lemmas.Bool.{true≢false}
-use Rattle.std.specs.Prelude.{if◌then◌else◌, Option, None, Some}
+use Rattle.std.specs.Prelude.{if◌then◌else◌, None}
 use Rattle.run_theory.proofs.Pasts.{each_map}
 use Rattle.run_theory.specs.Lists.{Each, IsIn}
 use Rattle.sig_core.specs.declared.member.Member.{Member}
@@ -20,9 +20,9 @@ use Rattle.world_core.specs.Steps.{Addressed, HostStep}
 use Rattle.view_laws.specs.Runs.{view_after}
 use Rattle.moment_laws.specs.Moments.{IsMoment, current, logs_of}
 use Rattle.moment_laws.specs.Places.{ldm_of}
-use Rattle.request_laws.specs.Tokens.{IsQuiet, all_sent, all_taken, count_waiting, is_token, is_token_in, number_now}
+use Rattle.request_laws.specs.Tokens.{IsQuiet, count_waiting, is_token, is_token_in, number_now}
 use Rattle.request_laws.proofs.TokenAlone.{quiet_unless_asked}
-use Rattle.commit_laws.specs.Parts.{IsHale, Part, Tells, Told, answers, part_if, part_of, performs, refuses}
+use Rattle.commit_laws.specs.Parts.{IsHale, Tells, Told, answers, part_if, part_of, performs, refuses}
 use Rattle.commit_laws.specs.Traces.{rows_at}
 use Rattle.commit_laws.specs.Transit.{AreInTransit, is_closing}
 use Rattle.commit_laws.proofs.Calm.{calm_stops, none_passes}

@@ -15,7 +15,6 @@ use Rattle.sig_core.specs.declared.signal.Body.{Body}
 use Rattle.sig_core.specs.declared.signal.Body.TheVariants.{Chain}
 use Rattle.sig_core.specs.declared.signal.Signal.{Signal}
 use Rattle.sig_core.specs.declared.signal.chain.ChainSignal.TheVariants.{Abort, LqhKeyConf, LqhKeyRef, LqhKeyReq}
-use Rattle.sig_core.specs.Place.{coordinator_of}
 use Rattle.sig_core.specs.Same.{same_key, same_tx}
 use Rattle.sig_core.specs.Work.{work_key}
 use Rattle.sig_core.proofs.TxLemmas.{same_tx-is}
@@ -34,7 +33,7 @@ use Rattle.world_views.specs.Machine.{signals_of, step_after}
 use Rattle.view_laws.specs.Order.{is_sound, sound_machine}
 use Rattle.view_laws.proofs.EraSound.{each_filter}
 use Rattle.view_laws.proofs.FollowSends.{each_sent}
-use Rattle.moment_laws.specs.Moments.{IsMoment, logs_of}
+use Rattle.moment_laws.specs.Moments.{logs_of}
 use Rattle.moment_laws.specs.Places.{ldm_of}
 use Rattle.moment_laws.proofs.MomentViews.{moment_less}
 use Rattle.request_laws.specs.Replicas.{event_under}

@@ -1,6 +1,5 @@
 -- The parts of a transaction's operation on a key that rows send at a signal are those that the event of the key sends.
-use Rattle.std.proofs.Common.{◌≡◌, ◌==◌, ◌∙◌, ℕ, Bool, true, false, map, List, [], ◌∷◌, refl, sym, ap}
-use Rattle.std.proofs.lemmas.Bool.{true≢false}
+use Rattle.std.proofs.Common.{◌≡◌, ◌==◌, ◌∙◌, ℕ, Bool, true, false, map, List, [], ◌∷◌, refl, sym}
 use Rattle.std.specs.Prelude.{Option, None, Some}
 use Rattle.sig_core.specs.declared.member.Member.{Member}
 use Rattle.sig_core.specs.declared.member.TxId.{TxId}
@@ -8,27 +7,27 @@ use Rattle.sig_core.specs.declared.outs.Outgoing.{Outgoing}
 use Rattle.sig_core.specs.declared.place.Place.{Place}
 use Rattle.sig_core.specs.declared.rows.PendingRecord.{PendingRecord}
 use Rattle.sig_core.specs.declared.signal.Body.{Body}
-use Rattle.sig_core.specs.declared.signal.Body.TheVariants.{Chain, Client, Epoch, Host, Membership, Takeover}
+use Rattle.sig_core.specs.declared.signal.Body.TheVariants.{Chain, Epoch, Host, Membership, Takeover}
 use Rattle.sig_core.specs.declared.signal.Signal.{Signal}
-use Rattle.sig_core.specs.declared.signal.chain.ChainSignal.TheVariants.{Abort, Aborted, Commit, Committed, Complete, Completed, LqhKeyConf, LqhKeyRef, LqhKeyReq}
+use Rattle.sig_core.specs.declared.signal.chain.ChainSignal.TheVariants.{Aborted, Committed, Completed}
 use Rattle.sig_core.specs.declared.signal.epoch.EpochSignal.{EpochSignal}
 use Rattle.sig_core.specs.declared.signal.epoch.EpochSignal.TheVariants.{GcpClosed, GcpSaveReq, GcpStateReq}
-use Rattle.sig_core.specs.declared.signal.host.HostSignal.TheVariants.{Continue, Round}
+use Rattle.sig_core.specs.declared.signal.host.HostSignal.TheVariants.{Continue}
 use Rattle.sig_core.specs.declared.signal.host.Work.TheVariants as work
 use Rattle.sig_core.specs.declared.signal.membership.MembershipSignal.TheVariants.{FenceReq}
 use Rattle.sig_core.specs.declared.signal.takeover.TakeoverSignal.TheVariants.{LqhTransReq}
 use Rattle.sig_core.specs.declared.view.View.{View}
 use Rattle.lqh_block.specs.declared.request.Marker.{Marker}
-use Rattle.lqh_views.specs.Address.{addressed, owned_if, to_takeover}
+use Rattle.lqh_views.specs.Address.{addressed, owned_if}
 use Rattle.lqh_views.specs.Epochs.{epoch_table}
 use Rattle.lqh_views.specs.Report.{go_on_by, is_orphaned_marker, is_orphaned_record, last_before, marker_by, record_by, reporting, telling, told_record_if}
 use Rattle.lqh_views.specs.declared.report.Report.{Report}
 use Rattle.lqh_views.specs.Replica.{is_stale, passed, replica_by, replica_row, serve_if}
 use Rattle.lqh_views.specs.State.{ReplicaState}
 use Rattle.lqh_block.specs.Views.{is_coordinated}
-use Rattle.key_laws.specs.Replica.{Event, at_key, event_at, rests}
+use Rattle.key_laws.specs.Replica.{at_key, event_at}
 use Rattle.run_laws.proofs.KeySends.{is_abort, lqh_tokens}
-use Rattle.run_laws.proofs.KeyTokens.{Token, event_tokens, put, token_of, tokens_of}
+use Rattle.run_laws.proofs.KeyTokens.{event_tokens, put, token_of, tokens_of}
 use Rattle.request_laws.specs.Replicas.{event_by, event_if, event_under}
 
 module _ (tx : TxId) (key : List ℕ) where

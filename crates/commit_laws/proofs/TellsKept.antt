@@ -1,11 +1,10 @@
 -- What a part of an operation tells of a transaction on a key stays so, as long as members keep what they have of it there.
-use Rattle.std.proofs.Common.{◌≡◌, ◌<◌, ◌⊎◌, ◌++◌, ◌∙◌, ℕ, Bool, true, false, List, [], ◌∷◌, refl, sym, ap, subst, inl, inr}
+use Rattle.std.proofs.Common.{◌≡◌, ◌++◌, ◌∙◌, ℕ, true, List, [], ◌∷◌, sym, subst, inr}
 use Rattle.std.specs.List.{slice_get}
 use Rattle.std.specs.Prelude.{Option, None, Some}
 use Rattle.run_theory.specs.Lists.{IsIn}
 use Rattle.frag_map.specs.Layout.{chain_of}
 use Rattle.row_locks.specs.declared.mode.Mode.TheVariants.{Exclusive}
-use Rattle.row_locks.specs.Holders.{holds, holds_enough}
 use Rattle.sig_core.specs.declared.member.Member.{Member}
 use Rattle.sig_core.specs.declared.member.TxId.{TxId}
 use Rattle.sig_core.specs.declared.op.Answer.{Answer}
@@ -26,11 +25,11 @@ use Rattle.request_laws.specs.Routed.{layout_in}
 use Rattle.commit_laws.specs.Commits.{CommitsStand}
 use Rattle.commit_laws.specs.Parts.{IsAsked, IsStoredTo, Part, Tells, Told, answers, performs, refuses}
 use Rattle.commit_laws.specs.Settled.{HasImageIf, IsPrimary, IsSettledWith, row_behind}
-use Rattle.commit_laws.specs.Traces.{IsReplicaOf, record_at, replica_at}
+use Rattle.commit_laws.specs.Traces.{IsReplicaOf, replica_at}
 use Rattle.commit_laws.proofs.CommitPlaces.{in_at}
 use Rattle.commit_laws.proofs.MemberKeeps.{KeepsFor}
 use Rattle.commit_laws.proofs.ReplicasNow.{chain_replica}
-use Rattle.commit_laws.proofs.SettledKept.{AreSame, MembersKeep, primary_held, primary_made, settled_kept}
+use Rattle.commit_laws.proofs.SettledKept.{AreSame, primary_held, primary_made, settled_kept}
 
 module _ (start : Start) (all : ℕ → List HostStep) (e : HostStep) (es : List HostStep)
     (moment : IsMoment start all (e ∷ es)) (commits : CommitsStand start (logs_of start es))

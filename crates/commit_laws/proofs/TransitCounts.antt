@@ -1,6 +1,6 @@
 -- What is in transit was sent, and of each kind of signals but closings it is what was sent and wasn't taken.
-use Rattle.std.proofs.Common.{◌≡◌, ◌≤◌, ◌+◌, ◌||◌, ◌++◌, ℕ, Bool, true, false, List, [], ◌∷◌, refl, sym, ap, ◌∙◌, subst, inl, inr, arith}
-use Rattle.std.proofs.lemmas.Bool.{eq-eqb, true≢false}
+use Rattle.std.proofs.Common.{◌≡◌, ◌+◌, ◌||◌, ◌++◌, ℕ, Bool, true, false, List, [], ◌∷◌, refl, sym, ap, ◌∙◌, subst, inl, inr, arith}
+use Rattle.std.proofs.lemmas.Bool.{eq-eqb}
 use Rattle.std.specs.List.{count_by}
 use Rattle.std.specs.Prelude.{◌==◌, if◌then◌else◌}
 use Rattle.run_theory.proofs.Links.{put_past, sent_more}
@@ -16,7 +16,7 @@ use Rattle.host_laws.proofs.Sums.{total_zero}
 use Rattle.world_core.specs.Hosts.{hosts}
 use Rattle.world_core.specs.Start.{Start}
 use Rattle.world_core.specs.Steps.{Addressed, HostStep}
-use Rattle.run_laws.specs.Transit.{IsTaken, joined, taken_by}
+use Rattle.run_laws.specs.Transit.{taken_by}
 use Rattle.run_laws.proofs.TransitLists.{tally_joined}
 use Rattle.run_laws.proofs.Weighing.{joined_each}
 use Rattle.view_laws.specs.Order.{sound_machine}
@@ -26,8 +26,8 @@ use Rattle.outcome_laws.specs.Counts.{one_if}
 use Rattle.outcome_laws.proofs.TcLists.{count_more}
 use Rattle.request_laws.specs.Tokens.{all_sent, all_taken}
 use Rattle.request_laws.proofs.TokenRows.{one_same}
-use Rattle.request_laws.proofs.TokenViews.{all_sent_more, all_taken_more, sent_now, taken_now}
-use Rattle.commit_laws.specs.Transit.{AreInTransit, Passes, Takes, is_closing}
+use Rattle.request_laws.proofs.TokenViews.{all_sent_more, all_taken_more, taken_now}
+use Rattle.commit_laws.specs.Transit.{AreInTransit, Takes, is_closing}
 
 module _ (start : Start) where
   abbrev n : Machine HostStep Addressed

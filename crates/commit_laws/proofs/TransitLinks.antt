@@ -9,12 +9,11 @@ use Rattle.run_theory.proofs.Runs.{if_false, if_true, log_of-other, log_of-own, 
 use Rattle.run_theory.specs.Links.{IsGiven, put, sent, sent_by, taken}
 use Rattle.run_theory.specs.Lists.{Each, IsPast}
 use Rattle.run_theory.specs.Machine.{Machine}
-use Rattle.sig_core.specs.declared.signal.Body.{Body}
 use Rattle.sig_core.specs.declared.signal.Body.TheVariants.{Host}
 use Rattle.sig_core.specs.declared.signal.host.HostSignal.TheVariants.{Closed}
 use Rattle.world_core.specs.Start.{Start}
 use Rattle.world_core.specs.Steps.{Addressed, HostStep}
-use Rattle.run_laws.specs.Transit.{IsTaken, joined, taken_by}
+use Rattle.run_laws.specs.Transit.{joined, taken_by}
 use Rattle.run_laws.proofs.TransitRuns.{IsLast, chosen, chosen_without, is_on, last_chosen}
 use Rattle.world_views.specs.Machine.{cause_in, signals_of}
 use Rattle.view_laws.specs.Order.{is_sound, sound_machine}
@@ -22,7 +21,7 @@ use Rattle.view_laws.proofs.EraSound.{each_filter}
 use Rattle.view_laws.proofs.FollowSends.{each_sent}
 use Rattle.moment_laws.specs.Moments.{IsMoment, logs_of}
 use Rattle.moment_laws.proofs.MomentViews.{moment_less}
-use Rattle.commit_laws.specs.Transit.{AreInTransit, MomentsHaveTransit, Passes, Takes, is_closing}
+use Rattle.commit_laws.specs.Transit.{AreInTransit, MomentsHaveTransit, Takes, is_closing}
 
 -- the signal counts: it isn't a closing
 abbrev pub counts : Addressed → Bool
