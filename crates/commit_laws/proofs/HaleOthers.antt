@@ -1,4 +1,5 @@
--- What is so of a transaction that goes on: it went no way, nobody aborts it; and where no part of its operation on a key is at
+-- What is so of a transaction that goes on: it went no way, nobody aborts it; and where no part of its operation on
+-- a key is at
 -- rows, what these do on the key isn't of it.
 use Rattle.std.proofs.Common.{◌≡◌, ◌⊎◌, ◌==◌, ◌∙◌, ℕ, Bool, true, false, cond, filter, List, [], ◌∷◌, refl, sym, ap, subst, inl, inr}
 use Rattle.std.proofs.lemmas.Bool.{true≢false}
@@ -52,7 +53,8 @@ use Rattle.commit_laws.proofs.KeyStays.{worker_of}
 use Rattle.commit_laws.proofs.RowsAttended.{under_is}
 
 -- who isn't lost at a full coordinator, and hasn't gone forth, doesn't abort
-not_aborting : (known forth lost trace : Bool) → forth ≡ false → lost ≡ false → fate_if known true forth lost trace ≡ aborts → ⊥
+not_aborting : (known forth lost trace : Bool) → forth ≡ false → lost ≡ false
+    → fate_if known true forth lost trace ≡ aborts → ⊥
 not_aborting true forth lost trace off spared is = absurd cc
 not_aborting false true lost trace off spared is = true≢false off
 not_aborting false false true trace off spared is = true≢false spared
@@ -78,7 +80,8 @@ module _ (start : Start) (all : ℕ → List HostStep) (es : List HostStep) (mom
     pub hale_stands : CoordinatorStands start (coordinator_member tx) (logs_of start es)
     hale_stands = coordinators_stand start all es moment member hale_made
 
-    undecided_ways : (phase : Phase) → is_undecided phase ≡ true → SaysIn start member (own_log start logs tx) tx t phase
+    undecided_ways : (phase : Phase) → is_undecided phase ≡ true
+        → SaysIn start member (own_log start logs tx) tx t phase
         → (is_forth start logs tx ≡ false) × (is_back start logs tx ≡ false)
     undecided_ways Open is says = says
     undecided_ways Verifying is says = says.1

@@ -1,4 +1,5 @@
--- What an event of another transaction leaves one that holds the lock of a key: its record, its hold on the lock, and the row.
+-- What an event of another transaction leaves one that holds the lock of a key: its record, its hold on the lock,
+-- and the row.
 use Rattle.std.proofs.Common.{◌≡◌, ◌∙◌, ℕ, Bool, true, false, List, refl, sym, ap, subst}
 use Rattle.std.proofs.lemmas.Bool.{true≢false}
 use Rattle.std.specs.Prelude.{if◌then◌else◌, Option, None, Some}
@@ -30,7 +31,8 @@ use Rattle.key_laws.proofs.Holding.{only_holder}
 use Rattle.key_laws.proofs.LockHolding.{expiries_hold_on, releases_hold_on, requests_hold_on}
 use Rattle.run_laws.proofs.OthersStay.{is_of, of_first, others_stay}
 
--- The transaction of which an event does something, but for ending a wait: it asks, is served, or comes to its end there.
+-- The transaction of which an event does something, but for ending a wait: it asks, is served, or comes to its end
+-- there.
 abbrev pub worker_of : Event → Replica → Option TxId
 worker_of (asks q refused) r = Some q.tx
 worker_of (serves refused) r = of_first (first (is_let_in r.lock) r.waiting)

@@ -1,4 +1,5 @@
--- What a member of the current view keeps of a transaction on a key at an event that isn't of it there: its record, its hold
+-- What a member of the current view keeps of a transaction on a key at an event that isn't of it there: its record,
+-- its hold
 -- on the lock, and the row, if it holds the lock.
 use Rattle.std.proofs.Common.{◌≡◌, ◌⊎◌, ◌||◌, ◌&&◌, ◌∙◌, ℕ, Bool, true, false, cond, List, [], ◌∷◌, filter, refl, sym, ap, subst, inl, inr}
 use Rattle.std.proofs.lemmas.Bool.{or_left, or_right, true≢false}
@@ -57,7 +58,8 @@ module _ (stays : TxId → Bool) (tx : TxId) (on : stays tx ≡ true) where
       by false e true f is more = absurd (true≢false (sym (own_stays h.tx f) ∙ e))
       by false e false f is more = more is
 
-  enough_left : (mode : Mode) (hs : List Holder) → holds_enough tx mode hs ≡ true → holds_enough tx mode (left hs) ≡ true
+  enough_left : (mode : Mode) (hs : List Holder) → holds_enough tx mode hs ≡ true
+      → holds_enough tx mode (left hs) ≡ true
   enough_left mode [] is = is
   enough_left mode (h ∷ hs) is =
       by (stays h.tx) refl (same_tx h.tx tx) refl (is_enough h.mode mode) refl is (enough_left mode hs)
@@ -79,7 +81,8 @@ module _ (stays : TxId → Bool) (tx : TxId) (on : stays tx ≡ true) where
 pub record KeepsFor (tx : TxId) (before after : Replica) : Type 0 where
   pub found_is : found tx after.cell.pending ≡ found tx before.cell.pending
   pub held : holds tx before.lock.holders ≡ true → holds tx after.lock.holders ≡ true
-  pub exclusive : holds_enough tx Exclusive before.lock.holders ≡ true → holds_enough tx Exclusive after.lock.holders ≡ true
+  pub exclusive : holds_enough tx Exclusive before.lock.holders ≡ true
+      → holds_enough tx Exclusive after.lock.holders ≡ true
   pub row : AreHeld before → holds tx before.lock.holders ≡ true → after.cell.row ≡ before.cell.row
 
 pub keeps_self : (tx : TxId) (r : Replica) → KeepsFor tx r r
@@ -113,13 +116,15 @@ module _ (s : ReplicaState) (view : View) (key : List ℕ) (well : IsWell s.lqh)
       subst AreHeld (sym (installations_are_events s view key well))
       (λ u has. enough_left stays u (on u has) Exclusive (at_key key s.lqh).lock.holders (held u has))
     where
-      on : (u : TxId) → HasPrepared u (at_key key s.lqh).cell.pending → goes_on_holding s.lqh.rows view.full key u ≡ true
+      on : (u : TxId) → HasPrepared u (at_key key s.lqh).cell.pending
+          → goes_on_holding s.lqh.rows view.full key u ≡ true
       on u has =
           or_left (is_some (record_state s.lqh.rows u key)) (is_coordinated view.full u)
           (ap is_some (state_found s.lqh.rows u key ∙ ap state_by has.there))
 
 -- one step behind the other
-keeps_both : (tx : TxId) (a b c : Replica) → (AreHeld a → AreHeld b) → KeepsFor tx a b → KeepsFor tx b c → KeepsFor tx a c
+keeps_both : (tx : TxId) (a b c : Replica) → (AreHeld a → AreHeld b) → KeepsFor tx a b → KeepsFor tx b c
+    → KeepsFor tx a c
 keeps_both tx a b c more one other = record {
   found_is = other.found_is ∙ one.found_is;
   held = λ is. other.held (one.held is);
@@ -139,7 +144,8 @@ event_keeps tx r event orderly off =
     }
 
 module _ (start : Start) (all : ℕ → List HostStep) (e : HostStep) (es : List HostStep)
-    (moment : IsMoment start all (e ∷ es)) (member : Member) (there : IsIn member (made start)) (key : List ℕ) (tx : TxId)
+    (moment : IsMoment start all (e ∷ es)) (member : Member) (there : IsIn member (made start)) (key : List ℕ)
+    (tx : TxId)
   where
     abbrev old : ℕ → List HostStep
     old = logs_of start es

@@ -1,4 +1,5 @@
--- The parts of a transaction's operations at an event, in the current view, of a host that neither coordinates it nor runs rows.
+-- The parts of a transaction's operations at an event, in the current view, of a host that neither coordinates it
+-- nor runs rows.
 use Rattle.std.proofs.Common.{◌≡◌, ◌≢◌, ◌⊎◌, ◌∙◌, ℕ, false, List, ◌∷◌, refl, sym, ap, subst, inl, inr}
 use Rattle.std.specs.Prelude.{None}
 use Rattle.run_theory.proofs.Runs.{log_of-other}
@@ -32,7 +33,8 @@ use Rattle.commit_laws.proofs.Calm.{none_passes}
 use Rattle.commit_laws.proofs.HaleOthers.{hale_made}
 use Rattle.commit_laws.proofs.PartOwn.{PartsOf, bodies_sent, goes_on_so, hale_was, sent_now}
 
-module _ (start : Start) (all : ℕ → List HostStep) (e : HostStep) (es : List HostStep) (follows : Follows start all e es)
+module _ (start : Start) (all : ℕ → List HostStep) (e : HostStep) (es : List HostStep)
+    (follows : Follows start all e es)
     (xs between : List Addressed) (transit : AreInTransit start es xs) (takes : Takes start e xs between)
     (same : current start (logs_of start (e ∷ es)) ≡ current start (logs_of start es)) (tx : TxId) (u : Transaction)
     (hale : IsHale start (logs_of start (e ∷ es)) tx u) (off : e.host ≢ tc_of start (coordinator_member tx))

@@ -37,7 +37,8 @@ use Rattle.commit_laws.specs.Traces.{IsReplicaOf, record_at, replica_at}
 use Rattle.commit_laws.proofs.PartPerforms.{answered_settles, seen_is, stored_first, stored_on, whole_settled}
 use Rattle.commit_laws.proofs.PartsSent.{part_by}
 
-module _ (start : Start) (old new : ℕ → List HostStep) (same : current start new ≡ current start old) (key : List ℕ) (tx : TxId)
+module _ (start : Start) (old new : ℕ → List HostStep) (same : current start new ≡ current start old) (key : List ℕ)
+    (tx : TxId)
     (me : Member)
     (others_same : (m : Member) → IsIn m (made start) → (m ≡ me) ⊎ (replica_at start new m key ≡ replica_at start old m key))
     (chain_made : (place : ℕ) (m : Member) → slice_get (chain_of (layout_in start (current start old)) key) place ≡ Some m
@@ -54,25 +55,32 @@ module _ (start : Start) (old new : ℕ → List HostStep) (same : current start
     now = record_at start new me key tx
 
     -- an image that was prepared here
-    has_image : (own : List ℕ) (image : Option (List ℕ)) → (replica_at start new me key).cell ≡ storing cell tx own image false
+    has_image : (own : List ℕ) (image : Option (List ℕ))
+        → (replica_at start new me key).cell ≡ storing cell tx own image false
         → HasImageIf true image now
-    has_image own image is =
-        (prepared tx own image,
-        (ap (λ (c : Cell). found tx c.pending) is
-        ∙ (found-stored tx (prepared tx own image) cell.pending
-        ∙ ap (λ b. if b then Some (prepared tx own image) else found tx cell.pending) (same_tx-self tx)),
-        (refl, refl)))
+    has_image own image is = (
+      prepared tx own image,
+      (
+        ap (λ (c : Cell). found tx c.pending) is
+            ∙ (found-stored tx (prepared tx own image) cell.pending
+            ∙ ap (λ b. if b then Some (prepared tx own image) else found tx cell.pending) (same_tx-self tx)),
+        (refl, refl),
+      ),
+    )
 
     -- it goes on to the next place, or is answered
     passes_on : (own : List ℕ) (image : Option (List ℕ)) (at : ℕ) → IsStoredTo start new key tx t image (at + 1)
         → (next : Option Member) → slice_get chain_old (at + 1) ≡ next
         → Tells start new key tx t (part_by (passed_token own image at next))
     passes_on own image at all (Some next) is = all
-    passes_on own image at all None is =
-        (all.op,
-        (all.asks,
+    passes_on own image at all None is = (
+      all.op,
+      (
+        all.asks,
         whole_settled start new key tx t image (at + 1) all
-        (subst (λ v. slice_get (chain_of (layout_in start v) key) (at + 1) ≡ None) (sym same) is)))
+            (subst (λ v. slice_get (chain_of (layout_in start v) key) (at + 1) ≡ None) (sym same) is),
+      ),
+    )
 
     -- an image
     pub stores_tell : (own : List ℕ) (image : Option (List ℕ)) (at : ℕ)
@@ -121,13 +129,16 @@ module _ (start : Start) (old new : ℕ → List HostStep) (same : current start
         plain : (answer : Answer) → answer_to op (seen_by cell.row (found tx cell.pending)) ≡ answer
             → is_done answer ≡ false → (replica_at start new me key).cell ≡ cell
             → (o : Op) × (IsAsked start new key tx t o × IsSettledWith start new key tx (t.ops ++ (o, answer) ∷ []))
-        plain answer is off same_cell =
-            (op,
-            (now_asks,
+        plain answer is off same_cell = (
+          op,
+          (
+            now_asks,
             answered_settles start old new same key tx me others_same chain_made row_same t primary settled op asks answer
-            (sym is ∙ ap (answer_to op) seen_left) off
-            (ap (λ (c : Cell). found tx c.pending) (same_cell ∙ cell_is))
-            (holds_so tx (op_mode op) (replica_at start new me key).lock.holders held) kept exclusive))
+                (sym is ∙ ap (answer_to op) seen_left) off
+                (ap (λ (c : Cell). found tx c.pending) (same_cell ∙ cell_is))
+                (holds_so tx (op_mode op) (replica_at start new me key).lock.holders held) kept exclusive,
+          ),
+        )
 
         takes_effect : (b : Bool) → answer_to op (seen_by cell.row (found tx cell.pending)) ≡ Done
             → (replica_at start new me key).cell ≡ storing cell tx (key_of op) (image_of op) b

@@ -99,7 +99,8 @@ settled_by start logs key tx ops more same settled = record {
 }
 
 -- of no operations it is, where nobody has a record
-pub settled_none : (start : Start) (all : ℕ → List HostStep) (es : List HostStep) → IsMoment start all es → (key : List ℕ)
+pub settled_none : (start : Start) (all : ℕ → List HostStep) (es : List HostStep) → IsMoment start all es
+    → (key : List ℕ)
     (tx : TxId) → ((m : Member) → IsIn m (made start) → record_at start (logs_of start es) m key tx ≡ None)
     → IsSettledWith start (logs_of start es) key tx []
 settled_none start all es moment key tx none = record {
@@ -114,7 +115,8 @@ not_either : (a b : Bool) → (a || b) ≡ false → a ≡ false
 not_either true b none = none
 not_either false b none = refl
 
-module _ (start : Start) (all : ℕ → List HostStep) (e : HostStep) (es : List HostStep) (follows : Follows start all e es)
+module _ (start : Start) (all : ℕ → List HostStep) (e : HostStep) (es : List HostStep)
+    (follows : Follows start all e es)
     (xs between : List Addressed) (transit : AreInTransit start es xs) (takes : Takes start e xs between)
     (same : current start (logs_of start (e ∷ es)) ≡ current start (logs_of start es)) (tx : TxId)
     (home : e.host ≡ tc_of start (coordinator_member tx)) (u : Transaction)
@@ -378,8 +380,12 @@ module _ (start : Start) (all : ℕ → List HostStep) (e : HostStep) (es : List
 
             counted : count_sent (is_token tx) out.front + count_sent (is_token tx) (request ∷ out.more) ≤ 1
             counted =
-                omega (arith, few_sent, ap (count_sent (is_token tx)) all_is,
-                count_both (λ (o : Outgoing). is_token tx o.body) out.front (request ∷ out.more))
+                omega (
+                  arith,
+                  few_sent,
+                  ap (count_sent (is_token tx)) all_is,
+                  count_both (λ (o : Outgoing). is_token tx o.body) out.front (request ∷ out.more),
+                )
 
             one : count_sent (is_token tx) (request ∷ out.more) ≡ 1 + count_sent (is_token tx) out.more
             one =
@@ -392,7 +398,8 @@ module _ (start : Start) (all : ℕ → List HostStep) (e : HostStep) (es : List
             more_none : count_sent (is_token tx) out.more ≡ 0
             more_none = omega (arith, counted, one)
 
-        asks_now : (own : List Outgoing) → own ≡ request ∷ [] → Sends start member there tx (old h) e u own ⊎ (sends ≡ [])
+        asks_now : (own : List Outgoing) → own ≡ request ∷ []
+            → Sends start member there tx (old h) e u own ⊎ (sends ≡ [])
             → Now
         asks_now own is out = record {
           signals = λ key.

@@ -1,4 +1,5 @@
--- How a transaction goes on that is undecided behind an event of its coordinator's host: as it was, or it begins, or it takes a
+-- How a transaction goes on that is undecided behind an event of its coordinator's host: as it was, or it begins, or
+-- it takes a
 -- turn.
 use Rattle.std.proofs.Common.{◌≡◌, ◌⊎◌, ◌++◌, ◌∙◌, ℕ, Bool, true, false, List, [], ◌∷◌, append-nil, refl, sym, ap, subst, inl, inr}
 use Rattle.std.specs.Prelude.{if◌then◌else◌, None, Some}
@@ -53,43 +54,44 @@ turn_left turn u is = by turn.over refl is
     by false on is = let same : turn.step.state ≡ u = cc in (on, same)
 
 -- a step of the coordinator
-module _ (member : Member) (s : CoordinatorState) (of : IsCoordinatorOf member s) (tx : TxId) (x : Signal) (u : Transaction)
+module _ (member : Member) (s : CoordinatorState) (of : IsCoordinatorOf member s) (tx : TxId) (x : Signal)
+    (u : Transaction)
   where
-  abbrev step : Step CoordinatorState
-  step = coordinator_row s x
+    abbrev step : Step CoordinatorState
+    step = coordinator_row s x
 
-  pub data Walked : Type 0 where
-    kept_so : entry_of s tx ≡ Some u → Walked
-    begun_so : entry_of s tx ≡ None → u ≡ fresh → Walked
-    moved_so : (t : Transaction) → entry_of s tx ≡ Some t → is_undecided t.phase ≡ true → (own more : List Outgoing)
-        → PartMove s.tc.layout tx t x.body u own → (coordinator_row s x).effects.sends ≡ own ++ more → Walked
+    pub data Walked : Type 0 where
+      kept_so : entry_of s tx ≡ Some u → Walked
+      begun_so : entry_of s tx ≡ None → u ≡ fresh → Walked
+      moved_so : (t : Transaction) → entry_of s tx ≡ Some t → is_undecided t.phase ≡ true → (own more : List Outgoing)
+          → PartMove s.tc.layout tx t x.body u own → (coordinator_row s x).effects.sends ≡ own ++ more → Walked
 
-  a_turn : (t : Transaction) → entry_of s tx ≡ Some t → (turn : Turn) → entry_of step.state tx ≡ left_of turn
-      → (turn.over ≡ false → is_undecided turn.step.state.phase ≡ true
-      → (is_undecided t.phase ≡ true)
-      × PartMove s.tc.layout tx t x.body turn.step.state turn.step.effects.sends)
-      → (more : List Outgoing) → step.effects.sends ≡ turn.step.effects.sends ++ more
-      → entry_of step.state tx ≡ Some u → is_undecided u.phase ≡ true → Walked
-  a_turn t was turn left goes more sends is undecided =
-      let so = turn_left turn u (sym left ∙ is) in
-      let move = goes so.0 (ap (λ (v : Transaction). is_undecided v.phase) so.1 ∙ undecided) in
-      moved_so t was move.0 turn.step.effects.sends more
-      (subst (λ v. PartMove s.tc.layout tx t x.body v turn.step.effects.sends) so.1 move.1) sends
+    a_turn : (t : Transaction) → entry_of s tx ≡ Some t → (turn : Turn) → entry_of step.state tx ≡ left_of turn
+        → (turn.over ≡ false → is_undecided turn.step.state.phase ≡ true
+        → (is_undecided t.phase ≡ true)
+        × PartMove s.tc.layout tx t x.body turn.step.state turn.step.effects.sends)
+        → (more : List Outgoing) → step.effects.sends ≡ turn.step.effects.sends ++ more
+        → entry_of step.state tx ≡ Some u → is_undecided u.phase ≡ true → Walked
+    a_turn t was turn left goes more sends is undecided =
+        let so = turn_left turn u (sym left ∙ is) in
+        let move = goes so.0 (ap (λ (v : Transaction). is_undecided v.phase) so.1 ∙ undecided) in
+        moved_so t was move.0 turn.step.effects.sends more
+        (subst (λ v. PartMove s.tc.layout tx t x.body v turn.step.effects.sends) so.1 move.1) sends
 
-  pub walked : entry_of (coordinator_row s x).state tx ≡ Some u → is_undecided u.phase ≡ true → Walked
-  walked is undecided = by (coordinator_walks member s of tx x)
-    where
-      by : Walks member s x.view.number x.body tx step → Walked
-      by (stays same unborn away) = kept_so (sym same ∙ is)
-      by (passes ahead about same next sends) = kept_so (sym same ∙ is)
-      by (begins name about room own none some next sends) =
-          begun_so none (let both : Some fresh ≡ Some u = sym some ∙ is in cc)
-      by (turns t was turn own free left next sends) =
-          a_turn t was (turn_for s.tc.node s.tc.layout tx x.body t) left
-          (turn_moves s.tc.layout tx s.tc.node t x.body own) [] (sends ∙ sym (append-nil _)) is undecided
-      by (resumes t verdict rest at node was about newer tasks left next sends) =
-          a_turn t was (resume_row s.tc.node s.tc.layout tx t verdict s.number) left
-          (resume_moves s.tc.layout tx s.tc.node t x.body verdict s.number) (go_on_with node rest) sends is undecided
+    pub walked : entry_of (coordinator_row s x).state tx ≡ Some u → is_undecided u.phase ≡ true → Walked
+    walked is undecided = by (coordinator_walks member s of tx x)
+      where
+        by : Walks member s x.view.number x.body tx step → Walked
+        by (stays same unborn away) = kept_so (sym same ∙ is)
+        by (passes ahead about same next sends) = kept_so (sym same ∙ is)
+        by (begins name about room own none some next sends) =
+            begun_so none (let both : Some fresh ≡ Some u = sym some ∙ is in cc)
+        by (turns t was turn own free left next sends) =
+            a_turn t was (turn_for s.tc.node s.tc.layout tx x.body t) left
+            (turn_moves s.tc.layout tx s.tc.node t x.body own) [] (sends ∙ sym (append-nil _)) is undecided
+        by (resumes t verdict rest at node was about newer tasks left next sends) =
+            a_turn t was (resume_row s.tc.node s.tc.layout tx t verdict s.number) left
+            (resume_moves s.tc.layout tx s.tc.node t x.body verdict s.number) (go_on_with node rest) sends is undecided
 
 module _ (start : Start) (member : Member) (there : IsIn member (made start)) (tx : TxId) (log : List HostStep)
     (e : HostStep) (u : Transaction)

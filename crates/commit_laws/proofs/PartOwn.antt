@@ -72,7 +72,8 @@ no_request tx (o ∷ sends) none =
     one (Chain (LqhKeyReq other w chain at)) off = off
     one body off = refl
 
-module _ (start : Start) (all : ℕ → List HostStep) (e : HostStep) (es : List HostStep) (follows : Follows start all e es)
+module _ (start : Start) (all : ℕ → List HostStep) (e : HostStep) (es : List HostStep)
+    (follows : Follows start all e es)
     (xs between : List Addressed) (transit : AreInTransit start es xs) (takes : Takes start e xs between)
     (same : current start (logs_of start (e ∷ es)) ≡ current start (logs_of start es)) (tx : TxId)
   where
@@ -111,7 +112,8 @@ module _ (start : Start) (all : ℕ → List HostStep) (e : HostStep) (es : List
           → IsSettledWith start (logs_of start (e ∷ es)) key tx u.ops
 
     -- who goes on behind the event went on before it
-    pub hale_was : (u t : Transaction) → IsHale start (logs_of start (e ∷ es)) tx u → IsIn (coordinator_member tx) (made start)
+    pub hale_was : (u t : Transaction) → IsHale start (logs_of start (e ∷ es)) tx u
+        → IsIn (coordinator_member tx) (made start)
         → own_live start (logs_of start es) tx ≡ Some t → is_undecided t.phase ≡ true
         → (t.asked ≡ None) ⊎ (asked_in start (coordinator_member tx) tx (own_log start (logs_of start es) tx)
         ≡ (current start (logs_of start es)).number)
@@ -144,12 +146,14 @@ module _ (start : Start) (all : ℕ → List HostStep) (e : HostStep) (es : List
 
         -- and nothing of it is sent, and nothing of it changes
         module _ (t u : Transaction) (hale : IsHale start (logs_of start es) tx t)
-            (led : is_led_by_full start (logs_of start (e ∷ es)) tx ≡ true) (ops : u.ops ≡ t.ops) (asked : u.asked ≡ t.asked)
+            (led : is_led_by_full start (logs_of start (e ∷ es)) tx ≡ true) (ops : u.ops ≡ t.ops)
+            (asked : u.asked ≡ t.asked)
             (none : Each (λ (x : Addressed). is_token tx x.signal.body ≡ false) sent_now)
           where
             told_on : (key : List ℕ) (x : Addressed)
                 → (x.signal.view.number ≡ (current start old).number → Told start old key tx t (part_of tx key x.signal.body))
-                → x.signal.view.number ≡ (current start new).number → Told start new key tx u (part_of tx key x.signal.body)
+                → x.signal.view.number ≡ (current start new).number
+                → Told start new key tx u (part_of tx key x.signal.body)
             told_on key x was here =
                 told_still start all e es moment follows.stood.commits same key tx (members_still key) t u ops asked
                 (part_of tx key x.signal.body) (was (here ∙ number_is))

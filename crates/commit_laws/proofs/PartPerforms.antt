@@ -1,4 +1,5 @@
--- What an operation of a transaction leaves where it is performed: at the primary its answer or its image, at each place behind
+-- What an operation of a transaction leaves where it is performed: at the primary its answer or its image, at each
+-- place behind
 -- the image, and an answer when all places have that.
 use Rattle.std.proofs.Common.{◌≡◌, ◌≢◌, ◌<◌, ◌⊎◌, ◌||◌, ◌+◌, ◌++◌, ◌∙◌, ℕ, zero, suc, Bool, true, false, not, List, [], ◌∷◌, refl, sym, ap, subst, inl, inr, arith}
 use Rattle.std.proofs.lemmas.Bool.{cases_eq, true≢false}
@@ -44,7 +45,8 @@ row_more row [] op answer = refl
 row_more row (one ∷ ops) op answer = row_more (row_after one.0 row) ops op answer
 
 -- what took no effect leaves the row
-pub row_unless : (answer : Answer) (op : Op) (row : Option (List ℕ)) → is_done answer ≡ false → row_by answer op row ≡ row
+pub row_unless : (answer : Answer) (op : Op) (row : Option (List ℕ)) → is_done answer ≡ false
+    → row_by answer op row ≡ row
 row_unless Done op row off = absurd (true≢false off)
 row_unless (Found value) op row off = refl
 row_unless Missing op row off = refl
@@ -145,7 +147,8 @@ module _ (start : Start) (logs : ℕ → List HostStep) (key : List ℕ) (tx : T
       }
 
 -- A member performs it, and all others have what they had.
-module _ (start : Start) (old new : ℕ → List HostStep) (same : current start new ≡ current start old) (key : List ℕ) (tx : TxId)
+module _ (start : Start) (old new : ℕ → List HostStep) (same : current start new ≡ current start old) (key : List ℕ)
+    (tx : TxId)
     (me : Member)
     (others_same : (m : Member) → IsIn m (made start) → (m ≡ me) ⊎ (replica_at start new m key ≡ replica_at start old m key))
     (chain_made : (place : ℕ) (m : Member) → slice_get (chain_of (layout_in start (current start old)) key) place ≡ Some m
@@ -194,11 +197,13 @@ module _ (start : Start) (old new : ℕ → List HostStep) (same : current start
 
     -- an image is prepared here
     module _ (image : Option (List ℕ)) (has : HasImageIf true image (record_at start new me key tx)) where
-      others_none : IsReplicaOf start old key me → (m : Member) → IsIn m (made start) → (IsReplicaOf start new key m → ⊥)
+      others_none : IsReplicaOf start old key me → (m : Member) → IsIn m (made start)
+          → (IsReplicaOf start new key m → ⊥)
           → record_at start old m key tx ≡ None → record_at start new m key tx ≡ None
       others_none replica m there off none = by (others_same m there)
         where
-          by : (m ≡ me) ⊎ (replica_at start new m key ≡ replica_at start old m key) → record_at start new m key tx ≡ None
+          by : (m ≡ me) ⊎ (replica_at start new m key ≡ replica_at start old m key)
+              → record_at start new m key tx ≡ None
           by (inl is) = absurd (off (subst (IsReplicaOf start new key) (sym is) (is_replica me replica)))
           by (inr is) = ap (λ r. found tx r.cell.pending) is ∙ none
 

@@ -54,7 +54,8 @@ use Rattle.commit_laws.proofs.SettledKept.{settled_kept}
 use Rattle.commit_laws.proofs.TakenChains.{chain_number, chain_told}
 use Rattle.commit_laws.proofs.TransitCounts.{each_taken}
 
-module _ (start : Start) (all : ℕ → List HostStep) (e : HostStep) (es : List HostStep) (follows : Follows start all e es)
+module _ (start : Start) (all : ℕ → List HostStep) (e : HostStep) (es : List HostStep)
+    (follows : Follows start all e es)
     (xs between_xs : List Addressed) (transit : AreInTransit start es xs) (takes : Takes start e xs between_xs)
   where
     abbrev old : ℕ → List HostStep
@@ -89,7 +90,8 @@ module _ (start : Start) (all : ℕ → List HostStep) (e : HostStep) (es : List
 
     module _ (tx : TxId) (t : Transaction) (hale : IsHale start (logs_of start es) tx t) (key : List ℕ) where
       -- what its unanswered operation isn't on
-      pub off_asked : IsOff start (logs_of start es) key tx t t.asked → (op : Op) → IsAsked start (logs_of start es) key tx t op → ⊥
+      pub off_asked : IsOff start (logs_of start es) key tx t t.asked → (op : Op)
+          → IsAsked start (logs_of start es) key tx t op → ⊥
       off_asked off op asks = by t.asked off asks.is
         where
           by : (o : Option Asked) → IsOff start old key tx t o → o ≡ Some asks.asked → ⊥
@@ -101,12 +103,14 @@ module _ (start : Start) (all : ℕ → List HostStep) (e : HostStep) (es : List
               ∙ (λ i. same_key (key_of (sym same i).op) key)
               ∙ off)
 
-      tells_asked : (w : RowWork) (at : ℕ) → Tells start old key tx t (performs w at) → (op : Op) × IsAsked start old key tx t op
+      tells_asked : (w : RowWork) (at : ℕ) → Tells start old key tx t (performs w at)
+          → (op : Op) × IsAsked start old key tx t op
       tells_asked (Operate op) at tells = (op, tells.0)
       tells_asked (Store own image) at tells = (tells.op, tells.asks)
 
       -- no request of it for such a key is taken, or waits
-      module _ (off : IsOff start (logs_of start es) key tx t t.asked) (member : Member) (there : IsIn member (made start))
+      module _ (off : IsOff start (logs_of start es) key tx t t.asked) (member : Member)
+          (there : IsIn member (made start))
           (s : ReplicaState) (between : IsBetween start all e es follows.moment member there s)
           (taken : IsTakenAt start all e es follows.moment member there s) where
         none_taken : (w : RowWork) (chain : List Member) (at : ℕ) → x.body ≡ Chain (LqhKeyReq tx w chain at)
@@ -186,7 +190,8 @@ module _ (start : Start) (all : ℕ → List HostStep) (e : HostStep) (es : List
         }
 
       -- so what rows do on the key is of others
-      pub of_others : IsOff start (logs_of start es) key tx t t.asked → (member : Member) (there : IsIn member (made start))
+      pub of_others : IsOff start (logs_of start es) key tx t t.asked
+          → (member : Member) (there : IsIn member (made start))
           → IsOfOther start all e es follows.moment member there key tx
       of_others off member there s between taken = others_do key tx s x (none_there off member there s between taken)
 

@@ -1,4 +1,5 @@
--- How an open transaction goes on at its coordinator: as it was, or it asks for an operation, or the one that it asked for is
+-- How an open transaction goes on at its coordinator: as it was, or it asks for an operation, or the one that it
+-- asked for is
 -- answered.
 use Rattle.std.proofs.Common.{◌≡◌, ◌++◌, ◌∙◌, ℕ, Bool, true, false, List, [], ◌∷◌, refl, sym, ap}
 use Rattle.std.proofs.lemmas.Bool.{and_parts, true≢false}
@@ -88,7 +89,7 @@ module _ (layout : Layout) (tx : TxId) where
       goes_on = λ at is low going_on undecided. (undecided, rests refl refl);
       operates = λ op is can going_on undecided.
           (ap is_undecided (ready_open op can), asks op (ready_asks op can) refl refl refl);
-      answers = λ key answer asked is own at going_on undecided. 
+      answers = λ key answer asked is own at going_on undecided.
           (ap is_undecided at, gets key answer asked is own.is own.on refl refl);
       late = λ key asked why verifying awaited is own at going_on undecided.
           absurd (true≢false (sym undecided ∙ ap is_undecided at));

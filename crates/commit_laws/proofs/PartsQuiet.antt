@@ -58,7 +58,8 @@ not_and : (a b : Bool) → (a && b) ≡ false → b ≡ true → a ≡ false
 not_and true b none is = absurd (true≢false (sym is ∙ none))
 not_and false b none is = refl
 
-module _ (start : Start) (all : ℕ → List HostStep) (es : List HostStep) (moment : IsMoment start all es) (tx : TxId) where
+module _ (start : Start) (all : ℕ → List HostStep) (es : List HostStep) (moment : IsMoment start all es)
+    (tx : TxId) where
   abbrev logs : ℕ → List HostStep
   logs = logs_of start es
 

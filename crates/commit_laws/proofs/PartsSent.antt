@@ -60,24 +60,24 @@ part_by token.refuses = refuses
 module _ (tx : TxId) (key : List ℕ) (Q : Option Part → Type 0) (none : Q None) (P : Token → Type 0)
     (so : (t : Token) → P t → Q (Some (part_by t)))
   where
-  either : (placed same : Bool) (t : Token) → placed ≡ true
-      → lists.Told tx key P (if placed && same then Some t else None) → Q (part_if (part_by t) same)
-  either true true t is told = so t told
-  either true false t is told = none
-  either false same t is told = absurd (true≢false (sym is))
+    either : (placed same : Bool) (t : Token) → placed ≡ true
+        → lists.Told tx key P (if placed && same then Some t else None) → Q (part_if (part_by t) same)
+    either true true t is told = so t told
+    either true false t is told = none
+    either false same t is told = absurd (true≢false (sym is))
 
-  pub part_so : (layout : Layout) (A D G : TxId → Type 0) (to : Place) (body : Body) → IsRouted layout A D G to body
-      → lists.Told tx key P (token_of tx key to body) → Q (part_of tx key body)
-  part_so layout A D G to (Chain (LqhKeyReq other w chain at)) routed told =
-      either (is_rows to.block) (same_tx other tx && same_key (work_key w) key) (token.performs w at)
-      (ap (λ (p : Place). is_rows p.block) routed.0.place) told
-  part_so layout A D G to (Chain (LqhKeyConf other own answer)) routed told =
-      either (is_home other to) (same_tx other tx && same_key own key) (token.answers answer)
-      (ap (is_home other) routed.0 ∙ home_is other) told
-  part_so layout A D G to (Chain (LqhKeyRef other own cause)) routed told =
-      either (is_home other to) (same_tx other tx && same_key own key) token.refuses
-      (ap (is_home other) routed.0 ∙ home_is other) told
-  part_so layout A D G to _ routed told = none
+    pub part_so : (layout : Layout) (A D G : TxId → Type 0) (to : Place) (body : Body) → IsRouted layout A D G to body
+        → lists.Told tx key P (token_of tx key to body) → Q (part_of tx key body)
+    part_so layout A D G to (Chain (LqhKeyReq other w chain at)) routed told =
+        either (is_rows to.block) (same_tx other tx && same_key (work_key w) key) (token.performs w at)
+        (ap (λ (p : Place). is_rows p.block) routed.0.place) told
+    part_so layout A D G to (Chain (LqhKeyConf other own answer)) routed told =
+        either (is_home other to) (same_tx other tx && same_key own key) (token.answers answer)
+        (ap (is_home other) routed.0 ∙ home_is other) told
+    part_so layout A D G to (Chain (LqhKeyRef other own cause)) routed told =
+        either (is_home other to) (same_tx other tx && same_key own key) token.refuses
+        (ap (is_home other) routed.0 ∙ home_is other) told
+    part_so layout A D G to _ routed told = none
 
 -- what is so of all that blocks send, by where and what, is so of the signals
 pub places_sent : (start : Start) (h : ℕ) (log : List HostStep) (e : HostStep) (Q : Place → Body → Type 0)
@@ -97,8 +97,10 @@ both_each : {A : Type 0} (P Q R : A → Type 0) (xs : List A) → ((x : A) → P
 both_each P Q R [] f ps qs = tt
 both_each P Q R (x ∷ xs) f ps qs = (f x ps.0 qs.0, both_each P Q R xs f ps.1 qs.1)
 
-module _ (start : Start) (all : ℕ → List HostStep) (e : HostStep) (es : List HostStep) (follows : Follows start all e es)
-    (tx : TxId) (t u : Transaction) (hale : IsHale start (logs_of start es) tx t) (me : Member) (there : IsIn me (made start))
+module _ (start : Start) (all : ℕ → List HostStep) (e : HostStep) (es : List HostStep)
+    (follows : Follows start all e es)
+    (tx : TxId) (t u : Transaction) (hale : IsHale start (logs_of start es) tx t) (me : Member)
+    (there : IsIn me (made start))
     (s : ReplicaState) (between : IsBetween start all e es follows.moment me there s)
     (taken : IsTakenAt start all e es follows.moment me there s)
   where

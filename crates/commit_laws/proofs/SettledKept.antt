@@ -1,4 +1,5 @@
--- What is settled stays so at an event that isn't of the transaction on the key, as long as the replicas of what it wrote, and
+-- What is settled stays so at an event that isn't of the transaction on the key, as long as the replicas of what it
+-- wrote, and
 -- the primary of what it touched, are the same.
 use Rattle.std.proofs.Common.{◌≡◌, ◌⊎◌, ◌∙◌, ℕ, Bool, true, false, List, [], ◌∷◌, refl, sym, subst, inl, inr}
 use Rattle.std.proofs.lemmas.Bool.{true≢false}
@@ -86,10 +87,12 @@ module _ (start : Start) (all : ℕ → List HostStep) (e : HostStep) (es : List
     abbrev before : IsMoment start all es
     before = moment_less start all e es moment
 
-    -- who is the primary of a key that was touched was so before, and who was a replica of one that was written is so still
+    -- who is the primary of a key that was touched was so before, and who was a replica of one that was written is
+    -- so still
     pub record AreSame : Type 0 where
       pub primary : (m : Member) → IsPrimary start new key m → (ops_on key ops ≡ []) ⊎ IsPrimary start old key m
-      pub written : is_written_by ops key ≡ true → (m : Member) → IsReplicaOf start old key m → IsReplicaOf start new key m
+      pub written : is_written_by ops key ≡ true → (m : Member) → IsReplicaOf start old key m
+          → IsReplicaOf start new key m
 
     abbrev pub MembersKeep : Type 0
     MembersKeep =
@@ -142,7 +145,8 @@ module _ (start : Start) (all : ℕ → List HostStep) (e : HostStep) (es : List
                   subst (λ row. AreRight row (ops_on key ops)) (sym (row_same m was on)) (settled.right m was)
 
       -- nobody has a record of what wasn't written
-      unwritten : is_written_by ops key ≡ false → (m : Member) → IsIn m (made start) → record_at start old m key tx ≡ None
+      unwritten : is_written_by ops key ≡ false → (m : Member) → IsIn m (made start)
+          → record_at start old m key tx ≡ None
       unwritten off m there = by (replica_or start old key m)
         where
           by : IsReplicaOf start old key m ⊎ (IsReplicaOf start old key m → ⊥) → record_at start old m key tx ≡ None
@@ -163,7 +167,8 @@ module _ (start : Start) (all : ℕ → List HostStep) (e : HostStep) (es : List
           there : IsIn m (made start)
           there = replica_made m was
 
-          some : is_written_by ops key ≡ true → HasImageIf true (row_behind start new key p ops) (record_at start new m key tx)
+          some : is_written_by ops key ≡ true
+              → HasImageIf true (row_behind start new key p ops) (record_at start new m key tx)
           some wrote = from (same.primary p is)
             where
               image : IsPrimary start old key p → holds tx (replica_at start old p key).lock.holders ≡ true

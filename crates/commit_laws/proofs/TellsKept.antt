@@ -1,4 +1,5 @@
--- What a part of an operation tells of a transaction on a key stays so, as long as members keep what they have of it there.
+-- What a part of an operation tells of a transaction on a key stays so, as long as members keep what they have of it
+-- there.
 use Rattle.std.proofs.Common.{◌≡◌, ◌++◌, ◌∙◌, ℕ, true, List, [], ◌∷◌, sym, subst, inr}
 use Rattle.std.specs.List.{slice_get}
 use Rattle.std.specs.Prelude.{Option, None, Some}
@@ -47,10 +48,12 @@ module _ (start : Start) (all : ℕ → List HostStep) (e : HostStep) (es : List
     abbrev chain_by : View → List Member
     chain_by view = chain_of (layout_in start view) key
 
-    pub primary_was : (m : Member) → IsPrimary start (logs_of start (e ∷ es)) key m → IsPrimary start (logs_of start es) key m
+    pub primary_was : (m : Member) → IsPrimary start (logs_of start (e ∷ es)) key m
+        → IsPrimary start (logs_of start es) key m
     primary_was m is = subst (λ v. slice_get (chain_by v) 0 ≡ Some m) same is
 
-    pub replica_now : (m : Member) → IsReplicaOf start (logs_of start es) key m → IsReplicaOf start (logs_of start (e ∷ es)) key m
+    pub replica_now : (m : Member) → IsReplicaOf start (logs_of start es) key m
+        → IsReplicaOf start (logs_of start (e ∷ es)) key m
     replica_now m is = record {
       full = subst (λ (v : View). IsIn m v.full) (sym same) is.full;
       chained = subst (λ v. IsIn m (chain_by v)) (sym same) is.chained;
@@ -106,14 +109,19 @@ module _ (start : Start) (all : ℕ → List HostStep) (e : HostStep) (es : List
 
         pub tells_still : (part : Part) → Tells start (logs_of start es) key tx t part
             → Tells start (logs_of start (e ∷ es)) key tx u part
-        tells_still (performs (Operate op) at) tells =
-            (asked_still op tells.0,
-            subst (IsSettledWith start new key tx) (sym ops) (settled_still t.ops tells.1))
+        tells_still (performs (Operate op) at) tells = (
+          asked_still op tells.0,
+          subst (IsSettledWith start new key tx) (sym ops) (settled_still t.ops tells.1),
+        )
         tells_still (performs (Store own image) at) tells = stored_still image at tells
-        tells_still (answers answer) (op, (asks, settled)) =
-            (op, (asked_still op asks,
+        tells_still (answers answer) (op, (asks, settled)) = (
+          op,
+          (
+            asked_still op asks,
             subst (λ w. IsSettledWith start new key tx (w ++ (op, answer) ∷ [])) (sym ops)
-            (settled_still (t.ops ++ (op, answer) ∷ []) settled)))
+                (settled_still (t.ops ++ (op, answer) ∷ []) settled),
+          ),
+        )
         tells_still refuses tells = tt
 
         pub told_still : (o : Option Part) → Told start (logs_of start es) key tx t o

@@ -160,7 +160,8 @@ module _ (start : Start) where
     none_in_transit all es moment xs transit same =
         none_counted passes_by xs (omega (arith, transit_counts all es moment xs transit, same))
       where
-        none_counted : (q : Addressed → Bool) (ys : List Addressed) → tally q ys ≡ 0 → Each (λ (x : Addressed). q x ≡ false) ys
+        none_counted : (q : Addressed → Bool) (ys : List Addressed) → tally q ys ≡ 0
+            → Each (λ (x : Addressed). q x ≡ false) ys
         none_counted q [] none = tt
         none_counted q (y ∷ ys) none = (by (q y) refl none, none_counted q ys (omega (arith, none)))
           where

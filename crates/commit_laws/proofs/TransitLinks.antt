@@ -1,4 +1,5 @@
--- What is in transit at a moment, link by link: of the signals that aren't closings, those that were sent and weren't taken.
+-- What is in transit at a moment, link by link: of the signals that aren't closings, those that were sent and
+-- weren't taken.
 use Rattle.std.proofs.Common.{◌≡◌, ◌≢◌, ◌⊎◌, ◌==◌, ◌&&◌, ◌||◌, ℕ, Bool, true, false, List, [], ◌∷◌, ◌++◌, refl, sym, ap, ◌∙◌, subst, inl, inr}
 use Rattle.std.proofs.lemmas.Bool.{cases_eq, eq-eqb, ne_eqb}
 use Rattle.std.proofs.lemmas.List.{append_assoc, append_cancel_right}
@@ -53,7 +54,8 @@ module _ (start : Start) where
   n = sound_machine start
 
   pub record HaveLinks (logs : ℕ → List HostStep) (xs : List Addressed) : Type 0 where
-    pub links : (i j : ℕ) → chosen counts (sent n i j (logs i)) ≡ chosen (counts_on i j) xs ++ chosen counts (taken n i (logs j))
+    pub links : (i j : ℕ)
+        → chosen counts (sent n i j (logs i)) ≡ chosen (counts_on i j) xs ++ chosen counts (taken n i (logs j))
 
   -- what a link gives that isn't a closing lies behind what was sent
   given_past : (i j : ℕ) (log : List HostStep) (x : Addressed) (xs : List Addressed) → is_closing x.signal.body ≡ false
@@ -93,7 +95,8 @@ module _ (start : Start) where
       ∙ ap (λ b. if (b && (x.to == j)) && counts x then x ∷ chosen (counts_on i j) xs else chosen (counts_on i j) xs)
       (ne_eqb x.signal.from.0 i (λ is. differs (sym own.0 ∙ is)))
 
-  from_host : (h : ℕ) (log : List HostStep) (e : HostStep) → Each (λ (x : Addressed). x.signal.from.0 ≡ h) (sent_by n h log e)
+  from_host : (h : ℕ) (log : List HostStep) (e : HostStep)
+      → Each (λ (x : Addressed). x.signal.from.0 ≡ h) (sent_by n h log e)
   from_host h log e =
       sent_by_each n IsFrom h log e
       (λ goes. each_filter IsFrom (is_sound start) (signals_of start h log e)
@@ -111,139 +114,140 @@ module _ (start : Start) where
   module _ (all : ℕ → List HostStep) (es : List HostStep) (e : HostStep) (moment : IsMoment start all (e ∷ es))
       (before : List Addressed) (held : HaveLinks (logs_of start es) before)
     where
-    abbrev h : ℕ
-    h = e.host
+      abbrev h : ℕ
+      h = e.host
 
-    abbrev old : ℕ → List HostStep
-    old = logs_of start es
+      abbrev old : ℕ → List HostStep
+      old = logs_of start es
 
-    abbrev now : ℕ → List HostStep
-    now = logs_of start (e ∷ es)
+      abbrev now : ℕ → List HostStep
+      now = logs_of start (e ∷ es)
 
-    abbrev had : ℕ → List HostStep → List Addressed
-    had i log = chosen counts (taken n i log)
+      abbrev had : ℕ → List HostStep → List Addressed
+      had i log = chosen counts (taken n i log)
 
-    own_now : now h ≡ e ∷ old h
-    own_now = log_of-own n e es h refl
+      own_now : now h ≡ e ∷ old h
+      own_now = log_of-own n e es h refl
 
-    -- what a host took from a link that the step took nothing from
-    taken_same : (i j : ℕ) → (h ≡ j → had i (e ∷ old h) ≡ had i (old h)) → had i (now j) ≡ had i (old j)
-    taken_same i j none = by (cases_eq h j)
-      where
-        by : (h ≡ j) ⊎ (h ≢ j) → had i (now j) ≡ had i (old j)
-        by (inl at) = subst (λ k. had i (now k) ≡ had i (old k)) at (ap (had i) own_now ∙ none at)
-        by (inr off) = ap (had i) (log_of-other n e es j off)
-
-    nothing : (n.asked e || is_closing e.step.taken.body) ≡ true → ((i : ℕ) → had i (e ∷ old h) ≡ had i (old h))
-        → IsBetween es e before before
-    nothing alone none = record {
-      takes = record { alone = λ is. refl; signal = λ off. absurd (let both : true ≡ false = sym alone ∙ off in cc) };
-      links = λ i j. held.links i j ∙ ap (λ w. chosen (counts_on i j) before ++ w) (sym (taken_same i j (λ at. none i)));
-    }
-
-    abbrev from : ℕ
-    from = e.step.taken.from.0
-
-    -- the signal is the oldest on its link
-    module _ (asked : n.asked e ≡ false) (goes : is_closing e.step.taken.body ≡ false) where
-      abbrev rests : List Addressed
-      rests = taken n from (old h)
-
-      given : IsPast (taken_by e ∷ rests) (sent n from h (old from))
-      given = given_past from h (old from) (taken_by e) rests goes (moment.run.1.takes asked)
-
-      abbrev newer : List Addressed
-      newer = chosen counts given.newer
-
-      one_counts : counts (taken_by e) ≡ true
-      one_counts = ap not goes
-
-      taken_counts : chosen counts (taken_by e ∷ rests) ≡ taken_by e ∷ chosen counts rests
-      taken_counts = if_true (taken_by e ∷ chosen counts rests) (chosen counts rests) one_counts
-
-      sent_is : chosen counts (sent n from h (old from)) ≡ newer ++ (taken_by e ∷ chosen counts rests)
-      sent_is =
-          ap (chosen counts) given.is
-          ∙ (chosen_append counts given.newer (taken_by e ∷ rests) ∙ ap (λ w. newer ++ w) taken_counts)
-
-      oldest : chosen (counts_on from h) before ≡ newer ++ taken_by e ∷ []
-      oldest =
-          append_cancel_right (chosen (counts_on from h) before) (newer ++ taken_by e ∷ []) (chosen counts rests)
-          (sym (held.links from h) ∙ (sent_is ∙ sym (append_assoc newer (taken_by e ∷ []) (chosen counts rests))))
-
-      abbrev found : IsLast (counts_on from h) before newer (taken_by e)
-      found = last_chosen (counts_on from h) before newer (taken_by e) oldest
-
-      abbrev Linked : ℕ → ℕ → Type 0
-      Linked i j =
-          chosen counts (sent n i j (old i)) ≡ chosen (counts_on i j) (found.front ++ found.back) ++ had i (now j)
-
-      links_off : (i j : ℕ) → is_on i j (taken_by e) ≡ false → had i (now j) ≡ had i (old j) → Linked i j
-      links_off i j off same =
-          held.links i j
-          ∙ (ap (λ w. chosen (counts_on i j) w ++ had i (old j)) found.is
-          ∙ (ap (λ w. w ++ had i (old j)) (chosen_without (counts_on i j) found.front (taken_by e) found.back
-          (off_link (from == i) (h == j) (counts (taken_by e)) off))
-          ∙ ap (λ w. chosen (counts_on i j) (found.front ++ found.back) ++ w) (sym same)))
-
-      links_on : Linked from h
-      links_on =
-          sent_is
-          ∙ (ap (λ w. w ++ (taken_by e ∷ chosen counts rests)) (sym found.left)
-          ∙ ap (λ w. chosen (counts_on from h) (found.front ++ found.back) ++ w)
-          (sym (ap (had from) own_now ∙ (ap (chosen counts) (taken-step n from e (old h) asked refl) ∙ taken_counts))))
-
-      links_between : (i j : ℕ) → Linked i j
-      links_between i j = by (cases_eq from i) (cases_eq h j)
+      -- what a host took from a link that the step took nothing from
+      taken_same : (i j : ℕ) → (h ≡ j → had i (e ∷ old h) ≡ had i (old h)) → had i (now j) ≡ had i (old j)
+      taken_same i j none = by (cases_eq h j)
         where
-          by : (from ≡ i) ⊎ (from ≢ i) → (h ≡ j) ⊎ (h ≢ j) → Linked i j
-          by (inl is) (inl at) = subst (λ k. Linked i k) at (subst (λ k. Linked k h) is links_on)
-          by (inl is) (inr off) =
-              links_off i j (and_off (from == i) (h == j) (ne_eqb h j off)) (taken_same i j (λ at. absurd (off at)))
-          by (inr off) there =
-              links_off i j (ap (λ b. b && (h == j)) (ne_eqb from i off))
-              (taken_same i j (λ at. ap (chosen counts) (taken-other n i e (old h) off)))
+          by : (h ≡ j) ⊎ (h ≢ j) → had i (now j) ≡ had i (old j)
+          by (inl at) = subst (λ k. had i (now k) ≡ had i (old k)) at (ap (had i) own_now ∙ none at)
+          by (inr off) = ap (had i) (log_of-other n e es j off)
 
-      neither : (n.asked e || is_closing e.step.taken.body) ≡ false
-      neither = ap (λ b. b || is_closing e.step.taken.body) asked ∙ goes
-
-      gives : IsBetween es e before (found.front ++ found.back)
-      gives = record {
-        takes = record {
-          alone = λ is. absurd (let both : true ≡ false = sym is ∙ neither in cc);
-          signal = λ off. record { front = found.front; back = found.back; is = found.is; left = refl };
-        };
-        links = links_between;
+      nothing : (n.asked e || is_closing e.step.taken.body) ≡ true → ((i : ℕ) → had i (e ∷ old h) ≡ had i (old h))
+          → IsBetween es e before before
+      nothing alone none = record {
+        takes = record { alone = λ is. refl; signal = λ off. absurd (let both : true ≡ false = sym alone ∙ off in cc) };
+        links = λ i j. held.links i j ∙ ap (λ w. chosen (counts_on i j) before ++ w) (sym (taken_same i j (λ at. none i)));
       }
 
-    -- a closing counts as nothing
-    closes : is_closing e.step.taken.body ≡ true → (i : ℕ) → had i (e ∷ old h) ≡ had i (old h)
-    closes is i = by (not (n.asked e) && (from == i))
-      where
-        by : (b : Bool) → chosen counts (if b then taken_by e ∷ taken n i (old h) else taken n i (old h)) ≡ had i (old h)
-        by true = if_false (taken_by e ∷ had i (old h)) (had i (old h)) (ap not is)
-        by false = refl
+      abbrev from : ℕ
+      from = e.step.taken.from.0
 
-    abbrev sends : List Addressed
-    sends = sent_by n h (old h) e
+      -- the signal is the oldest on its link
+      module _ (asked : n.asked e ≡ false) (goes : is_closing e.step.taken.body ≡ false) where
+        abbrev rests : List Addressed
+        rests = taken n from (old h)
 
-    abbrev LinkedBy : List Addressed → ℕ → ℕ → Type 0
-    LinkedBy xs i j = chosen counts (sent n i j (now i)) ≡ chosen (counts_on i j) xs ++ had i (now j)
+        given : IsPast (taken_by e ∷ rests) (sent n from h (old from))
+        given = given_past from h (old from) (taken_by e) rests goes (moment.run.1.takes asked)
 
-    sends_join : (between : List Addressed) → IsBetween es e before between → HaveLinks now (joined sends between)
-    sends_join between is = record { links = λ i j. by i j (cases_eq h i) }
-      where
-        own : (j : ℕ) → LinkedBy (joined sends between) h j
-        own j =
-            ap (λ log. chosen counts (sent n h j log)) own_now
-            ∙ joined_own h j sends between (sent n h j (old h)) (had h (now j)) (from_host h (old h) e) (is.links h j)
+        abbrev newer : List Addressed
+        newer = chosen counts given.newer
 
-        by : (i j : ℕ) → (h ≡ i) ⊎ (h ≢ i) → LinkedBy (joined sends between) i j
-        by i j (inl at) = subst (λ k. LinkedBy (joined sends between) k j) at (own j)
-        by i j (inr off) =
-            ap (λ log. chosen counts (sent n i j log)) (log_of-other n e es i off)
-            ∙ (is.links i j
-            ∙ ap (λ w. w ++ had i (now j)) (sym (joined_other h i j sends between off (from_host h (old h) e))))
+        one_counts : counts (taken_by e) ≡ true
+        one_counts = ap not goes
+
+        taken_counts : chosen counts (taken_by e ∷ rests) ≡ taken_by e ∷ chosen counts rests
+        taken_counts = if_true (taken_by e ∷ chosen counts rests) (chosen counts rests) one_counts
+
+        sent_is : chosen counts (sent n from h (old from)) ≡ newer ++ (taken_by e ∷ chosen counts rests)
+        sent_is =
+            ap (chosen counts) given.is
+            ∙ (chosen_append counts given.newer (taken_by e ∷ rests) ∙ ap (λ w. newer ++ w) taken_counts)
+
+        oldest : chosen (counts_on from h) before ≡ newer ++ taken_by e ∷ []
+        oldest =
+            append_cancel_right (chosen (counts_on from h) before) (newer ++ taken_by e ∷ []) (chosen counts rests)
+            (sym (held.links from h) ∙ (sent_is ∙ sym (append_assoc newer (taken_by e ∷ []) (chosen counts rests))))
+
+        abbrev found : IsLast (counts_on from h) before newer (taken_by e)
+        found = last_chosen (counts_on from h) before newer (taken_by e) oldest
+
+        abbrev Linked : ℕ → ℕ → Type 0
+        Linked i j =
+            chosen counts (sent n i j (old i)) ≡ chosen (counts_on i j) (found.front ++ found.back) ++ had i (now j)
+
+        links_off : (i j : ℕ) → is_on i j (taken_by e) ≡ false → had i (now j) ≡ had i (old j) → Linked i j
+        links_off i j off same =
+            held.links i j
+            ∙ (ap (λ w. chosen (counts_on i j) w ++ had i (old j)) found.is
+            ∙ (ap (λ w. w ++ had i (old j)) (chosen_without (counts_on i j) found.front (taken_by e) found.back
+            (off_link (from == i) (h == j) (counts (taken_by e)) off))
+            ∙ ap (λ w. chosen (counts_on i j) (found.front ++ found.back) ++ w) (sym same)))
+
+        links_on : Linked from h
+        links_on =
+            sent_is
+            ∙ (ap (λ w. w ++ (taken_by e ∷ chosen counts rests)) (sym found.left)
+            ∙ ap (λ w. chosen (counts_on from h) (found.front ++ found.back) ++ w)
+            (sym (ap (had from) own_now ∙ (ap (chosen counts) (taken-step n from e (old h) asked refl) ∙ taken_counts))))
+
+        links_between : (i j : ℕ) → Linked i j
+        links_between i j = by (cases_eq from i) (cases_eq h j)
+          where
+            by : (from ≡ i) ⊎ (from ≢ i) → (h ≡ j) ⊎ (h ≢ j) → Linked i j
+            by (inl is) (inl at) = subst (λ k. Linked i k) at (subst (λ k. Linked k h) is links_on)
+            by (inl is) (inr off) =
+                links_off i j (and_off (from == i) (h == j) (ne_eqb h j off)) (taken_same i j (λ at. absurd (off at)))
+            by (inr off) there =
+                links_off i j (ap (λ b. b && (h == j)) (ne_eqb from i off))
+                (taken_same i j (λ at. ap (chosen counts) (taken-other n i e (old h) off)))
+
+        neither : (n.asked e || is_closing e.step.taken.body) ≡ false
+        neither = ap (λ b. b || is_closing e.step.taken.body) asked ∙ goes
+
+        gives : IsBetween es e before (found.front ++ found.back)
+        gives = record {
+          takes = record {
+            alone = λ is. absurd (let both : true ≡ false = sym is ∙ neither in cc);
+            signal = λ off. record { front = found.front; back = found.back; is = found.is; left = refl };
+          };
+          links = links_between;
+        }
+
+      -- a closing counts as nothing
+      closes : is_closing e.step.taken.body ≡ true → (i : ℕ) → had i (e ∷ old h) ≡ had i (old h)
+      closes is i = by (not (n.asked e) && (from == i))
+        where
+          by : (b : Bool)
+              → chosen counts (if b then taken_by e ∷ taken n i (old h) else taken n i (old h)) ≡ had i (old h)
+          by true = if_false (taken_by e ∷ had i (old h)) (had i (old h)) (ap not is)
+          by false = refl
+
+      abbrev sends : List Addressed
+      sends = sent_by n h (old h) e
+
+      abbrev LinkedBy : List Addressed → ℕ → ℕ → Type 0
+      LinkedBy xs i j = chosen counts (sent n i j (now i)) ≡ chosen (counts_on i j) xs ++ had i (now j)
+
+      sends_join : (between : List Addressed) → IsBetween es e before between → HaveLinks now (joined sends between)
+      sends_join between is = record { links = λ i j. by i j (cases_eq h i) }
+        where
+          own : (j : ℕ) → LinkedBy (joined sends between) h j
+          own j =
+              ap (λ log. chosen counts (sent n h j log)) own_now
+              ∙ joined_own h j sends between (sent n h j (old h)) (had h (now j)) (from_host h (old h) e) (is.links h j)
+
+          by : (i j : ℕ) → (h ≡ i) ⊎ (h ≢ i) → LinkedBy (joined sends between) i j
+          by i j (inl at) = subst (λ k. LinkedBy (joined sends between) k j) at (own j)
+          by i j (inr off) =
+              ap (λ log. chosen counts (sent n i j log)) (log_of-other n e es i off)
+              ∙ (is.links i j
+              ∙ ap (λ w. w ++ had i (now j)) (sym (joined_other h i j sends between off (from_host h (old h) e))))
 
   -- some list that has the links in it
   pub record HasTransit (es : List HostStep) : Type 0 where
