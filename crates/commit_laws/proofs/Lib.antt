@@ -42,6 +42,7 @@ pub mod PartOwn
 pub mod PartPerforms
 pub mod PartRests
 pub mod PartsQuiet
+pub mod PartTakes
 pub mod PartTurns
 pub mod PartsSent
 pub mod Passing
