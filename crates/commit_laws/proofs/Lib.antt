@@ -34,6 +34,7 @@ pub mod MarkerMoves
 pub mod MarkerRows
 pub mod MarkerSteps
 pub mod MemberKeeps
+pub mod PartAsks
 pub mod PartAside
 pub mod PartDoes
 pub mod PartHome
