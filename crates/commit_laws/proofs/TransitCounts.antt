@@ -153,18 +153,34 @@ module _ (start : Start) where
           all_taken_more start all e es moment p,
         )
 
+    none_counted : (ys : List Addressed) → tally passes_by ys ≡ 0 → Each (λ (y : Addressed). p y.signal ≡ false) ys
+    none_counted [] none = tt
+    none_counted (y ∷ ys) none = (by (p y.signal) refl, none_counted ys (omega (arith, none)))
+      where
+        by : (b : Bool) → p y.signal ≡ b → p y.signal ≡ false
+        by false is = is
+        by true is = let some = tally_in passes_by y (y ∷ ys) (inl refl) is in absurd (omega (arith, none, some))
+
     -- where all that were sent were taken none is in transit
     pub none_in_transit : (all : ℕ → List HostStep) (es : List HostStep) → IsMoment start all es → (xs : List Addressed)
         → AreInTransit start es xs → all_sent start p (logs_of start es) ≡ all_taken start p (logs_of start es)
         → Each (λ (x : Addressed). p x.signal ≡ false) xs
     none_in_transit all es moment xs transit same =
-        none_counted passes_by xs (omega (arith, transit_counts all es moment xs transit, same))
-      where
-        none_counted : (q : Addressed → Bool) (ys : List Addressed) → tally q ys ≡ 0
-            → Each (λ (x : Addressed). q x ≡ false) ys
-        none_counted q [] none = tt
-        none_counted q (y ∷ ys) none = (by (q y) refl none, none_counted q ys (omega (arith, none)))
-          where
-            by : (b : Bool) → q y ≡ b → tally q (y ∷ ys) ≡ 0 → q y ≡ false
-            by false is few = is
-            by true is few = let some = tally_in q y (y ∷ ys) (inl refl) is in absurd (omega (arith, few, some))
+        none_counted xs (omega (arith, transit_counts all es moment xs transit, same))
+
+    -- where the only one is taken none is left
+    pub none_left : (all : ℕ → List HostStep) (e : HostStep) (es : List HostStep) → IsMoment start all (e ∷ es)
+        → (before between : List Addressed) → AreInTransit start es before → Takes start e before between
+        → all_sent start p (logs_of start es) ≡ all_taken start p (logs_of start es) + 1 → n.asked e ≡ false
+        → p e.step.taken ≡ true → Each (λ (x : Addressed). p x.signal ≡ false) between
+    none_left all e es moment before between transit takes alone asked is =
+        let one : (if n.asked e then 0 else one_if (p e.step.taken)) ≡ 1 =
+        ap (λ b. if b then 0 else one_if (p e.step.taken)) asked ∙ ap one_if is in
+        none_counted between
+        (omega (
+          arith,
+          transit_counts all es (moment_less start all e es moment) before transit,
+          between_counts all e es moment before between takes,
+          alone,
+          one,
+        ))
