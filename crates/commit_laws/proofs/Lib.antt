@@ -43,6 +43,7 @@ pub mod PartOwn
 pub mod PartPerforms
 pub mod PartRests
 pub mod PartsQuiet
+pub mod PartServes
 pub mod PartTakes
 pub mod PartTurns
 pub mod PartsSent
