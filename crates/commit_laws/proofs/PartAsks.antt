@@ -10,14 +10,14 @@ use Rattle.row_locks.specs.declared.mode.Lock.TheVariants.{Granted, Queued}
 use Rattle.row_locks.specs.declared.mode.Mode.TheVariants.{Exclusive}
 use Rattle.row_locks.specs.Holders.{holds_enough}
 use Rattle.row_locks.specs.Orderly.{IsOrderly}
-use Rattle.row_locks.specs.Rows.{RowLock, asked}
+use Rattle.row_locks.specs.Rows.{asked}
 use Rattle.sig_core.specs.declared.member.Member.{Member}
 use Rattle.sig_core.specs.declared.member.TxId.{TxId}
 use Rattle.sig_core.specs.declared.signal.Body.TheVariants.{Chain}
 use Rattle.sig_core.specs.declared.signal.Signal.{Signal}
 use Rattle.sig_core.specs.declared.signal.chain.ChainSignal.TheVariants.{LqhKeyReq}
 use Rattle.sig_core.specs.declared.signal.chain.RowWork.{RowWork}
-use Rattle.sig_core.specs.Same.{same_key, same_tx}
+use Rattle.sig_core.specs.Same.{same_key}
 use Rattle.sig_core.specs.Work.{work_key}
 use Rattle.sig_core.proofs.Keys.{same_tx-self}
 use Rattle.tc_block.specs.declared.transaction.Transaction.{Transaction}
@@ -27,7 +27,7 @@ use Rattle.lqh_block.specs.State.{storage_of}
 use Rattle.lqh_block.specs.Work.{work_mode}
 use Rattle.lqh_views.specs.Replica.{installed}
 use Rattle.lqh_views.specs.State.{ReplicaState}
-use Rattle.key_laws.specs.Replica.{Event, Replica, asked_by, asks, at_key, event_at, if_on, is_refused, key_after, rests, worked}
+use Rattle.key_laws.specs.Replica.{Replica, asked_by, asks, at_key, event_at, if_on, is_refused, rests}
 use Rattle.key_laws.proofs.LockHolding.{grants_hold, requests_hold_on}
 use Rattle.run_laws.proofs.KeyTokens.{Token, asked_tokens, event_tokens, performed_token, work_token}
 use Rattle.run_laws.specs.Routes.{IsWorkAt}
@@ -56,7 +56,8 @@ module _ (start : Start) (all : ℕ → List HostStep) (e : HostStep) (es : List
     ⊎ (s ≡ installed (rows_at start (logs_of start es) me) (current start (logs_of start (e ∷ es)))))
     (taken : IsTakenAt start all e es follows.moment me there s) (w : RowWork) (chain : List Member) (at : ℕ)
     (is : e.step.taken.body ≡ Chain (LqhKeyReq tx w chain at))
-    (along : chain ≡ chain_of (layout_in start (current start (logs_of start es))) (work_key w)) (placed : IsWorkAt at w)
+    (along : chain ≡ chain_of (layout_in start (current start (logs_of start es))) (work_key w))
+    (placed : IsWorkAt at w)
     (place : slice_get (chain_of (layout_in start (current start (logs_of start es))) (work_key w)) at ≡ Some me)
     (tells : Tells start (logs_of start es) (work_key w) tx t (performs w at))
   where

@@ -6,12 +6,8 @@ use Rattle.std.specs.Prelude.{if◌then◌else◌, Option, Some}
 use Rattle.run_theory.specs.Links.{sent_by}
 use Rattle.run_theory.specs.Lists.{Each, IsIn}
 use Rattle.frag_map.specs.Layout.{chain_of}
-use Rattle.row_locks.specs.declared.mode.Lock.{Lock}
-use Rattle.row_locks.specs.declared.mode.Lock.TheVariants.{Granted, Queued}
 use Rattle.row_locks.specs.declared.mode.Mode.TheVariants.{Exclusive}
 use Rattle.row_locks.specs.Holders.{holds_enough}
-use Rattle.row_locks.specs.Orderly.{IsOrderly}
-use Rattle.row_locks.specs.Rows.{RowLock, asked}
 use Rattle.sig_core.specs.declared.member.Member.{Member}
 use Rattle.sig_core.specs.declared.member.TxId.{TxId}
 use Rattle.sig_core.specs.declared.signal.Body.TheVariants.{Host}
@@ -19,7 +15,6 @@ use Rattle.sig_core.specs.declared.signal.host.HostSignal.TheVariants.{Continue}
 use Rattle.sig_core.specs.declared.signal.host.Work.TheVariants as work
 use Rattle.sig_core.specs.Firsts.{first}
 use Rattle.sig_core.specs.declared.signal.Signal.{Signal}
-use Rattle.sig_core.specs.declared.signal.chain.RowWork.{RowWork}
 use Rattle.sig_core.specs.Same.{same_key, same_tx}
 use Rattle.sig_core.specs.Work.{work_key}
 use Rattle.sig_core.proofs.Keys.{same_tx-self}
@@ -30,7 +25,7 @@ use Rattle.lqh_block.specs.State.{storage_of}
 use Rattle.lqh_block.specs.Work.{work_mode}
 use Rattle.lqh_views.specs.Replica.{installed}
 use Rattle.lqh_views.specs.State.{ReplicaState}
-use Rattle.key_laws.specs.Replica.{Event, Replica, at_key, event_at, if_on, is_let_in, is_refused, key_after, rests, served_by, serves, serves_if, worked}
+use Rattle.key_laws.specs.Replica.{Replica, at_key, event_at, if_on, is_let_in, is_refused, rests, served_by, serves, serves_if, worked}
 use Rattle.key_laws.proofs.KeyAfter.{first_here}
 use Rattle.key_laws.proofs.LockWaiting.{attended_hold}
 use Rattle.key_laws.proofs.Waiting.{each-first_item}
@@ -38,7 +33,7 @@ use Rattle.key_laws.specs.LockLaws.{is_attended}
 use Rattle.row_locks.specs.Queues.{waits}
 use Rattle.lqh_block.specs.Operate.{is_granted}
 use Rattle.lqh_views.specs.Replica.{is_stale}
-use Rattle.run_laws.proofs.KeyTokens.{Token, event_tokens, performed_token, served_tokens, work_token}
+use Rattle.run_laws.proofs.KeyTokens.{Token, event_tokens, served_tokens, work_token}
 use Rattle.run_laws.specs.Routes.{IsWorkAt}
 use Rattle.world_core.specs.Start.{Start, made}
 use Rattle.world_core.specs.Steps.{Addressed, HostStep}
