@@ -41,6 +41,7 @@ pub mod PartHome
 pub mod PartHosts
 pub mod PartOwn
 pub mod PartPerforms
+pub mod PartRequest
 pub mod PartRests
 pub mod PartsQuiet
 pub mod PartServes

@@ -30,7 +30,7 @@ use Rattle.commit_laws.proofs.HaleOthers.{hale_calm, hale_made}
 use Rattle.commit_laws.proofs.TransitCounts.{none_in_transit}
 
 -- a closing is no part of an operation
-closing_off : (tx : TxId) (number : ℕ) (x : Signal) → is_closing x.body ≡ true → is_token_in tx number x ≡ false
+pub closing_off : (tx : TxId) (number : ℕ) (x : Signal) → is_closing x.body ≡ true → is_token_in tx number x ≡ false
 closing_off tx number x is = by x.body is
   where
     by : (body : Body) → is_closing body ≡ true → (is_token tx body && (x.view.number == number)) ≡ false
@@ -54,7 +54,7 @@ no_part tx key (Chain (LqhKeyConf other own answer)) off = ap (λ b. part_if (an
 no_part tx key (Chain (LqhKeyRef other own cause)) off = ap (λ b. part_if refuses (b && same_key own key)) off
 no_part tx key _ off = refl
 
-not_and : (a b : Bool) → (a && b) ≡ false → b ≡ true → a ≡ false
+pub not_and : (a b : Bool) → (a && b) ≡ false → b ≡ true → a ≡ false
 not_and true b none is = absurd (true≢false (sym is ∙ none))
 not_and false b none is = refl
 

@@ -1,0 +1,168 @@
+-- The parts of a transaction's operations behind an event at which rows take a request of it, in the current view.
+use Rattle.std.proofs.Common.{◌≡◌, ◌≢◌, ◌⊎◌, ◌&&◌, ◌==◌, ◌||◌, ◌++◌, ◌∙◌, ℕ, Bool, true, false, cond, filter, List, [], ◌∷◌, eq-eqb, refl, sym, ap, subst, inl, inr}
+use Rattle.std.proofs.lemmas.Bool.{cases_eq, true≢false}
+use Rattle.std.specs.List.{slice_get}
+use Rattle.std.specs.Prelude.{if◌then◌else◌, Some}
+use Rattle.run_theory.proofs.Pasts.{each_append, each_map}
+use Rattle.run_theory.proofs.Runs.{log_of-other}
+use Rattle.run_theory.specs.Lists.{Each, IsIn}
+use Rattle.frag_map.specs.Layout.{chain_of}
+use Rattle.row_locks.specs.declared.mode.Lock.{Lock}
+use Rattle.row_locks.specs.declared.mode.Lock.TheVariants.{Granted, Queued}
+use Rattle.row_locks.specs.Rows.{asked}
+use Rattle.sig_core.specs.declared.member.Member.{Member}
+use Rattle.sig_core.specs.declared.member.TxId.{TxId}
+use Rattle.sig_core.specs.declared.signal.Body.TheVariants.{Chain}
+use Rattle.sig_core.specs.declared.signal.Signal.{Signal}
+use Rattle.sig_core.specs.declared.signal.chain.ChainSignal.TheVariants.{LqhKeyReq}
+use Rattle.sig_core.specs.declared.signal.chain.RowWork.{RowWork}
+use Rattle.sig_core.specs.Same.{same_key, same_tx}
+use Rattle.sig_core.specs.Work.{work_key}
+use Rattle.sig_core.proofs.Keys.{same_key-self, same_tx-self}
+use Rattle.tc_block.specs.declared.transaction.Transaction.{Transaction}
+use Rattle.lqh_block.specs.declared.request.Request.{Request}
+use Rattle.lqh_block.specs.State.{storage_of}
+use Rattle.lqh_block.specs.Work.{work_mode}
+use Rattle.lqh_views.specs.Replica.{installed}
+use Rattle.lqh_views.specs.State.{ReplicaState}
+use Rattle.key_laws.specs.Replica.{Event, Replica, asked_by, asks, asks_for, at_key, event_at, if_on, is_refused, key_after, rests}
+use Rattle.key_laws.proofs.LockHolding.{requests_hold_on}
+use Rattle.run_laws.specs.Routes.{IsWorkAt}
+use Rattle.run_laws.specs.Transit.{joined}
+use Rattle.run_laws.proofs.Weighing.{joined_each}
+use Rattle.world_core.specs.Start.{Start, made}
+use Rattle.world_core.specs.Steps.{Addressed, HostStep}
+use Rattle.world_views.specs.Machine.{machine}
+use Rattle.view_laws.specs.Order.{sound_machine}
+use Rattle.view_laws.specs.Runs.{view_after}
+use Rattle.view_laws.proofs.EraSound.{each_filter}
+use Rattle.moment_laws.specs.Moments.{IsMoment, current, logs_of}
+use Rattle.moment_laws.specs.Places.{ldm_of}
+use Rattle.moment_laws.proofs.MomentViews.{moment_less}
+use Rattle.request_laws.specs.Blocks.{rows_after}
+use Rattle.request_laws.specs.Replicas.{event_by, event_under}
+use Rattle.request_laws.specs.Routed.{layout_in}
+use Rattle.request_laws.specs.Tokens.{IsAlone, count_waiting, is_token, is_token_in, number_now}
+use Rattle.request_laws.proofs.ReplicaEvents.{signals_are_events}
+use Rattle.request_laws.proofs.RouteHeaders.{chain_fenced}
+use Rattle.request_laws.proofs.TokenAlone.{taken_alone}
+use Rattle.request_laws.proofs.TokenPlaces.{ldm_same}
+use Rattle.commit_laws.specs.Fates.{is_led_by_full}
+use Rattle.commit_laws.specs.Parts.{IsHale, IsOff, Part, Tells, Told, part_if, part_of, performs}
+use Rattle.commit_laws.specs.Settled.{IsSettledWith}
+use Rattle.commit_laws.specs.Together.{Follows}
+use Rattle.commit_laws.specs.Traces.{replica_at, rows_at}
+use Rattle.commit_laws.specs.Transit.{AreInTransit, Takes, is_closing}
+use Rattle.commit_laws.proofs.Calm.{alone_waits, none_passes}
+use Rattle.commit_laws.proofs.HaleOthers.{hale_made}
+use Rattle.commit_laws.proofs.MemberKeeps.{KeepsFor, KeepsTo, between_keeps, keeps_self}
+use Rattle.commit_laws.proofs.PartAsks.{request_told}
+use Rattle.commit_laws.proofs.PartOwn.{PartsOf, sent_now}
+use Rattle.commit_laws.proofs.PartRests.{link_gave, rests_stay}
+use Rattle.commit_laws.proofs.PartTakes.{others_same}
+use Rattle.commit_laws.proofs.PartsQuiet.{closing_off, no_part, not_and}
+use Rattle.commit_laws.proofs.RowsGo.{IsBetween, IsTakenAt}
+use Rattle.commit_laws.proofs.TellsKept.{tells_still}
+use Rattle.commit_laws.proofs.TransitCounts.{each_taken, none_left}
+
+-- what holds of each that passes a test holds of each if it passes
+each_if : {A : Type 0} (P : A → Type 0) (p : A → Bool) (xs : List A) → Each P (filter p xs)
+    → Each (λ x. p x ≡ true → P x) xs
+each_if P p [] all = tt
+each_if {A} P p (x ∷ xs) all = by (p x) refl all (each_if P p xs)
+  where
+    by : (b : Bool) → p x ≡ b → Each P (cond b (x ∷ filter p xs) (filter p xs))
+        → (Each P (filter p xs) → Each (λ x. p x ≡ true → P x) xs) → Each (λ x. p x ≡ true → P x) (x ∷ xs)
+    by true is all more = ((λ passes. all.0), more all.1)
+    by false off all more = ((λ passes. absurd (true≢false (sym passes ∙ off))), more all)
+
+module _ (start : Start) (all : ℕ → List HostStep) (e : HostStep) (es : List HostStep)
+    (follows : Follows start all e es) (xs left : List Addressed) (transit : AreInTransit start es xs)
+    (takes : Takes start e xs left)
+    (same : current start (logs_of start (e ∷ es)) ≡ current start (logs_of start es)) (tx : TxId) (t : Transaction)
+    (hale : IsHale start (logs_of start es) tx t) (led : is_led_by_full start (logs_of start (e ∷ es)) tx ≡ true)
+    (me : Member) (there : IsIn me (made start)) (s : ReplicaState)
+    (between : IsBetween start all e es follows.moment me there s)
+    (which : (s ≡ rows_at start (logs_of start es) me)
+    ⊎ (s ≡ installed (rows_at start (logs_of start es) me) (current start (logs_of start (e ∷ es)))))
+    (taken : IsTakenAt start all e es follows.moment me there s) (w : RowWork) (chain : List Member) (at : ℕ)
+    (is : e.step.taken.body ≡ Chain (LqhKeyReq tx w chain at))
+    (along : chain ≡ chain_of (layout_in start (current start (logs_of start es))) (work_key w)) (placed : IsWorkAt at w)
+    (place : slice_get (chain_of (layout_in start (current start (logs_of start es))) (work_key w)) at ≡ Some me)
+  where
+    abbrev old : ℕ → List HostStep
+    old = logs_of start es
+
+    abbrev new : ℕ → List HostStep
+    new = logs_of start (e ∷ es)
+
+    abbrev x : Signal
+    x = e.step.taken
+
+    abbrev before : IsMoment start all es
+    before = moment_less start all e es follows.moment
+
+    abbrev q : Request
+    q = record { tx = tx; work = w; chain = chain; at = at }
+
+    header : x.view.number ≡ (current start new).number
+    header = taken.now.fresh (chain_fenced x (LqhKeyReq tx w chain at) is)
+
+    gave : ((sound_machine start).asked e || is_closing x.body) ≡ false
+    gave = link_gave start all e es follows xs left transit takes taken.now.sound (LqhKeyReq tx w chain at) is
+
+    asked_off : (sound_machine start).asked e ≡ false
+    asked_off = first_off ((sound_machine start).asked e) (is_closing x.body) gave
+      where
+        first_off : (a b : Bool) → (a || b) ≡ false → a ≡ false
+        first_off true b off = absurd (true≢false off)
+        first_off false b off = refl
+
+    token : is_token_in tx (number_now start new) x ≡ true
+    token =
+        (λ i. (ap (is_token tx) is ∙ same_tx-self tx) i && eq-eqb x.view.number (number_now start new) header i)
+
+    alone : IsAlone start old tx (number_now start new)
+    alone = taken_alone start all e es follows.moment tx (hale_made start all es before tx t hale) asked_off token
+
+    -- the request tells the truth
+    tells : Tells start old (work_key w) tx t (performs w at)
+    tells =
+        subst (Told start old (work_key w) tx t)
+        (ap (part_of tx (work_key w)) is
+        ∙ (λ i. part_if (performs w at) (same_tx-self tx i && same_key-self (work_key w) i)))
+        (each_taken start
+        (λ (y : Addressed). y.signal.view.number ≡ (current start old).number
+        → Told start old (work_key w) tx t (part_of tx (work_key w) y.signal.body)) e xs left takes gave
+        ((follows.stood.parts xs transit).signals tx t hale (work_key w)) (header ∙ ap (λ v. v.number) same))
+
+    -- no other part is in transit
+    left_none : (key : List ℕ)
+        → Each (λ (y : Addressed). y.signal.view.number ≡ (current start new).number
+        → Told start new key tx t (part_of tx key y.signal.body)) left
+    left_none key =
+        each_map (λ (y : Addressed). is_token_in tx (number_now start new) y.signal ≡ false) _ left
+        (λ y off here.
+        subst (Told start new key tx t)
+        (sym (no_part tx key y.signal.body
+        (not_and (is_token tx y.signal.body) (y.signal.view.number == number_now start new) off
+        (eq-eqb y.signal.view.number (number_now start new) here)))) tt)
+        (none_left start (is_token_in tx (number_now start new)) (λ y closing. closing_off tx (number_now start new) y closing)
+        all e es follows.moment xs left transit takes alone.goes asked_off token)
+
+    pub request_signals : (key : List ℕ)
+        → Each (λ (y : Addressed). y.signal.view.number ≡ (current start (logs_of start (e ∷ es))).number
+        → Told start (logs_of start (e ∷ es)) key tx t (part_of tx key y.signal.body))
+        (joined (sent_now start all e es follows xs left transit takes same tx) left)
+    request_signals key =
+        joined_each _ (sent_now start all e es follows xs left transit takes same tx) left
+        (each_map (λ (y : Addressed). Told start new key tx t (part_of tx key y.signal.body)) _
+        (sent_now start all e es follows xs left transit takes same tx) (λ y told here. told)
+        (request_told start all e es follows same tx t hale led me there s between which taken w chain at is along placed
+        place tells key))
+        (left_none key)
+
+    -- and what is settled otherwise stays so
+    pub request_rests : (key : List ℕ) → IsOff start (logs_of start (e ∷ es)) key tx t t.asked
+        → IsSettledWith start (logs_of start (e ∷ es)) key tx t.ops
+    request_rests key off = rests_stay start all e es follows xs left transit takes tx t hale key same led off
