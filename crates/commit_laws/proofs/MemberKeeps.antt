@@ -123,7 +123,7 @@ module _ (s : ReplicaState) (view : View) (key : List ℕ) (well : IsWell s.lqh)
           (ap is_some (state_found s.lqh.rows u key ∙ ap state_by has.there))
 
 -- one step behind the other
-keeps_both : (tx : TxId) (a b c : Replica) → (AreHeld a → AreHeld b) → KeepsFor tx a b → KeepsFor tx b c
+pub keeps_both : (tx : TxId) (a b c : Replica) → (AreHeld a → AreHeld b) → KeepsFor tx a b → KeepsFor tx b c
     → KeepsFor tx a c
 keeps_both tx a b c more one other = record {
   found_is = other.found_is ∙ one.found_is;

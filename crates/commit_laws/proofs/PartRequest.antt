@@ -20,6 +20,7 @@ use Rattle.sig_core.specs.Same.{same_key, same_tx}
 use Rattle.sig_core.specs.Work.{work_key}
 use Rattle.sig_core.proofs.Keys.{same_key-self, same_tx-self}
 use Rattle.tc_block.specs.declared.transaction.Transaction.{Transaction}
+use Rattle.lqh_block.proofs.IndexLemmas as index
 use Rattle.lqh_block.specs.declared.request.Request.{Request}
 use Rattle.lqh_block.specs.State.{storage_of}
 use Rattle.lqh_block.specs.Work.{work_mode}
@@ -55,7 +56,7 @@ use Rattle.commit_laws.specs.Traces.{replica_at, rows_at}
 use Rattle.commit_laws.specs.Transit.{AreInTransit, Takes, is_closing}
 use Rattle.commit_laws.proofs.Calm.{alone_waits, none_passes}
 use Rattle.commit_laws.proofs.HaleOthers.{hale_made}
-use Rattle.commit_laws.proofs.MemberKeeps.{KeepsFor, KeepsTo, between_keeps, keeps_self}
+use Rattle.commit_laws.proofs.MemberKeeps.{KeepsFor, KeepsTo, between_keeps, keeps_both, keeps_self}
 use Rattle.commit_laws.proofs.PartAsks.{request_told}
 use Rattle.commit_laws.proofs.PartOwn.{PartsOf, sent_now}
 use Rattle.commit_laws.proofs.PartRests.{link_gave, rests_stay}
@@ -166,3 +167,129 @@ module _ (start : Start) (all : ℕ → List HostStep) (e : HostStep) (es : List
     pub request_rests : (key : List ℕ) → IsOff start (logs_of start (e ∷ es)) key tx t t.asked
         → IsSettledWith start (logs_of start (e ∷ es)) key tx t.ops
     request_rests key off = rests_stay start all e es follows xs left transit takes tx t hale key same led off
+
+    -- Of the requests that wait at the member for a key this is the only one, if it was queued.
+    module _ (key : List ℕ) where
+      abbrev r : Replica
+      r = at_key key s.lqh
+
+      abbrev refused : Bool
+      refused = is_refused (storage_of s.lqh) q
+
+      none_waits : Each (λ (one : Request). same_tx one.tx tx ≡ true → Tells start new key tx t (performs one.work one.at))
+          r.waiting
+      none_waits =
+          each_map (λ (one : Request). same_tx one.tx tx ≡ false) _ r.waiting
+          (λ one off mine. absurd (true≢false (sym mine ∙ off)))
+          (each_filter (λ (one : Request). same_tx one.tx tx ≡ false) (asks_for key) s.lqh.waiting
+          (alone_waits start all e es follows.moment me there tx (hale_made start all es before tx t hale) s between taken
+          (ap (is_token tx) is ∙ same_tx-self tx)))
+
+      kept : KeepsTo start all e es follows.moment me there key tx s
+      kept = between_keeps start all e es follows.moment me there key tx led s which
+
+      now_is : replica_at start new me key ≡ key_after (if_on (work_key w) key (asks q refused)) r
+      now_is =
+          ap (λ (z : ReplicaState). at_key key z.lqh) taken.rows_are
+          ∙ (signals_are_events s x key kept.well
+          ∙ ap (λ v. key_after v r) (ap (λ b. event_by key s x b) is ∙ ap (event_at key s.lqh) is))
+
+      abbrev by_lock : Lock → Replica
+      by_lock a = asked_by r (asked r.lock tx (work_mode w)).lock q refused a
+
+      abbrev WaitsIn : Replica → Type 0
+      WaitsIn one =
+          Each (λ (z : Request). same_tx z.tx tx ≡ true → Tells start new key tx t (performs z.work z.at)) one.waiting
+
+      -- where it is queued all members keep what they have of it
+      module _ (ahead : TxId) (here : same_key (work_key w) key ≡ true)
+          (queued : (asked r.lock tx (work_mode w)).answer ≡ Queued ahead) where
+        after_is : replica_at start new me key ≡ by_lock (Queued ahead)
+        after_is =
+            now_is ∙ (ap (λ b. key_after (if b then asks q refused else rests) r) here ∙ ap by_lock queued)
+
+        me_keeps : KeepsFor tx (replica_at start old me key) (replica_at start new me key)
+        me_keeps =
+            subst (KeepsFor tx (replica_at start old me key)) (sym after_is)
+            (keeps_both tx (replica_at start old me key) r (by_lock (Queued ahead)) kept.held kept.keeps (record {
+              found_is = refl;
+              held = (requests_hold_on r.lock tx (work_mode w) (kept.well.orderly.each key)).held tx refl;
+              exclusive = (requests_hold_on r.lock tx (work_mode w) (kept.well.orderly.each key)).exclusive tx refl;
+              row = λ held on. refl;
+            }))
+
+        all_keep : (m : Member) → IsIn m (made start) → KeepsFor tx (replica_at start old m key) (replica_at start new m key)
+        all_keep m among =
+            by (others_same start all e es follows same tx t hale led me there s between which taken key m among)
+          where
+            by : (m ≡ me) ⊎ (replica_at start new m key ≡ replica_at start old m key)
+                → KeepsFor tx (replica_at start old m key) (replica_at start new m key)
+            by (inl own) =
+                subst (λ k. KeepsFor tx (replica_at start old k key) (replica_at start new k key)) (sym own) me_keeps
+            by (inr rest) =
+                subst (KeepsFor tx (replica_at start old m key)) (sym rest) (keeps_self tx (replica_at start old m key))
+
+        own_waits : Tells start new key tx t (performs w at)
+        own_waits =
+            tells_still start all e es follows.moment follows.stood.commits same key tx all_keep t t refl refl
+            (performs w at)
+            (subst (λ k. Tells start old k tx t (performs w at)) (index.same (work_key w) key here) tells)
+
+      asked_waits : same_key (work_key w) key ≡ true → (a : Lock) → (asked r.lock tx (work_mode w)).answer ≡ a
+          → WaitsIn (by_lock a)
+      asked_waits here Granted lets = none_waits
+      asked_waits here (Queued ahead) queued =
+          each_append _ r.waiting (q ∷ []) none_waits ((λ mine. own_waits ahead here queued), tt)
+
+      me_waits : Each (λ (z : Request). asks_for key z ≡ true → same_tx z.tx tx ≡ true
+          → Tells start new key tx t (performs z.work z.at)) (rows_at start new me).lqh.waiting
+      me_waits =
+          each_if _ (asks_for key) (rows_at start new me).lqh.waiting
+          (subst WaitsIn (sym now_is) (by (same_key (work_key w) key) refl))
+        where
+          by : (b : Bool) → same_key (work_key w) key ≡ b → WaitsIn (key_after (if b then asks q refused else rests) r)
+          by true here = asked_waits here (asked r.lock tx (work_mode w)).answer refl
+          by false off = none_waits
+
+      pub request_waits : (m : Member) → IsIn m (made start)
+          → (view_after start (ldm_of start m) (logs_of start (e ∷ es) (ldm_of start m))).number
+          ≡ (current start (logs_of start (e ∷ es))).number
+          → Each (λ (z : Request). same_tx z.tx tx ≡ true → same_key (work_key z.work) key ≡ true
+          → Tells start (logs_of start (e ∷ es)) key tx t (performs z.work z.at))
+          (rows_at start (logs_of start (e ∷ es)) m).lqh.waiting
+      request_waits m among stands = by (cases_eq e.host (ldm_of start m))
+        where
+          own : Each (λ (z : Request). same_tx z.tx tx ≡ true → same_key (work_key z.work) key ≡ true
+              → Tells start new key tx t (performs z.work z.at)) (rows_at start new me).lqh.waiting
+          own = each_map _ _ (rows_at start new me).lqh.waiting (λ z waits mine here. waits here mine) me_waits
+
+          other : new (ldm_of start m) ≡ old (ldm_of start m)
+              → Each (λ (z : Request). same_tx z.tx tx ≡ true → same_key (work_key z.work) key ≡ true
+              → Tells start new key tx t (performs z.work z.at)) (rows_at start new m).lqh.waiting
+          other log_is =
+              subst
+              (λ (z : ReplicaState). Each (λ (one : Request). same_tx one.tx tx ≡ true
+              → same_key (work_key one.work) key ≡ true → Tells start new key tx t (performs one.work one.at)) z.lqh.waiting)
+              (ap (rows_after start m) (sym log_is))
+              (each_map (λ (z : Request). same_tx z.tx tx ≡ false) _ (rows_at start old m).lqh.waiting
+              (λ z off mine here. absurd (true≢false (sym mine ∙ off)))
+              (none_passes (λ (z : Request). same_tx z.tx tx) (rows_at start old m).lqh.waiting
+              (sym (ap (λ b. if b then count_waiting tx (rows_at start old m) else 0)
+              (eq-eqb _ (number_now start new)
+              (ap (λ log. (view_after start (ldm_of start m) log).number) (sym log_is) ∙ stands)))
+              ∙ alone.waits m among)))
+
+          by : (e.host ≡ ldm_of start m) ⊎ (e.host ≢ ldm_of start m)
+              → Each (λ (z : Request). same_tx z.tx tx ≡ true → same_key (work_key z.work) key ≡ true
+              → Tells start new key tx t (performs z.work z.at)) (rows_at start new m).lqh.waiting
+          by (inl here) =
+              subst
+              (λ k. Each (λ (z : Request). same_tx z.tx tx ≡ true → same_key (work_key z.work) key ≡ true
+              → Tells start new key tx t (performs z.work z.at)) (rows_at start new k).lqh.waiting)
+              (ldm_same start me m there among (sym taken.at ∙ here)) own
+          by (inr off) = other (log_of-other (machine start) e es (ldm_of start m) off)
+
+    -- so all of it tells the truth
+    pub request_parts : PartsOf start all e es follows xs left transit takes same tx t
+    request_parts =
+        record { signals = request_signals; waits = λ key m among stands. request_waits key m among stands; rests = request_rests }
