@@ -1,5 +1,5 @@
 -- The parts of a transaction's operations behind an event at which rows take a request of it, in the current view.
-use Rattle.std.proofs.Common.{◌≡◌, ◌≢◌, ◌⊎◌, ◌&&◌, ◌==◌, ◌||◌, ◌++◌, ◌∙◌, ℕ, Bool, true, false, cond, filter, List, [], ◌∷◌, eq-eqb, refl, sym, ap, subst, inl, inr}
+use Rattle.std.proofs.Common.{◌≡◌, ◌≢◌, ◌⊎◌, ◌&&◌, ◌==◌, ◌||◌, ◌∙◌, ℕ, Bool, true, false, cond, filter, List, [], ◌∷◌, eq-eqb, refl, sym, ap, subst, inl, inr}
 use Rattle.std.proofs.lemmas.Bool.{cases_eq, true≢false}
 use Rattle.std.specs.List.{slice_get}
 use Rattle.std.specs.Prelude.{if◌then◌else◌, Some}
@@ -26,7 +26,7 @@ use Rattle.lqh_block.specs.State.{storage_of}
 use Rattle.lqh_block.specs.Work.{work_mode}
 use Rattle.lqh_views.specs.Replica.{installed}
 use Rattle.lqh_views.specs.State.{ReplicaState}
-use Rattle.key_laws.specs.Replica.{Event, Replica, asked_by, asks, asks_for, at_key, event_at, if_on, is_refused, key_after, rests}
+use Rattle.key_laws.specs.Replica.{Replica, asked_by, asks, asks_for, at_key, event_at, if_on, is_refused, key_after, rests}
 use Rattle.key_laws.proofs.LockHolding.{requests_hold_on}
 use Rattle.run_laws.specs.Routes.{IsWorkAt}
 use Rattle.run_laws.specs.Transit.{joined}
@@ -41,7 +41,7 @@ use Rattle.moment_laws.specs.Moments.{IsMoment, current, logs_of}
 use Rattle.moment_laws.specs.Places.{ldm_of}
 use Rattle.moment_laws.proofs.MomentViews.{moment_less}
 use Rattle.request_laws.specs.Blocks.{rows_after}
-use Rattle.request_laws.specs.Replicas.{event_by, event_under}
+use Rattle.request_laws.specs.Replicas.{event_by}
 use Rattle.request_laws.specs.Routed.{layout_in}
 use Rattle.request_laws.specs.Tokens.{IsAlone, count_waiting, is_token, is_token_in, number_now}
 use Rattle.request_laws.proofs.ReplicaEvents.{signals_are_events}
@@ -49,7 +49,7 @@ use Rattle.request_laws.proofs.RouteHeaders.{chain_fenced}
 use Rattle.request_laws.proofs.TokenAlone.{taken_alone}
 use Rattle.request_laws.proofs.TokenPlaces.{ldm_same}
 use Rattle.commit_laws.specs.Fates.{is_led_by_full}
-use Rattle.commit_laws.specs.Parts.{IsHale, IsOff, Part, Tells, Told, part_if, part_of, performs}
+use Rattle.commit_laws.specs.Parts.{IsHale, IsOff, Tells, Told, part_if, part_of, performs}
 use Rattle.commit_laws.specs.Settled.{IsSettledWith}
 use Rattle.commit_laws.specs.Together.{Follows}
 use Rattle.commit_laws.specs.Traces.{replica_at, rows_at}
@@ -88,7 +88,8 @@ module _ (start : Start) (all : ℕ → List HostStep) (e : HostStep) (es : List
     ⊎ (s ≡ installed (rows_at start (logs_of start es) me) (current start (logs_of start (e ∷ es)))))
     (taken : IsTakenAt start all e es follows.moment me there s) (w : RowWork) (chain : List Member) (at : ℕ)
     (is : e.step.taken.body ≡ Chain (LqhKeyReq tx w chain at))
-    (along : chain ≡ chain_of (layout_in start (current start (logs_of start es))) (work_key w)) (placed : IsWorkAt at w)
+    (along : chain ≡ chain_of (layout_in start (current start (logs_of start es))) (work_key w))
+    (placed : IsWorkAt at w)
     (place : slice_get (chain_of (layout_in start (current start (logs_of start es))) (work_key w)) at ≡ Some me)
   where
     abbrev old : ℕ → List HostStep
@@ -218,7 +219,8 @@ module _ (start : Start) (all : ℕ → List HostStep) (e : HostStep) (es : List
               row = λ held on. refl;
             }))
 
-        all_keep : (m : Member) → IsIn m (made start) → KeepsFor tx (replica_at start old m key) (replica_at start new m key)
+        all_keep : (m : Member) → IsIn m (made start)
+            → KeepsFor tx (replica_at start old m key) (replica_at start new m key)
         all_keep m among =
             by (others_same start all e es follows same tx t hale led me there s between which taken key m among)
           where
@@ -269,7 +271,8 @@ module _ (start : Start) (all : ℕ → List HostStep) (e : HostStep) (es : List
           other log_is =
               subst
               (λ (z : ReplicaState). Each (λ (one : Request). same_tx one.tx tx ≡ true
-              → same_key (work_key one.work) key ≡ true → Tells start new key tx t (performs one.work one.at)) z.lqh.waiting)
+              → same_key (work_key one.work) key ≡ true
+              → Tells start new key tx t (performs one.work one.at)) z.lqh.waiting)
               (ap (rows_after start m) (sym log_is))
               (each_map (λ (z : Request). same_tx z.tx tx ≡ false) _ (rows_at start old m).lqh.waiting
               (λ z off mine here. absurd (true≢false (sym mine ∙ off)))
