@@ -55,6 +55,7 @@ use Rattle.commit_laws.specs.Together.{Follows}
 use Rattle.commit_laws.specs.Traces.{replica_at, rows_at}
 use Rattle.commit_laws.specs.Transit.{AreInTransit, Takes, is_closing}
 use Rattle.commit_laws.proofs.Calm.{alone_waits, none_passes}
+use Rattle.commit_laws.proofs.CommitPlaces.{request_place}
 use Rattle.commit_laws.proofs.HaleOthers.{hale_made}
 use Rattle.commit_laws.proofs.MemberKeeps.{KeepsFor, KeepsTo, between_keeps, keeps_both, keeps_self}
 use Rattle.commit_laws.proofs.PartAsks.{request_told}
@@ -296,3 +297,24 @@ module _ (start : Start) (all : ℕ → List HostStep) (e : HostStep) (es : List
     pub request_parts : PartsOf start all e es follows xs left transit takes same tx t
     request_parts =
         record { signals = request_signals; waits = λ key m among stands. request_waits key m among stands; rests = request_rests }
+
+-- wherever it went
+pub taken_request_parts : (start : Start) (all : ℕ → List HostStep) (e : HostStep) (es : List HostStep)
+    (follows : Follows start all e es) (xs left : List Addressed) (transit : AreInTransit start es xs)
+    (takes : Takes start e xs left)
+    (same : current start (logs_of start (e ∷ es)) ≡ current start (logs_of start es)) (tx : TxId) (t : Transaction)
+    → IsHale start (logs_of start es) tx t → is_led_by_full start (logs_of start (e ∷ es)) tx ≡ true
+    → (me : Member) (there : IsIn me (made start)) (s : ReplicaState)
+    → IsBetween start all e es follows.moment me there s
+    → (s ≡ rows_at start (logs_of start es) me)
+    ⊎ (s ≡ installed (rows_at start (logs_of start es) me) (current start (logs_of start (e ∷ es))))
+    → IsTakenAt start all e es follows.moment me there s → (w : RowWork) (chain : List Member) (at : ℕ)
+    → e.step.taken.body ≡ Chain (LqhKeyReq tx w chain at)
+    → PartsOf start all e es follows xs left transit takes same tx t
+taken_request_parts start all e es follows xs left transit takes same tx t hale led me there s between which taken w chain
+    at is =
+    let way =
+    request_place start all e es follows.moment me there
+    (record { rows = s; between = between; taken = taken; at = taken.at; now = taken.now }) tx w chain at is in
+    request_parts start all e es follows xs left transit takes same tx t hale led me there s between which taken w chain at
+    is way.0 way.1.1 way.1.0
