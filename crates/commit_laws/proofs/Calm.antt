@@ -193,7 +193,7 @@ module _ (start : Start) (all : ℕ → List HostStep) (es : List HostStep) (mom
       by false false c is none = refl
 
 -- where none is counted none passes
-none_passes : {A : Type 0} (p : A → Bool) (xs : List A) → count_by p xs ≡ 0 → Each (λ x. p x ≡ false) xs
+pub none_passes : {A : Type 0} (p : A → Bool) (xs : List A) → count_by p xs ≡ 0 → Each (λ x. p x ≡ false) xs
 none_passes p [] none = tt
 none_passes p (x ∷ xs) none = (by (p x) refl, none_passes p xs (omega (arith, none, count_more p x xs)))
   where

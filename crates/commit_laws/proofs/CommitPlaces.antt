@@ -24,6 +24,8 @@ use Rattle.key_laws.specs.Records.{AreOnce, as_committed, edited, found}
 use Rattle.key_laws.specs.Replica.{Cell, Event, Replica, at_key, commits, event_at, if_on, key_after, rests}
 use Rattle.key_laws.proofs.RecordLemmas.{committed_keeps}
 use Rattle.host_laws.specs.ReplicaLaws.{IsWell}
+use Rattle.sig_core.specs.Work.{work_key}
+use Rattle.run_laws.specs.Routes.{IsWorkAt}
 use Rattle.world_core.specs.Start.{Start, made}
 use Rattle.world_core.specs.Steps.{Addressed, HostStep}
 use Rattle.view_laws.proofs.RunMade.{made_same}
@@ -34,7 +36,7 @@ use Rattle.moment_laws.proofs.MomentViews.{moment_less}
 use Rattle.outcome_laws.specs.Counts.{coordinator_member}
 use Rattle.request_laws.specs.Replicas.{event_by}
 use Rattle.request_laws.specs.Routed.{IsGivenUp, IsRoutedSignal, WasAskedIn, WasDrivenIn, layout_in}
-use Rattle.request_laws.specs.Routes.{IsCommitRouted, IsCompletionRouted, IsRouted}
+use Rattle.request_laws.specs.Routes.{IsCommitRouted, IsCompletionRouted, IsRouted, IsRequestRouted}
 use Rattle.request_laws.proofs.ReplicaEvents.{installations_keep_well, signals_are_events}
 use Rattle.request_laws.proofs.RouteAll.{signals_are_routed}
 use Rattle.request_laws.proofs.RouteAside.{is_of_rows}
@@ -236,3 +238,22 @@ module _ (start : Start) (all : ℕ → List HostStep) (e : HostStep) (es : List
         → e.step.taken.body ≡ Chain (LqhKeyReq tx asked chain at) → IsIn (coordinator_member tx) (made start)
     asker_made tx asked chain at about =
         current_made start all es before (coordinator_member tx) (routed (LqhKeyReq tx asked chain at) about).1.full
+
+    -- and of a request
+    pub request_place : (tx : TxId) (w : RowWork) (chain : List Member) (at : ℕ)
+        → e.step.taken.body ≡ Chain (LqhKeyReq tx w chain at)
+        → (chain ≡ chain_of (layout_in start (current start (logs_of start es))) (work_key w))
+        × ((slice_get (chain_of (layout_in start (current start (logs_of start es))) (work_key w)) at ≡ Some member)
+        × IsWorkAt at w)
+    request_place tx w chain at about = (
+      way.0.chain,
+      (
+        taker_place (LqhKeyReq tx w chain at) about (work_key w) chain at way.0.chain way.0.inside way.0.place,
+        way.0.work,
+      ),
+    )
+      where
+        way : IsRequestRouted (layout_in start (current start old)) x.to
+            (record { tx = tx; work = w; chain = chain; at = at })
+            × WasAskedIn start old (current start old) tx
+        way = routed (LqhKeyReq tx w chain at) about

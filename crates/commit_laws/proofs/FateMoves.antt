@@ -105,7 +105,7 @@ traced_known F tx s known traced = by (list_any (is_committed_of tx) s.lqh.rows.
         (each_in (λ (m : Marker). F m.tx) one.one s.lqh.markers known.markers one.there)
 
 -- the member whose coordinator began it
-begun_by : (tx : TxId) (m : Member) → was_begun_by tx m ≡ true → m ≡ coordinator_member tx
+pub begun_by : (tx : TxId) (m : Member) → was_begun_by tx m ≡ true → m ≡ coordinator_member tx
 begun_by tx m is =
     let parts = and_parts (nat_eq m.node tx.tc) (nat_eq m.start tx.start) is in
     λ i. record { node = eqb-true m.node tx.tc parts.0 i; start = eqb-true m.start tx.start parts.1 i }

@@ -64,17 +64,18 @@ module _ (start : Start) (logs : ℕ → List HostStep) where
     pub spared : is_lost start logs tx ≡ false
     pub fresh : (t.asked ≡ None) ⊎ (asked_in start (coordinator_member tx) tx (own_log start logs tx) ≡ (current start logs).number)
 
-  -- this operation is unanswered
-  pub record IsAsked (t : Transaction) (op : Op) : Type 0 where
-    pub asked : Asked
-    pub is : t.asked ≡ Some asked
-    pub op_is : asked.op ≡ op
-
   module _ (key : List ℕ) (tx : TxId) (t : Transaction) where
+    -- this operation is unanswered, and is on the key
+    pub record IsAsked (op : Op) : Type 0 where
+      pub asked : Asked
+      pub is : t.asked ≡ Some asked
+      pub op_is : asked.op ≡ op
+      pub here : same_key (key_of op) key ≡ true
+
     -- an image of the unanswered operation is at the places in front of this one
     pub record IsStoredTo (image : Option (List ℕ)) (at : ℕ) : Type 0 where
       pub op : Op
-      pub asks : IsAsked t op
+      pub asks : IsAsked op
       pub image_is : image_of op ≡ image
       pub takes_effect : (primary : Member) → IsPrimary start logs key primary
           → answer_to op (row_behind start logs key primary t.ops) ≡ Done
@@ -90,10 +91,10 @@ module _ (start : Start) (logs : ℕ → List HostStep) where
 
     -- what a part tells
     abbrev pub Tells : Part → Type 0
-    Tells (performs (Operate op) at) = IsAsked t op × IsSettledWith start logs key tx t.ops
+    Tells (performs (Operate op) at) = IsAsked op × IsSettledWith start logs key tx t.ops
     Tells (performs (Store own image) at) = IsStoredTo image at
     Tells (answers answer) =
-        (op : Op) × (IsAsked t op × IsSettledWith start logs key tx (t.ops ++ (op, answer) ∷ []))
+        (op : Op) × (IsAsked op × IsSettledWith start logs key tx (t.ops ++ (op, answer) ∷ []))
     Tells refuses = Unit {0}
 
     abbrev pub Told : Option Part → Type 0
