@@ -39,6 +39,7 @@ pub mod FateMoves
 pub mod FateReasons
 pub mod FateRows
 pub mod FateViews
+pub mod FinalsForth
 pub mod ForthAll
 pub mod ForthClient
 pub mod ForthCoordinator
@@ -83,6 +84,7 @@ pub mod MarkerLists
 pub mod MarkerMoves
 pub mod MarkerRows
 pub mod MarkerSteps
+pub mod MarkReasons
 pub mod MemberKeeps
 pub mod OrderAside
 pub mod OrderCounts
@@ -115,6 +117,9 @@ pub mod PartTakes
 pub mod PartTurns
 pub mod PartsQuiet
 pub mod PartsSent
+pub mod PlainMarks
+pub mod PlainMaster
+pub mod PlainMembership
 pub mod Passing
 pub mod RecordMoves
 pub mod RecordsOnce
