@@ -277,7 +277,6 @@ left_passes {A} p x (y ∷ xs) there = by (p y) refl there (left_passes p x xs)
 pub record HasFinalEntry (start : Start) (end : List HostStep) (v : TxId) : Type 0 where
   pub entry : Entry
   pub tx_is : entry.tx ≡ v
-  pub inside : IsIn entry (history_at start end end)
   pub kept : is_final_entry start end entry ≡ true
 
 pub final_entry : (start : Start) (end : List HostStep) (v : TxId) → is_final start end v ≡ true
@@ -287,7 +286,6 @@ final_entry start end v is =
     record {
       entry = one.one;
       tx_is = same_tx-is one.one.tx v one.passes;
-      inside = one.there;
       kept = left_passes (is_final_entry start end) one.one (entries_along start end) one.there;
     }
 

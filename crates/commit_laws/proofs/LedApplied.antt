@@ -131,13 +131,13 @@ entry_there h stamp log v epoch (Decided tx k ∷ marks) before (inr there) =
 entry_there h stamp log v epoch (mark ∷ marks) before (inl same) = absurd cc
 entry_there h stamp log v epoch (mark ∷ marks) before (inr there) = entry_there h stamp log v epoch marks before there
 
-record HasEntryOf (start : Start) (es : List HostStep) (v : TxId) : Type 0 where
-  entry : Entry
-  there : IsIn entry (decisions start es)
-  tx_is : entry.tx ≡ v
-  ops_is : entry.ops ≡ decided_ops start (logs_of start es) v
+pub record HasEntryOf (start : Start) (es : List HostStep) (v : TxId) : Type 0 where
+  pub entry : Entry
+  pub there : IsIn entry (decisions start es)
+  pub tx_is : entry.tx ≡ v
+  pub ops_is : entry.ops ≡ decided_ops start (logs_of start es) v
 
-entry_of_decided : (start : Start) (all : ℕ → List HostStep) (es : List HostStep) → IsMoment start all es → (v : TxId)
+pub entry_of_decided : (start : Start) (all : ℕ → List HostStep) (es : List HostStep) → IsMoment start all es → (v : TxId)
     → is_decided start (logs_of start es) v ≡ true → HasEntryOf start es v
 entry_of_decided start all [] moment v is = absurd (true≢false (sym is))
 entry_of_decided start all (e ∷ es) moment v is =
@@ -212,7 +212,7 @@ have_it test (suc n) h logs below has = by (cases_eq h n) (have_it test n h logs
         or_right (has_mark test (logs n)) (have_mark test n logs) (more (omega (arith, below, off)) has)
 
 -- one of those on a key is one of all
-any_filtered : (p q : Op × Answer → Bool) (ops : List (Op × Answer)) → list_any q (filter p ops) ≡ true
+pub any_filtered : (p q : Op × Answer → Bool) (ops : List (Op × Answer)) → list_any q (filter p ops) ≡ true
     → list_any q ops ≡ true
 any_filtered p q [] is = is
 any_filtered p q (op ∷ ops) is = by (p op) is (any_filtered p q ops)

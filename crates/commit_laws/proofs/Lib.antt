@@ -1,3 +1,4 @@
+pub mod AppliedCommits
 pub mod AppliedMarks
 pub mod Calm
 pub mod ClientViews
