@@ -1,3 +1,4 @@
+pub mod AbortedFinals
 pub mod AppliedCommits
 pub mod AppliedMarks
 pub mod Calm
