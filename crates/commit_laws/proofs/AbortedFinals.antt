@@ -1,5 +1,5 @@
--- Whoever aborts, and has something prepared at a replica, never takes effect: who wrote is applied nowhere, and who wrote
--- nothing has no record from its decision on.
+-- Whoever aborts, and has something prepared at a replica, never takes effect: who wrote is applied nowhere, and who
+-- wrote nothing has no record from its decision on.
 use Rattle.std.proofs.Common.{◌≡◌, ◌∙◌, ◌++◌, ℕ, Bool, true, false, List, [], ◌∷◌, refl, sym, ap, subst}
 use Rattle.std.proofs.lemmas.Bool.{true≢false}
 use Rattle.std.specs.List.{list_any, slice_get}

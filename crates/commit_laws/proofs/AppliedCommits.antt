@@ -1,4 +1,5 @@
--- Whoever was applied commits: the key's primary in the current view has its commit, unless the client's side knows of it.
+-- Whoever was applied commits: the key's primary in the current view has its commit, unless the client's side knows of
+-- it.
 use Rattle.std.proofs.Common.{◌≡◌, ◌||◌, ◌∙◌, ℕ, Bool, true, false, List, refl, sym, ap, subst}
 use Rattle.std.proofs.lemmas.Bool.{true≢false}
 use Rattle.std.specs.Prelude.{Option, None, Some}
@@ -48,7 +49,8 @@ module _ (stand : AllStandAlways) (start : Start) (all : ℕ → List HostStep) 
     unless_known off None none =
         marker_commits forth_is_known start all es moment member among key tx
         (or_left_of (has_marker_at start logs member key tx) (is_known start logs tx) off
-        (sym (ap (is_committed_by (has_marker_at start logs member key tx || is_known start logs tx)) none) ∙ committed))
+        (sym (ap (is_committed_by (has_marker_at start logs member key tx || is_known start logs tx)) none)
+        ∙ committed))
     unless_known off (Some r) is =
         record_commits forth_is_known start all es moment member among key tx r is
         (sym (ap (is_committed_by (has_marker_at start logs member key tx || is_known start logs tx)) is) ∙ committed)

@@ -162,7 +162,8 @@ module _ (A : Type 0) (T : TxId → Type 0) where
         (rows_mark_none p.replica x)
     ldm_has runs p _ = tt
 
-    row_has : (parts : Parts) → RunsIf parts → RunsIf (parts_row parts x).state × HaveReasons (parts_row parts x).effects
+    row_has : (parts : Parts) → RunsIf parts
+        → RunsIf (parts_row parts x).state × HaveReasons (parts_row parts x).effects
     row_has (Shell p) runs = (tt, shell_has p x.to.block)
     row_has (Main p) runs = (tt, main_has p x.to.block)
     row_has (Tc p) runs = (tt, tc_has p x.to.block)

@@ -97,7 +97,8 @@ start_plain k member =
     by false false false seen = tt
     by false false true true = tt
     by false false true false =
-        proposed_if_plain k (joined_view k.layout.view (next_number k) member) (Some member) (presides k && has_number k)
+        proposed_if_plain k (joined_view k.layout.view (next_number k) member) (Some member)
+        (presides k && has_number k)
 
 promote_plain : (k : Known) (member : Member) → MarksPlainly (promote_row k member)
 unfolding promote_row
