@@ -11,6 +11,7 @@ pub mod CommitsRemain
 pub mod CommitsStep
 pub mod CutsLegal
 pub mod DecidedStay
+pub mod DecidersGo
 pub mod DriveCoordinators
 pub mod DriveForeign
 pub mod DriveGathered

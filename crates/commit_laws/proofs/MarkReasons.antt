@@ -70,6 +70,25 @@ arbiter_is_plain s x = by x.body
     by (Membership (ArbitReq number members joining)) = asked number members (is_granted s number members joining)
     by _ = tt
 
+-- what is so of each decision is so of each mark that a part makes that coordinates
+module _ (P : Mark → Type 0) (decides : (tx : TxId) (epoch : ℕ) → P (Decided tx epoch)) where
+  epochs_mark_each : (s : DihState) (x : Signal) → Each P (dih_row s x).effects.marks
+  unfolding given
+  epochs_mark_each s x =
+      dih_each s (λ step. Each P step.effects.marks) x (record {
+        quiet = λ step is. subst (Each P) (sym is.marks) tt;
+        gives_it = λ tx ops is. (decides tx _, tt);
+        holds_it = λ tx ops is. tt;
+        serves_it = λ tx first. (decides tx _, tt);
+      })
+
+  pub tc_marks_each : (p : TcPart) (b : BlockId) (x : Signal) → Each P (tc_row p b x).effects.marks
+  unfolding tc_row
+  tc_marks_each p block.Tc x = coordinator_marks P p.coordinator x
+  tc_marks_each p block.Takeover x = subst (Each P) (sym (takeover_marks_nothing p.takeover x)) tt
+  tc_marks_each p block.Dih x = epochs_mark_each p.dih x
+  tc_marks_each p _ x = tt
+
 -- where that is so of a host that runs rows, and this of who is told to be committed
 module _ (A : Type 0) (T : TxId → Type 0) where
   abbrev pub HasReason : Mark → Type 0
@@ -138,22 +157,8 @@ module _ (A : Type 0) (T : TxId → Type 0) where
     main_has p block.GcpMaster = plain_reasons (master_row p.master x) (master_is_plain p.master x)
     main_has p _ = tt
 
-    epochs_have : (s : DihState) → HaveReasons (dih_row s x).effects
-    unfolding given
-    epochs_have s =
-        dih_each s (λ step. HaveReasons step.effects) x (record {
-          quiet = λ step is. subst (Each HasReason) (sym is.marks) tt;
-          gives_it = λ tx ops is. (tt, tt);
-          holds_it = λ tx ops is. tt;
-          serves_it = λ tx first. (tt, tt);
-        })
-
     tc_has : (p : TcPart) (b : BlockId) → HaveReasons (tc_row p b x).effects
-    unfolding tc_row
-    tc_has p block.Tc = coordinator_marks HasReason p.coordinator x
-    tc_has p block.Takeover = subst (Each HasReason) (sym (takeover_marks_nothing p.takeover x)) tt
-    tc_has p block.Dih = epochs_have p.dih
-    tc_has p _ = tt
+    tc_has p b = tc_marks_each HasReason (λ tx epoch. tt) p b x
 
     ldm_has : A → (p : LdmPart) (b : BlockId) → HaveReasons (ldm_row p b x).effects
     unfolding ldm_row
