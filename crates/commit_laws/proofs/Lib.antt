@@ -62,6 +62,7 @@ pub mod KeptNow
 pub mod KeptRows
 pub mod KeyGoes
 pub mod KeyStays
+pub mod KeysLed
 pub mod KnownComes
 pub mod KnownTold
 pub mod LdmGoes
