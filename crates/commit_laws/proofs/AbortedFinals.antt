@@ -2,16 +2,14 @@
 -- wrote nothing has no record from its decision on.
 use Rattle.std.proofs.Common.{◌≡◌, ◌∙◌, ◌++◌, ℕ, Bool, true, false, List, [], ◌∷◌, refl, sym, ap, subst}
 use Rattle.std.proofs.lemmas.Bool.{true≢false}
-use Rattle.std.specs.List.{list_any, slice_get}
-use Rattle.std.specs.Prelude.{Option, None, Some}
+use Rattle.std.specs.List.{list_any}
+use Rattle.std.specs.Prelude.{None, Some}
 use Rattle.run_theory.proofs.Pasts.{past_less}
-use Rattle.run_theory.specs.Lists.{IsIn, IsPast}
-use Rattle.frag_map.specs.Layout.{chain_of}
+use Rattle.run_theory.specs.Lists.{IsIn}
 use Rattle.sig_core.specs.declared.member.Member.{Member}
 use Rattle.sig_core.specs.declared.member.TxId.{TxId}
 use Rattle.sig_core.specs.declared.op.Answer.{Answer}
 use Rattle.sig_core.specs.declared.op.Op.{Op}
-use Rattle.sig_core.specs.declared.rows.PendingRecord.{PendingRecord}
 use Rattle.key_laws.specs.Primary.{HasPrepared}
 use Rattle.key_laws.specs.Records.{as_committed, found, if_committed, unless_committed}
 use Rattle.key_laws.specs.Replica.{at_key}
@@ -20,15 +18,15 @@ use Rattle.world_core.specs.History.{is_done, writes}
 use Rattle.world_core.specs.Start.{Start, made}
 use Rattle.world_core.specs.Steps.{HostStep}
 use Rattle.moment_laws.proofs.MomentViews.{moment_less}
-use Rattle.moment_laws.specs.Moments.{IsMoment, current, logs_of}
-use Rattle.commit_laws.specs.Fates.{aborts, commits, fate, fate_if, is_led_by_full}
+use Rattle.moment_laws.specs.Moments.{IsMoment, logs_of}
+use Rattle.commit_laws.specs.Fates.{aborts, fate, fate_if, is_led_by_full}
 use Rattle.commit_laws.specs.Going.{decided_ops, is_decided, is_forth, is_lost, is_written_by}
 use Rattle.commit_laws.specs.Owed.{AbortedAreNotFinal, DecidersGoOn, HasPrimary, IsAlong}
 use Rattle.commit_laws.specs.Settled.{HasImageIf, IsDecidedNow, IsSettledWith, row_behind}
 use Rattle.commit_laws.specs.Together.{AllStandAlways, EventsMoveFates}
 use Rattle.commit_laws.specs.Traces.{IsReplicaOf, has_trace, is_known, record_at, replica_at}
 use Rattle.commit_laws.specs.Transit.{MomentsHaveTransit}
-use Rattle.commit_laws.specs.Values.{is_final, is_final_entry}
+use Rattle.commit_laws.specs.Values.{is_final}
 use Rattle.commit_laws.proofs.AppliedCommits.{applied_commit}
 use Rattle.commit_laws.proofs.Calm.{IsCalm, decided_calm}
 use Rattle.commit_laws.proofs.DecidedStay.{decided_more, forth_decided, ops_same}

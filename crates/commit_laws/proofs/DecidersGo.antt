@@ -1,7 +1,6 @@
 -- A host that decides goes on: one that stops decides nothing.
-use Rattle.std.proofs.Common.{◌≡◌, ◌||◌, ◌++◌, ◌∙◌, ℕ, Bool, true, false, List, [], ◌∷◌, refl, sym, ap, subst}
+use Rattle.std.proofs.Common.{◌≡◌, ◌||◌, ◌++◌, ◌∙◌, ℕ, true, false, List, [], ◌∷◌, refl, ap, subst}
 use Rattle.std.proofs.lemmas.Bool.{true≢false}
-use Rattle.std.specs.List.{list_any}
 use Rattle.run_theory.proofs.Pasts.{each_append, each_in}
 use Rattle.run_theory.specs.Lists.{Each, IsIn}
 use Rattle.run_theory.specs.Runs.{Happens}

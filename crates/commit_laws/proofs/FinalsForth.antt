@@ -15,8 +15,7 @@ use Rattle.sig_core.specs.declared.mark.Mark.TheVariants.{Applied, Reported}
 use Rattle.sig_core.specs.declared.member.Member.{Member}
 use Rattle.sig_core.specs.declared.member.TxId.{TxId}
 use Rattle.sig_core.specs.declared.outcome.Outcome.TheVariants.{Committed}
-use Rattle.sig_core.specs.declared.signal.Body.{Body}
-use Rattle.sig_core.specs.declared.signal.Body.TheVariants.{Chain, Client, Host}
+use Rattle.sig_core.specs.declared.signal.Body.TheVariants.{Client, Host}
 use Rattle.sig_core.specs.declared.signal.chain.ChainSignal.TheVariants.{Commit}
 use Rattle.sig_core.specs.declared.signal.client.ClientSignal.{ClientSignal}
 use Rattle.sig_core.specs.declared.signal.client.ClientSignal.TheVariants.{TcCommitConf, TcKeyFailConf}
@@ -31,14 +30,14 @@ use Rattle.world_core.specs.Marks.{has_mark, have_mark}
 use Rattle.world_core.specs.Start.{Start, made}
 use Rattle.world_core.specs.Steps.{Addressed, HostStep}
 use Rattle.world_views.specs.Hosts.{started}
-use Rattle.world_views.specs.Machine.{IsOwnWork, machine, step_after}
+use Rattle.world_views.specs.Machine.{IsOwnWork, machine}
 use Rattle.view_laws.specs.Order.{entries_along, sound_machine}
 use Rattle.moment_laws.proofs.MomentHosts.{tc_started}
 use Rattle.moment_laws.proofs.MomentSignals.{taken_told}
 use Rattle.moment_laws.proofs.MomentTurns.{host_low}
 use Rattle.moment_laws.proofs.MomentViews.{moment_less}
 use Rattle.moment_laws.specs.Moments.{IsMoment, logs_of}
-use Rattle.moment_laws.specs.Places.{ldm_of, tc_of}
+use Rattle.moment_laws.specs.Places.{ldm_of}
 use Rattle.outcome_laws.specs.Decided.{IsMarked}
 use Rattle.request_laws.proofs.RouteHosts.{IsBeside, PartHost, coordinates, is_beside, keeps_rows, part_host}
 use Rattle.commit_laws.specs.Forth.{IsForth, TellsForth}
@@ -46,9 +45,9 @@ use Rattle.commit_laws.specs.Going.{is_forth}
 use Rattle.commit_laws.specs.Owed.{FinalsAreForth}
 use Rattle.commit_laws.specs.Traces.{IsApplied}
 use Rattle.commit_laws.specs.Values.{history_at, is_final, is_final_entry}
-use Rattle.commit_laws.proofs.AppliedMarks.{IsOfCommit, marks_of_commit}
+use Rattle.commit_laws.proofs.AppliedMarks.{marks_of_commit}
 use Rattle.commit_laws.proofs.DecidedStay.{applied_more, forth_more}
-use Rattle.commit_laws.proofs.FateViews.{IsSome, some_of}
+use Rattle.commit_laws.proofs.FateViews.{some_of}
 use Rattle.commit_laws.proofs.ForthAll.{forth_is_known}
 use Rattle.commit_laws.proofs.ForthClient.{IsToldOf, by_coordinator, by_takeover}
 use Rattle.commit_laws.proofs.MarkReasons.{HasReason, RunsIf, marks_have_reasons}

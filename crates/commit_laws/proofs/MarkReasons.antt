@@ -1,8 +1,8 @@
 -- Why a step marks that something was applied, or that a commit was reported: rows apply, and the client's side reports
 -- a commit that it is told of.
-use Rattle.std.proofs.Common.{◌≡◌, ◌∙◌, ◌++◌, ℕ, zero, suc, Bool, true, false, List, [], ◌∷◌, refl, sym, ap, subst}
+use Rattle.std.proofs.Common.{◌≡◌, ◌∙◌, ℕ, zero, suc, Bool, true, false, List, [], ◌∷◌, sym, ap, subst}
 use Rattle.run_theory.specs.Lists.{Each}
-use Rattle.run_theory.proofs.Pasts.{each_append, each_from, each_in, each_map}
+use Rattle.run_theory.proofs.Pasts.{each_append, each_map}
 use Rattle.sig_core.specs.declared.mark.Mark.{Mark}
 use Rattle.sig_core.specs.declared.mark.Mark.TheVariants.{Applied, Decided, Reported}
 use Rattle.sig_core.specs.declared.member.Member.{Member}
@@ -26,8 +26,6 @@ use Rattle.dih_node.specs.Verify.{given}
 use Rattle.gcp_master.specs.Master.{master_row}
 use Rattle.lqh_views.specs.Replica.{replica_row}
 use Rattle.qmgr_block.specs.Qmgr.{qmgr_installed, qmgr_row}
-use Rattle.takeover_block.specs.Takeover.{takeover_row}
-use Rattle.tc_views.specs.Coordinator.{coordinator_row}
 use Rattle.tc_views.specs.Views as coordinator
 use Rattle.node_views.specs.Blocks.{parts_entered, parts_row}
 use Rattle.node_views.specs.declared.host.Host as hosts
