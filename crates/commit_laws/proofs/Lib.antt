@@ -1,4 +1,5 @@
 pub mod AppliedMarks
+pub mod BegunNone
 pub mod Calm
 pub mod ClientViews
 pub mod CommitPlaces
@@ -153,3 +154,5 @@ pub mod TracesNow
 pub mod TransitCounts
 pub mod TransitLinks
 pub mod Truths
+pub mod Unasked
+pub mod UnaskedRows
