@@ -105,6 +105,7 @@ pub mod OwnersTurns
 pub mod PartAside
 pub mod PartAsks
 pub mod PartDoes
+pub mod PartEvents
 pub mod PartHome
 pub mod PartHosts
 pub mod PartOwn
@@ -112,6 +113,7 @@ pub mod PartPerforms
 pub mod PartRequest
 pub mod PartRests
 pub mod PartServes
+pub mod PartStill
 pub mod PartTakes
 pub mod PartTurns
 pub mod PartsQuiet
