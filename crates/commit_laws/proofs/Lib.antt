@@ -102,6 +102,7 @@ pub mod OwnersHosts
 pub mod OwnersSay
 pub mod OwnersTakeover
 pub mod OwnersTurns
+pub mod PartApart
 pub mod PartAside
 pub mod PartAsks
 pub mod PartDoes
