@@ -113,6 +113,7 @@ pub mod PartOwn
 pub mod PartPerforms
 pub mod PartRequest
 pub mod PartRests
+pub mod PartServed
 pub mod PartServes
 pub mod PartStill
 pub mod PartTakes
@@ -159,3 +160,4 @@ pub mod TransitLinks
 pub mod Truths
 pub mod Unasked
 pub mod UnaskedRows
+pub mod WaitCounts
