@@ -113,11 +113,13 @@ pub mod PartOwn
 pub mod PartPerforms
 pub mod PartRequest
 pub mod PartRests
+pub mod PartRows
 pub mod PartServed
 pub mod PartServes
 pub mod PartStill
 pub mod PartTakes
 pub mod PartTurns
+pub mod PartsKept
 pub mod PartsQuiet
 pub mod PartsSent
 pub mod Passing
