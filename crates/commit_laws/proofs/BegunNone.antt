@@ -12,7 +12,6 @@ use Rattle.sig_core.specs.Rows.{is_on, no_rows}
 use Rattle.sig_core.specs.Same.{same_tx}
 use Rattle.sig_core.proofs.TxLemmas.{same_tx-is}
 use Rattle.tc_block.specs.Operate.{fresh}
-use Rattle.lqh_views.specs.State.{ReplicaState}
 use Rattle.node_core.specs.Fresh.{own_rows}
 use Rattle.node_views.specs.declared.host.Host as node
 use Rattle.key_laws.specs.Records.{found, without_epoch}
@@ -21,7 +20,7 @@ use Rattle.world_core.specs.Start.{Start, made}
 use Rattle.world_core.specs.Steps.{HostStep}
 use Rattle.world_views.specs.Hosts.{epoch_before}
 use Rattle.world_views.specs.Machine.{machine}
-use Rattle.moment_laws.specs.Moments.{IsMoment, current, logs_of}
+use Rattle.moment_laws.specs.Moments.{IsMoment, logs_of}
 use Rattle.moment_laws.specs.Places.{ldm_of, tc_of}
 use Rattle.moment_laws.proofs.MomentHosts.{ldm_started}
 use Rattle.moment_laws.proofs.MomentViews.{moment_less}
@@ -31,7 +30,6 @@ use Rattle.request_laws.specs.Routed.{WasAskedIn}
 use Rattle.request_laws.specs.Ways.{entry_of}
 use Rattle.request_laws.proofs.RowsAlong.{first_rows}
 use Rattle.request_laws.proofs.TokenPlaces.{ldm_no_tc}
-use Rattle.commit_laws.specs.Going.{own_live}
 use Rattle.commit_laws.specs.Traces.{record_at}
 use Rattle.commit_laws.proofs.PartHome.{BegunHaveNone}
 use Rattle.commit_laws.proofs.RecordsOnce.{none_put}
@@ -87,7 +85,8 @@ module _ (start : Start) (all : ℕ → List HostStep) (tx : TxId) (there : IsIn
         was : is_some (record_at start (logs_of start (e ∷ es)) m key tx) ≡ true
             → is_some (record_at start (logs_of start es) m key tx) ≡ true
         was is =
-            record_was start all e es moment m among tx (λ view other same asked. unasked es before view other asked) key is
+            record_was start all e es moment m among tx (λ view other same asked. unasked es before view other asked)
+            key is
 
         by : record_at start (logs_of start es) m key tx ≡ None → (o : Option PendingRecord)
             → record_at start (logs_of start (e ∷ es)) m key tx ≡ o → o ≡ None

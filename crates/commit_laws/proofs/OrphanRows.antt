@@ -1,5 +1,5 @@
--- In the current view nothing was asked for of a transaction that has no coordinator in it: so its records there change only by a
--- commit, a completion or an abort.
+-- In the current view nothing was asked for of a transaction that has no coordinator in it: so its records there change
+-- only by a commit, a completion or an abort.
 use Rattle.std.proofs.Common.{◌≡◌, ◌∙◌, ℕ, Bool, true, false, List, ◌∷◌, refl, sym, subst}
 use Rattle.std.proofs.lemmas.Bool.{true≢false}
 use Rattle.run_theory.specs.Lists.{IsIn}

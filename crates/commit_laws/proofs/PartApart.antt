@@ -1,13 +1,12 @@
--- The parts of a transaction's operations behind an event of the rows of a member, in the current view, where the rows do
--- nothing, install a view, or do what isn't of the transaction.
-use Rattle.std.proofs.Common.{◌≡◌, ◌⊎◌, ◌∙◌, ℕ, true, false, List, [], ◌∷◌, refl, sym, ap, subst, inl, inr, arith}
+-- The parts of a transaction's operations behind an event of the rows of a member, in the current view, where the rows
+-- do nothing, install a view, or do what isn't of the transaction.
+use Rattle.std.proofs.Common.{◌≡◌, ◌⊎◌, ◌∙◌, ℕ, true, false, List, [], ◌∷◌, refl, sym, ap, subst, inr}
 use Rattle.run_theory.proofs.Pasts.{each_map}
 use Rattle.run_theory.proofs.Runs.{log_of-own}
 use Rattle.run_theory.specs.Lists.{Each, IsIn}
 use Rattle.sig_core.specs.declared.member.Member.{Member}
 use Rattle.sig_core.specs.declared.member.TxId.{TxId}
 use Rattle.sig_core.specs.declared.outs.Outgoing.{Outgoing}
-use Rattle.sig_core.specs.declared.signal.Body.{Body}
 use Rattle.sig_core.specs.declared.signal.Signal.{Signal}
 use Rattle.sig_core.specs.declared.view.View.{View}
 use Rattle.sig_core.specs.Same.{same_key, same_tx}
@@ -16,7 +15,7 @@ use Rattle.tc_block.specs.declared.transaction.Transaction.{Transaction}
 use Rattle.lqh_block.specs.declared.request.Request.{Request}
 use Rattle.lqh_views.specs.Replica.{installed}
 use Rattle.lqh_views.specs.State.{ReplicaState}
-use Rattle.key_laws.specs.Replica.{Event, Replica, asks_for, at_key, key_after}
+use Rattle.key_laws.specs.Replica.{Replica, asks_for, at_key, key_after}
 use Rattle.run_laws.proofs.KeyTokens.{Token, event_tokens}
 use Rattle.run_laws.proofs.KeyTokens as token
 use Rattle.run_laws.proofs.OthersStay.{is_of}
@@ -37,7 +36,7 @@ use Rattle.commit_laws.specs.Transit.{AreInTransit, Takes}
 use Rattle.commit_laws.proofs.KeyStays.{worker_of}
 use Rattle.commit_laws.proofs.MemberKeeps.{KeepsFor, KeepsTo, between_keeps, event_keeps, keeps_both, keeps_self}
 use Rattle.commit_laws.proofs.PartEvents.{aside_tokens, aside_waits}
-use Rattle.commit_laws.proofs.PartOwn.{PartsOf, bodies_sent, sent_now}
+use Rattle.commit_laws.proofs.PartOwn.{bodies_sent, sent_now}
 use Rattle.commit_laws.proofs.PartRequest.{each_if}
 use Rattle.commit_laws.proofs.PartStill.{MemberDoes}
 use Rattle.commit_laws.proofs.PartsSent.{part_by, sent_parts}
@@ -93,8 +92,9 @@ module _ (start : Start) (all : ℕ → List HostStep) (e : HostStep) (es : List
         (sent_now start all e es follows xs left transit takes same tx)
     nothing_told none key =
         bodies_sent start e.host (old e.host) e (λ b. Told start new key tx u (part_of tx key b))
-        (subst (λ k. Each (λ (o : Outgoing). Told start new key tx u (part_of tx key o.body)) (step_after start k (old k) e).effects.sends)
-        (sym at)
+        (subst
+        (λ k. Each (λ (o : Outgoing). Told start new key tx u (part_of tx key o.body))
+        (step_after start k (old k) e).effects.sends) (sym at)
         (subst (Each (λ (o : Outgoing). Told start new key tx u (part_of tx key o.body))) (sym none) tt))
 
     -- the rows do nothing
@@ -119,7 +119,8 @@ module _ (start : Start) (all : ℕ → List HostStep) (e : HostStep) (es : List
     entering_does is quiet = record {
       keeps = λ key.
           subst (λ (s : ReplicaState). KeepsFor tx (replica_at start old me key) (at_key key s.lqh)) (sym is)
-          (between_keeps start all e es moment me there key tx led (installed rows_old (current start new)) (inr refl)).keeps;
+          (between_keeps start all e es moment me there key tx led (installed rows_old (current start new))
+          (inr refl)).keeps;
       sent = nothing_told quiet.sends;
       waits = λ key stands. subst (WaitsTold key) (sym is) tt;
     }

@@ -1,5 +1,5 @@
 -- The parts of a transaction's operations behind an event of the rows of a member, in the current view.
-use Rattle.std.proofs.Common.{◌≡◌, ◌≢◌, ◌⊎◌, ◌==◌, ◌∙◌, ℕ, Bool, true, false, List, [], ◌∷◌, refl, sym, ap, subst, inl, inr}
+use Rattle.std.proofs.Common.{◌≡◌, ◌⊎◌, ◌==◌, ◌∙◌, ℕ, Bool, true, false, List, ◌∷◌, refl, sym, ap, subst, inl, inr}
 use Rattle.std.proofs.lemmas.Bool.{true≢false}
 use Rattle.std.specs.Prelude.{if◌then◌else◌, Option, None, Some}
 use Rattle.run_theory.specs.Lists.{IsIn}
@@ -25,7 +25,7 @@ use Rattle.lqh_block.specs.Operate.{is_granted}
 use Rattle.lqh_block.specs.State.{storage_of}
 use Rattle.lqh_views.specs.Replica.{installed, is_stale}
 use Rattle.lqh_views.specs.State.{ReplicaState}
-use Rattle.key_laws.specs.Replica.{Event, aborts as gives_up, asks, at_key, commits as makes_so, completes as ends, event_at, expires, expires_if, if_on, is_let_in, is_refused, rests, serves, serves_if}
+use Rattle.key_laws.specs.Replica.{Event, aborts as gives_up, asks, at_key, commits as makes_so, completes as ends, event_at, expires, expires_if, if_on, is_refused, rests, serves, serves_if}
 use Rattle.key_laws.proofs.KeyAfter.{first_here}
 use Rattle.run_laws.proofs.OthersStay.{is_of, of_first}
 use Rattle.world_core.specs.Start.{Start, made}
@@ -100,7 +100,8 @@ module _ (start : Start) (all : ℕ → List HostStep) (e : HostStep) (es : List
         forth_told signal is =
             subst (TellsForth (IsForth start old)) is
             (chain_told start all e es follows.moment taken.now signal is
-            (λ (y : Addressed). TellsForth (IsForth start old) y.signal.body) (forth_is_known start all es before).signals)
+            (λ (y : Addressed). TellsForth (IsForth start old) y.signal.body)
+            (forth_is_known start all es before).signals)
 
         -- it comes to no end
         uncommitted : (v : TxId) (own : List ℕ) (epoch : ℕ) (chain : List Member) (place : ℕ)
@@ -163,7 +164,8 @@ module _ (start : Start) (all : ℕ → List HostStep) (e : HostStep) (es : List
             (is_refused (storage_of s.lqh) (record { tx = v; work = w; chain = chain; at = place }))) off
         other_at key (Chain (Commit v own epoch chain place)) is off =
             on key own (makes_so v (place == 0)) (uncommitted v own epoch chain place is)
-        other_at key (Chain (Complete v own chain place)) is off = on key own (ends v) (uncompleted v own chain place is)
+        other_at key (Chain (Complete v own chain place)) is off =
+            on key own (ends v) (uncompleted v own chain place is)
         other_at key (Chain (Abort v own)) is off = on key own (gives_up v) (unaborted v own is)
         other_at key (Host (Continue work.Granted n)) is off =
             granted_other key (first (is_granted s.lqh.locks) s.lqh.waiting) refl off
@@ -175,8 +177,8 @@ module _ (start : Start) (all : ℕ → List HostStep) (e : HostStep) (es : List
         aside : (body : Body) → x.body ≡ body → IsAside body → Now
         aside body is off =
             by_what_it_does
-            (aside_does start all e es follows xs left transit takes same tx u hale led me there at s between which taken
-            (λ key. by key (under_is key s x)))
+            (aside_does start all e es follows xs left transit takes same tx u hale led me there at s between which
+            taken (λ key. by key (under_is key s x)))
           where
             by : (key : List ℕ) → (event_under key s x ≡ rests) ⊎ (event_under key s x ≡ event_at key s.lqh x.body)
                 → OfOther key (event_under key s x)
@@ -188,8 +190,8 @@ module _ (start : Start) (all : ℕ → List HostStep) (e : HostStep) (es : List
         stale : (n : ℕ) → x.body ≡ Host (Continue work.Granted n) → is_stale s x ≡ true → Now
         stale n is old_view =
             by_what_it_does
-            (aside_does start all e es follows xs left transit takes same tx u hale led me there at s between which taken
-            (λ key. subst (OfOther key)
+            (aside_does start all e es follows xs left transit takes same tx u hale led me there at s between which
+            taken (λ key. subst (OfOther key)
             (sym (ap (event_by key s x) is ∙ ap (λ b. event_if (event_at key s.lqh x.body) b) old_view)) refl))
 
         request : (v : TxId) (w : RowWork) (chain : List Member) (place : ℕ)
@@ -205,8 +207,8 @@ module _ (start : Start) (all : ℕ → List HostStep) (e : HostStep) (es : List
             aside (Host (Continue work.Granted n)) is (ap (λ o. is_of tx (of_first o)) granted ∙ off)
         serving n is fresh None granted true own = absurd (true≢false (sym own))
         serving n is fresh (Some q) granted true own =
-            served_parts start all e es follows xs left transit takes same tx u hale led me there s between which taken q
-            (same_tx-is q.tx tx own) n is fresh granted
+            served_parts start all e es follows xs left transit takes same tx u hale led me there s between which taken
+            q (same_tx-is q.tx tx own) n is fresh granted
 
         granting : (n : ℕ) → x.body ≡ Host (Continue work.Granted n) → (b : Bool) → is_stale s x ≡ b → Now
         granting n is true old_view = stale n is old_view
@@ -225,7 +227,8 @@ module _ (start : Start) (all : ℕ → List HostStep) (e : HostStep) (es : List
         by : RowsTurn start all e es follows.moment me there → Now
         by (rest_now is quiet stays) =
             by_what_it_does
-            (resting_does start all e es follows xs left transit takes same tx u hale led me there at is (quiet at) (stays at))
+            (resting_does start all e es follows xs left transit takes same tx u hale led me there at is (quiet at)
+            (stays at))
         by (enter_now is quiet) =
             by_what_it_does
             (entering_does start all e es follows xs left transit takes same tx u hale led me there at is (quiet at))

@@ -1,6 +1,6 @@
--- The parts of a transaction's operations behind an event at which rows perform a request of it that waited, in the current
--- view.
-use Rattle.std.proofs.Common.{◌≡◌, ◌≢◌, ◌⊎◌, ◌≤◌, ◌+◌, ◌==◌, ◌∙◌, ℕ, Bool, true, false, filter, List, [], ◌∷◌, eq-eqb, refl, sym, ap, subst, inl, inr, arith}
+-- The parts of a transaction's operations behind an event at which rows perform a request of it that waited, in the
+-- current view.
+use Rattle.std.proofs.Common.{◌≡◌, ◌≢◌, ◌⊎◌, ◌≤◌, ◌+◌, ◌==◌, ◌∙◌, ℕ, Bool, true, false, List, ◌∷◌, eq-eqb, refl, sym, ap, subst, inl, inr, arith}
 use Rattle.std.proofs.lemmas.Bool.{cases_eq, true≢false}
 use Rattle.std.specs.List.{count_by, slice_get}
 use Rattle.std.specs.Prelude.{if◌then◌else◌, Option, None, Some}
@@ -32,7 +32,6 @@ use Rattle.lqh_views.specs.State.{ReplicaState}
 use Rattle.key_laws.specs.Replica.{Replica, asks_for, at_key, event_at, if_on, is_let_in, is_refused, key_after, rests, served_by, serves, serves_if}
 use Rattle.key_laws.proofs.KeyAfter.{first_here}
 use Rattle.key_laws.proofs.Waiting.{each-first_item}
-use Rattle.run_laws.specs.Transit.{joined}
 use Rattle.run_laws.proofs.Weighing.{joined_each}
 use Rattle.world_core.specs.Start.{Start, made}
 use Rattle.world_core.specs.Steps.{Addressed, HostStep}
@@ -42,7 +41,6 @@ use Rattle.view_laws.proofs.RunMade.{made_same}
 use Rattle.moment_laws.specs.Moments.{IsMoment, current, logs_of}
 use Rattle.moment_laws.specs.Places.{ldm_of}
 use Rattle.moment_laws.proofs.MomentViews.{moment_less}
-use Rattle.outcome_laws.specs.Counts.{coordinator_member}
 use Rattle.request_laws.specs.Blocks.{rows_after}
 use Rattle.request_laws.specs.Replicas.{event_by, event_if}
 use Rattle.request_laws.specs.Routed.{IsGivenUp, WasAskedIn, WasDrivenIn, layout_in}
@@ -142,10 +140,12 @@ module _ (start : Start) (all : ℕ → List HostStep) (e : HostStep) (es : List
 
     way : IsRequestRouted (layout_in start (current start old)) (rows_of rows_old.lqh.node) q
     way =
-        (each-first_item (λ (one : Request). IsRequestRouted (layout_in start (current start old)) (rows_of rows_old.lqh.node) one
+        (each-first_item
+        (λ (one : Request). IsRequestRouted (layout_in start (current start old)) (rows_of rows_old.lqh.node) one
         × WasAskedIn start old (current start old) one.tx)
         (is_granted rows_old.lqh.locks) rows_old.lqh.waiting q
-        (subst (λ v. WaitsRouted (layout_in start v) (WasAskedIn start old v) (WasDrivenIn start old v) (IsGivenUp start old)
+        (subst
+        (λ v. WaitsRouted (layout_in start v) (WasAskedIn start old v) (WasDrivenIn start old v) (IsGivenUp start old)
         rows_old) stood ((signals_are_routed start all es before).rows me there)) granted_old).0
 
     -- it waits at its place of its chain

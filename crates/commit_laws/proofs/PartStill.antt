@@ -13,7 +13,6 @@ use Rattle.tc_block.specs.declared.transaction.Transaction.{Transaction}
 use Rattle.lqh_block.specs.declared.request.Request.{Request}
 use Rattle.lqh_views.specs.State.{ReplicaState}
 use Rattle.key_laws.specs.Replica.{at_key}
-use Rattle.run_laws.specs.Transit.{joined}
 use Rattle.run_laws.proofs.Weighing.{joined_each}
 use Rattle.world_core.specs.Start.{Start, made}
 use Rattle.world_core.specs.Steps.{Addressed, HostStep}
@@ -56,8 +55,8 @@ module _ (start : Start) (all : ℕ → List HostStep) (e : HostStep) (es : List
     abbrev number_is : (current start new).number ≡ (current start old).number
     number_is = ap (λ v. v.number) same
 
-    -- The member keeps what it has of the transaction, what it sends of it tells the truth, and what waits there of it told
-    -- it before.
+    -- The member keeps what it has of the transaction, what it sends of it tells the truth, and what waits there of it
+    -- told it before.
     pub record MemberDoes : Type 0 where
       pub keeps : (key : List ℕ)
           → KeepsFor tx (replica_at start (logs_of start es) me key) (replica_at start (logs_of start (e ∷ es)) me key)
@@ -68,7 +67,8 @@ module _ (start : Start) (all : ℕ → List HostStep) (e : HostStep) (es : List
           → (view_after start (ldm_of start me) (logs_of start (e ∷ es) (ldm_of start me))).number
           ≡ (current start (logs_of start (e ∷ es))).number
           → Each (λ (q : Request). same_tx q.tx tx ≡ true → same_key (work_key q.work) key ≡ true
-          → Tells start (logs_of start es) key tx u (performs q.work q.at)) (rows_at start (logs_of start (e ∷ es)) me).lqh.waiting
+          → Tells start (logs_of start es) key tx u (performs q.work q.at))
+          (rows_at start (logs_of start (e ∷ es)) me).lqh.waiting
 
     module _ (does : MemberDoes) where
       all_keep : (key : List ℕ) (m : Member) → IsIn m (made start)
@@ -119,7 +119,8 @@ module _ (start : Start) (all : ℕ → List HostStep) (e : HostStep) (es : List
               (λ k. Each (λ (q : Request). same_tx q.tx tx ≡ true → same_key (work_key q.work) key ≡ true
               → Tells start old key tx u (performs q.work q.at)) (rows_at start new k).lqh.waiting) (sym is)
               (does.waits key
-              (subst (λ k. (view_after start (ldm_of start k) (new (ldm_of start k))).number ≡ (current start new).number) is
+              (subst
+              (λ k. (view_after start (ldm_of start k) (new (ldm_of start k))).number ≡ (current start new).number) is
               stands))
           by (inr off) =
               let log_is = log_of-other (machine start) e es (ldm_of start m) off in

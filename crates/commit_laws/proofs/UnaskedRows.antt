@@ -1,6 +1,6 @@
--- In the current view rows ask, answer and refuse nothing of a transaction of which nothing was asked for in it: so its records
--- there change only by a commit, a completion or an abort, and none comes.
-use Rattle.std.proofs.Common.{◌≡◌, ◌∙◌, ℕ, Bool, true, false, List, ◌∷◌, refl, sym, ap, subst}
+-- In the current view rows ask, answer and refuse nothing of a transaction of which nothing was asked for in it: so its
+-- records there change only by a commit, a completion or an abort, and none comes.
+use Rattle.std.proofs.Common.{◌≡◌, ◌∙◌, ℕ, true, false, List, ◌∷◌, refl, sym, ap, subst}
 use Rattle.std.specs.Prelude.{Option, None, Some, is_some}
 use Rattle.run_theory.specs.Lists.{Each, IsIn}
 use Rattle.run_theory.proofs.Pasts.{each_map}
@@ -54,8 +54,10 @@ module _ (start : Start) (all : ℕ → List HostStep) (e : HostStep) (es : List
 
     -- the signal that rows take of chains is routed in the current view
     module _ (taken : IsTakenNow start all e es moment block.Lqh) where
-      of_chain : is_of_rows x.body ≡ true → x.view ≡ current start new → IsRoutedSignal start old (record { to = e.host; signal = x })
-      of_chain of_rows same = told_of start all e es moment (IsRoutedSignal start old) routed.signals taken.sound of_rows
+      of_chain : is_of_rows x.body ≡ true → x.view ≡ current start new
+          → IsRoutedSignal start old (record { to = e.host; signal = x })
+      of_chain of_rows same =
+          told_of start all e es moment (IsRoutedSignal start old) routed.signals taken.sound of_rows
 
       no_token : is_token tx x.body ≡ false
       no_token = by x.body refl
@@ -70,17 +72,20 @@ module _ (start : Start) (all : ℕ → List HostStep) (e : HostStep) (es : List
           by (Chain (LqhKeyReq other work chain at)) is =
               let view = view_is (Chain (LqhKeyReq other work chain at)) is _ refl in
               unasked x.view other view
-              ((subst (λ b. IsRouted (layout_in start x.view) (WasAskedIn start old x.view) (WasDrivenIn start old x.view)
+              ((subst
+              (λ b. IsRouted (layout_in start x.view) (WasAskedIn start old x.view) (WasDrivenIn start old x.view)
               (IsGivenUp start old) x.to b) is (of_chain (ap is_of_rows is) view)).1)
           by (Chain (LqhKeyConf other key answer)) is =
               let view = view_is (Chain (LqhKeyConf other key answer)) is _ refl in
               unasked x.view other view
-              ((subst (λ b. IsRouted (layout_in start x.view) (WasAskedIn start old x.view) (WasDrivenIn start old x.view)
+              ((subst
+              (λ b. IsRouted (layout_in start x.view) (WasAskedIn start old x.view) (WasDrivenIn start old x.view)
               (IsGivenUp start old) x.to b) is (of_chain (ap is_of_rows is) view)).1)
           by (Chain (LqhKeyRef other key cause)) is =
               let view = view_is (Chain (LqhKeyRef other key cause)) is _ refl in
               unasked x.view other view
-              ((subst (λ b. IsRouted (layout_in start x.view) (WasAskedIn start old x.view) (WasDrivenIn start old x.view)
+              ((subst
+              (λ b. IsRouted (layout_in start x.view) (WasAskedIn start old x.view) (WasDrivenIn start old x.view)
               (IsGivenUp start old) x.to b) is (of_chain (ap is_of_rows is) view)).1)
           by body is = refl
 

@@ -1,8 +1,9 @@
--- Of the items of a list that pass a test there is one, which is the first to pass another: when it is taken out none is left.
-use Rattle.std.proofs.Common.{◌≡◌, ◌≤◌, ◌+◌, ◌∙◌, Bool, true, false, cond, filter, List, [], ◌∷◌, refl, sym, ap, arith}
+-- Of the items of a list that pass a test there is one, which is the first to pass another: when it is taken out none
+-- is left.
+use Rattle.std.proofs.Common.{◌≡◌, ◌≤◌, ◌+◌, ◌∙◌, Bool, true, false, cond, filter, List, [], ◌∷◌, sym, ap, arith}
 use Rattle.std.proofs.lemmas.Bool.{true≢false}
 use Rattle.std.specs.List.{count_by}
-use Rattle.std.specs.Prelude.{if◌then◌else◌, Option, None, Some}
+use Rattle.std.specs.Prelude.{if◌then◌else◌, Some}
 use Rattle.run_theory.proofs.Pasts.{each_map}
 use Rattle.run_theory.specs.Lists.{Each}
 use Rattle.sig_core.specs.Firsts.{drop_first, first}
