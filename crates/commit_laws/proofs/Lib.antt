@@ -119,6 +119,7 @@ pub mod PartServes
 pub mod PartStill
 pub mod PartTakes
 pub mod PartTurns
+pub mod PartsEver
 pub mod PartsKept
 pub mod PartsQuiet
 pub mod PartsSent
