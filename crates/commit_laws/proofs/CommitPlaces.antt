@@ -69,11 +69,11 @@ place_of (y ∷ xs) x (inl same) = record { at = 0; is = ap (λ z. Some z) (sym 
 place_of (y ∷ xs) x (inr there) = let one = place_of xs x there in record { at = suc one.at; is = one.is }
 
 -- a place within a list has a member
-record At (xs : List Member) (at : ℕ) : Type 0 where
-  one : Member
-  is : slice_get xs at ≡ Some one
+pub record At (xs : List Member) (at : ℕ) : Type 0 where
+  pub one : Member
+  pub is : slice_get xs at ≡ Some one
 
-within_at : (xs : List Member) (at : ℕ) → at < length xs → At xs at
+pub within_at : (xs : List Member) (at : ℕ) → at < length xs → At xs at
 within_at [] at inside = absurd (omega (arith, inside))
 within_at (x ∷ xs) zero inside = record { one = x; is = refl }
 within_at (x ∷ xs) (suc at) inside =

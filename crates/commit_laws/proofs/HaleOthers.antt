@@ -111,7 +111,7 @@ module _ (start : Start) (all : ℕ → List HostStep) (es : List HostStep) (mom
     }
 
 -- what holds of each that passes a test if it does so, holds of each that is left by it
-each_passing : {A : Type 0} (P : A → Type 0) (p : A → Bool) (xs : List A) → Each (λ x. p x ≡ true → P x) xs
+pub each_passing : {A : Type 0} (P : A → Type 0) (p : A → Bool) (xs : List A) → Each (λ x. p x ≡ true → P x) xs
     → Each P (filter p xs)
 each_passing P p [] all = tt
 each_passing {A} P p (x ∷ xs) all = by (p x) refl (each_passing P p xs all.1)

@@ -132,7 +132,7 @@ keeps_both tx a b c more one other = record {
   row = λ held is. other.row (more held) (one.held is) ∙ one.row held is;
 }
 
-event_keeps : (tx : TxId) (r : Replica) (event : Event) → IsOrderly r.lock → is_of tx (worker_of event r) ≡ false
+pub event_keeps : (tx : TxId) (r : Replica) (event : Event) → IsOrderly r.lock → is_of tx (worker_of event r) ≡ false
     → KeepsFor tx r (key_after event r)
 event_keeps tx r event orderly off =
     let on = holds_stay tx r orderly event off in

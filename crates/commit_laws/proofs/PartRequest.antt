@@ -68,7 +68,7 @@ use Rattle.commit_laws.proofs.TellsKept.{tells_still}
 use Rattle.commit_laws.proofs.TransitCounts.{each_taken, none_left}
 
 -- what holds of each that passes a test holds of each if it passes
-each_if : {A : Type 0} (P : A → Type 0) (p : A → Bool) (xs : List A) → Each P (filter p xs)
+pub each_if : {A : Type 0} (P : A → Type 0) (p : A → Bool) (xs : List A) → Each P (filter p xs)
     → Each (λ x. p x ≡ true → P x) xs
 each_if P p [] all = tt
 each_if {A} P p (x ∷ xs) all = by (p x) refl all (each_if P p xs)
