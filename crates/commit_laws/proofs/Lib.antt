@@ -84,12 +84,12 @@ pub mod LockKeeps
 pub mod LocksNow
 pub mod LostDoomed
 pub mod LostStays
+pub mod MarkReasons
 pub mod MarkerAll
 pub mod MarkerLists
 pub mod MarkerMoves
 pub mod MarkerRows
 pub mod MarkerSteps
-pub mod MarkReasons
 pub mod MemberKeeps
 pub mod OrderAside
 pub mod OrderCounts
@@ -129,10 +129,10 @@ pub mod PartsEver
 pub mod PartsKept
 pub mod PartsQuiet
 pub mod PartsSent
+pub mod Passing
 pub mod PlainMarks
 pub mod PlainMaster
 pub mod PlainMembership
-pub mod Passing
 pub mod RecordMoves
 pub mod RecordsOnce
 pub mod ReplicasNow
