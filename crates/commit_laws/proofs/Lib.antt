@@ -148,6 +148,7 @@ pub mod TakeoverReports
 pub mod TakeoverTold
 pub mod TakeoverWords
 pub mod TellersFull
+pub mod TellingNotes
 pub mod TellsKept
 pub mod TracesNow
 pub mod TransitCounts
