@@ -143,6 +143,7 @@ pub mod TakenChains
 pub mod TakeoverCloses
 pub mod TakeoverEvents
 pub mod TakeoverGoing
+pub mod TakeoverHears
 pub mod TakeoverNext
 pub mod TakeoverReports
 pub mod TakeoverTold
