@@ -150,6 +150,7 @@ pub mod TakeoverTold
 pub mod TakeoverWords
 pub mod TellersFull
 pub mod TellingNotes
+pub mod TellingsGathered
 pub mod TellingsNoted
 pub mod TellsKept
 pub mod TracesNow
