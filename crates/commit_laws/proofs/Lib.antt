@@ -152,6 +152,7 @@ pub mod TellersFull
 pub mod TellingNotes
 pub mod TellingsGathered
 pub mod TellingsNoted
+pub mod TellingsPlaced
 pub mod TellsKept
 pub mod TracesNow
 pub mod TransitCounts

@@ -194,7 +194,7 @@ module _ (first : OrdersComeFirst) (placed : TellingsAreForTakeovers) (start : S
               body_is = ap (λ (s : Signal). s.body) (sym is) ∙ tells.body
 
               to : x.to.block ≡ block.Takeover
-              to = placed start all e es moment member there at tx key tells.told tells.epoch body_is
+              to = placed start all e es moment sound tx key tells.told tells.epoch body_is
 
               high : stood.number ≤ x.view.number
               high =
@@ -222,7 +222,7 @@ module _ (first : OrdersComeFirst) (placed : TellingsAreForTakeovers) (start : S
 
               by : Hears own.own stood x step → Noted (takeover_after start member (e ∷ log))
               by (stops is) = absurd (true≢false (sym (ap stops_by marks ∙ is) ∙ runs))
-              by (heard q seen front entering parts stood) =
+              by (heard q seen front entering parts stays) =
                   subst Noted (sym (now_is (tc_row q x.to.block x).state parts)) (row q)
 
           both : (i : ℕ) → (b : Bool) → is_from n i e ≡ b → stops_by e.step.marks ≡ false

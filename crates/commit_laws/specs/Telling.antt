@@ -11,6 +11,7 @@ use Rattle.sig_core.specs.declared.signal.takeover.TakeoverSignal.TheVariants.{L
 use Rattle.takeover_block.specs.declared.gathered.Gathered.{Gathered}
 use Rattle.takeover_block.specs.Gathered.{told_epoch}
 use Rattle.takeover_block.specs.Keys.{has_key}
+use Rattle.node_views.specs.WellFormed.{is_well_formed}
 use Rattle.world_core.specs.Start.{Start, made}
 use Rattle.world_core.specs.Steps.{Addressed, HostStep}
 use Rattle.view_laws.specs.Order.{sound_machine}
@@ -101,6 +102,6 @@ OrdersComeFirst =
 abbrev pub TellingsAreForTakeovers : Type 0
 TellingsAreForTakeovers =
     (start : Start) (all : ℕ → List HostStep) (e : HostStep) (es : List HostStep) → IsMoment start all (e ∷ es)
-    → (member : Member) → IsIn member (made start) → e.host ≡ tc_of start member → (tx : TxId) (key : List ℕ)
-    → (told : RecordState) (epoch : ℕ) → e.step.taken.body ≡ Takeover (LqhTransConf tx key told epoch)
+    → is_well_formed start.shape e.step.taken ≡ true → (tx : TxId) (key : List ℕ) (told : RecordState) (epoch : ℕ)
+    → e.step.taken.body ≡ Takeover (LqhTransConf tx key told epoch)
     → e.step.taken.to.block ≡ block.Takeover
