@@ -51,6 +51,7 @@ pub mod ForthSpeaks
 pub mod ForthTakeover
 pub mod ForthTc
 pub mod ForthTurns
+pub mod GatheringAlone
 pub mod GatheringWhole
 pub mod HaleOthers
 pub mod ImagesLeft
