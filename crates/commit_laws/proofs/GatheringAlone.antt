@@ -1,5 +1,5 @@
 -- While a takeover gathers in the current view none was at work in it, as one alone is ordered.
-use Rattle.std.proofs.Common.{◌≡◌, ◌≢◌, ◌≤◌, ◌<◌, ◌⊎◌, ◌+◌, ◌∙◌, ℕ, zero, suc, Bool, true, false, List, [], ◌∷◌, inl, inr, nat_lt, refl, sym, ap, arith, subst}
+use Rattle.std.proofs.Common.{◌≡◌, ◌≢◌, ◌≤◌, ◌<◌, ◌⊎◌, ◌+◌, ◌∙◌, ℕ, zero, suc, Bool, true, false, List, [], ◌∷◌, inl, inr, refl, sym, ap, arith, subst}
 use Rattle.std.proofs.lemmas.Bool.{cases_eq, cases_lt, true≢false}
 use Rattle.std.specs.Prelude.{Option, None, Some, remove, slice_get}
 use Rattle.run_theory.specs.Counts.{total}
@@ -27,7 +27,7 @@ use Rattle.takeover_block.proofs.EachTakeover.{is_gathering, takeover_each}
 use Rattle.node_views.specs.declared.parts.Parts.TheVariants as part
 use Rattle.node_views.specs.declared.tc_part.TcPart.{TcPart}
 use Rattle.node_views.specs.Fence.{is_body_fenced}
-use Rattle.node_views.specs.Parts.{tc_entered, tc_row}
+use Rattle.node_views.specs.Parts.{tc_row}
 use Rattle.world_core.specs.Hosts.{hosts, member_at}
 use Rattle.world_core.specs.Start.{Start, made}
 use Rattle.world_core.specs.Steps.{HostStep}
@@ -42,7 +42,7 @@ use Rattle.moment_laws.specs.PartSteps.{PartEnters, PartTakes, handles, ignores,
 use Rattle.moment_laws.specs.Places.{tc_of}
 use Rattle.moment_laws.proofs.MomentHosts.{tc_low, tc_member}
 use Rattle.moment_laws.proofs.MomentTurns.{current_rises}
-use Rattle.moment_laws.proofs.MomentViews.{current_above, current_number, moment_installed, moment_less, number_in}
+use Rattle.moment_laws.proofs.MomentViews.{current_number, moment_installed, moment_less, number_in}
 use Rattle.moment_laws.proofs.PartKinds.{tc_is}
 use Rattle.moment_laws.proofs.PartTaken.{IsTakenNow, handled_now}
 use Rattle.request_laws.specs.Blocks.{takeover_after}

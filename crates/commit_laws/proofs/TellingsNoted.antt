@@ -10,7 +10,6 @@ use Rattle.run_theory.specs.Runs.{Happens}
 use Rattle.run_theory.proofs.Runs.{log_of-other, log_of-own}
 use Rattle.sig_core.specs.declared.member.Member.{Member}
 use Rattle.sig_core.specs.declared.member.TxId.{TxId}
-use Rattle.sig_core.specs.declared.outs.Outgoing.{Outgoing}
 use Rattle.sig_core.specs.declared.place.BlockId.{BlockId}
 use Rattle.sig_core.specs.declared.place.BlockId.TheVariants as block
 use Rattle.sig_core.specs.declared.place.Part.TheVariants as kinds
@@ -21,11 +20,10 @@ use Rattle.sig_core.specs.declared.view.View.{View}
 use Rattle.sig_core.specs.Step.{Step}
 use Rattle.takeover_block.specs.Gathered.{told_epoch}
 use Rattle.takeover_block.specs.State.{TakeoverState}
-use Rattle.takeover_block.specs.Takeover.{takeover_row}
 use Rattle.node_views.specs.declared.host.Host as hosts
 use Rattle.node_views.specs.declared.parts.Parts.TheVariants as part
 use Rattle.node_views.specs.declared.tc_part.TcPart.{TcPart}
-use Rattle.node_views.specs.Parts.{tc_entered, tc_row}
+use Rattle.node_views.specs.Parts.{tc_row}
 use Rattle.node_views.specs.WellFormed.{is_well_formed}
 use Rattle.world_core.specs.Start.{Start, made}
 use Rattle.world_core.specs.Steps.{Addressed, HostStep}
