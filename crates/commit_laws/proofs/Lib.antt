@@ -120,6 +120,7 @@ pub mod Passing
 pub mod RecordMoves
 pub mod RecordsOnce
 pub mod ReplicasNow
+pub mod ReportGoes
 pub mod ReportPlaces
 pub mod RowTokens
 pub mod RowsAttended

@@ -35,10 +35,11 @@ use Rattle.request_laws.specs.Blocks.{takeover_after, takeover_in}
 use Rattle.request_laws.proofs.RouteSteps.{TcStep, own_tc, takeover_is}
 use Rattle.commit_laws.specs.Gathering.{EndsGathering}
 use Rattle.commit_laws.specs.Takeovers.{takeover_at}
-use Rattle.commit_laws.specs.Telling.{IsTelling, OrdersComeFirst, TellingsAreForTakeovers}
+use Rattle.commit_laws.specs.Telling.{IsTelling, OrdersComeFirst}
 use Rattle.commit_laws.proofs.DriveGathered.{AreFit, fit_stays, none_fit, not_before_itself}
 use Rattle.commit_laws.proofs.TellingNotes.{HasNoted}
 use Rattle.commit_laws.proofs.TellingsNoted.{tellings_noted}
+use Rattle.commit_laws.proofs.TellingsPlaced.{tellings_are_for_takeovers}
 
 -- what is gathered stands in order along each log
 module _ (start : Start) (member : Member) (there : IsIn member (made start)) where
@@ -112,9 +113,8 @@ noted_each tx key Marked gs order has =
     (ap (λ (q : Gathered). has_key q.keys key) is ∙ has.key_in,
     λ marked none. has.committed marked (ap (λ (q : Gathered). q.epoch) (sym is) ∙ none)))
 
-module _ (first : OrdersComeFirst) (placed : TellingsAreForTakeovers) (start : Start) (all : ℕ → List HostStep)
-    (e : HostStep) (es : List HostStep) (moment : IsMoment start all (e ∷ es)) (member : Member)
-    (closing : EndsGathering start e es member)
+module _ (first : OrdersComeFirst) (start : Start) (all : ℕ → List HostStep) (e : HostStep) (es : List HostStep)
+    (moment : IsMoment start all (e ∷ es)) (member : Member) (closing : EndsGathering start e es member)
   where
     abbrev old : ℕ → List HostStep
     old = logs_of start es
@@ -134,5 +134,5 @@ module _ (first : OrdersComeFirst) (placed : TellingsAreForTakeovers) (start : S
     gathered_noted i y there tx key tells =
         noted_each tx key (told_epoch tells.told tells.epoch ≡ None → ⊥) (takeover_at start old member).gathered
         (gathered_fit start member closing.made_is (old (tc_of start member))).order
-        (tellings_noted first placed start all es (moment_less start all e es moment) member closing.made_is
+        (tellings_noted first tellings_are_for_takeovers start all es (moment_less start all e es moment) member closing.made_is
         (ap (λ (v : View). v.number) closing.stands) running i y there tx key tells (ap is_gathering closing.gathers))
