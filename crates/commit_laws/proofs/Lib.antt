@@ -118,6 +118,7 @@ pub mod PartsQuiet
 pub mod PartsSent
 pub mod Passing
 pub mod RecordMoves
+pub mod RecordPlaces
 pub mod RecordsOnce
 pub mod ReplicasNow
 pub mod ReportGoes
