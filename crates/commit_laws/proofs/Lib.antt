@@ -129,6 +129,7 @@ pub mod RowsEnd
 pub mod RowsGo
 pub mod RulingQuiet
 pub mod RulingRests
+pub mod RowsPlaces
 pub mod SettledDecisions
 pub mod SettledKept
 pub mod Settles
