@@ -223,7 +223,8 @@ module _ (orders : OrdersAreOnce) (start : Start) (all : ℕ → List HostStep) 
 
         -- no other is at work
         pub others_rest : AllRest start (logs_of start (e ∷ es))
-        others_rest m among m_stands = by (cases_eq (tc_of start m) (tc_of start member)) (cases_eq (ordered (e ∷ es) m) 0)
+        others_rest m among m_stands =
+            by (cases_eq (tc_of start m) (tc_of start member)) (cases_eq (ordered (e ∷ es) m) 0)
           where
             by : (tc_of start m ≡ tc_of start member) ⊎ (tc_of start m ≢ tc_of start member)
                 → (ordered (e ∷ es) m ≡ 0) ⊎ (ordered (e ∷ es) m ≢ 0) → is_at_work (stage_at (e ∷ es) m) ≡ false

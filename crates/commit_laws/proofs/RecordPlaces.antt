@@ -14,7 +14,8 @@ use Rattle.commit_laws.proofs.ReportPlaces.{Came, came_added, came_removed, came
 module _ (p : PendingRecord → Bool) (R : PendingRecord → Type 0) (tx : TxId)
     (off : (r : PendingRecord) → r.tx ≡ tx → p r ≡ false) (s : RowsState) (key : List ℕ)
   where
-    recorded : (new : PendingRecord) → p new ≡ false → (at : Option ℕ) → Came p R s.pending (recorded_by s.pending new at)
+    recorded : (new : PendingRecord) → p new ≡ false → (at : Option ℕ)
+        → Came p R s.pending (recorded_by s.pending new at)
     recorded new out None = came_added p R s.pending new out
     recorded new out (Some at) =
         came_set p R s.pending at new (λ x there passes. absurd (true≢false (sym passes ∙ out)))
@@ -34,7 +35,8 @@ module _ (p : PendingRecord → Bool) (R : PendingRecord → Type 0) (tx : TxId)
             came_set p R s.pending at (committed r epoch)
             (λ x there passes. absurd (true≢false (sym passes ∙ off (committed r epoch) same)))
 
-        own : (at : ℕ) → record_at s.pending tx key ≡ Some at → (r : PendingRecord) → get_at s.pending (Some at) ≡ Some r
+        own : (at : ℕ) → record_at s.pending tx key ≡ Some at → (r : PendingRecord)
+            → get_at s.pending (Some at) ≡ Some r
             → r.tx ≡ tx
         own at place r there =
             let taken = taken_at (is_of tx key) s.pending at r place there in
@@ -47,7 +49,8 @@ module _ (p : PendingRecord → Bool) (R : PendingRecord → Type 0) (tx : TxId)
         by (Some at) place None there = came_self p R s.pending
         by (Some at) place (Some r) there = by_if at r (own at place r there) r.committed
 
-    dropped : (done : Bool) (at : Option ℕ) (r : Option PendingRecord) → Came p R s.pending (drop_by s done at r).pending
+    dropped : (done : Bool) (at : Option ℕ) (r : Option PendingRecord)
+        → Came p R s.pending (drop_by s done at r).pending
     dropped done None None = came_self p R s.pending
     dropped done None (Some r) = came_self p R s.pending
     dropped done (Some at) None = came_self p R s.pending

@@ -1,5 +1,5 @@
--- What a step of a report comes to: it tells of the last record that is left, or of the last marker where there is none, or
--- ends where nothing is left.
+-- What a step of a report comes to: it tells of the last record that is left, or of the last marker where there is none,
+-- or ends where nothing is left.
 use Rattle.std.proofs.Common.{◌≡◌, ℕ, List, [], ◌∷◌, refl}
 use Rattle.std.specs.Prelude.{Option, None, Some}
 use Rattle.sig_core.specs.declared.member.Member.{Member}

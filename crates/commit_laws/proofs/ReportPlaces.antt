@@ -1,5 +1,5 @@
--- A report goes through a list from its last entry to its first: what stands from the place on to which it has come was told,
--- and stays so where entries are changed in place, taken out or put behind the others.
+-- A report goes through a list from its last entry to its first: what stands from the place on to which it has come was
+-- told, and stays so where entries are changed in place, taken out or put behind the others.
 use Rattle.std.proofs.Common.{◌≡◌, ◌≢◌, ◌≤◌, ◌⊎◌, ◌∙◌, ℕ, zero, suc, Bool, true, false, List, [], ◌∷◌, ◌++◌, inl, inr, refl, sym, ap, subst, arith}
 use Rattle.std.proofs.lemmas.Bool.{cases_eq, true≢false}
 use Rattle.std.specs.Prelude.{Option, None, Some, remove, slice_get, slice_set}
@@ -43,7 +43,8 @@ module _ {X : Type 0} (p : X → Bool) (T : X → Type 0) where
 
       by : (o : Option X) → slice_get xs n ≡ o → ToldBy xs n (last_before p xs n)
           → ToldBy xs (suc n) (found_at p n (last_before p xs n) o)
-      by None is rest = further (λ y there yes. let none : Some y ≡ None = sym there ∙ is in absurd cc) (last_before p xs n) rest
+      by None is rest =
+          further (λ y there yes. let none : Some y ≡ None = sym there ∙ is in absurd cc) (last_before p xs n) rest
       by (Some x) is rest = by_if x (p x) is refl rest
 
   -- an entry stood in a list, at this place or behind it, and where it was told so is this one

@@ -83,7 +83,8 @@ module _ (p : PendingRecord → Bool) (R : PendingRecord → Type 0) where
     forms : LqhForms Q s
     forms = record {
       asks = λ r. record { granted = λ is off. performed r off; queued = λ ahead is off. same };
-      grants = λ at. record { none = λ is away. same; some = λ place r is here away. performed r (granted place r here) };
+      grants =
+          λ at. record { none = λ is away. same; some = λ place r is here away. performed r (granted place r here) };
       commits = λ tx key epoch chain at. record {
         last = λ had st markers applies first off. commits tx key epoch had st markers applies off;
         passes = λ had st markers applies first off. commits tx key epoch had st markers applies off;

@@ -1,4 +1,5 @@
--- A sound signal to a takeover, of a view that isn't below the one in which its host stands, is taken unless the host stops.
+-- A sound signal to a takeover, of a view that isn't below the one in which its host stands, is taken unless the host
+-- stops.
 use Rattle.std.proofs.Common.{◌≡◌, ◌≤◌, ℕ, zero, suc, Bool, true, false, nat_lt, List, [], refl, sym, ap, subst, arith}
 use Rattle.std.proofs.lemmas.Bool.{and_parts, ltb-true}
 use Rattle.std.specs.List.{list_any}
@@ -107,10 +108,12 @@ module _ (x : Signal) (signal : TakeoverSignal) (body_is : x.body ≡ Takeover s
       where
         hushed_hears : (step : Step hosts.Host) → Hears p standing.view x step → Hears p standing.view x (hushed step)
         hushed_hears step (stops is) = stops is
-        hushed_hears step (heard between seen front entering parts stood) = heard between seen front entering parts stood
+        hushed_hears step (heard between seen front entering parts stood) =
+            heard between seen front entering parts stood
 
         well : Hears p standing.view x (taken_if (host_of standing p) x true)
-        well = hushed_hears (counted_row (host_of standing p) x standing.left) (counted_hears standing high standing.left)
+        well =
+            hushed_hears (counted_row (host_of standing p) x standing.left) (counted_hears standing high standing.left)
 
         stopped : (o : Option StopCause) → Hears p standing.view x (step_if (host_of standing p) x o)
         stopped (Some cause) = stops refl

@@ -41,7 +41,8 @@ any_last : (p : List ℕ → Bool) (xs : List (List ℕ)) (y : List ℕ) → p y
 any_last p [] y is = or_left (p y) false is
 any_last p (x ∷ xs) y is = or_right (p x) (list_any p (xs ++ y ∷ [])) (any_last p xs y is)
 
-key_stays : (keys : List (List ℕ)) (more key : List ℕ) → has_key keys key ≡ true → has_key (with_key keys more) key ≡ true
+key_stays : (keys : List (List ℕ)) (more key : List ℕ) → has_key keys key ≡ true
+    → has_key (with_key keys more) key ≡ true
 unfolding with_key
 key_stays keys more key is = by (has_key keys more)
   where
@@ -221,7 +222,8 @@ telling_noted s x tx key state epoch told =
     own : NotedAt tx key (told_epoch state epoch ≡ None → ⊥) (tell_row s tx key state epoch).state
     own = by s.stage refl
       where
-        idle : (at : Stage) → s.stage ≡ at → is_gathering at ≡ false → NotedAt tx key (told_epoch state epoch ≡ None → ⊥) s
+        idle : (at : Stage) → s.stage ≡ at → is_gathering at ≡ false
+            → NotedAt tx key (told_epoch state epoch ≡ None → ⊥) s
         idle at is off gathering = absurd (true≢false (sym gathering ∙ (ap is_gathering is ∙ off)))
 
         by : (at : Stage) → s.stage ≡ at

@@ -203,7 +203,8 @@ module _ (first : OrdersComeFirst) (placed : TellingsAreForTakeovers) (start : S
                   omega (arith, above, rises, number)
 
               marks : e.step.marks ≡ step.effects.marks
-              marks = subst (λ k. e.step.marks ≡ (step_after start k (old k) e).effects.marks) at happens.step.fits.marks
+              marks =
+                  subst (λ k. e.step.marks ≡ (step_after start k (old k) e).effects.marks) at happens.step.fits.marks
 
               now_is : (q : TcPart) → step.state.parts ≡ part.Tc q → takeover_after start member (e ∷ log) ≡ q.takeover
               now_is q parts =

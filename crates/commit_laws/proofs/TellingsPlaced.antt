@@ -138,7 +138,8 @@ go_on_placed s true (Some r) = report_placed s r
 go_on_placed s true None = tt
 go_on_placed s false o = tt
 
-epochs_placed : (s : ReplicaState) (from : ℕ) (signal : EpochSignal) → ArePlaced (epoch_table s from signal).effects.sends
+epochs_placed : (s : ReplicaState) (from : ℕ) (signal : EpochSignal)
+    → ArePlaced (epoch_table s from signal).effects.sends
 epochs_placed s from (GcpClosed epoch) = (tt, tt)
 epochs_placed s from (GcpSaveReq epoch) = (tt, tt)
 epochs_placed s from GcpStateReq = (tt, tt)
@@ -201,7 +202,8 @@ module _ (start : Start) (all : ℕ → List HostStep) (e : HostStep) (es : List
         front : PartEnters tc_kind step.own (view_after start e.host (old e.host)) x step.does.between view step.does.front
             → AreFated Nothing step.does.front
         front (remains same stands none) = subst (AreFated Nothing) (sym none) tt
-        front (installs above same stands is) = subst (AreFated Nothing) (sym is) (tc_enters_fated Nothing step.own x.view)
+        front (installs above same stands is) =
+            subst (AreFated Nothing) (sym is) (tc_enters_fated Nothing step.own x.view)
 
         others : PartTakes tc_kind start.shape step.does.between view x step.does.own step.does.rest
             → AreFated Nothing step.does.rest
