@@ -102,7 +102,7 @@ not_below n = by (nat_lt n n) refl
     by false e = refl
     by true e = absurd (let less = ltb-true n n e in omega (arith, less))
 
-not_before_itself : (tx : TxId) → is_before tx tx ≡ true → ⊥
+pub not_before_itself : (tx : TxId) → is_before tx tx ≡ true → ⊥
 not_before_itself tx is =
     parts (nat_lt tx.tc tx.tc) (tx.tc == tx.tc) (nat_lt tx.start tx.start) (tx.start == tx.start) (nat_lt tx.seq tx.seq)
     (not_below tx.tc) (not_below tx.start) (not_below tx.seq) is

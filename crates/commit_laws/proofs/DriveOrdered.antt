@@ -61,7 +61,7 @@ module _ (orders : OrdersAreOnce) (start : Start) (all : ℕ → List HostStep) 
           now = λ same. absurd (true≢false (sym (eq-eqb (view_after start e.host (e ∷ logs_of start es e.host)).number number same) ∙ off));
         }
 
-    ruled : (es : List HostStep) → IsMoment start all es → (me : Member) → IsIn me (made start)
+    pub ruled : (es : List HostStep) → IsMoment start all es → (me : Member) → IsIn me (made start)
         → IsRuled start me tx key number (tc_of start me) (logs_of start es (tc_of start me))
     ruled [] moment me there = ruled_first start me there tx key number (tc_of start me)
     ruled (e ∷ es) moment me there =

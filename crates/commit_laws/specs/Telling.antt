@@ -4,13 +4,15 @@ use Rattle.run_theory.specs.Links.{sent, taken}
 use Rattle.run_theory.specs.Lists.{Each, IsIn}
 use Rattle.sig_core.specs.declared.member.Member.{Member}
 use Rattle.sig_core.specs.declared.member.TxId.{TxId}
+use Rattle.sig_core.specs.declared.place.BlockId.TheVariants as block
 use Rattle.sig_core.specs.declared.signal.Body.TheVariants.{Takeover}
 use Rattle.sig_core.specs.declared.signal.takeover.RecordState.{RecordState}
-use Rattle.sig_core.specs.declared.signal.takeover.TakeoverSignal.TheVariants.{LqhTransConf, LqhTransEnd}
+use Rattle.sig_core.specs.declared.signal.takeover.TakeoverSignal.TheVariants.{LqhTransConf, LqhTransEnd, TakeoverOrd}
 use Rattle.takeover_block.specs.declared.gathered.Gathered.{Gathered}
 use Rattle.takeover_block.specs.Gathered.{told_epoch}
 use Rattle.takeover_block.specs.Keys.{has_key}
-use Rattle.world_core.specs.Start.{Start}
+use Rattle.node_views.specs.WellFormed.{is_well_formed}
+use Rattle.world_core.specs.Start.{Start, made}
 use Rattle.world_core.specs.Steps.{Addressed, HostStep}
 use Rattle.view_laws.specs.Order.{sound_machine}
 use Rattle.moment_laws.specs.Moments.{IsMoment, current, logs_of}
@@ -85,3 +87,21 @@ abbrev pub TellingsAreGathered : Type 0
 TellingsAreGathered =
     (start : Start) (all : ℕ → List HostStep) (e : HostStep) (es : List HostStep) → IsMoment start all (e ∷ es)
     → (member : Member) → EndsGathering start e es member → IsGathered start (logs_of start es) member
+
+-- before a takeover is ordered, its host was told nothing in the current view
+abbrev pub OrdersComeFirst : Type 0
+OrdersComeFirst =
+    (start : Start) (all : ℕ → List HostStep) (e : HostStep) (es : List HostStep) → IsMoment start all (e ∷ es)
+    → (member : Member) → IsIn member (made start) → e.host ≡ tc_of start member
+    → e.step.taken.to.block ≡ block.Takeover → e.step.taken.body ≡ Takeover TakeoverOrd
+    → e.step.taken.view.number ≡ (current start (logs_of start (e ∷ es))).number → (i : ℕ) (y : Addressed)
+    → IsIn y (taken (sound_machine start) i (logs_of start es (tc_of start member))) → (tx : TxId) (key : List ℕ)
+    → IsTelling start (logs_of start (e ∷ es)) tx key y → ⊥
+
+-- what is told of transactions is for takeovers
+abbrev pub TellingsAreForTakeovers : Type 0
+TellingsAreForTakeovers =
+    (start : Start) (all : ℕ → List HostStep) (e : HostStep) (es : List HostStep) → IsMoment start all (e ∷ es)
+    → is_well_formed start.shape e.step.taken ≡ true → (tx : TxId) (key : List ℕ) (told : RecordState) (epoch : ℕ)
+    → e.step.taken.body ≡ Takeover (LqhTransConf tx key told epoch)
+    → e.step.taken.to.block ≡ block.Takeover
