@@ -153,3 +153,4 @@ pub mod TracesNow
 pub mod TransitCounts
 pub mod TransitLinks
 pub mod Truths
+pub mod WholeTurns
