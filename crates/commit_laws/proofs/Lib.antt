@@ -154,3 +154,4 @@ pub mod TransitCounts
 pub mod TransitLinks
 pub mod Truths
 pub mod WholeTurns
+pub mod WholeTakeover
