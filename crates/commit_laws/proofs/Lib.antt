@@ -155,3 +155,4 @@ pub mod TransitLinks
 pub mod Truths
 pub mod WholeTurns
 pub mod WholeTakeover
+pub mod WholeHosts
