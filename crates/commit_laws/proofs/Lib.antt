@@ -156,3 +156,4 @@ pub mod Truths
 pub mod WholeTurns
 pub mod WholeTakeover
 pub mod WholeHosts
+pub mod WholeAll
