@@ -157,3 +157,4 @@ pub mod WholeTurns
 pub mod WholeTakeover
 pub mod WholeHosts
 pub mod WholeAll
+pub mod AnsweredCounts
