@@ -158,3 +158,4 @@ pub mod WholeTakeover
 pub mod WholeHosts
 pub mod WholeAll
 pub mod AnsweredCounts
+pub mod AnsweredTold

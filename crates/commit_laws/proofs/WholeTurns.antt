@@ -61,7 +61,7 @@ pub record IsInCommit (entry : Option Transaction) (key : List ℕ) (chain : Lis
   pub touched : IsOfTouched transaction.touched key chain
 
 -- the keys that are committed in a phase
-abbrev keys_in : Phase → List Touched → List Touched
+abbrev pub keys_in : Phase → List Touched → List Touched
 keys_in (Committing epoch awaited) touched = touched
 keys_in phase touched = []
 
@@ -90,7 +90,7 @@ module _ (node : ℕ) (layout : Layout) (tx : TxId) where
   key_keys (Aborting why verifying awaited) touched u there =
       each_mapped (λ (o : Outgoing). IsOfKeys [] o.body) (abort_of tx u.key) (chain_of layout u.key) (λ r. tt)
 
-  phase_keys : (phase : Phase) (touched : List Touched)
+  pub phase_keys : (phase : Phase) (touched : List Touched)
       → Each (λ (o : Outgoing). IsOfKeys (keys_in phase touched) o.body) (phase_sends layout tx phase touched)
   unfolding phase_sends
   phase_keys phase touched =
