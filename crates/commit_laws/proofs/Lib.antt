@@ -159,3 +159,4 @@ pub mod WholeHosts
 pub mod WholeAll
 pub mod AnsweredCounts
 pub mod AnsweredTold
+pub mod AnsweredKeys
