@@ -160,3 +160,4 @@ pub mod WholeAll
 pub mod AnsweredCounts
 pub mod AnsweredTold
 pub mod AnsweredKeys
+pub mod AnsweredStays
