@@ -161,3 +161,4 @@ pub mod AnsweredCounts
 pub mod AnsweredTold
 pub mod AnsweredKeys
 pub mod AnsweredStays
+pub mod AnsweredRows
