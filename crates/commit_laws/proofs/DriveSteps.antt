@@ -390,7 +390,7 @@ module _ (node : ℕ) (layout : Layout) (tx : TxId) (sent taken sent_now taken_n
     turn_drives (counts_last key epoch awaited told at last is) was = counted_last key epoch awaited told at last is was
     turn_drives (counts_on key epoch awaited told at is) was = counted_on key epoch awaited told at is was
     turn_drives (goes_on at told is) was = went_on at told is was
-    turn_drives (ends over none) was =
+    turn_drives (ends over none unwritten) was =
         off over
         (still_once tx layout sent taken sent_now taken_now sends moves none
         (drives_once tx layout sent taken t listed apart was))

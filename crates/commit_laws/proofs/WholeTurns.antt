@@ -166,7 +166,7 @@ module _ (node : ℕ) (layout : Layout) (tx : TxId) where
           subst Is (sym turn_is) (λ there. absurd there) there
       of_turn t body turn (drive.goes_on place is turn_is) there =
           subst Is (sym turn_is) (λ there. of_part t t.phase refl place there) there
-      of_turn t body turn (drive.ends over none) there = absurd (no_drive turn.step.effects.sends none there)
+      of_turn t body turn (drive.ends over none unwritten) there = absurd (no_drive turn.step.effects.sends none there)
 
       pub of_redrive : (t : Transaction) (turn : Turn) → Redrives node layout tx t turn
           → IsIn o turn.step.effects.sends → IsInCommit (left_of turn) key chain
