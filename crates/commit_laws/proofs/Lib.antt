@@ -162,3 +162,4 @@ pub mod AnsweredTold
 pub mod AnsweredKeys
 pub mod AnsweredStays
 pub mod AnsweredRows
+pub mod AnsweredTurns
