@@ -163,3 +163,4 @@ pub mod AnsweredKeys
 pub mod AnsweredStays
 pub mod AnsweredRows
 pub mod AnsweredTurns
+pub mod AnsweredWritten
