@@ -164,3 +164,4 @@ pub mod AnsweredStays
 pub mod AnsweredRows
 pub mod AnsweredTurns
 pub mod AnsweredWritten
+pub mod AnsweredCoordinator
