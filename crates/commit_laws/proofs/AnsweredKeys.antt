@@ -1,6 +1,6 @@
 -- Where a coordinator completes a transaction that it has driven in its view, each key that the transaction touched was
 -- committed in that view.
-use Rattle.std.proofs.Common.{◌≡◌, ◌≤◌, ◌+◌, ◌&&◌, ◌==◌, inl, inr, ◌∙◌, ℕ, Bool, true, false, List, [], ◌∷◌, length, refl, sym, ap, arith, subst, take}
+use Rattle.std.proofs.Common.{◌≡◌, ◌≤◌, ◌&&◌, ◌==◌, inl, inr, ◌∙◌, ℕ, Bool, true, false, List, [], ◌∷◌, refl, sym, ap, arith, subst}
 use Rattle.std.proofs.lemmas.Bool.{and_parts, or_left, or_right, true≢false}
 use Rattle.std.specs.Prelude.{Some, not}
 use Rattle.run_theory.specs.Lists.{Each, IsIn}
@@ -12,7 +12,7 @@ use Rattle.sig_core.specs.declared.outs.Outgoing.{Outgoing}
 use Rattle.sig_core.specs.declared.signal.Body.{Body}
 use Rattle.sig_core.specs.declared.signal.Body.TheVariants.{Chain}
 use Rattle.sig_core.specs.declared.signal.Signal.{Signal}
-use Rattle.sig_core.specs.declared.signal.chain.ChainSignal.TheVariants.{Commit, Committed}
+use Rattle.sig_core.specs.declared.signal.chain.ChainSignal.TheVariants.{Commit}
 use Rattle.sig_core.specs.Same.{same_key, same_tx}
 use Rattle.sig_core.proofs.Keys.{same_key-self}
 use Rattle.frag_map.specs.Layout.{Layout}
@@ -33,7 +33,7 @@ use Rattle.outcome_laws.specs.Counts.{coordinator_member, count_sent}
 use Rattle.outcome_laws.proofs.TcLists.{none_counted}
 use Rattle.request_laws.specs.Blocks.{coordinator_after}
 use Rattle.request_laws.specs.Routed.{layout_in}
-use Rattle.request_laws.specs.Tokens.{all_sent, all_taken, sent_along, taken_along}
+use Rattle.request_laws.specs.Tokens.{all_sent, sent_along, taken_along}
 use Rattle.request_laws.specs.Ways.{entry_of}
 use Rattle.request_laws.proofs.RouteAside.{is_of_rows}
 use Rattle.request_laws.proofs.TokenSums.{takes_few}
@@ -43,12 +43,12 @@ use Rattle.commit_laws.proofs.AnsweredTold.{told_sent}
 use Rattle.commit_laws.proofs.DriveForeign.{IsLedIn}
 use Rattle.commit_laws.proofs.DriveKinds.{comes, committing, goes, numbered}
 use Rattle.commit_laws.proofs.DriveLed.{owners_own}
-use Rattle.commit_laws.proofs.DriveLists.{any, commits_of, completions_of, mine, only, taken_less}
+use Rattle.commit_laws.proofs.DriveLists.{commits_of, completions_of, mine, only, taken_less}
 use Rattle.commit_laws.proofs.DriveMoments.{told_few}
-use Rattle.commit_laws.proofs.DriveOwn.{IsDriven, coordinators_drive_once, driven, number_at, sent_in, taken_in}
+use Rattle.commit_laws.proofs.DriveOwn.{coordinators_drive_once, driven, number_at, sent_in, taken_in}
 use Rattle.commit_laws.proofs.DriveStates.{Drives, DrivesLeft, Sending, Untouched, commits, completes, given_up, undecided, waits}
 use Rattle.commit_laws.proofs.DriveTasks.{listed}
-use Rattle.commit_laws.proofs.WholeTurns.{IsOfKeys, IsOfTouched, keys_in, phase_keys}
+use Rattle.commit_laws.proofs.WholeTurns.{IsOfKeys, keys_in, phase_keys}
 
 -- of keys that weren't touched no commit is among what is sent
 among_in : (touched : List Touched) (u : Touched) (key : List ℕ) → IsIn u touched → u.key ≡ key → among touched key ≡ true

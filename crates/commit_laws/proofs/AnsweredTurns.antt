@@ -1,5 +1,5 @@
 -- A completion that a turn of a coordinator sends is of a transaction that it completes behind that.
-use Rattle.std.proofs.Common.{◌≡◌, ◌+◌, ◌∙◌, ℕ, Bool, true, false, List, [], drop, length, nat_lt, refl, sym, ap, subst, take}
+use Rattle.std.proofs.Common.{◌≡◌, ◌+◌, ◌∙◌, ℕ, Bool, true, false, List, drop, length, nat_lt, refl, sym, ap, subst, take}
 use Rattle.std.proofs.lemmas.Bool.{true≢false}
 use Rattle.std.specs.Prelude.{Option, Some}
 use Rattle.std.specs.List.{flat_map}

@@ -2,7 +2,7 @@
 use Rattle.std.proofs.Common.{◌≡◌, ◌⊎◌, ◌∙◌, ℕ, true, List, [], ◌∷◌, refl, sym, ap, subst, inl, inr}
 use Rattle.std.proofs.lemmas.Bool.{true≢false}
 use Rattle.run_theory.specs.Links.{sent}
-use Rattle.run_theory.specs.Lists.{Each, IsIn}
+use Rattle.run_theory.specs.Lists.{IsIn}
 use Rattle.run_theory.proofs.Pasts.{each_from, each_in, each_map}
 use Rattle.sig_core.specs.declared.member.Member.{Member}
 use Rattle.sig_core.specs.declared.member.TxId.{TxId}

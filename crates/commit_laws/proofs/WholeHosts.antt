@@ -1,7 +1,6 @@
 -- At an event of the host of a coordinator and a takeover, what it commits goes along all replicas, if it was written.
-use Rattle.std.proofs.Common.{◌≡◌, ◌⊎◌, ◌++◌, ◌∙◌, ℕ, Bool, true, false, List, [], ◌∷◌, refl, sym, ap, subst, inl, inr}
+use Rattle.std.proofs.Common.{◌≡◌, ◌⊎◌, ◌++◌, ◌∙◌, ℕ, true, List, [], ◌∷◌, sym, ap, subst, inl, inr}
 use Rattle.std.proofs.lemmas.Bool.{true≢false}
-use Rattle.std.specs.Prelude.{Some}
 use Rattle.run_theory.specs.Lists.{Each, IsIn}
 use Rattle.run_theory.proofs.Pasts.{each_in}
 use Rattle.host_laws.proofs.OfLive.{each_found}
@@ -10,14 +9,12 @@ use Rattle.sig_core.specs.declared.member.TxId.{TxId}
 use Rattle.sig_core.specs.declared.outs.Outgoing.{Outgoing}
 use Rattle.sig_core.specs.declared.place.BlockId.{BlockId}
 use Rattle.sig_core.specs.declared.place.BlockId.TheVariants as block
-use Rattle.sig_core.specs.declared.signal.Body.{Body}
 use Rattle.sig_core.specs.declared.signal.Body.TheVariants.{Chain}
 use Rattle.sig_core.specs.declared.signal.Signal.{Signal}
 use Rattle.sig_core.specs.declared.signal.chain.ChainSignal.TheVariants.{Commit}
 use Rattle.sig_core.specs.declared.view.View.{View}
 use Rattle.sig_core.proofs.Keys.{same_tx-self}
 use Rattle.frag_map.specs.Layout.{Layout, chain_of}
-use Rattle.tc_block.specs.declared.phase.Phase.{Phase}
 use Rattle.tc_block.specs.declared.phase.Phase.TheVariants.{Committing}
 use Rattle.tc_block.specs.declared.touched.Touched.{Touched}
 use Rattle.tc_block.specs.declared.transaction.Transaction.{Transaction}
@@ -39,7 +36,7 @@ use Rattle.outcome_laws.proofs.StrictLists.{in_either}
 use Rattle.request_laws.specs.Blocks.{coordinator_after}
 use Rattle.request_laws.specs.Phases.{CoordinatorStands, SaysIn, SaysOf}
 use Rattle.request_laws.specs.Routed.{AllRouted, IsGivenUp, WasAskedIn, WasDrivenIn, layout_in, view_of_tc}
-use Rattle.request_laws.specs.Routes.{HasRoutes, HasRoutesIn, IsTouchedRouted, touched_chain}
+use Rattle.request_laws.specs.Routes.{HasRoutesIn, IsTouchedRouted, touched_chain}
 use Rattle.request_laws.specs.Ways.{entry_of}
 use Rattle.request_laws.proofs.PhaseSends.{IsSpared}
 use Rattle.request_laws.proofs.PhaseStands.{coordinators_stand}

@@ -1,7 +1,7 @@
 -- A commit that a coordinator sends is of a transaction that it has behind that, in commit, and of a key with its chain.
 use Rattle.std.proofs.Common.{◌≡◌, ◌⊎◌, ◌+◌, ◌∙◌, ℕ, Bool, true, false, List, [], ◌∷◌, drop, inl, inr, length, nat_lt, refl, sym, ap, subst, take}
 use Rattle.std.proofs.lemmas.Bool.{true≢false}
-use Rattle.std.specs.Prelude.{Option, None, Some}
+use Rattle.std.specs.Prelude.{Option, Some}
 use Rattle.std.specs.List.{flat_map}
 use Rattle.run_theory.specs.Lists.{Each, IsIn}
 use Rattle.run_theory.proofs.EachSent.{each_drop, each_mapped, each_take}
