@@ -165,3 +165,4 @@ pub mod AnsweredRows
 pub mod AnsweredTurns
 pub mod AnsweredWritten
 pub mod AnsweredCoordinator
+pub mod SentCounted
