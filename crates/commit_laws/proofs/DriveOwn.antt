@@ -160,7 +160,7 @@ module _ (start : Start) (member : Member) (there : IsIn member (made start)) (t
         led = coordinated view.full tx (subst (λ (m : Member). IsIn m view.full) (sym own) full)
 
         -- each view of this number is this one
-        led_in : IsLedIn start all tx n
+        pub led_in : IsLedIn start all tx n
         led_in other was same =
             ap (λ (v : View). is_coordinated v.full tx)
             (one_view have_orderly start all moment.cluster other view was (installed start all e es moment member there at) same)

@@ -81,7 +81,7 @@ module _ (tx : TxId) where
       completes : (epoch awaited place : ℕ) → t.phase ≡ Completing epoch awaited → listed ≡ 0
           → Sending sent taken (commits_of layout tx epoch awaited t.touched)
           (completions_of layout tx epoch awaited t.touched) place
-          → Drives sent taken t listed
+          → length t.touched ≤ taken (comes committing (mine tx any)) → Drives sent taken t listed
 
     -- each key was sent once at most
     abbrev pub AreOnce : Counts → Type 0
@@ -108,7 +108,7 @@ module _ (tx : TxId) where
           taken_less own place (commits_of layout tx epoch awaited t.touched),
           once_in_commits layout tx drive key epoch awaited t.touched apart,
         )
-    drives_once sent taken t listed apart (completes epoch awaited place at none sending) drive key =
+    drives_once sent taken t listed apart (completes epoch awaited place at none sending enough) drive key =
         let own = λ (o : Outgoing). goes drive (mine tx (only key)) o.body in
         omega (
           arith,
@@ -191,7 +191,7 @@ module _ (tx : TxId) where
             (subst (λ ts. Sending sent_now taken_now [] (commits_of layout tx epoch awaited ts) place) (sym touched)
             (still_sending none [] (commits_of layout tx epoch awaited t.touched) place sending))
             (omega (arith, ap length touched, enough, moves.takes_more (comes committing (mine tx any))))
-        still_drives none t u listed listed_now phase touched less (completes epoch awaited place at zero sending) =
+        still_drives none t u listed listed_now phase touched less (completes epoch awaited place at zero sending enough) =
             completes epoch awaited place (phase ∙ at) (omega (arith, zero, less))
             (subst
             (λ ts. Sending sent_now taken_now (commits_of layout tx epoch awaited ts)
@@ -199,6 +199,7 @@ module _ (tx : TxId) where
             (sym touched)
             (still_sending none (commits_of layout tx epoch awaited t.touched)
             (completions_of layout tx epoch awaited t.touched) place sending))
+            (omega (arith, ap length touched, enough, moves.takes_more (comes committing (mine tx any))))
 
         -- it stays within its bound
         pub still_once : DriveNone sends → AreOnce sent → AreOnce sent_now

@@ -90,7 +90,7 @@ module _ (node : ℕ) (layout : Layout) (tx : TxId) (sent taken sent_now taken_n
         nothing (waits is few un) = un.keys
         nothing (commits epoch awaited place at zero sending enough) =
             absurd (not_undecided (Committing epoch awaited) at refl undone)
-        nothing (completes epoch awaited place at zero sending) =
+        nothing (completes epoch awaited place at zero sending enough) =
             absurd (not_undecided (Completing epoch awaited) at refl undone)
 
         now_none : Was → (drive : Drive) (wk : List ℕ → Bool) → sent_now (goes drive (mine tx wk)) ≡ 0
@@ -102,7 +102,7 @@ module _ (node : ℕ) (layout : Layout) (tx : TxId) (sent taken sent_now taken_n
         untouched (waits is few un) unaborted = absurd (true≢false (sym is ∙ undone))
         untouched (commits epoch awaited place at zero sending enough) unaborted =
             absurd (not_undecided (Committing epoch awaited) at refl undone)
-        untouched (completes epoch awaited place at zero sending) unaborted =
+        untouched (completes epoch awaited place at zero sending enough) unaborted =
             absurd (not_undecided (Completing epoch awaited) at refl undone)
 
         stays : turn.over ≡ false → Was → (b c : Bool) → is_aborting turn.step.state.phase ≡ b → is_aborting t.phase ≡ c
@@ -140,7 +140,7 @@ module _ (node : ℕ) (layout : Layout) (tx : TxId) (sent taken sent_now taken_n
         by (waits done few un) = absurd (not_decided Verifying at refl done)
         by (commits other awaited place is_at zero sending enough) =
             absurd (not_undecided (Committing other awaited) is_at refl (ap is_decided at))
-        by (completes other awaited place is_at zero sending) =
+        by (completes other awaited place is_at zero sending enough) =
             absurd (not_undecided (Completing other awaited) is_at refl (ap is_decided at))
 
     -- a key was committed, and not the last one
@@ -178,7 +178,7 @@ module _ (node : ℕ) (layout : Layout) (tx : TxId) (sent taken sent_now taken_n
             epoch_is : Committing before left ≡ Committing epoch awaited
                 → commits_of layout tx before left t.touched ≡ commits_of layout tx epoch left t.touched
             epoch_is e = let same : before ≡ epoch = cc in ap (λ n. commits_of layout tx n left t.touched) same
-        by (completes before left place is_at zero sending) =
+        by (completes before left place is_at zero sending enough) =
             absurd (let both : Completing before left ≡ Committing epoch awaited = sym is_at ∙ at in cc)
 
     -- the last one was, so all commits were sent
@@ -219,12 +219,18 @@ module _ (node : ℕ) (layout : Layout) (tx : TxId) (sent taken sent_now taken_n
             ))
             (λ x. omega (arith, sending.goes_on x, nothing_left x (nat_lt place (length (commits_of layout tx before left t.touched))) refl))
             (λ x. part_onward node tx list 0 x (completions_plain layout tx x epoch count t.touched)))
+            all_told
           where
             awaited_is : Committing before left ≡ Committing epoch awaited → left ≡ awaited
             awaited_is e = cc
 
             same : left ≡ awaited
             same = awaited_is (sym is_at ∙ at)
+
+            all_told : length t.touched ≤ taken_now (comes committing (mine tx any))
+            all_told =
+                let few = ltb-false 1 awaited last in
+                omega (arith, enough, same, few, knows.takes_one is_one (comes committing (mine tx any)) own)
 
             epoch_is : Committing before left ≡ Committing epoch awaited → before ≡ epoch
             epoch_is e = cc
@@ -267,7 +273,7 @@ module _ (node : ℕ) (layout : Layout) (tx : TxId) (sent taken sent_now taken_n
                   ltb-true place (length (commits_of layout tx before left t.touched)) e,
                   commits_length layout tx before left t.touched,
                 ))
-        by (completes before left place is_at zero sending) =
+        by (completes before left place is_at zero sending enough) =
             absurd (let both : Completing before left ≡ Committing epoch awaited = sym is_at ∙ at in cc)
 
     -- a key was completed
@@ -291,7 +297,7 @@ module _ (node : ℕ) (layout : Layout) (tx : TxId) (sent taken sent_now taken_n
         by (waits done few un) = absurd (untold completing un (told_some completing key is_one own))
         by (commits before left place is_at zero sending enough) =
             absurd (let both : Committing before left ≡ Completing epoch awaited = sym is_at ∙ at in cc)
-        by (completes before left place is_at zero sending) =
+        by (completes before left place is_at zero sending enough) =
             completes epoch (awaited - 1) place refl (omega (arith, zero, less))
             (subst
             (λ front. Sending tx sent_now taken_now front (completions_of layout tx epoch (awaited - 1) t.touched) place)
@@ -299,6 +305,7 @@ module _ (node : ℕ) (layout : Layout) (tx : TxId) (sent taken sent_now taken_n
             (subst (λ list. Sending tx sent_now taken_now (commits_of layout tx before left t.touched) list place) list_same
             (still_sending tx layout sent taken sent_now taken_now sends moves none
             (commits_of layout tx before left t.touched) (completions_of layout tx before left t.touched) place sending)))
+            (omega (arith, enough, moves.takes_more (comes committing (mine tx any))))
           where
             epoch_is : Completing before left ≡ Completing epoch awaited → before ≡ epoch
             epoch_is e = cc
@@ -361,7 +368,7 @@ module _ (node : ℕ) (layout : Layout) (tx : TxId) (sent taken sent_now taken_n
             (commits_plain layout tx x epoch awaited t.touched))
             one (knows.goes_on at) sending)
             (omega (arith, enough, moves.takes_more (comes committing (mine tx any))))
-        by (completes epoch awaited place is_at zero sending) =
+        by (completes epoch awaited place is_at zero sending enough) =
             completes epoch awaited (at + PORTION) is_at (omega (arith, zero, less))
             (goes_on_sending tx layout sent taken sent_now taken_now sends moves node
             (commits_of layout tx epoch awaited t.touched) (completions_of layout tx epoch awaited t.touched) place at
@@ -369,6 +376,7 @@ module _ (node : ℕ) (layout : Layout) (tx : TxId) (sent taken sent_now taken_n
             (λ x. part_onward node tx (completions_of layout tx epoch awaited t.touched) at x
             (completions_plain layout tx x epoch awaited t.touched))
             one (knows.goes_on at) sending)
+            (omega (arith, enough, moves.takes_more (comes committing (mine tx any))))
 
     -- whatever turn it takes
     pub turn_drives : DriveTurn node layout tx t body turn → Was → Is (left_of turn)
@@ -382,7 +390,7 @@ module _ (node : ℕ) (layout : Layout) (tx : TxId) (sent taken sent_now taken_n
     turn_drives (counts_last key epoch awaited told at last is) was = counted_last key epoch awaited told at last is was
     turn_drives (counts_on key epoch awaited told at is) was = counted_on key epoch awaited told at is was
     turn_drives (goes_on at told is) was = went_on at told is was
-    turn_drives (ends over none) was =
+    turn_drives (ends over none unwritten) was =
         off over
         (still_once tx layout sent taken sent_now taken_now sends moves none
         (drives_once tx layout sent taken t listed apart was))
@@ -421,4 +429,4 @@ module _ (node : ℕ) (layout : Layout) (tx : TxId) (sent taken sent_now taken_n
             (λ x. part_onward node tx list 0 x (commits_plain layout tx x again.epoch (length t.touched) touched)))
             (omega (arith, length_same t.touched))
         by (commits epoch awaited place at zero sending enough) = absurd (omega (arith, zero, some))
-        by (completes epoch awaited place at zero sending) = absurd (omega (arith, zero, some))
+        by (completes epoch awaited place at zero sending enough) = absurd (omega (arith, zero, some))

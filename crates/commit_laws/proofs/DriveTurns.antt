@@ -14,7 +14,7 @@ use Rattle.sig_core.specs.declared.portion.TheConstants.{PORTION}
 use Rattle.sig_core.specs.declared.signal.Body.{Body}
 use Rattle.sig_core.specs.declared.signal.Body.TheVariants.{Chain, Client, Epoch, Host}
 use Rattle.sig_core.specs.declared.signal.chain.ChainSignal.TheVariants.{Commit, Committed, Complete, Completed}
-use Rattle.sig_core.specs.declared.signal.client.ClientSignal.TheVariants.{TcKeyConf}
+use Rattle.sig_core.specs.declared.signal.client.ClientSignal.TheVariants.{TcCommitConf, TcKeyConf}
 use Rattle.sig_core.specs.declared.signal.epoch.EpochSignal.TheVariants.{DiVerifyConf}
 use Rattle.sig_core.specs.declared.signal.host.HostSignal.TheVariants.{Continue}
 use Rattle.sig_core.specs.declared.signal.host.Work.TheVariants as work
@@ -62,6 +62,14 @@ DriveNoKey = AreSpared drives_key
 abbrev pub DriveNone : List Outgoing → Type 0
 DriveNone = AreSpared drives
 
+-- the signal confirms a commit to the client
+abbrev pub confirms : Body → Bool
+confirms (Client (TcCommitConf tx epoch)) = true
+confirms body = false
+
+abbrev pub ConfirmNone : List Outgoing → Type 0
+ConfirmNone = AreSpared confirms
+
 pub none_no_key : (sends : List Outgoing) → DriveNone sends → DriveNoKey sends
 none_no_key sends all =
     each_map (λ (o : Outgoing). drives o.body ≡ false) (λ (o : Outgoing). drives_key o.body ≡ false) sends
@@ -106,8 +114,10 @@ pub data DriveTurn (node : ℕ) (layout : Layout) (tx : TxId) (t : Transaction) 
   -- it goes on with its list
   goes_on : (at : ℕ) → body ≡ Host (Continue (work.Transaction tx) at)
       → turn ≡ going (go_on_if node layout tx t at true) → DriveTurn node layout tx t body turn
-  -- it ends
-  ends : turn.over ≡ true → DriveNone turn.step.effects.sends → DriveTurn node layout tx t body turn
+  -- it ends: nothing was written, or no commit is confirmed
+  ends : turn.over ≡ true → DriveNone turn.step.effects.sends
+      → ((written_count t.touched == 0) ≡ true) ⊎ ConfirmNone turn.step.effects.sends
+      → DriveTurn node layout tx t body turn
 
 -- its keys are committed once more
 pub record Redrives (node : ℕ) (layout : Layout) (tx : TxId) (t : Transaction) (turn : Turn) : Type 0 where
@@ -120,6 +130,10 @@ module _ (node : ℕ) (layout : Layout) (tx : TxId) where
   no_key_end : (why : AbortCause) (b : Bool) → DriveNone (abort_end node tx why b)
   no_key_end why true = (refl, (refl, tt))
   no_key_end why false = (refl, tt)
+
+  unconfirmed_end : (why : AbortCause) (b : Bool) → ConfirmNone (abort_end node tx why b)
+  unconfirmed_end why true = (refl, (refl, tt))
+  unconfirmed_end why false = (refl, tt)
 
   aborts_plain : (key : List ℕ) (chain : List Member) → DriveNone (aborts_of tx key chain)
   aborts_plain key chain = each_mapped (λ (o : Outgoing). drives o.body ≡ false) (abort_of tx key) chain (λ r. refl)
@@ -181,7 +195,7 @@ module _ (node : ℕ) (layout : Layout) (tx : TxId) where
 
     is_back : (u : Transaction) (why : AbortCause) (verifying : Bool)
         → R (ending u (sends_only (abort_end node tx why verifying)))
-    is_back u why verifying = ends refl (no_key_end why verifying)
+    is_back u why verifying = ends refl (no_key_end why verifying) (inr (unconfirmed_end why verifying))
 
     aborts : (u : Transaction) (why : AbortCause) → is_decided t.phase ≡ false → AbortForms node layout tx u why R
     aborts u why off = record {
@@ -220,15 +234,15 @@ module _ (node : ℕ) (layout : Layout) (tx : TxId) where
       commits = λ epoch is at some. begins epoch is at refl;
       commits_none = λ epoch is at none. record {
         enters = λ some. absurd (true≢false (sym (none_written t.touched none) ∙ some));
-        ends = λ last. ends refl (refl, (refl, tt));
+        ends = λ last. ends refl (refl, (refl, tt)) (inl last);
       };
       committed = λ key epoch awaited is at more. counts key epoch awaited is at more refl;
       committed_all = λ key epoch awaited is at last. record {
         enters = λ some. counts_last key epoch awaited is at last refl;
-        ends = λ none. ends refl (refl, (refl, tt));
+        ends = λ none. ends refl (refl, (refl, tt)) (inl none);
       };
       completed = λ key epoch awaited is at more. counts_on key epoch awaited is at refl;
-      completed_all = λ key epoch awaited is at last. ends refl (refl, tt);
+      completed_all = λ key epoch awaited is at last. ends refl (refl, tt) (inr (refl, tt));
       rolls_back = λ is undecided unaborted. aborts t cause.Request undecided;
       refuses = λ key why asked is own at. aborts (asking t None) why (ap is_decided at);
       aborted = λ key why verifying awaited is at more.

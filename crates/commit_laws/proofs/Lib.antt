@@ -1,4 +1,12 @@
 pub mod AbortedFinals
+pub mod AnsweredCoordinator
+pub mod AnsweredCounts
+pub mod AnsweredKeys
+pub mod AnsweredRows
+pub mod AnsweredStays
+pub mod AnsweredTold
+pub mod AnsweredTurns
+pub mod AnsweredWritten
 pub mod AppliedCommits
 pub mod AppliedMarks
 pub mod BegunNone
@@ -144,9 +152,10 @@ pub mod RowTokens
 pub mod RowsAttended
 pub mod RowsEnd
 pub mod RowsGo
+pub mod RowsPlaces
 pub mod RulingQuiet
 pub mod RulingRests
-pub mod RowsPlaces
+pub mod SentCounted
 pub mod SettledDecisions
 pub mod SettledKept
 pub mod Settles
@@ -183,3 +192,7 @@ pub mod Truths
 pub mod Unasked
 pub mod UnaskedRows
 pub mod WaitCounts
+pub mod WholeAll
+pub mod WholeHosts
+pub mod WholeTakeover
+pub mod WholeTurns

@@ -48,6 +48,7 @@ module _ (taken : Body) where
     pub body_is : taken ≡ Chain (Commit tx key epoch chain at)
     pub first : at ≡ 0
 
+  -- it is of a completion, which is passed on, or told of at the first place
   pub record TellsCompletion (tx : TxId) (key : List ℕ) : Type 0 where
     pub chain : List Member
     pub at : ℕ
@@ -56,6 +57,7 @@ module _ (taken : Body) where
   abbrev pub IsRowsWord : Body → Type 0
   IsRowsWord (Chain (Commit tx key epoch chain front)) = PassesOn tx key epoch chain front
   IsRowsWord (Chain (Committed tx key)) = TellsCommit tx key
+  IsRowsWord (Chain (Complete tx key chain front)) = TellsCompletion tx key
   IsRowsWord (Chain (Completed tx key)) = TellsCompletion tx key
   IsRowsWord (Client (TcCommitAck tx)) = ⊥
   IsRowsWord (Client (TcCommitConf tx epoch)) = ⊥
@@ -122,7 +124,7 @@ table_words s body =
           { at = at; body_is = is; behind = behind; front_is = refl };
       committed = λ tx key epoch chain at is first.
           record { epoch = epoch; chain = chain; at = at; body_is = is; first = eqb-true at 0 first };
-      completes_on = λ tx key chain at is behind. tt;
+      completes_on = λ tx key chain at is behind. record { chain = chain; at = at; body_is = is };
       completed = λ tx key chain at is first. record { chain = chain; at = at; body_is = is };
       aborted = λ tx key is. tt;
       gives_up = λ tx key is. tt;

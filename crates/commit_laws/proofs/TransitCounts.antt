@@ -42,7 +42,7 @@ module _ (start : Start) where
       subst (λ all. IsPast (sent n i j log) (sent n i j all)) (sym past.is) (sent_grows i j past.newer log)
 
   -- what is put on a link is on it
-  put_in : (x : Addressed) (sends before : List Addressed) → IsIn x sends → IsIn x (put n x.to sends before)
+  pub put_in : (x : Addressed) (sends before : List Addressed) → IsIn x sends → IsIn x (put n x.to sends before)
   put_in x [] before there = absurd there
   put_in x (y ∷ sends) before (inl is) =
       in_past x (put_past n x.to sends (if y.to == x.to then y ∷ before else before))
