@@ -53,6 +53,7 @@ pub mod ForthTc
 pub mod ForthTurns
 pub mod GatheringWhole
 pub mod HaleOthers
+pub mod HeadersLow
 pub mod ImagesLeft
 pub mod KeptNow
 pub mod KeptRows
@@ -114,8 +115,11 @@ pub mod PartServes
 pub mod PartTakes
 pub mod PartTurns
 pub mod PartsQuiet
+pub mod PartsRaised
 pub mod PartsSent
 pub mod Passing
+pub mod RaisedChains
+pub mod RaisedHale
 pub mod RecordMoves
 pub mod RecordsOnce
 pub mod ReplicasNow
@@ -153,3 +157,4 @@ pub mod TracesNow
 pub mod TransitCounts
 pub mod TransitLinks
 pub mod Truths
+pub mod ViewRaised
