@@ -120,6 +120,7 @@ pub mod PartsSent
 pub mod Passing
 pub mod RaisedChains
 pub mod RaisedHale
+pub mod RaisedKeeps
 pub mod RecordMoves
 pub mod RecordsOnce
 pub mod ReplicasNow

@@ -1,4 +1,4 @@
--- Where the current view rises all parts stand behind the event: of whoever goes on nothing is under way, and what it has
+-- Where the current view rises, and all that go on keep to it, all parts stand behind the event: of whoever goes on nothing is under way, and what it has
 -- settled is so still.
 use Rattle.std.proofs.Common.{◌≡◌, ◌<◌, ℕ, List, ◌∷◌, sym, ap, subst}
 use Rattle.std.specs.Prelude.{None}
@@ -10,9 +10,10 @@ use Rattle.lqh_views.specs.State.{ReplicaState}
 use Rattle.key_laws.specs.Replica.{at_key}
 use Rattle.world_core.specs.Start.{Start, made}
 use Rattle.world_core.specs.Steps.{Addressed, HostStep}
-use Rattle.moment_laws.specs.Moments.{logs_of}
+use Rattle.moment_laws.specs.Moments.{current, logs_of}
 use Rattle.moment_laws.proofs.MomentViews.{current_number}
 use Rattle.request_laws.specs.Blocks.{rows_after}
+use Rattle.request_laws.specs.Strays.{KeepsTo}
 use Rattle.commit_laws.specs.Parts.{IsHale, IsOff, PartsStand}
 use Rattle.commit_laws.specs.Raised.{CurrentIsFenced}
 use Rattle.commit_laws.specs.Settled.{IsSettledWith}
@@ -23,12 +24,15 @@ use Rattle.commit_laws.proofs.MemberKeeps.{KeepsFor, keeps_self}
 use Rattle.commit_laws.proofs.PartsQuiet.{IsIdle, idle_told, idle_waits, unasked_idle}
 use Rattle.commit_laws.proofs.RaisedChains.{raised_same}
 use Rattle.commit_laws.proofs.RaisedHale.{raised_unasked, raised_was}
+use Rattle.commit_laws.proofs.RaisedKeeps.{raised_keeps}
 use Rattle.commit_laws.proofs.SettledKept.{settled_kept}
 use Rattle.commit_laws.proofs.ViewRaised.{rows_still}
 
-module _ (fenced : CurrentIsFenced) (start : Start) (all : ℕ → List HostStep) (e : HostStep) (es : List HostStep)
+module _ (start : Start) (all : ℕ → List HostStep) (e : HostStep) (es : List HostStep)
     (follows : Follows start all e es)
     (above : current_number start (logs_of start es) < current_number start (logs_of start (e ∷ es)))
+    (keeps : (tx : TxId) (t : Transaction) → IsHale start (logs_of start (e ∷ es)) tx t
+    → KeepsTo (current start (logs_of start (e ∷ es))) t)
     (xs : List Addressed) (transit : AreInTransit start (e ∷ es) xs)
   where
     abbrev old : ℕ → List HostStep
@@ -57,7 +61,7 @@ module _ (fenced : CurrentIsFenced) (start : Start) (all : ℕ → List HostStep
       rests : (key : List ℕ) → IsSettledWith start new key tx t.ops
       rests key =
           settled_kept start all e es follows.moment follows.stood.commits key tx t.ops
-          (raised_same fenced start all e es follows.moment above follows.stood.commits tx t hale key) (members_keep key tx)
+          (raised_same start all e es follows.moment above follows.stood.commits tx t hale (keeps tx t hale) key) (members_keep key tx)
           ((follows.stood.parts transit.0 transit.1.0).rests tx t went key
           (subst (IsOff start old key tx t) (sym none) tt))
 
@@ -69,3 +73,11 @@ module _ (fenced : CurrentIsFenced) (start : Start) (all : ℕ → List HostStep
           idle_waits start all (e ∷ es) follows.moment tx xs (idle tx t hale) t key m there stands;
       rests = λ tx t hale key off. rests tx t hale key;
     }
+
+-- so they do where the coordinators of its members are fenced at it
+pub fenced_parts : CurrentIsFenced → (start : Start) (all : ℕ → List HostStep) (e : HostStep) (es : List HostStep)
+    → Follows start all e es → current_number start (logs_of start es) < current_number start (logs_of start (e ∷ es))
+    → (xs : List Addressed) → AreInTransit start (e ∷ es) xs → PartsStand start (logs_of start (e ∷ es)) xs
+fenced_parts fenced start all e es follows above =
+    parts_raised start all e es follows above
+    (λ tx t hale. raised_keeps fenced start all e es follows.moment above tx t hale)

@@ -1,5 +1,5 @@
--- Where the current view rises, whoever goes on touched no key whose primary isn't that of before, and wrote none of which a
--- replica isn't one still: its coordinator was fenced at the view, and so keeps to it.
+-- Where the current view rises, and a transaction that goes on keeps to it, it touched no key whose primary isn't that of
+-- before, and wrote none of which a replica isn't one still.
 use Rattle.std.proofs.Common.{◌≡◌, ◌≤◌, ◌<◌, ◌⊎◌, ◌||◌, ◌&&◌, ◌∙◌, ℕ, Bool, true, false, List, [], ◌∷◌, refl, sym, ap, subst, inl, inr, arith}
 use Rattle.std.proofs.lemmas.Bool.{cases_lt, or_left, true≢false}
 use Rattle.std.specs.List.{list_any, slice_get}
@@ -39,7 +39,6 @@ use Rattle.moment_laws.specs.Places.{tc_of}
 use Rattle.moment_laws.proofs.MomentHosts.{tc_low}
 use Rattle.moment_laws.proofs.MomentViews.{current_above, current_number, moment_installed, moment_less}
 use Rattle.outcome_laws.specs.Counts.{coordinator_member}
-use Rattle.outcome_laws.proofs.KnowReports.{in_front}
 use Rattle.request_laws.specs.Blocks.{coordinator_after}
 use Rattle.request_laws.specs.Routed.{IsGivenUp, WasAskedIn, WasDrivenIn, layout_in}
 use Rattle.request_laws.specs.Routes.{HasRoutes, HasRoutesIn, IsTouchedRouted, touched_chain}
@@ -47,19 +46,17 @@ use Rattle.request_laws.specs.Strays.{KeepsTo}
 use Rattle.request_laws.proofs.RouteAll.{signals_are_routed}
 use Rattle.request_laws.proofs.RouteChains.{routes_stay}
 use Rattle.request_laws.proofs.RouteViews.{nobody_later, was_in}
-use Rattle.request_laws.proofs.StrayKept.{fenced_keep, keeps_to_whole}
+use Rattle.request_laws.proofs.StrayKept.{keeps_to_whole}
 use Rattle.commit_laws.specs.Commits.{CommitsStand}
 use Rattle.commit_laws.specs.Going.{is_written_by}
 use Rattle.commit_laws.specs.Parts.{IsHale}
-use Rattle.commit_laws.specs.Raised.{CurrentIsFenced}
 use Rattle.commit_laws.specs.Settled.{IsPrimary}
 use Rattle.commit_laws.specs.Traces.{IsReplicaOf}
 use Rattle.commit_laws.proofs.FateViews.{IsSome, some_of}
-use Rattle.commit_laws.proofs.HaleOthers.{hale_full, hale_made, hale_stands, hale_ways}
+use Rattle.commit_laws.proofs.HaleOthers.{hale_made, hale_stands, hale_ways}
 use Rattle.commit_laws.proofs.RaisedHale.{raised_unasked, raised_was}
 use Rattle.commit_laws.proofs.ReplicasNow.{chain_replica}
 use Rattle.commit_laws.proofs.SettledKept.{AreSame}
-use Rattle.commit_laws.proofs.ViewRaised.{coordinator_still}
 
 -- the first of a list by the list of it alone
 first_by : (one other : List Member) → primary_of one ≡ primary_of other → (m : Member) → slice_get one 0 ≡ Some m
@@ -82,16 +79,17 @@ none_on key touched (op ∷ ops) off all =
         ∙ (ap (λ k. list_any (is_on k) touched) (index.same (key_of op.0) key same) ∙ off)))
     by false other rest = rest
 
-not_doomed : (forth back among : Bool) → forth ≡ false → (not forth && (back || among)) ≡ false → among ≡ false
+-- who hasn't gone forth, and isn't lost, isn't doomed
+pub not_doomed : (forth back among : Bool) → forth ≡ false → (not forth && (back || among)) ≡ false → among ≡ false
 not_doomed true back among off spared = absurd (true≢false off)
 not_doomed false true among off spared = absurd (true≢false spared)
 not_doomed false false among off spared = spared
 
-module _ (fenced : CurrentIsFenced) (start : Start) (all : ℕ → List HostStep) (e : HostStep) (es : List HostStep)
+module _ (start : Start) (all : ℕ → List HostStep) (e : HostStep) (es : List HostStep)
     (moment : IsMoment start all (e ∷ es))
     (above : current_number start (logs_of start es) < current_number start (logs_of start (e ∷ es)))
     (commits : CommitsStand start (logs_of start es)) (tx : TxId) (t : Transaction)
-    (hale : IsHale start (logs_of start (e ∷ es)) tx t)
+    (hale : IsHale start (logs_of start (e ∷ es)) tx t) (keeps : KeepsTo (current start (logs_of start (e ∷ es))) t)
   where
     abbrev old : ℕ → List HostStep
     old = logs_of start es
@@ -130,7 +128,7 @@ module _ (fenced : CurrentIsFenced) (start : Start) (all : ℕ → List HostStep
     keyed : IsTouchedRightly t
     keyed = each_found _ _ tx t (hale_stands start all es before tx t went).keyed went.there
 
-    undoomed : is_among (coordinator_after start member log).doomed tx ≡ false
+    pub undoomed : is_among (coordinator_after start member log).doomed tx ≡ false
     undoomed = not_doomed _ _ _ (hale_ways start all es before tx t went).0 went.spared
 
     -- its routes are those of its coordinator's view
@@ -176,18 +174,6 @@ module _ (fenced : CurrentIsFenced) (start : Start) (all : ℕ → List HostStep
     part_now =
         views_shrink start all moment.cluster stood now stood_installed now_installed
         (let low = stood_low in omega (arith, low, above))
-
-    -- it keeps to the view, at which its coordinator is fenced
-    keeps : KeepsTo now t
-    keeps =
-        each_found _ _ tx t
-        (fenced_keep start all es before member there now now_installed
-        (in_front member now.full now.starting (hale_full start all (e ∷ es) moment tx t hale))
-        (let low = stood_low in omega (arith, low, above))
-        (subst (λ w. now.number ≤ (coordinator_after start member w).fence)
-        (coordinator_still start all e es moment above member there)
-        (fenced start all (e ∷ es) moment member (hale_full start all (e ∷ es) moment tx t hale))))
-        went.there (record { undecided = went.undecided; spared = undoomed; answered = none })
 
     routes_now : HasRoutes (layout_in start now) t
     routes_now =
