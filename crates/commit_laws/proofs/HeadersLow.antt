@@ -2,16 +2,11 @@
 -- so a host without a membership comes to no greater view than that.
 use Rattle.std.proofs.Common.{◌≡◌, ◌≢◌, ◌≤◌, ◌<◌, ◌⊎◌, ◌&&◌, ◌||◌, ◌==◌, ◌∙◌, ℕ, zero, suc, Bool, true, false, List, [], ◌∷◌, refl, sym, ap, subst, inl, inr, arith}
 use Rattle.std.proofs.lemmas.Bool.{cases_eq, true≢false}
-use Rattle.std.specs.List.{list_any}
-use Rattle.std.specs.Prelude.{if◌then◌else◌, not, Option, None, Some}
+use Rattle.std.specs.Prelude.{if◌then◌else◌, not, None}
 use Rattle.run_theory.specs.Links.{IsGiven, sent}
-use Rattle.run_theory.specs.Lists.{Each, IsIn}
+use Rattle.run_theory.specs.Lists.{Each}
 use Rattle.run_theory.proofs.Pasts.{each_past}
-use Rattle.run_theory.proofs.Runs.{log_of-other, log_of-own}
 use Rattle.run_theory.specs.Runs.{Happens}
-use Rattle.sig_core.specs.declared.member.Member.{Member}
-use Rattle.sig_core.specs.declared.outcome.StopCause.{StopCause}
-use Rattle.sig_core.specs.declared.place.BlockId.TheVariants as block
 use Rattle.sig_core.specs.declared.signal.Body.{Body}
 use Rattle.sig_core.specs.declared.signal.Body.TheVariants.{Host}
 use Rattle.sig_core.specs.declared.signal.Signal.{Signal}
@@ -19,22 +14,19 @@ use Rattle.sig_core.specs.declared.signal.host.HostSignal.TheVariants.{Closed}
 use Rattle.sig_core.specs.declared.view.View.{View}
 use Rattle.sig_core.specs.Step.{Step, stay}
 use Rattle.node_views.specs.declared.host.Host as node
-use Rattle.node_views.specs.Row.{is_stop}
 use Rattle.node_views.specs.WellFormed.{is_well_formed}
 use Rattle.node_views.proofs.LawLemmas.{malformed_signals_change_nothing}
-use Rattle.world_core.specs.Start.{Start, made}
+use Rattle.world_core.specs.Start.{Start}
 use Rattle.world_core.specs.Steps.{Addressed, HostStep}
-use Rattle.world_views.specs.Machine.{IsOwn, after, closes, closing_view, comes_rightly, own_stop, step_after, step_by, step_if, stops_by, told}
+use Rattle.world_views.specs.Machine.{IsOwn, after, closes, closing_view, comes_rightly, step_by, step_if, stops_by, told}
 use Rattle.world_views.specs.Sending.{is_asked, is_own_work}
 use Rattle.view_laws.specs.Order.{sound_machine}
 use Rattle.view_laws.specs.Runs.{view_after}
 use Rattle.view_laws.specs.Votes.{membership_in}
 use Rattle.view_laws.proofs.EraShapes.{shape_stays}
-use Rattle.view_laws.proofs.FencePromised.{part_none}
 use Rattle.view_laws.proofs.FollowViews.{others_move}
 use Rattle.view_laws.proofs.RunViews.{of_greater}
-use Rattle.moment_laws.specs.Moments.{IsMoment, current, logs_of}
-use Rattle.moment_laws.specs.Places.{ldm_of, tc_of}
+use Rattle.moment_laws.specs.Moments.{IsMoment, logs_of}
 use Rattle.moment_laws.proofs.MomentSignals.{sent_below}
 use Rattle.moment_laws.proofs.MomentTurns.{current_rises, host_low, own_behind, own_log}
 use Rattle.moment_laws.proofs.MomentTurns as moments

@@ -18,7 +18,7 @@ use Rattle.commit_laws.specs.Parts.{IsHale, IsOff, PartsStand}
 use Rattle.commit_laws.specs.Raised.{CurrentIsFenced}
 use Rattle.commit_laws.specs.Settled.{IsSettledWith}
 use Rattle.commit_laws.specs.Together.{Follows}
-use Rattle.commit_laws.specs.Traces.{replica_at, rows_at}
+use Rattle.commit_laws.specs.Traces.{replica_at}
 use Rattle.commit_laws.specs.Transit.{AreInTransit}
 use Rattle.commit_laws.proofs.MemberKeeps.{KeepsFor, keeps_self}
 use Rattle.commit_laws.proofs.PartsQuiet.{IsIdle, idle_told, idle_waits, unasked_idle}

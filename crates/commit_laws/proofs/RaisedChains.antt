@@ -1,12 +1,12 @@
 -- Where the current view rises, and a transaction that goes on keeps to it, it touched no key whose primary isn't that of
 -- before, and wrote none of which a replica isn't one still.
 use Rattle.std.proofs.Common.{◌≡◌, ◌≤◌, ◌<◌, ◌⊎◌, ◌||◌, ◌&&◌, ◌∙◌, ℕ, Bool, true, false, List, [], ◌∷◌, refl, sym, ap, subst, inl, inr, arith}
-use Rattle.std.proofs.lemmas.Bool.{cases_lt, or_left, true≢false}
+use Rattle.std.proofs.lemmas.Bool.{cases_lt, true≢false}
 use Rattle.std.specs.List.{list_any, slice_get}
-use Rattle.std.specs.Prelude.{not, cond, filter, option_to_list, Option, None, Some}
+use Rattle.std.specs.Prelude.{not, cond, None, Some}
 use Rattle.run_theory.specs.Lists.{Each, IsIn}
-use Rattle.run_theory.proofs.Pasts.{each_in, past_self}
-use Rattle.frag_map.specs.Layout.{Layout, chain_of, first_layout, in_view}
+use Rattle.run_theory.proofs.Pasts.{each_in}
+use Rattle.frag_map.specs.Layout.{chain_of}
 use Rattle.sig_core.specs.Chain.{primary_of}
 use Rattle.sig_core.specs.Op.{key_of}
 use Rattle.sig_core.specs.Same.{same_key}
@@ -19,7 +19,7 @@ use Rattle.tc_block.specs.declared.phase.Phase.{Phase}
 use Rattle.tc_block.specs.declared.phase.Phase.TheVariants.{Aborting, Committing, Completing, Open, Verifying}
 use Rattle.tc_block.specs.declared.touched.Touched.{Touched}
 use Rattle.tc_block.specs.declared.transaction.Transaction.{Transaction}
-use Rattle.tc_block.specs.Doom.{is_among, is_outside, is_undecided, strays}
+use Rattle.tc_block.specs.Doom.{is_among, is_undecided}
 use Rattle.tc_block.specs.Touched.{is_on}
 use Rattle.lqh_block.proofs.IndexLemmas as index
 use Rattle.key_laws.specs.OneKey.{ops_on}
@@ -50,9 +50,7 @@ use Rattle.request_laws.proofs.StrayKept.{keeps_to_whole}
 use Rattle.commit_laws.specs.Commits.{CommitsStand}
 use Rattle.commit_laws.specs.Going.{is_written_by}
 use Rattle.commit_laws.specs.Parts.{IsHale}
-use Rattle.commit_laws.specs.Settled.{IsPrimary}
-use Rattle.commit_laws.specs.Traces.{IsReplicaOf}
-use Rattle.commit_laws.proofs.FateViews.{IsSome, some_of}
+use Rattle.commit_laws.proofs.FateViews.{some_of}
 use Rattle.commit_laws.proofs.HaleOthers.{hale_made, hale_stands, hale_ways}
 use Rattle.commit_laws.proofs.RaisedHale.{raised_unasked, raised_was}
 use Rattle.commit_laws.proofs.ReplicasNow.{chain_replica}

@@ -1,11 +1,10 @@
 -- Who goes on behind an event at which the current view rises went on before it, and has nothing unanswered.
 use Rattle.std.proofs.Common.{◌≡◌, ◌≤◌, ◌<◌, ◌⊎◌, ◌∙◌, ℕ, Bool, true, false, List, [], ◌∷◌, sym, ap, subst, inl, inr, arith}
-use Rattle.std.specs.Prelude.{if◌then◌else◌, None, Some}
+use Rattle.std.specs.Prelude.{if◌then◌else◌, None}
 use Rattle.run_theory.specs.Lists.{IsIn}
 use Rattle.sig_core.specs.declared.member.Member.{Member}
 use Rattle.sig_core.specs.declared.member.TxId.{TxId}
 use Rattle.sig_core.specs.declared.signal.Body.{Body}
-use Rattle.sig_core.specs.declared.view.View.{View}
 use Rattle.tc_block.specs.declared.transaction.Transaction.{Transaction}
 use Rattle.world_core.specs.Start.{Start, made}
 use Rattle.world_core.specs.Steps.{HostStep}
@@ -18,8 +17,8 @@ use Rattle.moment_laws.proofs.MomentViews.{current_above, current_number}
 use Rattle.outcome_laws.specs.Counts.{coordinator_member}
 use Rattle.request_laws.specs.Blocks.{coordinator_after}
 use Rattle.request_laws.specs.Drives.{asked_in, is_request, last_view, sends_one}
-use Rattle.request_laws.specs.Ways.{entry_of, has_gone_back, has_gone_forth}
-use Rattle.commit_laws.specs.Going.{is_lost, own_live}
+use Rattle.request_laws.specs.Ways.{entry_of}
+use Rattle.commit_laws.specs.Going.{is_lost}
 use Rattle.commit_laws.specs.Parts.{IsHale}
 use Rattle.commit_laws.proofs.FateViews.{led_was}
 use Rattle.commit_laws.proofs.HaleOthers.{hale_made}
