@@ -18,7 +18,7 @@ use Rattle.node_views.specs.WellFormed.{is_well_formed}
 use Rattle.node_views.proofs.LawLemmas.{malformed_signals_change_nothing}
 use Rattle.world_core.specs.Start.{Start}
 use Rattle.world_core.specs.Steps.{Addressed, HostStep}
-use Rattle.world_views.specs.Machine.{IsOwn, after, closes, closing_view, comes_rightly, step_by, step_if, stops_by, told}
+use Rattle.world_views.specs.Machine.{IsOwn, after, closes, closing_view, comes_rightly, own_stop, step_by, step_if, stops_by, told}
 use Rattle.world_views.specs.Sending.{is_asked, is_own_work}
 use Rattle.view_laws.specs.Order.{sound_machine}
 use Rattle.view_laws.specs.Runs.{view_after}
@@ -32,11 +32,9 @@ use Rattle.moment_laws.proofs.MomentTurns.{current_rises, host_low, own_behind, 
 use Rattle.moment_laws.proofs.MomentTurns as moments
 use Rattle.moment_laws.proofs.MomentViews.{current_above, current_number, moment_less}
 
--- what a host doesn't ask of itself, and isn't well formed, changes nothing
-malformed_stays : (h : ℕ) (s : node.Host) (x : Signal) → is_asked h x ≡ false
-    → is_well_formed s.standing.shape x ≡ false → step_by h s x ≡ stay s
-malformed_stays h s x unasked off =
-    ap (step_if s x) (none (x.from.0 == h) x.body unasked) ∙ malformed_signals_change_nothing s x off
+-- a host stops itself by nothing that it doesn't ask of itself
+pub no_own_stop : (h : ℕ) (x : Signal) → is_asked h x ≡ false → own_stop h x ≡ None
+no_own_stop h x unasked = none (x.from.0 == h) x.body unasked
   where
     no_close : (body : Body) → is_own_work body ≡ false → closes body ≡ None
     no_close (Host (Closed cause)) off = absurd (true≢false off)
@@ -46,7 +44,13 @@ malformed_stays h s x unasked off =
     none true body off = no_close body off
     none false body off = refl
 
-told_stands : (h : ℕ) (s : node.Host) → (told h (stay s)).standing.view ≡ s.standing.view
+-- what it doesn't ask of itself, and isn't well formed, changes nothing
+pub malformed_stays : (h : ℕ) (s : node.Host) (x : Signal) → is_asked h x ≡ false
+    → is_well_formed s.standing.shape x ≡ false → step_by h s x ≡ stay s
+malformed_stays h s x unasked off =
+    ap (step_if s x) (no_own_stop h x unasked) ∙ malformed_signals_change_nothing s x off
+
+pub told_stands : (h : ℕ) (s : node.Host) → (told h (stay s)).standing.view ≡ s.standing.view
 told_stands zero s = refl
 told_stands (suc h) s = refl
 

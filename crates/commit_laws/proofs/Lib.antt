@@ -134,6 +134,7 @@ pub mod SettledDecisions
 pub mod SettledKept
 pub mod Settles
 pub mod ShellSees
+pub mod SoundMoments
 pub mod SpokenAside
 pub mod SpokenCoordinator
 pub mod SpokenEvents
