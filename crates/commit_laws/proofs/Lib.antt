@@ -7,6 +7,7 @@ pub mod CommitsKept
 pub mod CommitsNow
 pub mod CommitsRemain
 pub mod CommitsStep
+pub mod CurrentFenced
 pub mod CutsLegal
 pub mod DecidedStay
 pub mod DriveCoordinators
