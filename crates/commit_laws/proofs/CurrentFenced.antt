@@ -32,7 +32,7 @@ use Rattle.request_laws.specs.Blocks.{coordinator_after}
 use Rattle.request_laws.proofs.StrayFences.{stands_at}
 use Rattle.request_laws.proofs.StrayNumbers.{fence_above, fence_is, have_the_number}
 use Rattle.commit_laws.specs.Raised.{CurrentIsFenced}
-use Rattle.commit_laws.proofs.SoundMoments.{AllSound, SendsSound, SoundNext, moments_sound}
+use Rattle.commit_laws.proofs.SoundMoments.{AllSound, moments_sound}
 
 -- a coordinator is fenced at each number that its member has confirmed by then
 abbrev pub ConfirmedIsFenced : Type 0
@@ -50,7 +50,7 @@ in_made start member number numbers = by (list_any (is_member member) (made star
     by true there = there
     by false there = absurd there
 
-module _ (next : SoundNext) (sends : SendsSound) (confirmed : ConfirmedIsFenced) (start : Start)
+module _ (confirmed : ConfirmedIsFenced) (start : Start)
     (all : ℕ → List HostStep) (es : List HostStep) (moment : IsMoment start all es)
   where
     abbrev logs : ℕ → List HostStep
@@ -60,7 +60,7 @@ module _ (next : SoundNext) (sends : SendsSound) (confirmed : ConfirmedIsFenced)
     now = current start (logs_of start es)
 
     sound : AllSound start (logs_of start es)
-    sound = moments_sound next sends start all es moment
+    sound = moments_sound start all es moment
 
     -- the current view was chosen by now
     now_chosen : IsChosen start.shape (ballots_of start logs) now
@@ -112,6 +112,6 @@ module _ (next : SoundNext) (sends : SendsSound) (confirmed : ConfirmedIsFenced)
               let same = fence_same in
               omega (arith, low, same)
 
-pub current_fenced : SoundNext → SendsSound → ConfirmedIsFenced → CurrentIsFenced
-current_fenced next sends confirmed start all es moment member full =
-    is_fenced next sends confirmed start all es moment member full
+pub current_fenced : ConfirmedIsFenced → CurrentIsFenced
+current_fenced confirmed start all es moment member full =
+    is_fenced confirmed start all es moment member full

@@ -1,15 +1,13 @@
--- At each moment memberships have taken what is true, and each host stands in a view that was chosen by then, if that is so
--- behind each step whose signal is true.
-use Rattle.std.proofs.Common.{◌≡◌, ◌≢◌, ◌<◌, ◌⊎◌, ◌||◌, ◌++◌, ◌∙◌, ℕ, Bool, true, false, List, [], ◌∷◌, refl, sym, ap, subst, inl, inr}
+-- At each moment memberships have taken what is true, and each host stands in a view that was chosen by then.
+use Rattle.std.proofs.Common.{◌≡◌, ◌≢◌, ◌⊎◌, ◌||◌, ◌++◌, ◌∙◌, ℕ, Bool, true, false, List, [], ◌∷◌, refl, sym, ap, subst, inl, inr}
 use Rattle.std.proofs.lemmas.Bool.{cases_eq, true≢false}
 use Rattle.std.specs.Prelude.{not}
 use Rattle.frag_map.specs.Layout.{first_layout}
-use Rattle.frag_map.specs.Shape.{IsShape}
 use Rattle.run_theory.specs.Links.{IsGiven, sent}
 use Rattle.run_theory.specs.Lists.{Each, IsIn, IsPast}
 use Rattle.run_theory.proofs.Pasts.{each_map, each_past}
 use Rattle.run_theory.proofs.Runs.{log_of-past}
-use Rattle.run_theory.specs.Runs.{Happens, IsWithin}
+use Rattle.run_theory.specs.Runs.{Happens}
 use Rattle.sig_core.specs.declared.member.Member.{Member}
 use Rattle.sig_core.specs.declared.place.BlockId.{BlockId}
 use Rattle.sig_core.specs.declared.signal.Signal.{Signal}
@@ -18,10 +16,9 @@ use Rattle.sig_core.specs.Step.{Step, stay}
 use Rattle.node_views.specs.declared.host.Host as node
 use Rattle.node_views.specs.WellFormed.{is_well_formed}
 use Rattle.qmgr_block.specs.Laws.{Event}
-use Rattle.world_core.specs.Hosts.{hosts}
 use Rattle.world_core.specs.Start.{Start, made}
 use Rattle.world_core.specs.Steps.{Addressed, HostStep}
-use Rattle.world_views.specs.Machine.{FitsRow, IsOwn, after, closing_view, comes_rightly, machine, own_stop, signals_of, step_by, stops_by, told}
+use Rattle.world_views.specs.Machine.{IsOwn, after, closing_view, comes_rightly, machine, own_stop, signals_of, step_by, stops_by, told}
 use Rattle.world_views.specs.Sending.{is_asked}
 use Rattle.view_laws.specs.Ballots.{IsChosen}
 use Rattle.view_laws.specs.HostEvents.{events_at, events_by, events_of, is_arbiter, is_membership, sound_events, taken_in}
@@ -31,31 +28,15 @@ use Rattle.view_laws.specs.Votes.{main_of}
 use Rattle.view_laws.proofs.EraShapes.{shape_stays}
 use Rattle.view_laws.proofs.EraSound.{each_filter}
 use Rattle.view_laws.proofs.RunGrowth.{asks_more, good_more, member_more, signal_more}
+use Rattle.view_laws.proofs.RunSends.{host_sends}
 use Rattle.view_laws.proofs.RunSound.{AreSoundLogs, Asks, IsGood, IsSoundMember, IsSoundSignal}
-use Rattle.view_laws.proofs.RunStep.{sound_start}
+use Rattle.view_laws.proofs.RunStep.{sound_next, sound_start}
 use Rattle.view_laws.proofs.RunViews.{of_greater}
 use Rattle.moment_laws.specs.Moments.{IsMoment, current, logs_of}
 use Rattle.moment_laws.proofs.MomentSignals.{EachSent, sent_next}
 use Rattle.moment_laws.proofs.MomentTurns.{host_low, other_log, own_log}
 use Rattle.moment_laws.proofs.MomentViews.{moment_less, moment_within}
 use Rattle.commit_laws.proofs.HeadersLow.{malformed_stays, no_own_stop, told_stands}
-
--- behind a step whose signal is true all is sound
-abbrev pub SoundNext : Type 0
-SoundNext =
-    (start : Start) → IsShape start.shape → (es : List HostStep) (e : HostStep)
-    → IsWithin (hosts start) (logs_of start (e ∷ es)) → FitsRow start e.host (logs_of start es e.host) e
-    → AreSoundLogs start (logs_of start es)
-    → (is_asked e.host e.step.taken ≡ false
-    → IsSoundSignal start (logs_of start es) (record { to = e.host; signal = e.step.taken }))
-    → AreSoundLogs start (logs_of start (e ∷ es))
-
--- and all that a host sends in its newest step is true
-abbrev pub SendsSound : Type 0
-SendsSound =
-    (start : Start) (logs : ℕ → List HostStep) → IsShape start.shape → AreSoundLogs start logs → (k : ℕ)
-    → k < hosts start → (log : List HostStep) (e : HostStep) → logs k ≡ e ∷ log
-    → Each (IsSoundSignal start logs) (signals_of start k log e)
 
 no_events : (mine : BlockId → Bool) (h : ℕ) (s : node.Host) (x : Signal) → is_asked h x ≡ false
     → is_well_formed s.standing.shape x ≡ false → events_at mine h s x ≡ []
@@ -84,7 +65,7 @@ module _ (start : Start) (logs : ℕ → List HostStep) where
     pub sent_so : EachSent start (IsSoundSignal start logs) logs
     pub stops : (h : ℕ) → StopsGood h (logs h)
 
-module _ (next : SoundNext) (sends : SendsSound) (start : Start) (all : ℕ → List HostStep) (e : HostStep) (es : List HostStep)
+module _ (start : Start) (all : ℕ → List HostStep) (e : HostStep) (es : List HostStep)
     (moment : IsMoment start all (e ∷ es)) (was : AllSound start (logs_of start es))
   where
     abbrev old : ℕ → List HostStep
@@ -186,7 +167,7 @@ module _ (next : SoundNext) (sends : SendsSound) (start : Start) (all : ℕ → 
         by : IsPlain ⊎ IsTrue → AreSoundLogs start new
         by (inl plain) = plain_next plain
         by (inr true_one) =
-            next start moment.cluster.shape es e (moment_within start all (e ∷ es) moment) happens.step.fits was.are
+            sound_next start moment.cluster.shape es e (moment_within start all (e ∷ es) moment) happens.step.fits was.are
             true_one.0
 
     sent_sound : EachSent start (IsSoundSignal start new) new
@@ -197,7 +178,7 @@ module _ (next : SoundNext) (sends : SendsSound) (start : Start) (all : ℕ → 
         (signal_more start old new more) (was.sent_so i j))
         (λ goes.
         each_filter (IsSoundSignal start new) (is_sound start) (signals_of start e.host (old e.host) e)
-        (sends start new moment.cluster.shape are_next e.host (host_low start all e es moment) (old e.host) e
+        (host_sends start new moment.cluster.shape are_next e.host (host_low start all e es moment) (old e.host) e
         (own_log start all e es moment)))
 
     own_stops : StopsGood start new e.host (e ∷ old e.host)
@@ -230,9 +211,9 @@ module _ (next : SoundNext) (sends : SendsSound) (start : Start) (all : ℕ → 
     all_next : AllSound start new
     all_next = record { are = are_next; sent_so = sent_sound; stops = stops_next }
 
-pub moments_sound : SoundNext → SendsSound → (start : Start) (all : ℕ → List HostStep) (es : List HostStep) → IsMoment start all es
+pub moments_sound : (start : Start) (all : ℕ → List HostStep) (es : List HostStep) → IsMoment start all es
     → AllSound start (logs_of start es)
-moments_sound next sends start all [] moment =
+moments_sound start all [] moment =
     record { are = sound_start start moment.cluster.shape; sent_so = λ i j. tt; stops = λ h. tt }
-moments_sound next sends start all (e ∷ es) moment =
-    all_next next sends start all e es moment (moments_sound next sends start all es (moment_less start all e es moment))
+moments_sound start all (e ∷ es) moment =
+    all_next start all e es moment (moments_sound start all es (moment_less start all e es moment))
