@@ -18,6 +18,7 @@ pub mod CommitsKept
 pub mod CommitsNow
 pub mod CommitsRemain
 pub mod CommitsStep
+pub mod CurrentFenced
 pub mod CutsLegal
 pub mod DecidedStay
 pub mod DecidersGo
@@ -67,6 +68,7 @@ pub mod ForthTurns
 pub mod GatheringAlone
 pub mod GatheringWhole
 pub mod HaleOthers
+pub mod HeadersLow
 pub mod ImagesLeft
 pub mod KeptNow
 pub mod KeptRows
@@ -137,11 +139,15 @@ pub mod PartTurns
 pub mod PartsEver
 pub mod PartsKept
 pub mod PartsQuiet
+pub mod PartsRaised
 pub mod PartsSent
 pub mod Passing
 pub mod PlainMarks
 pub mod PlainMaster
 pub mod PlainMembership
+pub mod RaisedChains
+pub mod RaisedHale
+pub mod RaisedKeeps
 pub mod RecordMoves
 pub mod RecordPlaces
 pub mod RecordsOnce
@@ -160,6 +166,7 @@ pub mod SettledDecisions
 pub mod SettledKept
 pub mod Settles
 pub mod ShellSees
+pub mod SoundMoments
 pub mod SpokenAside
 pub mod SpokenCoordinator
 pub mod SpokenEvents
@@ -191,6 +198,7 @@ pub mod TransitLinks
 pub mod Truths
 pub mod Unasked
 pub mod UnaskedRows
+pub mod ViewRaised
 pub mod WaitCounts
 pub mod WholeAll
 pub mod WholeHosts

@@ -22,3 +22,4 @@ pub mod Together
 pub mod Gathering
 pub mod Telling
 pub mod Ruling
+pub mod Raised

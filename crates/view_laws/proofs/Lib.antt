@@ -80,7 +80,7 @@ pub mod RunKept
 pub mod RunMade
 mod RunMember
 pub mod RunOrderly
-mod RunSends
+pub mod RunSends
 pub mod RunShrink
 pub mod RunSound
 pub mod RunStep
