@@ -86,12 +86,15 @@ pub mod MarkerSteps
 pub mod MemberKeeps
 pub mod OrderAside
 pub mod OrderCounts
+pub mod OrderHosts
 pub mod OrderMain
 pub mod OrderMaster
 pub mod OrderMembership
+pub mod OrderOnce
 pub mod OrderRows
 pub mod OrderSent
 pub mod OrderSteps
+pub mod OrderUnseen
 pub mod OrderWords
 pub mod OrphanRows
 pub mod OrphanStays

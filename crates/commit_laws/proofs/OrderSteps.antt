@@ -73,6 +73,13 @@ entered_laid p view = ap (λ (y : Layout). y.view) (row_installs p.qmgr.known vi
 entered_me : (p : MainPart) (view : View) → (main_entered p view).state.qmgr.known.me ≡ p.qmgr.known.me
 entered_me p view = (row_installs p.qmgr.known view).me
 
+-- the oldest by what a membership knows is that of its view
+younger_known : (member : Member) (view : View) (k : Known) → k.me ≡ member → k.layout.view ≡ view
+    → is_oldest_of member view.full ≡ false → is_oldest k ≡ false
+younger_known member view k own laid young =
+    subst (λ (m : Member). is_oldest_of m k.layout.view.full ≡ false) (sym own)
+    (subst (λ (v : View). is_oldest_of member v.full ≡ false) (sym laid) young)
+
 -- what a membership goes on from isn't what a host asks itself for, so what its blocks take of it counts
 goes_plain : (last number : ℕ) (b : BlockId) (header : ℕ) (body : Body) → goes_from last number b header body ≡ true
     → is_own_work body ≡ false
@@ -94,9 +101,8 @@ rises_one a b above = ap one_if (is a b above)
     is a b above = grind (arith, nat_tests)
 
 module _ (start : Start) (member : Member) (there : IsIn member (made start)) (log : List HostStep) (e : HostStep)
-    (younger : (p : MainPart) → (after start (main_of start member) log).parts ≡ part.Main p
-    → (view_after start (main_of start member) log).number < e.step.taken.view.number
-    → is_oldest (installing p.qmgr.known e.step.taken.view) ≡ false)
+    (younger : (view_after start (main_of start member) log).number < e.step.taken.view.number
+    → is_oldest_of member e.step.taken.view.full ≡ false)
   where
     abbrev h : ℕ
     h = main_of start member
@@ -158,7 +164,10 @@ module _ (start : Start) (member : Member) (there : IsIn member (made start)) (l
         };
         none =
             ap (count_orders last) (sent ∙ ap (λ parts. (parts_entered parts x.view).effects.sends) runs.is)
-            ∙ enters_none runs.main x last x.view (younger runs.main runs.is above);
+            ∙ enters_none runs.main x last x.view
+            (younger_known member x.view (installing runs.main.qmgr.known x.view)
+            ((installing_is runs.main.qmgr.known x.view).0 ∙ runs.me) (installing_is runs.main.qmgr.known x.view).1
+            (younger above));
         follows =
             subst (λ v. Follows (first_layout start.shape) inside v) (sym stands)
             (subst (λ parts. Follows (first_layout start.shape) parts x.view) (sym same)
@@ -236,18 +245,13 @@ module _ (start : Start) (member : Member) (there : IsIn member (made start)) (l
 
       -- who isn't the oldest of that view sends none
       module _ (young : is_oldest_of member behind.full ≡ false) where
-        younger_of : (k : Known) → k.me ≡ member → k.layout.view ≡ behind → is_oldest k ≡ false
-        younger_of k own laid =
-            subst (λ (m : Member). is_oldest_of m k.layout.view.full ≡ false) (sym own)
-            (subst (λ (v : View). is_oldest_of member v.full ≡ false) (sym laid) young)
-
         takes_none : (inside : Parts) (stood : View) (front rest : List Outgoing) → Between inside stood front
             → Takes start.shape inside stood x (after start h (e ∷ log)).parts behind rest → count_orders last rest ≡ 0
         takes_none inside stood front rest own (leaves same stands none) = ap (count_orders last) none
         takes_none inside stood front rest own (takes passed settled same stands sent) =
             ap (count_orders last) (sent ∙ ap (λ parts. (parts_row parts x).effects.sends) own.own.is)
             ∙ younger_none own.own.main x last
-            (younger_of own.own.main.qmgr.known own.own.me (own.own.laid ∙ sym stands)) x.to.block
+            (younger_known member behind own.own.main.qmgr.known own.own.me (own.own.laid ∙ sym stands) young) x.to.block
         takes_none inside stood front rest own (settles passed settled same sent) =
             omega (
               arith,
@@ -256,9 +260,9 @@ module _ (start : Start) (member : Member) (there : IsIn member (made start)) (l
               count_both (is_counted last) (main_row p x.to.block x).effects.sends (main_entered now behind).effects.sends,
               settles_none p x last behind settled_main,
               enters_none now x last behind
-                  (younger_of (installing now.qmgr.known behind)
+                  (younger_known member behind (installing now.qmgr.known behind)
                   ((installing_is now.qmgr.known behind).0 ∙ main_me p x x.to.block ∙ own.own.me)
-                  (installing_is now.qmgr.known behind).1),
+                  (installing_is now.qmgr.known behind).1 young),
             )
           where
             p : MainPart
