@@ -84,7 +84,10 @@ pub mod MarkerMoves
 pub mod MarkerRows
 pub mod MarkerSteps
 pub mod MemberKeeps
+pub mod OrderApi
 pub mod OrderAside
+pub mod OrderClient
+pub mod OrderCoordinator
 pub mod OrderCounts
 pub mod OrderHosts
 pub mod OrderMain
@@ -94,6 +97,8 @@ pub mod OrderOnce
 pub mod OrderRows
 pub mod OrderSent
 pub mod OrderSteps
+pub mod OrderTakeover
+pub mod OrderTurns
 pub mod OrderUnseen
 pub mod OrderWords
 pub mod OrphanRows
