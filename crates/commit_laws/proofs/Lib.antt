@@ -94,6 +94,7 @@ pub mod OrderMain
 pub mod OrderMaster
 pub mod OrderMembership
 pub mod OrderOnce
+pub mod OrderOthers
 pub mod OrderRows
 pub mod OrderSent
 pub mod OrderSteps
