@@ -93,6 +93,7 @@ pub mod OrderHosts
 pub mod OrderMain
 pub mod OrderMaster
 pub mod OrderMembership
+pub mod OrderOldest
 pub mod OrderOnce
 pub mod OrderOthers
 pub mod OrderRows
