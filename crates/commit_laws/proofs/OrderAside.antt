@@ -1,5 +1,5 @@
 -- Coordinators, takeovers, epochs of a node and the client's side order no takeover.
-use Rattle.std.proofs.Common.{◌≡◌, ◌+◌, ◌==◌, ℕ, Bool, true, false, List, length, nat_le, nat_lt, refl, sym, subst, ⊎_elim}
+use Rattle.std.proofs.Common.{◌+◌, ◌==◌, ℕ, Bool, true, false, List, length, nat_le, nat_lt, refl}
 use Rattle.std.specs.Prelude.{Option, None, Some, remove, slice_get}
 use Rattle.run_theory.proofs.Pasts.{each_append}
 use Rattle.sig_core.specs.declared.member.TxId.{TxId}
@@ -15,8 +15,6 @@ use Rattle.sig_core.specs.declared.signal.membership.MembershipSignal.TheVariant
 use Rattle.sig_core.specs.declared.signal.Signal.{Signal}
 use Rattle.sig_core.specs.declared.view.View.{View}
 use Rattle.sig_core.specs.Step.{Step, stay}
-use Rattle.api_views.specs.Client.{client_row}
-use Rattle.api_views.specs.State.{ClientState}
 use Rattle.dih_node.specs.declared.dih.Report.{Report}
 use Rattle.dih_node.specs.declared.dih.TheConstants.{TRANSACTIONS}
 use Rattle.dih_node.specs.Dih.{dih_row, dih_table, epoch_table}
@@ -31,18 +29,10 @@ use Rattle.commit_laws.proofs.OrderClient.{client_quiet}
 use Rattle.commit_laws.proofs.OrderCoordinator.{coordinator_installs_quiet, coordinator_quiet}
 use Rattle.commit_laws.proofs.OrderTakeover.{takeover_quiet}
 use Rattle.commit_laws.proofs.OrderWords.{AreNoOrders, AreQuiet, IsNoOrder, none_quiet}
-use Rattle.run_theory.specs.Lists.{Each}
-use Rattle.run_theory.proofs.Pasts.{each_map}
 use Rattle.sig_core.specs.declared.member.Member.{Member}
-use Rattle.sig_core.specs.declared.outs.Outgoing.{Outgoing}
-use Rattle.sig_core.specs.declared.signal.Body.TheVariants.{Takeover}
 use Rattle.sig_core.specs.declared.signal.membership.MembershipSignal.TheVariants.{ArbitReq}
-use Rattle.sig_core.specs.declared.signal.takeover.TakeoverSignal.TheVariants.{TakeoverOrd}
 use Rattle.arbiter_block.specs.Arbiter.{ArbiterState, arbit_if, arbit_row, arbiter_table, is_granted}
-use Rattle.takeover_block.specs.State.{TakeoverState}
-use Rattle.takeover_block.specs.Takeover.{takeover_row}
 use Rattle.tc_views.specs.Coordinator.{coordinator_row}
-use Rattle.tc_views.specs.State.{CoordinatorState}
 use Rattle.tc_views.specs.Views as coordinator
 use Rattle.node_views.specs.declared.tc_part.TcPart.{TcPart}
 use Rattle.node_views.specs.Parts.{tc_entered, tc_row}

@@ -1,9 +1,9 @@
 -- The host of the oldest member's membership comes to a view before all others, and by no header, if it is the one that
 -- settles on it.
-use Rattle.std.proofs.Common.{◌≡◌, ◌≢◌, ◌≤◌, ◌<◌, ◌⊎◌, ◌++◌, ◌∙◌, ℕ, Bool, true, false, List, [], ◌∷◌, inl, inr, refl, sym, ap, subst, arith}
+use Rattle.std.proofs.Common.{◌≡◌, ◌≢◌, ◌≤◌, ◌<◌, ◌⊎◌, ◌++◌, ℕ, Bool, true, false, List, [], ◌∷◌, inl, inr, refl, sym, ap, subst, arith}
 use Rattle.std.proofs.lemmas.Bool.{cases_eq}
 use Rattle.run_theory.specs.Along.{Comes, IsKept}
-use Rattle.run_theory.specs.Lists.{Each, IsIn, IsPast}
+use Rattle.run_theory.specs.Lists.{IsIn, IsPast}
 use Rattle.run_theory.specs.Runs.{IsWithin, log_of}
 use Rattle.run_theory.proofs.Along.{along_signals_of_logs}
 use Rattle.run_theory.proofs.Pasts.{each_map}
@@ -29,8 +29,7 @@ use Rattle.view_laws.proofs.FollowSends.{each_sent}
 use Rattle.view_laws.proofs.FollowViews.{IsSettled, ViewMoves, enters, settles_in, stays, view_moves}
 use Rattle.view_laws.proofs.RunStep.{host_there, started_view}
 use Rattle.view_laws.proofs.RunViews.{of_greater, within_less}
-use Rattle.moment_laws.specs.Moments.{IsMoment, logs_of}
-use Rattle.moment_laws.proofs.MomentHosts.{main_low}
+use Rattle.moment_laws.specs.Moments.{logs_of}
 use Rattle.request_laws.proofs.RouteHeaders.{event_past}
 use Rattle.commit_laws.proofs.OrderOnce.{OldestGoFirst}
 

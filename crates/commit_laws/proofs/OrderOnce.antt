@@ -1,14 +1,12 @@
 -- In each view at most one takeover is ordered: the host of the oldest member's membership sends as many orders, and
 -- signals to go on to them, as it takes of the latter, and one more where it comes to the view; other hosts send none.
-use Rattle.std.proofs.Common.{◌≡◌, ◌≢◌, ◌≤◌, ◌<◌, ◌+◌, ◌*◌, ◌-◌, ◌%◌, ◌/◌, ◌⊎◌, ◌==◌, ◌&&◌, ◌∙◌, ℕ, zero, suc, Bool, true, false, List, [], ◌∷◌, inl, inr, length, nat_le, nat_lt, refl, sym, ap, arith, subst}
+use Rattle.std.proofs.Common.{◌≡◌, ◌≢◌, ◌≤◌, ◌<◌, ◌+◌, ◌⊎◌, ◌==◌, ◌&&◌, ◌∙◌, ℕ, Bool, true, false, List, [], ◌∷◌, inl, inr, length, nat_le, nat_lt, refl, sym, ap, arith, subst}
 use Rattle.std.proofs.lemmas.Bool.{cases_eq, cases_lt, true≢false}
 use Rattle.std.proofs.lemmas.Bool.Decides.{nat_tests}
-use Rattle.std.specs.List.{count_by}
 use Rattle.std.specs.Prelude.{if◌then◌else◌}
 use Rattle.run_theory.specs.Counts.{one_if as plain_one, total}
-use Rattle.run_theory.specs.Links.{sent_by}
-use Rattle.run_theory.specs.Lists.{Each, IsIn}
-use Rattle.run_theory.proofs.Pasts.{each_map, each_past}
+use Rattle.run_theory.specs.Lists.{IsIn}
+use Rattle.run_theory.proofs.Pasts.{each_past}
 use Rattle.host_laws.proofs.Sums.{total_add, total_le, total_zero, unit_few, total_same}
 use Rattle.sig_core.specs.declared.member.Member.{Member}
 use Rattle.sig_core.specs.declared.outs.Outgoing.{Outgoing}
@@ -24,9 +22,9 @@ use Rattle.qmgr_block.specs.Install.{is_oldest_of}
 use Rattle.qmgr_block.specs.Sets.{members_of}
 use Rattle.world_core.specs.Hosts.{hosts}
 use Rattle.world_core.specs.Start.{Start, made}
-use Rattle.world_core.specs.Steps.{Addressed, HostStep}
-use Rattle.world_views.specs.Machine.{signals_of, step_after}
-use Rattle.view_laws.specs.Order.{is_sound, sound_machine}
+use Rattle.world_core.specs.Steps.{HostStep}
+use Rattle.world_views.specs.Machine.{step_after}
+use Rattle.view_laws.specs.Order.{sound_machine}
 use Rattle.view_laws.specs.Runs.{WasInstalled, view_after}
 use Rattle.view_laws.specs.Votes.{main_of}
 use Rattle.view_laws.proofs.EraRises.{view_rises}
@@ -35,14 +33,11 @@ use Rattle.view_laws.proofs.RunKept.{have_orderly}
 use Rattle.view_laws.proofs.RunViews.{one_view}
 use Rattle.view_laws.proofs.SetRows.{same_is}
 use Rattle.moment_laws.specs.Moments.{IsMoment, logs_of}
-use Rattle.moment_laws.specs.Places.{ldm_of, tc_of}
 use Rattle.moment_laws.proofs.MomentTurns.{host_low, other_log, own_log}
 use Rattle.moment_laws.proofs.MomentViews.{moment_less}
 use Rattle.outcome_laws.specs.Counts.{one_if}
-use Rattle.outcome_laws.proofs.TcLists.{count_more}
 use Rattle.request_laws.specs.Tokens.{all_sent, all_taken, sent_along, taken_along}
 use Rattle.request_laws.proofs.RouteHeaders.{event_past, own_installed}
-use Rattle.request_laws.proofs.TokenRows.{one_same}
 use Rattle.request_laws.proofs.TokenSums.{few_taken}
 use Rattle.request_laws.proofs.TokenViews.{all_taken_more, sent_now, taken_now}
 use Rattle.commit_laws.proofs.DriveKinds.{numbered}

@@ -1,5 +1,5 @@
 -- Hosts that run no membership order no takeover, and send no membership a signal to go on.
-use Rattle.std.proofs.Common.{◌≡◌, ◌⊎◌, ◌++◌, ℕ, List, [], ◌∷◌, inl, inr, refl, sym, subst}
+use Rattle.std.proofs.Common.{◌≡◌, ◌⊎◌, ◌++◌, List, [], inl, inr, refl, sym, subst}
 use Rattle.run_theory.proofs.Pasts.{each_append}
 use Rattle.sig_core.specs.declared.outs.Outgoing.{Outgoing}
 use Rattle.sig_core.specs.declared.place.BlockId.{BlockId}
@@ -11,7 +11,6 @@ use Rattle.lqh_views.specs.Replica.{replica_row}
 use Rattle.node_views.specs.declared.ldm_part.LdmPart.{LdmPart}
 use Rattle.node_views.specs.declared.parts.Parts.{Parts}
 use Rattle.node_views.specs.declared.parts.Parts.TheVariants as part
-use Rattle.node_views.specs.declared.shell_part.ShellPart.{ShellPart}
 use Rattle.node_views.specs.Parts.{ldm_row}
 use Rattle.world_core.specs.Start.{Start}
 use Rattle.world_core.specs.Steps.{HostStep}
@@ -21,7 +20,7 @@ use Rattle.moment_laws.proofs.PartKinds.{shell_after}
 use Rattle.request_laws.proofs.RouteSteps.{ldm_step, tc_step}
 use Rattle.commit_laws.proofs.KnownTold.{IsShell, runs_shell}
 use Rattle.commit_laws.proofs.OrderAside.{shell_orders_none, tc_enters_order_none, tc_orders_none}
-use Rattle.commit_laws.proofs.OrderHosts.{OtherHost, coordinates, is_client, keeps_rows}
+use Rattle.commit_laws.proofs.OrderHosts.{coordinates, is_client, keeps_rows}
 use Rattle.commit_laws.proofs.OrderOnce.{OthersAreQuiet}
 use Rattle.commit_laws.proofs.OrderRows.{rows_order_none}
 use Rattle.commit_laws.proofs.OrderWords.{AreQuiet, IsQuiet, none_quiet}
