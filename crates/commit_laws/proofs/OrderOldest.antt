@@ -21,27 +21,29 @@ use Rattle.world_core.specs.Hosts.{hosts}
 use Rattle.world_core.specs.Start.{Start, made}
 use Rattle.world_core.specs.Steps.{Addressed, HostStep}
 use Rattle.world_views.proofs.SentFacts.{is_stamped}
-use Rattle.world_views.specs.Machine.{after, machine, signals_of}
+use Rattle.world_views.specs.Machine.{machine, signals_of}
 use Rattle.view_laws.specs.Runs.{AreOfCluster, view_after}
 use Rattle.view_laws.specs.Votes.{main_of}
 use Rattle.view_laws.proofs.EraRises.{view_rises}
 use Rattle.view_laws.proofs.FollowSends.{each_sent}
-use Rattle.view_laws.proofs.FollowViews.{IsSettled, ViewMoves, enters, settles_in, stays, view_moves}
 use Rattle.view_laws.proofs.RunStep.{host_there, started_view}
 use Rattle.view_laws.proofs.RunViews.{of_greater, within_less}
 use Rattle.moment_laws.specs.Moments.{logs_of}
 use Rattle.request_laws.proofs.RouteHeaders.{event_past}
 use Rattle.commit_laws.proofs.OrderOnce.{OldestGoFirst}
 
--- a host that settles on a view is that of the membership of its oldest member
-abbrev pub SettlersAreOldest : Type 0
-SettlersAreOldest =
+-- Behind a step a host stands in the view in which it stood, or in that of the signal's header, or it runs the membership
+-- of the oldest member of its view.
+abbrev pub ViewsComeRightly : Type 0
+ViewsComeRightly =
     (start : Start) (logs : ℕ → List HostStep) → AreOfCluster start logs → (h : ℕ) → h < hosts start
     → (log : List HostStep) (e : HostStep) → IsPast (e ∷ log) (logs h)
-    → IsSettled (after start h log).parts e.step.taken (view_after start h (e ∷ log)) → (me : Member)
-    → IsIn me (made start) → is_oldest_of me (view_after start h (e ∷ log)).full ≡ true → main_of start me ≡ h
+    → (view_after start h (e ∷ log) ≡ view_after start h log)
+    ⊎ ((view_after start h (e ∷ log) ≡ e.step.taken.view)
+    ⊎ ((me : Member) → IsIn me (made start) → is_oldest_of me (view_after start h (e ∷ log)).full ≡ true
+    → main_of start me ≡ h))
 
-module _ (settlers : SettlersAreOldest) (start : Start) (is_shape : IsShape start.shape) where
+module _ (come_rightly : ViewsComeRightly) (start : Start) (is_shape : IsShape start.shape) where
   abbrev reach : Member → (ℕ → List HostStep) → ℕ
   reach me logs = (view_after start (main_of start me) (logs (main_of start me))).number
 
@@ -127,22 +129,23 @@ module _ (settlers : SettlersAreOldest) (start : Start) (is_shape : IsShape star
 
         -- the view in which the host stands behind the step
         own_ahead : IsAhead new (view_after start e.host (e ∷ old e.host))
-        own_ahead = by (view_moves e.host (after start e.host (old e.host)) e.step.taken)
+        own_ahead =
+            by (come_rightly start new
+            (record { shape = is_shape; right = logs_of_run (machine start) (e ∷ es) (come.run, come.happens); within = within })
+            e.host low (old e.host) e
+            (subst (IsPast (e ∷ old e.host)) (sym (log_of-own (machine start) e es e.host refl))
+            (past_self (e ∷ old e.host))))
           where
-            by : ViewMoves (after start e.host (old e.host)).parts (view_after start e.host (old e.host)) e.step.taken
-                (view_after start e.host (e ∷ old e.host))
+            by : (view_after start e.host (e ∷ old e.host) ≡ view_after start e.host (old e.host))
+                ⊎ ((view_after start e.host (e ∷ old e.host) ≡ e.step.taken.view)
+                ⊎ ((me : Member) → IsIn me (made start)
+                → is_oldest_of me (view_after start e.host (e ∷ old e.host)).full ≡ true → main_of start me ≡ e.host))
                 → IsAhead new (view_after start e.host (e ∷ old e.host))
-            by (stays same) =
+            by (inl same) =
                 subst (IsAhead new) (sym same) (more (view_after start e.host (old e.host)) (before.views e.host low))
-            by (enters above same) = subst (IsAhead new) (sym same) (more e.step.taken.view taken)
-            by (settles_in settled) = λ me there is.
-                let at = settlers start new
-                (record { shape = is_shape; right = logs_of_run (machine start) (e ∷ es) (come.run, come.happens); within = within })
-                e.host low (old e.host) e
-                (subst (IsPast (e ∷ old e.host)) (sym (log_of-own (machine start) e es e.host refl))
-                (past_self (e ∷ old e.host)))
-                settled me there is in
-                let same = ap (λ h. (view_after start h (new h)).number) at in
+            by (inr (inl same)) = subst (IsAhead new) (sym same) (more e.step.taken.view taken)
+            by (inr (inr runs)) = λ me there is.
+                let same = ap (λ h. (view_after start h (new h)).number) (runs me there is) in
                 let own = ap (λ log. (view_after start e.host log).number) (log_of-own (machine start) e es e.host refl) in
                 omega (arith, same, own)
 
@@ -205,14 +208,14 @@ module _ (settlers : SettlersAreOldest) (start : Start) (is_shape : IsShape star
   young_of me log e [] all = all.0
   young_of me log e (f ∷ newer) all = young_of me log e newer all.1
 
-pub oldest_go_first : SettlersAreOldest → OldestGoFirst
-oldest_go_first settlers start all e es moment me there at =
+pub oldest_go_first : ViewsComeRightly → OldestGoFirst
+oldest_go_first come_rightly start all e es moment me there at =
     subst (λ h. (view_after start h (logs_of start es e.host)).number < e.step.taken.view.number
     → is_oldest_of me e.step.taken.view.full ≡ false) (sym at)
-    (young_of settlers start moment.cluster.shape me (logs_of start es e.host) e past.newer
-    (subst (AreYoung settlers start moment.cluster.shape me) past.is
-    (subst (λ h. AreYoung settlers start moment.cluster.shape me (all h)) (sym at)
-    (all_young settlers start moment.cluster.shape all moment.cluster me there))))
+    (young_of come_rightly start moment.cluster.shape me (logs_of start es e.host) e past.newer
+    (subst (AreYoung come_rightly start moment.cluster.shape me) past.is
+    (subst (λ h. AreYoung come_rightly start moment.cluster.shape me (all h)) (sym at)
+    (all_young come_rightly start moment.cluster.shape all moment.cluster me there))))
   where
     past : IsPast (e ∷ logs_of start es e.host) (all e.host)
     past = event_past start all e es moment
