@@ -84,6 +84,7 @@ pub mod MarkerMoves
 pub mod MarkerRows
 pub mod MarkerSteps
 pub mod MemberKeeps
+pub mod OrderAll
 pub mod OrderApi
 pub mod OrderAside
 pub mod OrderClient
