@@ -120,7 +120,7 @@ module _ (start : Start) where
       by (Ldm p) shell = absurd shell
 
   -- it runs the client's side along each log
-  runs_shell : (log : List HostStep) → IsShell (after start 0 log).parts
+  pub runs_shell : (log : List HostStep) → IsShell (after start 0 log).parts
   unfolding started
   runs_shell [] = tt
   runs_shell (e ∷ log) =

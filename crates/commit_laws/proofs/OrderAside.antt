@@ -1,5 +1,5 @@
 -- Coordinators, takeovers, epochs of a node and the client's side order no takeover.
-use Rattle.std.proofs.Common.{◌≡◌, ◌+◌, ◌==◌, ℕ, Bool, true, false, List, length, nat_le, nat_lt, refl, sym, subst, ⊎_elim}
+use Rattle.std.proofs.Common.{◌+◌, ◌==◌, ℕ, Bool, true, false, List, length, nat_le, nat_lt, refl}
 use Rattle.std.specs.Prelude.{Option, None, Some, remove, slice_get}
 use Rattle.run_theory.proofs.Pasts.{each_append}
 use Rattle.sig_core.specs.declared.member.TxId.{TxId}
@@ -15,8 +15,6 @@ use Rattle.sig_core.specs.declared.signal.membership.MembershipSignal.TheVariant
 use Rattle.sig_core.specs.declared.signal.Signal.{Signal}
 use Rattle.sig_core.specs.declared.view.View.{View}
 use Rattle.sig_core.specs.Step.{Step, stay}
-use Rattle.api_views.specs.Client.{client_row}
-use Rattle.api_views.specs.State.{ClientState}
 use Rattle.dih_node.specs.declared.dih.Report.{Report}
 use Rattle.dih_node.specs.declared.dih.TheConstants.{TRANSACTIONS}
 use Rattle.dih_node.specs.Dih.{dih_row, dih_table, epoch_table}
@@ -27,28 +25,17 @@ use Rattle.dih_node.specs.Verify.{end_row, ended, given, report_by, report_if, r
 use Rattle.node_views.specs.declared.shell_part.ShellPart.{ShellPart}
 use Rattle.node_views.specs.Parts.{shell_row}
 use Rattle.arbiter_block.specs.Arbiter.{arbiter_row}
-use Rattle.outcome_laws.proofs.ClientTurns.{client_turns}
-use Rattle.commit_laws.proofs.OrderWords.{AreNoOrders, IsNoOrder, is_order}
-use Rattle.run_theory.specs.Lists.{Each}
-use Rattle.run_theory.proofs.Pasts.{each_map}
+use Rattle.commit_laws.proofs.OrderClient.{client_quiet}
+use Rattle.commit_laws.proofs.OrderCoordinator.{coordinator_installs_quiet, coordinator_quiet}
+use Rattle.commit_laws.proofs.OrderTakeover.{takeover_quiet}
+use Rattle.commit_laws.proofs.OrderWords.{AreNoOrders, AreQuiet, IsNoOrder, none_quiet}
 use Rattle.sig_core.specs.declared.member.Member.{Member}
-use Rattle.sig_core.specs.declared.outs.Outgoing.{Outgoing}
-use Rattle.sig_core.specs.declared.signal.Body.TheVariants.{Takeover}
 use Rattle.sig_core.specs.declared.signal.membership.MembershipSignal.TheVariants.{ArbitReq}
-use Rattle.sig_core.specs.declared.signal.takeover.TakeoverSignal.TheVariants.{TakeoverOrd}
 use Rattle.arbiter_block.specs.Arbiter.{ArbiterState, arbit_if, arbit_row, arbiter_table, is_granted}
-use Rattle.takeover_block.specs.State.{TakeoverState}
-use Rattle.takeover_block.specs.Takeover.{takeover_row}
 use Rattle.tc_views.specs.Coordinator.{coordinator_row}
-use Rattle.tc_views.specs.State.{CoordinatorState}
 use Rattle.tc_views.specs.Views as coordinator
 use Rattle.node_views.specs.declared.tc_part.TcPart.{TcPart}
 use Rattle.node_views.specs.Parts.{tc_entered, tc_row}
-use Rattle.view_laws.proofs.KindsCoordinator.{coordinator_installs_kinds, coordinator_kinds}
-use Rattle.view_laws.proofs.KindsSent.{IsOf}
-use Rattle.view_laws.proofs.KindsTakeover.{is_of_takeover, takeover_kinds}
-use Rattle.view_laws.proofs.KindsTurns.{is_of_coordinator}
-use Rattle.outcome_laws.proofs.ClientTurns.{ArePlain, IsPlain, is_plain}
 
 abbrev SendsFit : {S : Type 0} → Step S → Type 0
 SendsFit step = AreNoOrders step.effects.sends
@@ -144,66 +131,20 @@ unfolding dih.install_row
 epochs_install_order_none s number =
     serving_orders (stay (record s { number = number; fence = dih.greater s.fence number })) tt
 
--- coordinators and takeovers
-of_coordinator : (body : Body) → is_of_coordinator body ≡ true → is_order body ≡ false
-of_coordinator (Takeover signal) is = absurd cc
-of_coordinator body is = refl
-
-of_takeover : (body : Body) → is_of_takeover body ≡ true → is_order body ≡ false
-of_takeover (Takeover TakeoverOrd) is = absurd cc
-of_takeover body is = refl
-
-all_of_coordinator : (sends : List Outgoing) → Each (IsOf is_of_coordinator) sends → AreNoOrders sends
-all_of_coordinator sends all =
-    each_map (IsOf is_of_coordinator) IsNoOrder sends (λ sent is. of_coordinator sent.body is) all
-
-coordinator_orders : (s : CoordinatorState) (x : Signal) → AreNoOrders (coordinator_row s x).effects.sends
-coordinator_orders s x =
-    ⊎_elim (λ kinds. all_of_coordinator (coordinator_row s x).effects.sends kinds)
-    (λ confirms. subst AreNoOrders (sym confirms.1) (refl, tt)) (coordinator_kinds s x)
-
-takeover_orders : (s : TakeoverState) (x : Signal) → AreNoOrders (takeover_row s x).effects.sends
-takeover_orders s x =
-    each_map (IsOf is_of_takeover) IsNoOrder (takeover_row s x).effects.sends
-    (λ sent is. of_takeover sent.body is) (takeover_kinds s x)
-
-pub tc_orders_none : (p : TcPart) (x : Signal) (b : BlockId) → AreNoOrders (tc_row p b x).effects.sends
+-- a host that coordinates
+pub tc_orders_none : (p : TcPart) (x : Signal) (b : BlockId) → AreQuiet (tc_row p b x).effects.sends
 unfolding tc_row
-tc_orders_none p x block.Tc = coordinator_orders p.coordinator x
-tc_orders_none p x block.Takeover = takeover_orders p.takeover x
-tc_orders_none p x block.Dih = epochs_order_none p.dih x
+tc_orders_none p x block.Tc = none_quiet (coordinator_row p.coordinator x).effects.sends (coordinator_quiet p.coordinator x)
+tc_orders_none p x block.Takeover = takeover_quiet p.takeover x
+tc_orders_none p x block.Dih = none_quiet (dih_row p.dih x).effects.sends (epochs_order_none p.dih x)
 tc_orders_none p x _ = tt
 
-pub tc_enters_order_none : (p : TcPart) (now : View) → AreNoOrders (tc_entered p now).effects.sends
+pub tc_enters_order_none : (p : TcPart) (now : View) → AreQuiet (tc_entered p now).effects.sends
 tc_enters_order_none p now =
-    each_append IsNoOrder (coordinator.install_row p.coordinator now).effects.sends
+    none_quiet (tc_entered p now).effects.sends
+    (each_append IsNoOrder (coordinator.install_row p.coordinator now).effects.sends
     (dih.install_row p.dih now.number).effects.sends
-    (all_of_coordinator _ (coordinator_installs_kinds p.coordinator now)) (epochs_install_order_none p.dih now.number)
-
--- the client's side
-plain_one : (body : Body) → is_plain body ≡ true → is_order body ≡ false
-plain_one (Takeover signal) plain = absurd cc
-plain_one body plain = refl
-
-plain_none : (sends : List Outgoing) → ArePlain sends → AreNoOrders sends
-plain_none sends all = each_map IsPlain IsNoOrder sends (λ sent plain. plain_one sent.body plain) all
-
-client_orders : (s : ClientState) (x : Signal) → AreNoOrders (client_row s x).effects.sends
-client_orders s x =
-    client_turns s x (λ opened sends marks. AreNoOrders sends) (record {
-      keeps = λ sends plain. plain_none sends plain;
-      opens = λ name node op sends plain. plain_none sends plain;
-      begins = λ p at f u name tx sends is own plain. plain_none sends plain;
-      changes = λ p at f u sends own same plain. plain_none sends plain;
-      wishes = λ p at f u tx own same before behind. (refl, tt);
-      drops = λ p at f sends plain. plain_none sends plain;
-      commits = λ p at f tx epoch sends own is plain. plain_none sends plain;
-      commits_late = λ p at f tx epoch sends own is plain. plain_none sends plain;
-      aborts = λ p at f tx cause sends own is plain. plain_none sends plain;
-      fails = λ p at f tx number sends own plain. plain_none sends plain;
-      goes_down = λ p at f tx sends own wishes plain. plain_none sends plain;
-      loses = λ p at f tx sends own plain. plain_none sends plain;
-    })
+    (coordinator_installs_quiet p.coordinator now) (epochs_install_order_none p.dih now.number))
 
 arbiter_orders : (s : ArbiterState) (x : Signal) → AreNoOrders (arbiter_row s x).effects.sends
 unfolding arbit_row
@@ -221,6 +162,6 @@ arbiter_orders s x = by x.body
 
 pub shell_orders_none : (p : ShellPart) (x : Signal) (b : BlockId) → AreNoOrders (shell_row p b x).effects.sends
 unfolding shell_row
-shell_orders_none p x block.Api = client_orders p.client x
+shell_orders_none p x block.Api = client_quiet p.client x
 shell_orders_none p x block.Arbiter = arbiter_orders p.arbiter x
 shell_orders_none p x _ = tt

@@ -31,6 +31,10 @@ use Rattle.qmgr_block.specs.State.{QmgrState}
 use Rattle.node_views.specs.declared.main_part.MainPart.{MainPart}
 use Rattle.node_views.specs.Parts.{main_entered, main_row, main_settled, may_settle, settled_if}
 use Rattle.outcome_laws.specs.Counts.{one_if}
+use Rattle.view_laws.proofs.EventLemmas.{steps}
+use Rattle.view_laws.proofs.StepLemmas.{row_installs}
+use Rattle.frag_map.specs.Layout.{Layout}
+use Rattle.sig_core.specs.Step.{Step}
 use Rattle.commit_laws.proofs.OrderCounts.{count_orders, portion_counts, quiet_none}
 use Rattle.commit_laws.proofs.OrderMaster.{master_orders_none}
 use Rattle.commit_laws.proofs.OrderMembership.{is_going_on, membership_orders_none}
@@ -203,3 +207,46 @@ module _ (p : MainPart) (x : Signal) where
       by me true c is = absurd (true≢false is)
       by me false true is = refl
       by me false false is = refl
+
+-- a membership that installs a view is of the member that it was, in that view
+pub installing_is : (k : Known) (view : View) → ((installing k view).me ≡ k.me) × ((installing k view).layout.view ≡ view)
+unfolding installed_row
+installing_is k view = ((row_installs k view).me, ap (λ (y : Layout). y.view) (row_installs k view).layout)
+
+-- one that isn't the oldest of its view
+module _ (p : MainPart) (x : Signal) (last : ℕ) (younger : is_oldest p.qmgr.known ≡ false) where
+  abbrev None : Step QmgrState → Type 0
+  None step = count_orders last step.effects.sends ≡ 0
+
+  goes_none : (at : ℕ) (b c d : Bool) → c ≡ false
+      → count_orders last (order_if p.qmgr.known at ((b && c) && d)).effects.sends ≡ 0
+  goes_none at true true d is = absurd (true≢false is)
+  goes_none at true false d is = refl
+  goes_none at false c d is = refl
+
+  membership_none : None (qmgr_row p.qmgr x)
+  unfolding order_row
+  membership_none = by x.body refl
+    where
+      none : (body : Body) → x.body ≡ body → is_going_on body ≡ false → None (qmgr_row p.qmgr x)
+      none body is off =
+          quiet_none last (qmgr_row p.qmgr x).effects.sends (membership_orders_none p.qmgr x (ap is_going_on is ∙ off)).0
+
+      by : (body : Body) → x.body ≡ body → None (qmgr_row p.qmgr x)
+      by (Host (Continue Members at)) is =
+          subst (λ body. None (qmgr_table p.qmgr x.from.0 x.member x.view.number body)) (sym is)
+          (goes_none at (is_of_view p.qmgr.known x.view.number) (is_oldest p.qmgr.known) (nat_lt at ORDERS) younger)
+      by body is = none body is refl
+
+  -- sends none
+  pub younger_none : (b : BlockId) → count_orders last (main_row p b x).effects.sends ≡ 0
+  unfolding main_row
+  younger_none block.Qmgr = membership_none
+  younger_none block.GcpMaster = quiet_none last (master_row p.master x).effects.sends (master_orders_none p.master x).0
+  younger_none _ = refl
+
+-- a membership stays of its member
+pub main_me : (p : MainPart) (x : Signal) (b : BlockId) → (main_row p b x).state.qmgr.known.me ≡ p.qmgr.known.me
+unfolding main_row
+main_me p x block.Qmgr = (steps p.qmgr x).me
+main_me p x _ = refl

@@ -26,7 +26,7 @@ use Rattle.lqh_views.specs.Replica.{is_stale, passed, replica_by, replica_row, s
 use Rattle.lqh_views.specs.Report.{go_on_by, is_orphaned_marker, is_orphaned_record, last_before, marker_by, record_by, reporting, told_record_if}
 use Rattle.lqh_views.specs.State.{ReplicaState}
 use Rattle.lqh_views.proofs.AddressLemmas.{same-body}
-use Rattle.commit_laws.proofs.OrderWords.{AreNoOrders, IsNoOrder, is_order}
+use Rattle.commit_laws.proofs.OrderWords.{AreNoOrders, IsNoOrder, is_quiet}
 
 abbrev SendsFit : {S : Type 0} → Step S → Type 0
 SendsFit step = AreNoOrders step.effects.sends
@@ -63,9 +63,9 @@ addressed_order : (view : View) (sends : List Outgoing) → AreNoOrders sends
     → AreNoOrders (map (addressed view) sends)
 addressed_order view [] all = tt
 addressed_order view (send ∷ sends) all =
-    (subst (λ body. is_order body ≡ false) (sym (same-body view send)) all.0, addressed_order view sends all.1)
+    (subst (λ body. is_quiet body ≡ true) (sym (same-body view send)) all.0, addressed_order view sends all.1)
 
-record_orders : (to : ℕ) (r : PendingRecord) (b : Bool) → is_order (told_record_if to r b).body ≡ false
+record_orders : (to : ℕ) (r : PendingRecord) (b : Bool) → is_quiet (told_record_if to r b).body ≡ true
 record_orders to r true = refl
 record_orders to r false = refl
 

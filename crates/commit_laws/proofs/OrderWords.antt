@@ -1,8 +1,9 @@
 -- Orders to takeovers, and the signals by which a membership goes on with its orders.
-use Rattle.std.proofs.Common.{◌≡◌, ◌+◌, ℕ, Bool, true, false, List, drop, length, nat_lt, take}
+use Rattle.std.proofs.Common.{◌≡◌, ◌+◌, ℕ, Bool, true, false, List, drop, length, nat_lt, refl, sym, take}
 use Rattle.run_theory.specs.Lists.{Each}
 use Rattle.run_theory.proofs.EachSent.{each_drop, each_take}
-use Rattle.run_theory.proofs.Pasts.{each_append}
+use Rattle.run_theory.proofs.Pasts.{each_append, each_map}
+use Rattle.std.proofs.lemmas.Bool.{true≢false}
 use Rattle.sig_core.specs.declared.outs.Outgoing.{Outgoing}
 use Rattle.sig_core.specs.declared.place.BlockId.{BlockId}
 use Rattle.sig_core.specs.declared.place.BlockId.TheVariants as block
@@ -53,13 +54,25 @@ portion_quiet by work sends at goes_on all =
     rest true = (goes_on (at + PORTION), tt)
     rest false = tt
 
--- no order to a takeover
-abbrev pub is_order : Body → Bool
-is_order (Takeover TakeoverOrd) = true
-is_order body = false
+abbrev pub SendsQuiet : {S : Type 0} → Step S → Type 0
+SendsQuiet step = AreQuiet step.effects.sends
+
+-- what says so whichever block it is for
+abbrev pub is_quiet : Body → Bool
+is_quiet (Takeover TakeoverOrd) = false
+is_quiet (Host (Continue Members at)) = false
+is_quiet body = true
 
 abbrev pub IsNoOrder : Outgoing → Type 0
-IsNoOrder sent = is_order sent.body ≡ false
+IsNoOrder sent = is_quiet sent.body ≡ true
 
 abbrev pub AreNoOrders : List Outgoing → Type 0
-AreNoOrders sends = Each (λ (sent : Outgoing). is_order sent.body ≡ false) sends
+AreNoOrders sends = Each (λ (sent : Outgoing). is_quiet sent.body ≡ true) sends
+
+quiet_one : (b : BlockId) (body : Body) → is_quiet body ≡ true → is_ordering b body ≡ false
+quiet_one b (Takeover TakeoverOrd) is = absurd (true≢false (sym is))
+quiet_one b (Host (Continue Members at)) is = absurd (true≢false (sym is))
+quiet_one b body is = refl
+
+pub none_quiet : (sends : List Outgoing) → AreNoOrders sends → AreQuiet sends
+none_quiet sends all = each_map IsNoOrder IsQuiet sends (λ sent is. quiet_one sent.to.block sent.body is) all

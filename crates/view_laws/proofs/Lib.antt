@@ -93,6 +93,7 @@ pub mod Shrink
 mod StandingHome
 pub mod StandingMembers
 mod StandingNumbers
+pub mod StandingOldest
 mod StandingSettled
 pub mod StepLemmas
 mod VotesEpochs
