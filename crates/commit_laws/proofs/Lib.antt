@@ -215,3 +215,4 @@ pub mod WholeAll
 pub mod WholeHosts
 pub mod WholeTakeover
 pub mod WholeTurns
+pub mod TogetherOnce

@@ -12,6 +12,7 @@ use Rattle.frag_map.specs.Shape.{IsShape}
 use Rattle.run_theory.proofs.Pasts.{past_self}
 use Rattle.world_views.specs.Machine.{comes_rightly}
 use Rattle.world_views.specs.Sending.{is_asked}
+use Rattle.view_laws.proofs.StandingOldest.{ViewsComeRightly}
 use Rattle.view_laws.proofs.FollowSends.{own_view}
 use Rattle.sig_core.specs.declared.member.Member.{Member}
 use Rattle.sig_core.specs.declared.signal.Signal.{Signal}
@@ -31,17 +32,6 @@ use Rattle.view_laws.proofs.RunViews.{of_greater, within_less}
 use Rattle.moment_laws.specs.Moments.{logs_of}
 use Rattle.request_laws.proofs.RouteHeaders.{event_past}
 use Rattle.commit_laws.proofs.OrderOnce.{OldestGoFirst}
-
--- Behind a step a host stands in the view in which it stood, or in that of the signal's header, or it runs the membership
--- of the oldest member of its view.
-abbrev pub ViewsComeRightly : Type 0
-ViewsComeRightly =
-    (start : Start) (logs : ℕ → List HostStep) → AreOfCluster start logs → (h : ℕ) → h < hosts start
-    → (log : List HostStep) (e : HostStep) → IsPast (e ∷ log) (logs h)
-    → (view_after start h (e ∷ log) ≡ view_after start h log)
-    ⊎ ((view_after start h (e ∷ log) ≡ e.step.taken.view)
-    ⊎ ((me : Member) → IsIn me (made start) → is_oldest_of me (view_after start h (e ∷ log)).full ≡ true
-    → main_of start me ≡ h))
 
 module _ (come_rightly : ViewsComeRightly) (start : Start) (is_shape : IsShape start.shape) where
   abbrev reach : Member → (ℕ → List HostStep) → ℕ
