@@ -6,6 +6,7 @@ ghost use Rattle.world_views.specs.Machine.{own_stop};
 ghost use Rattle.world_views.specs.World.{body_at};
 
 use crate::closing::{close_all, first_signal, last_view, stop_of};
+use crate::failing::{put_back, view_to_keep};
 use crate::fresh::fresh_bodies;
 use crate::hosts::Made;
 use crate::logs::Logs;
@@ -221,7 +222,7 @@ impl World {
     {
         let at = host as usize;
         let before = self.stamps[at].max(signal.get().stamp);
-        let view = self.bodies[at].standing.view.share()?;
+        let view = view_to_keep(&self.bodies[at].standing.view, &signal.get().view)?;
         if before >= STAMPS_END - 1 {
             return self.fail(alloc, host, StopCause::Clock);
         }
@@ -229,7 +230,7 @@ impl World {
         match self.bodies[at].step(alloc, signal.get(), &mut self.outs) {
             Ok(()) => self.enter(alloc, host, before + 1, signal, 0),
             Err(_) => {
-                self.bodies[at].standing.view = view;
+                put_back(&mut self.bodies[at], view);
                 self.fail(alloc, host, StopCause::Memory)
             }
         }
