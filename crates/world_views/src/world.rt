@@ -51,7 +51,7 @@ impl World {
     ghost use Rattle.world_core.specs.Start.{Start};
     ghost use Rattle.world_core.specs.World.{logs_at, next_stamp};
     ghost use Rattle.world_views.specs.Driven.{HasAsked, HaveGrown, IsDriven, IsSound, IsStepped, IsWorld};
-    ghost use Rattle.world_views.specs.Machine.{own_signal, sender};
+    ghost use Rattle.world_views.specs.Machine.{own_signal};
     ghost use Rattle.world_views.specs.Schedule.{HasTaken, is_discarded};
     ghost use Rattle.world_views.specs.Unscheduled.{AreUnscheduled};
     ghost use Rattle.world_views.specs.World.{HasHandled, IsIdle, IsThere, closing, cutting, entered, has_stopped_in, is_down, is_left_open, new_world, sending, stopped};
@@ -303,19 +303,8 @@ impl World {
         requires { IsThere (whole_of self.now) host }
         ensures { IfOk result (λ signal. signal ≡ own_signal self.now.made host (slice_index_or self.now.stamps.items host 0) view body) }
     {
-        let by = self.sender(host, self.stamps[host as usize], view);
+        let by = Sender::of(&self.made, host, self.stamps[host as usize], view);
         first_signal(alloc, &self.made, &by, host, body)
-    }
-
-    fn sender(&self, host: u32, stamp: u64, view: Held<View>) -> Sender
-        ensures { result ≡ sender self.now.made host stamp view }
-    {
-        Sender {
-            host,
-            member: self.made.member_at(host),
-            stamp,
-            view,
-        }
     }
 
     // The step of a host is made: what it sends goes on its way, its replies are told, and it stands in
@@ -358,14 +347,13 @@ impl World {
         ensures err { OnErr result (self.new.logs ≡ self.old.logs) }
     {
         let at = host as usize;
-        let view = self.bodies[at].standing.view.share()?;
-        let by = self.sender(host, stamp, view);
         dispatch(
             alloc,
             &mut self.network,
             &self.made,
             &self.bodies[at],
-            &by,
+            host,
+            stamp,
             &mut self.outs,
         )
     }
@@ -407,7 +395,7 @@ impl World {
         self.network.lose(host, lost);
         let at = host as usize;
         let view = last_view(&self.bodies[at].standing.view, &taken.get().view)?;
-        let by = self.sender(host, stamp, view);
+        let by = Sender::of(&self.made, host, stamp, view);
         close_all(
             alloc,
             &mut self.network,
