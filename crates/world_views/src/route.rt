@@ -35,7 +35,8 @@ pub fn dispatch(
     Ok(())
 }
 
-// Puts one of them on its way.
+// Puts one of them on its way. Not inlined, so that the step keeps its own values at hand.
+#[inline(never)]
 fn pass_on(
     alloc: Global,
     network: &mut Network,
@@ -50,11 +51,17 @@ fn pass_on(
     let view = &host.standing.view;
     let to = made.reached(from, view.get(), &sent.to);
     if is_kept_back(host, from, to, &sent.body) {
+        refuse(sent);
         return Ok(());
     }
     let by = Sender::of(made, from, stamp, view.share()?);
     network.put(alloc, by, to, sent)
 }
+
+// Drops what isn't sent, which is seldom.
+#[cold]
+#[inline(never)]
+fn refuse(_sent: Outgoing) {}
 
 // Whether a host doesn't send this to another.
 fn is_kept_back(host: &Host, from: u32, to: u32, body: &Body) -> bool
