@@ -153,6 +153,7 @@ impl Host {
     }
 
     // A view of a greater number is installed.
+    #[inline(always)]
     #[tactic(auto, using(crate::proofs::RoomLemmas::all_room, crate::proofs::RoomLemmas::installed_room), unfolding(crate::specs::Row::headed_row))]
     fn head(&mut self, alloc: Global, signal: &Signal, out: &mut Outs) -> Result<(), NoMemory>
         requires { out.old ≡ nothing }

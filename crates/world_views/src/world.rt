@@ -214,6 +214,7 @@ impl World {
     }
 
     // Has a host handle a signal, as its next step. One that has no memory for it, or no stamp, stops.
+    #[inline(always)]
     fn handle(&mut self, alloc: Global, host: u32, signal: Boxed<Signal>) -> Result<(), NoMemory>
         requires there { IsThere (whole_of self.old) host }
         requires given { own_stop host signal ≡ None }
