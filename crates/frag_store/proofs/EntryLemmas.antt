@@ -1,5 +1,5 @@
 -- The entry of a map where a key that passes a test is found first.
-use Rattle.std.proofs.Common.{◌≡◌, ℕ, zero, suc, Bool, true, false, List, [], ◌∷◌, map, arith, refl, ap, sym, ◌∙◌}
+use Rattle.std.proofs.Common.{◌≡◌, ℕ, zero, suc, Bool, true, false, List, [], ◌∷◌, arith, refl, ap, sym, ◌∙◌}
 use Rattle.std.specs.Prelude.{Option, None, Some, position, slice_get}
 use Rattle.std.specs.Map.{keys_of, lookup, values_of}
 use Rattle.sig_core.proofs.Firsts.{place_by, position-cons}

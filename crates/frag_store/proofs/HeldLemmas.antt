@@ -54,20 +54,6 @@ none_on p q e = ap (λ ps. held_at p.held (place_of ps q)) e
 
 pub ruleset beginnings = (empty_held, none_on)
 
--- the number for a place is made
-pub wider_are_held : (slots : List (Option Slot)) (held more : List ℕ) → AreHeld slots held
-    → length held ≤ length more
-    → ((i : ℕ) → get_or more i 0 ≡ get_or held i 0) → AreHeld slots more
-wider_are_held slots held more are longer alike = record {
-  long = omega (arith, are.long, longer);
-  free = λ at e. alike at ∙ are.free at e;
-}
-
-pub wider_records : (held more : List ℕ) (place : Option ℕ) → ((i : ℕ) → get_or more i 0 ≡ get_or held i 0)
-    → held_at more place ≡ held_at held place
-wider_records held more None alike = refl
-wider_records held more (Some at) alike = alike at
-
 pub first_within : (slots : List (Option Slot)) (held : List ℕ) → AreHeld slots held → first_free slots ≤ length held
 first_within slots held are = omega (arith, first-most slots, are.long)
 

@@ -80,16 +80,6 @@ more_stored files parity from at old new len count here within is each behind be
           (added_stored files parity at more old new len count within is (omega (arith, size, later, below))))
     ]
 
--- all bytes were read
-pub whole_stored : (files : ℕ → List ℕ) (parity from at to : ℕ) (bytes : List ℕ) → from + length bytes ≡ at → at ≤ to
-    → to ≤ at → EachIsStored files parity from bytes → AreStored files parity from (to - from) bytes
-whole_stored files parity from at to bytes here within done each =
-    record {
-      each = each;
-      most = omega (arith, here, within);
-      all = λ short. absurd (omega (arith, here, done, short));
-    }
-
 -- the file of a piece ended within it
 pub short_stored : (files : ℕ → List ℕ) (parity from at to : ℕ) (old new : List ℕ) (len count : ℕ)
     → from + length old ≡ at → at + len ≤ to → place_of at + len ≤ LOG_FILE_BYTES

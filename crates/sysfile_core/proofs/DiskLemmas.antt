@@ -48,13 +48,6 @@ runs_then (ask ∷ asks) more calls mid told ok (inl (fails, not_so)) behind = a
 runs_then (ask ∷ asks) more calls mid told ok (inr (may, runs)) behind =
     inr (may, runs_then asks more (ask ∷ calls) mid told ok runs behind)
 
--- calls of which one failed
-pub runs_stop : (asks more calls : List Call) (told : Option (List Call)) → Runs asks calls told false
-    → Runs (asks ++ more) calls told false
-runs_stop [] more calls told runs = absurd (true≢false (sym runs.1))
-runs_stop (ask ∷ asks) more calls told (inl (fails, not_so)) = inl (fails, refl)
-runs_stop (ask ∷ asks) more calls told (inr (may, runs)) = inr (may, runs_stop asks more (ask ∷ calls) told runs)
-
 -- a gate that was closed, what follows it and the gate that was opened are the write of a slot
 pub slot_runs : (bytes body rest : List ℕ) (file place at : ℕ) (calls : List Call)
     (mid more told : Option (List Call)) (ok : Bool)

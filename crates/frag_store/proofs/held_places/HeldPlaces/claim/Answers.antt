@@ -1,4 +1,4 @@
-use Rattle.std.proofs.Common.{◌≡◌, ◌∙◌, ◌<◌, ap, length, sym, subst}
+use Rattle.std.proofs.Common.{◌∙◌, ◌<◌, ap, length, sym, subst}
 use Rattle.std.specs.Prelude.{List, Option}
 use Rattle.sig_core.specs.declared.rows.Slot.{Slot}
 use Rattle.sig_core.specs.Rows.{place_of}

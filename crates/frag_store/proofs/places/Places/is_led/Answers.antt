@@ -1,6 +1,4 @@
-use Rattle.std.proofs.Common.{◌≡◌, ◌∙◌, ap, false, sym, subst, true}
-use Rattle.std.specs.Prelude.{None, Some}
-use Rattle.std.specs.FinMap as map
+use Rattle.std.proofs.Common.{◌∙◌, ap, sym, subst}
 use Rattle.sig_core.specs.Rows.{place_of}
 use Rattle.frag_store.specs.Places.{IsAhead, PlacesState}
 use Rattle.frag_store.proofs.AheadLemmas.{nowhere_new, nowhere_told, right_new, right_sound, right_told}

@@ -1,4 +1,4 @@
-use Rattle.std.proofs.Common.{◌≡◌, [], None, ap, sym, subst}
+use Rattle.std.proofs.Common.{[], None, ap, sym, subst}
 use Rattle.std.specs.Prelude.{List, Option}
 use Rattle.linear_hash.specs.Places as linear_hash
 use Rattle.sig_core.specs.declared.rows.Slot.{Slot}
