@@ -113,7 +113,7 @@ OneAtATime =
     ≤ all_taken start (is_token_in tx (number_now start (logs_of start es))) (logs_of start es)
     + budget start (logs_of start es) tx (number_now start (logs_of start es))
 
--- no more is taken than was sent, of signals that aren't closings
+-- no more of these signals is taken than was sent, whichever of them are counted
 abbrev pub TakesAreFew : Type 0
 TakesAreFew =
     (start : Start) (all : ℕ → List HostStep) (es : List HostStep) → IsMoment start all es → (p : Signal → Bool)
