@@ -112,6 +112,13 @@ commits_untold tx sends all =
     by (Client (TcCommitConf other epoch)) is = absurd (true≢false is)
     by body is = refl
 
+undecided_not : (phase : Phase) → is_undecided phase ≡ true → is_decided phase ≡ false
+undecided_not Open is = refl
+undecided_not Verifying is = refl
+undecided_not (Committing epoch awaited) is = absurd (true≢false (sym is))
+undecided_not (Completing epoch awaited) is = absurd (true≢false (sym is))
+undecided_not (Aborting why verifying awaited) is = refl
+
 decided_as : (phase : Phase) (epoch : ℕ) → IsDecidedAs phase epoch → is_decided phase ≡ true
 decided_as Open epoch is = absurd is
 decided_as Verifying epoch is = absurd is
@@ -326,7 +333,7 @@ module _ (start : Start) (member : Member) (there : IsIn member (made start)) (t
             back (inr is) = gone_told start member tx is_aborting (tells_abort tx) log e (abort_told is)
 
         changed : (body : Body) → e.step.taken.body ≡ body → Changes (c log).tc.node tx t body turn → Remains
-        changed body is (turns.opens _ on now answered still) = on_by on Open now refl still.commits
+        changed body is (turns.opens at on now answered still) = on_by on Open now refl still.commits
         changed body is (turns.asks at none about turn_is) =
             on_by (ap (λ (u : Turn). u.over) turn_is) Verifying (ap (λ (u : Turn). u.step.state.phase) turn_is) refl
             (subst (λ (u : Turn). AreSpared turns.is_commit_told u.step.effects.sends) (sym turn_is) (refl, tt))

@@ -9,14 +9,14 @@ use Rattle.sig_core.specs.declared.signal.Body.{Body}
 use Rattle.sig_core.specs.declared.signal.Body.TheVariants.{Chain, Client, Epoch, Host, Takeover}
 use Rattle.sig_core.specs.declared.signal.chain.ChainSignal.TheVariants.{Commit}
 use Rattle.sig_core.specs.declared.signal.client.ClientSignal.TheVariants.{TcBeginConf, TcCommitConf, TcCommitReq, TcKeyConf, TcKeyFailConf, TcKeyReq, TcRollbackRep}
-use Rattle.sig_core.specs.declared.signal.epoch.EpochSignal.TheVariants.{DiVerifyConf, DiVerifyReq}
+use Rattle.sig_core.specs.declared.signal.epoch.EpochSignal.TheVariants.{DiVerifyConf, DiVerifyEnd, DiVerifyReq}
 use Rattle.sig_core.specs.declared.signal.host.HostSignal.TheVariants.{Continue}
 use Rattle.sig_core.specs.declared.signal.host.Work.TheVariants.{Transaction}
-use Rattle.sig_core.specs.declared.signal.takeover.TakeoverSignal.TheVariants.{LqhTransConf}
+use Rattle.sig_core.specs.declared.signal.takeover.TakeoverSignal.TheVariants.{LqhTransConf, LqhTransEnd, LqhTransReq}
 use Rattle.outcome_laws.specs.Tells.{Tells}
 
 -- it tells that a transaction has begun, what it is to do or was answered, in which epoch one was decided, or why one
--- is aborted; or it is one of chains, or goes on with what is sent of a transaction
+-- is aborted; or it is one of chains, goes on with what is sent of a transaction, or asks for a report or ends one
 abbrev pub is_telling : Body → Bool
 is_telling (Client (TcBeginConf name tx)) = true
 is_telling (Client (TcKeyReq tx op)) = true
@@ -24,9 +24,12 @@ is_telling (Client (TcKeyConf tx answer)) = true
 is_telling (Client (TcCommitReq tx)) = true
 is_telling (Epoch (DiVerifyReq tx ops)) = true
 is_telling (Epoch (DiVerifyConf tx epoch)) = true
+is_telling (Epoch (DiVerifyEnd tx)) = true
 is_telling (Client (TcCommitConf tx epoch)) = true
 is_telling (Client (TcKeyFailConf tx epoch)) = true
 is_telling (Takeover (LqhTransConf tx key told epoch)) = true
+is_telling (Takeover LqhTransReq) = true
+is_telling (Takeover LqhTransEnd) = true
 is_telling (Client (TcRollbackRep tx cause)) = true
 is_telling (Chain signal) = true
 is_telling (Host (Continue (Transaction tx) at)) = true

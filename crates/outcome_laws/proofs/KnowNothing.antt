@@ -9,11 +9,11 @@ use Rattle.sig_core.specs.declared.portion.TheConstants.{PORTION}
 use Rattle.sig_core.specs.declared.signal.Body.{Body}
 use Rattle.sig_core.specs.declared.signal.Body.TheVariants.{Chain, Client, Epoch, Host, Takeover}
 use Rattle.sig_core.specs.declared.signal.client.ClientSignal.TheVariants.{ViewRep}
-use Rattle.sig_core.specs.declared.signal.epoch.EpochSignal.TheVariants.{DiVerifyConf, DiVerifyReq}
+use Rattle.sig_core.specs.declared.signal.epoch.EpochSignal.TheVariants.{DiVerifyConf, DiVerifyEnd, DiVerifyReq}
 use Rattle.sig_core.specs.declared.signal.host.HostSignal.TheVariants.{Continue}
 use Rattle.sig_core.specs.declared.signal.host.Work.{Work}
 use Rattle.sig_core.specs.declared.signal.host.Work.TheVariants.{Transaction}
-use Rattle.sig_core.specs.declared.signal.takeover.TakeoverSignal.TheVariants.{LqhTransConf}
+use Rattle.sig_core.specs.declared.signal.takeover.TakeoverSignal.TheVariants.{LqhTransConf, LqhTransEnd, LqhTransReq}
 use Rattle.sig_core.specs.Portion.{portion_effects, rest_if}
 use Rattle.sig_core.specs.Step.{Step}
 use Rattle.outcome_laws.proofs.DihSilent.{AreSilent, IsSilent, is_telling}
@@ -21,14 +21,17 @@ use Rattle.outcome_laws.proofs.OnceNone.{AreUncounted, IsUncounted, is_counted}
 use Rattle.outcome_laws.proofs.RowsNone.{MarksNone}
 
 -- a signal of clients and coordinators, but for the news of a view, one of chains, one that tells of a transaction's
--- epoch, or one that goes on with what is sent of a transaction
+-- epoch, one that goes on with what is sent of a transaction, or one that asks for a report or ends it
 abbrev pub is_tale : Body → Bool
 is_tale (Client ViewRep) = false
 is_tale (Client signal) = true
 is_tale (Chain signal) = true
 is_tale (Epoch (DiVerifyReq tx ops)) = true
 is_tale (Epoch (DiVerifyConf tx epoch)) = true
+is_tale (Epoch (DiVerifyEnd tx)) = true
 is_tale (Takeover (LqhTransConf tx key told epoch)) = true
+is_tale (Takeover LqhTransReq) = true
+is_tale (Takeover LqhTransEnd) = true
 is_tale (Host (Continue (Transaction tx) at)) = true
 is_tale body = false
 
@@ -49,7 +52,10 @@ body_silent (Client signal) none = absurd cc
 body_silent (Chain signal) none = absurd cc
 body_silent (Epoch (DiVerifyReq tx ops)) none = absurd cc
 body_silent (Epoch (DiVerifyConf tx epoch)) none = absurd cc
+body_silent (Epoch (DiVerifyEnd tx)) none = absurd cc
 body_silent (Takeover (LqhTransConf tx key told epoch)) none = absurd cc
+body_silent (Takeover LqhTransReq) none = absurd cc
+body_silent (Takeover LqhTransEnd) none = absurd cc
 body_silent (Host (Continue (Transaction tx) at)) none = absurd cc
 body_silent body none = refl
 
@@ -58,6 +64,7 @@ body_uncounted (Client ViewRep) none = refl
 body_uncounted (Client signal) none = absurd cc
 body_uncounted (Chain signal) none = absurd cc
 body_uncounted (Epoch (DiVerifyReq tx ops)) none = absurd cc
+body_uncounted (Epoch (DiVerifyEnd tx)) none = absurd cc
 body_uncounted body none = refl
 
 pub untold_silent : (sends : List Outgoing) → AreUntold sends → AreSilent sends

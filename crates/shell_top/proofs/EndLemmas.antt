@@ -19,12 +19,11 @@ use Rattle.calm_laws.specs.Steps.{plain_replies}
 use Rattle.calm_laws.proofs.Quiet.{asked_plain, quiet_plain}
 use Rattle.calm_laws.proofs.Rest.{lives_begin_at_rest}
 use Rattle.calm_laws.proofs.Runs.{logs_plain}
-use Rattle.calm_serial.proofs.Serial.{cuts_serial}
 use Rattle.cause_laws.proofs.Causes.{replies_caused}
 use Rattle.command_laws.proofs.RepliesLive.{replies_live}
 use Rattle.command_laws.proofs.RequestsAnswered.{requests_answered}
 use Rattle.command_laws.specs.Between.{IsAskedAgain}
-use Rattle.report_laws.proofs.Reports.{reports_are_the_history}
+use Rattle.report_laws.proofs.Reports.{reports_are_marked}
 use Rattle.host_io.specs.Fault.{Rose}
 use Rattle.node_core.specs.declared.host.Host as plain_host
 use Rattle.node_core.specs.declared.host.Host.TheVariants as plain_part
@@ -52,7 +51,7 @@ use Rattle.shell_top.specs.Session.{AreLinesDone, IsSession, IsUnderWay}
 use Rattle.shell_top.specs.Text.{down_line, fault_line}
 use Rattle.shell_top.specs.Told.{text_of}
 use Rattle.shell_top.proofs.PrintedLemmas.{prints_both}
-use Rattle.shell_top.proofs.SafeLemmas.{cuts_are_safe}
+use Rattle.shell_top.proofs.SafeLemmas.{between_cuts, cuts_are_safe}
 use Rattle.world_core.specs.Hosts.{hosts}
 use Rattle.world_core.specs.Lives.{fresh_life}
 use Rattle.world_core.specs.Machine as plain
@@ -192,14 +191,13 @@ module _ (start : Start) (logs : ℕ → List HostStep) (life : IsCalmLife start
       → IsCalmServed start e logs
   calmly_served e asked quiet =
       record {
-        serial = λ inside cut closed. cuts_serial start inside logs life cut closed;
         replies = plainly_replied;
         answered = λ newer step before request at is again.
             requests_answered start (plain_logs logs) life.shape are_plain.right are_plain.within
             (asked_plain start logs life asked) newer step before request at is
             (ends_or_goes_on e (plain_quiet.IsQuiet (plain.machine start) (hosts start) (plain_logs logs))
             (IsAskedAgain start newer) (λ kept. quiet_plain start logs life (quiet kept)) again);
-        reported = reports_are_the_history start (plain_logs logs) life.shape are_plain.within are_plain.right;
+        reported = reports_are_marked start (plain_logs logs) life.shape are_plain.within are_plain.right;
         caused = λ inside cut closed. replies_caused start inside (plain_logs logs) life.shape
             (record { within = are_plain.within; right = are_plain.right; cut = cut; closed = closed });
         living = replies_live start (plain_logs logs) are_plain.within are_plain.right;
@@ -213,8 +211,8 @@ is_life shape sound e commands logs lived =
       begins = refl;
       lived = lived;
       run = merged_run (machine (fresh shape)) (is_stamped (fresh shape)) (hosts (fresh shape)) (logs_at logs) lived.within lived.right;
-      safe = λ inside cut closed.
-          cuts_are_safe (fresh shape) inside (logs_at logs) (omega arith) sound lived.within lived.right cut closed;
+      safe = cuts_are_safe (fresh shape) (logs_at logs) (omega arith) sound lived.within lived.right;
+      between = between_cuts (fresh shape) (logs_at logs) (omega arith) sound lived.within lived.right;
       grows = λ small large inside cut. histories_grow (fresh shape) small large inside;
       calm = λ calm.
           calmly_served (fresh shape) (logs_at logs)

@@ -13,7 +13,7 @@ use Rattle.shell_top.specs.Asked.{AreAsked, are_calm, AreAskedInFront, AreAskedI
 use Rattle.shell_top.specs.Calm.{IsCalmServed}
 use Rattle.shell_top.specs.declared.ended.Ending.{Ending}
 use Rattle.shell_top.specs.declared.ended.Ending.TheVariants.{NoMemory, Words, WriteFault}
-use Rattle.shell_top.specs.Safe.{IsSafe}
+use Rattle.shell_top.specs.Safe.{AreSafe, IsSafe}
 use Rattle.shell_top.specs.Stopped.{NoneWants}
 use Rattle.shell_top.specs.Told.{text_of}
 use Rattle.world_core.specs.History.{history}
@@ -51,16 +51,20 @@ pub record AreLived (start : Start) (ending : Ending) (commands : List Command) 
   pub stays_calm : are_calm commands ≡ true → NoneWants (logs_at logs) → AreCalm (logs_at logs)
 
 -- What a life of a cluster of this shape says: it begins without rows, in the first epoch; its logs, one for each host
--- and each with its host's number, are a run of the machine from there, in which hosts may stop and cut each other off;
--- the requests in them are those of the commands; every closed cut of them is safe, whatever failed, and the history of a
--- cut is that of each larger one with some entries left out; and where they are calm, so that nothing failed and no epoch
--- was closed, the cluster served as one does in which nothing can fail.
+-- and each with its host's number, are a run of the machine from there, in which hosts may stop and cut each other
+-- off; the requests in them are those of the commands; every closed cut of them is safe, whatever failed, and so are
+-- any two of them, one inside the other; the history of a cut is that of each larger one with some entries left out;
+-- and where they are calm, so that nothing failed and no epoch was closed, the cluster served as one does in which
+-- nothing can fail.
 pub record IsLife (shape : Shape) (ending : Ending) (commands : List Command) (life : Life) : Type 0 where
   pub begins : start_of shape life ≡ fresh shape
   pub lived : AreLived (start_of shape life) ending commands life.logs
   pub run : LogsRun (machine (start_of shape life)) (hosts (start_of shape life)) (logs_of life)
   pub safe : (inside : ℕ → List HostStep) → IsCut inside (logs_of life)
       → IsClosed (machine (start_of shape life)) inside → IsSafe (start_of shape life) inside
+  pub between : (small large : ℕ → List HostStep) → IsCut small large → IsCut large (logs_of life)
+      → IsClosed (machine (start_of shape life)) small → IsClosed (machine (start_of shape life)) large
+      → AreSafe (start_of shape life) small large
   pub grows : (small large : ℕ → List HostStep) → IsCut small large → IsCut large (logs_of life)
       → IsSublist (history (hosts (start_of shape life)) small) (history (hosts (start_of shape life)) large)
   pub calm : AreCalm (logs_of life) → IsCalmServed (start_of shape life) ending (logs_of life)

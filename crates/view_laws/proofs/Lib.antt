@@ -10,7 +10,7 @@ pub mod EraEntries
 mod EraMarks
 mod EraMaster
 pub mod EraOrder
-mod EraParts
+pub mod EraParts
 pub mod EraRises
 pub mod EraShapes
 pub mod EraSorted
@@ -20,7 +20,7 @@ mod EraWalk
 pub mod EventLemmas
 pub mod FenceAnswers
 mod FenceAsked
-mod FenceCounts
+pub mod FenceCounts
 pub mod FenceFrom
 pub mod FenceHosts
 mod FenceLines
@@ -28,11 +28,11 @@ pub mod FenceLinks
 mod FenceNodes
 mod FenceOrder
 pub mod FencePromised
-mod FenceRaised
-mod FenceRanks
+pub mod FenceRaised
+pub mod FenceRanks
 pub mod FenceRows
 mod FenceRuns
-mod FenceSeen
+pub mod FenceSeen
 mod FenceSent
 pub mod FenceTaken
 pub mod FenceThere
@@ -42,22 +42,22 @@ mod FenceWaits
 mod FencedLemmas
 mod Finding
 pub mod FollowHosts
-mod FollowKinds
-mod FollowMemberships
+pub mod FollowKinds
+pub mod FollowMemberships
 mod FollowRoutes
-mod FollowSeen
+pub mod FollowSeen
 pub mod FollowSends
-mod FollowSteps
-mod FollowTaken
+pub mod FollowSteps
+pub mod FollowTaken
 pub mod FollowViews
-mod FollowWalk
+pub mod FollowWalk
 pub mod Following
 mod GrantLemmas
 mod GrantRows
 mod GroupLemmas
 mod HeardAnswers
 mod HeardAsking
-mod HeardRows
+pub mod HeardRows
 mod HeardWaiting
 pub mod KindsApi
 pub mod KindsClient
@@ -80,7 +80,7 @@ pub mod RunKept
 pub mod RunMade
 mod RunMember
 pub mod RunOrderly
-mod RunSends
+pub mod RunSends
 pub mod RunShrink
 pub mod RunSound
 pub mod RunStep
@@ -93,7 +93,8 @@ pub mod Shrink
 mod StandingHome
 pub mod StandingMembers
 mod StandingNumbers
-mod StandingSettled
+pub mod StandingOldest
+pub mod StandingSettled
 pub mod StepLemmas
 mod VotesEpochs
 mod VotesKinds
