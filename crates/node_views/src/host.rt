@@ -116,12 +116,14 @@ impl Host {
     /// mark tells, sends nothing.
     ///
     /// # Errors
-    /// `NoMemory`, and then the host is of no more use, but still tells which hosts it has cut off.
+    /// `NoMemory`, and then the host is of no more use, but still tells which hosts it has cut off, and
+    /// its view, unless that of the signal has a greater number.
     #[tactic(auto, unfolding(crate::specs::Row::host_row))]
     pub fn step(&mut self, alloc: Global, signal: &Signal, out: &mut Outs) -> Result<(), NoMemory>
         requires { out.old ≡ nothing }
         ensures taken { OnOk result (IsTaken (host_row self.old signal.now) self.new nothing out.new) }
         ensures kept { OnErr result (self.new.standing.cut ≡ self.old.standing.cut) }
+        ensures seen { OnErr result (signal.now.view.number ≤ self.old.standing.view.number → self.new.standing.view ≡ self.old.standing.view) }
     {
         if is_well_formed(&self.standing.shape, signal) {
             self.count(alloc, signal, out)?;
@@ -135,6 +137,7 @@ impl Host {
         requires { out.old ≡ nothing }
         ensures taken { OnOk result (IsTaken (counted_row self.old signal.now self.old.standing.left) self.new nothing out.new) }
         ensures kept { OnErr result (self.new.standing.cut ≡ self.old.standing.cut) }
+        ensures seen { OnErr result (signal.now.view.number ≤ self.old.standing.view.number → self.new.standing.view ≡ self.old.standing.view) }
     {
         match self.standing.left {
             None => self.head(alloc, signal, out),
@@ -150,11 +153,13 @@ impl Host {
     }
 
     // A view of a greater number is installed.
+    #[inline(always)]
     #[tactic(auto, using(crate::proofs::RoomLemmas::all_room, crate::proofs::RoomLemmas::installed_room), unfolding(crate::specs::Row::headed_row))]
     fn head(&mut self, alloc: Global, signal: &Signal, out: &mut Outs) -> Result<(), NoMemory>
         requires { out.old ≡ nothing }
         ensures taken { OnOk result (IsTaken (headed_row self.old signal.now) self.new nothing out.new) }
         ensures kept { OnErr result (self.new.standing.cut ≡ self.old.standing.cut) }
+        ensures seen { OnErr result (signal.now.view.number ≤ self.old.standing.view.number → self.new.standing.view ≡ self.old.standing.view) }
     {
         let view = &signal.view;
         let number = view.get().number;
@@ -233,6 +238,7 @@ impl Host {
         requires { HasRoomFor self.old.parts out.old }
         ensures taken { OnOk result (IsTaken (passed_row self.old signal.now) self.new out.old out.new) }
         ensures kept { OnErr result (self.new.standing.cut ≡ self.old.standing.cut) }
+        ensures seen { OnErr result (self.new.standing.view ≡ self.old.standing.view) }
     {
         if self.is_barred(signal) {
             Ok(())
@@ -255,6 +261,7 @@ impl Host {
         requires { HasRoomFor self.old.parts out.old }
         ensures taken { OnOk result (IsTaken (host_table self.old signal.now signal.now.body) self.new out.old out.new) }
         ensures kept { OnErr result (self.new.standing.cut ≡ self.old.standing.cut) }
+        ensures seen { OnErr result (self.new.standing.view ≡ self.old.standing.view) }
     {
         match &signal.body {
             Body::Host(HostSignal::Kill { after }) => {
@@ -273,6 +280,7 @@ impl Host {
         requires { HasRoomFor self.old.parts out.old }
         ensures taken { OnOk result (IsTaken (closed_if self.old signal.now (same_member self.old.standing.member signal.now.member)) self.new out.old out.new) }
         ensures kept { OnErr result (self.new.standing.cut ≡ self.old.standing.cut) }
+        ensures seen { OnErr result (self.new.standing.view ≡ self.old.standing.view) }
     {
         if self.standing.member == signal.member {
             stop(StopCause::Sibling { host: signal.from }, out);
@@ -288,6 +296,7 @@ impl Host {
         requires { HasRoomFor self.old.parts out.old }
         ensures taken { OnOk result (IsTaken (blocks_row self.old signal.now) self.new out.old out.new) }
         ensures kept { OnErr result (self.new.standing.cut ≡ self.old.standing.cut) }
+        ensures seen { OnErr result (self.new.standing.view ≡ self.old.standing.view) }
     {
         if let Some(view) = self.parts.handle(alloc, signal, out)? {
             self.enter(view, out);
@@ -312,6 +321,7 @@ impl Host {
         requires { HasRoom out.old }
         ensures taken { OnOk result (IsTaken (cut_row self.old first) self.new out.old out.new) }
         ensures kept { OnErr result (self.new.standing.cut ≡ self.old.standing.cut) }
+        ensures seen { OnErr result (self.new.standing.view ≡ self.old.standing.view) }
     {
         if self.is_cut(first) || first.0 >= u32::MAX - 1 {
             return Ok(());

@@ -25,6 +25,7 @@ impl Parts {
     ///
     /// # Errors
     /// `NoMemory`.
+    #[inline(always)]
     #[tactic(auto, using(crate::proofs::RoomLemmas::shell_room, crate::proofs::RoomLemmas::some_room))]
     pub fn handle(
         &mut self,

@@ -77,6 +77,7 @@ impl Outs {
     }
 
     /// Empties it. Most often it is empty already.
+    #[inline(always)]
     pub fn clear(&mut self)
         ensures { self.new ≡ nothing }
     {

@@ -68,38 +68,45 @@ has_moved (Ok done) w u x s out stamp there taken plain is =
     (inl (is ∙ ap (λ (t : Step Host). entered (with_body w x.to s) 0 x t) (row_taken w x s out there taken plain)
     ∙ entered_over w 0 x s (step_by x.to (body_at w.bodies x.to) x.signal)))
 
--- a host with the view that it had before
-abbrev put_back : Host → View → Host
-put_back s view = record s { standing = record s.standing { view = view } }
+-- it stands in the view that it had before: either that was kept, or the step didn't install another
+pub stands_before : (kept : Option View) (before : View) (number : ℕ) (left again back : Host) → again ≡ left
+    → MatchOption kept (number ≤ before.number) (λ v. v ≡ before)
+    → (number ≤ before.number → left.standing.view ≡ before)
+    → MatchOption kept (back ≡ again) (λ v. back.standing.view ≡ v) → back.standing.view ≡ before
+stands_before None before number left again back same least seen is =
+    ap (λ (s : Host). s.standing.view) (is ∙ same) ∙ seen least
+stands_before (Some view) before number left again back same own seen is = is ∙ own
+
+-- what is read of a host that was put there
+pub read_back : (bodies : List Host) (h : ℕ) (left again : Host) → h < length bodies
+    → again ≡ get_or (slice_set bodies h left) h again → again ≡ left
+read_back bodies h left again there read =
+    body_read (slice_set bodies h left) h again (subst (λ n. h < n) (sym (length-set bodies h left)) there) read
+    ∙ get_or-set_same bodies h left nobody there
 
 -- it had no memory, and is this now, in that view
-pub has_no_memory : (result : Result (Unit {0}) NoMemory) (w u : Whole) (x : Addressed) (left again : Host) (view : View)
+pub has_no_memory : (result : Result (Unit {0}) NoMemory) (w u : Whole) (x : Addressed) (left back : Host)
     → x.to < length w.bodies → is_stamp (next_stamp w.stamps x.to x.signal.stamp) ≡ true
-    → again ≡ get_or (slice_set w.bodies x.to left) x.to again → view ≡ (body_at w.bodies x.to).standing.view
-    → left.standing.cut ≡ (body_at w.bodies x.to).standing.cut → OnOk result (1 ≤ x.to)
-    → OnOk result (u ≡ stopped (with_body (with_body w x.to left) x.to (put_back again view)) x.to Memory 0)
+    → back.standing.view ≡ (body_at w.bodies x.to).standing.view
+    → back.standing.cut ≡ (body_at w.bodies x.to).standing.cut → OnOk result (1 ≤ x.to)
+    → OnOk result (u ≡ stopped (with_body (with_body w x.to left) x.to back) x.to Memory 0)
     → OnOk result (HasHandled w x u)
-has_no_memory (Err fault) w u x left again view there stamp read seen cut some failed = tt
-has_no_memory (Ok done) w u x left again view there stamp read seen cut some failed =
+has_no_memory (Err fault) w u x left back there stamp seen cut some failed = tt
+has_no_memory (Ok done) w u x left back there stamp seen cut some failed =
     let h = x.to in
-    let s = put_back left view in
-    let in_both : h < length (slice_set w.bodies h left) = subst (λ n. h < n) (sym (length-set w.bodies h left)) there in
-    let same : again ≡ left =
-    body_read (slice_set w.bodies h left) h again in_both read ∙ get_or-set_same w.bodies h left nobody there in
-    let over : slice_set (slice_set w.bodies h left) h (put_back again view) ≡ slice_set w.bodies h s =
-    set-set w.bodies h left (put_back again view) ∙ ap (λ (b : Host). slice_set w.bodies h (put_back b view)) same in
-    let stands : (body_at (slice_set w.bodies h s) h).standing.view ≡ (body_at w.bodies h).standing.view =
-    ap (λ (b : Host). b.standing.view) (get_or-set_same w.bodies h s nobody there) ∙ seen in
+    let over : slice_set (slice_set w.bodies h left) h back ≡ slice_set w.bodies h back = set-set w.bodies h left back in
+    let stands : (body_at (slice_set w.bodies h back) h).standing.view ≡ (body_at w.bodies h).standing.view =
+    ap (λ (b : Host). b.standing.view) (get_or-set_same w.bodies h back nobody there) ∙ seen in
     subst (λ b. handled_by b w x u) (sym stamp)
     (inr (
       some,
       record {
-        left = s;
+        left = back;
         cut = cut;
         view = seen;
         is = failed
             ∙ ap (λ (bodies : List Host). stopped (record w { bodies = bodies }) h Memory 0) over
-            ∙ ap (λ v. halted (with_body w h s) h v Memory 0) stands;
+            ∙ ap (λ v. halted (with_body w h back) h v Memory 0) stands;
       },
     ))
 

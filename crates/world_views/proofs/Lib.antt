@@ -17,6 +17,7 @@ pub mod OwnReady
 pub mod PutRight
 pub mod QuietLemmas
 pub mod Ready
+pub mod RouteLemmas
 pub mod ScheduleLemmas
 pub mod SentFacts
 pub mod ShellLemmas

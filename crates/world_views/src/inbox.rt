@@ -42,8 +42,8 @@ impl Link {
     }
 
     // A signal is sent: it goes behind the others, with the next number.
-    fn put(&mut self, alloc: Global, by: &Sender, to: u32, sent: Outgoing) -> Result<(), NoMemory>
-        ensures ok { OnOk result (self.new ≡ behind by.now (routed to sent) self.old) }
+    fn put(&mut self, alloc: Global, by: Sender, to: u32, sent: Outgoing) -> Result<(), NoMemory>
+        ensures ok { OnOk result (self.new ≡ behind by (routed to sent) self.old) }
         ensures err { OnErr result (self.new ≡ self.old) }
     {
         let Outgoing { to: place, body } = sent;
@@ -53,7 +53,7 @@ impl Link {
             to: place,
             seq: self.sent,
             stamp: by.stamp,
-            view: by.view.share()?,
+            view: by.view,
             body,
         };
         self.signals.push_back(Boxed::new(alloc, signal)?)?;
@@ -137,11 +137,11 @@ impl Inbox {
     pub fn put(
         &mut self,
         alloc: Global,
-        by: &Sender,
+        by: Sender,
         to: u32,
         sent: Outgoing,
     ) -> Result<(), NoMemory>
-        ensures { OnOk result (self.new ≡ with_link self.old by.now.host (behind by.now (routed to sent) (link_from self.old by.now.host))) }
+        ensures { OnOk result (self.new ≡ with_link self.old by.host (behind by (routed to sent) (link_from self.old by.host))) }
     {
         let at = by.host as usize;
         if at < self.links.len() {

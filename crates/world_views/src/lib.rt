@@ -2,6 +2,7 @@
 #![tactic(auto)]
 
 mod closing;
+mod failing;
 mod fresh;
 mod hosts;
 mod inbox;

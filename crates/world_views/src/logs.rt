@@ -40,6 +40,7 @@ impl Logs {
     ///
     /// # Errors
     /// `NoMemory`, and then the logs are as they were.
+    #[inline(always)]
     pub fn add(&mut self, host: u32, step: LogStep) -> Result<(), NoMemory>
         requires { host < length self.old }
         ensures ok { OnOk result (self.new ≡ with_step self.old host step) }

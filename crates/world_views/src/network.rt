@@ -59,11 +59,11 @@ impl Network {
     pub fn put(
         &mut self,
         alloc: Global,
-        by: &Sender,
+        by: Sender,
         to: u32,
         sent: Outgoing,
     ) -> Result<(), NoMemory>
-        ensures { OnOk result (self.new ≡ put self.old by.now (routed to sent)) }
+        ensures { OnOk result (self.new ≡ put self.old by (routed to sent)) }
     {
         let at = to as usize;
         if at < self.inboxes.len() {

@@ -1,40 +1,67 @@
 //! Which of what a step sends goes where.
-ghost use Rattle.std.specs.Prelude.{◌≡◌, ◌==◌, ◌&&◌, ◌||◌, OnOk};
+ghost use Rattle.std.specs.Prelude.{◌≡◌, ◌∷◌, [], ◌==◌, ◌&&◌, ◌||◌, OnOk};
 ghost use Rattle.node_views.specs.Row.{is_cut};
 ghost use Rattle.world_views.specs.Links.{put_all};
+ghost use Rattle.world_views.specs.Machine.{sender};
 ghost use Rattle.world_views.specs.Sending.{is_own_work, routed_all};
 
 use crate::hosts::Made;
 use crate::network::Network;
 use crate::sender::Sender;
 use node_views::Host;
-use sig_core::{Body, HostId, HostSignal, NoMemory, Outs, Work};
+use sig_core::{Body, HostId, HostSignal, NoMemory, Outgoing, Outs, Work};
 use std::alloc::Global;
 
-/// Puts what a step sends on its way, but for what is for a host that its sender has cut off, and
-/// what a host asks of itself alone.
+/// Puts what a host's step of this stamp sends on its way, but for what is for a host that it has cut
+/// off, and what it asks of itself alone.
 ///
 /// # Errors
 /// `NoMemory`, and then the network is of no use.
+#[tactic(auto, using(crate::proofs::RouteLemmas::passed_on))]
 pub fn dispatch(
     alloc: Global,
     network: &mut Network,
     made: &Made,
     host: &Host,
-    by: &Sender,
+    from: u32,
+    stamp: u64,
     outs: &mut Outs,
 ) -> Result<(), NoMemory>
-    requires { by.now.view ≡ host.now.standing.view }
-    ensures { OnOk result (network.new ≡ put_all network.old by.now (routed_all made.now by.now.host host.now.standing outs.old.sends)) }
+    ensures { OnOk result (network.new ≡ put_all network.old (sender made.now from stamp host.now.standing.view) (routed_all made.now from host.now.standing outs.old.sends)) }
 {
     while let Some(sent) = outs.take_send() {
-        let to = made.reached(by.host, by.view.get(), &sent.to);
-        if !is_kept_back(host, by.host, to, &sent.body) {
-            network.put(alloc, by, to, sent)?;
-        }
+        pass_on(alloc, network, made, host, from, stamp, sent)?;
     }
     Ok(())
 }
+
+// Puts one of them on its way. Not inlined, so that the step keeps its own values at hand.
+#[inline(never)]
+fn pass_on(
+    alloc: Global,
+    network: &mut Network,
+    made: &Made,
+    host: &Host,
+    from: u32,
+    stamp: u64,
+    sent: Outgoing,
+) -> Result<(), NoMemory>
+    ensures { OnOk result (network.new ≡ put_all network.old (sender made.now from stamp host.now.standing.view) (routed_all made.now from host.now.standing (sent ∷ []))) }
+{
+    let view = &host.standing.view;
+    let to = made.reached(from, view.get(), &sent.to);
+    if is_kept_back(host, from, to, &sent.body) {
+        refuse(sent);
+        return Ok(());
+    }
+    let by = Sender::of(made, from, stamp, view.share()?);
+    network.put(alloc, by, to, sent)
+}
+
+// Drops what isn't sent, which is seldom.
+#[cold]
+#[inline(never)]
+fn refuse(_sent: Outgoing) {}
 
 // Whether a host doesn't send this to another.
 fn is_kept_back(host: &Host, from: u32, to: u32, body: &Body) -> bool

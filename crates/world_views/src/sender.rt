@@ -1,5 +1,8 @@
 //! Who sends signals.
+ghost use Rattle.std.specs.Prelude.{◌≡◌};
+ghost use Rattle.world_views.specs.Machine.{sender};
 
+use crate::hosts::Made;
 use sig_core::{Held, Member, View};
 
 /// The host of whose step signals are sent, as their headers tell.
@@ -11,4 +14,18 @@ pub struct Sender {
     pub stamp: u64,
     /// The view of the host.
     pub view: Held<View>,
+}
+
+impl Sender {
+    /// A host in this view, by its step of this stamp.
+    pub fn of(made: &Made, host: u32, stamp: u64, view: Held<View>) -> Sender
+        ensures { result ≡ sender made.now host stamp view }
+    {
+        Sender {
+            host,
+            member: made.member_at(host),
+            stamp,
+            view,
+        }
+    }
 }

@@ -6,6 +6,7 @@ ghost use Rattle.world_views.specs.Machine.{own_stop};
 ghost use Rattle.world_views.specs.World.{body_at};
 
 use crate::closing::{close_all, first_signal, last_view, stop_of};
+use crate::failing::{put_back, view_to_keep};
 use crate::fresh::fresh_bodies;
 use crate::hosts::Made;
 use crate::logs::Logs;
@@ -50,7 +51,7 @@ impl World {
     ghost use Rattle.world_core.specs.Start.{Start};
     ghost use Rattle.world_core.specs.World.{logs_at, next_stamp};
     ghost use Rattle.world_views.specs.Driven.{HasAsked, HaveGrown, IsDriven, IsSound, IsStepped, IsWorld};
-    ghost use Rattle.world_views.specs.Machine.{own_signal, sender};
+    ghost use Rattle.world_views.specs.Machine.{own_signal};
     ghost use Rattle.world_views.specs.Schedule.{HasTaken, is_discarded};
     ghost use Rattle.world_views.specs.Unscheduled.{AreUnscheduled};
     ghost use Rattle.world_views.specs.World.{HasHandled, IsIdle, IsThere, closing, cutting, entered, has_stopped_in, is_down, is_left_open, new_world, sending, stopped};
@@ -213,6 +214,7 @@ impl World {
     }
 
     // Has a host handle a signal, as its next step. One that has no memory for it, or no stamp, stops.
+    #[inline(always)]
     fn handle(&mut self, alloc: Global, host: u32, signal: Boxed<Signal>) -> Result<(), NoMemory>
         requires there { IsThere (whole_of self.old) host }
         requires given { own_stop host signal ≡ None }
@@ -221,7 +223,7 @@ impl World {
     {
         let at = host as usize;
         let before = self.stamps[at].max(signal.get().stamp);
-        let view = self.bodies[at].standing.view.share()?;
+        let view = view_to_keep(&self.bodies[at].standing.view, &signal.get().view)?;
         if before >= STAMPS_END - 1 {
             return self.fail(alloc, host, StopCause::Clock);
         }
@@ -229,7 +231,7 @@ impl World {
         match self.bodies[at].step(alloc, signal.get(), &mut self.outs) {
             Ok(()) => self.enter(alloc, host, before + 1, signal, 0),
             Err(_) => {
-                self.bodies[at].standing.view = view;
+                put_back(&mut self.bodies[at], view);
                 self.fail(alloc, host, StopCause::Memory)
             }
         }
@@ -302,19 +304,8 @@ impl World {
         requires { IsThere (whole_of self.now) host }
         ensures { IfOk result (λ signal. signal ≡ own_signal self.now.made host (slice_index_or self.now.stamps.items host 0) view body) }
     {
-        let by = self.sender(host, self.stamps[host as usize], view);
+        let by = Sender::of(&self.made, host, self.stamps[host as usize], view);
         first_signal(alloc, &self.made, &by, host, body)
-    }
-
-    fn sender(&self, host: u32, stamp: u64, view: Held<View>) -> Sender
-        ensures { result ≡ sender self.now.made host stamp view }
-    {
-        Sender {
-            host,
-            member: self.made.member_at(host),
-            stamp,
-            view,
-        }
     }
 
     // The step of a host is made: what it sends goes on its way, its replies are told, and it stands in
@@ -357,14 +348,13 @@ impl World {
         ensures err { OnErr result (self.new.logs ≡ self.old.logs) }
     {
         let at = host as usize;
-        let view = self.bodies[at].standing.view.share()?;
-        let by = self.sender(host, stamp, view);
         dispatch(
             alloc,
             &mut self.network,
             &self.made,
             &self.bodies[at],
-            &by,
+            host,
+            stamp,
             &mut self.outs,
         )
     }
@@ -406,7 +396,7 @@ impl World {
         self.network.lose(host, lost);
         let at = host as usize;
         let view = last_view(&self.bodies[at].standing.view, &taken.get().view)?;
-        let by = self.sender(host, stamp, view);
+        let by = Sender::of(&self.made, host, stamp, view);
         close_all(
             alloc,
             &mut self.network,

@@ -1,12 +1,15 @@
-use Rattle.std.proofs.Common.{◌+◌, ap, arith, rules, ◌∙◌, subst}
+use Rattle.std.proofs.Common.{◌≡◌, ◌≤◌, ◌+◌, ap, arith, rules, ◌∙◌, subst}
+use Rattle.std.specs.Prelude.{MatchOption}
 use Rattle.std.proofs.lemmas.List.{get_or_read}
 use Rattle.sig_core.specs.declared.signal.Signal.{Signal}
+use Rattle.sig_core.specs.declared.view.View.{View}
 use Rattle.sig_core.specs.Step.{IsTaken, nothing}
 use Rattle.node_views.specs.declared.host.Host.{Host}
 use Rattle.node_views.specs.Row.{host_row}
 use Rattle.world_core.specs.Right.{arriving}
+use Rattle.world_views.specs.World.{body_at}
 use Rattle.world_views.specs.WorldOf.{whole_of}
-use Rattle.world_views.proofs.HandleLemmas.{body_read, has_moved, has_no_memory, stamp_is}
+use Rattle.world_views.proofs.HandleLemmas.{body_read, has_moved, has_no_memory, read_back, stamp_is, stands_before}
 use Rattle.world_views.proofs.world.World.handle.Goals as goal
 
 pub returns-in-Ok-clause-ok : goal.returns-in-Ok-clause-ok
@@ -19,7 +22,7 @@ returns-in-Ok-clause-ok c =
     let read = body_read w.bodies h c.index_mut.result.now c.requires.there.bodies c.index_mut.ensures.value in
     let taken =
     subst (λ (s : Host). IsTaken (host_row s c.args.signal) c.step.new.self nothing c.step.new.out) read
-    (subst (λ (x : Signal). IsTaken (host_row c.index_mut.result.now x) c.step.new.self nothing c.step.new.out) c.get-2.ensures
+    (subst (λ (x : Signal). IsTaken (host_row c.index_mut.result.now x) c.step.new.self nothing c.step.new.out) c.get-3.ensures
     c.in-Ok.ensures.taken) in
     has_moved c.enter.result w (whole_of c.enter.new.self) (arriving h c.args.signal) c.step.new.self c.step.new.out at
     c.requires.there.bodies taken c.requires.given c.enter.ensures.ok
@@ -33,7 +36,21 @@ returns-in-Err-clause-ok c =
     (search rules) in
     let read = body_read w.bodies h c.index_mut.result.now c.requires.there.bodies c.index_mut.ensures.value in
     let seen = body_read w.bodies h c.index-2.result.now c.requires.there.bodies c.index-2.ensures in
+    let same =
+    read_back w.bodies h c.step.new.self c.index_mut-in-Err.result.now c.requires.there.bodies
+    c.index_mut-in-Err.ensures.value in
+    let before = ap (λ (s : Host). s.standing.view) seen in
+    let view = stands_before c.in_ok-view.view (body_at w.bodies h).standing.view c.args.signal.view.number c.step.new.self
+    c.index_mut-in-Err.result.now c.put_back.new.host same
+    (subst (λ (v : View). MatchOption c.in_ok-view.view (c.args.signal.view.number ≤ v.number) (λ k. k ≡ v)) before
+    (subst (λ (x : Signal). MatchOption c.in_ok-view.view (x.view.number ≤ c.index-2.result.now.standing.view.number)
+    (λ k. k ≡ c.index-2.result.now.standing.view)) c.get-2.ensures c.in_ok-view.ensures))
+    (subst (λ (s : Host). c.args.signal.view.number ≤ s.standing.view.number
+    → c.step.new.self.standing.view ≡ s.standing.view) read
+    (subst (λ (x : Signal). x.view.number ≤ c.index_mut.result.now.standing.view.number
+    → c.step.new.self.standing.view ≡ c.index_mut.result.now.standing.view) c.get-3.ensures c.in-Err.ensures.seen))
+    c.put_back.ensures.seen in
     has_no_memory c.fail-in-Err.result w (whole_of c.fail-in-Err.new.self) (arriving h c.args.signal) c.step.new.self
-    c.index_mut-in-Err.result.now c.in_ok-view.view c.requires.there.bodies at c.index_mut-in-Err.ensures.value
-    (c.in_ok-view.ensures ∙ ap (λ (s : Host). s.standing.view) seen)
-    (c.in-Err.ensures.kept ∙ ap (λ (s : Host). s.standing.cut) read) c.fail-in-Err.ensures.some c.fail-in-Err.ensures.ok
+    c.put_back.new.host c.requires.there.bodies at view
+    (c.put_back.ensures.kept ∙ ap (λ (s : Host). s.standing.cut) same
+    ∙ c.in-Err.ensures.kept ∙ ap (λ (s : Host). s.standing.cut) read) c.fail-in-Err.ensures.some c.fail-in-Err.ensures.ok
