@@ -55,6 +55,7 @@ pub mod StrayDoomed
 pub mod StrayFences
 pub mod StrayHeaders
 pub mod StrayInstalled
+pub mod StrayKept
 pub mod StrayNumbers
 pub mod StrayPromises
 pub mod StrayRows

@@ -63,7 +63,7 @@ module _ (start : Start) (all : ℕ → List HostStep) (e : HostStep) (es : List
     pub event_past : IsPast (e ∷ logs_of start es e.host) (all e.host)
     event_past = subst (λ log. IsPast log (all e.host)) (own_log start all e es moment) (moment.inside e.host)
 
-    own_installed : WasInstalled start all view
+    pub own_installed : WasInstalled start all view
     own_installed = record {
       host = e.host;
       there = host_low start all e es moment;

@@ -1,30 +1,19 @@
 -- Where the host of a coordinator comes to stand in a greater view, all keep to it that are undecided, aren't doomed
--- and have no operation unanswered: a promised set with the number of the fence is that view, or a part of it.
-use Rattle.std.proofs.Common.{◌≡◌, ◌⊎◌, ◌≤◌, ◌<◌, ◌∙◌, ◌||◌, ℕ, Bool, true, false, List, [], ◌∷◌, refl, sym, ap, subst, arith, inl, inr}
-use Rattle.std.proofs.lemmas.Bool.{cases_lt}
-use Rattle.std.specs.List.{list_any}
-use Rattle.std.specs.Prelude.{not}
-use Rattle.frag_map.specs.Layout.{first_layout, first_view}
-use Rattle.frag_map.specs.Replicas.{is_member}
-use Rattle.run_theory.specs.Lists.{Each, IsIn, IsPast}
-use Rattle.run_theory.proofs.Pasts.{each_in, each_map}
+-- and have no operation unanswered: the coordinator was fenced at it before.
+use Rattle.std.proofs.Common.{◌≡◌, ◌⊎◌, ◌≤◌, ◌<◌, ◌∙◌, ℕ, List, ◌∷◌, refl, sym, ap, subst, arith, inl, inr}
+use Rattle.frag_map.specs.Layout.{first_layout}
+use Rattle.run_theory.specs.Lists.{IsIn, IsPast}
 use Rattle.sig_core.specs.declared.member.Member.{Member}
-use Rattle.sig_core.specs.declared.member.TxId.{TxId}
 use Rattle.sig_core.specs.declared.place.BlockId.TheVariants as block
 use Rattle.sig_core.specs.declared.place.Part.TheVariants.{Tc}
 use Rattle.sig_core.specs.declared.view.View.{View}
-use Rattle.tc_block.specs.declared.transaction.Transaction.{Transaction}
-use Rattle.tc_block.specs.Doom.{is_outside, strays}
 use Rattle.tc_views.specs.Coordinator.{fresh_coordinator}
-use Rattle.tc_views.specs.State.{CoordinatorState}
 use Rattle.world_core.specs.Start.{Start, made}
 use Rattle.world_core.specs.Steps.{HostStep}
 use Rattle.world_views.specs.Machine.{after}
-use Rattle.view_laws.specs.Ballots.{Ballots, HasPromised, IsChosen, Promised}
 use Rattle.view_laws.specs.Fences.{EachViewIsFenced, fence_after}
-use Rattle.view_laws.specs.Runs.{WasInstalled, ballots_of, view_after}
-use Rattle.view_laws.specs.Sets.{IsPart, all_of}
-use Rattle.view_laws.proofs.EraRises.{view_rises}
+use Rattle.view_laws.specs.Runs.{WasInstalled, view_after}
+use Rattle.view_laws.specs.Sets.{all_of}
 use Rattle.view_laws.proofs.FenceAnswers.{confirmations_are_few}
 use Rattle.view_laws.proofs.FenceFrom.{confirmed_fenced}
 use Rattle.view_laws.proofs.FenceLinks.{requests_are_high}
@@ -33,12 +22,6 @@ use Rattle.view_laws.proofs.FenceTaken.{HasAsked}
 use Rattle.view_laws.proofs.FenceThere.{fences_are_there}
 use Rattle.view_laws.proofs.FenceViewed.{each_view_by}
 use Rattle.view_laws.proofs.FollowViews.{others_move}
-use Rattle.view_laws.proofs.PromiseLemmas.{one_promise}
-use Rattle.view_laws.proofs.RunGrowth.{ballots_grow}
-use Rattle.view_laws.proofs.RunKept.{have_orderly}
-use Rattle.view_laws.proofs.RunStep.{started_view}
-use Rattle.view_laws.proofs.RunViews.{installed_chosen}
-use Rattle.view_laws.proofs.SetLemmas.{part_self}
 use Rattle.view_laws.proofs.StandingMembers.{are_of_views}
 use Rattle.moment_laws.specs.Moments.{IsMoment, logs_of}
 use Rattle.moment_laws.specs.Places.{tc_of}
@@ -46,75 +29,15 @@ use Rattle.moment_laws.proofs.MomentHosts.{part_some, tc_low, tc_member}
 use Rattle.moment_laws.proofs.MomentTurns.{own_log}
 use Rattle.moment_laws.proofs.MomentViews.{moment_less}
 use Rattle.request_laws.specs.Blocks.{coordinator_after}
-use Rattle.request_laws.specs.Strays.{HaleKeepTo, InstallationsSpareNoStrays, IsFencedBy, IsHale, KeepsTo}
-use Rattle.request_laws.proofs.StrayFences.{fences_spare, stands_at}
+use Rattle.request_laws.specs.Strays.{HaleKeepTo, InstallationsSpareNoStrays}
+use Rattle.request_laws.proofs.StrayFences.{stands_at}
 use Rattle.request_laws.proofs.StrayHeaders.{IsHeaded, headed}
-use Rattle.request_laws.proofs.StrayNumbers.{fence_is, have_the_number}
-use Rattle.request_laws.proofs.StrayPromises.{orderly, promise_part}
+use Rattle.request_laws.proofs.StrayNumbers.{fence_is}
+use Rattle.request_laws.proofs.StrayKept.{fenced_keep}
 
 -- the coordinator of each member of a view that was installed is fenced at it
 each_view_is_fenced : EachViewIsFenced
 each_view_is_fenced = each_view_by (confirmed_fenced confirmations_are_few requests_are_high fences_are_there)
-
--- a test that fails wherever another does
-none_either : {A : Type 0} (p q : A → Bool) → ((x : A) → p x ≡ false → q x ≡ false) → (xs : List A)
-    → list_any p xs ≡ false → list_any q xs ≡ false
-none_either p q fails [] none = refl
-none_either {A} p q fails (x ∷ xs) none = by (p x) refl (none_either p q fails xs) none
-  where
-    by : (b : Bool) → p x ≡ b → (list_any p xs ≡ false → list_any q xs ≡ false) → (b || list_any p xs) ≡ false
-        → (q x || list_any q xs) ≡ false
-    by true is rest none = absurd cc
-    by false is rest none = ap (λ b. b || list_any q xs) (fails x is) ∙ rest none
-
--- who is in one of these is in one of those
-some_of : {A : Type 0} (p : A → Bool) (xs ys : List A) → Each (λ x. IsIn x ys ⊎ ⊥) xs → list_any p xs ≡ true
-    → list_any p ys ≡ true
-some_of p [] ys among some = absurd cc
-some_of {A} p (x ∷ xs) ys among some = by (p x) refl some (some_of p xs ys among.1)
-  where
-    there : (zs : List A) → IsIn x zs → p x ≡ true → list_any p zs ≡ true
-    there [] is one = absurd is
-    there (z ∷ zs) (inl same) one = ap (λ b. b || list_any p zs) (ap p (sym same) ∙ one)
-    there (z ∷ zs) (inr behind) one = or_true (p z) (list_any p zs) (there zs behind one)
-      where
-        or_true : (a b : Bool) → b ≡ true → (a || b) ≡ true
-        or_true true b is = refl
-        or_true false b is = is
-
-    own : IsIn x ys ⊎ ⊥ → p x ≡ true → list_any p ys ≡ true
-    own (inl is) one = there ys is one
-    own (inr none) one = absurd none
-
-    by : (b : Bool) → p x ≡ b → (b || list_any p xs) ≡ true → (list_any p xs ≡ true → list_any p ys ≡ true)
-        → list_any p ys ≡ true
-    by true is some rest = own among.0 is
-    by false is some rest = rest some
-
--- who isn't outside of a part isn't outside
-inside_part : (view set : View) → IsPart view set → (member : Member) → is_outside set member ≡ false
-    → is_outside view member ≡ false
-inside_part view set part member =
-    by (list_any (is_member member) set.full) (list_any (is_member member) set.starting)
-    (list_any (is_member member) view.full) (list_any (is_member member) view.starting)
-    (some_of (is_member member) set.full view.full part.full)
-    (some_of (is_member member) set.starting view.starting part.starting)
-  where
-    by : (a b c d : Bool) → (a ≡ true → c ≡ true) → (b ≡ true → d ≡ true) → not (a || b) ≡ false
-        → not (c || d) ≡ false
-    by true b true d full starting is = refl
-    by true b false d full starting is = absurd (cc (full refl))
-    by false true true d full starting is = refl
-    by false true false true full starting is = refl
-    by false true false false full starting is = absurd (cc (starting refl))
-    by false false c d full starting is = absurd cc
-
--- so who keeps to a part keeps to the view
-keeps_to_whole : (view set : View) → IsPart view set → (t : Transaction) → KeepsTo set t → KeepsTo view t
-keeps_to_whole view set part t keeps =
-    none_either (strays set) (strays view)
-    (λ touched. none_either (is_outside set) (is_outside view) (inside_part view set part) touched.chain)
-    t.touched keeps
 
 module _ (start : Start) (all : ℕ → List HostStep) (e : HostStep) (es : List HostStep)
     (moment : IsMoment start all (e ∷ es)) (member : Member) (there : IsIn member (made start))
@@ -133,9 +56,6 @@ module _ (start : Start) (all : ℕ → List HostStep) (e : HostStep) (es : List
 
     abbrev view : View
     view = view_after start h (e ∷ log)
-
-    abbrev s : CoordinatorState
-    s = coordinator_after start member log
 
     less : IsMoment start all es
     less = moment_less start all e es moment
@@ -160,77 +80,25 @@ module _ (start : Start) (all : ℕ → List HostStep) (e : HostStep) (es : List
         (are_of_views start all moment.cluster h (part_some start Tc member) (tc_low start member there) (e ∷ log) past)
 
     -- so the coordinator is fenced at it before
-    fenced : view.number ≤ s.fence
+    fenced : view.number ≤ (coordinator_after start member log).fence
     fenced =
         let before : IsHeaded start h log e.step.taken.view =
         headed start moment.cluster.shape all moment.cluster h log e past in
         let high : view.number ≤ fence_after start h (before.old h) block.Tc =
         each_view_is_fenced start before.old before.are view
         (subst (WasInstalled start before.old) (sym is_header) before.was) member member_in block.Tc tt in
-        let own : fence_after start h (before.old h) block.Tc ≡ s.fence =
+        let own : fence_after start h (before.old h) block.Tc ≡ (coordinator_after start member log).fence =
         ap (λ w. fence_after start h w block.Tc) before.own
         ∙ fence_is (HasAsked start (logs_of start es) member)
         (fresh_coordinator member.node member.start (first_layout start.shape)) old (after start h log).parts old.number
         (stands_at start all member there es less) in
         omega (arith, high, own)
 
-    by_set : IsFencedBy start (logs_of start es) member
-    by_set =
-        let number = have_the_number start member log there in
-        fences_spare start all es less member there (omega (arith, number, rises, fenced))
-
-    abbrev b : Ballots
-    b = ballots_of start all
-
-    abbrev OfSet : View → Promised
-    OfSet set = record { set = set; adopted = false }
-
-    set_promised : IsIn (OfSet by_set.set) (b.promises member)
-    set_promised =
-        (ballots_grow start (logs_of start es) all less.inside).promises member (OfSet by_set.set) by_set.promised
-
-    view_chosen : IsChosen start.shape b view
-    view_chosen =
-        installed_chosen have_orderly start all moment.cluster view
-        (record { host = h; there = tc_low start member there; log = e ∷ log; past = past; is = refl })
-
-    -- the view isn't the first
-    not_before : (newer : List HostStep) → (first_view start.shape.nodes).number ≤ (view_after start h newer).number
-    not_before [] =
-        let is = ap (λ (v : View). v.number) (started_view start moment.cluster.shape h) in omega (arith, is)
-    not_before (f ∷ newer) =
-        let up = view_rises start h newer f in let low = not_before newer in omega (arith, up, low)
-
-    view_promised : IsIn (OfSet view) (b.promises member)
-    view_promised = by view_chosen
-      where
-        by : IsChosen start.shape b view → IsIn (OfSet view) (b.promises member)
-        by (inl first) =
-            let is = ap (λ (v : View). v.number) first in
-            let low = not_before log in
-            absurd (omega (arith, is, low, rises))
-        by (inr won) = (each_in (HasPromised b view) member (all_of view) won.backed member_in).promised
-
-    set_part : IsPart view by_set.set
-    set_part = by (cases_lt view.number by_set.set.number)
-      where
-        by : (view.number < by_set.set.number) ⊎ (by_set.set.number ≤ view.number) → IsPart view by_set.set
-        by (inl below) =
-            promise_part start all moment.cluster member there view by_set.set view_chosen view_promised set_promised
-            below
-        by (inr low) =
-            let number = by_set.number_is in
-            let is : view.number ≡ by_set.set.number = omega (arith, number, low, fenced) in
-            let same : OfSet view ≡ OfSet by_set.set =
-            one_promise b member (b.promises member) ((orderly start all moment.cluster).promises member) (OfSet view)
-            (OfSet by_set.set) view_promised set_promised is in
-            subst (IsPart view) (ap (λ (p : Promised). p.set) same) (part_self view)
-
-    hale_keep : HaleKeepTo view s
+    hale_keep : HaleKeepTo view (coordinator_after start member log)
     hale_keep =
-        each_map (λ (x : TxId × Transaction). IsHale s x → KeepsTo by_set.set x.1)
-        (λ (x : TxId × Transaction). IsHale s x → KeepsTo view x.1) s.tc.live
-        (λ x keeps hale. keeps_to_whole view by_set.set set_part x.1 (keeps hale)) by_set.keep
+        fenced_keep start all es less member there view
+        (record { host = h; there = tc_low start member there; log = e ∷ log; past = past; is = refl }) member_in rises
+        fenced
 
 pub installations_spare : InstallationsSpareNoStrays
 installations_spare start all e es moment member there at =

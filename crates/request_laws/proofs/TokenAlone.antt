@@ -14,7 +14,8 @@ use Rattle.moment_laws.proofs.MomentViews.{moment_less}
 use Rattle.outcome_laws.specs.Counts.{one_if}
 use Rattle.request_laws.specs.Tokens.{QuietUnlessAsked, TakenIsAlone, WaitingIsAlone, all_sent, all_taken, all_waiting, is_token, is_token_in, may_go, number_now, total_of, waiting_at}
 use Rattle.request_laws.proofs.TokenMoments.{before_now, have_one}
-use Rattle.request_laws.proofs.TokenSums.{takes_before, takes_few}
+use Rattle.request_laws.proofs.RouteAside.{is_of_rows}
+use Rattle.request_laws.proofs.TokenSums.{takes_before, takes_few, token_of_rows}
 use Rattle.request_laws.proofs.TokenViews.{all_taken_more}
 
 -- one where a test passes is no more than one, and it passes where it is one
@@ -40,9 +41,8 @@ total_of_two (x ∷ ms) f m other (inl is) (inr among) off = omega (arith, ap f 
 total_of_two (x ∷ ms) f m other (inr there) (inl same) off = omega (arith, ap f same, total_of_part ms f m there)
 total_of_two (x ∷ ms) f m other (inr there) (inr among) off = omega (arith, total_of_two ms f m other there among off)
 
-token_only : (tx : TxId) (number : ℕ) (x : Signal) → is_token_in tx number x ≡ true
-    → (one : TxId) × (is_token one x.body ≡ true)
-token_only tx number x is = (tx, (and_parts (is_token tx x.body) (x.view.number == number) is).0)
+token_only : (tx : TxId) (number : ℕ) (x : Signal) → is_token_in tx number x ≡ true → is_of_rows x.body ≡ true
+token_only tx number x is = token_of_rows tx x.body (and_parts (is_token tx x.body) (x.view.number == number) is).0
 
 -- what is sent and what waits is no more than what is taken and may be under way
 abbrev IsFew : Start → (ℕ → List HostStep) → TxId → ℕ → Type 0

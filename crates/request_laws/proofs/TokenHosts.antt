@@ -102,12 +102,13 @@ filter_count p f (x ∷ xs) = by (f x) (filter_count p f xs)
     by true few = omega (arith, few, count_more p x xs, count_more p x (filter f xs))
     by false few = omega (arith, few, count_more p x xs)
 
-module _ (start : Start) (tx : TxId) (number : ℕ) where
+-- signals that pass a test of their bodies, in the view of a number
+module _ (start : Start) (q : Body → Bool) (number : ℕ) where
   abbrev p : Addressed → Bool
-  p x = is_token_in tx number x.signal
+  p x = q x.signal.body && (x.signal.view.number == number)
 
-  in_less : (x : Addressed) → one_if (p x) ≤ one_if (is_token tx x.signal.body)
-  in_less x = by (is_token tx x.signal.body) (x.signal.view.number == number)
+  in_less : (x : Addressed) → one_if (p x) ≤ one_if (q x.signal.body)
+  in_less x = by (q x.signal.body) (x.signal.view.number == number)
     where
       by : (b c : Bool) → one_if (b && c) ≤ one_if b
       by false c = omega arith
@@ -116,7 +117,7 @@ module _ (start : Start) (tx : TxId) (number : ℕ) where
 
   pub sent_few : (h : ℕ) (log : List HostStep) (e : HostStep)
       → count_by p (sent_by (sound_machine start) h log e)
-      ≤ count_sent (is_token tx) (step_after start h log e).effects.sends
+      ≤ count_sent q (step_after start h log e).effects.sends
   sent_few h log e = by (stops_by e.step.marks)
     where
       sends : List Outgoing
@@ -125,20 +126,20 @@ module _ (start : Start) (tx : TxId) (number : ℕ) where
       standing : Standing
       standing = (after start h (e ∷ log)).standing
 
-      all_few : count_by p (filter (is_sound start) (signals_of start h log e)) ≤ count_sent (is_token tx) sends
+      all_few : count_by p (filter (is_sound start) (signals_of start h log e)) ≤ count_sent q sends
       all_few =
           omega (
             arith,
             filter_count p (is_sound start) (signals_of start h log e),
-            count_less p (λ (x : Addressed). is_token tx x.signal.body) in_less (signals_of start h log e),
-            addressed_count (is_token tx) (sender (made start) h e.step.stamp standing.view) (sent_count start h log)
+            count_less p (λ (x : Addressed). q x.signal.body) in_less (signals_of start h log e),
+            addressed_count q (sender (made start) h e.step.stamp standing.view) (sent_count start h log)
                 (routed_all (made start) h standing sends),
-            routed_count (is_token tx) (made start) h standing sends,
+            routed_count q (made start) h standing sends,
           )
 
       by : (stops : Bool)
           → count_by p (if stops then [] else filter (is_sound start) (signals_of start h log e))
-          ≤ count_sent (is_token tx) sends
+          ≤ count_sent q sends
       by true = omega arith
       by false = all_few
 
@@ -147,6 +148,48 @@ pub token_plain : (tx : TxId) (body : Body) → is_token tx body ≡ true
     → (is_own_work body ≡ false) × ((x : Signal) → is_body_fenced x body ≡ true)
 token_plain tx (Chain signal) is = (refl, λ x. refl)
 token_plain tx body is = absurd (true≢false (sym is))
+
+-- what a block takes is counted, of signals that fences stop and no host asks itself for
+module _ (start : Start) (all : ℕ → List HostStep) (e : HostStep) (es : List HostStep)
+    (moment : IsMoment start all (e ∷ es)) (q : Body → Bool)
+    (plain : (body : Body) → q body ≡ true
+    → (is_own_work body ≡ false) × ((x : Signal) → is_body_fenced x body ≡ true))
+  where
+    abbrev came : Signal
+    came = e.step.taken
+
+    abbrev number_now : ℕ
+    number_now = current_number start (logs_of start (e ∷ es))
+
+    abbrev pub tested_now : Signal → Bool
+    tested_now x = q x.body && (x.view.number == number_now)
+
+    pub test_taken : (at : BlockId) → IsTakenNow start all e es moment at
+        → one_if (q came.body) ≤ taken_now start all e es moment tested_now
+    unfolding is_fenced
+    test_taken at taken = by (q came.body) refl
+      where
+        asked : (own work sound : Bool) → work ≡ false → sound ≡ true → ((own && work) || not sound) ≡ false
+        asked true true sound e f = absurd (true≢false e)
+        asked true false true e f = refl
+        asked true false false e f = absurd (true≢false (sym f))
+        asked false work true e f = refl
+        asked false work false e f = absurd (true≢false (sym f))
+
+        one : (asks token same : Bool) → asks ≡ false → token ≡ true → same ≡ true
+            → one_if true ≤ (if asks then 0 else one_if (token && same))
+        one false true true e f g = omega arith
+        one true token same e f g = absurd (true≢false e)
+        one false false same e f g = absurd (true≢false (sym f))
+        one false true false e f g = absurd (true≢false (sym g))
+
+        by : (b : Bool) → q came.body ≡ b → one_if b ≤ taken_now start all e es moment tested_now
+        by false is = omega arith
+        by true is =
+            let own = plain came.body is in
+            one ((sound_machine start).asked e) (q came.body) (came.view.number == number_now)
+            (asked (came.from.0 == e.host) (is_own_work came.body) (is_well_formed start.shape came) own.0 taken.sound)
+            is (eq-eqb came.view.number number_now (taken.fresh (own.1 came)))
 
 module _ (start : Start) (all : ℕ → List HostStep) (e : HostStep) (es : List HostStep)
     (moment : IsMoment start all (e ∷ es)) (tx : TxId)
@@ -169,30 +212,7 @@ module _ (start : Start) (all : ℕ → List HostStep) (e : HostStep) (es : List
     -- what a block takes is counted
     pub token_taken : (at : BlockId) → IsTakenNow start all e es moment at
         → one_if (is_token tx x.body) ≤ taken_now start all e es moment q
-    unfolding is_fenced
-    token_taken at taken = by (is_token tx x.body) refl
-      where
-        asked : (own work sound : Bool) → work ≡ false → sound ≡ true → ((own && work) || not sound) ≡ false
-        asked true true sound e f = absurd (true≢false e)
-        asked true false true e f = refl
-        asked true false false e f = absurd (true≢false (sym f))
-        asked false work true e f = refl
-        asked false work false e f = absurd (true≢false (sym f))
-
-        one : (asks token same : Bool) → asks ≡ false → token ≡ true → same ≡ true
-            → one_if true ≤ (if asks then 0 else one_if (token && same))
-        one false true true e f g = omega arith
-        one true token same e f g = absurd (true≢false e)
-        one false false same e f g = absurd (true≢false (sym f))
-        one false true false e f g = absurd (true≢false (sym g))
-
-        by : (b : Bool) → is_token tx x.body ≡ b → one_if b ≤ taken_now start all e es moment q
-        by false is = omega arith
-        by true is =
-            let plain = token_plain tx x.body is in
-            one ((sound_machine start).asked e) (is_token tx x.body) (x.view.number == now)
-            (asked (x.from.0 == e.host) (is_own_work x.body) (is_well_formed start.shape x) plain.0 taken.sound)
-            is (eq-eqb x.view.number now (taken.fresh (plain.1 x)))
+    token_taken = test_taken start all e es moment (is_token tx) (token_plain tx)
 
     -- requests that wait where a host stands in this view
     abbrev pub waits_in : View → ℕ → ℕ
@@ -251,14 +271,14 @@ module _ (start : Start) (all : ℕ → List HostStep) (e : HostStep) (es : List
                 let waits : waits_in seen (count_waiting tx own.replica) ≡ waits_in view (count_waiting tx p.replica) =
                 ap (λ (v : View). waits_in v (count_waiting tx own.replica)) stands
                 ∙ ap (λ (r : LdmPart). waits_in view (count_waiting tx r.replica)) (is ∙ same) in
-                omega (arith, sent_few start tx now e.host old e, out sent, none, waits)
+                omega (arith, sent_few start (is_token tx) now e.host old e, out sent, none, waits)
             left (installs above same stands front_is) is nothing =
                 let none : count_sent (is_token tx) rest ≡ 0 = ap (count_sent (is_token tx)) nothing in
                 let ended : count_waiting tx own.replica ≡ 0 =
                 ap (λ (r : LdmPart). count_waiting tx r.replica) (is ∙ same) in
                 omega (
                   arith,
-                  sent_few start tx now e.host old e,
+                  sent_few start (is_token tx) now e.host old e,
                   out sent,
                   none,
                   waits_few seen (count_waiting tx own.replica),
@@ -295,7 +315,7 @@ module _ (start : Start) (all : ℕ → List HostStep) (e : HostStep) (es : List
                 ap (λ (r : LdmPart). count_waiting tx r.replica) is in
                 omega (
                   arith,
-                  sent_few start tx now e.host old e,
+                  sent_few start (is_token tx) now e.host old e,
                   out sent,
                   ap (count_sent (is_token tx)) sends_are,
                   rows_conserve between.replica x tx (between_ask entering),

@@ -114,7 +114,7 @@ module _ (start : Start) (all : ℕ → List HostStep) (e : HostStep) (es : List
     few : (h : ℕ) → e.host ≡ h → s ≤ count_sent (is_token tx) (step_after start h (old h) e).effects.sends
     few h at =
         subst (λ k. s ≤ count_sent (is_token tx) (step_after start k (old k) e).effects.sends) at
-        (sent_few start tx now e.host (old e.host) e)
+        (sent_few start (is_token tx) now e.host (old e.host) e)
 
     log_there : (h : ℕ) → e.host ≡ h → new h ≡ e ∷ old h
     log_there h at = subst (λ k. new k ≡ e ∷ old k) at (own_log start all e es moment)
@@ -338,7 +338,7 @@ module _ (start : Start) (all : ℕ → List HostStep) (e : HostStep) (es : List
           by : Turn start all e es moment → Before now
           by (keeps same stands) = subst Before (sym (ap (λ (v : View). v.number) same)) known
           by (raises above stands) =
-              let sent = all_sent_none start tx now old above in
+              let sent = all_sent_none start (is_token tx) now old above in
               let waits = total_of_zero (made start) (waiting_at start old tx now) (none_waits above) in
               omega (arith, sent, waits)
 

@@ -11,6 +11,8 @@ use Rattle.run_theory.specs.Runs.{AreLogs, IsWithin}
 use Rattle.run_theory.proofs.Runs.{given_taken, logs_of_run}
 use Rattle.host_laws.proofs.Sums.{total_add, total_le, total_same, total_zero, unit_below, unit_few}
 use Rattle.sig_core.specs.declared.member.TxId.{TxId}
+use Rattle.sig_core.specs.declared.signal.Body.{Body}
+use Rattle.sig_core.specs.declared.signal.Body.TheVariants.{Chain}
 use Rattle.sig_core.specs.declared.signal.Signal.{Signal}
 use Rattle.world_core.specs.Hosts.{hosts}
 use Rattle.world_core.specs.Start.{Start}
@@ -21,6 +23,7 @@ use Rattle.moment_laws.proofs.MomentViews.{moment_less, moment_within}
 use Rattle.outcome_laws.specs.Counts.{one_if}
 use Rattle.outcome_laws.proofs.TcLists.{count_both, count_more}
 use Rattle.request_laws.specs.Tokens.{TakesAreFew, all_sent, all_taken, is_token, sent_along, taken_along}
+use Rattle.request_laws.proofs.RouteAside.{is_of_rows}
 use Rattle.request_laws.proofs.TokenRows.{one_same}
 
 -- a sum of sums may be taken in the other order
@@ -132,17 +135,11 @@ module _ (start : Start) (p : Signal → Bool) where
           omega (arith, none from high, taken_more from e log) in
           omega (arith, at_from (from == from) refl none_there)
 
-  module _ (only : (x : Signal) → p x ≡ true → (tx : TxId) × (is_token tx x.body ≡ true)) where
+  -- of signals that close no link
+  module _ (unclosed : (i : ℕ) (log : List HostStep) (e : HostStep) (j : ℕ) → p (n.closing i log e j).signal ≡ false) where
     -- a link gives no more than was sent, since what closes it doesn't count
     past_count : (xs ys : List Addressed) → IsPast xs ys → count_on xs ≤ count_on ys
     past_count xs ys past = omega (arith, ap count_on past.is, count_both passes past.newer xs)
-
-    closing_none : (i : ℕ) (log : List HostStep) (e : HostStep) (j : ℕ) → p (n.closing i log e j).signal ≡ false
-    closing_none i log e j = by (p (n.closing i log e j).signal) refl
-      where
-        by : (b : Bool) → p (n.closing i log e j).signal ≡ b → b ≡ false
-        by false is = refl
-        by true is = let token = only (n.closing i log e j).signal is in absurd (true≢false (sym token.1))
 
     given_count : (i j : ℕ) (log : List HostStep) (xs : List Addressed) → IsGiven n i j log xs
         → count_on xs ≤ count_on (sent n i j log)
@@ -154,7 +151,7 @@ module _ (start : Start) (p : Signal → Bool) where
           arith,
           ap count_on closing.is,
           count_more passes closed closing.rest,
-          ap one_if (closing_none i log e j),
+          ap one_if (unclosed i log e j),
           past_count closing.rest (sent n i j (e ∷ log)) closing.past,
         )
 
@@ -182,18 +179,18 @@ module _ (start : Start) (p : Signal → Bool) where
                   (λ i. sent_along start p i (before i)) (λ i low. sent_total m i (before i)),
             )
 
-    pub takes_few : (all : ℕ → List HostStep) (es : List HostStep) → IsMoment start all es
+    pub few_taken : (all : ℕ → List HostStep) (es : List HostStep) → IsMoment start all es
         → all_taken start p (logs_of start es) ≤ all_sent start p (logs_of start es)
-    takes_few all es moment =
+    few_taken all es moment =
         let logs = logs_of start es in
         let right : AreLogs n logs = logs_of_run n es moment.run in
         links_few (hosts start) logs logs (moment_within start all es moment)
         (λ i j. given_count i j (logs i) (taken n i (logs j)) (right.linked i j))
 
     -- what an event takes was sent before it
-    pub takes_before : (all : ℕ → List HostStep) (e : HostStep) (es : List HostStep) → IsMoment start all (e ∷ es)
+    pub few_before : (all : ℕ → List HostStep) (e : HostStep) (es : List HostStep) → IsMoment start all (e ∷ es)
         → all_taken start p (logs_of start (e ∷ es)) ≤ all_sent start p (logs_of start es)
-    takes_before all e es moment =
+    few_before all e es moment =
         let before = logs_of start es in
         let now = logs_of start (e ∷ es) in
         let right : AreLogs n before = logs_of_run n es moment.run.0 in
@@ -202,5 +199,29 @@ module _ (start : Start) (p : Signal → Bool) where
         (λ i j.
         given_count i j (before i) (taken n i (now j)) (given_taken n es e i j moment.run.1 (right.linked i j)))
 
+  -- such are those about rows
+  module _ (only : (x : Signal) → p x ≡ true → is_of_rows x.body ≡ true) where
+    closing_none : (i : ℕ) (log : List HostStep) (e : HostStep) (j : ℕ) → p (n.closing i log e j).signal ≡ false
+    closing_none i log e j = by (p (n.closing i log e j).signal) refl
+      where
+        by : (b : Bool) → p (n.closing i log e j).signal ≡ b → b ≡ false
+        by false is = refl
+        by true is = let rows = only (n.closing i log e j).signal is in absurd (true≢false (sym rows))
+
+    pub takes_few : (all : ℕ → List HostStep) (es : List HostStep) → IsMoment start all es
+        → all_taken start p (logs_of start es) ≤ all_sent start p (logs_of start es)
+    takes_few = few_taken closing_none
+
+    -- what an event takes was sent before it
+    pub takes_before : (all : ℕ → List HostStep) (e : HostStep) (es : List HostStep) → IsMoment start all (e ∷ es)
+        → all_taken start p (logs_of start (e ∷ es)) ≤ all_sent start p (logs_of start es)
+    takes_before = few_before closing_none
+
+-- tokens are such
+pub token_of_rows : (tx : TxId) (body : Body) → is_token tx body ≡ true → is_of_rows body ≡ true
+token_of_rows tx (Chain signal) is = refl
+token_of_rows tx body is = absurd (true≢false (sym is))
+
 pub takes_are_few : TakesAreFew
-takes_are_few start all es moment p only = takes_few start p only all es moment
+takes_are_few start all es moment p only =
+    takes_few start p (λ x is. let token = only x is in token_of_rows token.0 x.body token.1) all es moment

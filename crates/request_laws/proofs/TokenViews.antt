@@ -10,7 +10,7 @@ use Rattle.run_theory.proofs.Links.{sent_by_each}
 use Rattle.run_theory.proofs.Pasts.{each_map}
 use Rattle.host_laws.proofs.Sums.{total_one, total_same, total_zero}
 use Rattle.sig_core.specs.declared.member.Member.{Member}
-use Rattle.sig_core.specs.declared.member.TxId.{TxId}
+use Rattle.sig_core.specs.declared.signal.Body.{Body}
 use Rattle.sig_core.specs.declared.signal.Signal.{Signal}
 use Rattle.sig_core.specs.declared.view.View.{View}
 use Rattle.world_core.specs.Hosts.{hosts}
@@ -27,7 +27,7 @@ use Rattle.moment_laws.proofs.MomentTurns.{host_low, other_log, own_log}
 use Rattle.moment_laws.proofs.MomentViews.{current_above, current_number}
 use Rattle.outcome_laws.proofs.TcLists.{count_more}
 use Rattle.outcome_laws.specs.Counts.{one_if}
-use Rattle.request_laws.specs.Tokens.{all_sent, all_taken, is_token, is_token_in, sent_along, taken_along, total_of}
+use Rattle.request_laws.specs.Tokens.{all_sent, all_taken, sent_along, taken_along, total_of}
 
 -- sums over members
 pub total_of_same : (ms : List Member) (f g : Member → ℕ) → ((m : Member) → IsIn m ms → f m ≡ g m)
@@ -94,10 +94,10 @@ total_of_one (suc n) f g node some low same =
           rest (omega (arith, low, other)) (λ k some low. same k some (omega (arith, low))),
         )
 
--- signals that are tokens in a view
-module _ (start : Start) (tx : TxId) (number : ℕ) where
+-- signals that pass a test of their bodies, in the view of a number
+module _ (start : Start) (q : Body → Bool) (number : ℕ) where
   abbrev p : Signal → Bool
-  p = is_token_in tx number
+  p x = q x.body && (x.view.number == number)
 
   -- none was sent by a host that stands below it
   low_none : (xs : List Addressed) → Each (λ (x : Addressed). x.signal.view.number < number) xs
@@ -112,14 +112,14 @@ module _ (start : Start) (tx : TxId) (number : ℕ) where
       )
     where
       off : (x : Signal) → x.view.number < number → p x ≡ false
-      off x low = by (is_token tx x.body) (x.view.number == number) refl
+      off x low = by (q x.body) (x.view.number == number) refl
         where
           by : (b c : Bool) → (x.view.number == number) ≡ c → (b && c) ≡ false
           by false c e = refl
           by true false e = refl
           by true true e = absurd (omega (arith, low, eqb-true x.view.number number e))
 
-  sent_low_none : (h : ℕ) (log : List HostStep) → (view_after start h log).number < number
+  pub sent_low_none : (h : ℕ) (log : List HostStep) → (view_after start h log).number < number
       → sent_along start p h log ≡ 0
   sent_low_none h [] low = refl
   sent_low_none h (e ∷ log) low =

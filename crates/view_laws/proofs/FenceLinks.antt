@@ -44,8 +44,8 @@ use Rattle.view_laws.specs.Members.{known_of, state_of}
 use Rattle.view_laws.specs.Runs.{AreOfCluster, events_in}
 use Rattle.view_laws.specs.Votes.{main_of}
 use Rattle.view_laws.proofs.FenceAsked.{asked_fences, fencing}
-use Rattle.view_laws.proofs.FenceCounts.{Does, asked_by, asked_of, asks, hears, rests, row_does}
-use Rattle.view_laws.proofs.FenceFrom.{RequestsAreHigh, asks_fence, in_ldm, running, running_if}
+use Rattle.view_laws.proofs.FenceCounts.{Does, IsAskedAs, asked_by, asked_of, asks, hears, rests, row_does}
+use Rattle.view_laws.proofs.FenceFrom.{HasTaken, RequestsAreHigh, asks_fence, in_ldm, running, running_if}
 use Rattle.view_laws.proofs.FenceHosts.{block_host, number_some, part_reaches}
 use Rattle.view_laws.proofs.FenceLines.{AreAsked, IsOf, Line, asked, goes, line, nothing, onward, step_asked}
 use Rattle.view_laws.proofs.FenceOrder.{full, times, times_more}
@@ -526,17 +526,24 @@ taken_inside some all past x inside =
     subst (λ events. IsIn x (taken_in events)) (sym past.is)
     (subst (IsIn x) (sym (taken_append past.newer some)) (in_append x (taken_in past.newer) (taken_in some) inside))
 
-pub requests_are_high : RequestsAreHigh
-requests_are_high start logs are me there at fenced number rank promise many =
+-- what a part has taken by a part of its log, as many as were sent up to a promise
+pub requests_high_past : (start : Start) (logs : ℕ → List HostStep) (are : AreOfCluster start logs) (me : Member)
+    (there : IsIn me (made start)) (at : BlockId) (fenced : IsFenced at) (log : List HostStep)
+    → IsPast log (logs (host_of (made start) (part_of at) me)) → (number rank : ℕ)
+    → IsAskedAs me (first_layout start.shape) (events_in start logs me) number rank
+    → times (in_ldm at) rank ≤ tally (asks_fence start) (taken (machine start) (main_of start me) (running log))
+    → HasTaken start (host_of (made start) (part_of at) me) log at number
+requests_high_past start logs are me there at fenced log before number rank promise many =
     let m = machine start in
     let main = main_of start me in
     let host = host_of (made start) (part_of at) me in
-    let some = running (logs host) in
-    let own = running_past start me there at fenced logs are (logs host) in
+    let some = running log in
+    let own = running_past start me there at fenced logs are log in
+    let whole = past_trans own before in
     let ys = onward start (taken m main some) in
     let past : IsPast ys (onward start (sent m main host (logs main))) =
     given_past start me there at fenced (logs main) (taken m main some)
-    (given_less m main host (logs main) (taken_past m main own) (are.right.linked main host)) in
+    (given_less m main host (logs main) (taken_past m main whole) (are.right.linked main host)) in
     let one =
     high start me there at fenced rank (omega (arith, promise.rank_is, promise.now)) (logs main) ys past
     (omega (arith, many, onward_length start me there at fenced (taken m main some))) in
@@ -546,12 +553,16 @@ requests_are_high start logs are me there at fenced number rank promise many =
     record {
       x = one.y.signal;
       there =
-          taken_inside (events_of (is_block at) start host some) (events_of (is_block at) start host (logs host))
+          taken_inside (events_of (is_block at) start host some) (events_of (is_block at) start host log)
           (events_past (is_block at) start host own) one.y.signal
-          (block_taken start me there at fenced logs are some own
-          (running_runs start me there at fenced logs are (logs host) (past_self (logs host))) one.y inside.0 inside.1
-          one.for);
+          (block_taken start me there at fenced logs are some whole
+          (running_runs start me there at fenced logs are log before) one.y inside.0 inside.1 one.for);
       set = one.set;
       says = one.says;
       high = omega (arith, low, ap (λ (v : View). v.number) one.promised);
     }
+
+pub requests_are_high : RequestsAreHigh
+requests_are_high start logs are me there at fenced number rank promise many =
+    requests_high_past start logs are me there at fenced (logs (host_of (made start) (part_of at) me)) (past_self _) number
+    rank promise many

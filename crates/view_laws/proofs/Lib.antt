@@ -80,7 +80,7 @@ pub mod RunKept
 pub mod RunMade
 mod RunMember
 pub mod RunOrderly
-mod RunSends
+pub mod RunSends
 pub mod RunShrink
 pub mod RunSound
 pub mod RunStep
@@ -93,6 +93,7 @@ pub mod Shrink
 mod StandingHome
 pub mod StandingMembers
 mod StandingNumbers
+pub mod StandingOldest
 mod StandingSettled
 pub mod StepLemmas
 mod VotesEpochs

@@ -33,7 +33,7 @@ module _ (start : Start) (is_shape : IsShape start.shape) where
   next : (es : List HostStep) (e : HostStep) → IsNext es e → AreSound (log_of (machine start) (e ∷ es))
   next es e come within =
       let before = within_less start e es within in
-      sound_next start is_shape es e within come.happens (come.all.law before) (λ asked. come.told asked before)
+      sound_next start is_shape es e within come.happens.step.fits (come.all.law before) (λ asked. come.told asked before)
 
   sends_next : (es : List HostStep) (e : HostStep) → IsNext es e
       → Each (λ x. IsTrueIn x (log_of (machine start) (e ∷ es)))
@@ -66,7 +66,7 @@ module _ (start : Start) (is_shape : IsShape start.shape) where
             of_greater (IsGood start new) (view_after start e.host (e ∷ old)) e.step.taken.view
             (subst (λ log. IsGood start new (view_after start e.host log)) (log_of-own (machine start) e es e.host refl)
             ((next es e come within).views e.host (host_there start e es within)))
-            (true_view start is_shape es e within come.happens (come.all.law before) (λ asked. come.told asked before));
+            (true_view start is_shape es e within come.happens.step.fits (come.all.law before) (λ asked. come.told asked before));
         says = λ me there at. tt;
         asks = λ at. tt;
       }

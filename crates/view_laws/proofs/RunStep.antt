@@ -5,7 +5,7 @@ use Rattle.std.specs.Prelude.{None}
 use Rattle.frag_map.specs.Layout.{Layout, first_layout, first_view, members}
 use Rattle.frag_map.specs.Shape.{IsShape}
 use Rattle.run_theory.specs.Lists.{Each, IsIn, IsPast}
-use Rattle.run_theory.specs.Runs.{Happens, IsWithin, log_of}
+use Rattle.run_theory.specs.Runs.{IsWithin, log_of}
 use Rattle.run_theory.proofs.Pasts.{each_append, each_from, each_in, each_map, past_self}
 use Rattle.run_theory.proofs.Runs.{log_of-other, log_of-own, log_of-past}
 use Rattle.sig_core.specs.declared.member.Member.{Member}
@@ -20,7 +20,7 @@ use Rattle.world_core.specs.Hosts.{hosts, member_at, part_by}
 use Rattle.world_core.specs.Start.{Start, made}
 use Rattle.world_core.specs.Steps.{HostStep}
 use Rattle.world_views.specs.Hosts.{part_started, started}
-use Rattle.world_views.specs.Machine.{IsOwn, after, comes_rightly, machine}
+use Rattle.world_views.specs.Machine.{FitsRow, IsOwn, after, comes_rightly, machine}
 use Rattle.world_views.specs.Sending.{is_asked}
 use Rattle.view_laws.specs.HostEvents.{events_at, events_of, is_arbiter, is_membership, taken_in}
 use Rattle.view_laws.specs.Members.{installed_of}
@@ -121,7 +121,8 @@ module _ (start : Start) where
 
     -- after an event
     module _ (es : List HostStep) (e : HostStep) (within : IsWithin (hosts start) (log_of (machine start) (e ∷ es)))
-        (happens : Happens (machine start) es e) (sound : AreSoundLogs start (log_of (machine start) es))
+        (fits : FitsRow start e.host (log_of (machine start) es e.host) e)
+        (sound : AreSoundLogs start (log_of (machine start) es))
         (told : is_asked e.host e.step.taken ≡ false
         → IsSoundSignal start (log_of (machine start) es) (record { to = e.host; signal = e.step.taken }))
       where
@@ -138,7 +139,7 @@ module _ (start : Start) where
         more = log_of-past (machine start) e es
 
         true_before : IsTrueAt old e.host x
-        true_before = by (is_asked e.host x) refl happens.step.fits.comes
+        true_before = by (is_asked e.host x) refl fits.comes
           where
             by : (asked : Bool) → is_asked e.host x ≡ asked → comes_rightly asked start e.host (old e.host) x
                 → IsTrueAt old e.host x

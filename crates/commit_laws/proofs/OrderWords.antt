@@ -1,0 +1,78 @@
+-- Orders to takeovers, and the signals by which a membership goes on with its orders.
+use Rattle.std.proofs.Common.{◌≡◌, ◌+◌, ℕ, Bool, true, false, List, drop, length, nat_lt, refl, sym, take}
+use Rattle.run_theory.specs.Lists.{Each}
+use Rattle.run_theory.proofs.EachSent.{each_drop, each_take}
+use Rattle.run_theory.proofs.Pasts.{each_append, each_map}
+use Rattle.std.proofs.lemmas.Bool.{true≢false}
+use Rattle.sig_core.specs.declared.outs.Outgoing.{Outgoing}
+use Rattle.sig_core.specs.declared.place.BlockId.{BlockId}
+use Rattle.sig_core.specs.declared.place.BlockId.TheVariants as block
+use Rattle.sig_core.specs.declared.place.Place.{Place}
+use Rattle.sig_core.specs.declared.portion.TheConstants.{PORTION}
+use Rattle.sig_core.specs.declared.signal.Body.{Body}
+use Rattle.sig_core.specs.declared.signal.Body.TheVariants.{Host, Takeover}
+use Rattle.sig_core.specs.declared.signal.host.HostSignal.TheVariants.{Continue}
+use Rattle.sig_core.specs.declared.signal.host.Work.{Work}
+use Rattle.sig_core.specs.declared.signal.host.Work.TheVariants.{Members}
+use Rattle.sig_core.specs.declared.signal.takeover.TakeoverSignal.TheVariants.{TakeoverOrd}
+use Rattle.sig_core.specs.Portion.{portion_effects, rest_if}
+use Rattle.sig_core.specs.Step.{Step}
+use Rattle.outcome_laws.proofs.RowsNone.{MarksNone}
+
+abbrev pub is_membership : BlockId → Bool
+is_membership block.Qmgr = true
+is_membership b = false
+
+-- a takeover is ordered, or a membership goes on with its orders
+abbrev pub is_ordering : BlockId → Body → Bool
+is_ordering b (Takeover TakeoverOrd) = true
+is_ordering b (Host (Continue Members at)) = is_membership b
+is_ordering b body = false
+
+-- it does neither
+abbrev pub IsQuiet : Outgoing → Type 0
+IsQuiet sent = is_ordering sent.to.block sent.body ≡ false
+
+abbrev pub AreQuiet : List Outgoing → Type 0
+AreQuiet sends = Each IsQuiet sends
+
+abbrev pub OrdersNone : {S : Type 0} → Step S → Type 0
+OrdersNone step = AreQuiet step.effects.sends × MarksNone step
+
+-- so it is of a part of a quiet list, if to go on with the list is
+pub portion_quiet : (by : Place) (work : Work) (sends : List Outgoing) (at : ℕ)
+    → ((left : ℕ) → is_ordering by.block (Host (Continue work left)) ≡ false) → AreQuiet sends
+    → AreQuiet (portion_effects by work sends at).sends
+portion_quiet by work sends at goes_on all =
+    each_append IsQuiet (take PORTION (drop at sends)) (rest_if by work at more)
+    (each_take IsQuiet PORTION (drop at sends) (each_drop IsQuiet at sends all)) (rest more)
+  where
+    more : Bool
+    more = nat_lt (at + PORTION) (length sends)
+
+    rest : (b : Bool) → AreQuiet (rest_if by work at b)
+    rest true = (goes_on (at + PORTION), tt)
+    rest false = tt
+
+abbrev pub SendsQuiet : {S : Type 0} → Step S → Type 0
+SendsQuiet step = AreQuiet step.effects.sends
+
+-- what says so whichever block it is for
+abbrev pub is_quiet : Body → Bool
+is_quiet (Takeover TakeoverOrd) = false
+is_quiet (Host (Continue Members at)) = false
+is_quiet body = true
+
+abbrev pub IsNoOrder : Outgoing → Type 0
+IsNoOrder sent = is_quiet sent.body ≡ true
+
+abbrev pub AreNoOrders : List Outgoing → Type 0
+AreNoOrders sends = Each (λ (sent : Outgoing). is_quiet sent.body ≡ true) sends
+
+quiet_one : (b : BlockId) (body : Body) → is_quiet body ≡ true → is_ordering b body ≡ false
+quiet_one b (Takeover TakeoverOrd) is = absurd (true≢false (sym is))
+quiet_one b (Host (Continue Members at)) is = absurd (true≢false (sym is))
+quiet_one b body is = refl
+
+pub none_quiet : (sends : List Outgoing) → AreNoOrders sends → AreQuiet sends
+none_quiet sends all = each_map IsNoOrder IsQuiet sends (λ sent is. quiet_one sent.to.block sent.body is) all

@@ -1,0 +1,156 @@
+-- What rows send of commits: they pass a commit on to the place in front of theirs, and tell of it at the first place;
+-- and so with completions.
+use Rattle.std.proofs.Common.{◌≡◌, ◌==◌, ◌-◌, ℕ, Bool, true, false, List, [], ◌∷◌, map, refl, sym, subst}
+use Rattle.std.proofs.lemmas.Bool.{eqb-true}
+use Rattle.std.specs.Prelude.{Option, None, Some}
+use Rattle.run_theory.specs.Lists.{Each}
+use Rattle.sig_core.specs.declared.member.Member.{Member}
+use Rattle.sig_core.specs.declared.member.TxId.{TxId}
+use Rattle.sig_core.specs.declared.outs.Outgoing.{Outgoing}
+use Rattle.sig_core.specs.declared.rows.PendingRecord.{PendingRecord}
+use Rattle.sig_core.specs.declared.signal.Body.{Body}
+use Rattle.sig_core.specs.declared.signal.Body.TheVariants.{Chain, Client, Epoch, Host, Membership, Takeover}
+use Rattle.sig_core.specs.declared.signal.Signal.{Signal}
+use Rattle.sig_core.specs.declared.signal.chain.ChainSignal.TheVariants.{Commit, Committed, Complete, Completed}
+use Rattle.sig_core.specs.declared.signal.client.ClientSignal.TheVariants.{TcCommitAck, TcCommitConf, TcKeyFailConf}
+use Rattle.sig_core.specs.declared.signal.epoch.EpochSignal.{EpochSignal}
+use Rattle.sig_core.specs.declared.signal.epoch.EpochSignal.TheVariants.{GcpClosed, GcpSaveReq, GcpStateReq}
+use Rattle.sig_core.specs.declared.signal.host.HostSignal.TheVariants.{Continue}
+use Rattle.sig_core.specs.declared.signal.host.Work.TheVariants.{Expired, Granted, Report}
+use Rattle.sig_core.specs.declared.signal.membership.MembershipSignal.TheVariants.{FenceReq}
+use Rattle.sig_core.specs.declared.signal.takeover.TakeoverSignal.TheVariants.{LqhTransReq}
+use Rattle.sig_core.specs.declared.view.View.{View}
+use Rattle.lqh_block.specs.declared.request.Marker.{Marker}
+use Rattle.lqh_block.specs.declared.request.Request.{Request}
+use Rattle.lqh_block.specs.Lqh.{lqh_table}
+use Rattle.lqh_block.specs.State.{LqhState}
+use Rattle.lqh_block.proofs.EachLqh.{RequestSends, lqh_sends_each}
+use Rattle.lqh_views.specs.Address.{addressed}
+use Rattle.lqh_views.specs.declared.report.Report as reports
+use Rattle.lqh_views.specs.Epochs.{epoch_table}
+use Rattle.lqh_views.specs.Replica.{is_stale, passed, replica_by, replica_row, serve_if}
+use Rattle.lqh_views.specs.Report.{go_on_by, is_orphaned_marker, is_orphaned_record, last_before, marker_by, record_by, reporting, told_record_if}
+use Rattle.lqh_views.specs.State.{ReplicaState}
+use Rattle.lqh_views.proofs.AddressLemmas.{same-body}
+
+module _ (taken : Body) where
+  -- the commit is passed on
+  pub record PassesOn (tx : TxId) (key : List ℕ) (epoch : ℕ) (chain : List Member) (front : ℕ) : Type 0 where
+    pub at : ℕ
+    pub body_is : taken ≡ Chain (Commit tx key epoch chain at)
+    pub behind : (at == 0) ≡ false
+    pub front_is : front ≡ at - 1
+
+  pub record TellsCommit (tx : TxId) (key : List ℕ) : Type 0 where
+    pub epoch : ℕ
+    pub chain : List Member
+    pub at : ℕ
+    pub body_is : taken ≡ Chain (Commit tx key epoch chain at)
+    pub first : at ≡ 0
+
+  -- it is of a completion, which is passed on, or told of at the first place
+  pub record TellsCompletion (tx : TxId) (key : List ℕ) : Type 0 where
+    pub chain : List Member
+    pub at : ℕ
+    pub body_is : taken ≡ Chain (Complete tx key chain at)
+
+  abbrev pub IsRowsWord : Body → Type 0
+  IsRowsWord (Chain (Commit tx key epoch chain front)) = PassesOn tx key epoch chain front
+  IsRowsWord (Chain (Committed tx key)) = TellsCommit tx key
+  IsRowsWord (Chain (Complete tx key chain front)) = TellsCompletion tx key
+  IsRowsWord (Chain (Completed tx key)) = TellsCompletion tx key
+  IsRowsWord (Client (TcCommitAck tx)) = ⊥
+  IsRowsWord (Client (TcCommitConf tx epoch)) = ⊥
+  IsRowsWord (Client (TcKeyFailConf tx epoch)) = ⊥
+  IsRowsWord body = Unit {0}
+
+  abbrev pub AreRowsWords : List Outgoing → Type 0
+  AreRowsWords sends = Each (λ (sent : Outgoing). IsRowsWord sent.body) sends
+
+  request_words : (r : Request) → RequestSends (λ (sent : Outgoing). IsRowsWord sent.body) r
+  request_words r = record {
+    log_full = λ used reserved need. tt;
+    table_full = λ rows. tt;
+    answers = λ a. tt;
+    passes = λ image next is. tt;
+  }
+
+  addressed_words : (view : View) (sends : List Outgoing) → AreRowsWords sends
+      → AreRowsWords (map (addressed view) sends)
+  addressed_words view [] all = tt
+  addressed_words view (send ∷ sends) all =
+      (subst IsRowsWord (sym (same-body view send)) all.0, addressed_words view sends all.1)
+
+  marker_words : (s : ReplicaState) (r : reports.Report) (o : Option (ℕ × Marker))
+      → AreRowsWords (marker_by s r o).effects.sends
+  marker_words s r None = (tt, tt)
+  marker_words s r (Some (at, m)) = (tt, (tt, tt))
+
+  told_words : (to : ℕ) (r : PendingRecord) (b : Bool) → IsRowsWord (told_record_if to r b).body
+  told_words to r true = tt
+  told_words to r false = tt
+
+  record_words : (s : ReplicaState) (r : reports.Report) (o : Option (ℕ × PendingRecord))
+      → AreRowsWords (record_by s r o).effects.sends
+  record_words s r None =
+      marker_words s r (last_before (is_orphaned_marker s.lqh.layout.view.full) s.lqh.markers r.markers)
+  record_words s r (Some (at, one)) = (told_words r.to one one.committed, (tt, tt))
+
+  report_words : (s : ReplicaState) (r : reports.Report) → AreRowsWords (reporting s r).effects.sends
+  unfolding reporting
+  report_words s r =
+      record_words s r (last_before (is_orphaned_record s.lqh.layout.view.full) s.lqh.rows.pending r.records)
+
+  go_on_words : (s : ReplicaState) (b : Bool) (o : Option reports.Report) → AreRowsWords (go_on_by s b o).effects.sends
+  go_on_words s true (Some r) = report_words s r
+  go_on_words s true None = tt
+  go_on_words s false o = tt
+
+  epochs_words : (s : ReplicaState) (from : ℕ) (signal : EpochSignal)
+      → AreRowsWords (epoch_table s from signal).effects.sends
+  epochs_words s from (GcpClosed epoch) = (tt, tt)
+  epochs_words s from (GcpSaveReq epoch) = (tt, tt)
+  epochs_words s from GcpStateReq = (tt, tt)
+  epochs_words s from _ = tt
+
+table_words : (s : LqhState) (body : Body) → AreRowsWords body (lqh_table s body).effects.sends
+table_words s body =
+    lqh_sends_each (λ (sent : Outgoing). IsRowsWord body sent.body) s body (record {
+      asked = λ r is. request_words body r;
+      waited = λ at r is. request_words body r;
+      grants_more = tt;
+      expires_more = tt;
+      commits_on = λ tx key epoch chain at is behind. record
+          { at = at; body_is = is; behind = behind; front_is = refl };
+      committed = λ tx key epoch chain at is first.
+          record { epoch = epoch; chain = chain; at = at; body_is = is; first = eqb-true at 0 first };
+      completes_on = λ tx key chain at is behind. record { chain = chain; at = at; body_is = is };
+      completed = λ tx key chain at is first. record { chain = chain; at = at; body_is = is };
+      aborted = λ tx key is. tt;
+      gives_up = λ tx key is. tt;
+      times_out = λ tx key. tt;
+      waits = λ tx key ahead is there. tt;
+      dumps = λ at rows next is. tt;
+    })
+
+module _ (s : ReplicaState) (x : Signal) where
+  passed_words : AreRowsWords x.body (passed s x).effects.sends
+  passed_words = addressed_words x.body s.lqh.layout.view (lqh_table s.lqh x.body).effects.sends
+      (table_words s.lqh x.body)
+
+  serve_words : (b : Bool) → AreRowsWords x.body (serve_if s x b).effects.sends
+  serve_words true = tt
+  serve_words false = passed_words
+
+  by_words : (body : Body) → AreRowsWords x.body (replica_by s x body).effects.sends
+  by_words (Membership (FenceReq proposal)) = (tt, tt)
+  by_words (Takeover LqhTransReq) = report_words x.body s _
+  by_words (Host (Continue Report at)) = go_on_words x.body s (x.view.number == s.lqh.layout.view.number) s.report
+  by_words (Host (Continue Granted at)) = serve_words (is_stale s x)
+  by_words (Host (Continue Expired at)) = serve_words (is_stale s x)
+  by_words (Epoch signal) = epochs_words x.body s x.member.node signal
+  by_words _ = passed_words
+
+  -- whatever they take
+  pub rows_words : AreRowsWords x.body (replica_row s x).effects.sends
+  rows_words = by_words x.body

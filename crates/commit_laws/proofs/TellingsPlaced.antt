@@ -1,0 +1,265 @@
+-- What is told takeovers of transactions is for takeovers.
+use Rattle.std.proofs.Common.{◌≡◌, ◌⊎◌, ◌++◌, ◌==◌, ◌∙◌, ℕ, Bool, true, false, List, [], ◌∷◌, map, inl, inr, refl, sym, ap, subst}
+use Rattle.std.specs.Prelude.{Option, None, Some}
+use Rattle.run_theory.specs.Lists.{Each}
+use Rattle.sig_core.specs.declared.outs.Outgoing.{Outgoing}
+use Rattle.sig_core.specs.declared.rows.PendingRecord.{PendingRecord}
+use Rattle.sig_core.specs.declared.signal.Body.{Body}
+use Rattle.sig_core.specs.declared.signal.Body.TheVariants.{Epoch, Host, Membership, Takeover}
+use Rattle.sig_core.specs.declared.signal.Signal.{Signal}
+use Rattle.sig_core.specs.declared.signal.epoch.EpochSignal.{EpochSignal}
+use Rattle.sig_core.specs.declared.signal.epoch.EpochSignal.TheVariants.{GcpClosed, GcpSaveReq, GcpStateReq}
+use Rattle.sig_core.specs.declared.signal.host.HostSignal.TheVariants.{Closed, Continue}
+use Rattle.sig_core.specs.declared.signal.host.Work.TheVariants.{Expired, Granted, Report}
+use Rattle.sig_core.specs.declared.signal.membership.MembershipSignal.TheVariants.{FenceReq}
+use Rattle.sig_core.specs.declared.signal.takeover.TakeoverSignal.TheVariants.{LqhTransConf, LqhTransReq}
+use Rattle.sig_core.specs.declared.view.View.{View}
+use Rattle.lqh_block.specs.declared.request.Marker.{Marker}
+use Rattle.lqh_block.specs.declared.request.Request.{Request}
+use Rattle.lqh_block.specs.Lqh.{lqh_table}
+use Rattle.lqh_block.specs.State.{LqhState}
+use Rattle.lqh_block.proofs.EachLqh.{RequestSends, lqh_sends_each}
+use Rattle.lqh_views.specs.Address.{about, addressed, owned_by, owned_if, to_takeover}
+use Rattle.lqh_views.specs.declared.report.Report as reports
+use Rattle.lqh_views.specs.Epochs.{epoch_table}
+use Rattle.lqh_views.specs.Replica.{is_stale, passed, replica_by, replica_row, serve_if}
+use Rattle.lqh_views.specs.Report.{go_on_by, is_orphaned_marker, is_orphaned_record, last_before, marker_by, record_by, reporting, told_record_if}
+use Rattle.lqh_views.specs.State.{ReplicaState}
+use Rattle.run_theory.proofs.Pasts.{each_append, each_map}
+use Rattle.sig_core.specs.declared.member.Member.{Member}
+use Rattle.sig_core.specs.declared.member.TxId.{TxId}
+use Rattle.sig_core.specs.declared.place.BlockId.TheVariants as block
+use Rattle.sig_core.specs.declared.place.Place.{Place}
+use Rattle.run_theory.specs.Lists.{IsIn}
+use Rattle.sig_core.specs.Place.{takeover}
+use Rattle.lqh_block.specs.Views.{is_coordinated}
+use Rattle.world_core.specs.Start.{Start, made}
+use Rattle.world_core.specs.Steps.{Addressed, HostStep}
+use Rattle.world_views.specs.Machine.{IsOwnWork, step_after}
+use Rattle.view_laws.specs.Runs.{view_after}
+use Rattle.moment_laws.specs.Moments.{IsMoment, logs_of}
+use Rattle.moment_laws.specs.PartSteps.{PartEnters, PartTakes, handles, ignores, installs, remains, tc_kind}
+use Rattle.moment_laws.specs.Places.{ldm_of}
+use Rattle.moment_laws.proofs.MomentSignals.{EachSent, sent_next, taken_told}
+use Rattle.moment_laws.proofs.MomentTurns.{host_low}
+use Rattle.moment_laws.proofs.MomentViews.{moment_less}
+use Rattle.request_laws.proofs.RouteHeaders.{sent_so}
+use Rattle.request_laws.proofs.RouteHosts.{PartHost, beside_sends, coordinates, is_beside, keeps_rows, part_host}
+use Rattle.request_laws.proofs.RouteSteps.{TcStep, tc_step}
+use Rattle.commit_laws.specs.Telling.{TellingsAreForTakeovers}
+use Rattle.commit_laws.proofs.RowsGo.{RowsGo, enter, rest, rows_go, take}
+use Rattle.commit_laws.proofs.TakeoverReports.{Fated, AreFated, IsFated, all_aside_fated, tc_enters_fated, tc_fated}
+
+-- the body tells of a transaction, and is for a takeover
+abbrev pub IsFor : Place → Body → Type 0
+IsFor to (Takeover (LqhTransConf tx key told epoch)) = to.block ≡ block.Takeover
+IsFor to body = Unit {0}
+
+abbrev IsPlaced : Outgoing → Type 0
+IsPlaced o = IsFor o.to o.body
+
+abbrev ArePlaced : List Outgoing → Type 0
+ArePlaced sends = Each (λ (o : Outgoing). IsFor o.to o.body) sends
+
+-- rows
+
+takeover_for : (node : ℕ) (body : Body) → IsFor (takeover node) body
+takeover_for node (Takeover (LqhTransConf tx key told epoch)) = refl
+takeover_for node body = tt
+
+moved_for : (view : View) (o : Outgoing) → IsPlaced o → IsPlaced (addressed view o)
+unfolding addressed
+moved_for view o placed = by (about o.body)
+  where
+    by_full : (full : List Member) → IsPlaced (to_takeover full o)
+    by_full [] = placed
+    by_full (oldest ∷ others) = takeover_for oldest.node o.body
+
+    by_if : (full : List Member) (b : Bool) → IsPlaced (owned_if full o b)
+    by_if full true = placed
+    by_if full false = by_full full
+
+    by : (about : Option TxId) → IsPlaced (owned_by view.full o about)
+    by None = placed
+    by (Some tx) = by_if view.full (is_coordinated view.full tx)
+
+request_placed : (r : Request) → RequestSends (λ (o : Outgoing). IsFor o.to o.body) r
+request_placed r = record {
+  log_full = λ used reserved need. tt;
+  table_full = λ rows. tt;
+  answers = λ a. tt;
+  passes = λ image next is. tt;
+}
+
+table_placed : (s : LqhState) (body : Body) → ArePlaced (lqh_table s body).effects.sends
+table_placed s body =
+    lqh_sends_each (λ (o : Outgoing). IsFor o.to o.body) s body (record {
+      asked = λ r is. request_placed r;
+      waited = λ at r is. request_placed r;
+      grants_more = tt;
+      expires_more = tt;
+      commits_on = λ tx key epoch chain at is behind. tt;
+      committed = λ tx key epoch chain at is first. tt;
+      completes_on = λ tx key chain at is behind. tt;
+      completed = λ tx key chain at is first. tt;
+      aborted = λ tx key is. tt;
+      gives_up = λ tx key is. tt;
+      times_out = λ tx key. tt;
+      waits = λ tx key ahead is there. tt;
+      dumps = λ at rows next is. tt;
+    })
+
+addressed_placed : (view : View) (sends : List Outgoing) → ArePlaced sends → ArePlaced (map (addressed view) sends)
+addressed_placed view [] all = tt
+addressed_placed view (o ∷ sends) all = (moved_for view o all.0, addressed_placed view sends all.1)
+
+marker_placed : (s : ReplicaState) (r : reports.Report) (o : Option (ℕ × Marker))
+    → ArePlaced (marker_by s r o).effects.sends
+marker_placed s r None = (tt, tt)
+marker_placed s r (Some (at, m)) = (refl, (tt, tt))
+
+told_placed : (to : ℕ) (r : PendingRecord) (b : Bool) → IsPlaced (told_record_if to r b)
+told_placed to r true = refl
+told_placed to r false = refl
+
+record_placed : (s : ReplicaState) (r : reports.Report) (o : Option (ℕ × PendingRecord))
+    → ArePlaced (record_by s r o).effects.sends
+record_placed s r None =
+    marker_placed s r (last_before (is_orphaned_marker s.lqh.layout.view.full) s.lqh.markers r.markers)
+record_placed s r (Some (at, one)) = (told_placed r.to one one.committed, (tt, tt))
+
+report_placed : (s : ReplicaState) (r : reports.Report) → ArePlaced (reporting s r).effects.sends
+unfolding reporting
+report_placed s r =
+    record_placed s r (last_before (is_orphaned_record s.lqh.layout.view.full) s.lqh.rows.pending r.records)
+
+go_on_placed : (s : ReplicaState) (b : Bool) (o : Option reports.Report) → ArePlaced (go_on_by s b o).effects.sends
+go_on_placed s true (Some r) = report_placed s r
+go_on_placed s true None = tt
+go_on_placed s false o = tt
+
+epochs_placed : (s : ReplicaState) (from : ℕ) (signal : EpochSignal)
+    → ArePlaced (epoch_table s from signal).effects.sends
+epochs_placed s from (GcpClosed epoch) = (tt, tt)
+epochs_placed s from (GcpSaveReq epoch) = (tt, tt)
+epochs_placed s from GcpStateReq = (tt, tt)
+epochs_placed s from _ = tt
+
+module _ (s : ReplicaState) (x : Signal) where
+  passed_placed : ArePlaced (passed s x).effects.sends
+  passed_placed =
+      addressed_placed s.lqh.layout.view (lqh_table s.lqh x.body).effects.sends (table_placed s.lqh x.body)
+
+  serve_placed : (b : Bool) → ArePlaced (serve_if s x b).effects.sends
+  serve_placed true = tt
+  serve_placed false = passed_placed
+
+  by_placed : (body : Body) → ArePlaced (replica_by s x body).effects.sends
+  by_placed (Membership (FenceReq proposal)) = (tt, tt)
+  by_placed (Takeover LqhTransReq) = report_placed s _
+  by_placed (Host (Continue Report at)) = go_on_placed s (x.view.number == s.lqh.layout.view.number) s.report
+  by_placed (Host (Continue Granted at)) = serve_placed (is_stale s x)
+  by_placed (Host (Continue Expired at)) = serve_placed (is_stale s x)
+  by_placed (Epoch signal) = epochs_placed s x.member.node signal
+  by_placed _ = passed_placed
+
+  rows_placed : ArePlaced (replica_row s x).effects.sends
+  rows_placed = by_placed x.body
+
+-- other hosts tell nothing of transactions
+abbrev Nothing : TxId → Option ℕ → Type 0
+Nothing tx epoch = ⊥
+
+of_fated : (to : Place) (body : Body) → Fated Nothing body → IsFor to body
+of_fated to (Takeover (LqhTransConf tx key told epoch)) fated = absurd fated
+of_fated to body fated = tt
+
+all_of_fated : (sends : List Outgoing) → AreFated Nothing sends → ArePlaced sends
+all_of_fated sends all =
+    each_map (IsFated Nothing) (λ (o : Outgoing). IsFor o.to o.body) sends (λ o fated. of_fated o.to o.body fated) all
+
+abbrev IsForOne : Addressed → Type 0
+IsForOne y = IsFor y.signal.to y.signal.body
+
+module _ (start : Start) (all : ℕ → List HostStep) (e : HostStep) (es : List HostStep)
+    (moment : IsMoment start all (e ∷ es))
+  where
+    abbrev old : ℕ → List HostStep
+    old = logs_of start es
+
+    abbrev x : Signal
+    x = e.step.taken
+
+    abbrev view : View
+    view = view_after start e.host (e ∷ old e.host)
+
+    abbrev sends : List Outgoing
+    sends = (step_after start e.host (old e.host) e).effects.sends
+
+    tc_placed : TcStep start e.host (old e.host) e → ArePlaced sends
+    tc_placed step = by step.does.sent
+      where
+        front : PartEnters tc_kind step.own (view_after start e.host (old e.host)) x step.does.between view step.does.front
+            → AreFated Nothing step.does.front
+        front (remains same stands none) = subst (AreFated Nothing) (sym none) tt
+        front (installs above same stands is) =
+            subst (AreFated Nothing) (sym is) (tc_enters_fated Nothing step.own x.view)
+
+        others : PartTakes tc_kind start.shape step.does.between view x step.does.own step.does.rest
+            → AreFated Nothing step.does.rest
+        others (ignores same none) = subst (AreFated Nothing) (sym none) tt
+        others (handles passed same is) =
+            subst (AreFated Nothing) (sym is) (tc_fated Nothing step.does.between x x.to.block)
+
+        by : (sends ≡ step.does.front ++ step.does.rest) ⊎ (sends ≡ []) → ArePlaced sends
+        by (inl is) =
+            subst ArePlaced (sym is)
+            (all_of_fated (step.does.front ++ step.does.rest)
+            (each_append (IsFated Nothing) step.does.front step.does.rest (front step.does.enters) (others step.does.takes)))
+        by (inr is) = subst ArePlaced (sym is) tt
+
+    own_placed : (member : Member) → IsIn member (made start) → e.host ≡ ldm_of start member → ArePlaced sends
+    own_placed member there at = by (rows_go start all e es moment member there)
+      where
+        own : List Outgoing
+        own = (step_after start (ldm_of start member) (old (ldm_of start member)) e).effects.sends
+
+        same : sends ≡ own
+        same = ap (λ k. (step_after start k (old k) e).effects.sends) at
+
+        by : RowsGo start all e es moment member there → ArePlaced sends
+        by (rest is quiet) = subst ArePlaced (sym (same ∙ (quiet at).sends)) tt
+        by (enter set is quiet) = subst ArePlaced (sym (same ∙ (quiet at).sends)) tt
+        by (take s between taken) = sent_by taken.sent
+          where
+            sent_by : (own ≡ (replica_row s x).effects.sends) ⊎ (own ≡ []) → ArePlaced sends
+            sent_by (inl is) = subst ArePlaced (sym (same ∙ is)) (rows_placed s x)
+            sent_by (inr is) = subst ArePlaced (sym (same ∙ is)) tt
+
+    sends_placed : ArePlaced sends
+    sends_placed = by (part_host start e.host (host_low start all e es moment))
+      where
+        by : PartHost start e.host → ArePlaced sends
+        by (coordinates me there at) = tc_placed (tc_step start me there e.host at (old e.host) e)
+        by (keeps_rows me there at) = own_placed me there at
+        by (is_beside first) =
+            all_of_fated sends (all_aside_fated Nothing sends (beside_sends start e.host first (old e.host) e))
+
+    placed_next : EachSent start IsForOne (logs_of start es) → EachSent start IsForOne (logs_of start (e ∷ es))
+    placed_next before =
+        sent_next start IsForOne all e es moment before
+        (λ goes. sent_so start e.host (old e.host) e (λ (v : View) (to : Place) (body : Body). IsFor to body) sends_placed)
+
+all_placed : (start : Start) (all : ℕ → List HostStep) (es : List HostStep) → IsMoment start all es
+    → EachSent start IsForOne (logs_of start es)
+all_placed start all [] moment = λ i j. tt
+all_placed start all (e ∷ es) moment =
+    placed_next start all e es moment (all_placed start all es (moment_less start all e es moment))
+
+pub tellings_are_for_takeovers : TellingsAreForTakeovers
+tellings_are_for_takeovers start all e es moment sound tx key told epoch is =
+    subst (IsFor e.step.taken.to) is
+    (taken_told start IsForOne all e es moment (all_placed start all es (moment_less start all e es moment)) sound
+    (λ work. subst (IsOwnWork start e.host) is work)
+    (λ closes. let differ : Takeover (LqhTransConf tx key told epoch) ≡ Host (Closed closes.cause) = sym is ∙ closes.is in
+    absurd cc))
