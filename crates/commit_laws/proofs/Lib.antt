@@ -216,3 +216,4 @@ pub mod WholeAll
 pub mod WholeHosts
 pub mod WholeTakeover
 pub mod WholeTurns
+pub mod StandAlways

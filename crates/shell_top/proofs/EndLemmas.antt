@@ -19,7 +19,6 @@ use Rattle.calm_laws.specs.Steps.{plain_replies}
 use Rattle.calm_laws.proofs.Quiet.{asked_plain, quiet_plain}
 use Rattle.calm_laws.proofs.Rest.{lives_begin_at_rest}
 use Rattle.calm_laws.proofs.Runs.{logs_plain}
-use Rattle.calm_serial.proofs.Serial.{cuts_serial}
 use Rattle.cause_laws.proofs.Causes.{replies_caused}
 use Rattle.command_laws.proofs.RepliesLive.{replies_live}
 use Rattle.command_laws.proofs.RequestsAnswered.{requests_answered}
@@ -192,7 +191,6 @@ module _ (start : Start) (logs : ℕ → List HostStep) (life : IsCalmLife start
       → IsCalmServed start e logs
   calmly_served e asked quiet =
       record {
-        serial = λ inside cut closed. cuts_serial start inside logs life cut closed;
         replies = plainly_replied;
         answered = λ newer step before request at is again.
             requests_answered start (plain_logs logs) life.shape are_plain.right are_plain.within

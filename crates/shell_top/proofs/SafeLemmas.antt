@@ -15,7 +15,6 @@ use Rattle.view_laws.proofs.EraEntries.{stand_in_order}
 use Rattle.view_laws.proofs.RunKept.{have_orderly}
 use Rattle.view_laws.proofs.RunViews.{one_view, past_none, viable}
 use Rattle.epoch_laws.proofs.FallAll.{epochs_of_histories}
-use Rattle.outcome_laws.proofs.KnowReports.{commits_were_decided}
 use Rattle.outcome_laws.proofs.OnceDecided.{decided_once}
 use Rattle.outcome_laws.proofs.OnceDown.{none_down_decided}
 use Rattle.outcome_laws.proofs.OnceReported.{reported_once}
@@ -40,11 +39,17 @@ module _ (start : Start) (inside logs : ℕ → List HostStep) (some : 1 ≤ sta
         record {
           one_view = one_view have_orderly start inside of_cluster;
           viable = viable have_orderly start inside of_cluster;
-          epochs = epochs_of_histories stand_in_order start inside some of_cluster;
-          strict = histories_in_strict_order start inside of_cluster;
+          serial = record {
+            legal = histories_legal start inside of_cluster;
+            strict = histories_in_strict_order start inside of_cluster;
+            epochs = epochs_of_histories stand_in_order start inside some of_cluster;
+            viable = greatest_viable start inside of_cluster;
+            rows = resting_rows start inside of_cluster;
+          };
           decided_once = decided_once start inside of_cluster;
           reported_once = reported_once start inside of_cluster;
           answered = decided_as_told start inside of_cluster;
-          committed = commits_were_decided start inside of_cluster;
+          committed = commits_take_effect start inside of_cluster;
+          aborted = aborts_take_none start inside of_cluster;
           down = none_down_decided start inside of_cluster;
         }

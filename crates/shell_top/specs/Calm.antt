@@ -35,12 +35,11 @@ EachIsAnswered start ending logs =
 abbrev pub replied : Start → List HostStep → List ApiReply
 replied start log = replies_of (plain.after start 0 log)
 
--- Calm logs, of a session that ended so. Every closed cut of them is serial. Their plain parts are the logs of a cluster
+-- Calm logs, of a session that ended so. Their plain parts are the logs of a cluster
 -- in which nothing can fail: its shell was replied the same, but for the views that it was shown; each request is
 -- answered; what is reported is the history of every closed cut, and each abort that is told has its cause there; and no
 -- reply tells of a host that stopped.
 pub record IsCalmServed (start : Start) (ending : Ending) (logs : ℕ → List HostStep) : Type 0 where
-  pub serial : (inside : ℕ → List HostStep) → IsCut inside logs → IsClosed (machine start) inside → IsSerial start inside
   pub replies : plain_replies (replies_in start 0 (logs 0)) ≡ replied start (plain_logs logs 0)
   pub answered : EachIsAnswered start ending (plain_logs logs)
   pub reported : AreReported start (plain_logs logs)

@@ -7,6 +7,7 @@ use Rattle.report_laws.specs.Asked.{operations_of}
 use Rattle.sig_core.specs.declared.entry.Entry.{Entry}
 use Rattle.sig_core.specs.declared.mark.Mark.TheVariants.{Reported}
 use Rattle.sig_core.specs.declared.member.TxId.{TxId}
+use Rattle.sig_core.specs.declared.outcome.AbortCause.{AbortCause}
 use Rattle.sig_core.specs.declared.outcome.AbortCause.TheVariants.{Down}
 use Rattle.sig_core.specs.declared.outcome.Outcome.TheVariants.{Aborted, Committed}
 use Rattle.sig_core.specs.declared.view.View.{View}
@@ -14,30 +15,32 @@ use Rattle.sig_core.specs.Same.{same_tx}
 use Rattle.world_core.specs.Entries.{entries}
 use Rattle.world_core.specs.History.{history}
 use Rattle.world_core.specs.Hosts.{hosts}
-use Rattle.world_core.specs.SerialLaw.{AreEpochsOrdered}
 use Rattle.world_core.specs.Start.{Start}
 use Rattle.world_core.specs.Steps.{HostStep}
-use Rattle.world_views.specs.Strict.{IsStrictOrder}
+use Rattle.world_views.specs.SerialLaw.{IsSerial}
 use Rattle.view_laws.specs.Runs.{WasInstalled}
 use Rattle.outcome_laws.specs.Decided.{IsMarked}
 use Rattle.outcome_laws.specs.Outcomes.{AreOnce, HasEntry, reports_in}
 use Rattle.talk_laws.specs.Talks.{asked_of, told_of}
 
--- Two views of one number that hosts stood in are the same, and each has a full member in each group; epochs never fall
--- along the history, and what was reported before another transaction was asked for stands before it. A transaction is
--- decided once at most, as its client asked for it and was answered, and reported once at most: committed only where it was
--- decided, in the epoch of its decision, and aborted since the cluster is down only where it wasn't.
+-- Two views of one number that hosts stood in are the same, and each has a full member in each group. The history is a
+-- serial one: each answer in it is right, what was reported before another transaction was asked for stands before it,
+-- epochs never fall along it, and a live replica of a key at rest has the row that it leaves. A transaction is decided
+-- once at most, as its client asked for it and was answered, and reported once at most: where it is reported committed it
+-- is in the history, with that epoch, and where it is reported aborted it isn't; since the cluster is down only where it
+-- wasn't decided.
 pub record IsSafe (start : Start) (inside : ℕ → List HostStep) : Type 0 where
   pub one_view : (one other : View) → WasInstalled start inside one → WasInstalled start inside other
       → one.number ≡ other.number → one ≡ other
   pub viable : (view : View) → WasInstalled start inside view → is_viable start.shape view ≡ true
-  pub epochs : AreEpochsOrdered (history (hosts start) inside)
-  pub strict : IsStrictOrder start (inside 0) (history (hosts start) inside)
+  pub serial : IsSerial start inside
   pub decided_once : AreOnce (entries (hosts start) inside)
   pub reported_once : (tx : TxId) → reports_in tx (inside 0) ≤ 1
   pub answered : (entry : Entry) → IsIn entry (entries (hosts start) inside)
       → (asked_of start entry.tx (inside 0) ≡ operations_of entry) × (told_of start entry.tx (inside 0) ≡ answers_of entry)
   pub committed : (tx : TxId) (epoch : ℕ) → IsMarked (Reported tx (Committed epoch)) (inside 0)
-      → HasEntry tx epoch (entries (hosts start) inside)
+      → HasEntry tx epoch (history (hosts start) inside)
+  pub aborted : (tx : TxId) (cause : AbortCause) → IsMarked (Reported tx (Aborted cause)) (inside 0)
+      → Each (λ (entry : Entry). same_tx entry.tx tx ≡ false) (history (hosts start) inside)
   pub down : (tx : TxId) → IsMarked (Reported tx (Aborted Down)) (inside 0)
-      → Each (λ (a : Entry). same_tx a.tx tx ≡ false) (entries (hosts start) inside)
+      → Each (λ (entry : Entry). same_tx entry.tx tx ≡ false) (entries (hosts start) inside)
