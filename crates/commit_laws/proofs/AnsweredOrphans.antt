@@ -1,5 +1,5 @@
--- Where a takeover that commits a transaction has heard of as many commits as it has keys, each of these was committed in
--- its view: it commits no other keys, and no other host commits any of them there.
+-- Where a takeover that commits a transaction has heard of as many commits as it has keys, each of these was committed
+-- in its view: it commits no other keys, and no other host commits any of them there.
 use Rattle.std.proofs.Common.{◌≡◌, ◌≢◌, ◌≤◌, ◌⊎◌, ◌==◌, ◌&&◌, ◌||◌, ◌∙◌, ℕ, zero, suc, Bool, true, false, List, [], ◌∷◌, inl, inr, length, map, refl, sym, ap, arith, subst}
 use Rattle.std.proofs.lemmas.Bool.{and_parts, cases_eq, true≢false}
 use Rattle.std.specs.List.{flat_map, list_any}
@@ -58,7 +58,7 @@ use Rattle.commit_laws.proofs.DriveMoments.{told_few}
 use Rattle.commit_laws.proofs.DriveOnce.{all_once}
 use Rattle.commit_laws.proofs.DriveOrdered.{ruled, takeovers_drive_once}
 use Rattle.commit_laws.proofs.DriveRuled.{IsRuled, is_order}
-use Rattle.commit_laws.proofs.DriveRulings.{IsAt, Rules, awaits, counted, rests, works}
+use Rattle.commit_laws.proofs.DriveRulings.{IsAt, Rules, awaits, rests, works}
 use Rattle.commit_laws.proofs.DriveStages.{front_none, key_count}
 use Rattle.commit_laws.proofs.GatheringAlone.{two_low}
 use Rattle.commit_laws.proofs.SentCounted.{sent_counted}
@@ -76,7 +76,8 @@ touched_among : (keys : List (List ℕ)) (key : List ℕ) → among (map touch k
 touched_among [] key = refl
 touched_among (own ∷ keys) key = ap (λ b. same_key key own || b) (touched_among keys key)
 
-of_touched : (P : List ℕ → Type 0) (keys : List (List ℕ)) → Each (λ (u : Touched). P u.key) (map touch keys) → Each P keys
+of_touched : (P : List ℕ → Type 0) (keys : List (List ℕ)) → Each (λ (u : Touched). P u.key) (map touch keys)
+    → Each P keys
 of_touched P [] all = tt
 of_touched P (key ∷ keys) all = (all.0, of_touched P keys all.1)
 
@@ -93,15 +94,16 @@ of_key start number tx wk h log some = by own.signal.signal.body refl parts.0
     own : WasSent start (numbered number (goes committing (mine tx wk))) h log
     own = sent_some start (numbered number (goes committing (mine tx wk))) h log some
 
-    parts : (goes committing (mine tx wk) own.signal.signal.body ≡ true) × ((own.signal.signal.view.number == number) ≡ true)
+    parts : (goes committing (mine tx wk) own.signal.signal.body ≡ true)
+        × ((own.signal.signal.view.number == number) ≡ true)
     parts =
         and_parts (goes committing (mine tx wk) own.signal.signal.body) (own.signal.signal.view.number == number) own.is
 
-    both : (a b c d : Bool) → a ≡ true → b ≡ true → c ≡ true → d ≡ true → ((a && b) && c) ≡ true
-    both true true true d e f g k = refl
-    both false b c d e f g k = absurd (true≢false (sym e))
-    both true false c d e f g k = absurd (true≢false (sym f))
-    both true true false d e f g k = absurd (true≢false (sym g))
+    both : (a b c : Bool) → a ≡ true → b ≡ true → c ≡ true → ((a && b) && c) ≡ true
+    both true true true e f g = refl
+    both false b c e f g = absurd (true≢false (sym e))
+    both true false c e f g = absurd (true≢false (sym f))
+    both true true false e f g = absurd (true≢false (sym g))
 
     by : (body : Body) → own.signal.signal.body ≡ body → goes committing (mine tx wk) body ≡ true
         → OfKey start number tx wk h log
@@ -114,15 +116,17 @@ of_key start number tx wk h log some = by own.signal.signal.body refl parts.0
               sent_counted start (numbered number (goes committing (mine tx (only key)))) h own.to_host log own.signal
               own.there
               (ap (λ (b : Body). goes committing (mine tx (only key)) b && (own.signal.signal.view.number == number)) is
-              ∙ both (same_tx one tx) (same_key key key) (own.signal.signal.view.number == number) true both_are.0
-              (same_key-self key) parts.1 refl);
+              ∙ both (same_tx one tx) (same_key key key) (own.signal.signal.view.number == number) both_are.0
+              (same_key-self key) parts.1);
         }
     by body is passes = absurd (true≢false (sym passes))
 
 -- of keys that aren't among those of a transaction none is in its list
 module _ (layout : Layout) (g : Gathered) (key : List ℕ) (stage : Stage) where
-  none_for : (keys : List (List ℕ)) → has_key keys key ≡ false
-      → count_sent (goes committing (mine g.tx (only key))) (flat_map (key_sends layout g.tx stage) keys) ≡ 0
+  abbrev counted : List (List ℕ) → ℕ
+  counted keys = count_sent (goes committing (mine g.tx (only key))) (flat_map (key_sends layout g.tx stage) keys)
+
+  none_for : (keys : List (List ℕ)) → has_key keys key ≡ false → counted keys ≡ 0
   none_for [] off = refl
   none_for (u ∷ keys) off = by (same_key key u) (has_key keys key) refl off (none_for keys)
     where
@@ -137,8 +141,7 @@ module _ (layout : Layout) (g : Gathered) (key : List ℕ) (stage : Stage) where
       one_off false b e = refl
 
       by : (a b : Bool) → same_key key u ≡ a → (a || b) ≡ false
-          → (b ≡ false → count_sent (goes committing (mine g.tx (only key))) (flat_map (key_sends layout g.tx stage) keys) ≡ 0)
-          → count_sent (goes committing (mine g.tx (only key))) (flat_map (key_sends layout g.tx stage) (u ∷ keys)) ≡ 0
+          → (b ≡ false → counted keys ≡ 0) → counted (u ∷ keys) ≡ 0
       by true b e off rest = absurd (true≢false off)
       by false b e off rest =
           omega (
@@ -282,12 +285,12 @@ module _ (start : Start) (all : ℕ → List HostStep) (e : HostStep) (es : List
     keys = map touch g.keys
 
     -- so no other keys of it are committed by anyone there
-    none_outside : (me : Member) → IsIn me (made start)
-        → sent_along start (numbered n (goes committing (mine tx (outside keys)))) (tc_of start me) (old (tc_of start me))
-        ≡ 0
-    none_outside me among_made =
-        by (sent_along start (numbered n (goes committing (mine tx (outside keys)))) (tc_of start me) (old (tc_of start me)))
-        refl
+    abbrev sent_others : Member → ℕ
+    sent_others me =
+        sent_along start (numbered n (goes committing (mine tx (outside keys)))) (tc_of start me) (old (tc_of start me))
+
+    none_outside : (me : Member) → IsIn me (made start) → sent_others me ≡ 0
+    none_outside me among_made = by (sent_others me) refl
       where
         outside_off : (b : Bool) → not b ≡ true → b ≡ false
         outside_off false e = refl
@@ -313,24 +316,18 @@ module _ (start : Start) (all : ℕ → List HostStep) (e : HostStep) (es : List
                   one.sent,
                   (ruled_at one.key me among_made).few committing,
                   own_ordered,
-                  two_low (hosts start) orders_at (tc_of start me) h (tc_low start me among_made) (tc_low start member there)
-                      apart,
+                  two_low (hosts start) orders_at (tc_of start me) h (tc_low start me among_made)
+                      (tc_low start member there) apart,
                   orders_once start all es less n,
                 ))
 
-        by : (count : ℕ)
-            → sent_along start (numbered n (goes committing (mine tx (outside keys)))) (tc_of start me)
-            (old (tc_of start me)) ≡ count
-            → count ≡ 0
+        by : (count : ℕ) → sent_others me ≡ count → count ≡ 0
         by zero is = refl
         by (suc count) is =
             absurd (no (of_key start n tx (outside keys) (tc_of start me) (old (tc_of start me)) (omega (arith, is))))
 
     owners_none : owners_sent start (numbered n (goes committing (mine tx (outside keys)))) old ≡ 0
-    owners_none =
-        total_of_zero (made start)
-        (λ me. sent_along start (numbered n (goes committing (mine tx (outside keys)))) (tc_of start me) (old (tc_of start me)))
-        none_outside
+    owners_none = total_of_zero (made start) sent_others none_outside
 
     rows : (wk : List ℕ → Bool) (y : Signal) → told tx n wk y ≡ true → is_of_rows y.body ≡ true
     rows wk y is = by y.body (and_parts (comes committing (mine tx wk) y.body) (y.view.number == n) is).0
@@ -367,7 +364,7 @@ module _ (start : Start) (all : ℕ → List HostStep) (e : HostStep) (es : List
           owners_none,
         )
 
-    pub all_committed : length g.keys
+    all_committed : length g.keys
         ≤ taken_along start
         (told g.tx (view_after start (tc_of start member) (logs_of start es (tc_of start member))).number any)
         (e ∷ logs_of start es (tc_of start member))
@@ -379,3 +376,29 @@ module _ (start : Start) (all : ℕ → List HostStep) (e : HostStep) (es : List
         (λ (u : Touched). WasCommittedIn start old n tx u.key) keys
         (λ u one. told_sent start old n tx u.key (omega (arith, one, taken_sent (only u.key))))
         (each_told tx n start (e ∷ log) keys once others_none (omega (arith, enough, touched_all g.keys))))
+
+-- so it is at the host of the event
+module _ (start : Start) (all : ℕ → List HostStep) (e : HostStep) (es : List HostStep)
+    (moment : IsMoment start all (e ∷ es)) (member : Member) (there : IsIn member (made start))
+    (at : e.host ≡ tc_of start member) (g : Gathered) (epoch awaited : ℕ)
+  where
+    abbrev IsSoAt : ℕ → Type 0
+    IsSoAt k =
+        slice_get (takeover_after start member (logs_of start es k)).gathered 0 ≡ Some g
+        → (takeover_after start member (logs_of start es k)).stage ≡ Committing epoch awaited
+        → length g.keys
+        ≤ taken_along start (told g.tx (view_after start k (logs_of start es k)).number any) (e ∷ logs_of start es k)
+        → Each (λ (key : List ℕ). WasCommittedIn start (logs_of start es)
+        (view_after start k (logs_of start es k)).number g.tx key) g.keys
+
+    pub keys_were_committed :
+        slice_get (takeover_after start member (logs_of start es e.host)).gathered 0 ≡ Some g
+        → (takeover_after start member (logs_of start es e.host)).stage ≡ Committing epoch awaited
+        → length g.keys
+        ≤ taken_along start (told g.tx (view_after start e.host (logs_of start es e.host)).number any)
+        (e ∷ logs_of start es e.host)
+        → Each (λ (key : List ℕ). WasCommittedIn start (logs_of start es)
+        (view_after start e.host (logs_of start es e.host)).number g.tx key) g.keys
+    keys_were_committed =
+        subst IsSoAt (sym at)
+        (λ first works_so. all_committed start all e es moment member there at g epoch awaited first works_so)

@@ -1,11 +1,10 @@
--- How far a takeover is with the transaction that it is at: while it commits it, no more answers are missing than it awaits;
--- while it completes it, each of its keys was committed in its view.
+-- How far a takeover is with the transaction that it is at: while it commits it, no more answers are missing than it
+-- awaits; while it completes it, each of its keys was committed in its view.
 use Rattle.std.proofs.Common.{◌≡◌, ◌≢◌, ◌≤◌, ◌⊎◌, ◌+◌, ◌-◌, ◌==◌, ◌&&◌, ◌∙◌, ℕ, Bool, true, false, None, Some, Option, List, [], ◌∷◌, inl, inr, length, nat_lt, refl, sym, ap, arith, subst, ltb-false}
 use Rattle.std.proofs.lemmas.Bool.{cases_eq, true≢false}
 use Rattle.std.specs.Prelude.{remove, slice_get}
 use Rattle.run_theory.specs.Lists.{Each, IsIn}
 use Rattle.run_theory.proofs.Pasts.{each_map}
-use Rattle.run_theory.proofs.Runs.{log_of-other, log_of-own}
 use Rattle.sig_core.specs.declared.member.Member.{Member}
 use Rattle.sig_core.specs.declared.member.TxId.{TxId}
 use Rattle.sig_core.specs.declared.place.BlockId.{BlockId}
@@ -34,7 +33,6 @@ use Rattle.node_views.specs.Fence.{is_body_fenced}
 use Rattle.node_views.specs.Parts.{tc_row}
 use Rattle.world_core.specs.Start.{Start, made}
 use Rattle.world_core.specs.Steps.{HostStep}
-use Rattle.world_views.specs.Machine.{after, machine}
 use Rattle.world_views.specs.Sending.{is_own_work}
 use Rattle.view_laws.specs.Order.{sound_machine}
 use Rattle.view_laws.specs.Runs.{view_after}
@@ -43,19 +41,21 @@ use Rattle.moment_laws.specs.Parts.{IsPassed}
 use Rattle.moment_laws.specs.PartSteps.{PartEnters, PartTakes, handles, ignores, installs, remains, tc_kind}
 use Rattle.moment_laws.specs.Places.{tc_of}
 use Rattle.moment_laws.proofs.MomentHosts.{tc_started}
+use Rattle.moment_laws.proofs.MomentTurns.{other_log, own_log}
 use Rattle.moment_laws.proofs.MomentViews.{moment_less}
 use Rattle.moment_laws.proofs.PartKinds.{tc_is}
 use Rattle.moment_laws.proofs.PartTaken.{IsTakenNow, handled_now}
 use Rattle.outcome_laws.specs.Counts.{one_if}
 use Rattle.request_laws.specs.Blocks.{takeover_after, takeover_in}
 use Rattle.request_laws.specs.Tokens.{taken_along}
-use Rattle.request_laws.proofs.RouteSteps.{TcStep, own_tc, takeover_is}
+use Rattle.request_laws.proofs.RouteSteps.{TcStep, takeover_is}
 use Rattle.request_laws.proofs.TokenHosts.{test_taken}
 use Rattle.request_laws.proofs.TokenViews.{taken_now}
 use Rattle.commit_laws.specs.Answered.{WasCommittedIn}
 use Rattle.commit_laws.proofs.AnsweredCounts.{told}
-use Rattle.commit_laws.proofs.AnsweredOrphans.{all_committed}
+use Rattle.commit_laws.proofs.AnsweredOrphans.{keys_were_committed}
 use Rattle.commit_laws.proofs.AnsweredStays.{committed_stays}
+use Rattle.commit_laws.proofs.DriveForeign.{entering as entered, step}
 use Rattle.commit_laws.proofs.DriveKinds.{comes, committing, numbered}
 use Rattle.commit_laws.proofs.DriveLists.{any, mine}
 
@@ -73,7 +73,8 @@ module _ (start : Start) (logs : ℕ → List HostStep) (number : ℕ) (log : Li
 -- it stays so as more is taken and sent
 module _ (start : Start) (logs now : ℕ → List HostStep) (number : ℕ) (log behind : List HostStep)
     (more : (p : Signal → Bool) → taken_along start p log ≤ taken_along start p behind)
-    (stays : (tx : TxId) (key : List ℕ) → WasCommittedIn start logs number tx key → WasCommittedIn start now number tx key)
+    (stays : (tx : TxId) (key : List ℕ) → WasCommittedIn start logs number tx key
+    → WasCommittedIn start now number tx key)
   where
     heard_grows : (stage : Stage) (first : Option Gathered) → IsHeard start logs number log stage first
         → IsHeard start now number behind stage first
@@ -130,29 +131,26 @@ module _ (start : Start) (all : ℕ → List HostStep) (e : HostStep) (es : List
     abbrev new : ℕ → List HostStep
     new = logs_of start (e ∷ es)
 
-    abbrev h : ℕ
-    h = tc_of start member
-
     abbrev log : List HostStep
-    log = logs_of start es (tc_of start member)
+    log = logs_of start es e.host
 
     abbrev x : Signal
     x = e.step.taken
 
     abbrev s : TakeoverState
-    s = takeover_after start member (logs_of start es (tc_of start member))
+    s = takeover_after start member (logs_of start es e.host)
 
     abbrev stood : View
-    stood = view_after start (tc_of start member) (logs_of start es (tc_of start member))
+    stood = view_after start e.host (logs_of start es e.host)
 
     abbrev view : View
-    view = view_after start (tc_of start member) (e ∷ logs_of start es (tc_of start member))
+    view = view_after start e.host (e ∷ logs_of start es e.host)
 
-    pub step : TcStep start (tc_of start member) log e
-    step = own_tc start member there log e
+    abbrev tc : TcStep start e.host log e
+    tc = step start all e es moment member there at
 
     abbrev between : TcPart
-    between = step.does.between
+    between = tc.does.between
 
     -- before the signal is taken
     abbrev Was : TakeoverState → Type 0
@@ -176,65 +174,54 @@ module _ (start : Start) (all : ℕ → List HostStep) (e : HostStep) (es : List
       pub number_is : view.number ≡ stood.number
       pub same : between.takeover ≡ s
 
-    pub remained : PartEnters tc_kind step.own stood x between view step.does.front
+    pub remained : PartEnters tc_kind tc.own stood x between view tc.does.front
         → is_at_work between.takeover.stage ≡ true → Remains
     remained (remains same stands none) work = record {
       number_is = ap (λ (v : View). v.number) stands;
-      same = ap (λ (q : TcPart). q.takeover) same ∙ sym (takeover_is start member h log refl step.own step.runs);
+      same = ap (λ (q : TcPart). q.takeover) same ∙ sym (takeover_is start member e.host log at tc.own tc.runs);
     }
     remained (installs above same stands sends) work =
         absurd (true≢false (sym work ∙ ap (λ (q : TcPart). is_at_work q.takeover.stage) same))
 
-    between_was : HasHeard start old stood.number log s → PartEnters tc_kind step.own stood x between view step.does.front
+    between_was : HasHeard start old stood.number log s
+        → PartEnters tc_kind tc.own stood x between view tc.does.front
         → Was between.takeover
     between_was heard (remains same stands none) =
         subst (λ (q : TcPart). Was q.takeover) (sym same)
-        (subst Was (takeover_is start member h log refl step.own step.runs)
+        (subst Was (takeover_is start member e.host log at tc.own tc.runs)
         (subst (λ (v : View). HasHeard start old v.number log s) (sym stands) heard))
     between_was heard (installs above same stands sends) = subst (λ (q : TcPart). Was q.takeover) (sym same) tt
 
     pub taken_by : (b : BlockId) → x.to.block ≡ b → IsPassed start.shape (part.Tc between) view x
         → IsTakenNow start all e es moment b
     taken_by b to passed =
-        handled_now start all e es moment tc_kind tc_is step.own
-        (subst (λ k. (after start k (old k)).parts ≡ part.Tc step.own) (sym at) step.runs) between step.does.front
-        (subst
-        (λ k. PartEnters tc_kind step.own (view_after start k (old k)) x between (view_after start k (e ∷ old k))
-        step.does.front)
-        (sym at) step.does.enters)
-        (subst (λ k. IsPassed start.shape (part.Tc between) (view_after start k (e ∷ old k)) x) (sym at) passed)
-        b to
+        handled_now start all e es moment tc_kind tc_is tc.own tc.runs between tc.does.front
+        (entered start all e es moment member there at) passed b to
 
     -- the takeover takes the signal
     module _ (taken : IsTakenNow start all e es moment block.Takeover) (was : Was between.takeover) where
       -- a word of a commit is counted
       one_more : (tx : TxId) (key : List ℕ) (g : Gathered) → x.body ≡ Chain (Committed tx key) → g.tx ≡ tx
-          → 1 + taken_along start (told g.tx view.number any) log ≤ taken_along start (told g.tx view.number any) (e ∷ log)
+          → 1 + taken_along start (told g.tx view.number any) log
+          ≤ taken_along start (told g.tx view.number any) (e ∷ log)
       one_more tx key g is own = omega (arith, now)
         where
-          here : (view_after start e.host (e ∷ old e.host)).number ≡ view.number
-          here = ap (λ k. (view_after start k (e ∷ old k)).number) at
-
           counted : one_if (comes committing (mine g.tx any) x.body) ≡ 1
           counted =
               ap (λ (b : Body). one_if (comes committing (mine g.tx any) b)) is
               ∙ ap (λ b. one_if (b && true)) (ap (λ t. same_tx tx t) own ∙ same_tx-self tx)
 
-          one : 1 ≤ taken_now start all e es moment
-              (numbered (view_after start e.host (e ∷ old e.host)).number (comes committing (mine g.tx any)))
-          one =
+          now : 1 ≤ taken_now start all e es moment (told g.tx view.number any)
+          now =
               subst
               (λ (v : View). 1 ≤ taken_now start all e es moment (numbered v.number (comes committing (mine g.tx any))))
               (sym taken.stands)
               (omega (
                 arith,
                 counted,
-                test_taken start all e es moment (comes committing (mine g.tx any)) (comes_plain g.tx) block.Takeover taken,
+                test_taken start all e es moment (comes committing (mine g.tx any)) (comes_plain g.tx) block.Takeover
+                    taken,
               ))
-
-          now : 1 ≤ taken_now start all e es moment (told g.tx view.number any)
-          now =
-              subst (λ m. 1 ≤ taken_now start all e es moment (numbered m (comes committing (mine g.tx any)))) here one
 
       pub first_was : (tx : TxId) (g : Gathered) → slice_get between.takeover.gathered 0 ≡ Some g → (stage : Stage)
           → between.takeover.stage ≡ stage → IsHeard start old view.number log stage (Some g)
@@ -258,7 +245,7 @@ module _ (start : Start) (all : ℕ → List HostStep) (e : HostStep) (es : List
           (λ key was.
           committed_stays start all e es moment view.number g.tx key
           (subst (λ m. WasCommittedIn start old m g.tx key) (sym remains_so.number_is) was))
-          (all_committed start all e es moment member there at g epoch n
+          (keys_were_committed start all e es moment member there at g epoch n
           (ap (λ (t : TakeoverState). slice_get t.gathered 0) (sym remains_so.same) ∙ first)
           (ap (λ (t : TakeoverState). t.stage) (sym remains_so.same) ∙ at_stage)
           (subst (λ m. length g.keys ≤ taken_along start (told g.tx m any) (e ∷ log)) remains_so.number_is
@@ -267,7 +254,7 @@ module _ (start : Start) (all : ℕ → List HostStep) (e : HostStep) (es : List
           omega (arith, before, ltb-false 1 n last, one_more tx key g is own))))
         where
           remains_so : Remains
-          remains_so = remained step.does.enters (ap is_at_work at_stage)
+          remains_so = remained tc.does.enters (ap is_at_work at_stage)
 
       -- whatever it takes
       row_heard : Is (takeover_row between.takeover x).state
@@ -315,7 +302,7 @@ module _ (start : Start) (all : ℕ → List HostStep) (e : HostStep) (es : List
 
     module _ (heard : HasHeard start old stood.number log s) where
       pub was_between : Was between.takeover
-      was_between = between_was heard step.does.enters
+      was_between = between_was heard tc.does.enters
 
       stays_so : Is between.takeover
       stays_so = grows between.takeover.stage (slice_get between.takeover.gathered 0) was_between
@@ -328,50 +315,56 @@ module _ (start : Start) (all : ℕ → List HostStep) (e : HostStep) (es : List
       block_heard passed block.Dih to = stays_so
       block_heard passed _ to = stays_so
 
-      takes_heard : PartTakes tc_kind start.shape between view x step.does.own step.does.rest → Is step.does.own.takeover
+      takes_heard : PartTakes tc_kind start.shape between view x tc.does.own tc.does.rest
+          → Is tc.does.own.takeover
       takes_heard (ignores same none) = subst (λ (q : TcPart). Is q.takeover) (sym same) stays_so
       takes_heard (handles passed same sends) =
           subst (λ (q : TcPart). Is q.takeover) (sym same) (block_heard passed x.to.block refl)
 
       pub heard_next : HasHeard start (logs_of start (e ∷ es))
-          (view_after start (tc_of start member) (e ∷ logs_of start es (tc_of start member))).number
-          (e ∷ logs_of start es (tc_of start member))
-          (takeover_after start member (e ∷ logs_of start es (tc_of start member)))
+          (view_after start e.host (e ∷ logs_of start es e.host)).number (e ∷ logs_of start es e.host)
+          (takeover_after start member (e ∷ logs_of start es e.host))
       heard_next =
-          subst Is (sym (takeover_is start member h (e ∷ log) refl step.does.own step.does.is))
-          (takes_heard step.does.takes)
+          subst Is (sym (takeover_is start member e.host (e ∷ log) at tc.does.own tc.does.is))
+          (takes_heard tc.does.takes)
 
 -- so it is at each moment
-abbrev pub HeardAt : Start → (ℕ → List HostStep) → Member → List HostStep → Type 0
-HeardAt start logs member log =
-    HasHeard start logs (view_after start (tc_of start member) log).number log (takeover_after start member log)
+abbrev pub HeardAt : Start → Member → (ℕ → List HostStep) → ℕ → List HostStep → Type 0
+HeardAt start member logs h log =
+    HasHeard start logs (view_after start h log).number log (takeover_after start member log)
 
-pub heard_always : (start : Start) (all : ℕ → List HostStep) (member : Member) → IsIn member (made start)
-    → (es : List HostStep) → IsMoment start all es
-    → HeardAt start (logs_of start es) member (logs_of start es (tc_of start member))
-heard_always start all member there [] moment =
-    subst (HasHeard start (logs_of start []) (view_after start (tc_of start member) []).number [])
-    (sym
-    (ap (λ (s : hosts_of.Host). takeover_in (resting member.node (first_layout start.shape)) s.parts)
-    (tc_started start member there)))
-    tt
-heard_always start all member there (e ∷ es) moment =
-    by (cases_eq e.host (tc_of start member)) (heard_always start all member there es (moment_less start all e es moment))
-  where
-    by : (e.host ≡ tc_of start member) ⊎ (e.host ≢ tc_of start member)
-        → HeardAt start (logs_of start es) member (logs_of start es (tc_of start member))
-        → HeardAt start (logs_of start (e ∷ es)) member (logs_of start (e ∷ es) (tc_of start member))
-    by (inl at) before =
-        subst (HeardAt start (logs_of start (e ∷ es)) member) (sym (log_of-own (machine start) e es (tc_of start member) at))
-        (heard_next start all e es moment member there at before)
-    by (inr other) before =
-        subst (HeardAt start (logs_of start (e ∷ es)) member)
-        (sym (log_of-other (machine start) e es (tc_of start member) other))
-        (heard_grows start (logs_of start es) (logs_of start (e ∷ es))
-        (view_after start (tc_of start member) (logs_of start es (tc_of start member))).number
-        (logs_of start es (tc_of start member)) (logs_of start es (tc_of start member)) (λ p. omega arith)
-        (λ tx key was.
-        committed_stays start all e es moment
-        (view_after start (tc_of start member) (logs_of start es (tc_of start member))).number tx key was)
-        (takeover_after start member (logs_of start es (tc_of start member))).stage
-        (slice_get (takeover_after start member (logs_of start es (tc_of start member))).gathered 0) before)
+module _ (start : Start) (all : ℕ → List HostStep) (member : Member) (there : IsIn member (made start)) where
+  abbrev home : ℕ
+  home = tc_of start member
+
+  pub heard_always : (es : List HostStep) → IsMoment start all es
+      → HeardAt start member (logs_of start es) (tc_of start member) (logs_of start es (tc_of start member))
+  heard_always [] moment =
+      subst (HasHeard start (logs_of start []) (view_after start home []).number [])
+      (sym
+      (ap (λ (s : hosts_of.Host). takeover_in (resting member.node (first_layout start.shape)) s.parts)
+      (tc_started start member there)))
+      tt
+  heard_always (e ∷ es) moment = by (cases_eq e.host home) (heard_always es (moment_less start all e es moment))
+    where
+      old : ℕ → List HostStep
+      old = logs_of start es
+
+      new : ℕ → List HostStep
+      new = logs_of start (e ∷ es)
+
+      by : (e.host ≡ home) ⊎ (e.host ≢ home) → HeardAt start member old home (old home)
+          → HeardAt start member new home (new home)
+      by (inl at) before =
+          subst (λ h. HeardAt start member new h (new h)) at
+          (subst (HeardAt start member new e.host) (sym (own_log start all e es moment))
+          (heard_next start all e es moment member there at
+          (subst (λ h. HeardAt start member old h (old h)) (sym at) before)))
+      by (inr other) before =
+          subst (HeardAt start member new home) (sym (other_log start all e es moment home other))
+          (heard_grows start old new (view_after start home (old home)).number (old home) (old home)
+          (λ p. omega arith)
+          (λ tx key was.
+          committed_stays start all e es moment (view_after start home (old home)).number tx key was)
+          (takeover_after start member (old home)).stage
+          (slice_get (takeover_after start member (old home)).gathered 0) before)

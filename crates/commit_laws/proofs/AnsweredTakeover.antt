@@ -1,5 +1,5 @@
--- A takeover completes keys, and tells the client's side of a commit, when each key that the transaction wrote was committed
--- in its view, or the client's side knows of the commit.
+-- A takeover completes keys, and tells the client's side of a commit, when each key that the transaction wrote was
+-- committed in its view, or the client's side knows of the commit.
 use Rattle.std.proofs.Common.{◌≡◌, ◌≢◌, ◌⊎◌, ◌+◌, ◌||◌, ◌∙◌, ℕ, Bool, true, false, None, Some, Option, List, [], ◌∷◌, drop, inl, inr, length, map, nat_lt, refl, sym, ap, subst, take, ◌≤◌, arith}
 use Rattle.std.proofs.lemmas.Bool.{true≢false}
 use Rattle.std.specs.List.{flat_map}
@@ -38,6 +38,7 @@ use Rattle.takeover_block.proofs.EachTakeover.{takeover_each}
 use Rattle.takeover_block.proofs.LawLemmas.{first_found}
 use Rattle.node_views.specs.declared.parts.Parts.TheVariants as part
 use Rattle.node_views.specs.declared.tc_part.TcPart.{TcPart}
+use Rattle.node_views.specs.Parts.{tc_row}
 use Rattle.world_core.specs.Start.{Start, made}
 use Rattle.world_core.specs.Steps.{HostStep}
 use Rattle.view_laws.specs.Runs.{view_after}
@@ -50,16 +51,17 @@ use Rattle.moment_laws.proofs.MomentTurns.{current_rises}
 use Rattle.moment_laws.proofs.MomentViews.{current_above, current_number, moment_less, number_in}
 use Rattle.moment_laws.proofs.PartTaken.{IsTakenNow}
 use Rattle.request_laws.specs.Blocks.{takeover_after}
-use Rattle.request_laws.proofs.RouteSteps.{TcStep, own_tc}
+use Rattle.request_laws.proofs.RouteSteps.{TcStep}
 use Rattle.commit_laws.specs.Answered.{AllWereCommittedIn, IsAnswered, WasCommittedIn}
 use Rattle.commit_laws.specs.Commits.{HasWritten, IsKept}
 use Rattle.commit_laws.specs.Fates.{aborts, commits, fate}
-use Rattle.commit_laws.specs.Takeovers.{FirstIs, HasAllKeys, IsRuled, IsWhole, TakeoverStands}
+use Rattle.commit_laws.specs.Takeovers.{FirstIs, HasAllKeys, IsRuled, IsWhole, TakeoverStands, takeover_at}
 use Rattle.commit_laws.specs.Together.{Follows}
 use Rattle.commit_laws.specs.Traces.{is_known}
-use Rattle.commit_laws.proofs.AnsweredRulings.{IsHeard, Remains, first_was, heard_always, last_word, remained, step, taken_by, was_between}
+use Rattle.commit_laws.proofs.AnsweredRulings.{HeardAt, IsHeard, Remains, first_was, heard_always, last_word, remained, taken_by, was_between}
 use Rattle.commit_laws.proofs.AnsweredStays.{committed_stays}
 use Rattle.commit_laws.proofs.DecidedStay.{unknown_before, written_before}
+use Rattle.commit_laws.proofs.DriveForeign.{step}
 use Rattle.commit_laws.proofs.FateForth.{fate_decided}
 
 -- a key that is among these has what each of them has
@@ -169,8 +171,8 @@ module _ (start : Start) (logs : ℕ → List HostStep) (number : ℕ) where
 
   -- whatever it takes, where this is so of whom it completes, and of whom it has committed by now
   module _ (s : TakeoverState) (x : Signal)
-      (completes : (tx : TxId) (g : Gathered) (epoch n : ℕ) → slice_get s.gathered 0 ≡ Some g → s.stage ≡ Completing epoch n
-      → Answers g.tx)
+      (completes : (tx : TxId) (g : Gathered) (epoch n : ℕ) → slice_get s.gathered 0 ≡ Some g
+      → s.stage ≡ Completing epoch n → Answers g.tx)
       (committed : (tx : TxId) (key : List ℕ) (g : Gathered) (epoch n : ℕ) → x.body ≡ Chain (Committed tx key)
       → slice_get s.gathered 0 ≡ Some g → g.tx ≡ tx → s.stage ≡ Committing epoch n → nat_lt 1 n ≡ false → Answers g.tx)
     where
@@ -207,9 +209,9 @@ module _ (start : Start) (logs : ℕ → List HostStep) (number : ℕ) where
             goes_on = λ tx place g is due at first. stage_answered s.node s.layout s.stage g place (going tx g first);
           })
 
--- the event of its host
-module _ (start : Start) (all : ℕ → List HostStep) (e : HostStep) (es : List HostStep) (follows : Follows start all e es)
-    (member : Member) (there : IsIn member (made start)) (at : e.host ≡ tc_of start member)
+-- an event of its host
+module _ (start : Start) (all : ℕ → List HostStep) (e : HostStep) (es : List HostStep)
+    (follows : Follows start all e es) (member : Member) (there : IsIn member (made start))
   where
     abbrev old : ℕ → List HostStep
     old = logs_of start es
@@ -220,47 +222,27 @@ module _ (start : Start) (all : ℕ → List HostStep) (e : HostStep) (es : List
     abbrev moment : IsMoment start all (e ∷ es)
     moment = follows.moment
 
-    abbrev h : ℕ
-    h = tc_of start member
-
-    abbrev log : List HostStep
-    log = logs_of start es (tc_of start member)
-
-    abbrev x : Signal
-    x = e.step.taken
-
-    abbrev s : TakeoverState
-    s = takeover_after start member (logs_of start es (tc_of start member))
-
-    abbrev stood : View
-    stood = view_after start (tc_of start member) (logs_of start es (tc_of start member))
-
-    abbrev view : View
-    view = view_after start (tc_of start member) (e ∷ logs_of start es (tc_of start member))
+    abbrev number : ℕ
+    number = (view_after start e.host (e ∷ logs_of start es e.host)).number
 
     less : IsMoment start all es
     less = moment_less start all e es follows.moment
-
-    abbrev own : TcStep start (tc_of start member) log e
-    own = step start all e es follows.moment member there at
-
-    abbrev between : TcPart
-    between = own.does.between
 
     stood_so : TakeoverStands start old member
     stood_so = follows.stood.takeovers.each member there
 
     -- whom a takeover commits, and where each key of it that was gathered was committed, of him this is so of all
     module _ (here : number_in start old (tc_of start member) ≡ current_number start old) (g : Gathered)
-        (first : slice_get s.gathered 0 ≡ Some g) (stage : Stage) (stage_is : s.stage ≡ stage)
-        (at_commit : commits_in stage ≡ true)
-        (were : Each (λ (key : List ℕ). WasCommittedIn start new view.number g.tx key) g.keys)
+        (first : slice_get (takeover_at start old member).gathered 0 ≡ Some g) (stage : Stage)
+        (stage_is : (takeover_at start old member).stage ≡ stage) (at_commit : commits_in stage ≡ true)
+        (were : Each (λ (key : List ℕ). WasCommittedIn start new number g.tx key) g.keys)
       where
         fated : fate start old g.tx ≡ commits
         fated =
             by stage at_commit
             (subst (λ (st : Stage). IsRuled start old st g) stage_is
-            (subst (FirstIs start old (IsRuled start old s.stage)) first (stood_so.ruled here)))
+            (subst (FirstIs start old (IsRuled start old (takeover_at start old member).stage)) first
+            (stood_so.ruled here)))
           where
             by : (st : Stage) → commits_in st ≡ true → IsRuled start old st g → fate start old g.tx ≡ commits
             by (Committing epoch n) is ruled = ruled.0
@@ -279,7 +261,8 @@ module _ (start : Start) (all : ℕ → List HostStep) (e : HostStep) (es : List
         has_all =
             by stage at_commit
             (subst (λ (st : Stage). IsWhole start old st g) stage_is
-            (each_get (IsWhole start old s.stage) s.gathered 0 g (stood_so.whole here) first))
+            (each_get (IsWhole start old (takeover_at start old member).stage)
+            (takeover_at start old member).gathered 0 g (stood_so.whole here) first))
           where
             by : (st : Stage) → commits_in st ≡ true → IsWhole start old st g → HasAllKeys start old g
             by (Committing epoch n) is whole = whole
@@ -288,64 +271,88 @@ module _ (start : Start) (all : ℕ → List HostStep) (e : HostStep) (es : List
             by (Gathering n) is whole = absurd (true≢false (sym is))
             by (Aborting n) is whole = absurd (true≢false (sym is))
 
-        answers : Answers start new view.number g.tx
+        answers : Answers start new number g.tx
         answers = by (is_known start new g.tx) refl
           where
-            by : (b : Bool) → is_known start new g.tx ≡ b → Answers start new view.number g.tx
+            by : (b : Bool) → is_known start new g.tx ≡ b → Answers start new number g.tx
             by true known = inr known
             by false unknown =
                 inl
                 (λ key written.
-                of_key (WasCommittedIn start new view.number g.tx) g.keys key
+                of_key (WasCommittedIn start new number g.tx) g.keys key
                 (has_all kept (unknown_before start all e es moment g.tx unknown) key
                 (written_before start all e es moment g.tx key kept.decided written))
                 were)
 
-    module _ (passed : IsPassed start.shape (part.Tc between) view x) (to : x.to.block ≡ block.Takeover) where
-      taken : IsTakenNow start all e es moment block.Takeover
-      taken = taken_by start all e es moment member there at block.Takeover to passed
+    module _ (at : e.host ≡ tc_of start member) where
+      abbrev log : List HostStep
+      log = logs_of start es e.host
 
-      was : IsHeard start old view.number log between.takeover.stage (slice_get between.takeover.gathered 0)
-      was = was_between start all e es moment member there at (heard_always start all member there es less)
+      abbrev x : Signal
+      x = e.step.taken
 
-      -- one that is at work stood in the current view before
-      module _ (so : Remains start all e es moment member there at) where
-        here_so : number_in start old (tc_of start member) ≡ current_number start old
-        here_so = omega (arith, so.number_is, low, rises, now)
-          where
-            low : number_in start old h ≤ current_number start old
-            low = current_above start old h (tc_low start member there)
+      abbrev view : View
+      view = view_after start e.host (e ∷ logs_of start es e.host)
 
-            rises : current_number start old ≤ current_number start new
-            rises = current_rises start all e es moment
+      abbrev tc : TcStep start e.host log e
+      tc = step start all e es follows.moment member there at
 
-            now : view.number ≡ current_number start new
-            now =
-                subst (λ k. (view_after start k (e ∷ old k)).number ≡ current_number start new) at
-                (ap (λ (v : View). v.number) taken.stands)
+      abbrev between : TcPart
+      between = tc.does.between
 
-        answers_so : (g : Gathered) → slice_get between.takeover.gathered 0 ≡ Some g → (stage : Stage)
-            → between.takeover.stage ≡ stage → commits_in stage ≡ true
-            → Each (λ (key : List ℕ). WasCommittedIn start new view.number g.tx key) g.keys
-            → Answers start new view.number g.tx
-        answers_so g first stage stage_is at_commit were =
-            answers here_so g (ap (λ (t : TakeoverState). slice_get t.gathered 0) (sym so.same) ∙ first) stage
-            (ap (λ (t : TakeoverState). t.stage) (sym so.same) ∙ stage_is) at_commit were
+      -- the takeover takes the signal
+      module _ (passed : IsPassed start.shape (part.Tc between) view x) (to : x.to.block ≡ block.Takeover) where
+        taken : IsTakenNow start all e es moment block.Takeover
+        taken = taken_by start all e es moment member there at block.Takeover to passed
 
-      -- so all that it sends is answered
-      pub takeover_answered : AreAnswered start (logs_of start (e ∷ es))
-          (view_after start (tc_of start member) (e ∷ logs_of start es (tc_of start member))).number
-          (takeover_row (step start all e es follows.moment member there at).does.between.takeover e.step.taken).effects.sends
-      takeover_answered =
-          row_answered start new view.number between.takeover x
-          (λ tx g epoch n first stage_is.
-          answers_so (remained start all e es moment member there at own.does.enters (ap is_at_work stage_is)) g first
-          (Completing epoch n) stage_is refl
-          (each_map (λ (key : List ℕ). WasCommittedIn start old view.number g.tx key)
-          (λ (key : List ℕ). WasCommittedIn start new view.number g.tx key) g.keys
-          (λ key one. committed_stays start all e es moment view.number g.tx key one)
-          (first_was start all e es moment member there at taken was tx g first (Completing epoch n) stage_is)))
-          (λ tx key g epoch n is first own_tx stage_is last.
-          answers_so (remained start all e es moment member there at own.does.enters (ap is_at_work stage_is)) g first
-          (Committing epoch n) stage_is refl
-          (last_word start all e es moment member there at taken was tx key g epoch n is first own_tx stage_is last))
+        was : IsHeard start old view.number log between.takeover.stage (slice_get between.takeover.gathered 0)
+        was =
+            was_between start all e es moment member there at
+            (subst (λ h. HeardAt start member old h (old h)) (sym at) (heard_always start all member there es less))
+
+        -- one that is at work stood in the current view before
+        module _ (so : Remains start all e es moment member there at) where
+          here_so : number_in start old (tc_of start member) ≡ current_number start old
+          here_so = omega (arith, so.number_is, own_stood, low, rises, now)
+            where
+              own_stood : (view_after start e.host (old e.host)).number ≡ number_in start old (tc_of start member)
+              own_stood = ap (λ h. (view_after start h (old h)).number) at
+
+              low : number_in start old (tc_of start member) ≤ current_number start old
+              low = current_above start old (tc_of start member) (tc_low start member there)
+
+              rises : current_number start old ≤ current_number start new
+              rises = current_rises start all e es moment
+
+              now : view.number ≡ current_number start new
+              now = ap (λ (v : View). v.number) taken.stands
+
+          same : takeover_at start old member ≡ between.takeover
+          same = ap (λ h. takeover_after start member (old h)) (sym at) ∙ sym so.same
+
+          answers_so : (g : Gathered) → slice_get between.takeover.gathered 0 ≡ Some g → (stage : Stage)
+              → between.takeover.stage ≡ stage → commits_in stage ≡ true
+              → Each (λ (key : List ℕ). WasCommittedIn start new number g.tx key) g.keys → Answers start new number g.tx
+          answers_so g first stage stage_is at_commit were =
+              answers here_so g (ap (λ (s : TakeoverState). slice_get s.gathered 0) same ∙ first) stage
+              (ap (λ (s : TakeoverState). s.stage) same ∙ stage_is) at_commit were
+
+        -- so all that it sends is answered
+        pub takeover_answered : Each (λ (o : Outgoing). IsAnswered start (logs_of start (e ∷ es))
+            (view_after start e.host (e ∷ logs_of start es e.host)).number o.body)
+            (tc_row (step start all e es follows.moment member there at).does.between block.Takeover
+            e.step.taken).effects.sends
+        unfolding tc_row
+        takeover_answered =
+            row_answered start new number between.takeover x
+            (λ tx g epoch n first stage_is.
+            answers_so (remained start all e es moment member there at tc.does.enters (ap is_at_work stage_is)) g first
+            (Completing epoch n) stage_is refl
+            (each_map (λ (key : List ℕ). WasCommittedIn start old number g.tx key)
+            (λ (key : List ℕ). WasCommittedIn start new number g.tx key) g.keys
+            (λ key one. committed_stays start all e es moment number g.tx key one)
+            (first_was start all e es moment member there at taken was tx g first (Completing epoch n) stage_is)))
+            (λ tx key g epoch n is first own_tx stage_is last.
+            answers_so (remained start all e es moment member there at tc.does.enters (ap is_at_work stage_is)) g first
+            (Committing epoch n) stage_is refl
+            (last_word start all e es moment member there at taken was tx key g epoch n is first own_tx stage_is last))

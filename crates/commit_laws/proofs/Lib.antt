@@ -2,7 +2,6 @@ pub mod AbortedFinals
 pub mod AnsweredCoordinator
 pub mod AnsweredCounts
 pub mod AnsweredEvents
-pub mod AnsweredHosts
 pub mod AnsweredKeys
 pub mod AnsweredOrphans
 pub mod AnsweredRows
