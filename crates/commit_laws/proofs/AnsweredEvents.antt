@@ -1,5 +1,5 @@
 -- Events keep what is answered, where coordinators do.
-use Rattle.std.proofs.Common.{◌≡◌, ℕ, false, List, ◌∷◌}
+use Rattle.std.proofs.Common.{◌≡◌, ℕ, List, ◌∷◌}
 use Rattle.run_theory.specs.Lists.{Each, IsIn}
 use Rattle.sig_core.specs.declared.member.Member.{Member}
 use Rattle.sig_core.specs.declared.member.TxId.{TxId}

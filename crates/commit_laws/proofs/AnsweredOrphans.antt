@@ -2,7 +2,7 @@
 -- in its view: it commits no other keys, and no other host commits any of them there.
 use Rattle.std.proofs.Common.{◌≡◌, ◌≢◌, ◌≤◌, ◌⊎◌, ◌==◌, ◌&&◌, ◌||◌, ◌∙◌, ℕ, zero, suc, Bool, true, false, List, [], ◌∷◌, inl, inr, length, map, refl, sym, ap, arith, subst}
 use Rattle.std.proofs.lemmas.Bool.{and_parts, cases_eq, true≢false}
-use Rattle.std.specs.List.{flat_map, list_any}
+use Rattle.std.specs.List.{flat_map}
 use Rattle.std.specs.Prelude.{not, slice_get, Some}
 use Rattle.run_theory.specs.Lists.{Each, IsIn}
 use Rattle.run_theory.proofs.Pasts.{each_map}
@@ -43,7 +43,7 @@ use Rattle.moment_laws.proofs.MomentViews.{moment_less}
 use Rattle.outcome_laws.specs.Counts.{count_sent, one_if}
 use Rattle.outcome_laws.proofs.TcLists.{count_both}
 use Rattle.request_laws.specs.Blocks.{takeover_after}
-use Rattle.request_laws.specs.Tokens.{all_sent, all_taken, sent_along, taken_along}
+use Rattle.request_laws.specs.Tokens.{all_sent, sent_along, taken_along}
 use Rattle.request_laws.proofs.RouteAside.{is_of_rows}
 use Rattle.request_laws.proofs.RouteOrphans.{takeovers_are_of_orphans}
 use Rattle.request_laws.proofs.TokenSums.{takes_before}

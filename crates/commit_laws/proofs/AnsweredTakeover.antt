@@ -1,6 +1,6 @@
 -- A takeover completes keys, and tells the client's side of a commit, when each key that the transaction wrote was
 -- committed in its view, or the client's side knows of the commit.
-use Rattle.std.proofs.Common.{◌≡◌, ◌≢◌, ◌⊎◌, ◌+◌, ◌||◌, ◌∙◌, ℕ, Bool, true, false, None, Some, Option, List, [], ◌∷◌, drop, inl, inr, length, map, nat_lt, refl, sym, ap, subst, take, ◌≤◌, arith}
+use Rattle.std.proofs.Common.{◌≡◌, ◌⊎◌, ◌+◌, ◌||◌, ◌∙◌, ℕ, Bool, true, false, None, Some, Option, List, [], ◌∷◌, drop, inl, inr, length, map, nat_lt, refl, sym, ap, subst, take, ◌≤◌, arith}
 use Rattle.std.proofs.lemmas.Bool.{true≢false}
 use Rattle.std.specs.List.{flat_map}
 use Rattle.std.specs.Prelude.{remove, slice_get}
@@ -22,7 +22,6 @@ use Rattle.sig_core.specs.declared.view.View.{View}
 use Rattle.sig_core.specs.Place.{takeover}
 use Rattle.sig_core.specs.Portion.{portion_effects, rest_if}
 use Rattle.sig_core.specs.Same.{same_key}
-use Rattle.sig_core.specs.Step.{Step}
 use Rattle.frag_map.specs.Layout.{Layout, chain_of}
 use Rattle.lqh_block.proofs.IndexLemmas.{same as same_key-is}
 use Rattle.takeover_block.specs.declared.gathered.Gathered.{Gathered}
@@ -44,7 +43,6 @@ use Rattle.world_core.specs.Steps.{HostStep}
 use Rattle.view_laws.specs.Runs.{view_after}
 use Rattle.moment_laws.specs.Moments.{IsMoment, logs_of}
 use Rattle.moment_laws.specs.Parts.{IsPassed}
-use Rattle.moment_laws.specs.PartSteps.{PartEnters, installs, remains, tc_kind}
 use Rattle.moment_laws.specs.Places.{tc_of}
 use Rattle.moment_laws.proofs.MomentHosts.{tc_low}
 use Rattle.moment_laws.proofs.MomentTurns.{current_rises}
@@ -53,7 +51,7 @@ use Rattle.moment_laws.proofs.PartTaken.{IsTakenNow}
 use Rattle.request_laws.specs.Blocks.{takeover_after}
 use Rattle.request_laws.proofs.RouteSteps.{TcStep}
 use Rattle.commit_laws.specs.Answered.{AllWereCommittedIn, IsAnswered, WasCommittedIn}
-use Rattle.commit_laws.specs.Commits.{HasWritten, IsKept}
+use Rattle.commit_laws.specs.Commits.{IsKept}
 use Rattle.commit_laws.specs.Fates.{aborts, commits, fate}
 use Rattle.commit_laws.specs.Takeovers.{FirstIs, HasAllKeys, IsRuled, IsWhole, TakeoverStands, takeover_at}
 use Rattle.commit_laws.specs.Together.{Follows}
