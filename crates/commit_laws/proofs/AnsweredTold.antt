@@ -46,13 +46,13 @@ passes_some p (y ∷ ys) some = by (p y.signal) refl (passes_some p ys)
         record { one = rest.one; there = inr rest.there; is = rest.is }
 
 -- one that was sent does
-record WasSent (start : Start) (p : Signal → Bool) (h : ℕ) (log : List HostStep) : Type 0 where
-  to_host : ℕ
-  signal : Addressed
-  there : IsIn signal (sent (sound_machine start) h to_host log)
-  is : p signal.signal ≡ true
+pub record WasSent (start : Start) (p : Signal → Bool) (h : ℕ) (log : List HostStep) : Type 0 where
+  pub to_host : ℕ
+  pub signal : Addressed
+  pub there : IsIn signal (sent (sound_machine start) h to_host log)
+  pub is : p signal.signal ≡ true
 
-sent_some : (start : Start) (p : Signal → Bool) (h : ℕ) (log : List HostStep) → 1 ≤ sent_along start p h log
+pub sent_some : (start : Start) (p : Signal → Bool) (h : ℕ) (log : List HostStep) → 1 ≤ sent_along start p h log
     → WasSent start p h log
 sent_some start p h [] some = absurd (omega (arith, some))
 sent_some start p h (e ∷ log) some =

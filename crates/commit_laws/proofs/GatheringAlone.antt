@@ -65,7 +65,7 @@ one_low (suc n) f h low = by (cases_eq n h) (one_low n f h)
     by (inl is) rest = let same = ap f is in omega (arith, same)
     by (inr off) rest = let less = rest (omega (arith, low, off)) in omega (arith, less)
 
-two_low : (n : ℕ) (f : ℕ → ℕ) (h k : ℕ) → h < n → k < n → h ≢ k → f h + f k ≤ total n f
+pub two_low : (n : ℕ) (f : ℕ → ℕ) (h k : ℕ) → h < n → k < n → h ≢ k → f h + f k ≤ total n f
 two_low zero f h k low high apart = absurd (omega (arith, low))
 two_low (suc n) f h k low high apart = by (cases_eq n h) (cases_eq n k) (two_low n f h k)
   where

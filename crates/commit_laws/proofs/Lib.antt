@@ -1,9 +1,13 @@
 pub mod AbortedFinals
 pub mod AnsweredCoordinator
 pub mod AnsweredCounts
+pub mod AnsweredEvents
 pub mod AnsweredKeys
+pub mod AnsweredOrphans
 pub mod AnsweredRows
+pub mod AnsweredRulings
 pub mod AnsweredStays
+pub mod AnsweredTakeover
 pub mod AnsweredTold
 pub mod AnsweredTurns
 pub mod AnsweredWritten
