@@ -192,6 +192,7 @@ pub mod SpokenRuling
 pub mod SpokenTakeover
 pub mod SpokenTurns
 pub mod SpokenWords
+pub mod StandAlways
 pub mod TakenChains
 pub mod TakeoverCloses
 pub mod TakeoverEvents
@@ -220,4 +221,3 @@ pub mod WholeAll
 pub mod WholeHosts
 pub mod WholeTakeover
 pub mod WholeTurns
-pub mod StandAlways
