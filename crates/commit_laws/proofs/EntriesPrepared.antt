@@ -1,6 +1,6 @@
 -- When the last member ends, each transaction that is gathered without an epoch is prepared at a replica: no takeover
 -- was at work in the view yet, so it is as the takeover was told.
-use Rattle.std.proofs.Common.{◌≡◌, ◌≢◌, ◌⊎◌, ◌++◌, ◌∙◌, ℕ, true, List, [], ◌∷◌, inl, inr, refl, sym, ap, subst, arith}
+use Rattle.std.proofs.Common.{◌≡◌, ◌≢◌, ◌⊎◌, ◌∙◌, ℕ, true, List, [], ◌∷◌, inl, inr, refl, sym, ap, subst, arith}
 use Rattle.std.proofs.lemmas.Bool.{cases_eq, true≢false}
 use Rattle.std.specs.Prelude.{Option, None, Some, slice_get}
 use Rattle.run_theory.specs.Lists.{Each, IsIn}

@@ -1,6 +1,6 @@
 -- Until a takeover is at work in a view, whoever was reported in it to be only prepared, and has no coordinator in it,
 -- has such a record at a replica.
-use Rattle.std.proofs.Common.{◌≡◌, ◌⊎◌, ◌++◌, ◌∙◌, ◌<◌, ℕ, true, false, filter, List, [], ◌∷◌, inl, inr, map, refl, sym, ap, subst, arith}
+use Rattle.std.proofs.Common.{◌≡◌, ◌⊎◌, ◌++◌, ◌∙◌, ◌<◌, ℕ, false, filter, List, [], ◌∷◌, inl, inr, map, sym, ap, subst, arith}
 use Rattle.std.specs.Prelude.{Option, None, Some}
 use Rattle.run_theory.specs.Links.{sent}
 use Rattle.run_theory.specs.Lists.{Each, IsIn}

@@ -1,12 +1,10 @@
 -- A full member of the current view that has a record on a key is one of the key's replicas: records come by requests,
 -- which go along chains; and a full member that was in a chain in one view is in it in each in which it is full.
-use Rattle.std.proofs.Common.{◌≡◌, ◌⊎◌, ◌∙◌, ◌<◌, ℕ, zero, suc, Bool, true, false, cond, filter, length, map, List, [], ◌∷◌, ◌++◌, inl, inr, refl, sym, ap, subst, arith}
-use Rattle.std.proofs.lemmas.Bool.{true≢false}
+use Rattle.std.proofs.Common.{◌≡◌, ◌⊎◌, ◌∙◌, ◌<◌, ℕ, zero, suc, Bool, true, false, cond, filter, length, map, List, [], ◌∷◌, inl, inr, refl, sym, ap, subst, arith}
 use Rattle.std.specs.Prelude.{if◌then◌else◌, Option, None, Some}
 use Rattle.run_theory.specs.Lists.{Each, IsIn}
 use Rattle.run_theory.proofs.Pasts.{each_append, each_in, each_map}
 use Rattle.frag_map.specs.Fragment.{frag_of}
-use Rattle.frag_map.specs.Layout.{chain_of}
 use Rattle.frag_map.specs.Replicas.{first_start, in_turn, is_member, node_in_turn}
 use Rattle.frag_map.specs.Shape.{IsShape}
 use Rattle.sig_core.specs.Chain.{node_at}
@@ -17,14 +15,12 @@ use Rattle.sig_core.specs.Same.{same_key}
 use Rattle.sig_core.specs.Work.{work_key}
 use Rattle.sig_core.specs.declared.member.Member.{Member}
 use Rattle.sig_core.specs.declared.member.TxId.{TxId}
-use Rattle.sig_core.specs.declared.place.BlockId.TheVariants as block
 use Rattle.sig_core.specs.declared.place.Place.{Place}
 use Rattle.sig_core.specs.declared.rows.PendingRecord.{PendingRecord}
 use Rattle.sig_core.specs.declared.signal.Body.{Body}
 use Rattle.sig_core.specs.declared.signal.Body.TheVariants.{Chain, Epoch, Host, Membership, Takeover}
 use Rattle.sig_core.specs.declared.signal.Signal.{Signal}
 use Rattle.sig_core.specs.declared.signal.chain.ChainSignal.TheVariants.{Abort, Commit, Complete, LqhKeyReq}
-use Rattle.sig_core.specs.declared.signal.chain.RowWork.{RowWork}
 use Rattle.sig_core.specs.declared.signal.host.HostSignal.TheVariants.{Continue, Round}
 use Rattle.sig_core.specs.declared.signal.host.Work.TheVariants as work
 use Rattle.sig_core.specs.declared.signal.membership.MembershipSignal.TheVariants.{FenceReq}
@@ -33,14 +29,13 @@ use Rattle.sig_core.specs.declared.view.View.{View}
 use Rattle.row_locks.specs.Rounds.{expired}
 use Rattle.lqh_block.proofs.IndexLemmas.{same}
 use Rattle.lqh_block.specs.declared.request.Request.{Request}
-use Rattle.lqh_block.specs.Expire.{aged}
 use Rattle.lqh_block.specs.Operate.{is_granted}
 use Rattle.lqh_block.specs.State.{LqhState, storage_of}
-use Rattle.lqh_views.specs.Replica.{installed, is_stale, replica_row}
+use Rattle.lqh_views.specs.Replica.{is_stale, replica_row}
 use Rattle.lqh_views.specs.State.{ReplicaState}
 use Rattle.key_laws.proofs.Waiting.{each-first_item}
 use Rattle.key_laws.specs.Records.{as_committed, edited, found, if_committed, unless_committed, without_epoch}
-use Rattle.key_laws.specs.Replica.{Event, Replica, aborts, ages, asks, at_key, commits, completes, event_at, expired_by, expires, expires_if, if_on, is_refused, key_after, rests, serves, serves_if}
+use Rattle.key_laws.specs.Replica.{Event, Replica, aborts, ages, asks, at_key, commits, completes, event_at, expires, expires_if, if_on, is_refused, key_after, rests, serves, serves_if}
 use Rattle.host_laws.specs.ReplicaLaws.{IsWell}
 use Rattle.node_core.specs.Fresh.{own_rows}
 use Rattle.node_views.specs.declared.host.Host as hosts
@@ -266,10 +261,7 @@ module _ (start : Start) where
               by (as_was is stood) = subst (IsEmptyOr P key) (sym is) (placed key)
               by (entered view is) = subst (IsEmptyOr P key) (sym is) (placed key)
 
-          -- the view in which its rows stood
-          stood : View
-          stood = view_of_ldm start old member
-
+          -- the view in which its rows stood was installed
           stood_installed : WasInstalled start all (view_of_ldm start (logs_of start es) member)
           stood_installed = record {
             host = ldm_of start member;
