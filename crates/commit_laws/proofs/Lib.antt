@@ -50,6 +50,7 @@ pub mod DriveTakeover
 pub mod DriveTasks
 pub mod DriveTurns
 pub mod EndsTold
+pub mod EntriesPrepared
 pub mod FateCases
 pub mod FateForth
 pub mod FateMoves
@@ -160,12 +161,14 @@ pub mod Passing
 pub mod PlainMarks
 pub mod PlainMaster
 pub mod PlainMembership
+pub mod PreparedTold
 pub mod RaisedChains
 pub mod RaisedHale
 pub mod RaisedKeeps
 pub mod RecordMoves
 pub mod RecordPlaces
 pub mod RecordsOnce
+pub mod RecordsPlaced
 pub mod ReplicasNow
 pub mod ReportGoes
 pub mod ReportPlaces
@@ -207,6 +210,7 @@ pub mod TellingNotes
 pub mod TellingsGathered
 pub mod TellingsNoted
 pub mod TellingsPlaced
+pub mod TellingsWhole
 pub mod TellsKept
 pub mod TogetherOnce
 pub mod TracesNow

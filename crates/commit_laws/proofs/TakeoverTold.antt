@@ -64,11 +64,11 @@ use Rattle.commit_laws.proofs.TakeoverWords.{Commits}
 use Rattle.commit_laws.proofs.Truths.{both, either, or_left, or_right}
 
 -- what stands at a place of a list is in it
-in_get : {A : Type 0} (xs : List A) (at : ℕ) (x : A) → slice_get xs at ≡ Some x → IsIn x xs
+pub in_get : {A : Type 0} (xs : List A) (at : ℕ) (x : A) → slice_get xs at ≡ Some x → IsIn x xs
 in_get xs at x is = each_get (λ y. IsIn y xs) xs at x (each_from (λ y. IsIn y xs) xs (λ y there. there)) is
 
 -- a record on a key is in its cell
-in_cell : (key : List ℕ) (r : PendingRecord) (xs : List PendingRecord) → IsIn r xs → is_on key r ≡ true
+pub in_cell : (key : List ℕ) (r : PendingRecord) (xs : List PendingRecord) → IsIn r xs → is_on key r ≡ true
     → IsIn (without_epoch r) (map without_epoch (filter (is_on key) xs))
 in_cell key r [] there on = absurd there
 in_cell key r (x ∷ xs) (inl same) on =
@@ -82,7 +82,7 @@ in_cell key r (x ∷ xs) (inr there) on = by (is_on key x) (in_cell key r xs the
     by false more = more
 
 -- where no transaction has two, it is the one that is found
-once_found : (xs : List PendingRecord) → AreOnce xs → (r : PendingRecord) → IsIn r xs → found r.tx xs ≡ Some r
+pub once_found : (xs : List PendingRecord) → AreOnce xs → (r : PendingRecord) → IsIn r xs → found r.tx xs ≡ Some r
 once_found [] once r there = absurd there
 once_found (x ∷ xs) once r (inl same) =
     ap (λ b. if b then Some x else found r.tx xs) (ap (λ (y : PendingRecord). same_tx y.tx r.tx) (sym same) ∙ same_tx-self r.tx)
