@@ -1,7 +1,7 @@
 -- In front of each end that the rows of a full member sent to a takeover they told of each record and marker of orphans
 -- that they have when the last member ends: these neither came nor changed since the report began, so it told of each.
 use Rattle.std.proofs.Common.{◌≡◌, ◌∙◌, ◌&&◌, ◌||◌, ◌++◌, ℕ, Bool, true, false, cond, filter, map, List, [], ◌∷◌, refl, sym, ap, subst}
-use Rattle.std.specs.Prelude.{if◌then◌else◌, is_some, Option, None, Some}
+use Rattle.std.specs.Prelude.{if◌then◌else◌, is_some, Some}
 use Rattle.std.specs.List.{list_any}
 use Rattle.run_theory.specs.Links.{sent}
 use Rattle.run_theory.specs.Lists.{IsIn}
@@ -15,7 +15,6 @@ use Rattle.takeover_block.proofs.EachTakeover.{is_gathering}
 use Rattle.lqh_views.specs.WholeReports.{has_marker, has_record}
 use Rattle.lqh_views.proofs.ReportSteps.{MarkerLeft, RecordLeft}
 use Rattle.key_laws.specs.Records.{found, without_epoch}
-use Rattle.node_views.specs.WellFormed.{is_tx}
 use Rattle.world_core.specs.Start.{Start, made}
 use Rattle.world_core.specs.Steps.{Addressed, HostStep}
 use Rattle.view_laws.specs.Order.{sound_machine}
@@ -23,7 +22,6 @@ use Rattle.moment_laws.specs.Moments.{IsMoment, current, logs_of}
 use Rattle.moment_laws.specs.Places.{ldm_of, tc_of}
 use Rattle.moment_laws.proofs.MomentMembers.{current_made}
 use Rattle.moment_laws.proofs.MomentViews.{moment_less}
-use Rattle.commit_laws.specs.Gathering.{EndsGathering}
 use Rattle.commit_laws.specs.Ruling.{NoneRuled}
 use Rattle.commit_laws.specs.Takeovers.{IsOrphan}
 use Rattle.commit_laws.specs.Telling.{EndsComeBehind, IsAmong, IsEnd}

@@ -2,7 +2,7 @@
 -- formed, and what is for others.
 use Rattle.std.proofs.Common.{◌≡◌, ◌==◌, ℕ, Bool, true, false, cond, filter, if◌then◌else◌, List, [], ◌∷◌, refl, sym, ap, subst, ◌∙◌}
 use Rattle.std.proofs.lemmas.Bool.{eq-eqb, eqb-true, true≢false}
-use Rattle.run_theory.specs.Links.{put, sent, sent_by}
+use Rattle.run_theory.specs.Links.{put, sent}
 use Rattle.run_theory.proofs.Links.{sent_by_stop}
 use Rattle.sig_core.specs.declared.outs.Outgoing.{Outgoing}
 use Rattle.node_views.specs.declared.standing.Standing.{Standing}

@@ -2,7 +2,6 @@
 -- report that is under way hasn't gone past it, or told of it.
 use Rattle.std.proofs.Common.{◌≡◌, ◌≢◌, ◌≤◌, ◌<◌, ◌⊎◌, ◌∙◌, ℕ, Bool, true, false, not, List, [], ◌∷◌, inl, inr, refl, sym, ap, subst, arith}
 use Rattle.std.proofs.lemmas.Bool.{cases_eq, true≢false}
-use Rattle.std.specs.Prelude.{None, Some}
 use Rattle.run_theory.specs.Links.{sent}
 use Rattle.run_theory.specs.Lists.{Each, IsIn}
 use Rattle.run_theory.specs.Logs.{IsRunning}
@@ -21,7 +20,7 @@ use Rattle.sig_core.specs.Place.{takeover}
 use Rattle.frag_map.specs.Layout.{Layout}
 use Rattle.lqh_block.specs.Views.{is_coordinated}
 use Rattle.lqh_views.specs.declared.report.Report.{Report}
-use Rattle.lqh_views.specs.Replica.{installed, replica_row}
+use Rattle.lqh_views.specs.Replica.{replica_row}
 use Rattle.lqh_views.specs.Report.{is_orphaned}
 use Rattle.lqh_views.specs.State.{ReplicaState}
 use Rattle.lqh_views.specs.WholeReports.{ends, the_end}
@@ -31,7 +30,7 @@ use Rattle.node_views.specs.WellFormed.{is_tx}
 use Rattle.world_core.specs.Start.{Start, made}
 use Rattle.world_core.specs.Steps.{Addressed, HostStep}
 use Rattle.world_views.specs.Hosts.{reached}
-use Rattle.world_views.specs.Machine.{after, has_stopped, machine, step_after, stops_by}
+use Rattle.world_views.specs.Machine.{has_stopped, machine, step_after, stops_by}
 use Rattle.world_views.proofs.CutFacts.{cut_stays}
 use Rattle.view_laws.specs.Order.{sound_machine}
 use Rattle.view_laws.specs.Runs.{view_after}
@@ -40,15 +39,15 @@ use Rattle.moment_laws.specs.Places.{ldm_of}
 use Rattle.moment_laws.proofs.MomentHosts.{ldm_started}
 use Rattle.moment_laws.proofs.MomentSignals.{sent_below}
 use Rattle.moment_laws.proofs.MomentTurns.{Turn, keeps, raises, turn}
-use Rattle.moment_laws.proofs.MomentViews.{current_above, current_number, moment_less, number_in}
+use Rattle.moment_laws.proofs.MomentViews.{current_above, current_number, moment_less}
 use Rattle.request_laws.specs.Blocks.{no_replica, rows_after, rows_in}
 use Rattle.request_laws.proofs.RouteLayouts.{rows_laid, rows_layout}
 use Rattle.request_laws.proofs.TokenPlaces.{ldm_low}
-use Rattle.commit_laws.specs.Ruling.{AllRest, NoneRuled}
+use Rattle.commit_laws.specs.Ruling.{NoneRuled}
 use Rattle.commit_laws.specs.Takeovers.{IsOrphan}
 use Rattle.commit_laws.specs.Traces.{rows_at}
 use Rattle.commit_laws.proofs.LinkPuts.{quiet_same, stopped_same}
-use Rattle.commit_laws.proofs.LinkTold.{AreBehind, HasTold, IsShut, NoEndTo, more_told, stay_behind, told_comes}
+use Rattle.commit_laws.proofs.LinkTold.{AreBehind, HasTold, IsShut, stay_behind, told_comes}
 use Rattle.commit_laws.proofs.ReportTells.{IsEntry, IsOpen, Reports, Tells, open_more, reports_end, reports_on, row_reports}
 use Rattle.commit_laws.proofs.RowsGo.{IsBetween, IsQuiet, IsTakenAt, RowsTurn, as_was, enter_now, entered, rest_now, rows_turn, take_now}
 

@@ -15,7 +15,7 @@ use Rattle.sig_core.proofs.TxLemmas.{same_tx-is}
 use Rattle.lqh_block.specs.Commit.{is_marker}
 use Rattle.key_laws.specs.Records.{as_committed, found, if_committed, unless_committed, without_epoch}
 use Rattle.key_laws.specs.Replica.{at_key}
-use Rattle.node_core.specs.Fresh.{own_rows, with_rows}
+use Rattle.node_core.specs.Fresh.{own_rows}
 use Rattle.node_views.specs.declared.host.Host as node
 use Rattle.node_views.specs.WellFormed.{is_tx}
 use Rattle.world_core.specs.Start.{Start, made}
