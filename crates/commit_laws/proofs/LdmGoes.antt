@@ -46,6 +46,11 @@ AreUnapplied marks = Each (λ mark. is_applied mark ≡ false) marks
 abbrev pub Entering : LdmPart → View → Signal → LdmPart → View → Type 0
 Entering p view x between seen = PartEnters ldm_kind p view x between seen []
 
+-- the host stops, and sends nothing
+pub record StopsSilent (effects : Effects) : Type 0 where
+  pub sends : effects.sends ≡ []
+  pub stops : list_any is_stop effects.marks ≡ true
+
 -- what a step of the host comes to
 pub data Goes (shape : Shape) (p : LdmPart) (view : View) (x : Signal) (step : Step hosts.Host) : Type 0 where
   leaves : (between : LdmPart) (seen : View) → Entering p view x between seen → step.state.parts ≡ part.Ldm between
@@ -54,7 +59,7 @@ pub data Goes (shape : Shape) (p : LdmPart) (view : View) (x : Signal) (step : S
   takes : (between : LdmPart) (seen : View) → Entering p view x between seen
       → IsPassed shape (part.Ldm between) seen x
       → step.state.parts ≡ part.Ldm (ldm_row between x.to.block x).state → step.state.standing.view ≡ seen
-      → (step.effects.sends ≡ (ldm_row between x.to.block x).effects.sends) ⊎ (step.effects.sends ≡ [])
+      → (step.effects.sends ≡ (ldm_row between x.to.block x).effects.sends) ⊎ StopsSilent step.effects
       → (front : List Mark) → AreUnapplied front
       → step.effects.marks ≡ front ++ (ldm_row between x.to.block x).effects.marks → Goes shape p view x step
 
@@ -172,13 +177,19 @@ module _ (x : Signal) where
         by true = refl
         by false = sends
     hushed_goes p view step (takes between seen entering passed parts stood sends front none marks) =
-        takes between seen entering passed parts stood (by (list_any is_stop step.effects.marks)) front none marks
+        takes between seen entering passed parts stood (by (list_any is_stop step.effects.marks) refl sends) front none
+        marks
       where
-        by : (b : Bool)
+        by : (b : Bool) → list_any is_stop step.effects.marks ≡ b
+            → (step.effects.sends ≡ (ldm_row between x.to.block x).effects.sends) ⊎ StopsSilent step.effects
             → (unless_stopped step.effects.sends b ≡ (ldm_row between x.to.block x).effects.sends)
-            ⊎ (unless_stopped step.effects.sends b ≡ [])
-        by true = inr refl
-        by false = sends
+            ⊎ StopsSilent (record {
+              sends = unless_stopped step.effects.sends b;
+              marks = step.effects.marks;
+            })
+        by true stops sent = inr (record { sends = refl; stops = stops })
+        by false goes (inl is) = inl is
+        by false goes (inr silent) = inr (record { sends = silent.sends; stops = silent.stops })
 
   step_goes : (h : ℕ) (standing : Standing) (p : LdmPart)
       → Goes standing.shape p standing.view x (step_by h (host_of standing p) x)

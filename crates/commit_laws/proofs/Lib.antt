@@ -49,6 +49,7 @@ pub mod DriveSteps
 pub mod DriveTakeover
 pub mod DriveTasks
 pub mod DriveTurns
+pub mod EndsBehind
 pub mod EndsTold
 pub mod EntriesPrepared
 pub mod FateCases
@@ -96,6 +97,8 @@ pub mod LedMoves
 pub mod LedOwed
 pub mod LedReplicas
 pub mod LedRows
+pub mod LinkPuts
+pub mod LinkTold
 pub mod LockKeeps
 pub mod LocksNow
 pub mod LostDoomed
@@ -172,6 +175,8 @@ pub mod RecordsPlaced
 pub mod ReplicasNow
 pub mod ReportGoes
 pub mod ReportPlaces
+pub mod ReportTells
+pub mod ReportsBehind
 pub mod RowTokens
 pub mod RowsAttended
 pub mod RowsEnd
@@ -217,6 +222,7 @@ pub mod TracesNow
 pub mod TransitCounts
 pub mod TransitLinks
 pub mod Truths
+pub mod TxNodes
 pub mod Unasked
 pub mod UnaskedRows
 pub mod ViewRaised

@@ -1,12 +1,13 @@
 -- What becomes of the rows of a member at an event: nothing, or a view is installed, or they take the signal of the
 -- event, which then is of the current view, if it is of a kind that fences stop.
-use Rattle.std.proofs.Common.{◌≡◌, ◌≢◌, ◌⊎◌, ◌++◌, ◌∙◌, ℕ, List, [], ◌∷◌, append-nil, refl, sym, ap, subst, inl, inr, arith}
-use Rattle.std.proofs.lemmas.Bool.{cases_eq}
+use Rattle.std.proofs.Common.{◌≡◌, ◌≢◌, ◌⊎◌, ◌++◌, ◌∙◌, ℕ, false, List, [], ◌∷◌, append-nil, refl, sym, ap, subst, inl, inr, arith}
+use Rattle.std.proofs.lemmas.Bool.{cases_eq, true≢false}
 use Rattle.run_theory.specs.Lists.{IsIn}
 use Rattle.run_theory.proofs.Runs.{log_of-other, log_of-own}
 use Rattle.run_theory.specs.Runs.{Happens}
 use Rattle.sig_core.specs.declared.mark.Mark.{Mark}
 use Rattle.sig_core.specs.declared.member.Member.{Member}
+use Rattle.sig_core.specs.declared.outs.Outgoing.{Outgoing}
 use Rattle.sig_core.specs.declared.place.BlockId.{BlockId}
 use Rattle.sig_core.specs.declared.place.BlockId.TheVariants as block
 use Rattle.sig_core.specs.declared.place.Part.TheVariants.{Ldm}
@@ -21,7 +22,7 @@ use Rattle.node_views.specs.declared.parts.Parts.TheVariants as part
 use Rattle.node_views.specs.Parts.{ldm_row}
 use Rattle.world_core.specs.Start.{Start, made}
 use Rattle.world_core.specs.Steps.{HostStep}
-use Rattle.world_views.specs.Machine.{after, machine, step_after}
+use Rattle.world_views.specs.Machine.{after, machine, step_after, stops_by}
 use Rattle.view_laws.specs.Order.{sound_machine}
 use Rattle.view_laws.specs.Runs.{view_after}
 use Rattle.moment_laws.specs.Moments.{IsMoment, current, logs_of}
@@ -36,7 +37,7 @@ use Rattle.request_laws.specs.Blocks.{rows_after}
 use Rattle.request_laws.proofs.PhaseAlong.{told_some}
 use Rattle.request_laws.proofs.RouteSteps.{LdmStep, own_ldm, rows_are}
 use Rattle.commit_laws.specs.Traces.{rows_at}
-use Rattle.commit_laws.proofs.LdmGoes.{AreUnapplied, Entering, Goes, ldm_goes, leaves, takes}
+use Rattle.commit_laws.proofs.LdmGoes.{AreUnapplied, Entering, Goes, StopsSilent, ldm_goes, leaves, takes}
 
 module _ (start : Start) (all : ℕ → List HostStep) (e : HostStep) (es : List HostStep)
     (moment : IsMoment start all (e ∷ es)) (member : Member) (there : IsIn member (made start))
@@ -67,6 +68,9 @@ module _ (start : Start) (all : ℕ → List HostStep) (e : HostStep) (es : List
       pub rows_are : rows_at start new member ≡ (replica_row s x).state
       pub sent : ((step_after start h (old h) e).effects.sends ≡ (replica_row s x).effects.sends)
           ⊎ ((step_after start h (old h) e).effects.sends ≡ [])
+      -- all of it, unless the host stops
+      pub goes : stops_by e.step.marks ≡ false
+          → (step_after start h (old h) e).effects.sends ≡ (replica_row s x).effects.sends
       pub front : List Mark
       pub unapplied : AreUnapplied front
       pub marks_are : e.step.marks ≡ front ++ (replica_row s x).effects.marks
@@ -190,28 +194,44 @@ module _ (start : Start) (all : ℕ → List HostStep) (e : HostStep) (es : List
           taking : (between : LdmPart) (seen : View) → Entering p view_was x between seen
               → IsPassed start.shape (part.Ldm between) seen x → step.state.standing.view ≡ seen → (b : BlockId)
               → x.to.block ≡ b → step.state.parts ≡ part.Ldm (ldm_row between b x).state
-              → (step.effects.sends ≡ (ldm_row between b x).effects.sends) ⊎ (step.effects.sends ≡ [])
+              → (step.effects.sends ≡ (ldm_row between b x).effects.sends) ⊎ StopsSilent step.effects
               → (front : List Mark) → AreUnapplied front
               → step.effects.marks ≡ front ++ (ldm_row between b x).effects.marks → RowsTurn
           taking between seen entering passed stood block.Lqh to parts sends front none marks =
-              take_now between.replica (between_is between seen entering stood) (which_is between seen entering stood) (record {
+              take_now between.replica (between_is between seen entering stood)
+              (which_is between seen entering stood) (record {
                 at = at;
                 now = passed_to between seen entering stood passed to;
                 rows_are = now_is (ldm_row between block.Lqh x).state parts;
-                sent = sends;
+                sent = sent_or sends;
+                goes = λ on. sent_on on sends;
                 front = front;
                 unapplied = none;
                 marks_are = marks_of ∙ marks;
               })
+            where
+              row_sends : List Outgoing
+              row_sends = (replica_row between.replica x).effects.sends
+
+              sent_or : (step.effects.sends ≡ row_sends) ⊎ StopsSilent step.effects
+                  → (step.effects.sends ≡ row_sends) ⊎ (step.effects.sends ≡ [])
+              sent_or (inl is) = inl is
+              sent_or (inr silent) = inr silent.sends
+
+              sent_on : stops_by e.step.marks ≡ false → (step.effects.sends ≡ row_sends) ⊎ StopsSilent step.effects
+                  → step.effects.sends ≡ row_sends
+              sent_on on (inl is) = is
+              sent_on on (inr silent) =
+                  absurd (true≢false (sym (ap stops_by marks_of ∙ silent.stops) ∙ on))
           taking between seen entering passed stood _ to parts sends front none marks =
               idle between seen entering stood (now_is between parts) (record {
                 sends = quiet sends;
                 marks = subst AreUnapplied (sym (marks_of ∙ (marks ∙ append-nil front))) none;
               })
             where
-              quiet : (step.effects.sends ≡ []) ⊎ (step.effects.sends ≡ []) → step.effects.sends ≡ []
+              quiet : (step.effects.sends ≡ []) ⊎ StopsSilent step.effects → step.effects.sends ≡ []
               quiet (inl is) = is
-              quiet (inr is) = is
+              quiet (inr silent) = silent.sends
 
           by : Goes start.shape p view_was x step → RowsTurn
           by (leaves between seen entering parts stood sends marks) =
