@@ -117,6 +117,8 @@ pub mod OrderOnce
 pub mod OrderOthers
 pub mod OrderRows
 pub mod OrderSent
+pub mod OrdersFirst
+pub mod OrdersSound
 pub mod OrderSteps
 pub mod OrderTakeover
 pub mod OrderTurns
@@ -210,6 +212,9 @@ pub mod TransitLinks
 pub mod Truths
 pub mod Unasked
 pub mod UnaskedRows
+pub mod UnorderedHosts
+pub mod UnorderedRows
+pub mod UnorderedViews
 pub mod ViewRaised
 pub mod WaitCounts
 pub mod WholeAll
