@@ -1,5 +1,5 @@
 -- An order to a takeover is well formed, if a signal of its view is that was taken from a link.
-use Rattle.std.proofs.Common.{◌≡◌, ◌<◌, ◌≤◌, ◌+◌, ◌/◌, ◌⊎◌, ◌==◌, ◌&&◌, ◌||◌, ◌++◌, ◌∙◌, ℕ, zero, suc, Bool, true, false, List, [], ◌∷◌, filter, nat_le, inl, inr, refl, sym, ap, arith, subst}
+use Rattle.std.proofs.Common.{◌≡◌, ◌<◌, ◌≤◌, ◌+◌, ◌/◌, ◌⊎◌, ◌==◌, ◌&&◌, ◌++◌, ◌∙◌, ℕ, zero, suc, Bool, true, false, List, [], ◌∷◌, nat_le, inl, inr, refl, sym, ap, arith, subst}
 use Rattle.std.proofs.lemmas.Bool.{and_from, and_parts, cases_lt, eq-eqb, le-leb, or_left, true≢false}
 use Rattle.std.specs.Prelude.{if◌then◌else◌, not}
 use Rattle.run_theory.proofs.Links.{put_each, sent_by_each}
@@ -7,14 +7,12 @@ use Rattle.run_theory.proofs.Pasts.{each_in, each_map, each_past}
 use Rattle.run_theory.specs.Links.{IsGiven, is_from, sent, sent_by, taken}
 use Rattle.run_theory.specs.Lists.{Each, IsIn, IsPast}
 use Rattle.run_theory.specs.Machine.{Machine}
-use Rattle.run_theory.specs.Runs.{Happens}
 use Rattle.sig_core.specs.declared.member.Member.{Member}
 use Rattle.sig_core.specs.declared.signal.Body.{Body}
 use Rattle.sig_core.specs.declared.signal.Body.TheVariants.{Host, Takeover}
 use Rattle.sig_core.specs.declared.signal.Signal.{Signal}
 use Rattle.sig_core.specs.declared.signal.host.HostSignal.TheVariants.{Closed}
 use Rattle.sig_core.specs.declared.signal.takeover.TakeoverSignal.TheVariants.{TakeoverOrd}
-use Rattle.sig_core.specs.declared.view.View.{View}
 use Rattle.sig_core.specs.Members.{nobody}
 use Rattle.node_views.specs.WellFormed.{is_body_sound, is_node, is_sender, is_view, is_well_formed}
 use Rattle.world_core.proofs.HostNumbers.{members_at}
@@ -32,7 +30,6 @@ use Rattle.view_laws.proofs.RunViews.{one_view}
 use Rattle.moment_laws.specs.Moments.{IsMoment, logs_of}
 use Rattle.moment_laws.proofs.MomentSignals.{IsClosed}
 use Rattle.moment_laws.proofs.MomentTurns.{host_low}
-use Rattle.moment_laws.proofs.MomentViews.{moment_less}
 use Rattle.request_laws.proofs.RouteHeaders.{event_past}
 use Rattle.commit_laws.proofs.TellingsNoted.{sound_of}
 

@@ -1,5 +1,5 @@
 -- Takeovers alone ask rows for what they have, and rows alone tell of it: other blocks send nothing of reports.
-use Rattle.std.proofs.Common.{◌≡◌, ℕ, Bool, true, false, nat_lt, List, [], ◌∷◌, ◌++◌, ◌&&◌, map, refl, sym, ap, subst}
+use Rattle.std.proofs.Common.{◌≡◌, ℕ, Bool, true, false, nat_lt, List, [], ◌∷◌, ◌++◌, ◌&&◌, map, refl, sym, subst}
 use Rattle.std.proofs.lemmas.Bool.{true≢false}
 use Rattle.std.specs.Prelude.{Option}
 use Rattle.run_theory.specs.Lists.{Each}

@@ -1,10 +1,10 @@
 -- In a view in which no takeover was ordered yet takeovers rest, no report of rows is under way, and none of its signals
 -- asks rows for what they have or tells a takeover of it.
-use Rattle.std.proofs.Common.{◌≡◌, ◌≢◌, ◌≤◌, ◌⊎◌, ◌++◌, ◌∙◌, ℕ, true, false, List, [], ◌∷◌, inl, inr, refl, sym, ap, arith, subst}
+use Rattle.std.proofs.Common.{◌≡◌, ◌≢◌, ◌≤◌, ◌⊎◌, ◌++◌, ◌∙◌, ℕ, false, List, [], ◌∷◌, inl, inr, refl, sym, ap, arith, subst}
 use Rattle.std.proofs.lemmas.Bool.{cases_eq, true≢false}
 use Rattle.std.specs.Prelude.{None}
 use Rattle.outcome_laws.specs.Counts.{one_if}
-use Rattle.run_theory.specs.Lists.{Each, IsIn}
+use Rattle.run_theory.specs.Lists.{IsIn}
 use Rattle.run_theory.proofs.Pasts.{each_append, each_from, each_in}
 use Rattle.run_theory.proofs.Runs.{log_of-other, log_of-own}
 use Rattle.sig_core.specs.declared.member.Member.{Member}
@@ -237,7 +237,7 @@ module _ (start : Start) (all : ℕ → List HostStep) (e : HostStep) (es : List
         none_between : (s : ReplicaState) → IsBetween start all e es moment member there s → s.report ≡ None
         none_between s (as_was is stays) =
             ap (λ (r : ReplicaState). r.report) is ∙ before.reports member there (stood_before stays)
-        none_between s (entered view is) = ap (λ (r : ReplicaState). r.report) is
+        none_between s (entered _ is) = ap (λ (r : ReplicaState). r.report) is
 
         own_rows : RowsTurn start all e es moment member there
             → ((rows_at start new member).report ≡ None) × AreNoReports (sends_at (ldm_of start member))
