@@ -143,7 +143,7 @@ told_beside zero t beside = given_beside t.state.parts beside
 told_beside (suc h) t beside = beside
 
 module _ (start : Start) (h : ℕ) (first : IsBeside (started start h).parts) where
-  stays_beside : (log : List HostStep) → IsBeside (after start h log).parts
+  pub stays_beside : (log : List HostStep) → IsBeside (after start h log).parts
   stays_beside [] = first
   stays_beside (e ∷ log) =
       told_beside h (step_by h (after start h log) e.step.taken)

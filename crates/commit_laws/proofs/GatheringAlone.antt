@@ -137,7 +137,7 @@ not_both (stage.Committing e n) is = absurd (true≢false (sym is))
 not_both (stage.Completing e n) is = absurd (true≢false (sym is))
 not_both (stage.Aborting n) is = absurd (true≢false (sym is))
 
-plain : (body : Body) → is_order body ≡ true
+pub plain : (body : Body) → is_order body ≡ true
     → (is_own_work body ≡ false) × ((y : Signal) → is_body_fenced y body ≡ true)
 plain (Takeover TakeoverOrd) own = (refl, λ y. refl)
 plain body own = absurd (true≢false (sym own))

@@ -125,6 +125,8 @@ pub mod OrderOnce
 pub mod OrderOthers
 pub mod OrderRows
 pub mod OrderSent
+pub mod OrdersFirst
+pub mod OrdersSound
 pub mod OrderSteps
 pub mod OrderTakeover
 pub mod OrderTurns
@@ -225,6 +227,9 @@ pub mod Truths
 pub mod TxNodes
 pub mod Unasked
 pub mod UnaskedRows
+pub mod UnorderedHosts
+pub mod UnorderedRows
+pub mod UnorderedViews
 pub mod ViewRaised
 pub mod WaitCounts
 pub mod WholeAll

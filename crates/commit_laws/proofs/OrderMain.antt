@@ -38,7 +38,7 @@ use Rattle.sig_core.specs.Step.{Step}
 use Rattle.commit_laws.proofs.OrderCounts.{count_orders, portion_counts, quiet_none}
 use Rattle.commit_laws.proofs.OrderMaster.{master_orders_none}
 use Rattle.commit_laws.proofs.OrderMembership.{is_going_on, membership_orders_none}
-use Rattle.commit_laws.proofs.OrderWords.{AreQuiet, IsQuiet, is_membership}
+use Rattle.commit_laws.proofs.OrderWords.{AreQuiet, IsQuiet, is_membership, still_quiet}
 
 -- the place of the order to the takeover in the list
 abbrev pub last_of : Known → ℕ
@@ -125,7 +125,7 @@ module _ (q : QmgrState) (x : Signal) where
       none : (body : Body) → x.body ≡ body → is_going_on body ≡ false → Counts body
       none body is off =
           let quiet = quiet_none (last_of q.known) (qmgr_row q x).effects.sends
-          (membership_orders_none q x (ap is_going_on is ∙ off)).0 in
+          (still_quiet (qmgr_row q x).effects.sends (membership_orders_none q x (ap is_going_on is ∙ off)).0) in
           omega (arith, quiet)
 
       going : (at : ℕ) (b c d : Bool)
@@ -146,6 +146,10 @@ module _ (q : QmgrState) (x : Signal) where
           (going at (is_of_view q.known x.view.number) (is_oldest q.known) (nat_lt at ORDERS))
       by body is = none body is refl
 
+-- a master orders none
+master_quiet : (p : MainPart) (x : Signal) → AreQuiet (master_row p.master x).effects.sends
+master_quiet p x = still_quiet (master_row p.master x).effects.sends (master_orders_none p.master x).0
+
 -- a membership beside a master
 module _ (p : MainPart) (x : Signal) where
   -- at a signal
@@ -154,7 +158,7 @@ module _ (p : MainPart) (x : Signal) where
   unfolding main_row
   main_counts block.Qmgr = membership_counts p.qmgr x
   main_counts block.GcpMaster =
-      let quiet = quiet_none (last_of p.qmgr.known) (master_row p.master x).effects.sends (master_orders_none p.master x).0 in
+      let quiet = quiet_none (last_of p.qmgr.known) (master_row p.master x).effects.sends (master_quiet p x) in
       omega (arith, quiet)
   main_counts _ = omega arith
 
@@ -165,7 +169,9 @@ module _ (p : MainPart) (x : Signal) where
   settles_none last view settles = by x.to.block settles
     where
       quiet : is_going_on x.body ≡ false → count_orders last (qmgr_row p.qmgr x).effects.sends ≡ 0
-      quiet off = quiet_none last (qmgr_row p.qmgr x).effects.sends (membership_orders_none p.qmgr x off).0
+      quiet off =
+          quiet_none last (qmgr_row p.qmgr x).effects.sends
+          (still_quiet (qmgr_row p.qmgr x).effects.sends (membership_orders_none p.qmgr x off).0)
 
       off : (body : Body) → may_settle body ≡ true → is_going_on body ≡ false
       off (Host signal) may = absurd cc
@@ -230,7 +236,8 @@ module _ (p : MainPart) (x : Signal) (last : ℕ) (younger : is_oldest p.qmgr.kn
     where
       none : (body : Body) → x.body ≡ body → is_going_on body ≡ false → None (qmgr_row p.qmgr x)
       none body is off =
-          quiet_none last (qmgr_row p.qmgr x).effects.sends (membership_orders_none p.qmgr x (ap is_going_on is ∙ off)).0
+          quiet_none last (qmgr_row p.qmgr x).effects.sends
+          (still_quiet (qmgr_row p.qmgr x).effects.sends (membership_orders_none p.qmgr x (ap is_going_on is ∙ off)).0)
 
       by : (body : Body) → x.body ≡ body → None (qmgr_row p.qmgr x)
       by (Host (Continue Members at)) is =
@@ -242,7 +249,7 @@ module _ (p : MainPart) (x : Signal) (last : ℕ) (younger : is_oldest p.qmgr.kn
   pub younger_none : (b : BlockId) → count_orders last (main_row p b x).effects.sends ≡ 0
   unfolding main_row
   younger_none block.Qmgr = membership_none
-  younger_none block.GcpMaster = quiet_none last (master_row p.master x).effects.sends (master_orders_none p.master x).0
+  younger_none block.GcpMaster = quiet_none last (master_row p.master x).effects.sends (master_quiet p x)
   younger_none _ = refl
 
 -- a membership stays of its member

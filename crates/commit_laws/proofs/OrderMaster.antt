@@ -1,4 +1,4 @@
--- A master of checkpoints orders no takeover.
+-- A master of checkpoints orders no takeover, and asks no rows for what they have.
 use Rattle.std.proofs.Common.{◌≡◌, ℕ, ◌==◌, ◌&&◌, Bool, true, false, not, nat_lt, ◌++◌, refl}
 use Rattle.std.specs.Prelude.{Option, None, Some, is_some}
 use Rattle.run_theory.proofs.EachSent.{each_mapped}
@@ -38,35 +38,35 @@ use Rattle.gcp_master.specs.Resume.{knowing, learned_if, order_by, order_row, re
 use Rattle.gcp_master.specs.Sends.{entering, front_sends, go_on_if, go_on_row, list_effects, listing, master_sends, order_at, orders_at, phase_sends, to_both, to_copying, to_each}
 use Rattle.gcp_master.specs.State.{MasterState, all_in, at_phase, counted, counts}
 use Rattle.gcp_master.specs.Voices.{is_among}
-use Rattle.commit_laws.proofs.OrderWords.{AreQuiet, IsQuiet, OrdersNone, is_ordering, portion_quiet}
+use Rattle.commit_laws.proofs.OrderWords.{AreStill, IsStill, OrdersNone, is_leading, portion_still}
 
 -- the lists
-each_untold : (b : BlockId) (o : Order) (view : View) → is_ordering b (order_body o) ≡ false → AreQuiet (to_each b o view)
+each_untold : (b : BlockId) (o : Order) (view : View) → is_leading b (order_body o) ≡ false → AreStill (to_each b o view)
 unfolding to_each
 each_untold b o view is =
-    each_append IsQuiet (orders_at b o view.full) (orders_at b o view.starting)
-    (each_mapped IsQuiet (order_at b o) view.full (λ member. is))
-    (each_mapped IsQuiet (order_at b o) view.starting (λ member. is))
+    each_append IsStill (orders_at b o view.full) (orders_at b o view.starting)
+    (each_mapped IsStill (order_at b o) view.full (λ member. is))
+    (each_mapped IsStill (order_at b o) view.starting (λ member. is))
 
-both_untold : (o : Order) (view : View) → ((b : BlockId) → is_ordering b (order_body o) ≡ false) → AreQuiet (to_both o view)
+both_untold : (o : Order) (view : View) → ((b : BlockId) → is_leading b (order_body o) ≡ false) → AreStill (to_both o view)
 unfolding to_both
 both_untold o view is =
-    each_append IsQuiet (to_each block.Dih o view) (to_each block.Lqh o view) (each_untold block.Dih o view (is block.Dih))
+    each_append IsStill (to_each block.Dih o view) (to_each block.Lqh o view) (each_untold block.Dih o view (is block.Dih))
     (each_untold block.Lqh o view (is block.Lqh))
 
-copying_untold : (node epoch : ℕ) (asked : Bool) → AreQuiet (to_copying node epoch asked)
+copying_untold : (node epoch : ℕ) (asked : Bool) → AreStill (to_copying node epoch asked)
 copying_untold node epoch true = (refl, tt)
 copying_untold node epoch false = tt
 
-front_untold : (node : ℕ) (view : View) (front : Option Ended) → AreQuiet (front_sends node view front)
+front_untold : (node : ℕ) (view : View) (front : Option Ended) → AreStill (front_sends node view front)
 unfolding front_sends order_body
 front_untold node view None = tt
 front_untold node view (Some (Micro epoch)) = (refl, tt)
 front_untold node view (Some (Global epoch copy)) =
-    each_append IsQuiet (to_both (order.Done epoch) view) _ (both_untold (order.Done epoch) view (λ b. refl))
+    each_append IsStill (to_both (order.Done epoch) view) _ (both_untold (order.Done epoch) view (λ b. refl))
     (refl, copying_untold node epoch copy)
 
-phase_untold : (view : View) (phase : Phase) → AreQuiet (phase_sends view phase)
+phase_untold : (view : View) (phase : Phase) → AreStill (phase_sends view phase)
 unfolding phase_sends order_body
 phase_untold view Unordered = tt
 phase_untold view (Gathering known) = both_untold order.State view (λ b. refl)
@@ -80,9 +80,9 @@ phase_untold view (Copying run) = each_untold block.Dih (order.Copy run.epoch (m
 lists : (s : MasterState) (at : ℕ) → OrdersNone (listing s at)
 unfolding listing list_effects master_sends
 lists s at = (
-  portion_quiet (checkpoints s.member.node) Members
+  portion_still (checkpoints s.member.node) Members
       (front_sends s.member.node s.view s.front ++ phase_sends s.view s.phase) at (λ left. refl)
-      (each_append IsQuiet (front_sends s.member.node s.view s.front) (phase_sends s.view s.phase)
+      (each_append IsStill (front_sends s.member.node s.view s.front) (phase_sends s.view s.phase)
       (front_untold s.member.node s.view s.front) (phase_untold s.view s.phase)),
   tt,
 )

@@ -1,4 +1,4 @@
--- A membership orders no takeover but where it goes on with its orders.
+-- A membership orders no takeover but where it goes on with its orders, and asks no rows for what they have.
 use Rattle.std.proofs.Common.{◌≡◌, ◌==◌, ◌&&◌, ◌||◌, ℕ, Bool, true, false, List, [], ◌∷◌, map, refl}
 use Rattle.std.specs.Prelude.{if◌then◌else◌, is_some, not, Option, None, Some, position, slice_get}
 use Rattle.run_theory.proofs.EachSent.{each_mapped}
@@ -33,15 +33,15 @@ use Rattle.qmgr_block.specs.Sets.{is_among, is_in, joined_view, members_of, prom
 use Rattle.qmgr_block.specs.Starts.{covers}
 use Rattle.qmgr_block.specs.State.{QmgrState}
 use Rattle.qmgr_block.specs.Suspects.{close_row, has_more, is_kept_suspect, president, presides, report_row, told, told_by, told_if, with_closing, with_suspects}
-use Rattle.commit_laws.proofs.OrderWords.{AreQuiet, IsQuiet, OrdersNone}
+use Rattle.commit_laws.proofs.OrderWords.{AreStill, IsStill, OrdersNone}
 
 -- a proposal, or that suspects are told of
 proposed_quiet : (k : Known) (view : View) (joining : Option Member) → OrdersNone (proposed_view k view joining)
 unfolding proposed_view
 proposed_quiet k view joining = (by (lost_group k.layout.shape view), tt)
   where
-    by : (lost : Option ℕ) → AreQuiet (proposal_sends view lost)
-    by None = each_mapped IsQuiet (request_of view) (members_of view) (λ member. refl)
+    by : (lost : Option ℕ) → AreStill (proposal_sends view lost)
+    by None = each_mapped IsStill (request_of view) (members_of view) (λ member. refl)
     by (Some group) = (refl, tt)
 
 proposed_if_quiet : (k : Known) (view : View) (joining : Option Member) (b : Bool)
@@ -187,8 +187,8 @@ granted_quiet k number = by k.outstanding
 stopping_quiet : (k : Known) (p : Proposal) (cause : StopCause) → OrdersNone (stopping k p cause)
 unfolding stop_sends
 stopping_quiet k p cause = (
-  each_append IsQuiet (map (stop_of cause) (without (members_of p.view) (k.me ∷ []))) (stop_of cause k.me ∷ [])
-      (each_mapped IsQuiet (stop_of cause) (without (members_of p.view) (k.me ∷ [])) (λ member. refl))
+  each_append IsStill (map (stop_of cause) (without (members_of p.view) (k.me ∷ []))) (stop_of cause k.me ∷ [])
+      (each_mapped IsStill (stop_of cause) (without (members_of p.view) (k.me ∷ [])) (λ member. refl))
       (refl, tt),
   tt,
 )

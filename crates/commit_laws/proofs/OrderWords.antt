@@ -14,8 +14,8 @@ use Rattle.sig_core.specs.declared.signal.Body.TheVariants.{Host, Takeover}
 use Rattle.sig_core.specs.declared.signal.host.HostSignal.TheVariants.{Continue}
 use Rattle.sig_core.specs.declared.signal.host.Work.{Work}
 use Rattle.sig_core.specs.declared.signal.host.Work.TheVariants.{Members}
-use Rattle.sig_core.specs.declared.signal.takeover.TakeoverSignal.TheVariants.{TakeoverOrd}
-use Rattle.sig_core.specs.Portion.{portion_effects, rest_if}
+use Rattle.sig_core.specs.declared.signal.takeover.TakeoverSignal.TheVariants.{LqhTransReq, TakeoverOrd}
+use Rattle.sig_core.specs.Portion.{go_on_at, portion_effects, rest_if}
 use Rattle.sig_core.specs.Step.{Step}
 use Rattle.outcome_laws.proofs.RowsNone.{MarksNone}
 
@@ -36,23 +36,52 @@ IsQuiet sent = is_ordering sent.to.block sent.body ≡ false
 abbrev pub AreQuiet : List Outgoing → Type 0
 AreQuiet sends = Each IsQuiet sends
 
-abbrev pub OrdersNone : {S : Type 0} → Step S → Type 0
-OrdersNone step = AreQuiet step.effects.sends × MarksNone step
+-- a takeover is ordered, a membership goes on with its orders, or rows are asked for what they have
+abbrev pub is_leading : BlockId → Body → Bool
+is_leading b (Takeover LqhTransReq) = true
+is_leading b body = is_ordering b body
 
--- so it is of a part of a quiet list, if to go on with the list is
-pub portion_quiet : (by : Place) (work : Work) (sends : List Outgoing) (at : ℕ)
-    → ((left : ℕ) → is_ordering by.block (Host (Continue work left)) ≡ false) → AreQuiet sends
-    → AreQuiet (portion_effects by work sends at).sends
-portion_quiet by work sends at goes_on all =
-    each_append IsQuiet (take PORTION (drop at sends)) (rest_if by work at more)
-    (each_take IsQuiet PORTION (drop at sends) (each_drop IsQuiet at sends all)) (rest more)
+-- nothing of that
+abbrev pub IsStill : Outgoing → Type 0
+IsStill sent = is_leading sent.to.block sent.body ≡ false
+
+abbrev pub AreStill : List Outgoing → Type 0
+AreStill sends = Each IsStill sends
+
+still_one : (b : BlockId) (body : Body) → is_leading b body ≡ false → is_ordering b body ≡ false
+still_one b (Takeover LqhTransReq) is = refl
+still_one b body is = is
+
+pub still_quiet : (sends : List Outgoing) → AreStill sends → AreQuiet sends
+still_quiet sends all = each_map IsStill IsQuiet sends (λ sent is. still_one sent.to.block sent.body is) all
+
+abbrev pub OrdersNone : {S : Type 0} → Step S → Type 0
+OrdersNone step = AreStill step.effects.sends × MarksNone step
+
+-- what is so of a list, and of the signal to go on with it, is so of a part of the list
+pub portion_each : (P : Outgoing → Type 0) (by : Place) (work : Work) (sends : List Outgoing) (at : ℕ)
+    → ((left : ℕ) → P (go_on_at by work left)) → Each P sends → Each P (portion_effects by work sends at).sends
+portion_each P by work sends at goes_on all =
+    each_append P (take PORTION (drop at sends)) (rest_if by work at more)
+    (each_take P PORTION (drop at sends) (each_drop P at sends all)) (rest more)
   where
     more : Bool
     more = nat_lt (at + PORTION) (length sends)
 
-    rest : (b : Bool) → AreQuiet (rest_if by work at b)
+    rest : (b : Bool) → Each P (rest_if by work at b)
     rest true = (goes_on (at + PORTION), tt)
     rest false = tt
+
+-- so a part of a quiet list is quiet
+pub portion_quiet : (by : Place) (work : Work) (sends : List Outgoing) (at : ℕ)
+    → ((left : ℕ) → is_ordering by.block (Host (Continue work left)) ≡ false) → AreQuiet sends
+    → AreQuiet (portion_effects by work sends at).sends
+portion_quiet by work sends at goes_on all = portion_each IsQuiet by work sends at goes_on all
+
+pub portion_still : (by : Place) (work : Work) (sends : List Outgoing) (at : ℕ)
+    → ((left : ℕ) → is_leading by.block (Host (Continue work left)) ≡ false) → AreStill sends
+    → AreStill (portion_effects by work sends at).sends
+portion_still by work sends at goes_on all = portion_each IsStill by work sends at goes_on all
 
 abbrev pub SendsQuiet : {S : Type 0} → Step S → Type 0
 SendsQuiet step = AreQuiet step.effects.sends
@@ -60,6 +89,7 @@ SendsQuiet step = AreQuiet step.effects.sends
 -- what says so whichever block it is for
 abbrev pub is_quiet : Body → Bool
 is_quiet (Takeover TakeoverOrd) = false
+is_quiet (Takeover LqhTransReq) = false
 is_quiet (Host (Continue Members at)) = false
 is_quiet body = true
 

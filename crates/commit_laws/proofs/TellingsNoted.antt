@@ -49,7 +49,7 @@ use Rattle.commit_laws.proofs.TakeoverHears.{Hears, heard, stops, tc_hears}
 use Rattle.commit_laws.proofs.TellingNotes.{NotedAt, notes_stay, telling_noted}
 
 -- a signal that a link gave is sound
-sound_of : (asked sound from : Bool) → (not (asked || not sound) && from) ≡ true → sound ≡ true
+pub sound_of : (asked sound from : Bool) → (not (asked || not sound) && from) ≡ true → sound ≡ true
 sound_of true sound from is = absurd (true≢false (sym is))
 sound_of false true from is = refl
 sound_of false false from is = absurd (true≢false (sym is))
