@@ -125,13 +125,13 @@ pub mod OrderOnce
 pub mod OrderOthers
 pub mod OrderRows
 pub mod OrderSent
-pub mod OrdersFirst
-pub mod OrdersSound
 pub mod OrderSteps
 pub mod OrderTakeover
 pub mod OrderTurns
 pub mod OrderUnseen
 pub mod OrderWords
+pub mod OrdersFirst
+pub mod OrdersSound
 pub mod OrphanRows
 pub mod OrphanStays
 pub mod OwnTellers
