@@ -9,6 +9,10 @@ pub mod AnsweredTurns
 pub mod AnsweredWritten
 pub mod AppliedCommits
 pub mod AppliedMarks
+pub mod AskedLists
+pub mod AskedMoments
+pub mod AskedStands
+pub mod AskedTakeover
 pub mod BegunNone
 pub mod Calm
 pub mod ClientViews
@@ -45,7 +49,12 @@ pub mod DriveSteps
 pub mod DriveTakeover
 pub mod DriveTasks
 pub mod DriveTurns
+pub mod EndedAll
+pub mod EndsCounts
+pub mod EndsMoments
+pub mod EndsReport
 pub mod EndsTold
+pub mod EndsWords
 pub mod FateCases
 pub mod FateForth
 pub mod FateMoves

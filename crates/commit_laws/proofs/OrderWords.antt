@@ -14,7 +14,7 @@ use Rattle.sig_core.specs.declared.signal.Body.TheVariants.{Host, Takeover}
 use Rattle.sig_core.specs.declared.signal.host.HostSignal.TheVariants.{Continue}
 use Rattle.sig_core.specs.declared.signal.host.Work.{Work}
 use Rattle.sig_core.specs.declared.signal.host.Work.TheVariants.{Members}
-use Rattle.sig_core.specs.declared.signal.takeover.TakeoverSignal.TheVariants.{TakeoverOrd}
+use Rattle.sig_core.specs.declared.signal.takeover.TakeoverSignal.TheVariants.{LqhTransReq, TakeoverOrd}
 use Rattle.sig_core.specs.Portion.{portion_effects, rest_if}
 use Rattle.sig_core.specs.Step.{Step}
 use Rattle.outcome_laws.proofs.RowsNone.{MarksNone}
@@ -57,9 +57,10 @@ portion_quiet by work sends at goes_on all =
 abbrev pub SendsQuiet : {S : Type 0} → Step S → Type 0
 SendsQuiet step = AreQuiet step.effects.sends
 
--- what says so whichever block it is for
+-- what says so whichever block it is for, and doesn't ask for a report
 abbrev pub is_quiet : Body → Bool
 is_quiet (Takeover TakeoverOrd) = false
+is_quiet (Takeover LqhTransReq) = false
 is_quiet (Host (Continue Members at)) = false
 is_quiet body = true
 
