@@ -1,14 +1,13 @@
 -- At each moment, in each view, the rows of a node were asked for a report once at most.
-use Rattle.std.proofs.Common.{◌≡◌, ◌≢◌, ◌≤◌, ◌<◌, ◌+◌, ◌⊎◌, ◌==◌, ◌&&◌, ◌++◌, ◌∙◌, ℕ, Bool, true, false, List, [], ◌∷◌, inl, inr, refl, sym, ap, arith, subst}
+use Rattle.std.proofs.Common.{◌≡◌, ◌≢◌, ◌≤◌, ◌<◌, ◌⊎◌, ◌++◌, ℕ, false, List, [], ◌∷◌, inl, inr, refl, sym, arith, subst}
 use Rattle.std.proofs.lemmas.Bool.{cases_eq}
-use Rattle.run_theory.specs.Lists.{Each, IsIn}
+use Rattle.run_theory.specs.Lists.{IsIn}
 use Rattle.run_theory.proofs.Pasts.{each_append}
 use Rattle.host_laws.proofs.Sums.{total_at, total_le}
 use Rattle.sig_core.specs.declared.member.Member.{Member}
 use Rattle.sig_core.specs.declared.outs.Outgoing.{Outgoing}
 use Rattle.sig_core.specs.declared.place.BlockId.{BlockId}
 use Rattle.sig_core.specs.declared.place.BlockId.TheVariants as block
-use Rattle.sig_core.specs.declared.view.View.{View}
 use Rattle.lqh_views.specs.WholeReports.{asks}
 use Rattle.node_views.specs.declared.ldm_part.LdmPart.{LdmPart}
 use Rattle.node_views.specs.Parts.{ldm_row}
@@ -22,11 +21,11 @@ use Rattle.moment_laws.specs.PartSteps.{PartEnters, PartTakes, handles, ignores,
 use Rattle.moment_laws.specs.Places.{ldm_of, tc_of}
 use Rattle.moment_laws.proofs.MomentTurns.{other_log, own_log}
 use Rattle.moment_laws.proofs.MomentViews.{moment_less}
-use Rattle.request_laws.specs.Tokens.{all_sent, all_taken, sent_along, taken_along}
+use Rattle.request_laws.specs.Tokens.{all_sent, sent_along, taken_along}
 use Rattle.request_laws.proofs.RouteHosts.{PartHost, beside_sends, coordinates, is_beside, keeps_rows, part_host}
 use Rattle.request_laws.proofs.RouteSteps.{LdmStep, ldm_step}
 use Rattle.request_laws.proofs.TokenSums.{few_taken}
-use Rattle.commit_laws.proofs.AskedLists.{counted, none_counted}
+use Rattle.commit_laws.proofs.AskedLists.{none_counted}
 use Rattle.commit_laws.proofs.AskedStands.{IsAsked, asked_first, asked_next}
 use Rattle.commit_laws.proofs.DriveKinds.{numbered}
 use Rattle.commit_laws.proofs.DriveRuled.{is_order}

@@ -2,7 +2,7 @@
 -- an end of each member but for those that it took: an event of its host keeps this.
 use Rattle.std.proofs.Common.{◌≡◌, ◌≢◌, ◌≤◌, ◌+◌, ◌⊎◌, ◌++◌, ◌∙◌, ℕ, Bool, true, false, List, [], ◌∷◌, inl, inr, refl, sym, ap, arith, subst}
 use Rattle.std.proofs.lemmas.Bool.{cases_eq, true≢false}
-use Rattle.run_theory.specs.Lists.{IsIn, IsPast}
+use Rattle.run_theory.specs.Lists.{IsIn}
 use Rattle.host_laws.proofs.Sums.{total_at}
 use Rattle.sig_core.specs.declared.member.Member.{Member}
 use Rattle.sig_core.specs.declared.outs.Outgoing.{Outgoing}
@@ -54,7 +54,7 @@ use Rattle.request_laws.proofs.RouteLayouts.{takeover_laid}
 use Rattle.request_laws.proofs.RouteSteps.{TcStep, takeover_is, tc_step}
 use Rattle.request_laws.proofs.RouteViews.{nobody_later}
 use Rattle.request_laws.proofs.TokenHosts.{test_taken}
-use Rattle.request_laws.proofs.TokenViews.{sent_low_none, taken_now}
+use Rattle.request_laws.proofs.TokenViews.{taken_now}
 use Rattle.commit_laws.proofs.AskedLists.{asks_once, counted, none_counted, some_few}
 use Rattle.commit_laws.proofs.AskedTakeover.{Stands, off_stands, takes_quiet, takes_stand}
 use Rattle.commit_laws.proofs.DriveIdle.{idle_stays}
@@ -62,7 +62,6 @@ use Rattle.commit_laws.proofs.DriveKinds.{numbered}
 use Rattle.commit_laws.proofs.DriveRuled.{OrdersAreOnce, is_order}
 use Rattle.commit_laws.proofs.EndsWords.{aside_none, asked_in, asks_at, coordinator_none, none_asks, tc_enters_none}
 use Rattle.commit_laws.proofs.OrderSent.{sent_few}
-use Rattle.commit_laws.proofs.OrderUnseen.{unseen_none}
 
 module _ (start : Start) (me : Member) (node number k : ℕ) where
   -- asks of the rows of the node that were sent, and orders and ends that were taken, in the view
@@ -216,9 +215,9 @@ module _ (orders : OrdersAreOnce) (start : Start) (all : ℕ → List HostStep) 
       Behind s = StandsAsked start me node number e.host (e ∷ log) s
 
       -- what comes of it: it asks only where it gathers behind
-      pub record Comes (s : TakeoverState) : Type 0 where
-        pub stands : Behind s
-        pub quiet : is_gathering s.stage ≡ false → counted node tc.does.rest ≡ 0
+      record Comes (s : TakeoverState) : Type 0 where
+        stands : Behind s
+        quiet : is_gathering s.stage ≡ false → counted node tc.does.rest ≡ 0
 
       still : counted node tc.does.rest ≡ 0 → Comes between.takeover
       still none = record {

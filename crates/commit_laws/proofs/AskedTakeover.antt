@@ -1,6 +1,6 @@
 -- While a takeover gathers it has asked the rows of each node once at most, and awaits an end of each member but for those
 -- that were taken: each of its steps keeps this.
-use Rattle.std.proofs.Common.{◌≡◌, ◌≤◌, ◌⊎◌, ◌+◌, ◌==◌, ◌&&◌, ◌∙◌, ℕ, Bool, true, false, List, [], ◌∷◌, inl, inr, nat_lt, refl, sym, ap, arith, take}
+use Rattle.std.proofs.Common.{◌≡◌, ◌≤◌, ◌⊎◌, ◌+◌, ◌==◌, ◌&&◌, ◌∙◌, ℕ, true, false, List, [], inl, inr, nat_lt, refl, sym, ap, arith, take}
 use Rattle.std.proofs.lemmas.Bool.{and_parts, eqb-true, ltb-true, true≢false}
 use Rattle.std.specs.Prelude.{◌-◌}
 use Rattle.sig_core.specs.declared.outs.Outgoing.{Outgoing}
@@ -14,7 +14,7 @@ use Rattle.takeover_block.specs.declared.sends.TheConstants.{SENDS}
 use Rattle.takeover_block.specs.declared.stage.Stage.{Stage}
 use Rattle.takeover_block.specs.declared.stage.Stage.TheVariants.{Aborting, Committing, Completing, Gathering, Resting}
 use Rattle.takeover_block.specs.Gather.{asking, member_count}
-use Rattle.takeover_block.specs.Rule.{finishing, is_at_work, is_left, ruling}
+use Rattle.takeover_block.specs.Rule.{is_at_work, is_left}
 use Rattle.takeover_block.specs.Sends.{ask_effects, ask_left, asks_of}
 use Rattle.takeover_block.specs.State.{TakeoverState}
 use Rattle.takeover_block.specs.Takeover.{takeover_row}

@@ -1,12 +1,12 @@
 -- When a takeover takes the word of the last member that it asked, it has taken the end of each full member: it took as many
 -- as there are members, none of more than one from each, and none from others.
-use Rattle.std.proofs.Common.{◌≡◌, ◌≤◌, ◌<◌, ◌+◌, ◌⊎◌, ◌==◌, ◌&&◌, ◌||◌, ◌∙◌, ℕ, Bool, true, false, List, [], ◌∷◌, eq-eqb, eqb-true, inl, inr, length, nat_lt, refl, sym, ap, arith, subst}
+use Rattle.std.proofs.Common.{◌≡◌, ◌≤◌, ◌<◌, ◌+◌, ◌⊎◌, ◌==◌, ◌&&◌, ◌||◌, ◌++◌, ◌∙◌, ℕ, Bool, true, false, List, [], ◌∷◌, eq-eqb, eqb-true, inl, inr, length, refl, sym, ap, arith, subst}
 use Rattle.std.proofs.lemmas.Bool.{and_parts, ltb-false, true≢false}
 use Rattle.std.specs.Prelude.{if◌then◌else◌, not}
 use Rattle.std.specs.List.{count_by}
 use Rattle.run_theory.specs.Counts.{total}
-use Rattle.run_theory.specs.Links.{IsGiven, sent, taken}
-use Rattle.run_theory.specs.Lists.{Each, IsIn}
+use Rattle.run_theory.specs.Links.{sent, taken}
+use Rattle.run_theory.specs.Lists.{IsIn}
 use Rattle.run_theory.specs.Machine.{Machine}
 use Rattle.run_theory.proofs.Runs.{log_of-own, logs_of_run}
 use Rattle.run_theory.specs.Runs.{AreLogs}
@@ -36,17 +36,16 @@ use Rattle.moment_laws.proofs.MomentHosts.{tc_low}
 use Rattle.moment_laws.proofs.MomentMembers.{current_made}
 use Rattle.moment_laws.proofs.MomentViews.{moment_installed, moment_less, moment_within}
 use Rattle.outcome_laws.specs.Counts.{one_if}
-use Rattle.request_laws.specs.Tokens.{sent_along, taken_along, total_of}
+use Rattle.request_laws.specs.Tokens.{sent_along, taken_along}
 use Rattle.request_laws.proofs.RouteHosts.{PartHost, beside_sends, coordinates, is_beside, keeps_rows, part_host}
 use Rattle.request_laws.proofs.RouteLayouts.{takeover_laid}
 use Rattle.request_laws.proofs.RouteSteps.{TcStep, tc_step}
 use Rattle.request_laws.proofs.TokenHosts.{sent_few}
-use Rattle.request_laws.proofs.TokenSums.{count_on, given_count, sent_total, taken_total}
+use Rattle.request_laws.proofs.TokenSums.{given_count, sent_total, taken_total}
 use Rattle.commit_laws.specs.Gathering.{EndsGathering}
 use Rattle.commit_laws.specs.Takeovers.{takeover_at}
 use Rattle.commit_laws.specs.Telling.{AllHaveEnded, HasEnded}
 use Rattle.commit_laws.proofs.AskedMoments.{asked}
-use Rattle.commit_laws.proofs.AskedTakeover.{Gathers}
 use Rattle.commit_laws.proofs.AnsweredTold.{Passes, passes_some}
 use Rattle.commit_laws.proofs.DriveKinds.{numbered}
 use Rattle.commit_laws.proofs.EndsCounts.{IsOfOne, each_has, hosts_few}

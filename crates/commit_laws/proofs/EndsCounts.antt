@@ -1,8 +1,8 @@
 -- Where each of some members has one at most, nobody else has one, and there are as many as members, each of these has one.
-use Rattle.std.proofs.Common.{◌≡◌, ◌≢◌, ◌≤◌, ◌<◌, ◌+◌, ◌⊎◌, ◌==◌, ◌&&◌, ◌∙◌, ℕ, zero, suc, Bool, true, false, List, [], ◌∷◌, eq-eqb, inl, inr, length, refl, sym, ap, arith}
-use Rattle.std.proofs.lemmas.Bool.{cases_eq, eqb-true, true≢false}
+use Rattle.std.proofs.Common.{◌≡◌, ◌≤◌, ◌<◌, ◌+◌, ◌⊎◌, ◌==◌, ◌∙◌, ℕ, zero, suc, Bool, true, false, List, [], ◌∷◌, eq-eqb, inl, inr, length, refl, sym, ap, arith}
+use Rattle.std.proofs.lemmas.Bool.{eqb-true, true≢false}
 use Rattle.std.specs.Prelude.{if◌then◌else◌}
-use Rattle.run_theory.specs.Counts.{one_if, total}
+use Rattle.run_theory.specs.Counts.{total}
 use Rattle.run_theory.specs.Lists.{IsIn}
 use Rattle.host_laws.proofs.Sums.{total_add, total_le, total_zero}
 use Rattle.sig_core.specs.declared.member.Member.{Member}

@@ -4,7 +4,7 @@ use Rattle.std.proofs.lemmas.Bool.{cases_eq, true≢false}
 use Rattle.std.proofs.lemmas.Bool.Decides.{nat_tests}
 use Rattle.std.specs.Prelude.{if◌then◌else◌}
 use Rattle.run_theory.specs.Lists.{IsIn, IsPast}
-use Rattle.run_theory.proofs.Runs.{log_of-other, log_of-own}
+use Rattle.run_theory.proofs.Runs.{log_of-own}
 use Rattle.sig_core.specs.declared.member.Member.{Member}
 use Rattle.sig_core.specs.declared.outs.Outgoing.{Outgoing}
 use Rattle.sig_core.specs.declared.place.BlockId.TheVariants as block
@@ -15,12 +15,12 @@ use Rattle.sig_core.specs.declared.signal.Body.TheVariants.{Takeover}
 use Rattle.sig_core.specs.declared.signal.Signal.{Signal}
 use Rattle.sig_core.specs.declared.signal.takeover.TakeoverSignal.TheVariants.{LqhTransReq}
 use Rattle.sig_core.specs.declared.view.View.{View}
-use Rattle.lqh_views.specs.Replica.{installed, replica_row}
+use Rattle.lqh_views.specs.Replica.{replica_row}
 use Rattle.lqh_views.specs.State.{ReplicaState}
 use Rattle.lqh_views.specs.WholeReports.{asks, ends}
 use Rattle.node_views.specs.declared.host.Host as hosts_of
 use Rattle.node_views.specs.Fence.{is_body_fenced}
-use Rattle.world_core.specs.Hosts.{hosts, member_at}
+use Rattle.world_core.specs.Hosts.{hosts}
 use Rattle.world_core.specs.Start.{Start, made}
 use Rattle.world_core.specs.Steps.{HostStep}
 use Rattle.world_views.specs.Machine.{machine, step_after}
@@ -54,7 +54,7 @@ use Rattle.commit_laws.proofs.DriveMoments.{along_other, along_own}
 use Rattle.commit_laws.proofs.EndsReport.{rows_end, under_way}
 use Rattle.commit_laws.proofs.EndsWords.{asked_in}
 use Rattle.commit_laws.proofs.OrderUnseen.{unseen_none}
-use Rattle.commit_laws.proofs.RowsGo.{IsBetween, IsQuiet, IsTakenAt, RowsTurn, as_was, enter_now, entered, rest_now, rows_turn, take_now}
+use Rattle.commit_laws.proofs.RowsGo.{IsBetween, IsTakenAt, RowsTurn, as_was, enter_now, entered, rest_now, rows_turn, take_now}
 
 plain_ask : (body : Body) → asks body ≡ true
     → (is_own_work body ≡ false) × ((y : Signal) → is_body_fenced y body ≡ true)

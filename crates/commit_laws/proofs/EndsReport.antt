@@ -1,5 +1,5 @@
 -- Rows end a report once for each time that they are asked for one, while none is under way.
-use Rattle.std.proofs.Common.{◌≡◌, ◌≤◌, ◌⊎◌, ◌+◌, ℕ, Bool, true, false, List, [], ◌∷◌, inl, inr, refl, ap, arith}
+use Rattle.std.proofs.Common.{◌≤◌, ◌⊎◌, ◌+◌, ℕ, Bool, true, false, [], inl, inr, refl, ap, arith}
 use Rattle.std.specs.Prelude.{Option, None, Some, is_some}
 use Rattle.sig_core.specs.declared.member.TxId.{TxId}
 use Rattle.sig_core.specs.declared.rows.PendingRecord.{PendingRecord}
