@@ -137,7 +137,8 @@ along_plain tx (Committing epoch n) key chain = (refl, tt)
 along_plain tx (Completing epoch n) key chain = (refl, tt)
 along_plain tx (Aborting n) key chain = each_mapped (IsOf is_plain) (abort_at tx key) chain (λ m. refl)
 
-key_plain : (layout : Layout) (tx : TxId) (stage : Stage) (key : List ℕ) → AreOf is_plain (key_sends layout tx stage key)
+key_plain : (layout : Layout) (tx : TxId) (stage : Stage) (key : List ℕ)
+    → AreOf is_plain (key_sends layout tx stage key)
 unfolding key_sends
 key_plain layout tx stage key = along_plain tx stage key (chain_of layout key)
 

@@ -63,8 +63,8 @@ module _ (start : Start) (me : Member) (there : IsIn me (made start)) (h : ℕ) 
             ⊎ ((step_after start h log e).effects.sends ≡ []) → AskNone (step_after start h log e).effects.sends
         by (inl is) =
             subst AskNone (sym is)
-            (each_append (λ (o : Outgoing). asks o.body ≡ false) step.does.front step.does.rest (front_none step.does.enters)
-            (rest_none step.does.takes))
+            (each_append (λ (o : Outgoing). asks o.body ≡ false) step.does.front step.does.rest
+            (front_none step.does.enters) (rest_none step.does.takes))
         by (inr is) = subst AskNone (sym is) tt
 
 module _ (start : Start) (node number : ℕ) where
@@ -129,21 +129,17 @@ module _ (start : Start) (node number : ℕ) where
       abbrev logs : ℕ → List HostStep
       logs = logs_of start es
 
-      host_few : (h : ℕ) → h < hosts start
-          → sent_along start (asked_in node number) h (logs h) ≤ taken_along start (numbered number is_order) (logs h)
+      abbrev Few : ℕ → Type 0
+      Few h = sent_along start (asked_in node number) h (logs h) ≤ taken_along start (numbered number is_order) (logs h)
+
+      host_few : (h : ℕ) → h < hosts start → Few h
       host_few h low = by (part_host start h low)
         where
-          silent : ((log : List HostStep) (e : HostStep) → AskNone (step_after start h log e).effects.sends)
-              → sent_along start (asked_in node number) h (logs h) ≤ taken_along start (numbered number is_order) (logs h)
+          silent : ((log : List HostStep) (e : HostStep) → AskNone (step_after start h log e).effects.sends) → Few h
           silent none = let nothing = silent_along h none (logs h) in omega (arith, nothing)
 
-          by : PartHost start h
-              → sent_along start (asked_in node number) h (logs h) ≤ taken_along start (numbered number is_order) (logs h)
-          by (coordinates me there at) =
-              subst
-              (λ k. sent_along start (asked_in node number) k (logs k)
-              ≤ taken_along start (numbered number is_order) (logs k)) (sym at)
-              (asked es moment me there).few
+          by : PartHost start h → Few h
+          by (coordinates me there at) = subst Few (sym at) (asked es moment me there).few
           by (keeps_rows me there at) = silent (λ log e. rows_none start me there h at log e)
           by (is_beside first) = silent (λ log e. none_asks _ (aside_none _ (beside_sends start h first log e)))
 

@@ -1,5 +1,5 @@
--- In a view the takeover of a member asks the rows of each node once for each order at most, and while it gathers it awaits
--- an end of each member but for those that it took: an event of its host keeps this.
+-- In a view the takeover of a member asks the rows of each node once for each order at most, and while it gathers it
+-- awaits an end of each member but for those that it took: an event of its host keeps this.
 use Rattle.std.proofs.Common.{◌≡◌, ◌≢◌, ◌≤◌, ◌+◌, ◌⊎◌, ◌++◌, ◌∙◌, ℕ, Bool, true, false, List, [], ◌∷◌, inl, inr, refl, sym, ap, arith, subst}
 use Rattle.std.proofs.lemmas.Bool.{cases_eq, true≢false}
 use Rattle.run_theory.specs.Lists.{IsIn}
@@ -91,7 +91,8 @@ asked_first start me there node number k = record {
   now = λ same.
       subst (StandsAsked start me node number k [])
       (sym
-      (ap (λ (s : hosts_of.Host). takeover_in (resting me.node (first_layout start.shape)) s.parts) (tc_started start me there)))
+      (ap (λ (s : hosts_of.Host). takeover_in (resting me.node (first_layout start.shape)) s.parts)
+      (tc_started start me there)))
       (record { stands = off_stands node _ 0 0 refl; idle = λ none. refl });
 }
 
@@ -187,7 +188,8 @@ module _ (orders : OrdersAreOnce) (start : Start) (all : ℕ → List HostStep) 
 
         one : 1 ≤ taken_now start all e es moment (numbered number q)
         one =
-            subst (λ m. 1 ≤ taken_now start all e es moment (numbered m q)) (sym (ap (λ (v : View). v.number) taken.stands))
+            subst (λ m. 1 ≤ taken_now start all e es moment (numbered m q))
+            (sym (ap (λ (v : View). v.number) taken.stands))
             (let came = test_taken start all e es moment q plain block.Takeover taken in
             let is = ap one_if own in omega (arith, came, is))
 
@@ -204,8 +206,8 @@ module _ (orders : OrdersAreOnce) (start : Start) (all : ℕ → List HostStep) 
             omega (
               arith,
               orders start all (e ∷ es) moment number,
-              total_at (hosts start) (λ h. taken_along start (numbered number is_order) (logs_of start (e ∷ es) h)) e.host
-                  (host_low start all e es moment),
+              total_at (hosts start) (λ h. taken_along start (numbered number is_order) (logs_of start (e ∷ es) h))
+                  e.host (host_low start all e es moment),
               ap (taken_along start (numbered number is_order)) (own_log start all e es moment),
             )
 
@@ -244,8 +246,8 @@ module _ (orders : OrdersAreOnce) (start : Start) (all : ℕ → List HostStep) 
       takes_it passed to is = record {
         stands = record {
           stands =
-              takes_stand node between.takeover x sent sent_behind ended ended_behind before.stands (omega arith) ends_more
-              unsent (subst (λ (os : List Outgoing). sent_behind ≤ sent + counted node os) is adds);
+              takes_stand node between.takeover x sent sent_behind ended ended_behind before.stands (omega arith)
+              ends_more unsent (subst (λ (os : List Outgoing). sent_behind ≤ sent + counted node os) is adds);
           idle = λ unordered.
               ap (λ (step : Step TakeoverState). step.state.stage)
               (idle_stays between.takeover x (before.idle (omega (arith, unordered)))
@@ -255,8 +257,8 @@ module _ (orders : OrdersAreOnce) (start : Start) (all : ℕ → List HostStep) 
         };
         quiet = λ off.
             ap (counted node) is
-            ∙ takes_quiet node between.takeover x sent sent_behind ended ended_behind before.stands (omega arith) ends_more
-            unsent off;
+            ∙ takes_quiet node between.takeover x sent sent_behind ended ended_behind before.stands (omega arith)
+            ends_more unsent off;
       }
         where
           ends_more : x.body ≡ Takeover LqhTransEnd → ended + 1 ≤ ended_behind

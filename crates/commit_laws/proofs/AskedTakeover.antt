@@ -1,5 +1,5 @@
--- While a takeover gathers it has asked the rows of each node once at most, and awaits an end of each member but for those
--- that were taken: each of its steps keeps this.
+-- While a takeover gathers it has asked no more than the first ones of its list, and awaits an end of each member but for
+-- those that were taken: each of its steps keeps this.
 use Rattle.std.proofs.Common.{◌≡◌, ◌≤◌, ◌⊎◌, ◌+◌, ◌==◌, ◌&&◌, ◌∙◌, ℕ, true, false, List, [], inl, inr, nat_lt, refl, sym, ap, arith, take}
 use Rattle.std.proofs.lemmas.Bool.{and_parts, eqb-true, ltb-true, true≢false}
 use Rattle.std.specs.Prelude.{◌-◌}
@@ -165,7 +165,10 @@ module _ (node : ℕ) where
             all_abort = λ tx key g n is first at last.
                 leaving _ (let own = finishes_leave s in record { silent = (refl, own.silent); off = own.off });
             goes_on = λ tx place g is due work first.
-                leaving _ (record { silent = stage_asks_none s.node s.layout s.stage g place; off = off_work s.stage work });
+                leaving _ (record {
+                  silent = stage_asks_none s.node s.layout s.stage g place;
+                  off = off_work s.stage work;
+                });
           })
 
       -- so the step keeps it, and asks only where it gathers behind

@@ -1,5 +1,5 @@
--- When a takeover takes the word of the last member that it asked, it has taken the end of each full member: it took as many
--- as there are members, none of more than one from each, and none from others.
+-- When a takeover takes the word of the last member that it asked, it has taken the end of each full member: it took as
+-- many as there are members, no more than one of each, and none of others.
 use Rattle.std.proofs.Common.{◌≡◌, ◌≤◌, ◌<◌, ◌+◌, ◌⊎◌, ◌==◌, ◌&&◌, ◌||◌, ◌++◌, ◌∙◌, ℕ, Bool, true, false, List, [], ◌∷◌, eq-eqb, eqb-true, inl, inr, length, refl, sym, ap, arith, subst}
 use Rattle.std.proofs.lemmas.Bool.{and_parts, ltb-false, true≢false}
 use Rattle.std.specs.Prelude.{if◌then◌else◌, not}
@@ -8,6 +8,7 @@ use Rattle.run_theory.specs.Counts.{total}
 use Rattle.run_theory.specs.Links.{sent, taken}
 use Rattle.run_theory.specs.Lists.{IsIn}
 use Rattle.run_theory.specs.Machine.{Machine}
+use Rattle.run_theory.proofs.Pasts.{each_append}
 use Rattle.run_theory.proofs.Runs.{log_of-own, logs_of_run}
 use Rattle.run_theory.specs.Runs.{AreLogs}
 use Rattle.host_laws.proofs.Sums.{total_at}
@@ -36,6 +37,7 @@ use Rattle.moment_laws.proofs.MomentHosts.{tc_low}
 use Rattle.moment_laws.proofs.MomentMembers.{current_made}
 use Rattle.moment_laws.proofs.MomentViews.{moment_installed, moment_less, moment_within}
 use Rattle.outcome_laws.specs.Counts.{one_if}
+use Rattle.outcome_laws.proofs.TcLists.{none_counted}
 use Rattle.request_laws.specs.Tokens.{sent_along, taken_along}
 use Rattle.request_laws.proofs.RouteHosts.{PartHost, beside_sends, coordinates, is_beside, keeps_rows, part_host}
 use Rattle.request_laws.proofs.RouteLayouts.{takeover_laid}
@@ -51,8 +53,6 @@ use Rattle.commit_laws.proofs.DriveKinds.{numbered}
 use Rattle.commit_laws.proofs.EndsCounts.{IsOfOne, each_has, hosts_few}
 use Rattle.commit_laws.proofs.EndsMoments.{ender_full, ends_once}
 use Rattle.commit_laws.proofs.EndsWords.{EndNone, aside_none, none_ends, tc_ends_none, tc_enters_none}
-use Rattle.run_theory.proofs.Pasts.{each_append}
-use Rattle.outcome_laws.proofs.TcLists.{none_counted}
 
 -- a host that coordinates ends no report
 module _ (start : Start) (me : Member) (there : IsIn me (made start)) (h : ℕ) (at : h ≡ tc_of start me)
@@ -80,8 +80,8 @@ module _ (start : Start) (me : Member) (there : IsIn me (made start)) (h : ℕ) 
             ⊎ ((step_after start h log e).effects.sends ≡ []) → EndNone (step_after start h log e).effects.sends
         by (inl is) =
             subst EndNone (sym is)
-            (each_append (λ (o : Outgoing). ends o.body ≡ false) step.does.front step.does.rest (front_none step.does.enters)
-            (rest_none step.does.takes))
+            (each_append (λ (o : Outgoing). ends o.body ≡ false) step.does.front step.does.rest
+            (front_none step.does.enters) (rest_none step.does.takes))
         by (inr is) = subst EndNone (sym is) tt
 
 -- a host of whose steps none ends a report ended none
@@ -161,7 +161,8 @@ module _ (start : Start) (all : ℕ → List HostStep) (e : HostStep) (es : List
         same_number : (current start old).number ≡ number
         same_number = ap (λ (v : View). v.number) (sym closing.same)
 
-        waits : member_count (takeover_at start old member).layout.view ≤ closing.awaited + taken_along start is_end (old t)
+        waits : member_count (takeover_at start old member).layout.view
+            ≤ closing.awaited + taken_along start is_end (old t)
         waits =
             (((asked start member.node number all es (moment_less start all e es moment) member closing.made_is).now
             (ap (λ (v : View). v.number) closing.stands ∙ same_number)).stands closing.awaited closing.gathers).waits

@@ -1,4 +1,5 @@
--- Where each of some members has one at most, nobody else has one, and there are as many as members, each of these has one.
+-- Where each of some members has one at most, nobody else has one, and there are as many as members, each of these has
+-- one.
 use Rattle.std.proofs.Common.{◌≡◌, ◌≤◌, ◌<◌, ◌+◌, ◌⊎◌, ◌==◌, ◌∙◌, ℕ, zero, suc, Bool, true, false, List, [], ◌∷◌, eq-eqb, inl, inr, length, refl, sym, ap, arith}
 use Rattle.std.proofs.lemmas.Bool.{eqb-true, true≢false}
 use Rattle.std.specs.Prelude.{if◌then◌else◌}
@@ -50,7 +51,8 @@ hosts_few host (m ∷ ms) n f own =
       total_add n others (λ i. if host m == i then f (host m) else 0),
       unit_few n (host m) (f (host m)),
       hosts_few host ms n others left,
-      total_of_below ms (λ one. others (host one)) (λ one. f (host one)) (λ one there. less (host one) (host m == host one)),
+      total_of_below ms (λ one. others (host one)) (λ one. f (host one))
+          (λ one there. less (host one) (host m == host one)),
     )
   where
     others : ℕ → ℕ

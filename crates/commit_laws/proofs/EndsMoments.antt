@@ -61,7 +61,8 @@ plain_ask : (body : Body) → asks body ≡ true
 plain_ask (Takeover LqhTransReq) own = (refl, λ y. refl)
 plain_ask body own = absurd (true≢false (sym own))
 
-module _ (start : Start) (all : ℕ → List HostStep) (member : Member) (there : IsIn member (made start)) (number : ℕ) where
+module _ (start : Start) (all : ℕ → List HostStep) (member : Member) (there : IsIn member (made start)) (number : ℕ)
+  where
   abbrev h : ℕ
   h = ldm_of start member
 
@@ -251,7 +252,8 @@ module _ (start : Start) (all : ℕ → List HostStep) (member : Member) (there 
             was_under_way (as_was is stays) =
                 let same = ap under_way is in
                 let all_of_them =
-                waits_all stood (under_way (rows_at start old member)) (sym (ap (λ (v : View). v.number) stays) ∙ seen) in
+                waits_all stood (under_way (rows_at start old member))
+                (sym (ap (λ (v : View). v.number) stays) ∙ seen) in
                 omega (arith, same, all_of_them)
             was_under_way (entered now is) =
                 let none : under_way s ≡ 0 = ap under_way is in omega (arith, none)
@@ -335,4 +337,5 @@ module _ (start : Start) (all : ℕ → List HostStep) (member : Member) (there 
             which (inl seen) = full at seen
             which (inr off) = rest (older at off)
         by (inr off) rest =
-            rest (let same = along_other start all e es moment (numbered number ends) h off in omega (arith, some, same))
+            rest
+            (let same = along_other start all e es moment (numbered number ends) h off in omega (arith, some, same))

@@ -1,5 +1,5 @@
--- Of signals that a host sends no more pass a test, of the place that they are for and of what they say, than of what its
--- blocks send.
+-- Of signals that a host sends no more pass a test, of the place that they are for and of what they say, than of what
+-- its blocks send.
 use Rattle.std.proofs.Common.{◌≡◌, ◌≤◌, ◌==◌, ◌&&◌, ℕ, Bool, true, false, List, [], ◌∷◌, filter, refl, arith}
 use Rattle.std.specs.Prelude.{if◌then◌else◌}
 use Rattle.std.specs.List.{count_by}

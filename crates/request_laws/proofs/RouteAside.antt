@@ -34,8 +34,8 @@ use Rattle.outcome_laws.proofs.KnowParts.{arbiter_tells_nothing}
 use Rattle.request_laws.specs.Orphans.{TellsOf}
 use Rattle.request_laws.specs.Routes.{IsRouted, IsSentRouted}
 
--- a signal of chains, one that goes on with what is sent of a transaction, or one by which a takeover asks for a report,
--- is told of a transaction, or is told the end
+-- a signal of chains, one that goes on with what is sent of a transaction, or one by which a takeover asks for a
+-- report, is told of a transaction, or is told the end
 abbrev pub is_of_rows : Body → Bool
 is_of_rows (Chain signal) = true
 is_of_rows (Host (Continue (Sends tx) at)) = true
