@@ -29,12 +29,12 @@ use Rattle.commit_laws.proofs.DriveLists.{mine, only}
 use Rattle.commit_laws.proofs.TransitCounts.{put_in}
 
 -- one of a list passes
-record Passes (p : Signal → Bool) (ys : List Addressed) : Type 0 where
-  one : Addressed
-  there : IsIn one ys
-  is : p one.signal ≡ true
+pub record Passes (p : Signal → Bool) (ys : List Addressed) : Type 0 where
+  pub one : Addressed
+  pub there : IsIn one ys
+  pub is : p one.signal ≡ true
 
-passes_some : (p : Signal → Bool) (ys : List Addressed) → 1 ≤ count_by (λ (y : Addressed). p y.signal) ys → Passes p ys
+pub passes_some : (p : Signal → Bool) (ys : List Addressed) → 1 ≤ count_by (λ (y : Addressed). p y.signal) ys → Passes p ys
 passes_some p [] some = absurd (omega (arith, some))
 passes_some p (y ∷ ys) some = by (p y.signal) refl (passes_some p ys)
   where

@@ -13,6 +13,10 @@ pub mod AnsweredTurns
 pub mod AnsweredWritten
 pub mod AppliedCommits
 pub mod AppliedMarks
+pub mod AskedLists
+pub mod AskedMoments
+pub mod AskedStands
+pub mod AskedTakeover
 pub mod BegunNone
 pub mod Calm
 pub mod ClientViews
@@ -49,8 +53,13 @@ pub mod DriveSteps
 pub mod DriveTakeover
 pub mod DriveTasks
 pub mod DriveTurns
+pub mod EndedAll
 pub mod EndsBehind
+pub mod EndsCounts
+pub mod EndsMoments
+pub mod EndsReport
 pub mod EndsTold
+pub mod EndsWords
 pub mod EntriesPrepared
 pub mod FateCases
 pub mod FateForth

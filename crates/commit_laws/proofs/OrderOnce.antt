@@ -11,6 +11,7 @@ use Rattle.host_laws.proofs.Sums.{total_add, total_le, total_zero, unit_few, tot
 use Rattle.sig_core.specs.declared.member.Member.{Member}
 use Rattle.sig_core.specs.declared.outs.Outgoing.{Outgoing}
 use Rattle.sig_core.specs.declared.place.BlockId.{BlockId}
+use Rattle.sig_core.specs.declared.place.Place.{Place}
 use Rattle.sig_core.specs.declared.signal.Body.{Body}
 use Rattle.sig_core.specs.declared.signal.Body.TheVariants.{Host, Takeover}
 use Rattle.sig_core.specs.declared.signal.host.HostSignal.TheVariants.{Continue}
@@ -179,7 +180,7 @@ module _ (others : OthersAreQuiet) (first : OldestGoFirst) (start : Start) (all 
             (sym (one_view have_orderly start all moment.cluster behind view (own_installed start all e es moment) was same))
 
         few : sent_now start all e es moment counted ≤ count_orders last sends
-        few = sent_few (counts last) start number e.host old e
+        few = sent_few (λ (to : Place). counts last to.block) start number e.host old e
 
         none : count_orders last sends ≡ 0 → Gains
         none nothing = omega (arith, few, nothing, more)

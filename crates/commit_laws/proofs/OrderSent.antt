@@ -1,12 +1,12 @@
--- Of signals that a host sends no more pass a test, of the block that they are for and of what they say, than of what its
--- blocks send.
+-- Of signals that a host sends no more pass a test, of the place that they are for and of what they say, than of what
+-- its blocks send.
 use Rattle.std.proofs.Common.{◌≡◌, ◌≤◌, ◌==◌, ◌&&◌, ℕ, Bool, true, false, List, [], ◌∷◌, filter, refl, arith}
 use Rattle.std.specs.Prelude.{if◌then◌else◌}
 use Rattle.std.specs.List.{count_by}
 use Rattle.run_theory.specs.Links.{sent_by}
 use Rattle.sig_core.specs.declared.member.Member.{Member}
 use Rattle.sig_core.specs.declared.outs.Outgoing.{Outgoing}
-use Rattle.sig_core.specs.declared.place.BlockId.{BlockId}
+use Rattle.sig_core.specs.declared.place.Place.{Place}
 use Rattle.sig_core.specs.declared.signal.Body.{Body}
 use Rattle.node_views.specs.declared.standing.Standing.{Standing}
 use Rattle.world_core.specs.Machine.{counted}
@@ -20,15 +20,15 @@ use Rattle.view_laws.specs.Order.{is_sound, sound_machine}
 use Rattle.outcome_laws.specs.Counts.{one_if}
 use Rattle.outcome_laws.proofs.TcLists.{count_more}
 
-module _ (q : BlockId → Body → Bool) where
+module _ (q : Place → Body → Bool) where
   abbrev of_out : Outgoing → Bool
-  of_out o = q o.to.block o.body
+  of_out o = q o.to o.body
 
   abbrev of_routed : Routed → Bool
-  of_routed r = q r.sent.to.block r.sent.body
+  of_routed r = q r.sent.to r.sent.body
 
   abbrev of_signal : Addressed → Bool
-  of_signal y = q y.signal.to.block y.signal.body
+  of_signal y = q y.signal.to y.signal.body
 
   addressed_count : (by : Sender) (count : ℕ → ℕ) (rs : List Routed)
       → count_by of_signal (all_addressed by count rs) ≡ count_by of_routed rs
@@ -80,10 +80,10 @@ module _ (q : BlockId → Body → Bool) where
   -- with headers of a number
   module _ (start : Start) (number : ℕ) where
     abbrev pub in_view : Addressed → Bool
-    in_view y = q y.signal.to.block y.signal.body && (y.signal.view.number == number)
+    in_view y = q y.signal.to y.signal.body && (y.signal.view.number == number)
 
     in_less : (y : Addressed) → one_if (in_view y) ≤ one_if (of_signal y)
-    in_less y = by (q y.signal.to.block y.signal.body) (y.signal.view.number == number)
+    in_less y = by (q y.signal.to y.signal.body) (y.signal.view.number == number)
       where
         by : (b c : Bool) → one_if (b && c) ≤ one_if b
         by false c = omega arith
@@ -91,9 +91,9 @@ module _ (q : BlockId → Body → Bool) where
         by true false = omega arith
 
     pub sent_few : (h : ℕ) (log : List HostStep) (e : HostStep)
-        → count_by (λ (y : Addressed). q y.signal.to.block y.signal.body && (y.signal.view.number == number))
+        → count_by (λ (y : Addressed). q y.signal.to y.signal.body && (y.signal.view.number == number))
         (sent_by (sound_machine start) h log e)
-        ≤ count_by (λ (o : Outgoing). q o.to.block o.body) (step_after start h log e).effects.sends
+        ≤ count_by (λ (o : Outgoing). q o.to o.body) (step_after start h log e).effects.sends
     sent_few h log e = by (stops_by e.step.marks)
       where
         sends : List Outgoing

@@ -86,7 +86,7 @@ portion_still by work sends at goes_on all = portion_each IsStill by work sends 
 abbrev pub SendsQuiet : {S : Type 0} → Step S → Type 0
 SendsQuiet step = AreQuiet step.effects.sends
 
--- what says so whichever block it is for
+-- what says so whichever block it is for, and doesn't ask for a report
 abbrev pub is_quiet : Body → Bool
 is_quiet (Takeover TakeoverOrd) = false
 is_quiet (Takeover LqhTransReq) = false

@@ -91,6 +91,7 @@ module _ (start : Start) (all : ℕ → List HostStep) (e : HostStep) (es : List
             host_is = at;
             block_is = taken.block;
             body_is = ends;
+            sound = taken.sound;
             header = taken.fresh (takeover_fenced e.step.taken LqhTransEnd ends);
             same = still.current_is;
             stands = stood_is;

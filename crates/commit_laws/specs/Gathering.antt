@@ -10,6 +10,7 @@ use Rattle.sig_core.specs.declared.signal.takeover.TakeoverSignal.TheVariants.{L
 use Rattle.takeover_block.specs.declared.gathered.Gathered.{Gathered}
 use Rattle.takeover_block.specs.declared.stage.Stage.TheVariants.{Gathering}
 use Rattle.takeover_block.specs.Keys.{has_key}
+use Rattle.node_views.specs.WellFormed.{is_well_formed}
 use Rattle.world_core.specs.Start.{Start, made}
 use Rattle.world_core.specs.Steps.{HostStep}
 use Rattle.view_laws.specs.Runs.{view_after}
@@ -25,6 +26,7 @@ pub record EndsGathering (start : Start) (e : HostStep) (es : List HostStep) (me
   pub host_is : e.host ≡ tc_of start member
   pub block_is : e.step.taken.to.block ≡ block.Takeover
   pub body_is : e.step.taken.body ≡ Takeover LqhTransEnd
+  pub sound : is_well_formed start.shape e.step.taken ≡ true
   pub header : e.step.taken.view.number ≡ (current start (logs_of start (e ∷ es))).number
   pub same : current start (logs_of start (e ∷ es)) ≡ current start (logs_of start es)
   pub stands : view_after start (tc_of start member) (logs_of start es (tc_of start member)) ≡ current start (logs_of start es)

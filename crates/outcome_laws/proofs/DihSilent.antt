@@ -12,11 +12,11 @@ use Rattle.sig_core.specs.declared.signal.client.ClientSignal.TheVariants.{TcBeg
 use Rattle.sig_core.specs.declared.signal.epoch.EpochSignal.TheVariants.{DiVerifyConf, DiVerifyReq}
 use Rattle.sig_core.specs.declared.signal.host.HostSignal.TheVariants.{Continue}
 use Rattle.sig_core.specs.declared.signal.host.Work.TheVariants.{Transaction}
-use Rattle.sig_core.specs.declared.signal.takeover.TakeoverSignal.TheVariants.{LqhTransConf}
+use Rattle.sig_core.specs.declared.signal.takeover.TakeoverSignal.TheVariants.{LqhTransConf, LqhTransEnd, LqhTransReq}
 use Rattle.outcome_laws.specs.Tells.{Tells}
 
 -- it tells that a transaction has begun, what it is to do or was answered, in which epoch one was decided, or why one
--- is aborted; or it is one of chains, or goes on with what is sent of a transaction
+-- is aborted; or it is one of chains, goes on with what is sent of a transaction, or asks for a report or ends one
 abbrev pub is_telling : Body → Bool
 is_telling (Client (TcBeginConf name tx)) = true
 is_telling (Client (TcKeyReq tx op)) = true
@@ -27,6 +27,8 @@ is_telling (Epoch (DiVerifyConf tx epoch)) = true
 is_telling (Client (TcCommitConf tx epoch)) = true
 is_telling (Client (TcKeyFailConf tx epoch)) = true
 is_telling (Takeover (LqhTransConf tx key told epoch)) = true
+is_telling (Takeover LqhTransReq) = true
+is_telling (Takeover LqhTransEnd) = true
 is_telling (Client (TcRollbackRep tx cause)) = true
 is_telling (Chain signal) = true
 is_telling (Host (Continue (Transaction tx) at)) = true

@@ -13,7 +13,7 @@ use Rattle.sig_core.specs.declared.signal.epoch.EpochSignal.TheVariants.{DiVerif
 use Rattle.sig_core.specs.declared.signal.host.HostSignal.TheVariants.{Continue}
 use Rattle.sig_core.specs.declared.signal.host.Work.{Work}
 use Rattle.sig_core.specs.declared.signal.host.Work.TheVariants.{Transaction}
-use Rattle.sig_core.specs.declared.signal.takeover.TakeoverSignal.TheVariants.{LqhTransConf}
+use Rattle.sig_core.specs.declared.signal.takeover.TakeoverSignal.TheVariants.{LqhTransConf, LqhTransEnd, LqhTransReq}
 use Rattle.sig_core.specs.Portion.{portion_effects, rest_if}
 use Rattle.sig_core.specs.Step.{Step}
 use Rattle.outcome_laws.proofs.DihSilent.{AreSilent, IsSilent, is_telling}
@@ -21,7 +21,7 @@ use Rattle.outcome_laws.proofs.OnceNone.{AreUncounted, IsUncounted, is_counted}
 use Rattle.outcome_laws.proofs.RowsNone.{MarksNone}
 
 -- a signal of clients and coordinators, but for the news of a view, one of chains, one that tells of a transaction's
--- epoch, or one that goes on with what is sent of a transaction
+-- epoch, one that goes on with what is sent of a transaction, or one that asks for a report or ends it
 abbrev pub is_tale : Body → Bool
 is_tale (Client ViewRep) = false
 is_tale (Client signal) = true
@@ -29,6 +29,8 @@ is_tale (Chain signal) = true
 is_tale (Epoch (DiVerifyReq tx ops)) = true
 is_tale (Epoch (DiVerifyConf tx epoch)) = true
 is_tale (Takeover (LqhTransConf tx key told epoch)) = true
+is_tale (Takeover LqhTransReq) = true
+is_tale (Takeover LqhTransEnd) = true
 is_tale (Host (Continue (Transaction tx) at)) = true
 is_tale body = false
 
@@ -50,6 +52,8 @@ body_silent (Chain signal) none = absurd cc
 body_silent (Epoch (DiVerifyReq tx ops)) none = absurd cc
 body_silent (Epoch (DiVerifyConf tx epoch)) none = absurd cc
 body_silent (Takeover (LqhTransConf tx key told epoch)) none = absurd cc
+body_silent (Takeover LqhTransReq) none = absurd cc
+body_silent (Takeover LqhTransEnd) none = absurd cc
 body_silent (Host (Continue (Transaction tx) at)) none = absurd cc
 body_silent body none = refl
 

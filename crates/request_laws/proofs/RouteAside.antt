@@ -10,7 +10,7 @@ use Rattle.sig_core.specs.declared.signal.Body.TheVariants.{Chain, Host, Takeove
 use Rattle.sig_core.specs.declared.signal.Signal.{Signal}
 use Rattle.sig_core.specs.declared.signal.host.HostSignal.TheVariants.{Continue}
 use Rattle.sig_core.specs.declared.signal.host.Work.TheVariants.{Transaction as Sends}
-use Rattle.sig_core.specs.declared.signal.takeover.TakeoverSignal.TheVariants.{LqhTransConf}
+use Rattle.sig_core.specs.declared.signal.takeover.TakeoverSignal.TheVariants.{LqhTransConf, LqhTransEnd, LqhTransReq}
 use Rattle.sig_core.specs.declared.view.View.{View}
 use Rattle.frag_map.specs.Layout.{Layout}
 use Rattle.api_views.specs.Client.{client_row}
@@ -34,11 +34,14 @@ use Rattle.outcome_laws.proofs.KnowParts.{arbiter_tells_nothing}
 use Rattle.request_laws.specs.Orphans.{TellsOf}
 use Rattle.request_laws.specs.Routes.{IsRouted, IsSentRouted}
 
--- a signal of chains, one that goes on with what is sent of a transaction, or one that tells a takeover of one
+-- a signal of chains, one that goes on with what is sent of a transaction, or one by which a takeover asks for a
+-- report, is told of a transaction, or is told the end
 abbrev pub is_of_rows : Body → Bool
 is_of_rows (Chain signal) = true
 is_of_rows (Host (Continue (Sends tx) at)) = true
 is_of_rows (Takeover (LqhTransConf tx key told epoch)) = true
+is_of_rows (Takeover LqhTransReq) = true
+is_of_rows (Takeover LqhTransEnd) = true
 is_of_rows body = false
 
 abbrev pub IsAside : Outgoing → Type 0
@@ -67,6 +70,8 @@ silent_one : (body : Body) → is_telling body ≡ false → is_of_rows body ≡
 silent_one (Chain signal) silent = absurd cc
 silent_one (Host (Continue (Sends tx) at)) silent = absurd cc
 silent_one (Takeover (LqhTransConf tx key told epoch)) silent = absurd cc
+silent_one (Takeover LqhTransReq) silent = absurd cc
+silent_one (Takeover LqhTransEnd) silent = absurd cc
 silent_one body silent = refl
 
 pub silent_aside : (sends : List Outgoing) → AreSilent sends → AreAside sends
@@ -80,6 +85,8 @@ plain_one : (body : Body) → is_plain body ≡ true → is_of_rows body ≡ fal
 plain_one (Chain signal) plain = absurd cc
 plain_one (Host (Continue (Sends tx) at)) plain = absurd cc
 plain_one (Takeover (LqhTransConf tx key told epoch)) plain = absurd cc
+plain_one (Takeover LqhTransReq) plain = absurd cc
+plain_one (Takeover LqhTransEnd) plain = absurd cc
 plain_one body plain = refl
 
 plain_aside : (sends : List Outgoing) → ArePlain sends → AreAside sends

@@ -13,7 +13,7 @@ use Rattle.sig_core.specs.declared.signal.chain.ChainSignal.{ChainSignal}
 use Rattle.sig_core.specs.declared.signal.host.HostSignal.TheVariants.{Closed, Continue}
 use Rattle.sig_core.specs.declared.signal.host.Work.TheVariants.{Transaction as Sends}
 use Rattle.sig_core.specs.declared.signal.takeover.TakeoverSignal.{TakeoverSignal}
-use Rattle.sig_core.specs.declared.signal.takeover.TakeoverSignal.TheVariants.{LqhTransConf}
+use Rattle.sig_core.specs.declared.signal.takeover.TakeoverSignal.TheVariants.{LqhTransConf, LqhTransEnd, LqhTransReq}
 use Rattle.sig_core.specs.declared.view.View.{View}
 use Rattle.node_views.specs.Fence.{is_body_fenced, is_fenced}
 use Rattle.node_views.specs.WellFormed.{is_well_formed}
@@ -37,6 +37,8 @@ not_own : (start : Start) (h : ℕ) (body : Body) → is_of_rows body ≡ true �
 not_own start h (Chain signal) is work = work
 not_own start h (Host (Continue (Sends tx) at)) is work = work
 not_own start h (Takeover (LqhTransConf tx key told epoch)) is work = work
+not_own start h (Takeover LqhTransReq) is work = work
+not_own start h (Takeover LqhTransEnd) is work = work
 not_own start h body is work = absurd cc
 
 not_closed : (body : Body) → is_of_rows body ≡ true → IsClosed body → ⊥

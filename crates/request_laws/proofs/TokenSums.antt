@@ -37,10 +37,10 @@ module _ (start : Start) (p : Signal → Bool) where
   abbrev pub n : Machine HostStep Addressed
   n = sound_machine start
 
-  abbrev passes : Addressed → Bool
+  abbrev pub passes : Addressed → Bool
   passes x = p x.signal
 
-  abbrev count_on : List Addressed → ℕ
+  abbrev pub count_on : List Addressed → ℕ
   count_on xs = count_by passes xs
 
   -- one signal more on a link
@@ -66,7 +66,7 @@ module _ (start : Start) (p : Signal → Bool) where
         one_same (passes x),
       )
 
-  sent_total : (m i : ℕ) (log : List HostStep)
+  pub sent_total : (m i : ℕ) (log : List HostStep)
       → total m (λ j. count_on (sent n i j log)) ≤ sent_along start p i log
   sent_total m i [] =
       let none : total m (λ j. count_on (sent n i j [])) ≡ 0 =
@@ -102,10 +102,10 @@ module _ (start : Start) (p : Signal → Bool) where
       by true = omega arith
       by false = omega (arith, one_same (p e.step.taken))
 
-  abbrev NoneAbove : ℕ → List HostStep → Type 0
+  abbrev pub NoneAbove : ℕ → List HostStep → Type 0
   NoneAbove m log = (i : ℕ) → m ≤ i → count_on (taken n i log) ≡ 0
 
-  taken_total : (m : ℕ) (log : List HostStep) → NoneAbove m log
+  pub taken_total : (m : ℕ) (log : List HostStep) → NoneAbove m log
       → taken_along start p log ≤ total m (λ i. count_on (taken n i log))
   taken_total m [] none = omega arith
   taken_total m (e ∷ log) none =
@@ -141,7 +141,7 @@ module _ (start : Start) (p : Signal → Bool) where
     past_count : (xs ys : List Addressed) → IsPast xs ys → count_on xs ≤ count_on ys
     past_count xs ys past = omega (arith, ap count_on past.is, count_both passes past.newer xs)
 
-    given_count : (i j : ℕ) (log : List HostStep) (xs : List Addressed) → IsGiven n i j log xs
+    pub given_count : (i j : ℕ) (log : List HostStep) (xs : List Addressed) → IsGiven n i j log xs
         → count_on xs ≤ count_on (sent n i j log)
     given_count i j log xs (inl past) = past_count xs (sent n i j log) past
     given_count i j [] xs (inr closing) = absurd closing
