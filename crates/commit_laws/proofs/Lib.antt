@@ -245,3 +245,4 @@ pub mod WholeAll
 pub mod WholeHosts
 pub mod WholeTakeover
 pub mod WholeTurns
+pub mod GatheringsAll
