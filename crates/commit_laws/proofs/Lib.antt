@@ -18,6 +18,7 @@ pub mod CommitsKept
 pub mod CommitsNow
 pub mod CommitsRemain
 pub mod CommitsStep
+pub mod CoordinatorAnswered
 pub mod CurrentFenced
 pub mod CutsLegal
 pub mod DecidedStay
@@ -45,6 +46,7 @@ pub mod DriveSteps
 pub mod DriveTakeover
 pub mod DriveTasks
 pub mod DriveTurns
+pub mod EndTurns
 pub mod EndsTold
 pub mod FateCases
 pub mod FateForth
