@@ -1,6 +1,6 @@
 -- A key that was written is among those that the transaction has touched, so where each of these was committed, all were
 -- that were written.
-use Rattle.std.proofs.Common.{◌≡◌, ◌||◌, ◌∙◌, ℕ, Bool, true, false, List, [], ◌∷◌, refl, sym, ap, subst, inl, inr}
+use Rattle.std.proofs.Common.{◌≡◌, ◌||◌, ◌∙◌, ℕ, Bool, true, false, List, [], ◌∷◌, refl, sym, subst, inl, inr}
 use Rattle.std.proofs.lemmas.Bool.{true≢false}
 use Rattle.std.specs.List.{list_any}
 use Rattle.run_theory.specs.Lists.{Each, IsIn}
@@ -21,10 +21,10 @@ use Rattle.commit_laws.specs.Answered.{AllWereCommittedIn, WasCommittedIn}
 use Rattle.commit_laws.specs.Going.{decided_ops, is_written_by}
 
 -- one of these has the key
-record Has (touched : List Touched) (key : List ℕ) : Type 0 where
-  one : Touched
-  among : IsIn one touched
-  key_is : one.key ≡ key
+pub record Has (touched : List Touched) (key : List ℕ) : Type 0 where
+  pub one : Touched
+  pub among : IsIn one touched
+  pub key_is : one.key ≡ key
 
 has_touched : (touched : List Touched) (key : List ℕ) → list_any (is_on key) touched ≡ true → Has touched key
 has_touched [] key is = absurd (true≢false (sym is))
@@ -36,7 +36,7 @@ has_touched (u ∷ touched) key is = by (same_key u.key key) refl is (has_touche
     by false e here more =
         let rest = more here in record { one = rest.one; among = inr rest.among; key_is = rest.key_is }
 
-written_touched : (touched : List Touched) (ops : List (Op × Answer)) (key : List ℕ)
+pub written_touched : (touched : List Touched) (ops : List (Op × Answer)) (key : List ℕ)
     → Each (λ (op : Op × Answer). HasTouched touched (key_of op.0)) ops → is_written_by ops key ≡ true
     → Has touched key
 written_touched touched ops key all written = by (list_any (is_on key) touched) refl

@@ -340,7 +340,7 @@ module _ (start : Start) (member : Member) (there : IsIn member (made start)) (t
                 ap (λ h. sent_along start (numbered n (goes drive (mine tx any))) h (logs_of start es h)) home_is,
               )
 
-          known : is_held_back between.coordinator x.view.number x.body ≡ false
+          pub known : is_held_back between.coordinator x.view.number x.body ≡ false
               → Knows tx layout sent taken taken_now x.body
           known free =
               record { takes_one = takes_one free; goes_on = goes_on_known; comes_back = comes_known }
@@ -349,7 +349,7 @@ module _ (start : Start) (member : Member) (there : IsIn member (made start)) (t
         StandsFor s = Stands layout tx sent_now taken_now (entry_of s tx) (is_unborn s tx) (listed tx s)
 
         -- its transactions are those that it had
-        between_entry : entry_of between.coordinator tx ≡ entry_of (coordinator_after start member log) tx
+        pub between_entry : entry_of between.coordinator tx ≡ entry_of (coordinator_after start member log) tx
         unfolding install_row
         between_entry = by (entering start all e es moment member there at)
           where

@@ -26,6 +26,7 @@ pub mod CommitsKept
 pub mod CommitsNow
 pub mod CommitsRemain
 pub mod CommitsStep
+pub mod CoordinatorAnswered
 pub mod CurrentFenced
 pub mod CutsLegal
 pub mod DecidedStay
@@ -53,6 +54,7 @@ pub mod DriveSteps
 pub mod DriveTakeover
 pub mod DriveTasks
 pub mod DriveTurns
+pub mod EndTurns
 pub mod EndedAll
 pub mod EndsBehind
 pub mod EndsCounts
@@ -82,6 +84,7 @@ pub mod ForthTc
 pub mod ForthTurns
 pub mod GatheringAlone
 pub mod GatheringWhole
+pub mod GatheringsAll
 pub mod HaleOthers
 pub mod HeadersLow
 pub mod ImagesLeft
@@ -245,4 +248,3 @@ pub mod WholeAll
 pub mod WholeHosts
 pub mod WholeTakeover
 pub mod WholeTurns
-pub mod GatheringsAll
