@@ -1,6 +1,6 @@
 -- At each moment a coordinator is fenced at all numbers that its member has confirmed: the member has taken no more
 -- confirmations from it than it has taken requests, and links of a moment give what was sent by then.
-use Rattle.std.proofs.Common.{◌≡◌, ◌≤◌, ◌==◌, ◌&&◌, ◌||◌, ◌+◌, ◌++◌, ◌∙◌, ℕ, Bool, true, false, cond, filter, List, [], ◌∷◌, refl, sym, ap, subst, inl, inr, arith}
+use Rattle.std.proofs.Common.{◌≡◌, ◌≤◌, ◌==◌, ◌&&◌, ◌||◌, ◌+◌, ◌++◌, ℕ, Bool, true, false, cond, filter, List, [], ◌∷◌, refl, sym, ap, subst, inl, inr, arith}
 use Rattle.std.proofs.lemmas.Bool.{true≢false}
 use Rattle.std.specs.Prelude.{Option, None, Some, if◌then◌else◌, not}
 use Rattle.frag_map.specs.Layout.{first_layout}
@@ -35,7 +35,6 @@ use Rattle.view_laws.proofs.FenceAnswers.{confirms_fence, confs_none, few_more, 
 use Rattle.view_laws.proofs.FenceCounts.{IsAskedAs, IsHeard, confirmed_heard, confs_by, confs_of}
 use Rattle.view_laws.proofs.FenceFrom.{HasTaken, IsThere, asks_fence, in_ldm, running}
 use Rattle.view_laws.proofs.FenceLinks.{requests_high_past}
-use Rattle.view_laws.proofs.FenceOrder.{times}
 use Rattle.view_laws.proofs.FenceRaised.{IsFencedAt, taken_fenced}
 use Rattle.view_laws.proofs.FenceSeen.{fence_is, fence_or, fence_seen}
 use Rattle.view_laws.proofs.FenceThere.{fences_are_there}

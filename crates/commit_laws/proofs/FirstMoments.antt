@@ -1,5 +1,5 @@
 -- Before the first event all stands: nothing was sent, no takeover is at work, and no transaction has begun.
-use Rattle.std.proofs.Common.{◌≡◌, ◌∙◌, ℕ, List, [], refl, sym, ap, subst}
+use Rattle.std.proofs.Common.{◌≡◌, ◌∙◌, ℕ, List, [], sym, ap, subst}
 use Rattle.std.specs.Prelude.{None, Some}
 use Rattle.std.specs.List.{slice_get}
 use Rattle.frag_map.specs.Layout.{first_layout}
@@ -10,7 +10,6 @@ use Rattle.takeover_block.specs.declared.gathered.Gathered.{Gathered}
 use Rattle.takeover_block.specs.State.{resting}
 use Rattle.tc_block.specs.declared.transaction.Transaction.{Transaction}
 use Rattle.host_laws.specs.Live.{of_live}
-use Rattle.lqh_block.specs.declared.request.Request.{Request}
 use Rattle.node_views.specs.declared.host.Host as node
 use Rattle.world_core.specs.Start.{Start, made}
 use Rattle.world_core.specs.Steps.{Addressed, HostStep}
