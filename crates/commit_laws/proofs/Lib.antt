@@ -26,6 +26,7 @@ pub mod CommitsKept
 pub mod CommitsNow
 pub mod CommitsRemain
 pub mod CommitsStep
+pub mod ConfirmedFenced
 pub mod CoordinatorAnswered
 pub mod CurrentFenced
 pub mod CutsLegal
@@ -70,6 +71,7 @@ pub mod FateReasons
 pub mod FateRows
 pub mod FateViews
 pub mod FinalsForth
+pub mod FirstMoments
 pub mod ForthAll
 pub mod ForthClient
 pub mod ForthCoordinator
@@ -169,6 +171,7 @@ pub mod PartServes
 pub mod PartStill
 pub mod PartTakes
 pub mod PartTurns
+pub mod PartsAlways
 pub mod PartsEver
 pub mod PartsKept
 pub mod PartsQuiet

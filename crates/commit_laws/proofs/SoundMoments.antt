@@ -38,7 +38,7 @@ use Rattle.moment_laws.proofs.MomentTurns.{host_low, other_log, own_log}
 use Rattle.moment_laws.proofs.MomentViews.{moment_less, moment_within}
 use Rattle.commit_laws.proofs.HeadersLow.{malformed_stays, no_own_stop, told_stands}
 
-no_events : (mine : BlockId → Bool) (h : ℕ) (s : node.Host) (x : Signal) → is_asked h x ≡ false
+pub no_events : (mine : BlockId → Bool) (h : ℕ) (s : node.Host) (x : Signal) → is_asked h x ≡ false
     → is_well_formed s.standing.shape x ≡ false → events_at mine h s x ≡ []
 no_events mine h s x unasked off =
     ap (events_by mine s x) (no_own_stop h x unasked) ∙ ap (sound_events mine s x) off

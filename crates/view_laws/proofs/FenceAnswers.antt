@@ -119,7 +119,7 @@ unfolding confs_in
 confs_once c mine x xs (inl is) = omega (arith, ap (confs_in c) is)
 confs_once c mine x xs (inr (is, own)) = omega (arith, ap (confs_in c) is)
 
-confs_none : (c : Bool) (host : ℕ) (body : Body) → is_confirming body ≡ false → confs_by c host body ≡ 0
+pub confs_none : (c : Bool) (host : ℕ) (body : Body) → is_confirming body ≡ false → confs_by c host body ≡ 0
 confs_none c host (Membership FenceConf) off = absurd cc
 confs_none c host _ off = refl
 
@@ -142,7 +142,7 @@ unasked_body : (body : Body) → is_of_fence body ≡ true → is_own_work body 
 unasked_body (Membership signal) is = refl
 unasked_body _ is = absurd cc
 
-unasked : (h : ℕ) (x : Signal) → is_of_fence x.body ≡ true → is_asked h x ≡ false
+pub unasked : (h : ℕ) (x : Signal) → is_of_fence x.body ≡ true → is_asked h x ≡ false
 unasked h x is = by (x.from.0 == h)
   where
     by : (b : Bool) → (b && is_own_work x.body) ≡ false
@@ -331,7 +331,7 @@ module _ (start : Start) (logs : ℕ → List HostStep) (are : AreOfCluster star
       taken_more p i log e = tally_past p (taken_past (machine start) i (past_more e (past_self log)))
 
       -- a confirmation that the membership takes was taken from that host
-      few_more : (log : List HostStep) (e : HostStep) → IsPast (e ∷ log) (logs main)
+      pub few_more : (log : List HostStep) (e : HostStep) → IsPast (e ∷ log) (logs main)
           → confs_by c e.step.taken.from.0 e.step.taken.body
           + tally confirms_fence (taken (machine start) host log)
           ≤ tally confirms_fence (taken (machine start) host (e ∷ log))
@@ -453,7 +453,7 @@ module _ (start : Start) (logs : ℕ → List HostStep) (are : AreOfCluster star
                     (taken-step (machine start) main e log asked (asked_by_main at log e past asks)),
               )
 
-      sent_few : (log : List HostStep) → IsPast log (logs host)
+      pub sent_few : (log : List HostStep) → IsPast log (logs host)
           → tally confirms_fence (sent (machine start) host main log)
           ≤ tally (asks_fence start) (taken (machine start) main (running log))
       sent_few [] past = omega arith

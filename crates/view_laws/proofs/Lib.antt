@@ -20,7 +20,7 @@ mod EraWalk
 pub mod EventLemmas
 pub mod FenceAnswers
 mod FenceAsked
-mod FenceCounts
+pub mod FenceCounts
 pub mod FenceFrom
 pub mod FenceHosts
 mod FenceLines
@@ -28,11 +28,11 @@ pub mod FenceLinks
 mod FenceNodes
 mod FenceOrder
 pub mod FencePromised
-mod FenceRaised
+pub mod FenceRaised
 mod FenceRanks
 pub mod FenceRows
 mod FenceRuns
-mod FenceSeen
+pub mod FenceSeen
 mod FenceSent
 pub mod FenceTaken
 pub mod FenceThere
@@ -48,7 +48,7 @@ mod FollowRoutes
 mod FollowSeen
 pub mod FollowSends
 mod FollowSteps
-mod FollowTaken
+pub mod FollowTaken
 pub mod FollowViews
 mod FollowWalk
 pub mod Following
