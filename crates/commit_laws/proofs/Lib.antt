@@ -251,3 +251,4 @@ pub mod WholeAll
 pub mod WholeHosts
 pub mod WholeTakeover
 pub mod WholeTurns
+pub mod AllAlways
