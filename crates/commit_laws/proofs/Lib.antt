@@ -1,4 +1,5 @@
 pub mod AbortedFinals
+pub mod AllAlways
 pub mod AnsweredCoordinator
 pub mod AnsweredCounts
 pub mod AnsweredEvents
@@ -251,4 +252,5 @@ pub mod WholeAll
 pub mod WholeHosts
 pub mod WholeTakeover
 pub mod WholeTurns
-pub mod AllAlways
+pub mod CutLaws
+pub mod FatesStay

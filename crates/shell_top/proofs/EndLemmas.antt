@@ -51,7 +51,7 @@ use Rattle.shell_top.specs.Session.{AreLinesDone, IsSession, IsUnderWay}
 use Rattle.shell_top.specs.Text.{down_line, fault_line}
 use Rattle.shell_top.specs.Told.{text_of}
 use Rattle.shell_top.proofs.PrintedLemmas.{prints_both}
-use Rattle.shell_top.proofs.SafeLemmas.{cuts_are_safe}
+use Rattle.shell_top.proofs.SafeLemmas.{between_cuts, cuts_are_safe}
 use Rattle.world_core.specs.Hosts.{hosts}
 use Rattle.world_core.specs.Lives.{fresh_life}
 use Rattle.world_core.specs.Machine as plain
@@ -211,8 +211,8 @@ is_life shape sound e commands logs lived =
       begins = refl;
       lived = lived;
       run = merged_run (machine (fresh shape)) (is_stamped (fresh shape)) (hosts (fresh shape)) (logs_at logs) lived.within lived.right;
-      safe = λ inside cut closed.
-          cuts_are_safe (fresh shape) inside (logs_at logs) (omega arith) sound lived.within lived.right cut closed;
+      safe = cuts_are_safe (fresh shape) (logs_at logs) (omega arith) sound lived.within lived.right;
+      between = between_cuts (fresh shape) (logs_at logs) (omega arith) sound lived.within lived.right;
       grows = λ small large inside cut. histories_grow (fresh shape) small large inside;
       calm = λ calm.
           calmly_served (fresh shape) (logs_at logs)

@@ -2,6 +2,7 @@
 use Rattle.std.proofs.Common.{◌≡◌, ◌≤◌, ℕ, List, [], subst}
 use Rattle.frag_map.specs.Shape.{IsShape}
 use Rattle.run_theory.proofs.Cuts.{logs_of_closed}
+use Rattle.run_theory.proofs.Pasts.{past_trans}
 use Rattle.run_theory.specs.Cuts.{IsClosed, IsCut}
 use Rattle.run_theory.specs.Lists.{IsPast}
 use Rattle.run_theory.specs.Runs.{AreLogs, IsWithin}
@@ -20,36 +21,52 @@ use Rattle.outcome_laws.proofs.OnceDown.{none_down_decided}
 use Rattle.outcome_laws.proofs.OnceReported.{reported_once}
 use Rattle.outcome_laws.proofs.StrictOrder.{histories_in_strict_order}
 use Rattle.talk_laws.proofs.Told.{decided_as_told}
-use Rattle.shell_top.specs.Safe.{IsSafe}
+use Rattle.commit_laws.proofs.CutLaws.{aborts_effectless, commits_effective, histories_legal, records_alike, resting_rows}
+use Rattle.commit_laws.proofs.GreatestViews.{greatest_viable}
+use Rattle.shell_top.specs.Safe.{AreSafe, IsSafe}
 
-module _ (start : Start) (inside logs : ℕ → List HostStep) (some : 1 ≤ start.epoch) (shape : IsShape start.shape)
-    (within : IsWithin (hosts start) logs) (right : AreLogs (machine start) logs) (cut : IsCut inside logs)
-    (closed : IsClosed (machine start) inside)
+module _ (start : Start) (logs : ℕ → List HostStep) (some : 1 ≤ start.epoch) (shape : IsShape start.shape)
+    (within : IsWithin (hosts start) logs) (right : AreLogs (machine start) logs)
   where
-    of_cluster : AreOfCluster start inside
-    of_cluster =
+    of_cluster : (inside : ℕ → List HostStep) → IsCut inside logs → IsClosed (machine start) inside
+        → AreOfCluster start inside
+    of_cluster inside cut closed =
         record {
           shape = shape;
           right = logs_of_closed (machine start) (is_stamped start) inside logs right cut closed;
           within = λ h out. past_none (inside h) (subst (λ log. IsPast (inside h) log) (within h out) (cut h));
         }
 
-    pub cuts_are_safe : IsSafe start inside
-    cuts_are_safe =
+    pub cuts_are_safe : (inside : ℕ → List HostStep) → IsCut inside logs → IsClosed (machine start) inside
+        → IsSafe start inside
+    cuts_are_safe inside cut closed =
         record {
-          one_view = one_view have_orderly start inside of_cluster;
-          viable = viable have_orderly start inside of_cluster;
+          one_view = one_view have_orderly start inside of;
+          viable = viable have_orderly start inside of;
           serial = record {
-            legal = histories_legal start inside of_cluster;
-            strict = histories_in_strict_order start inside of_cluster;
-            epochs = epochs_of_histories stand_in_order start inside some of_cluster;
-            viable = greatest_viable start inside of_cluster;
-            rows = resting_rows start inside of_cluster;
+            legal = histories_legal start inside of;
+            strict = histories_in_strict_order start inside of;
+            epochs = epochs_of_histories stand_in_order start inside some of;
+            viable = greatest_viable start inside of;
+            rows = resting_rows start inside of;
           };
-          decided_once = decided_once start inside of_cluster;
-          reported_once = reported_once start inside of_cluster;
-          answered = decided_as_told start inside of_cluster;
-          committed = commits_take_effect start inside of_cluster;
-          aborted = aborts_take_none start inside of_cluster;
-          down = none_down_decided start inside of_cluster;
+          decided_once = decided_once start inside of;
+          reported_once = reported_once start inside of;
+          answered = decided_as_told start inside of;
+          committed = commits_effective start inside of;
+          aborted = aborts_effectless start inside of;
+          down = none_down_decided start inside of;
+        }
+      where
+        of : AreOfCluster start inside
+        of = of_cluster inside cut closed
+
+    pub between_cuts : (small large : ℕ → List HostStep) → IsCut small large → IsCut large logs
+        → IsClosed (machine start) small → IsClosed (machine start) large → AreSafe start small large
+    between_cuts small large inside cut closed closed_too =
+        record {
+          agreed = λ tx key answered entry there own one other made_one made_other r q at at_other.
+              records_alike start small large (of_cluster small (λ h. past_trans (inside h) (cut h)) closed)
+              (of_cluster large cut closed_too) inside tx key answered entry there own one other made_one made_other r q
+              at at_other;
         }

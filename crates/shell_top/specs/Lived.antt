@@ -13,7 +13,7 @@ use Rattle.shell_top.specs.Asked.{AreAsked, are_calm, AreAskedInFront, AreAskedI
 use Rattle.shell_top.specs.Calm.{IsCalmServed}
 use Rattle.shell_top.specs.declared.ended.Ending.{Ending}
 use Rattle.shell_top.specs.declared.ended.Ending.TheVariants.{NoMemory, Words, WriteFault}
-use Rattle.shell_top.specs.Safe.{IsSafe}
+use Rattle.shell_top.specs.Safe.{AreSafe, IsSafe}
 use Rattle.shell_top.specs.Stopped.{NoneWants}
 use Rattle.shell_top.specs.Told.{text_of}
 use Rattle.world_core.specs.History.{history}
@@ -61,6 +61,9 @@ pub record IsLife (shape : Shape) (ending : Ending) (commands : List Command) (l
   pub run : LogsRun (machine (start_of shape life)) (hosts (start_of shape life)) (logs_of life)
   pub safe : (inside : ℕ → List HostStep) → IsCut inside (logs_of life)
       → IsClosed (machine (start_of shape life)) inside → IsSafe (start_of shape life) inside
+  pub between : (small large : ℕ → List HostStep) → IsCut small large → IsCut large (logs_of life)
+      → IsClosed (machine (start_of shape life)) small → IsClosed (machine (start_of shape life)) large
+      → AreSafe (start_of shape life) small large
   pub grows : (small large : ℕ → List HostStep) → IsCut small large → IsCut large (logs_of life)
       → IsSublist (history (hosts (start_of shape life)) small) (history (hosts (start_of shape life)) large)
   pub calm : AreCalm (logs_of life) → IsCalmServed (start_of shape life) ending (logs_of life)

@@ -1,27 +1,31 @@
--- What holds of a closed cut of a life, whatever stopped and was cut off in it.
-use Rattle.std.specs.Prelude.{◌≡◌, ◌≤◌, ℕ, true, false, List}
+-- What holds of closed cuts of a life, whatever stopped and was cut off in it.
+use Rattle.std.specs.Prelude.{◌≡◌, ◌≤◌, ℕ, true, false, List, Some}
 use Rattle.frag_map.specs.Groups.{is_viable}
 use Rattle.run_theory.specs.Lists.{Each, IsIn}
 use Rattle.report_laws.specs.Answered.{answers_of}
 use Rattle.report_laws.specs.Asked.{operations_of}
 use Rattle.sig_core.specs.declared.entry.Entry.{Entry}
 use Rattle.sig_core.specs.declared.mark.Mark.TheVariants.{Reported}
+use Rattle.sig_core.specs.declared.member.Member.{Member}
 use Rattle.sig_core.specs.declared.member.TxId.{TxId}
 use Rattle.sig_core.specs.declared.outcome.AbortCause.{AbortCause}
 use Rattle.sig_core.specs.declared.outcome.AbortCause.TheVariants.{Down}
 use Rattle.sig_core.specs.declared.outcome.Outcome.TheVariants.{Aborted, Committed}
+use Rattle.sig_core.specs.declared.rows.PendingRecord.{PendingRecord}
 use Rattle.sig_core.specs.declared.view.View.{View}
 use Rattle.sig_core.specs.Same.{same_tx}
 use Rattle.world_core.specs.Entries.{entries}
 use Rattle.world_core.specs.History.{history}
 use Rattle.world_core.specs.Hosts.{hosts}
-use Rattle.world_core.specs.Start.{Start}
+use Rattle.world_core.specs.Start.{Start, made}
 use Rattle.world_core.specs.Steps.{HostStep}
 use Rattle.world_views.specs.SerialLaw.{IsSerial}
 use Rattle.view_laws.specs.Runs.{WasInstalled}
 use Rattle.outcome_laws.specs.Decided.{IsMarked}
 use Rattle.outcome_laws.specs.Outcomes.{AreOnce, HasEntry, reports_in}
 use Rattle.talk_laws.specs.Talks.{asked_of, told_of}
+use Rattle.commit_laws.specs.Cuts.{IsAnsweredOn}
+use Rattle.commit_laws.specs.Traces.{record_at}
 
 -- Two views of one number that hosts stood in are the same, and each has a full member in each group. The history is a
 -- serial one: each answer in it is right, what was reported before another transaction was asked for stands before it,
@@ -44,3 +48,11 @@ pub record IsSafe (start : Start) (inside : ℕ → List HostStep) : Type 0 wher
       → Each (λ (entry : Entry). same_tx entry.tx tx ≡ false) (history (hosts start) inside)
   pub down : (tx : TxId) → IsMarked (Reported tx (Aborted Down)) (inside 0)
       → Each (λ (entry : Entry). same_tx entry.tx tx ≡ false) (entries (hosts start) inside)
+
+-- Of a closed cut and a larger one. Of a transaction that is in the larger one's history, members have the same image of
+-- a key in the smaller one, as far as they have a record of it on that key and no operation of it there is unanswered.
+pub record AreSafe (start : Start) (small large : ℕ → List HostStep) : Type 0 where
+  pub agreed : (tx : TxId) (key : List ℕ) → IsAnsweredOn start small tx key → (entry : Entry)
+      → IsIn entry (history (hosts start) large) → entry.tx ≡ tx
+      → (one other : Member) → IsIn one (made start) → IsIn other (made start) → (r q : PendingRecord)
+      → record_at start small one key tx ≡ Some r → record_at start small other key tx ≡ Some q → r.image ≡ q.image

@@ -1,0 +1,5 @@
+use Rattle.commit_laws.proofs.CutLaws.{commits_effective}
+use Rattle.commit_laws.proofs.cut_laws.commits_take_effect.Goals as goal
+
+pub returns : goal.returns
+returns c = commits_effective
