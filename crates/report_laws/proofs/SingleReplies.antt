@@ -12,7 +12,7 @@ use Rattle.host_laws.proofs.ShellHost.{shell_after}
 use Rattle.host_laws.specs.OpenedAfter.{opened_in}
 use Rattle.report_laws.specs.Answered.{new_replies}
 use Rattle.report_laws.specs.Single.{IsOpenAs}
-use Rattle.report_laws.proofs.Given.{drop_front, new_is}
+use Rattle.report_laws.proofs.NewReplies.{drop_front, new_is}
 
 -- what was begun with this number
 own_tx : (tx : TxId) (own : Option TxId) → is_tx tx own ≡ true → own ≡ Some tx

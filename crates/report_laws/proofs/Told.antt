@@ -27,7 +27,7 @@ use Rattle.api_block.proofs.ApiTurns.{ApiRequestForms, ApiSignalForms, api_turns
 use Rattle.host_laws.proofs.ShellHost.{shell_after}
 use Rattle.report_laws.specs.Answered.{answers_among, new_replies}
 use Rattle.report_laws.specs.Told.{AnswersAreHeard, OutcomesAreMarked, answer_in, outcomes_marked, outcomes_told}
-use Rattle.report_laws.proofs.Given.{drop_front, new_is}
+use Rattle.report_laws.proofs.NewReplies.{drop_front, new_is}
 
 -- a step replies some more, which tell what it marks
 record TellsMarked (s : ApiState) (body : Body) (step : Step ApiState) : Type 0 where
@@ -36,7 +36,7 @@ record TellsMarked (s : ApiState) (body : Body) (step : Step ApiState) : Type 0 
   same : outcomes_told more ≡ outcomes_marked step.effects.marks
   answers : (answers_among more ≡ []) ⊎ (answers_among more ≡ answer_in body)
 
-append_none : {A : Type 0} (xs : List A) → xs ++ [] ≡ xs
+pub append_none : {A : Type 0} (xs : List A) → xs ++ [] ≡ xs
 append_none [] = refl
 append_none (x ∷ xs) = ap (λ ys. x ∷ ys) (append_none xs)
 

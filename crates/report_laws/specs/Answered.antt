@@ -1,9 +1,5 @@
 -- The answers that the client was given for a transaction, and those of its entry.
-use Rattle.std.specs.Prelude.{◌≡◌, ℕ, Bool, true, false, if◌then◌else◌, List, [], ◌∷◌, ◌++◌, length, drop, map, reverse}
-use Rattle.frag_map.specs.Shape.{IsShape}
-use Rattle.run_theory.specs.Cuts.{IsCut, IsClosed}
-use Rattle.run_theory.specs.Lists.{IsIn, IsPast}
-use Rattle.run_theory.specs.Runs.{AreLogs, IsWithin}
+use Rattle.std.specs.Prelude.{Bool, false, if◌then◌else◌, List, [], ◌∷◌, ◌++◌, length, drop, map, reverse}
 use Rattle.sig_core.specs.declared.entry.Entry.{Entry}
 use Rattle.sig_core.specs.declared.member.TxId.{TxId}
 use Rattle.sig_core.specs.declared.op.Answer.{Answer}
@@ -15,11 +11,7 @@ use Rattle.sig_core.specs.declared.signal.Body.TheVariants.{Client}
 use Rattle.sig_core.specs.declared.signal.client.ClientSignal.TheVariants.{TcKeyConf}
 use Rattle.sig_core.specs.Same.{same_tx}
 use Rattle.node_core.specs.Replies.{replies_of}
-use Rattle.world_core.specs.Entries.{entries}
-use Rattle.world_core.specs.History.{is_reported}
-use Rattle.world_core.specs.Hosts.{hosts}
-use Rattle.world_core.specs.Machine.{after, machine}
-use Rattle.world_core.specs.Marks.{have_mark}
+use Rattle.world_core.specs.Machine.{after}
 use Rattle.world_core.specs.Start.{Start}
 use Rattle.world_core.specs.Steps.{HostStep}
 
@@ -48,22 +40,3 @@ given start tx (e ∷ log) =
 -- the answers of an entry, the newest first
 abbrev pub answers_of : Entry → List Answer
 answers_of entry = reverse (map (λ (op : Op × Answer). op.1) entry.ops)
-
--- the answers that were given for a transaction by some moment are the first of those that its entry has, whenever it
--- is decided
-abbrev pub GivenAreOfEntries : Type 0
-GivenAreOfEntries =
-    (start : Start) (inside logs : ℕ → List HostStep) → IsShape start.shape → IsWithin (hosts start) logs
-    → AreLogs (machine start) logs → IsCut inside logs
-    → (entry : Entry) → IsIn entry (entries (hosts start) logs)
-    → IsPast (given start entry.tx (inside 0)) (answers_of entry)
-
--- and where it was reported committed they are all of these
-abbrev pub ReportedAreGiven : Type 0
-ReportedAreGiven =
-    (start : Start) (inside logs : ℕ → List HostStep) → IsShape start.shape → IsWithin (hosts start) logs
-    → AreLogs (machine start) logs → IsCut inside logs
-    → IsClosed (machine start) inside
-    → (entry : Entry) → IsIn entry (entries (hosts start) logs)
-    → have_mark (is_reported entry.tx) (hosts start) inside ≡ true
-    → given start entry.tx (inside 0) ≡ answers_of entry

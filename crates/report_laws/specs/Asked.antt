@@ -1,9 +1,6 @@
 -- The operations that the client asked for, of a transaction, and those of its entry.
 use Rattle.std.specs.List.{cons_option}
-use Rattle.std.specs.Prelude.{◌≡◌, ℕ, if◌then◌else◌, List, [], ◌∷◌, map, reverse, Option, None, Some}
-use Rattle.frag_map.specs.Shape.{IsShape}
-use Rattle.run_theory.specs.Lists.{IsIn}
-use Rattle.run_theory.specs.Runs.{AreLogs, IsWithin}
+use Rattle.std.specs.Prelude.{if◌then◌else◌, List, [], ◌∷◌, map, reverse, Option, None, Some}
 use Rattle.sig_core.specs.declared.entry.Entry.{Entry}
 use Rattle.sig_core.specs.declared.member.TxId.{TxId}
 use Rattle.sig_core.specs.declared.op.Answer.{Answer}
@@ -13,9 +10,7 @@ use Rattle.sig_core.specs.declared.signal.Body.{Body}
 use Rattle.sig_core.specs.declared.signal.Body.TheVariants.{Client}
 use Rattle.sig_core.specs.declared.signal.client.ClientSignal.TheVariants.{TcKeyReq}
 use Rattle.sig_core.specs.Same.{same_tx}
-use Rattle.world_core.specs.Entries.{entries}
-use Rattle.world_core.specs.Hosts.{hosts}
-use Rattle.world_core.specs.Machine.{machine, step_after}
+use Rattle.world_core.specs.Machine.{step_after}
 use Rattle.world_core.specs.Start.{Start}
 use Rattle.world_core.specs.Steps.{HostStep}
 
@@ -37,11 +32,3 @@ asked start tx (e ∷ log) = asked_in tx (step_after start 0 log e).effects.send
 -- the operations of an entry, the newest first
 abbrev pub operations_of : Entry → List Op
 operations_of entry = reverse (map (λ (op : Op × Answer). op.0) entry.ops)
-
--- a transaction that is decided has the operations that the client asked for, all of them and no others
-abbrev pub AskedAreOfEntries : Type 0
-AskedAreOfEntries =
-    (start : Start) (logs : ℕ → List HostStep) → IsShape start.shape → IsWithin (hosts start) logs
-    → AreLogs (machine start) logs
-    → (entry : Entry) → IsIn entry (entries (hosts start) logs)
-    → asked start entry.tx (logs 0) ≡ operations_of entry

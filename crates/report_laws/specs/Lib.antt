@@ -1,7 +1,6 @@
 pub mod Answered
 pub mod Asked
 pub mod Growing
-pub mod Reported
 pub mod Reports
 pub mod Requested
 pub mod Single

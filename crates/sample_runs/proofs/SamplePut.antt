@@ -6,7 +6,6 @@ use Rattle.std.specs.Prelude.{◌==◌, ◌||◌, None, Some}
 use Rattle.frag_map.specs.Replicas.{first_start}
 use Rattle.frag_map.specs.Shape.{IsShape}
 use Rattle.run_theory.proofs.Cuts.{closed_of_logs}
-use Rattle.run_theory.proofs.Pasts.{past_self}
 use Rattle.run_theory.specs.Cuts.{IsClosed}
 use Rattle.run_theory.specs.Links.{sent, taken}
 use Rattle.run_theory.specs.Lists.{IsIn}
@@ -25,8 +24,7 @@ use Rattle.world_core.specs.Hosts.{receiver, rows_host}
 use Rattle.world_core.specs.Machine.{after, machine}
 use Rattle.world_core.specs.Rest.{IsAtRest, IsSettled}
 use Rattle.world_core.specs.Views.{live_nodes}
-use Rattle.serial_laws.proofs.EveryCut.{every_cut_serial}
-use Rattle.report_laws.proofs.Reports.{reports_are_the_history}
+use Rattle.report_laws.proofs.Reports.{reports_are_marked}
 use Rattle.report_laws.specs.Reports.{AreReported}
 use Rattle.sample_runs.proofs.PutChain.{one_holds, two_holds}
 use Rattle.sample_runs.proofs.PutCoordinator.{coordinator_do, coordinator_steps}
@@ -142,7 +140,7 @@ closed : IsClosed (machine two) put
 closed = closed_of_logs (machine two) (stamped two) put right
 
 told_so : AreReported two put
-told_so = reports_are_the_history two put shape within right
+told_so = reports_are_marked two put shape within right
 
 -- what is so at both nodes is so at each that is live
 each_live : (P : Member → Type 0) → P (first_start 1) → P (first_start 2) → (member : Member) → IsIn member (live_nodes two put) → P member
@@ -188,13 +186,11 @@ sample_put = record {
   quiet = record { shape = shape; right = right; within = within; quiet = λ i j low under. linked i j };
   history_is = refl;
   reported = refl;
-  answers = (told_so.cuts put (λ h. past_self (put h)) closed).answered entry (inl refl) refl;
   replies = replies;
   rest = rest;
   at_primary = record { live = inl refl; holding = one_holds };
   at_backup = record { live = inr (inl refl); holding = two_holds };
   rows = λ member replica.
       each_live (λ (live : Member). row_in two put live.node key ≡ Some value) row_primary row_backup member replica.live;
-  serial = every_cut_serial two put put shape within right (λ h. past_self (put h)) closed;
   told = told_so;
 }

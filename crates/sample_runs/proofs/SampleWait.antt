@@ -1,30 +1,25 @@
 -- The wait that is granted: its logs are right and quiet, and this is what comes of it.
 use Rattle.std.proofs.Common.{◌≡◌, ℕ, zero, suc, ◌≤◌, [], false, refl, sym, ap, subst, ◌∙◌, inl, arith}
 use Rattle.std.proofs.lemmas.Bool.Decides.{nat_tests}
-use Rattle.std.specs.FinMap as map
-use Rattle.std.specs.Prelude.{◌==◌, drop, Some, ◌∷◌}
-use Rattle.run_theory.proofs.Cuts.{closed_of_logs}
-use Rattle.run_theory.proofs.Pasts.{past_self}
+use Rattle.std.specs.Prelude.{◌==◌, drop, Some}
 use Rattle.run_theory.specs.Links.{sent, taken}
 use Rattle.run_theory.specs.Logs.{IsLog}
 use Rattle.run_theory.specs.Runs.{AreLogs}
 use Rattle.sig_core.specs.Rows.{row_of}
 use Rattle.node_core.specs.Blocks.{lqh_of}
 use Rattle.node_core.specs.Committed.{row_at}
-use Rattle.world_core.proofs.Stamped.{stamped}
 use Rattle.world_core.specs.At.{row_in}
 use Rattle.world_core.specs.Hosts.{receiver}
-use Rattle.world_core.specs.Machine.{after, machine}
+use Rattle.world_core.specs.Machine.{machine}
 use Rattle.frag_map.specs.Shape.{IsShape}
 use Rattle.answer_laws.specs.Sample.{lone}
-use Rattle.serial_laws.proofs.EveryCut.{every_cut_serial}
-use Rattle.report_laws.proofs.Reports.{reports_are_the_history}
+use Rattle.report_laws.proofs.Reports.{reports_are_marked}
 use Rattle.sample_runs.proofs.Traces.{after_is, is_log, told, told_is}
 use Rattle.sample_runs.proofs.WaitCoordinator.{ordering_do, ordering_steps}
 use Rattle.sample_runs.proofs.WaitRows.{serving_do, serving_steps}
 use Rattle.sample_runs.proofs.WaitShell.{asking_do, asking_steps}
 use Rattle.sample_runs.specs.Put.{key}
-use Rattle.sample_runs.specs.Wait.{SampleIsGranted, asking, ordering, second_value, serving, waited, waiter}
+use Rattle.sample_runs.specs.Wait.{SampleIsGranted, asking, ordering, second_value, serving, waited}
 
 -- a host that takes no step
 record IsIdle (h : ℕ) : Type 0 where
@@ -120,7 +115,5 @@ sample_wait = record {
   none_holds = ap (λ host. (lqh_of host).locks) (after_is lone 3 serving serving_steps serving_do);
   history_is = refl;
   row = row_is;
-  serial = every_cut_serial lone waited waited shape within right (λ h. past_self (waited h))
-      (closed_of_logs (machine lone) (stamped lone) waited right);
-  told = reports_are_the_history lone waited shape within right;
+  told = reports_are_marked lone waited shape within right;
 }

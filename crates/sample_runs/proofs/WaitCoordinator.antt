@@ -1,6 +1,6 @@
 -- What the coordinator and the epochs of the node do at each step of the wait.
 use Rattle.std.proofs.Common.{◌≡◌, ℕ, List, [], ◌∷◌, refl, ap, ◌∙◌}
-use Rattle.std.specs.Prelude.{Option, None, Some}
+use Rattle.std.specs.Prelude.{None, Some}
 use Rattle.std.proofs.Math.Nat.{mod-one}
 use Rattle.sig_core.specs.declared.mark.Mark.{Mark}
 use Rattle.sig_core.specs.declared.mark.Mark.TheVariants.{Decided}

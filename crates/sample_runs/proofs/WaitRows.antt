@@ -19,20 +19,18 @@ use Rattle.sig_core.specs.Place.{coordinator, rows_of}
 use Rattle.sig_core.specs.Redo.{size_of}
 use Rattle.sig_core.specs.Rows as rows
 use Rattle.sig_core.specs.Step.{Step, to_place}
-use Rattle.sig_core.specs.Work.{work_key}
 use Rattle.frag_map.specs.Layout.{first_layout}
 use Rattle.row_locks.proofs.LocksLemmas.{key_cmp, remove-absent, remove-insert}
-use Rattle.row_locks.specs.declared.claim.Holder.{Holder}
 use Rattle.row_locks.specs.declared.mode.Mode.TheVariants.{Exclusive}
 use Rattle.row_locks.specs.Holders.{holder_of}
 use Rattle.row_locks.specs.Queues.{wait_of}
 use Rattle.row_locks.specs.Rows.{RowLock, released, row_lock}
-use Rattle.row_locks.specs.Tables.{Locks, ahead_of, asked_at, or_unlocked}
+use Rattle.row_locks.specs.Tables.{Locks, ahead_of, or_unlocked}
 use Rattle.lqh_block.specs.Commit.{commit_row}
 use Rattle.lqh_block.specs.Complete.{complete_row}
 use Rattle.lqh_block.specs.declared.request.Marker.{Marker}
 use Rattle.lqh_block.specs.declared.request.Request.{Request}
-use Rattle.lqh_block.specs.Operate.{granted_by, granted_row, request_row}
+use Rattle.lqh_block.specs.Operate.{granted_by, granted_row}
 use Rattle.lqh_block.specs.State.{LqhState, serve_granted, with_lock}
 use Rattle.lqh_block.specs.Storage.{committed_in, perform, store_row}
 use Rattle.lqh_block.specs.Wait.{acknowledged}

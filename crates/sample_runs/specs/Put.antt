@@ -1,9 +1,10 @@
 -- A put that goes through two replicas: the logs of a life of two nodes that both have every row.
-use Rattle.std.specs.Prelude.{◌≡◌, ℕ, zero, suc, true, List, [], ◌∷◌, None, Some}
+use Rattle.std.specs.Prelude.{◌≡◌, ◌==◌, ◌&&◌, ℕ, Bool, zero, suc, true, false, List, [], ◌∷◌, None, Some}
 use Rattle.sig_core.specs.declared.entry.Entry.{Entry}
 use Rattle.sig_core.specs.declared.mark.Mark.{Mark}
 use Rattle.sig_core.specs.declared.mark.Mark.TheVariants.{Applied, Decided, Done as Completed, Prepared, Reported}
 use Rattle.sig_core.specs.declared.member.Member.{Member}
+use Rattle.sig_core.specs.declared.member.TxId.{TxId}
 use Rattle.sig_core.specs.declared.op.Answer.TheVariants.{Done}
 use Rattle.sig_core.specs.declared.op.Op.{Op}
 use Rattle.sig_core.specs.declared.op.Op.TheVariants.{Put}
@@ -18,6 +19,7 @@ use Rattle.sig_core.specs.declared.signal.client.ClientSignal.TheVariants.{TcBeg
 use Rattle.sig_core.specs.declared.signal.client.ClientSignal.TheVariants.{TcCommitConf, TcCommitReq, TcKeyConf, TcKeyReq}
 use Rattle.sig_core.specs.declared.signal.epoch.EpochSignal.TheVariants.{DiVerifyConf, DiVerifyEnd, DiVerifyReq}
 use Rattle.sig_core.specs.Place.{client, coordinator, epochs, rows_of}
+use Rattle.sig_core.specs.Same.{same_tx}
 use Rattle.sig_core.specs.Step.{to_place}
 use Rattle.frag_map.specs.Replicas.{first_start}
 use Rattle.node_core.specs.Replies.{replies_of}
@@ -27,14 +29,16 @@ use Rattle.world_core.specs.Hosts.{Membership, first_membership, hosts}
 use Rattle.world_core.specs.Machine.{after, headed, request_signal}
 use Rattle.world_core.specs.Marks.{have_mark}
 use Rattle.world_core.specs.Rest.{IsAtRest, IsLiveReplica}
-use Rattle.world_core.specs.SerialLaw.{IsSerial}
 use Rattle.world_core.specs.Start.{Start, fresh}
 use Rattle.world_core.specs.Steps.{HostStep}
 use Rattle.answer_laws.specs.Answered.{AreQuiet}
 use Rattle.answer_laws.specs.Sample.{first_tx, takes}
-use Rattle.report_laws.specs.Answered.{answers_of, given}
-use Rattle.report_laws.specs.Reported.{is_committed_in}
 use Rattle.report_laws.specs.Reports.{AreReported}
+
+-- the transaction was reported committed in this epoch
+abbrev pub is_committed_in : TxId → ℕ → Mark → Bool
+is_committed_in tx epoch (Reported other (Committed at)) = same_tx other tx && (at == epoch)
+is_committed_in tx epoch mark = false
 
 -- a cluster of two nodes with two replicas of each row, in one fragment
 abbrev pub two : Start
@@ -116,17 +120,15 @@ put h = []
 abbrev pub entry : Entry
 entry = record { tx = first_tx; view = 1; stamp = 10; host = record { 0 = 2 }; epoch = 1; ops = (write, Done) ∷ [] }
 
--- These are quiet logs. Their history is the entry of the put, which was reported with its epoch and its answer; the key is at
+-- These are quiet logs. Their history is the entry of the put, which was reported with its epoch, and its answer was told; the key is at
 -- rest, and both nodes have it with the value that was put.
 pub record SampleIsPut : Type 0 where
   pub quiet : AreQuiet two put
   pub history_is : history (hosts two) put ≡ entry ∷ []
   pub reported : have_mark (is_committed_in first_tx entry.epoch) (hosts two) put ≡ true
-  pub answers : given two first_tx (put 0) ≡ answers_of entry
   pub replies : replies_of (after two 0 (put 0)) ≡ Answered None Done ∷ Ended None (Committed entry.epoch) ∷ []
   pub rest : IsAtRest two put key
   pub at_primary : IsLiveReplica two put key (first_start 1)
   pub at_backup : IsLiveReplica two put key (first_start 2)
   pub rows : (member : Member) → IsLiveReplica two put key member → row_in two put member.node key ≡ Some value
-  pub serial : IsSerial two put
   pub told : AreReported two put

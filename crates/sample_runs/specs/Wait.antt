@@ -27,7 +27,6 @@ use Rattle.world_core.specs.At.{row_in}
 use Rattle.world_core.specs.History.{history}
 use Rattle.world_core.specs.Hosts.{hosts}
 use Rattle.world_core.specs.Machine.{after, headed, request_signal}
-use Rattle.world_core.specs.SerialLaw.{IsSerial}
 use Rattle.world_core.specs.Steps.{HostStep}
 use Rattle.answer_laws.specs.Answered.{AreQuiet}
 use Rattle.answer_laws.specs.Sample.{first_tx, lone, one, takes}
@@ -133,5 +132,4 @@ pub record SampleIsGranted : Type 0 where
   pub none_holds : (lqh_of (after lone 3 (waited 3))).locks ≡ map.empty
   pub history_is : history (hosts lone) waited ≡ first_entry ∷ second_entry ∷ []
   pub row : row_in lone waited 1 key ≡ Some second_value
-  pub serial : IsSerial lone waited
   pub told : AreReported lone waited

@@ -23,7 +23,7 @@ use Rattle.cause_laws.proofs.Causes.{replies_caused}
 use Rattle.command_laws.proofs.RepliesLive.{replies_live}
 use Rattle.command_laws.proofs.RequestsAnswered.{requests_answered}
 use Rattle.command_laws.specs.Between.{IsAskedAgain}
-use Rattle.report_laws.proofs.Reports.{reports_are_the_history}
+use Rattle.report_laws.proofs.Reports.{reports_are_marked}
 use Rattle.host_io.specs.Fault.{Rose}
 use Rattle.node_core.specs.declared.host.Host as plain_host
 use Rattle.node_core.specs.declared.host.Host.TheVariants as plain_part
@@ -197,7 +197,7 @@ module _ (start : Start) (logs : ℕ → List HostStep) (life : IsCalmLife start
             (asked_plain start logs life asked) newer step before request at is
             (ends_or_goes_on e (plain_quiet.IsQuiet (plain.machine start) (hosts start) (plain_logs logs))
             (IsAskedAgain start newer) (λ kept. quiet_plain start logs life (quiet kept)) again);
-        reported = reports_are_the_history start (plain_logs logs) life.shape are_plain.within are_plain.right;
+        reported = reports_are_marked start (plain_logs logs) life.shape are_plain.within are_plain.right;
         caused = λ inside cut closed. replies_caused start inside (plain_logs logs) life.shape
             (record { within = are_plain.within; right = are_plain.right; cut = cut; closed = closed });
         living = replies_live start (plain_logs logs) are_plain.within are_plain.right;

@@ -11,3 +11,4 @@ pub mod TcSteps
 pub mod TcTalks
 pub mod TcTrack
 pub mod Told
+pub mod Newest

@@ -19,8 +19,7 @@ use Rattle.sig_core.specs.Same.{same_tx}
 use Rattle.sig_core.specs.Step.{Step, to_place}
 use Rattle.sig_core.proofs.TxLemmas.{same_tx-is}
 use Rattle.report_laws.specs.Asked.{asked_by}
-use Rattle.report_laws.proofs.Confs.{newest, newest_more}
-use Rattle.report_laws.proofs.Keys.{newest_ops, newest_ops_more}
+use Rattle.talk_laws.proofs.Newest.{newest, newest_more, newest_ops, newest_ops_more}
 use Rattle.tc_block.specs.Live.{turned, turned_if, without}
 use Rattle.tc_block.specs.Operate.{fresh}
 use Rattle.tc_block.specs.Phases.{is_open}

@@ -21,9 +21,8 @@ use Rattle.sig_core.specs.Same.{same_tx}
 use Rattle.sig_core.proofs.Keys.{same_tx-self}
 use Rattle.report_laws.specs.Answered.{is_answered}
 use Rattle.report_laws.specs.Asked.{asked_by}
-use Rattle.report_laws.proofs.Confs.{newest, newest_is}
-use Rattle.report_laws.proofs.Keys.{newest_ops, newest_ops_is}
-use Rattle.report_laws.proofs.Answers.{append_none}
+use Rattle.talk_laws.proofs.Newest.{newest, newest_is, newest_ops, newest_ops_is}
+use Rattle.report_laws.proofs.Told.{append_none}
 use Rattle.world_core.specs.Entries.{ops_of, verified_by}
 use Rattle.world_core.specs.Hosts.{hosts}
 use Rattle.world_core.specs.Start.{Start, made}
