@@ -86,7 +86,7 @@ module _ (M : Mark → Type 0) (s : ReplicaState) (x : Signal) (marks : RowsMark
   by_each (Epoch signal) = epochs_each x.member.node signal
   by_each _ = passed_each
 
-  rows_mark_each : Each M (replica_row s x).effects.marks
+  pub rows_mark_each : Each M (replica_row s x).effects.marks
   rows_mark_each = by_each x.body
 
 -- a commit at the first place of a record that is there

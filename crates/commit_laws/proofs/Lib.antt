@@ -71,9 +71,11 @@ pub mod ForthTc
 pub mod ForthTurns
 pub mod GatheringAlone
 pub mod GatheringWhole
+pub mod GreatestViews
 pub mod HaleOthers
 pub mod HeadersLow
 pub mod ImagesLeft
+pub mod InstallMarks
 pub mod KeptNow
 pub mod KeptRows
 pub mod KeyGoes
