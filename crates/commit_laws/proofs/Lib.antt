@@ -171,11 +171,13 @@ pub mod RecordsOnce
 pub mod ReplicasNow
 pub mod ReportGoes
 pub mod ReportPlaces
+pub mod RestingRows
 pub mod RowTokens
 pub mod RowsAttended
 pub mod RowsEnd
 pub mod RowsGo
 pub mod RowsPlaces
+pub mod RowsPrepare
 pub mod RulingQuiet
 pub mod RulingRests
 pub mod SentCounted

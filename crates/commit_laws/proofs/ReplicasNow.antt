@@ -97,7 +97,7 @@ module _ (shape : Shape) (fragment : ℕ) where
           either (inr back) = last b e back
 
   -- who is in turn in a view, and full in another, is so in that
-  turn_in : (view other : View) (n : ℕ) (m : Member) → IsIn m (in_turn shape view fragment n)
+  pub turn_in : (view other : View) (n : ℕ) (m : Member) → IsIn m (in_turn shape view fragment n)
       → is_full other m ≡ true → IsIn m (in_turn shape other fragment n)
   turn_in view other zero m there full = absurd there
   turn_in view other (suc n) m there full =
@@ -135,17 +135,17 @@ module _ (start : Start) (key : List ℕ) where
     chain_turns : chain_of (layout_in start view) key ≡ take 8 (replicas view)
     chain_turns = chain_is (first_layout start.shape) key view first
 
-    chained : (m : Member) → IsIn m (replicas view) → IsIn m (chain_of (layout_in start view) key)
+    pub chained : (m : Member) → IsIn m (replicas view) → IsIn m (chain_of (layout_in start view) key)
     chained m there =
         subst (IsIn m) (sym chain_turns)
         (in_all 8 (replicas view) m
         (omega (arith, turn_few start.shape (frag_of start.shape key) view start.shape.replicas, is.replicas_few))
         there)
 
-    in_turns : (m : Member) → IsIn m (chain_of (layout_in start view) key) → IsIn m (replicas view)
+    pub in_turns : (m : Member) → IsIn m (chain_of (layout_in start view) key) → IsIn m (replicas view)
     in_turns m there = in_some 8 (replicas view) m (subst (IsIn m) chain_turns there)
 
-    chain_full : (m : Member) → IsIn m (chain_of (layout_in start view) key) → IsIn m view.full
+    pub chain_full : (m : Member) → IsIn m (chain_of (layout_in start view) key) → IsIn m view.full
     chain_full m there =
         full_in view.full m
         (turn_full start.shape (frag_of start.shape key) view start.shape.replicas m (in_turns m there))
