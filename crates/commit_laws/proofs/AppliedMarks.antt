@@ -41,7 +41,7 @@ use Rattle.moment_laws.specs.Places.{ldm_of}
 use Rattle.commit_laws.specs.Traces.{record_at}
 use Rattle.commit_laws.proofs.CommitPlaces.{cell_before}
 use Rattle.commit_laws.proofs.KeyGoes.{TakesNow}
-use Rattle.commit_laws.proofs.LdmGoes.{is_applied}
+use Rattle.commit_laws.proofs.LdmGoes.{is_row_mark}
 use Rattle.commit_laws.proofs.RowsGo.{IsBetween, IsTakenAt, RowsGo, enter, rest, rows_go, take}
 
 -- what is so of all that rows mark
@@ -86,7 +86,7 @@ module _ (M : Mark → Type 0) (s : ReplicaState) (x : Signal) (marks : RowsMark
   by_each (Epoch signal) = epochs_each x.member.node signal
   by_each _ = passed_each
 
-  rows_mark_each : Each M (replica_row s x).effects.marks
+  pub rows_mark_each : Each M (replica_row s x).effects.marks
   rows_mark_each = by_each x.body
 
 -- a commit at the first place of a record that is there
@@ -172,8 +172,8 @@ module _ (start : Start) (all : ℕ → List HostStep) (e : HostStep) (es : List
       pub own : PendingRecord
       pub record_is : record_at start (logs_of start es) member key tx ≡ Some own
 
-    not_applied : (mark : Mark) → is_applied mark ≡ false → mark ≡ Applied tx key → ⊥
-    not_applied mark off is = true≢false (sym (ap is_applied is) ∙ off)
+    not_applied : (mark : Mark) → is_row_mark mark ≡ false → mark ≡ Applied tx key → ⊥
+    not_applied mark off is = true≢false (sym (ap is_row_mark is) ∙ off)
 
     some_of : (o : Option PendingRecord) (committed : Bool) → state_by o ≡ Some committed
         → (own : PendingRecord) × (o ≡ Some own)
@@ -184,9 +184,9 @@ module _ (start : Start) (all : ℕ → List HostStep) (e : HostStep) (es : List
         → IsOfCommit
     marks_of_commit at marked = by (rows_go start all e es moment member there)
       where
-        none : Each (λ mark. is_applied mark ≡ false) e.step.marks → ⊥
+        none : Each (λ mark. is_row_mark mark ≡ false) e.step.marks → ⊥
         none all_off =
-            not_applied (Applied tx key) (each_in (λ mark. is_applied mark ≡ false) (Applied tx key) e.step.marks
+            not_applied (Applied tx key) (each_in (λ mark. is_row_mark mark ≡ false) (Applied tx key) e.step.marks
             all_off marked)
             refl
 
@@ -222,5 +222,5 @@ module _ (start : Start) (all : ℕ → List HostStep) (e : HostStep) (es : List
                 → IsOfCommit
             either (inl front) =
                 absurd (not_applied (Applied tx key)
-                (each_in (λ mark. is_applied mark ≡ false) (Applied tx key) taken.front taken.unapplied front) refl)
+                (each_in (λ mark. is_row_mark mark ≡ false) (Applied tx key) taken.front taken.unapplied front) refl)
             either (inr inside) = from_rows s between taken inside

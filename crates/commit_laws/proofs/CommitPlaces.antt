@@ -125,7 +125,7 @@ module _ (start : Start) (all : ℕ → List HostStep) (e : HostStep) (es : List
         ∙ (signals_are_events s x key well
         ∙ ap (λ event. key_after event (at_key key s.lqh)) (ap (event_by key s x) is ∙ ap (event_at key s.lqh) is))
 
-    on_self : (key : List ℕ) (event : Event) → if_on key key event ≡ event
+    pub on_self : (key : List ℕ) (event : Event) → if_on key key event ≡ event
     on_self key event = ap (λ b. if b then event else rests) (same_key-self key)
 
     module _ (tx : TxId) (key : List ℕ) (epoch : ℕ) (chain : List Member) (at : ℕ)

@@ -7,7 +7,7 @@ use Rattle.std.specs.List.{list_any}
 use Rattle.run_theory.specs.Lists.{Each}
 use Rattle.run_theory.proofs.Pasts.{each_append}
 use Rattle.sig_core.specs.declared.mark.Mark.{Mark}
-use Rattle.sig_core.specs.declared.mark.Mark.TheVariants.{Applied, Installed}
+use Rattle.sig_core.specs.declared.mark.Mark.TheVariants.{Applied, Done, Prepared, Installed}
 use Rattle.sig_core.specs.declared.member.HostId.{HostId}
 use Rattle.sig_core.specs.declared.outcome.StopCause.{StopCause}
 use Rattle.sig_core.specs.declared.signal.Body.{Body}
@@ -35,13 +35,15 @@ use Rattle.moment_laws.specs.Parts.{IsPassed}
 use Rattle.moment_laws.specs.PartSteps.{PartEnters, installs, ldm_kind, remains}
 use Rattle.moment_laws.proofs.PartSteps.{not_barred}
 
--- the mark says that something was applied
-abbrev pub is_applied : Mark → Bool
-is_applied (Applied tx key) = true
-is_applied mark = false
+-- the mark says that rows prepared something, applied it, or are done with it
+abbrev pub is_row_mark : Mark → Bool
+is_row_mark (Prepared tx key) = true
+is_row_mark (Applied tx key) = true
+is_row_mark (Done tx key) = true
+is_row_mark mark = false
 
 abbrev pub AreUnapplied : List Mark → Type 0
-AreUnapplied marks = Each (λ mark. is_applied mark ≡ false) marks
+AreUnapplied marks = Each (λ mark. is_row_mark mark ≡ false) marks
 
 abbrev pub Entering : LdmPart → View → Signal → LdmPart → View → Type 0
 Entering p view x between seen = PartEnters ldm_kind p view x between seen []
@@ -122,7 +124,7 @@ module _ (x : Signal) where
         leaves between seen entering (ap (λ (h : hosts.Host). h.parts) state ∙ parts)
         (ap (λ (h : hosts.Host). h.standing.view) state ∙ stood) (sends ∙ quiet)
         (subst AreUnapplied (sym marks)
-        (each_append (λ mark. is_applied mark ≡ false) front step.effects.marks none unmarked))
+        (each_append (λ mark. is_row_mark mark ≡ false) front step.effects.marks none unmarked))
     goes_behind p between view seen entering low front none step now state sends marks
         (acts standing view_is clear parts stood effects) =
         takes between seen entering

@@ -30,6 +30,7 @@ pub mod CommitsStep
 pub mod ConfirmedFenced
 pub mod CoordinatorAnswered
 pub mod CurrentFenced
+pub mod CutLaws
 pub mod CutsLegal
 pub mod DecidedStay
 pub mod DecidersGo
@@ -71,6 +72,7 @@ pub mod FateMoves
 pub mod FateReasons
 pub mod FateRows
 pub mod FateViews
+pub mod FatesStay
 pub mod FinalsForth
 pub mod FirstMoments
 pub mod ForthAll
@@ -88,9 +90,11 @@ pub mod ForthTurns
 pub mod GatheringAlone
 pub mod GatheringWhole
 pub mod GatheringsAll
+pub mod GreatestViews
 pub mod HaleOthers
 pub mod HeadersLow
 pub mod ImagesLeft
+pub mod InstallMarks
 pub mod KeptNow
 pub mod KeptRows
 pub mod KeyGoes
@@ -195,11 +199,13 @@ pub mod ReportGoes
 pub mod ReportPlaces
 pub mod ReportTells
 pub mod ReportsBehind
+pub mod RestingRows
 pub mod RowTokens
 pub mod RowsAttended
 pub mod RowsEnd
 pub mod RowsGo
 pub mod RowsPlaces
+pub mod RowsPrepare
 pub mod RulingQuiet
 pub mod RulingRests
 pub mod SentCounted
@@ -252,5 +258,3 @@ pub mod WholeAll
 pub mod WholeHosts
 pub mod WholeTakeover
 pub mod WholeTurns
-pub mod CutLaws
-pub mod FatesStay

@@ -1,6 +1,10 @@
--- A master of checkpoints makes plain marks alone, whatever it takes.
+-- The marks of a master of checkpoints, whatever it takes: they are plain.
 use Rattle.std.proofs.Common.{◌==◌, ◌&&◌, ℕ, Bool, true, false, nat_lt, refl}
 use Rattle.std.specs.Prelude.{is_some, not}
+use Rattle.run_theory.specs.Lists.{Each}
+use Rattle.sig_core.specs.declared.mark.Mark.{Mark}
+use Rattle.sig_core.specs.declared.mark.Mark.TheVariants.{Closed, Durable, Stopped}
+use Rattle.sig_core.specs.declared.outcome.StopCause.{StopCause}
 use Rattle.sig_core.specs.declared.signal.Body.{Body}
 use Rattle.sig_core.specs.declared.signal.Body.TheVariants.{Host, Takeover, Epoch}
 use Rattle.sig_core.specs.declared.signal.Signal.{Signal}
@@ -9,6 +13,7 @@ use Rattle.sig_core.specs.declared.signal.epoch.EpochSignal.TheVariants.{GcpReq,
 use Rattle.sig_core.specs.declared.signal.host.HostSignal.TheVariants.{Continue}
 use Rattle.sig_core.specs.declared.signal.host.Work.TheVariants.{Members}
 use Rattle.sig_core.specs.declared.signal.takeover.TakeoverSignal.TheVariants.{TakeoverEnd}
+use Rattle.sig_core.specs.Step.{Step}
 use Rattle.gcp_master.specs.declared.known.Known.{Known}
 use Rattle.gcp_master.specs.declared.known.Told.{Told}
 use Rattle.gcp_master.specs.declared.orders.Ended.{Ended}
@@ -29,186 +34,200 @@ use Rattle.gcp_master.specs.Resume.{knowing, learned_if, order_by, order_row, re
 use Rattle.gcp_master.specs.Sends.{entering, go_on_if, go_on_row, list_effects, listing}
 use Rattle.gcp_master.specs.State.{MasterState, all_in, at_phase, counted, counts}
 use Rattle.gcp_master.specs.Voices.{is_among}
-use Rattle.commit_laws.proofs.PlainMarks.{MarksPlainly}
+use Rattle.commit_laws.proofs.PlainMarks.{IsPlainMark, MarksPlainly}
 
-lists : (s : MasterState) (at : ℕ) → MarksPlainly (listing s at)
-unfolding listing list_effects
-lists s at = tt
+-- what is so of the marks that a master makes
+pub record IsOfMaster (P : Mark → Type 0) : Type 0 where
+  pub stops : (cause : StopCause) → P (Stopped cause)
+  pub closes : (epoch : ℕ) → P (Closed epoch)
+  pub lasts : (epoch : ℕ) → P (Durable epoch)
 
-enters : (s : MasterState) (phase : Phase) → MarksPlainly (entering s phase)
-enters s phase = lists (at_phase s phase) 0
+module _ (P : Mark → Type 0) (own : IsOfMaster P) where
+  abbrev Marked : {S : Type 0} → Step S → Type 0
+  Marked step = Each P step.effects.marks
 
-begins_plain : (s : MasterState) (current : ℕ) (listed : Bool) → MarksPlainly (begins s current listed)
-unfolding begins
-begins_plain s current listed = by (begun s current).state (begun s current).spent listed
-  where
-    by : (t : MasterState) (spent listed : Bool) → MarksPlainly (begins_if t spent listed)
-    by t true listed = (refl, tt)
-    by t false true = tt
-    by t false false = lists t 0
+  lists : (s : MasterState) (at : ℕ) → Marked (listing s at)
+  unfolding listing list_effects
+  lists s at = tt
 
-goes_on : (s : MasterState) (number at : ℕ) → MarksPlainly (go_on_row s number at)
-unfolding go_on_row
-goes_on s number at = by (number == s.view.number && nat_lt at SENDS)
-  where
-    by : (b : Bool) → MarksPlainly (go_on_if s at b)
-    by true = lists s at
-    by false = tt
+  enters : (s : MasterState) (phase : Phase) → Marked (entering s phase)
+  enters s phase = lists (at_phase s phase) 0
 
-asked_plain : (s : MasterState) (asked : Asked) → MarksPlainly (asked_row s asked)
-unfolding asked_row
-asked_plain s asked = by (record s { asked = asked }) s.phase
-  where
-    by : (t : MasterState) (phase : Phase) → MarksPlainly (asked_by t phase)
-    by t (Resting current) = begins_plain t current (is_some t.front)
-    by t _ = tt
+  begins_plain : (s : MasterState) (current : ℕ) (listed : Bool) → Marked (begins s current listed)
+  unfolding begins
+  begins_plain s current listed = by (begun s current).state (begun s current).spent listed
+    where
+      by : (t : MasterState) (spent listed : Bool) → Marked (begins_if t spent listed)
+      by t true listed = (own.stops _, tt)
+      by t false true = tt
+      by t false false = lists t 0
 
-ordered : (s : MasterState) → MarksPlainly (order_row s)
-unfolding order_row
-ordered s = by s.phase
-  where
-    by : (phase : Phase) → MarksPlainly (order_by s phase)
-    by Unordered = enters s (Gathering nothing_known)
-    by _ = tt
+  goes_on : (s : MasterState) (number at : ℕ) → Marked (go_on_row s number at)
+  unfolding go_on_row
+  goes_on s number at = by (number == s.view.number && nat_lt at SENDS)
+    where
+      by : (b : Bool) → Marked (go_on_if s at b)
+      by true = lists s at
+      by false = tt
 
-resumes : (s : MasterState) (phase : Phase) → MarksPlainly (resume_at s phase)
-resumes s (Resting current) = begins_plain s current false
-resumes s phase = enters s phase
+  asked_plain : (s : MasterState) (asked : Asked) → Marked (asked_row s asked)
+  unfolding asked_row
+  asked_plain s asked = by (record s { asked = asked }) s.phase
+    where
+      by : (t : MasterState) (phase : Phase) → Marked (asked_by t phase)
+      by t (Resting current) = begins_plain t current (is_some t.front)
+      by t _ = tt
 
-tells : (s : MasterState) (voice : Voice) (told : Told) → MarksPlainly (state_row s voice told)
-unfolding state_row
-tells s voice told = by s.phase
-  where
-    all : (t : MasterState) (known : Known) (b : Bool) → MarksPlainly (told_all_if t known b)
-    all t known true = resumes t (resumed known)
-    all t known false = tt
+  ordered : (s : MasterState) → Marked (order_row s)
+  unfolding order_row
+  ordered s = by s.phase
+    where
+      by : (phase : Phase) → Marked (order_by s phase)
+      by Unordered = enters s (Gathering nothing_known)
+      by _ = tt
 
-    heard : (known : Known) (b : Bool) → MarksPlainly (state_if s voice known b)
-    heard known true = all (knowing (counted s voice) known) known (all_in 2 (counted s voice))
-    heard known false = tt
+  resumes : (s : MasterState) (phase : Phase) → Marked (resume_at s phase)
+  resumes s (Resting current) = begins_plain s current false
+  resumes s phase = enters s phase
 
-    by : (phase : Phase) → MarksPlainly (state_by s voice told phase)
-    by (Gathering known) = heard (learned_if known told (is_among s.view.full voice.member)) (counts s voice)
-    by _ = tt
+  tells : (s : MasterState) (voice : Voice) (told : Told) → Marked (state_row s voice told)
+  unfolding state_row
+  tells s voice told = by s.phase
+    where
+      all : (t : MasterState) (known : Known) (b : Bool) → Marked (told_all_if t known b)
+      all t known true = resumes t (resumed known)
+      all t known false = tt
 
-prepares : (s : MasterState) (voice : Voice) (epoch : ℕ) → MarksPlainly (prepare_row s voice epoch)
-unfolding prepare_row
-prepares s voice epoch = by s.phase
-  where
-    all : (t : MasterState) (run : Run) (b : Bool) → MarksPlainly (prepared_if t run b)
-    all t run true = enters t (Committing run)
-    all t run false = tt
+      heard : (known : Known) (b : Bool) → Marked (state_if s voice known b)
+      heard known true = all (knowing (counted s voice) known) known (all_in 2 (counted s voice))
+      heard known false = tt
 
-    heard : (run : Run) (b : Bool) → MarksPlainly (prepare_if s voice run b)
-    heard run true = all (counted s voice) run (all_in 1 (counted s voice))
-    heard run false = tt
+      by : (phase : Phase) → Marked (state_by s voice told phase)
+      by (Gathering known) = heard (learned_if known told (is_among s.view.full voice.member)) (counts s voice)
+      by _ = tt
 
-    by : (phase : Phase) → MarksPlainly (prepare_by s voice epoch phase)
-    by (Preparing run) = heard run (run.epoch == epoch && counts s voice)
-    by _ = tt
+  prepares : (s : MasterState) (voice : Voice) (epoch : ℕ) → Marked (prepare_row s voice epoch)
+  unfolding prepare_row
+  prepares s voice epoch = by s.phase
+    where
+      all : (t : MasterState) (run : Run) (b : Bool) → Marked (prepared_if t run b)
+      all t run true = enters t (Committing run)
+      all t run false = tt
 
-closes : (s : MasterState) (run : Run) → MarksPlainly (close_if_all s run)
-unfolding close_if_all
-closes s run = by (not s.owed && all_in 1 s)
-  where
-    by : (b : Bool) → MarksPlainly (closed_if s run b)
-    by true = (refl, enters s (Closing run))
-    by false = tt
+      heard : (run : Run) (b : Bool) → Marked (prepare_if s voice run b)
+      heard run true = all (counted s voice) run (all_in 1 (counted s voice))
+      heard run false = tt
 
-finishes : (s : MasterState) (voice : Voice) (epoch : ℕ) → MarksPlainly (finish_row s voice epoch)
-unfolding finish_row
-finishes s voice epoch = by s.phase
-  where
-    heard : (run : Run) (b : Bool) → MarksPlainly (finish_if s voice run b)
-    heard run true = closes (counted s voice) run
-    heard run false = tt
+      by : (phase : Phase) → Marked (prepare_by s voice epoch phase)
+      by (Preparing run) = heard run (run.epoch == epoch && counts s voice)
+      by _ = tt
 
-    by : (phase : Phase) → MarksPlainly (finish_by s voice epoch phase)
-    by (Committing run) = heard run (run.epoch == epoch && counts s voice)
-    by _ = tt
+  closes : (s : MasterState) (run : Run) → Marked (close_if_all s run)
+  unfolding close_if_all
+  closes s run = by (not s.owed && all_in 1 s)
+    where
+      by : (b : Bool) → Marked (closed_if s run b)
+      by true = (own.closes _, enters s (Closing run))
+      by false = tt
 
-takes_over : (s : MasterState) → MarksPlainly (takeover_row s)
-unfolding takeover_row
-takes_over s = by (record s { owed = false }) s.phase
-  where
-    by : (t : MasterState) (phase : Phase) → MarksPlainly (takeover_by t phase)
-    by t (Committing run) = closes t run
-    by t _ = tt
+  finishes : (s : MasterState) (voice : Voice) (epoch : ℕ) → Marked (finish_row s voice epoch)
+  unfolding finish_row
+  finishes s voice epoch = by s.phase
+    where
+      heard : (run : Run) (b : Bool) → Marked (finish_if s voice run b)
+      heard run true = closes (counted s voice) run
+      heard run false = tt
 
-ends : (s : MasterState) (run : Run) (what : Ended) → MarksPlainly (ended s run what)
-ends s run what = begins_plain _ run.next false
+      by : (phase : Phase) → Marked (finish_by s voice epoch phase)
+      by (Committing run) = heard run (run.epoch == epoch && counts s voice)
+      by _ = tt
 
-notes : (s : MasterState) (voice : Voice) (epoch : ℕ) → MarksPlainly (note_row s voice epoch)
-unfolding note_row
-notes s voice epoch = by s.phase
-  where
-    saves : (t : MasterState) (run : Run) (b : Bool) → MarksPlainly (noted_by t run b)
-    saves t run true = enters t (Saving run)
-    saves t run false = ends t run (Micro run.epoch)
+  takes_over : (s : MasterState) → Marked (takeover_row s)
+  unfolding takeover_row
+  takes_over s = by (record s { owed = false }) s.phase
+    where
+      by : (t : MasterState) (phase : Phase) → Marked (takeover_by t phase)
+      by t (Committing run) = closes t run
+      by t _ = tt
 
-    all : (t : MasterState) (run : Run) (b : Bool) → MarksPlainly (noted_if t run b)
-    all t run true = saves t run (is_first run.next)
-    all t run false = tt
+  ends : (s : MasterState) (run : Run) (what : Ended) → Marked (ended s run what)
+  ends s run what = begins_plain _ run.next false
 
-    heard : (run : Run) (b : Bool) → MarksPlainly (note_if s voice run b)
-    heard run true = all (counted s voice) run (all_in 2 (counted s voice))
-    heard run false = tt
+  notes : (s : MasterState) (voice : Voice) (epoch : ℕ) → Marked (note_row s voice epoch)
+  unfolding note_row
+  notes s voice epoch = by s.phase
+    where
+      saves : (t : MasterState) (run : Run) (b : Bool) → Marked (noted_by t run b)
+      saves t run true = enters t (Saving run)
+      saves t run false = ends t run (Micro run.epoch)
 
-    by : (phase : Phase) → MarksPlainly (note_by s voice epoch phase)
-    by (Closing run) = heard run (run.epoch == epoch && counts s voice)
-    by _ = tt
+      all : (t : MasterState) (run : Run) (b : Bool) → Marked (noted_if t run b)
+      all t run true = saves t run (is_first run.next)
+      all t run false = tt
 
-saves : (s : MasterState) (voice : Voice) (epoch : ℕ) → MarksPlainly (save_row s voice epoch)
-unfolding save_row
-saves s voice epoch = by s.phase
-  where
-    all : (t : MasterState) (run : Run) (b : Bool) → MarksPlainly (saved_if t run b)
-    all t run true = enters t (Copying run)
-    all t run false = tt
+      heard : (run : Run) (b : Bool) → Marked (note_if s voice run b)
+      heard run true = all (counted s voice) run (all_in 2 (counted s voice))
+      heard run false = tt
 
-    heard : (run : Run) (b : Bool) → MarksPlainly (save_if s voice run b)
-    heard run true = all (counted s voice) run (all_in 1 (counted s voice))
-    heard run false = tt
+      by : (phase : Phase) → Marked (note_by s voice epoch phase)
+      by (Closing run) = heard run (run.epoch == epoch && counts s voice)
+      by _ = tt
 
-    by : (phase : Phase) → MarksPlainly (save_by s voice epoch phase)
-    by (Saving run) = heard run (run.epoch == epoch && counts s voice)
-    by _ = tt
+  saves : (s : MasterState) (voice : Voice) (epoch : ℕ) → Marked (save_row s voice epoch)
+  unfolding save_row
+  saves s voice epoch = by s.phase
+    where
+      all : (t : MasterState) (run : Run) (b : Bool) → Marked (saved_if t run b)
+      all t run true = enters t (Copying run)
+      all t run false = tt
 
-copies : (s : MasterState) (voice : Voice) (epoch : ℕ) → MarksPlainly (copy_row s voice epoch)
-unfolding copy_row
-copies s voice epoch = by s.phase
-  where
-    all : (t : MasterState) (run : Run) (b : Bool) → MarksPlainly (copied_if t run b)
-    all t run true = (refl, ends t run (Global run.epoch run.copy))
-    all t run false = tt
+      heard : (run : Run) (b : Bool) → Marked (save_if s voice run b)
+      heard run true = all (counted s voice) run (all_in 1 (counted s voice))
+      heard run false = tt
 
-    heard : (run : Run) (b : Bool) → MarksPlainly (copy_if s voice run b)
-    heard run true = all (counted s voice) run (all_in 1 (counted s voice))
-    heard run false = tt
+      by : (phase : Phase) → Marked (save_by s voice epoch phase)
+      by (Saving run) = heard run (run.epoch == epoch && counts s voice)
+      by _ = tt
 
-    by : (phase : Phase) → MarksPlainly (copy_by s voice epoch phase)
-    by (Copying run) = heard run (run.epoch == epoch && counts s voice)
-    by _ = tt
+  copies : (s : MasterState) (voice : Voice) (epoch : ℕ) → Marked (copy_row s voice epoch)
+  unfolding copy_row
+  copies s voice epoch = by s.phase
+    where
+      all : (t : MasterState) (run : Run) (b : Bool) → Marked (copied_if t run b)
+      all t run true = (own.lasts _, ends t run (Global run.epoch run.copy))
+      all t run false = tt
 
-epochs_plain : (s : MasterState) (voice : Voice) (signal : EpochSignal) → MarksPlainly (epoch_table s voice signal)
-epochs_plain s voice GcpReq = asked_plain s (global_asked s.asked voice.member.node)
-epochs_plain s voice MicroReq = asked_plain s (micro_asked s.asked)
-epochs_plain s voice GcpOrd = ordered s
-epochs_plain s voice (GcpStateConf current prepared next closed saved durable) =
-    tells s voice (told current prepared next closed saved durable)
-epochs_plain s voice (GcpPrepareConf epoch) = prepares s voice epoch
-epochs_plain s voice (GcpNodeFinish epoch) = finishes s voice epoch
-epochs_plain s voice (GcpClosedConf epoch) = notes s voice epoch
-epochs_plain s voice (GcpSaveConf epoch) = saves s voice epoch
-epochs_plain s voice (CopyGciConf epoch) = copies s voice epoch
-epochs_plain s voice _ = tt
+      heard : (run : Run) (b : Bool) → Marked (copy_if s voice run b)
+      heard run true = all (counted s voice) run (all_in 1 (counted s voice))
+      heard run false = tt
 
-table_plain : (s : MasterState) (voice : Voice) (number : ℕ) (body : Body)
-    → MarksPlainly (master_table s voice number body)
-table_plain s voice number (Host (Continue Members at)) = goes_on s number at
-table_plain s voice number (Takeover TakeoverEnd) = takes_over s
-table_plain s voice number (Epoch signal) = epochs_plain s voice signal
-table_plain s voice number _ = tt
+      by : (phase : Phase) → Marked (copy_by s voice epoch phase)
+      by (Copying run) = heard run (run.epoch == epoch && counts s voice)
+      by _ = tt
+
+  epochs_plain : (s : MasterState) (voice : Voice) (signal : EpochSignal) → Marked (epoch_table s voice signal)
+  epochs_plain s voice GcpReq = asked_plain s (global_asked s.asked voice.member.node)
+  epochs_plain s voice MicroReq = asked_plain s (micro_asked s.asked)
+  epochs_plain s voice GcpOrd = ordered s
+  epochs_plain s voice (GcpStateConf current prepared next closed saved durable) =
+      tells s voice (told current prepared next closed saved durable)
+  epochs_plain s voice (GcpPrepareConf epoch) = prepares s voice epoch
+  epochs_plain s voice (GcpNodeFinish epoch) = finishes s voice epoch
+  epochs_plain s voice (GcpClosedConf epoch) = notes s voice epoch
+  epochs_plain s voice (GcpSaveConf epoch) = saves s voice epoch
+  epochs_plain s voice (CopyGciConf epoch) = copies s voice epoch
+  epochs_plain s voice _ = tt
+
+  table_plain : (s : MasterState) (voice : Voice) (number : ℕ) (body : Body)
+      → Marked (master_table s voice number body)
+  table_plain s voice number (Host (Continue Members at)) = goes_on s number at
+  table_plain s voice number (Takeover TakeoverEnd) = takes_over s
+  table_plain s voice number (Epoch signal) = epochs_plain s voice signal
+  table_plain s voice number _ = tt
+
+  pub master_marks_each : (s : MasterState) (x : Signal) → Marked (master_row s x)
+  master_marks_each s x = table_plain s (record { member = x.member; from = x.from }) x.view.number x.body
 
 pub master_is_plain : (s : MasterState) (x : Signal) → MarksPlainly (master_row s x)
-master_is_plain s x = table_plain s (record { member = x.member; from = x.from }) x.view.number x.body
+master_is_plain =
+    master_marks_each IsPlainMark (record { stops = λ cause. refl; closes = λ epoch. refl; lasts = λ epoch. refl })

@@ -145,7 +145,7 @@ module _ (start : Start) (key : List ℕ) where
     pub in_turns : (m : Member) → IsIn m (chain_of (layout_in start view) key) → IsIn m (replicas view)
     in_turns m there = in_some 8 (replicas view) m (subst (IsIn m) chain_turns there)
 
-    chain_full : (m : Member) → IsIn m (chain_of (layout_in start view) key) → IsIn m view.full
+    pub chain_full : (m : Member) → IsIn m (chain_of (layout_in start view) key) → IsIn m view.full
     chain_full m there =
         full_in view.full m
         (turn_full start.shape (frag_of start.shape key) view start.shape.replicas m (in_turns m there))
