@@ -1,4 +1,5 @@
 pub mod AbortedFinals
+pub mod AbortsEffectless
 pub mod AnsweredCoordinator
 pub mod AnsweredCounts
 pub mod AnsweredKeys
@@ -13,11 +14,16 @@ pub mod BegunNone
 pub mod Calm
 pub mod ClientViews
 pub mod CommitPlaces
+pub mod CommitsEffective
 pub mod CommitsFirst
 pub mod CommitsKept
 pub mod CommitsNow
 pub mod CommitsRemain
 pub mod CommitsStep
+pub mod CompleteEpochs
+pub mod CompleteOthers
+pub mod CompleteRows
+pub mod CompleteWords
 pub mod CurrentFenced
 pub mod CutsLegal
 pub mod DecidedStay
@@ -69,6 +75,7 @@ pub mod GatheringAlone
 pub mod GatheringWhole
 pub mod HaleOthers
 pub mod HeadersLow
+pub mod HostGoes
 pub mod ImagesLeft
 pub mod KeptNow
 pub mod KeptRows
@@ -165,6 +172,10 @@ pub mod RecordsOnce
 pub mod ReplicasNow
 pub mod ReportGoes
 pub mod ReportPlaces
+pub mod ReportedClient
+pub mod ReportedRulings
+pub mod ReportedSent
+pub mod ReportsShell
 pub mod RowTokens
 pub mod RowsAttended
 pub mod RowsEnd
