@@ -54,16 +54,16 @@ module _ (behind : EndsComeBehind) (ended : AllHaveEnded) (gathered_all : Tellin
     (all : ℕ → List HostStep) (e : HostStep) (es : List HostStep) (moment : IsMoment start all (e ∷ es)) (member : Member)
     (closing : EndsGathering start e es member)
   where
-    abbrev old : ℕ → List HostStep
+    abbrev pub old : ℕ → List HostStep
     old = logs_of start es
 
-    abbrev new : ℕ → List HostStep
+    abbrev pub new : ℕ → List HostStep
     new = logs_of start (e ∷ es)
 
-    abbrev n : Machine HostStep Addressed
+    abbrev pub n : Machine HostStep Addressed
     n = sound_machine start
 
-    abbrev t : ℕ
+    abbrev pub t : ℕ
     t = tc_of start member
 
     abbrev gathered : List Gathered
@@ -73,13 +73,13 @@ module _ (behind : EndsComeBehind) (ended : AllHaveEnded) (gathered_all : Tellin
     all_gathered = gathered_all start all e es moment member closing
 
     module _ (one : Member) (full : IsIn one (current start (logs_of start es)).full) where
-      abbrev l : ℕ
+      abbrev pub l : ℕ
       l = ldm_of start one
 
-      has_ended : HasEnded start e es member one
+      pub has_ended : HasEnded start e es member one
       has_ended = ended start all e es moment member closing one full
 
-      abbrev y : Addressed
+      abbrev pub y : Addressed
       y = has_ended.signal
 
       -- its link gave what was sent

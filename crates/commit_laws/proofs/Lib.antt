@@ -73,6 +73,7 @@ pub mod ForthTc
 pub mod ForthTurns
 pub mod GatheringAlone
 pub mod GatheringWhole
+pub mod GatheringsListed
 pub mod HaleOthers
 pub mod HeadersLow
 pub mod HostGoes
@@ -175,6 +176,7 @@ pub mod ReportPlaces
 pub mod ReportedClient
 pub mod ReportedRulings
 pub mod ReportedSent
+pub mod ReportedTakeovers
 pub mod ReportsShell
 pub mod RowTokens
 pub mod RowsAttended

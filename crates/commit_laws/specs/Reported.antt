@@ -1,7 +1,8 @@
 -- What the client's side is told of transactions before it is told that a takeover is complete.
-use Rattle.std.specs.Prelude.{◌≡◌, ◌++◌, ◌⊎◌, ℕ, true, List, ◌∷◌, Option, None, Some}
+use Rattle.std.specs.Prelude.{◌≡◌, ◌++◌, ◌⊎◌, ℕ, true, List, [], ◌∷◌, Option, None, Some}
 use Rattle.run_theory.specs.Links.{sent}
 use Rattle.run_theory.specs.Lists.{IsIn}
+use Rattle.sig_core.specs.declared.member.Member.{Member}
 use Rattle.sig_core.specs.declared.member.TxId.{TxId}
 use Rattle.sig_core.specs.declared.signal.Body.TheVariants.{Client}
 use Rattle.sig_core.specs.declared.signal.client.ClientSignal.TheVariants.{NfCompleteRep, TcKeyFailConf}
@@ -11,8 +12,10 @@ use Rattle.takeover_block.specs.declared.stage.Stage.TheVariants as stage
 use Rattle.world_core.specs.Start.{Start}
 use Rattle.world_core.specs.Steps.{Addressed, HostStep}
 use Rattle.view_laws.specs.Order.{sound_machine}
+use Rattle.moment_laws.specs.Moments.{IsMoment, current, logs_of}
 use Rattle.commit_laws.specs.Fates.{aborts, fate}
-use Rattle.commit_laws.specs.Takeovers.{IsOrphan}
+use Rattle.commit_laws.specs.Gathering.{EndsGathering}
+use Rattle.commit_laws.specs.Takeovers.{IsOrphan, takeover_at}
 use Rattle.commit_laws.specs.Traces.{is_known}
 
 -- these signals tell of the commit of the transaction
@@ -60,3 +63,11 @@ module _ (O S : TxId → Type 0) where
   abbrev pub IsFirstSaid : Stage → Option Gathered → Type 0
   IsFirstSaid (stage.Completing epoch awaited) (Some g) = S g.tx
   IsFirstSaid other first = Unit {0}
+
+-- when the last member ends, of whoever has no coordinator it is said, or it is to be ruled on
+abbrev pub GatheringsList : Type 0
+GatheringsList =
+    (start : Start) (all : ℕ → List HostStep) (e : HostStep) (es : List HostStep) → IsMoment start all (e ∷ es)
+    → (member : Member) → EndsGathering start e es member
+    → AreAttended (IsOrphan (current start (logs_of start es))) (λ tx. IsSaid start (logs_of start es) tx [])
+    (takeover_at start (logs_of start es) member).gathered
