@@ -77,6 +77,7 @@ pub mod GatheringsListed
 pub mod HaleOthers
 pub mod HeadersLow
 pub mod HostGoes
+pub mod HostMarks
 pub mod ImagesLeft
 pub mod KeptNow
 pub mod KeptRows

@@ -138,6 +138,7 @@ module _ (by : Sender) where
     signal : Addressed
     there : IsIn signal ys
     to : signal.to ≡ r.to
+    place : signal.signal.to ≡ r.sent.to
     body : signal.signal.body ≡ r.sent.body
     view_is : signal.signal.view ≡ by.view
     member : signal.signal.member ≡ by.member
@@ -149,6 +150,7 @@ module _ (by : Sender) where
     signal = addressed by (count q.to) q;
     there = inl refl;
     to = ap (λ (z : Routed). z.to) (sym is);
+    place = ap (λ (z : Routed). z.sent.to) (sym is);
     body = ap (λ (z : Routed). z.sent.body) (sym is);
     view_is = refl;
     member = refl;
@@ -159,6 +161,7 @@ module _ (by : Sender) where
         signal = rest.signal;
         there = inr rest.there;
         to = rest.to;
+        place = rest.place;
         body = rest.body;
         view_is = rest.view_is;
         member = rest.member;
@@ -268,6 +271,7 @@ module _ (start : Start) (h : ℕ) (log : List HostStep) (e : HostStep) where
   pub record IsOnLink (body : Body) : Type 0 where
     pub signal : Addressed
     pub there : IsIn signal (sent (sound_machine start) h 0 (e ∷ log))
+    pub place : signal.signal.to ≡ client
     pub body_is : signal.signal.body ≡ body
 
   pub goes_on_link : stops_by e.step.marks ≡ false → CanTell start h (e ∷ log) → (body : Body)
@@ -282,6 +286,7 @@ module _ (start : Start) (h : ℕ) (log : List HostStep) (e : HostStep) where
             (subst (IsIn way.signal) (sym (sent_goes goes))
             (in_filter (is_sound start) way.signal (signals_of start h log e) way.there way_sound))
             (ap (λ (k : ℕ). k == 0) way.to);
+        place = way.place;
         body_is = way.body;
       }
     where

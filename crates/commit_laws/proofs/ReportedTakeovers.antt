@@ -147,7 +147,13 @@ longer : (start : Start) (logs : ℕ → List HostStep) (tx : TxId) (ys zs : Lis
 longer start logs tx ys zs past (aborted is) = aborted is
 longer start logs tx ys zs past (known is) = known is
 longer start logs tx ys zs past (told one) =
-    told (record { epoch = one.epoch; signal = one.signal; there = in_past one.signal past one.there; body = one.body })
+    told (record {
+      epoch = one.epoch;
+      signal = one.signal;
+      there = in_past one.signal past one.there;
+      place = one.place;
+      body = one.body;
+    })
 
 module _ (list : GatheringsList) (start : Start) (all : ℕ → List HostStep) (e : HostStep) (es : List HostStep)
     (follows : Follows start all e es) (moves : (tx : TxId) → FatesMove start e es tx)
@@ -456,6 +462,7 @@ module _ (list : GatheringsList) (start : Start) (all : ℕ → List HostStep) (
                           epoch = told_now.epoch;
                           signal = link.signal;
                           there = link.there;
+                          place = link.place;
                           body = link.body_is;
                         })
                     by false off = aborted (unsound_aborts start all (e ∷ es) moment tx off)

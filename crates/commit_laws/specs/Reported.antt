@@ -6,6 +6,7 @@ use Rattle.sig_core.specs.declared.member.Member.{Member}
 use Rattle.sig_core.specs.declared.member.TxId.{TxId}
 use Rattle.sig_core.specs.declared.signal.Body.TheVariants.{Client}
 use Rattle.sig_core.specs.declared.signal.client.ClientSignal.TheVariants.{NfCompleteRep, TcKeyFailConf}
+use Rattle.sig_core.specs.Place.{client}
 use Rattle.takeover_block.specs.declared.gathered.Gathered.{Gathered}
 use Rattle.takeover_block.specs.declared.stage.Stage.{Stage}
 use Rattle.takeover_block.specs.declared.stage.Stage.TheVariants as stage
@@ -23,6 +24,7 @@ pub record TellsCommit (tx : TxId) (ys : List Addressed) : Type 0 where
   pub epoch : ℕ
   pub signal : Addressed
   pub there : IsIn signal ys
+  pub place : signal.signal.to ≡ client
   pub body : signal.signal.body ≡ Client (TcKeyFailConf tx epoch)
 
 module _ (start : Start) (logs : ℕ → List HostStep) where
