@@ -12,6 +12,7 @@ pub mod AppliedCommits
 pub mod AppliedMarks
 pub mod BegunNone
 pub mod Calm
+pub mod ClientReports
 pub mod ClientViews
 pub mod CommitPlaces
 pub mod CommitsEffective
@@ -190,6 +191,7 @@ pub mod SentCounted
 pub mod SettledDecisions
 pub mod SettledKept
 pub mod Settles
+pub mod ShellGoes
 pub mod ShellSees
 pub mod SoundMoments
 pub mod SpokenAside
