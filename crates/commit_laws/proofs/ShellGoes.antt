@@ -143,3 +143,30 @@ module _ (start : Start) (log : List HostStep) (e : HostStep) where
   shell_view q is =
       let next = seeing start (e ∷ log) in
       sym (ap (view_of stood) is) ∙ (sym (view_given stood step.state.parts) ∙ (ap (view_of stood) next.runs ∙ next.sees))
+
+  -- what it has open, and which takeover is complete, is so behind the step
+  abbrev opened_of : List OpenTransaction → Parts → List OpenTransaction
+  opened_of other (Shell p) = p.client.api.opened
+  opened_of other parts = other
+
+  abbrev taken_of : Option View → Parts → Option View
+  taken_of other (Shell p) = p.client.taken_over
+  taken_of other parts = other
+
+  opened_given : (other : List OpenTransaction) (parts : Parts) → opened_of other (giving parts []) ≡ opened_of other parts
+  opened_given other (Shell p) = refl
+  opened_given other _ = refl
+
+  taken_given : (other : Option View) (parts : Parts) → taken_of other (giving parts []) ≡ taken_of other parts
+  taken_given other (Shell p) = refl
+  taken_given other _ = refl
+
+  pub shell_next : (q : ShellPart) → (step_after start 0 log e).state.parts ≡ Shell q
+      → IsSameBut q (seeing start (e ∷ log)).part
+  shell_next q is =
+      let next = seeing start (e ∷ log) in
+      record {
+        opened =
+            sym (ap (opened_of []) next.runs) ∙ (opened_given [] step.state.parts ∙ ap (opened_of []) is);
+        taken = sym (ap (taken_of None) next.runs) ∙ (taken_given None step.state.parts ∙ ap (taken_of None) is);
+      }
