@@ -180,6 +180,7 @@ pub mod ReportedClient
 pub mod ReportedRulings
 pub mod ReportedSent
 pub mod ReportedTakeovers
+pub mod ReportedTold
 pub mod ReportsShell
 pub mod RowTokens
 pub mod RowsAttended
