@@ -175,6 +175,7 @@ pub mod RecordsOnce
 pub mod ReplicasNow
 pub mod ReportGoes
 pub mod ReportPlaces
+pub mod ReportedAborts
 pub mod ReportedBegun
 pub mod ReportedClient
 pub mod ReportedRulings

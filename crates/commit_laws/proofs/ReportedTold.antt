@@ -48,7 +48,7 @@ use Rattle.world_core.specs.Hosts.{hosts as host_count, member_at}
 use Rattle.world_core.specs.Start.{Start, made}
 use Rattle.world_core.specs.Steps.{Addressed, HostStep}
 use Rattle.world_views.specs.Machine.{after, cause_in, machine, signals_of, step_after, step_by, stops_by}
-use Rattle.world_views.specs.Sending.{is_asked}
+use Rattle.world_views.specs.Sending.{is_asked, is_own_work}
 use Rattle.view_laws.proofs.EraRises.{view_rises}
 use Rattle.view_laws.proofs.EraSound.{each_filter}
 use Rattle.view_laws.proofs.FollowSends.{IsSentBy, each_sent}
@@ -479,3 +479,147 @@ module _ (start : Start) (all : ℕ → List HostStep) (e : HostStep) (es : List
             by false off =
                 now_closed (or_off (is_sent (is_acknowledgement tx) step.effects.sends) (is_known start old tx) off
                 (sym (known_next tx) ∙ is))
+
+      -- where it is told that a takeover is complete
+      module _ (q : ShellPart) (parts : step.state.parts ≡ Shell (shell_row q block.Api x).state)
+          (sound : is_well_formed start.shape x ≡ true) (body : x.body ≡ Client NfCompleteRep)
+          (vouched : is_vouched (noted q.client x.view) x ≡ true) (tx : TxId)
+          (out : is_member x.view (coordinator_member tx) ≡ false)
+        where
+        abbrev i : ℕ
+        i = x.from.0
+
+        unasked : n.asked e ≡ false
+        unasked =
+            neither ((x.from.0 == e.host) && is_own_work x.body) (is_well_formed start.shape x)
+            (never (x.from.0 == e.host) (is_own_work x.body) (ap is_own_work body)) sound
+          where
+            never : (a b : Bool) → b ≡ false → (a && b) ≡ false
+            never true b off = off
+            never false b off = refl
+
+            neither : (a b : Bool) → a ≡ false → b ≡ true → (a || not b) ≡ false
+            neither true b off is = absurd (true≢false off)
+            neither false true off is = refl
+            neither false false off is = absurd (true≢false (sym is))
+
+        given : IsGiven n i 0 (old i) (n.signal e ∷ taken n i log)
+        given = subst (λ k. IsGiven n i k (old i) (n.signal e ∷ taken n i (old k))) at (happens.takes unasked)
+
+        closing_none : (l : List HostStep) → IsClosing n i 0 l (n.signal e ∷ taken n i log) → ⊥
+        closing_none [] closes = closes
+        closing_none (f ∷ l) closes =
+            let same : n.closing i l f 0 ≡ n.signal e = cc (closes.is) in
+            let differ : Client NfCompleteRep ≡ Host (Closed (cause_in f.step.marks)) =
+            sym body ∙ sym (ap (λ (y : Addressed). y.signal.body) same) in
+            absurd cc
+
+        seen_is : (noted q.client x.view).api.view ≡ view
+        unfolding shell_row
+        seen_is = sym (client_notes q.client x) ∙ shell_view start log e (shell_row q block.Api x).state parts
+
+        complete : (fate start new tx ≡ aborts) ⊎ (is_known start new tx ≡ true)
+        complete = by given
+          where
+            of_past : IsPast (n.signal e ∷ taken n i log) (sent n i 0 (old i))
+                → (fate start new tx ≡ aborts) ⊎ (is_known start new tx ≡ true)
+            of_past past = which (last i (n.signal e) past.newer (taken n i log) past.is body tx (not_led x.view tx out))
+              where
+                members : Each (λ (y : Addressed). y.signal.member ≡ member_at (made start) i) (n.signal e ∷ taken n i log)
+                members = each_past _ past (sent_members start i 0 (old i))
+
+                not_both : (z : Addressed) → IsIn z (taken n i log) → is_member stood z.signal.member ≡ false → ⊥
+                not_both z there off =
+                    let own_member : z.signal.member ≡ x.member =
+                    each_in (λ (y : Addressed). y.signal.member ≡ member_at (made start) i) z (taken n i log) members.1 there
+                    ∙ sym members.0 in
+                    true≢false (sym (subst (λ v. is_member v x.member ≡ true) seen_is vouched)
+                    ∙ subst (λ m. is_member view m ≡ false) own_member (still_out z.signal.member off))
+
+                which : IsSaid start old tx (taken n i log)
+                    → (fate start new tx ≡ aborts) ⊎ (is_known start new tx ≡ true)
+                which (aborted is) = ended_more tx (inl is)
+                which (known is) = ended_more tx (inr is)
+                which (told one) = heard_it (before.heard i one.signal one.there one.place tx one.epoch one.body)
+                  where
+                    heard_it : (is_known start old tx ≡ true) ⊎ (is_member stood one.signal.signal.member ≡ false)
+                        → (fate start new tx ≡ aborts) ⊎ (is_known start new tx ≡ true)
+                    heard_it (inl is) = ended_more tx (inr is)
+                    heard_it (inr off) = absurd (not_both one.signal one.there off)
+
+            by : IsGiven n i 0 (old i) (n.signal e ∷ taken n i log)
+                → (fate start new tx ≡ aborts) ⊎ (is_known start new tx ≡ true)
+            by (inl past) = of_past past
+            by (inr closes) = absurd (closing_none (old i) closes)
+
+      over_next : (v : View) → (seeing start (e ∷ log)).part.client.taken_over ≡ Some v → (tx : TxId)
+          → is_member v (coordinator_member tx) ≡ false
+          → (fate start new tx ≡ aborts) ⊎ (is_known start new tx ≡ true)
+      unfolding shell_row
+      over_next v taken_is tx out = by goes
+        where
+          was : own.client.taken_over ≡ Some v → (fate start new tx ≡ aborts) ⊎ (is_known start new tx ≡ true)
+          was is = ended_more tx (before.over v is tx out)
+
+          next_is : (q : ShellPart) → step.state.parts ≡ Shell q → q.client.taken_over ≡ Some v
+          next_is q parts = sym (shell_next start log e q parts).taken ∙ taken_is
+
+          client_next : (q : ShellPart) → IsSameBut own q → is_well_formed start.shape x ≡ true
+              → step.state.parts ≡ Shell (shell_row q block.Api x).state
+              → TakenNext (noted q.client x.view) x (client_row q.client x).state.taken_over
+              → (fate start new tx ≡ aborts) ⊎ (is_known start new tx ≡ true)
+          client_next q same well parts (stays is) =
+              was (sym same.taken ∙ (sym (noted_taken q.client x.view)
+              ∙ (sym is ∙ next_is (shell_row q block.Api x).state parts)))
+          client_next q same well parts (completes body vouched is) =
+              greater (noted q.client x.view).taken_over refl
+              (sym is ∙ next_is (shell_row q block.Api x).state parts)
+            where
+              now : x.view ≡ v → (fate start new tx ≡ aborts) ⊎ (is_known start new tx ≡ true)
+              now own_view =
+                  complete q parts well body vouched tx
+                  (subst (λ w. is_member w (coordinator_member tx) ≡ false) (sym own_view) out)
+
+              greater : (o : Option View) → (noted q.client x.view).taken_over ≡ o → Some (greater_of x.view o) ≡ Some v
+                  → (fate start new tx ≡ aborts) ⊎ (is_known start new tx ≡ true)
+              greater None is same_view = let own_view : x.view ≡ v = cc same_view in now own_view
+              greater (Some w) is same_view = either (nat_lt w.number x.view.number) same_view
+                where
+                  either : (b : Bool) → Some (if b then x.view else w) ≡ Some v
+                      → (fate start new tx ≡ aborts) ⊎ (is_known start new tx ≡ true)
+                  either true same_view = let own_view : x.view ≡ v = cc same_view in now own_view
+                  either false same_view =
+                      let own_view : w ≡ v = cc same_view in
+                      was (sym same.taken ∙ (sym (noted_taken q.client x.view) ∙ (is ∙ ap (λ u. Some u) own_view)))
+
+          row : (q : ShellPart) → IsSameBut own q → is_well_formed start.shape x ≡ true → (b : BlockId)
+              → step.state.parts ≡ Shell (shell_row q b x).state
+              → (fate start new tx ≡ aborts) ⊎ (is_known start new tx ≡ true)
+          row q same well block.Api parts = client_next q same well parts (client_is_good x q.client).1
+          row q same well block.Arbiter parts =
+              was (sym same.taken ∙ next_is (shell_row q block.Arbiter x).state parts)
+          row q same well _ parts = was (sym same.taken ∙ next_is q parts)
+
+          by : ShellGoes start own x step → (fate start new tx ≡ aborts) ⊎ (is_known start new tx ≡ true)
+          by (ends is) = absurd (true≢false (sym (ap stops_by marks ∙ is) ∙ runs))
+          by (rests off q same parts none) = was (sym same.taken ∙ next_is q parts)
+          by (acts well q same parts sends) = row q same well x.to.block parts
+
+      stands_here : ClientStands start new
+      stands_here = record {
+        heard = λ j z there place tx epoch body.
+            subst (λ l. (is_known start new tx ≡ true) ⊎ (is_member (view_after start 0 l) z.signal.member ≡ false))
+            (sym new_is) (heard_next j z (subst (λ l. IsIn z (taken n j l)) new_is there) place tx epoch body);
+        closed = λ tx is.
+            subst (λ l. in_client (count_open tx) (after start 0 l).parts ≡ 0) (sym new_is) (closed_next tx is);
+        over = λ v taken_is tx out.
+            over_next v (subst (λ l. (seeing start l).part.client.taken_over ≡ Some v) new_is taken_is) tx out;
+      }
+
+    -- so it is behind each event
+    pub client_next : IsRunning (sound_machine start) (logs_of start (e ∷ es) 0) → ClientStands start (logs_of start (e ∷ es))
+    client_next runs = by (cases_eq e.host 0)
+      where
+        by : (e.host ≡ 0) ⊎ (e.host ≢ 0) → ClientStands start new
+        by (inl at) = stands_here at (subst (IsRunning n) (log_of-own (machine start) e es 0 at) runs)
+        by (inr other) = stands_beside other
