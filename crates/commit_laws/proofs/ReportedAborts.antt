@@ -88,7 +88,7 @@ said_first start = record {
       (sym (ap (λ (s : hosts_of.Host). takeover_in (resting member.node (first_layout start.shape)) s.parts)
       (tc_started start member there)))
       (record { attended = tt; first = tt });
-  last = λ i y newer older is body tx orphan. none newer is;
+  last = λ i y newer older is body tx orphan. absurd (none y newer older is);
   client = λ runs.
       record {
         heard = λ i z there place tx epoch body. absurd there;
@@ -103,9 +103,9 @@ said_first start = record {
     taken_of (Shell p) = p.client.taken_over
     taken_of parts = None
 
-    none : {A : Type 0} {y : Addressed} {older : List Addressed} (newer : List Addressed) → [] ≡ newer ++ y ∷ older → A
-    none [] is = absurd cc
-    none (z ∷ newer) is = absurd cc
+    none : (y : Addressed) (newer older : List Addressed) → [] ≡ newer ++ y ∷ older → ⊥
+    none y [] older is = absurd cc
+    none y (z ∷ newer) older is = absurd cc
 
 module _ (stand : AllStandAlways) (list : GatheringsList) (start : Start) (all : ℕ → List HostStep) where
   follows : (e : HostStep) (es : List HostStep) → IsMoment start all (e ∷ es) → Follows start all e es
