@@ -54,16 +54,16 @@ module _ (behind : EndsComeBehind) (ended : AllHaveEnded) (gathered_all : Tellin
     (all : ℕ → List HostStep) (e : HostStep) (es : List HostStep) (moment : IsMoment start all (e ∷ es)) (member : Member)
     (closing : EndsGathering start e es member)
   where
-    abbrev old : ℕ → List HostStep
+    abbrev pub old : ℕ → List HostStep
     old = logs_of start es
 
-    abbrev new : ℕ → List HostStep
+    abbrev pub new : ℕ → List HostStep
     new = logs_of start (e ∷ es)
 
-    abbrev n : Machine HostStep Addressed
+    abbrev pub n : Machine HostStep Addressed
     n = sound_machine start
 
-    abbrev t : ℕ
+    abbrev pub t : ℕ
     t = tc_of start member
 
     abbrev gathered : List Gathered
@@ -73,13 +73,13 @@ module _ (behind : EndsComeBehind) (ended : AllHaveEnded) (gathered_all : Tellin
     all_gathered = gathered_all start all e es moment member closing
 
     module _ (one : Member) (full : IsIn one (current start (logs_of start es)).full) where
-      abbrev l : ℕ
+      abbrev pub l : ℕ
       l = ldm_of start one
 
-      has_ended : HasEnded start e es member one
+      pub has_ended : HasEnded start e es member one
       has_ended = ended start all e es moment member closing one full
 
-      abbrev y : Addressed
+      abbrev pub y : Addressed
       y = has_ended.signal
 
       -- its link gave what was sent
@@ -87,11 +87,11 @@ module _ (behind : EndsComeBehind) (ended : AllHaveEnded) (gathered_all : Tellin
       given = given_taken n es e l t moment.run.1 ((logs_of_run n es moment.run.0).linked l t)
 
       -- what stood in front of its end was sent in front of that, and was taken before
-      record Fronted : Type 0 where
-        older : List Addressed
-        newer : List Addressed
-        is : sent n l t (old l) ≡ newer ++ y ∷ older
-        before : (z : Addressed) → IsIn z older → IsIn z (taken n l (old t))
+      pub record Fronted : Type 0 where
+        pub older : List Addressed
+        pub newer : List Addressed
+        pub is : sent n l t (old l) ≡ newer ++ y ∷ older
+        pub before : (z : Addressed) → IsIn z older → IsIn z (taken n l (old t))
 
       -- all that was taken behind the event, but for the newest, was taken before
       older_taken : (newer older : List Addressed) → taken n l (new t) ≡ newer ++ y ∷ older → (z : Addressed)
@@ -141,7 +141,7 @@ module _ (behind : EndsComeBehind) (ended : AllHaveEnded) (gathered_all : Tellin
               of_past closes.rest (n.closing l log f t ∷ []) (sym same ∙ closes.is)
               (subst (λ w. IsPast closes.rest (sent n l t w)) (sym own) closes.past) there
 
-      fronted : Fronted
+      pub fronted : Fronted
       fronted = by given
         where
           by : IsGiven n l t (old l) (taken n l (new t)) → Fronted
@@ -157,7 +157,7 @@ module _ (behind : EndsComeBehind) (ended : AllHaveEnded) (gathered_all : Tellin
             (λ g has same. ((has same).0, λ marked. (has same).1 (among.committed marked)))
             (all_gathered.noted l among.signal (fronted.before among.signal among.there) tx key among.telling)
 
-        tells : (is_some (record_at start old one key tx) ≡ true → IsAmong start old tx key ⊥ fronted.older)
+        pub tells : (is_some (record_at start old one key tx) ≡ true → IsAmong start old tx key ⊥ fronted.older)
             × (has_marker_at start old one key tx ≡ true → IsAmong start old tx key Unit fronted.older)
         tells =
             behind start all e es moment member closing one full y fronted.newer fronted.older fronted.is has_ended.ends tx

@@ -193,13 +193,13 @@ any_mark v key (mark ∷ marks) (inl same) =
 any_mark v key (mark ∷ marks) (inr there) =
     or_right (is_applied v mark) (list_any (is_applied v) marks) (any_mark v key marks there)
 
-has_applied : (v : TxId) (key : List ℕ) (log : List HostStep) → IsMarked (Applied v key) log
+pub has_applied : (v : TxId) (key : List ℕ) (log : List HostStep) → IsMarked (Applied v key) log
     → has_mark (is_applied v) log ≡ true
 has_applied v key [] is = absurd is
 has_applied v key (e ∷ log) (inl now) = or_left _ _ (any_mark v key e.step.marks now)
 has_applied v key (e ∷ log) (inr older) = or_right _ _ (has_applied v key log older)
 
-have_it : (test : Mark → Bool) (n h : ℕ) (logs : ℕ → List HostStep) → h < n → has_mark test (logs h) ≡ true
+pub have_it : (test : Mark → Bool) (n h : ℕ) (logs : ℕ → List HostStep) → h < n → has_mark test (logs h) ≡ true
     → have_mark test n logs ≡ true
 have_it test zero h logs below has = absurd (omega (arith, below))
 have_it test (suc n) h logs below has = by (cases_eq h n) (have_it test n h logs)

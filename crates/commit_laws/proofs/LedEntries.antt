@@ -44,7 +44,7 @@ any_counts {A} p (x ∷ xs) any = by (p x) refl any (any_counts p xs)
     by true is any rest = omega (arith, count_more p x xs, ap one_if is)
     by false is any rest = let some = rest any in omega (arith, count_more p x xs, some)
 
-mark_counts : (p : Mark → Bool) (log : List HostStep) → has_mark p log ≡ true → 1 ≤ marks_in p log
+pub mark_counts : (p : Mark → Bool) (log : List HostStep) → has_mark p log ≡ true → 1 ≤ marks_in p log
 mark_counts p [] has = absurd (true≢false (sym has))
 mark_counts p (e ∷ log) has = by (list_any p e.step.marks) refl has (mark_counts p log)
   where
@@ -180,7 +180,7 @@ decisions_count start all (e ∷ es) moment tx =
         let own = ap (marks_in (is_decision tx)) (log_of-other (machine start) e es h off) in
         omega (arith, more, rest, own, step_elsewhere start all e es moment tx off)
 
-decisions_once : (start : Start) (all : ℕ → List HostStep) (es : List HostStep) → IsMoment start all es
+pub decisions_once : (start : Start) (all : ℕ → List HostStep) (es : List HostStep) → IsMoment start all es
     → AreOnce (decisions start es)
 decisions_once start all es moment =
     once_each (decisions start es)
@@ -193,7 +193,7 @@ decisions_once start all es moment =
           decided_few start all moment.cluster tx h,
         ))
 
-one_entry : (xs : List Entry) (a b : Entry) → AreOnce xs → IsIn a xs → IsIn b xs → same_tx a.tx b.tx ≡ true → a ≡ b
+pub one_entry : (xs : List Entry) (a b : Entry) → AreOnce xs → IsIn a xs → IsIn b xs → same_tx a.tx b.tx ≡ true → a ≡ b
 one_entry [] a b once left right same = absurd left
 one_entry (x ∷ xs) a b once (inl one) (inl other) same = one ∙ sym other
 one_entry (x ∷ xs) a b once (inl one) (inr rest) same =

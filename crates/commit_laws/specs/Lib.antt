@@ -23,3 +23,4 @@ pub mod Gathering
 pub mod Telling
 pub mod Ruling
 pub mod Raised
+pub mod Reported
