@@ -1,11 +1,31 @@
 -- What right logs have of transactions.
-use Rattle.commit_laws.specs.Cuts.{HistoriesAreLegal, RestingRowsFollow}
+use Rattle.commit_laws.specs.Cuts.{AbortsTakeNone, CommitsTakeEffect, HistoriesAreLegal, RestingRowsFollow}
+use Rattle.commit_laws.specs.Reported.{GatheringsList}
+use Rattle.commit_laws.proofs.AbortsEffectless.{aborts_take_none}
 use Rattle.commit_laws.proofs.AllAlways.{all_stand}
+use Rattle.commit_laws.proofs.AppliedCommits.{applied_commit}
+use Rattle.commit_laws.proofs.CommitsEffective.{commits_take_effect}
+use Rattle.commit_laws.proofs.EndedAll.{all_have_ended}
+use Rattle.commit_laws.proofs.EndsBehind.{ends_come_behind}
+use Rattle.commit_laws.proofs.GatheringsListed.{gatherings_list}
 use Rattle.commit_laws.proofs.KeysLed.{legal_histories}
+use Rattle.commit_laws.proofs.OrdersFirst.{orders_come_first}
+use Rattle.commit_laws.proofs.ReportedAborts.{reported_abort}
 use Rattle.commit_laws.proofs.RestingRows as RestingRows
+use Rattle.commit_laws.proofs.TellingsWhole.{tellings_gathered}
 
 pub histories_legal : HistoriesAreLegal
 histories_legal = legal_histories all_stand
 
 pub resting_rows : RestingRowsFollow
 resting_rows = RestingRows.resting_rows all_stand
+
+pub commits_effective : CommitsTakeEffect
+commits_effective = commits_take_effect all_stand
+
+pub aborts_effectless : AbortsTakeNone
+aborts_effectless = aborts_take_none (reported_abort all_stand listed) (applied_commit all_stand)
+  where
+    listed : GatheringsList
+    listed =
+        gatherings_list ends_come_behind all_have_ended (tellings_gathered orders_come_first) orders_come_first

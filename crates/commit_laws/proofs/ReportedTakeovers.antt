@@ -305,6 +305,7 @@ module _ (list : GatheringsList) (start : Start) (all : ℕ → List HostStep) (
                     host_is = at;
                     block_is = taken.block;
                     body_is = ends;
+                    sound = taken.sound;
                     header = taken.fresh (takeover_fenced x LqhTransEnd ends);
                     same = still.current_is;
                     stands = stood_is;
