@@ -187,6 +187,7 @@ pub mod RaisedHale
 pub mod RaisedKeeps
 pub mod RecordMoves
 pub mod RecordPlaces
+pub mod RecordsAgreedImages
 pub mod RecordsOnce
 pub mod RecordsPlaced
 pub mod ReplicasNow
