@@ -37,7 +37,7 @@ use Rattle.commit_laws.proofs.UnaskedRows.{record_was}
 use Rattle.commit_laws.proofs.Unasked.{IsUnborn, begun_unborn, never_asked, unborn_before}
 
 -- rows begin without records
-first_none : (start : Start) (member : Member) (key : List ℕ) (tx : TxId)
+pub first_none : (start : Start) (member : Member) (key : List ℕ) (tx : TxId)
     → found tx (at_key key (first_rows start member).lqh).cell.pending ≡ None
 first_none start member key tx =
     ap (λ (xs : List PendingRecord). found tx (map without_epoch (filter (is_on key) xs)))

@@ -202,6 +202,10 @@ pub mod RaisedHale
 pub mod RaisedKeeps
 pub mod RecordMoves
 pub mod RecordPlaces
+pub mod RecordsAgreed
+pub mod RecordsAgreedCuts
+pub mod RecordsAgreedHome
+pub mod RecordsAgreedImages
 pub mod RecordsOnce
 pub mod RecordsPlaced
 pub mod ReplicasNow
