@@ -1,5 +1,5 @@
 -- What right logs have of transactions.
-use Rattle.commit_laws.specs.Cuts.{AbortsTakeNone, CommitsTakeEffect, HistoriesAreLegal, RestingRowsFollow}
+use Rattle.commit_laws.specs.Cuts.{AbortsTakeNone, CommitsTakeEffect, HistoriesAreLegal, RecordsAgree, RestingRowsFollow}
 use Rattle.commit_laws.specs.Reported.{GatheringsList}
 use Rattle.commit_laws.proofs.AbortsEffectless.{aborts_take_none}
 use Rattle.commit_laws.proofs.AllAlways.{all_stand}
@@ -10,6 +10,7 @@ use Rattle.commit_laws.proofs.EndsBehind.{ends_come_behind}
 use Rattle.commit_laws.proofs.GatheringsListed.{gatherings_list}
 use Rattle.commit_laws.proofs.KeysLed.{legal_histories}
 use Rattle.commit_laws.proofs.OrdersFirst.{orders_come_first}
+use Rattle.commit_laws.proofs.RecordsAgreedCuts.{records_agree}
 use Rattle.commit_laws.proofs.ReportedAborts.{reported_abort}
 use Rattle.commit_laws.proofs.RestingRows as RestingRows
 use Rattle.commit_laws.proofs.TellingsWhole.{tellings_gathered}
@@ -29,3 +30,6 @@ aborts_effectless = aborts_take_none (reported_abort all_stand listed) (applied_
     listed : GatheringsList
     listed =
         gatherings_list ends_come_behind all_have_ended (tellings_gathered orders_come_first) orders_come_first
+
+pub records_alike : RecordsAgree
+records_alike = records_agree
