@@ -1,5 +1,4 @@
 -- All of it stands at each moment.
-use Rattle.std.proofs.Common.{◌∷◌}
 use Rattle.commit_laws.specs.Together.{AllStandAlways, EventsKeepAnswered}
 use Rattle.commit_laws.proofs.AnsweredEvents.{CoordinatorAnswers, events_keep_answered}
 use Rattle.commit_laws.proofs.CoordinatorAnswered.{host_answered}

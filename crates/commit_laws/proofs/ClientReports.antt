@@ -1,21 +1,17 @@
 -- What the client's side does where it is told of a commit: it drops that, if the sender isn't in the view that it sees,
 -- and else acknowledges it, and reports it if the transaction is open.
-use Rattle.std.proofs.Common.{◌≡◌, ◌≤◌, ◌⊎◌, ◌∙◌, ◌||◌, ◌+◌, ◌++◌, ◌-◌, ℕ, Bool, true, false, length, List, [], ◌∷◌, inl, inr, map, take, refl, sym, ap, subst, arith}
-use Rattle.std.proofs.lemmas.Bool.{true≢false}
-use Rattle.std.specs.List.{count_by, list_any}
+use Rattle.std.proofs.Common.{◌≡◌, ◌≤◌, ◌⊎◌, ◌∙◌, ◌||◌, ◌++◌, ◌-◌, ℕ, Bool, true, false, length, List, [], ◌∷◌, inl, inr, take, refl, ap, arith}
+use Rattle.std.specs.List.{count_by}
 use Rattle.run_theory.specs.Counts.{one_if as tallied, tally}
 use Rattle.run_theory.specs.Lists.{IsIn}
-use Rattle.sig_core.specs.declared.mark.Mark.{Mark}
 use Rattle.sig_core.specs.declared.mark.Mark.TheVariants.{Reported}
 use Rattle.sig_core.specs.declared.member.Member.{Member}
 use Rattle.sig_core.specs.declared.member.TxId.{TxId}
 use Rattle.sig_core.specs.declared.outcome.Outcome.TheVariants.{Committed}
-use Rattle.sig_core.specs.declared.outs.Outgoing.{Outgoing}
 use Rattle.sig_core.specs.declared.signal.Body.{Body}
 use Rattle.sig_core.specs.declared.signal.Body.TheVariants.{Client}
 use Rattle.sig_core.specs.declared.signal.Signal.{Signal}
 use Rattle.sig_core.specs.declared.signal.client.ClientSignal.TheVariants.{TcCommitConf, TcKeyFailConf}
-use Rattle.sig_core.specs.declared.view.View.{View}
 use Rattle.sig_core.specs.Step.{Step, stay}
 use Rattle.sig_core.proofs.Keys.{same_tx-self}
 use Rattle.api_block.specs.Api.{api_table}

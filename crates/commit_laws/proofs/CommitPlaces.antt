@@ -16,7 +16,6 @@ use Rattle.sig_core.specs.declared.signal.chain.RowWork.{RowWork}
 use Rattle.sig_core.specs.declared.view.View.{View}
 use Rattle.sig_core.specs.Chain.{node_at, node_of}
 use Rattle.sig_core.specs.Place.{rows_of}
-use Rattle.sig_core.specs.Same.{same_key}
 use Rattle.sig_core.proofs.Keys.{same_key-self}
 use Rattle.lqh_views.specs.Replica.{installed}
 use Rattle.lqh_views.specs.State.{ReplicaState}

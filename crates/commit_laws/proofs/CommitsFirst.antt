@@ -1,5 +1,5 @@
 -- What stands of commits before the first event: there are none.
-use Rattle.std.proofs.Common.{◌≡◌, ◌∙◌, ℕ, true, false, filter, map, List, [], refl, sym, ap}
+use Rattle.std.proofs.Common.{◌≡◌, ◌∙◌, ℕ, false, filter, map, List, [], refl, sym, ap}
 use Rattle.std.proofs.lemmas.Bool.{true≢false}
 use Rattle.std.specs.Prelude.{None, Some}
 use Rattle.std.specs.List.{list_any}

@@ -1,5 +1,5 @@
 -- Where keys are led the history of right logs is legal, and a replica without records of a key has its row.
-use Rattle.std.proofs.Common.{◌≡◌, ℕ, Bool, List, [], filter, refl, sym, ap, ◌∙◌, subst}
+use Rattle.std.proofs.Common.{◌≡◌, ℕ, Bool, List, [], filter, sym, ap, ◌∙◌, subst}
 use Rattle.std.proofs.Math.Path.{fun_ext}
 use Rattle.std.specs.FinMap as map
 use Rattle.std.specs.List.{list_any}
@@ -25,7 +25,7 @@ use Rattle.key_laws.specs.OneKey.{IsRightAt, row_at_end}
 use Rattle.key_laws.specs.Records.{kept_row}
 use Rattle.commit_laws.specs.Cuts.{HistoriesAreLegal, RowsFollowHistories}
 use Rattle.commit_laws.specs.Traces.{IsReplicaOf, replica_at}
-use Rattle.commit_laws.specs.Values.{IsLedAt, KeysAreLed, decided_at, first_row, history_at, is_final}
+use Rattle.commit_laws.specs.Values.{IsLedAt, KeysAreLed, decided_at, history_at, is_final}
 
 module _ (led : KeysAreLed) (start : Start) (logs : ℕ → List HostStep) (are : AreOfCluster start logs) where
   abbrev events : List HostStep

@@ -1,17 +1,12 @@
 -- How an event moves what becomes of a transaction.
-use Rattle.std.proofs.Common.{◌≡◌, ◌≢◌, ◌⊎◌, ◌∙◌, ◌||◌, ◌&&◌, ◌<◌, ◌≤◌, ◌++◌, ℕ, Bool, true, false, not, List, [], ◌∷◌, refl, sym, ap, subst, inl, inr, arith}
+use Rattle.std.proofs.Common.{◌≡◌, ◌⊎◌, ◌∙◌, ◌||◌, ◌&&◌, ◌≤◌, ◌++◌, ℕ, Bool, true, false, not, List, ◌∷◌, refl, sym, ap, subst, inl, inr, arith}
 use Rattle.std.proofs.lemmas.Bool.{and_parts, eqb-true, true≢false}
 use Rattle.std.specs.List.{list_any}
 use Rattle.std.specs.Prelude.{nat_eq}
-use Rattle.run_theory.specs.Links.{sent}
-use Rattle.run_theory.specs.Lists.{Each, IsIn}
+use Rattle.run_theory.specs.Lists.{IsIn}
 use Rattle.run_theory.proofs.Pasts.{each_in}
-use Rattle.run_theory.proofs.Runs.{log_of-other, log_of-own}
 use Rattle.sig_core.specs.declared.member.Member.{Member}
 use Rattle.sig_core.specs.declared.member.TxId.{TxId}
-use Rattle.sig_core.specs.declared.signal.Body.{Body}
-use Rattle.sig_core.specs.declared.signal.Body.TheVariants.{Chain}
-use Rattle.sig_core.specs.declared.signal.chain.ChainSignal.TheVariants.{Commit}
 use Rattle.sig_core.specs.declared.rows.PendingRecord.{PendingRecord}
 use Rattle.sig_core.specs.Same.{same_tx}
 use Rattle.sig_core.proofs.TxLemmas.{same_tx-is}
@@ -22,11 +17,8 @@ use Rattle.node_views.specs.Fence.{is_fenced}
 use Rattle.lqh_views.specs.State.{ReplicaState}
 use Rattle.outcome_laws.specs.Known.{IsDecidedIf, RowsKnow}
 use Rattle.world_core.specs.Start.{Start, made}
-use Rattle.world_core.specs.Steps.{Addressed, HostStep}
-use Rattle.world_views.specs.Machine.{machine}
-use Rattle.view_laws.specs.Order.{sound_machine}
+use Rattle.world_core.specs.Steps.{HostStep}
 use Rattle.moment_laws.specs.Moments.{IsMoment, current, logs_of}
-use Rattle.moment_laws.specs.Places.{ldm_of, tc_of}
 use Rattle.moment_laws.proofs.MomentMembers.{current_made}
 use Rattle.moment_laws.proofs.MomentSignals.{sent_below}
 use Rattle.moment_laws.proofs.MomentTurns.{current_rises}
@@ -34,11 +26,11 @@ use Rattle.moment_laws.proofs.MomentViews.{current_number, moment_less}
 use Rattle.outcome_laws.specs.Counts.{coordinator_member}
 use Rattle.request_laws.proofs.RouteAside.{is_of_rows}
 use Rattle.request_laws.proofs.RouteHeaders.{chain_fenced, told_of}
-use Rattle.commit_laws.specs.Fates.{Fate, aborts, commits, fate, fate_gone, fate_here, fate_if, is_led_by_full, undetermined}
-use Rattle.commit_laws.specs.Forth.{ForthIsKnown, IsForth}
+use Rattle.commit_laws.specs.Fates.{aborts, commits, fate, fate_if, is_led_by_full}
+use Rattle.commit_laws.specs.Forth.{IsForth}
 use Rattle.commit_laws.specs.Going.{is_forth, is_lost}
 use Rattle.commit_laws.specs.Speaks.{SaysCommit}
-use Rattle.commit_laws.specs.Together.{EventsMoveFates, FatesMove, Follows, KnownCommit}
+use Rattle.commit_laws.specs.Together.{EventsMoveFates, Follows, KnownCommit}
 use Rattle.commit_laws.specs.Traces.{has_trace, is_committed_of, is_known, is_marker_of, leave_trace, members_now, rows_at}
 use Rattle.commit_laws.proofs.FateCases.{forth_commits, known_commits, lost_aborts, none_aborts, not_both, trace_commits}
 use Rattle.commit_laws.proofs.FateRows.{TakesCommit, trace_comes}

@@ -1,5 +1,5 @@
 -- A trace of a transaction's commit comes to rows with a commit alone.
-use Rattle.std.proofs.Common.{◌≡◌, ◌≢◌, ◌⊎◌, ◌∙◌, ◌||◌, ◌&&◌, ◌<◌, ℕ, Bool, true, false, List, [], ◌∷◌, refl, sym, ap, subst, inl, inr}
+use Rattle.std.proofs.Common.{◌≡◌, ◌≢◌, ◌⊎◌, ◌∙◌, ◌||◌, ◌&&◌, ℕ, Bool, true, false, List, [], ◌∷◌, refl, sym, ap, subst, inl, inr}
 use Rattle.std.proofs.lemmas.Bool.{cases_eq, true≢false}
 use Rattle.std.specs.List.{list_any}
 use Rattle.run_theory.specs.Lists.{Each, IsIn}
@@ -22,14 +22,13 @@ use Rattle.sig_core.proofs.TxLemmas.{same_tx-is}
 use Rattle.lqh_block.specs.declared.request.Marker.{Marker}
 use Rattle.lqh_block.specs.Lqh.{lqh_table}
 use Rattle.lqh_block.specs.State.{LqhState}
-use Rattle.lqh_views.specs.Replica.{installed, passed, replica_by, replica_row}
+use Rattle.lqh_views.specs.Replica.{passed, replica_by, replica_row}
 use Rattle.lqh_views.specs.State.{ReplicaState}
 use Rattle.node_views.specs.declared.ldm_part.LdmPart.{LdmPart}
-use Rattle.node_views.specs.declared.parts.Parts.TheVariants as part
-use Rattle.node_views.specs.Parts.{ldm_entered, ldm_row}
+use Rattle.node_views.specs.Parts.{ldm_row}
 use Rattle.world_core.specs.Start.{Start, made}
 use Rattle.world_core.specs.Steps.{HostStep}
-use Rattle.world_views.specs.Machine.{after, machine, step_after}
+use Rattle.world_views.specs.Machine.{machine}
 use Rattle.view_laws.specs.Runs.{view_after}
 use Rattle.moment_laws.specs.Moments.{IsMoment, logs_of}
 use Rattle.moment_laws.specs.PartSteps as does

@@ -1,11 +1,11 @@
 -- Which marks a step has of a host that settles on no view: the host's own, those of an installation, and those of its
 -- blocks, which take the signal once its view is installed.
-use Rattle.std.proofs.Common.{◌≡◌, ◌≤◌, ◌⊎◌, ◌&&◌, ◌||◌, ◌++◌, ℕ, zero, suc, Bool, true, false, nat_lt, List, [], ◌∷◌, refl, sym, subst, inl, inr, arith}
+use Rattle.std.proofs.Common.{◌≡◌, ◌≤◌, ◌&&◌, ◌||◌, ℕ, zero, suc, Bool, true, false, nat_lt, List, [], refl, sym, subst, arith}
 use Rattle.std.proofs.lemmas.Bool.{ltb-true, true≢false}
 use Rattle.std.proofs.lemmas.Bool.Decides.{nat_tests}
 use Rattle.std.specs.Prelude.{not, Option, None, Some}
 use Rattle.run_theory.specs.Lists.{Each, IsIn}
-use Rattle.run_theory.proofs.Pasts.{each_append, each_from, each_map}
+use Rattle.run_theory.proofs.Pasts.{each_append, each_from}
 use Rattle.sig_core.specs.declared.mark.Mark.{Mark}
 use Rattle.sig_core.specs.declared.mark.Mark.TheVariants.{CutOff, Installed, Stopped}
 use Rattle.sig_core.specs.declared.member.HostId.{HostId}
@@ -17,7 +17,6 @@ use Rattle.sig_core.specs.declared.signal.Signal.{Signal}
 use Rattle.sig_core.specs.declared.signal.host.HostSignal.TheVariants.{Closed, Cut, Kill}
 use Rattle.sig_core.specs.declared.view.Shape.{Shape}
 use Rattle.sig_core.specs.declared.view.View.{View}
-use Rattle.sig_core.specs.Step.{Step}
 use Rattle.api_views.specs.Members.{same_member}
 use Rattle.node_views.specs.Blocks.{fence_at, parts_entered, parts_row, settled_at}
 use Rattle.node_views.specs.declared.host.Host as hosts

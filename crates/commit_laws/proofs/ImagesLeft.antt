@@ -1,6 +1,6 @@
 -- The image that operations leave on a key which one of them wrote is the row after them, where their answers are
 -- right.
-use Rattle.std.proofs.Common.{◌≡◌, ◌∙◌, ℕ, true, false, List, [], ◌∷◌, refl, sym, ap}
+use Rattle.std.proofs.Common.{◌≡◌, ◌∙◌, ℕ, true, List, [], ◌∷◌, refl, sym, ap}
 use Rattle.std.proofs.lemmas.Bool.{true≢false}
 use Rattle.std.specs.Prelude.{Option, None}
 use Rattle.std.specs.List.{list_any}

@@ -4,9 +4,9 @@ use Rattle.std.proofs.lemmas.Bool.{cases_eq}
 use Rattle.std.proofs.lemmas.List.{reverse-append}
 use Rattle.std.proofs.Math.Path.{fun_ext}
 use Rattle.std.specs.List.{list_any}
-use Rattle.std.specs.Prelude.{if◌then◌else◌, Option, None, Some}
+use Rattle.std.specs.Prelude.{if◌then◌else◌, None, Some}
 use Rattle.run_theory.specs.Lists.{Each, IsIn, IsPast}
-use Rattle.run_theory.proofs.Pasts.{past_less, past_self}
+use Rattle.run_theory.proofs.Pasts.{past_less}
 use Rattle.run_theory.proofs.Runs.{log_of-other, log_of-own}
 use Rattle.row_locks.specs.declared.mode.Mode.TheVariants.{Exclusive}
 use Rattle.row_locks.specs.Holders.{holds_enough}
@@ -31,11 +31,10 @@ use Rattle.outcome_laws.specs.Counts.{coordinator_member, is_decision}
 use Rattle.outcome_laws.proofs.KnowPlaces.{AreDecidedHere, IsDecidedHere, all_own}
 use Rattle.outcome_laws.proofs.StrictEvents.{moment_before}
 use Rattle.moment_laws.proofs.MomentViews.{moment_less}
-use Rattle.key_laws.specs.Backup.{Backup, IsLedUnlessSpoilt}
+use Rattle.key_laws.specs.Backup.{IsLedUnlessSpoilt}
 use Rattle.key_laws.specs.BackupEvents.{backup_of}
 use Rattle.key_laws.specs.Primary.{ended_too}
 use Rattle.key_laws.specs.Records.{AreOnce, found}
-use Rattle.key_laws.proofs.RecordLemmas.{each_apart}
 use Rattle.commit_laws.specs.Going.{decided_ops}
 use Rattle.commit_laws.specs.Led.{IsTidy, Leads}
 use Rattle.commit_laws.specs.Owed.{AreFresh, AreOwed, HasPrimary, IsAlong}

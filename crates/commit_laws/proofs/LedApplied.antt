@@ -32,11 +32,11 @@ use Rattle.request_laws.proofs.TokenPlaces.{ldm_low}
 use Rattle.commit_laws.specs.Commits.{HasWritten}
 use Rattle.commit_laws.specs.Forth.{ForthIsKnownAlways}
 use Rattle.commit_laws.specs.Going.{decided_ops, is_decided}
-use Rattle.commit_laws.specs.Owed.{AppliedAreFinal, IsAlong}
+use Rattle.commit_laws.specs.Owed.{AppliedAreFinal}
 use Rattle.commit_laws.specs.Together.{AllStandAlways}
 use Rattle.commit_laws.specs.Traces.{IsApplied}
 use Rattle.commit_laws.specs.Values.{history_at, is_final_entry}
-use Rattle.commit_laws.proofs.AppliedMarks.{IsOfCommit, marks_of_commit}
+use Rattle.commit_laws.proofs.AppliedMarks.{marks_of_commit}
 use Rattle.commit_laws.proofs.Calm.{decision_in}
 use Rattle.commit_laws.proofs.DecidedStay.{applied_more, decided_more, ops_same, written_more}
 use Rattle.commit_laws.proofs.FateViews.{any_of}

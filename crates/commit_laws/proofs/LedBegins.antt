@@ -1,13 +1,13 @@
 -- Each replica of a key begins with the row of the start, and nothing is at work on it.
-use Rattle.std.proofs.Common.{◌≡◌, ◌≢◌, ◌⊎◌, ◌<◌, ◌∙◌, ℕ, zero, suc, true, length, List, [], ◌∷◌, refl, sym, ap, subst, inl, inr, arith}
-use Rattle.std.specs.Prelude.{None, Some}
+use Rattle.std.proofs.Common.{◌≡◌, ◌<◌, ◌∙◌, ℕ, zero, suc, true, length, List, [], ◌∷◌, ap, subst, inl, inr, arith}
+use Rattle.std.specs.Prelude.{Some}
 use Rattle.std.specs.List.{slice_get}
 use Rattle.std.specs.FinMap as map
 use Rattle.run_theory.specs.Lists.{IsIn}
 use Rattle.frag_map.proofs.FirstReplicas.{first_group}
 use Rattle.frag_map.specs.Laws.{first_chain}
 use Rattle.frag_map.specs.Layout.{chain_of, first_layout, holds}
-use Rattle.sig_core.specs.Chain.{node_at, node_of}
+use Rattle.sig_core.specs.Chain.{node_of}
 use Rattle.sig_core.specs.declared.member.Member.{Member}
 use Rattle.sig_core.specs.declared.view.View.{View}
 use Rattle.serial_model.specs.Legal.{rows_of}
@@ -16,7 +16,7 @@ use Rattle.node_views.specs.declared.host.Host as node
 use Rattle.key_laws.specs.Replica.{Replica, at_key}
 use Rattle.host_laws.proofs.Replicas.{keys_begin_at_rest}
 use Rattle.world_core.specs.Hosts.{hosts}
-use Rattle.world_core.specs.Start.{Start, made}
+use Rattle.world_core.specs.Start.{Start}
 use Rattle.world_core.specs.Steps.{HostStep}
 use Rattle.world_views.specs.Hosts.{epoch_before}
 use Rattle.view_laws.proofs.RunStep.{started_view}
@@ -26,10 +26,9 @@ use Rattle.moment_laws.specs.Moments.{IsMoment, current, logs_of}
 use Rattle.request_laws.proofs.RowsAlong.{first_rows}
 use Rattle.request_laws.specs.Blocks.{no_replica, rows_in}
 use Rattle.request_laws.specs.Routed.{layout_in}
-use Rattle.commit_laws.specs.Owed.{IsAtRestFirst, ReplicasBeginAtRest}
+use Rattle.commit_laws.specs.Owed.{ReplicasBeginAtRest}
 use Rattle.commit_laws.specs.Traces.{IsReplicaOf, replica_at}
-use Rattle.commit_laws.specs.Values.{first_row}
-use Rattle.commit_laws.proofs.CommitPlaces.{HasPlace, place_of}
+use Rattle.commit_laws.proofs.CommitPlaces.{place_of}
 use Rattle.commit_laws.proofs.ReplicasNow.{replica_made}
 
 -- the first view is the current one

@@ -14,7 +14,7 @@ use Rattle.sig_core.specs.declared.rows.PendingRecord.{PendingRecord}
 use Rattle.sig_core.specs.Same.{same_tx}
 use Rattle.key_laws.specs.Backup.{Backup, HasImage, IsLedUnlessSpoilt, is_spoilt, kept_of}
 use Rattle.key_laws.specs.Primary.{IsOwned, ended_too}
-use Rattle.key_laws.specs.Records.{found, is_kept, kept_row}
+use Rattle.key_laws.specs.Records.{found, is_kept}
 use Rattle.key_laws.proofs.BackupMoves.{kept_row-same}
 use Rattle.key_laws.proofs.Holding.{only_holder}
 use Rattle.key_laws.proofs.RecordLemmas.{kept_row-none, kept_row-one, kept_row-others}

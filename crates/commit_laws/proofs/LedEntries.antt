@@ -3,9 +3,9 @@ use Rattle.std.proofs.Common.{◌≡◌, ◌≢◌, ◌≤◌, ◌+◌, ◌⊎�
 use Rattle.std.proofs.lemmas.Bool.{cases_eq, true≢false}
 use Rattle.std.proofs.lemmas.List.{reverse-reverse}
 use Rattle.std.specs.List.{count_by, list_any}
-use Rattle.run_theory.proofs.Pasts.{each_in, past_trans}
-use Rattle.run_theory.proofs.Runs.{log_of-other, log_of-own, log_of-past}
-use Rattle.run_theory.specs.Lists.{Each, IsIn, IsPast}
+use Rattle.run_theory.proofs.Pasts.{each_in}
+use Rattle.run_theory.proofs.Runs.{log_of-other, log_of-own}
+use Rattle.run_theory.specs.Lists.{IsIn, IsPast}
 use Rattle.sig_core.proofs.Keys.{same_tx-self}
 use Rattle.sig_core.proofs.TxLemmas.{same_tx-swap}
 use Rattle.sig_core.specs.declared.entry.Entry.{Entry}

@@ -3,15 +3,14 @@ use Rattle.std.proofs.Common.{◌≡◌, ◌||◌, ◌&&◌, cond, ℕ, Bool, tr
 use Rattle.std.proofs.lemmas.Bool.{not-true, or_left, or_right, true≢false}
 use Rattle.std.specs.Prelude.{if◌then◌else◌, is_some, Option, None, Some}
 use Rattle.run_theory.specs.Lists.{Each}
-use Rattle.run_theory.proofs.Pasts.{each_map}
 use Rattle.row_locks.specs.declared.claim.Holder.{Holder}
 use Rattle.row_locks.specs.declared.mode.Lock.{Lock}
 use Rattle.row_locks.specs.declared.mode.Lock.TheVariants.{Granted, Queued}
 use Rattle.row_locks.specs.declared.mode.Mode.{Mode}
 use Rattle.row_locks.specs.declared.mode.Mode.TheVariants.{Exclusive}
-use Rattle.row_locks.specs.Holders.{holds, holds_enough}
+use Rattle.row_locks.specs.Holders.{holds_enough}
 use Rattle.row_locks.specs.Modes.{is_enough}
-use Rattle.row_locks.specs.Orderly.{IsOrderly, are_agreed}
+use Rattle.row_locks.specs.Orderly.{IsOrderly}
 use Rattle.row_locks.specs.Queues.{waits}
 use Rattle.row_locks.specs.Rows.{RowLock, asked, grown_old, released, unwaited}
 use Rattle.row_locks.proofs.KeepingLemmas.{left_orderly}
@@ -36,14 +35,13 @@ use Rattle.key_laws.specs.Backup.{Backup}
 use Rattle.key_laws.specs.BackupEvents.{backup_of}
 use Rattle.key_laws.specs.LockLaws.{is_attended}
 use Rattle.key_laws.specs.Primary.{HoldOn, IsOwned}
-use Rattle.key_laws.specs.PrimaryLaws.{nobody_gone}
 use Rattle.key_laws.specs.Records.{found, seen_by}
-use Rattle.key_laws.specs.Replica.{Cell, Event, Replica, aborts, ageing, ages, asked_by, asks, commits, completes, expires, expiring, is_let_in, key_after, operated, rests, served_by, serves, worked}
+use Rattle.key_laws.specs.Replica.{Cell, Replica, aborts, ages, asked_by, asks, commits, completes, expires, expiring, is_let_in, key_after, operated, rests, served_by, serves, worked}
 use Rattle.key_laws.proofs.LockHolding.{expiries_hold_on, grants_hold, releases_hold_on, requests_hold_on}
 use Rattle.key_laws.proofs.LockWaiting.{attended_hold}
 use Rattle.key_laws.proofs.Waiting.{each-first_item}
 use Rattle.request_laws.specs.Replicas.{key_installed}
-use Rattle.commit_laws.specs.Led.{FairEventsLead, IsFairTo, IsReady, IsTidy, IsUnkept, Leads}
+use Rattle.commit_laws.specs.Led.{FairEventsLead, IsReady, IsTidy, IsUnkept, Leads}
 use Rattle.commit_laws.proofs.LedMoves.{aborts_lead, commits_lead, completions_lead, grants_lead, images_lead}
 
 -- the key with this cell and lock

@@ -19,7 +19,7 @@ use Rattle.key_laws.specs.PrimaryLaws.{nobody_gone}
 use Rattle.key_laws.specs.Records.{AreOnce, as_committed, committed, committed_row, edited, found, if_committed, kept_row, put_back, stored, unless_committed}
 use Rattle.key_laws.proofs.Holding.{holds_so, only_holder}
 use Rattle.key_laws.proofs.PrimaryValue.{all_committed}
-use Rattle.key_laws.proofs.RecordLemmas.{KeepsTx, OnlyOf, committed_keeps, each-edited, each-stored, each_apart, each_both, each_found, if_keeps, if_same, kept_row-aborted, kept_row-committed, kept_row-completed, kept_row-one, kept_row-stored, none_first, once-edited, once-stored, unless_keeps, unless_same}
+use Rattle.key_laws.proofs.RecordLemmas.{OnlyOf, committed_keeps, each-edited, each-stored, each_apart, each_both, each_found, if_keeps, if_same, kept_row-aborted, kept_row-committed, kept_row-completed, kept_row-one, kept_row-stored, none_first, once-edited, once-stored, unless_keeps, unless_same}
 use Rattle.commit_laws.specs.Led.{IsTidy, IsUnkept, Leads}
 
 -- what is committed is decided

@@ -1,5 +1,5 @@
 -- What keys are owed, from what stands at each moment.
-use Rattle.std.proofs.Common.{◌≡◌, ◌∙◌, ◌++◌, not, ◌&&◌, ◌||◌, ℕ, Bool, true, false, List, [], ◌∷◌, refl, sym, subst, ap}
+use Rattle.std.proofs.Common.{◌≡◌, ◌∙◌, ◌++◌, not, ◌&&◌, ℕ, Bool, true, false, List, [], ◌∷◌, refl, sym, subst}
 use Rattle.std.proofs.lemmas.Bool.{eq-eqb, true≢false}
 use Rattle.run_theory.proofs.Pasts.{past_less}
 use Rattle.run_theory.specs.Lists.{IsIn}
@@ -23,7 +23,7 @@ use Rattle.request_laws.proofs.PhaseStands.{coordinators_stand}
 use Rattle.request_laws.specs.Ways.{has_gone_back, tells_abort}
 use Rattle.commit_laws.specs.Fates.{is_led_by_full}
 use Rattle.commit_laws.specs.Going.{is_back, is_decided, is_forth, is_lost}
-use Rattle.commit_laws.specs.Owed.{AbortedAreNotFinal, AreOwed, DecidersGoOn, FinalsAreDecidedNow, FinalsAreForth, FinalsGoForward, IsAlong}
+use Rattle.commit_laws.specs.Owed.{AbortedAreNotFinal, DecidersGoOn, FinalsAreDecidedNow, FinalsAreForth, FinalsGoForward, IsAlong}
 use Rattle.commit_laws.specs.Settled.{IsDecidedNow}
 use Rattle.commit_laws.specs.Together.{AllStandAlways}
 use Rattle.commit_laws.specs.Transit.{MomentsHaveTransit}

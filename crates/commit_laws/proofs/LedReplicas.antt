@@ -1,5 +1,5 @@
 -- The replicas of a key: nobody comes to be one, there is a primary, and who has let go of the lock there is final.
-use Rattle.std.proofs.Common.{◌≡◌, ◌<◌, ◌∙◌, ℕ, true, false, length, List, [], ◌∷◌, refl, sym, subst, arith, inl}
+use Rattle.std.proofs.Common.{◌≡◌, ◌<◌, ℕ, length, List, [], ◌∷◌, refl, sym, subst, arith, inl}
 use Rattle.std.specs.Prelude.{Some}
 use Rattle.std.specs.List.{slice_get}
 use Rattle.run_theory.specs.Lists.{IsIn}
@@ -12,7 +12,7 @@ use Rattle.moment_laws.specs.Moments.{IsMoment, current, logs_of}
 use Rattle.outcome_laws.proofs.StrictEvents.{moment_before}
 use Rattle.request_laws.proofs.RouteViews.{chains_in}
 use Rattle.request_laws.specs.Routed.{layout_in}
-use Rattle.commit_laws.specs.Owed.{AppliedAreFinal, HasPrimary, IsAlong, KeysHavePrimaries, ReplicasWereSo, WhoLetGoAreFinal}
+use Rattle.commit_laws.specs.Owed.{AppliedAreFinal, IsAlong, KeysHavePrimaries, ReplicasWereSo, WhoLetGoAreFinal}
 use Rattle.commit_laws.specs.Together.{AllStandAlways}
 use Rattle.commit_laws.proofs.ReplicasNow.{chain_replica, members_full, replica_before}
 

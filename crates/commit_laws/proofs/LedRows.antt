@@ -1,5 +1,5 @@
 -- An event leaves a key tidy at a replica, and led to what it was led to.
-use Rattle.std.proofs.Common.{◌≡◌, ◌∙◌, ◌||◌, ℕ, Bool, true, false, List, ◌∷◌, refl, sym, ap, subst}
+use Rattle.std.proofs.Common.{◌≡◌, ◌∙◌, ◌||◌, ℕ, Bool, true, List, ◌∷◌, refl, sym, ap, subst}
 use Rattle.std.proofs.lemmas.Bool.{true≢false}
 use Rattle.std.specs.Prelude.{is_some, Option, None, Some}
 use Rattle.run_theory.specs.Lists.{IsIn}
@@ -7,9 +7,9 @@ use Rattle.sig_core.specs.declared.member.Member.{Member}
 use Rattle.sig_core.specs.declared.member.TxId.{TxId}
 use Rattle.sig_core.specs.declared.rows.PendingRecord.{PendingRecord}
 use Rattle.sig_core.specs.declared.view.View.{View}
-use Rattle.sig_core.specs.Rows.{record_state, state_by}
+use Rattle.sig_core.specs.Rows.{state_by}
 use Rattle.lqh_block.specs.Views.{goes_on_holding, is_coordinated}
-use Rattle.lqh_views.specs.Replica.{installed, replica_row}
+use Rattle.lqh_views.specs.Replica.{installed}
 use Rattle.lqh_views.specs.State.{ReplicaState}
 use Rattle.host_laws.specs.ReplicaLaws.{IsWell}
 use Rattle.key_laws.specs.BackupEvents.{backup_of}
@@ -31,7 +31,6 @@ use Rattle.commit_laws.specs.Together.{AllStandAlways}
 use Rattle.commit_laws.specs.Traces.{IsReplicaOf, replica_at, rows_at}
 use Rattle.commit_laws.specs.Values.{decided_at, is_final}
 use Rattle.commit_laws.proofs.CommitPlaces.{well}
-use Rattle.commit_laws.proofs.KeyGoes.{TakesNow}
 use Rattle.commit_laws.proofs.LedEvents.{both_lead, fair_lead, installation_leads, itself}
 use Rattle.commit_laws.proofs.LedFair.{fair_now}
 use Rattle.commit_laws.proofs.LedReplicas.{moment_at}

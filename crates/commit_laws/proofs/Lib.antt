@@ -11,7 +11,6 @@ pub mod AnsweredRulings
 pub mod AnsweredStays
 pub mod AnsweredTakeover
 pub mod AnsweredTold
-pub mod AnsweredTurns
 pub mod AnsweredWritten
 pub mod AppliedCommits
 pub mod AppliedMarks
@@ -201,7 +200,6 @@ pub mod RaisedChains
 pub mod RaisedHale
 pub mod RaisedKeeps
 pub mod RecordMoves
-pub mod RecordPlaces
 pub mod RecordsAgreed
 pub mod RecordsAgreedCuts
 pub mod RecordsAgreedHome
@@ -209,8 +207,6 @@ pub mod RecordsAgreedImages
 pub mod RecordsOnce
 pub mod RecordsPlaced
 pub mod ReplicasNow
-pub mod ReportGoes
-pub mod ReportPlaces
 pub mod ReportTells
 pub mod ReportedAborts
 pub mod ReportedBegun
@@ -226,7 +222,6 @@ pub mod RowTokens
 pub mod RowsAttended
 pub mod RowsEnd
 pub mod RowsGo
-pub mod RowsPlaces
 pub mod RowsPrepare
 pub mod RulingQuiet
 pub mod RulingRests

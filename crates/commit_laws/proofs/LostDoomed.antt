@@ -3,7 +3,7 @@ use Rattle.std.proofs.Common.{◌≡◌, ◌⊎◌, ◌∙◌, ◌||◌, ◌&&�
 use Rattle.std.proofs.lemmas.Bool.{true≢false}
 use Rattle.std.specs.List.{list_any}
 use Rattle.std.specs.Map.{keys_of}
-use Rattle.std.specs.Prelude.{if◌then◌else◌, filter, Option, None, Some, is_some}
+use Rattle.std.specs.Prelude.{if◌then◌else◌, Option, None, Some, is_some}
 use Rattle.run_theory.specs.Lists.{Each, IsIn}
 use Rattle.run_theory.proofs.Pasts.{each_in}
 use Rattle.sig_core.specs.declared.member.TxId.{TxId}
@@ -18,7 +18,7 @@ use Rattle.sig_core.specs.declared.signal.membership.MembershipSignal.TheVariant
 use Rattle.sig_core.specs.declared.signal.Signal.{Signal}
 use Rattle.sig_core.specs.declared.view.View.{View}
 use Rattle.sig_core.specs.Same.{same_tx}
-use Rattle.sig_core.specs.Step.{Step, stay}
+use Rattle.sig_core.specs.Step.{stay}
 use Rattle.sig_core.proofs.Firsts.{place_by, position-cons}
 use Rattle.sig_core.proofs.Keys.{same_tx-self}
 use Rattle.sig_core.proofs.TxLemmas.{same_tx-is, same_tx-swap}
@@ -35,8 +35,6 @@ use Rattle.tc_views.specs.Coordinator.{calm_unless, coordinator_row, coordinator
 use Rattle.tc_views.specs.State.{CoordinatorState, still_live, within}
 use Rattle.tc_views.specs.Views as coordinator
 use Rattle.tc_views.specs.Views.{fence_row}
-use Rattle.outcome_laws.specs.Counts.{IsCoordinatorOf}
-use Rattle.outcome_laws.proofs.TcLists.{keys_once}
 use Rattle.request_laws.specs.Ways.{entry_of}
 use Rattle.request_laws.proofs.StrayDoomed.{dooms, stays_doomed}
 

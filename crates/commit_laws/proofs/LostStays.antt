@@ -25,17 +25,17 @@ use Rattle.tc_block.specs.declared.transaction.Transaction.{Transaction}
 use Rattle.tc_block.specs.Doom.{is_among, is_undecided}
 use Rattle.tc_block.specs.Phases.{is_aborting, is_decided}
 use Rattle.tc_block.specs.Turn.{Turn}
-use Rattle.tc_views.specs.Coordinator.{coordinator_row, fresh_coordinator}
+use Rattle.tc_views.specs.Coordinator.{fresh_coordinator}
 use Rattle.tc_views.specs.State.{CoordinatorState}
 use Rattle.tc_views.specs.Views.{install_row}
 use Rattle.node_views.specs.declared.host.Host as hosts
 use Rattle.node_views.specs.declared.parts.Parts.TheVariants as part
 use Rattle.node_views.specs.declared.tc_part.TcPart.{TcPart}
-use Rattle.node_views.specs.Parts.{tc_entered, tc_row}
+use Rattle.node_views.specs.Parts.{tc_row}
 use Rattle.node_views.specs.WellFormed.{is_well_formed}
 use Rattle.world_core.specs.Start.{Start, made}
 use Rattle.world_core.specs.Steps.{HostStep}
-use Rattle.world_views.specs.Machine.{after, machine, step_after}
+use Rattle.world_views.specs.Machine.{machine, step_after}
 use Rattle.moment_laws.specs.Places.{tc_of}
 use Rattle.moment_laws.proofs.MomentHosts.{part_some}
 use Rattle.moment_laws.specs.Moments.{logs_of}
@@ -44,8 +44,7 @@ use Rattle.outcome_laws.proofs.TcLists.{keys_once}
 use Rattle.request_laws.specs.Blocks.{coordinator_after, coordinator_in}
 use Rattle.request_laws.specs.Ways.{entry_of, has_gone_back, has_gone_forth, is_at, is_sent, tells_abort, tells_commit}
 use Rattle.request_laws.proofs.PhaseAlong.{IsRun, coordinator_comes, coordinator_first, coordinator_is, runs_tc, told_some}
-use Rattle.request_laws.proofs.PhaseFates.{IsUntold}
-use Rattle.request_laws.proofs.PhaseGone.{gone_here, gone_nowhere, gone_same, gone_stays, gone_told}
+use Rattle.request_laws.proofs.PhaseGone.{gone_nowhere, gone_same, gone_stays, gone_told}
 use Rattle.request_laws.proofs.PhaseHosts as goes
 use Rattle.request_laws.proofs.PhaseHosts.{Goes, IsEntered, tc_goes}
 use Rattle.request_laws.proofs.PhaseMoves as moves

@@ -8,10 +8,9 @@ use Rattle.run_theory.specs.Lists.{Each, IsIn}
 use Rattle.sig_core.specs.declared.member.Member.{Member}
 use Rattle.sig_core.specs.declared.member.TxId.{TxId}
 use Rattle.sig_core.specs.declared.rows.PendingRecord.{PendingRecord}
-use Rattle.sig_core.specs.declared.signal.Body.TheVariants.{Client, Host}
+use Rattle.sig_core.specs.declared.signal.Body.TheVariants.{Client}
 use Rattle.sig_core.specs.declared.signal.Signal.{Signal}
 use Rattle.sig_core.specs.declared.signal.client.ClientSignal.TheVariants.{TcCommitAck}
-use Rattle.sig_core.specs.declared.signal.host.HostSignal.TheVariants.{Closed}
 use Rattle.sig_core.specs.Rows.{no_rows}
 use Rattle.sig_core.specs.Same.{same_key, same_tx}
 use Rattle.sig_core.proofs.Keys.{same_tx-self}

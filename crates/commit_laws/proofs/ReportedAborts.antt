@@ -1,11 +1,9 @@
 -- Whoever is reported aborted aborts: the client's side is told so by who speaks truly, or a takeover is complete in a
 -- view without the coordinator, and has told before of each commit that members know.
-use Rattle.std.proofs.Common.{◌≡◌, ◌≢◌, ◌≤◌, ◌⊎◌, ◌∙◌, ◌+◌, ℕ, Bool, true, false, List, [], ◌∷◌, ◌++◌, inl, inr, refl, sym, ap, subst, arith}
+use Rattle.std.proofs.Common.{◌≡◌, ◌≢◌, ◌⊎◌, ◌∙◌, ℕ, true, List, [], ◌∷◌, ◌++◌, inl, inr, refl, sym, ap, subst, arith}
 use Rattle.std.proofs.lemmas.Bool.{cases_eq, true≢false}
-use Rattle.std.specs.List.{count_by}
 use Rattle.std.specs.Prelude.{Option, None, Some}
-use Rattle.run_theory.specs.Links.{sent}
-use Rattle.run_theory.specs.Lists.{Each, IsIn}
+use Rattle.run_theory.specs.Lists.{IsIn}
 use Rattle.run_theory.specs.Logs.{IsRunning}
 use Rattle.run_theory.specs.Runs.{Happens}
 use Rattle.run_theory.proofs.Pasts.{each_in}
@@ -20,20 +18,19 @@ use Rattle.sig_core.specs.declared.outcome.AbortCause.TheVariants as cause
 use Rattle.sig_core.specs.declared.outcome.Outcome.TheVariants.{Aborted}
 use Rattle.sig_core.specs.declared.place.BlockId.{BlockId}
 use Rattle.sig_core.specs.declared.place.BlockId.TheVariants as block
-use Rattle.sig_core.specs.declared.signal.Body.{Body}
 use Rattle.sig_core.specs.declared.signal.Body.TheVariants.{Client, Host}
 use Rattle.sig_core.specs.declared.signal.Signal.{Signal}
 use Rattle.sig_core.specs.declared.signal.client.ClientSignal.{ClientSignal}
-use Rattle.sig_core.specs.declared.signal.client.ClientSignal.TheVariants.{NfCompleteRep, TcKeyFailRef, TcRollbackRep}
+use Rattle.sig_core.specs.declared.signal.client.ClientSignal.TheVariants.{TcKeyFailRef, TcRollbackRep}
 use Rattle.sig_core.specs.declared.signal.host.HostSignal.TheVariants.{Closed}
 use Rattle.sig_core.specs.declared.view.View.{View}
 use Rattle.frag_map.specs.Layout.{first_layout}
 use Rattle.api_block.specs.declared.opened.OpenTransaction.{OpenTransaction}
 use Rattle.api_block.specs.Opened.{has_tx, is_tx}
 use Rattle.api_views.specs.Client.{client_row}
-use Rattle.api_views.specs.Members.{is_member, noted}
+use Rattle.api_views.specs.Members.{noted}
 use Rattle.arbiter_block.specs.Arbiter.{arbiter_row}
-use Rattle.takeover_block.specs.State.{TakeoverState, resting}
+use Rattle.takeover_block.specs.State.{resting}
 use Rattle.node_views.specs.declared.host.Host as hosts_of
 use Rattle.node_views.specs.declared.parts.Parts.{Parts}
 use Rattle.node_views.specs.declared.parts.Parts.TheVariants.{Shell}
@@ -45,21 +42,19 @@ use Rattle.world_core.specs.Steps.{Addressed, HostStep}
 use Rattle.world_views.specs.Hosts.{started}
 use Rattle.world_views.specs.Machine.{IsOwnWork, after, machine, step_after}
 use Rattle.view_laws.specs.Order.{sound_machine}
-use Rattle.moment_laws.specs.Moments.{IsMoment, current, logs_of}
-use Rattle.moment_laws.specs.Places.{tc_of}
+use Rattle.moment_laws.specs.Moments.{IsMoment, logs_of}
 use Rattle.moment_laws.proofs.MomentHosts.{tc_started}
 use Rattle.moment_laws.proofs.MomentSignals.{taken_told}
 use Rattle.moment_laws.proofs.MomentViews.{moment_less}
 use Rattle.outcome_laws.proofs.KnowParts.{arbiter_tells_nothing}
 use Rattle.outcome_laws.proofs.OnceMarks.{in_client}
 use Rattle.outcome_laws.proofs.RowsNone.{IsNoOutcome}
-use Rattle.outcome_laws.specs.Counts.{coordinator_member, count_open}
+use Rattle.outcome_laws.specs.Counts.{count_open}
 use Rattle.outcome_laws.specs.Decided.{IsMarked}
 use Rattle.request_laws.specs.Blocks.{takeover_in}
 use Rattle.commit_laws.specs.Fates.{aborts, fate}
 use Rattle.commit_laws.specs.Reported.{CompletesLast, GatheringsList}
 use Rattle.commit_laws.specs.Speaks.{ReportedAbort, SaysAbort}
-use Rattle.commit_laws.specs.Takeovers.{takeover_at}
 use Rattle.commit_laws.specs.Together.{AllStandAlways, FatesMove, Follows}
 use Rattle.commit_laws.specs.Traces.{is_known}
 use Rattle.commit_laws.proofs.FateMoves.{fates_move}

@@ -1,25 +1,21 @@
 -- A transaction of whose commit the client's side knows has begun, and it begins once.
-use Rattle.std.proofs.Common.{◌≡◌, ◌≤◌, ◌⊎◌, ◌+◌, ◌++◌, ℕ, true, List, [], ◌∷◌, inl, inr, refl, sym, ap, subst, arith}
-use Rattle.std.specs.List.{count_by}
+use Rattle.std.proofs.Common.{◌≡◌, ◌≤◌, ◌++◌, ℕ, true, List, [], ◌∷◌, inl, inr, refl, sym, ap, subst, arith}
 use Rattle.run_theory.specs.Links.{sent}
-use Rattle.run_theory.specs.Lists.{Each, IsPast}
+use Rattle.run_theory.specs.Lists.{IsPast}
 use Rattle.run_theory.proofs.Links.{log_past}
 use Rattle.run_theory.proofs.Pasts.{each_in}
 use Rattle.sig_core.proofs.Keys.{same_tx-self}
 use Rattle.sig_core.specs.declared.mark.Mark.TheVariants.{Decided}
 use Rattle.sig_core.specs.declared.member.TxId.{TxId}
-use Rattle.sig_core.specs.declared.signal.Body.{Body}
-use Rattle.sig_core.specs.declared.signal.Body.TheVariants.{Client}
-use Rattle.sig_core.specs.declared.signal.client.ClientSignal.TheVariants.{TcBeginConf, TcCommitConf, TcKeyFailConf}
 use Rattle.world_core.specs.Start.{Start}
-use Rattle.world_core.specs.Steps.{Addressed, HostStep}
+use Rattle.world_core.specs.Steps.{HostStep}
 use Rattle.world_views.specs.Hosts.{started}
 use Rattle.world_views.specs.Machine.{after, machine}
 use Rattle.view_laws.specs.Order.{sound_machine}
 use Rattle.moment_laws.specs.Moments.{IsMoment, logs_of}
 use Rattle.moment_laws.specs.Places.{tc_of}
 use Rattle.outcome_laws.specs.Counts.{coordinator_member, count_open, is_begin, is_report, one_if}
-use Rattle.outcome_laws.specs.Decided.{HasToldOfBegin, IsBegun, IsDecided, TellsOfBegin}
+use Rattle.outcome_laws.specs.Decided.{HasToldOfBegin, IsBegun, IsDecided}
 use Rattle.outcome_laws.specs.Know.{TellsTruly}
 use Rattle.outcome_laws.specs.Once.{takes_in}
 use Rattle.outcome_laws.specs.Tells.{IsRightMark, Tells}

@@ -1,11 +1,10 @@
 -- A takeover that is complete in a view has told the client's side of each commit of which only members know.
-use Rattle.std.proofs.Common.{◌≡◌, ◌≢◌, ◌⊎◌, ◌∙◌, ◌≤◌, ◌<◌, ◌==◌, ◌+◌, ◌++◌, ◌&&◌, ℕ, zero, suc, Bool, true, false, append-nil, nat_le, nat_lt, length, List, [], ◌∷◌, inl, inr, refl, sym, ap, subst, arith}
-use Rattle.std.proofs.lemmas.Bool.{cases_eq, cases_lt, eqb-true, true≢false}
+use Rattle.std.proofs.Common.{◌≡◌, ◌≢◌, ◌⊎◌, ◌∙◌, ◌≤◌, ◌<◌, ◌==◌, ◌+◌, ◌++◌, ℕ, Bool, true, false, append-nil, nat_lt, length, List, [], ◌∷◌, inl, inr, refl, sym, ap, subst, arith}
+use Rattle.std.proofs.lemmas.Bool.{cases_eq, eqb-true, true≢false}
 use Rattle.std.proofs.lemmas.Bool.Decides.{nat_tests}
-use Rattle.std.specs.List.{list_any}
 use Rattle.std.specs.Prelude.{if◌then◌else◌, Option, None, Some, slice_get}
 use Rattle.run_theory.specs.Links.{sent, sent_by}
-use Rattle.run_theory.specs.Lists.{Each, IsIn, IsPast}
+use Rattle.run_theory.specs.Lists.{IsIn, IsPast}
 use Rattle.run_theory.specs.Logs.{IsRunning}
 use Rattle.run_theory.specs.Machine.{Machine}
 use Rattle.run_theory.specs.Runs.{Happens}
@@ -26,7 +25,7 @@ use Rattle.sig_core.specs.declared.signal.takeover.TakeoverSignal.TheVariants.{L
 use Rattle.sig_core.specs.declared.view.View.{View}
 use Rattle.sig_core.specs.Step.{Step}
 use Rattle.frag_map.specs.Layout.{Layout}
-use Rattle.lqh_block.specs.Views.{is_coordinated, was_begun_by}
+use Rattle.lqh_block.specs.Views.{was_begun_by}
 use Rattle.takeover_block.specs.declared.gathered.Gathered.{Gathered}
 use Rattle.takeover_block.specs.declared.stage.Stage.{Stage}
 use Rattle.takeover_block.specs.declared.stage.Stage.TheVariants.{Aborting, Committing, Completing, Gathering, Resting}
@@ -39,7 +38,6 @@ use Rattle.node_views.specs.declared.parts.Parts.TheVariants as part
 use Rattle.node_views.specs.declared.tc_part.TcPart.{TcPart}
 use Rattle.node_views.specs.Blocks.{parts_entered, parts_row, settled_at}
 use Rattle.node_views.specs.Parts.{tc_entered, tc_row}
-use Rattle.node_views.specs.Row.{is_stop}
 use Rattle.node_views.specs.WellFormed.{is_tx}
 use Rattle.world_core.specs.Hosts.{hosts as host_count}
 use Rattle.world_core.specs.Start.{Start, made}
@@ -51,7 +49,7 @@ use Rattle.view_laws.specs.Runs.{view_after}
 use Rattle.moment_laws.specs.Moments.{IsMoment, current, logs_of}
 use Rattle.moment_laws.specs.Parts.{Enters, IsPassed, enters, stays}
 use Rattle.moment_laws.specs.Places.{tc_of}
-use Rattle.moment_laws.proofs.MomentHosts.{HasNoTc, TcHost, of_none, of_tc, part_some, tc_host_is, tc_low}
+use Rattle.moment_laws.proofs.MomentHosts.{TcHost, of_none, of_tc, part_some, tc_host_is, tc_low}
 use Rattle.moment_laws.proofs.MomentMembers.{current_made}
 use Rattle.moment_laws.proofs.MomentTurns.{current_rises, host_low, old_current}
 use Rattle.moment_laws.proofs.MomentViews.{current_above, current_number, moment_less, number_in, stands_in_current}
@@ -59,7 +57,6 @@ use Rattle.moment_laws.proofs.PartTaken.{IsTakenNow, passed_now}
 use Rattle.outcome_laws.proofs.StrictLists.{in_either}
 use Rattle.outcome_laws.specs.Counts.{coordinator_member}
 use Rattle.request_laws.specs.Blocks.{takeover_after}
-use Rattle.request_laws.specs.Routed.{layout_in}
 use Rattle.request_laws.proofs.PhaseAlong.{told_some}
 use Rattle.request_laws.proofs.PhaseStands.{coordinators_stand}
 use Rattle.request_laws.proofs.RouteEnters.{own_full}
@@ -69,7 +66,7 @@ use Rattle.request_laws.proofs.RouteSteps.{takeover_is}
 use Rattle.commit_laws.specs.Fates.{Fate, aborts, commits, fate, fate_if, is_led_by_full, undetermined}
 use Rattle.commit_laws.specs.Gathering.{EndsGathering}
 use Rattle.commit_laws.specs.Going.{is_forth, is_lost}
-use Rattle.commit_laws.specs.Reported.{AreAttended, CompletesLast, GatheringsList, IsListed, IsSaid, TellsCommit, aborted, known, told}
+use Rattle.commit_laws.specs.Reported.{AreAttended, CompletesLast, GatheringsList, IsListed, IsSaid, aborted, known, told}
 use Rattle.commit_laws.specs.Takeovers.{IsOrphan, takeover_at}
 use Rattle.commit_laws.specs.Together.{FatesMove, Follows}
 use Rattle.commit_laws.specs.Traces.{has_trace, is_known}
@@ -80,9 +77,8 @@ use Rattle.commit_laws.proofs.DecidedStay.{known_more}
 use Rattle.commit_laws.proofs.FateForth.{fate_decided}
 use Rattle.commit_laws.proofs.FateViews.{some_of}
 use Rattle.commit_laws.proofs.HostGoes.{HostGoes, halts, host_goes, leaves, takes}
-use Rattle.commit_laws.proofs.ReplicasNow.{full_in}
-use Rattle.commit_laws.proofs.ReportedRulings.{AreLast, IsLast, IsToldIn, SaidBy, TellsAll, TellsOn, goes_on_telling, tells_more}
-use Rattle.commit_laws.proofs.ReportedSent.{CanTell, IsNew, IsOnLink, IsPutAt, can_before, comes_now, goes_on_link, new_sent, put_at, was_there}
+use Rattle.commit_laws.proofs.ReportedRulings.{AreLast, IsLast, SaidBy, TellsAll, goes_on_telling, tells_more}
+use Rattle.commit_laws.proofs.ReportedSent.{CanTell, IsNew, IsPutAt, can_before, comes_now, goes_on_link, new_sent, put_at, was_there}
 use Rattle.commit_laws.proofs.SpokenHost.{StandsStill}
 use Rattle.commit_laws.proofs.SpokenTakeover.{IsAbortingAt}
 use Rattle.commit_laws.proofs.TakeoverGoing.{stands_on}

@@ -1,8 +1,8 @@
 -- What the client's side has noted at a moment: the commits that it is told of, and which takeovers are complete.
-use Rattle.std.proofs.Common.{◌≡◌, ◌≢◌, ◌≤◌, ◌<◌, ◌⊎◌, ◌∙◌, ◌||◌, ◌&&◌, ◌==◌, ◌+◌, ◌++◌, ℕ, Bool, true, false, List, [], ◌∷◌, inl, inr, nat_lt, refl, sym, ap, subst, arith}
-use Rattle.std.proofs.lemmas.Bool.{cases_eq, cases_lt, or_left, or_right, true≢false}
+use Rattle.std.proofs.Common.{◌≡◌, ◌≢◌, ◌≤◌, ◌<◌, ◌⊎◌, ◌∙◌, ◌||◌, ◌&&◌, ◌==◌, ◌+◌, ℕ, Bool, true, false, List, [], ◌∷◌, inl, inr, nat_lt, refl, sym, ap, subst, arith}
+use Rattle.std.proofs.lemmas.Bool.{cases_eq, cases_lt, or_left, true≢false}
 use Rattle.std.proofs.lemmas.Bool.Decides.{nat_tests}
-use Rattle.std.specs.List.{count_by, list_any}
+use Rattle.std.specs.List.{count_by}
 use Rattle.std.specs.Prelude.{if◌then◌else◌, not, Option, None, Some}
 use Rattle.run_theory.specs.Counts.{tally}
 use Rattle.run_theory.specs.Links.{IsClosing, IsGiven, is_from, sent, sent_by, taken}
@@ -11,8 +11,8 @@ use Rattle.run_theory.specs.Logs.{IsRunning}
 use Rattle.run_theory.specs.Machine.{Machine}
 use Rattle.run_theory.specs.Runs.{Happens}
 use Rattle.run_theory.proofs.Links.{put_each, sent_by_each}
-use Rattle.run_theory.proofs.Pasts.{each_in, each_map, each_past, in_past, past_trans}
-use Rattle.run_theory.proofs.Runs.{given_taken, log_of-other, log_of-own, logs_of_run}
+use Rattle.run_theory.proofs.Pasts.{each_in, each_map, each_past}
+use Rattle.run_theory.proofs.Runs.{log_of-other, log_of-own}
 use Rattle.sig_core.proofs.TxLemmas.{same_tx-is}
 use Rattle.sig_core.specs.declared.member.Member.{Member}
 use Rattle.sig_core.specs.declared.member.TxId.{TxId}
@@ -23,7 +23,7 @@ use Rattle.sig_core.specs.declared.place.Place.{Place}
 use Rattle.sig_core.specs.declared.signal.Body.{Body}
 use Rattle.sig_core.specs.declared.signal.Body.TheVariants.{Client, Host}
 use Rattle.sig_core.specs.declared.signal.Signal.{Signal}
-use Rattle.sig_core.specs.declared.signal.client.ClientSignal.TheVariants.{NfCompleteRep, TcCommitAck, TcCommitConf, TcKeyFailConf}
+use Rattle.sig_core.specs.declared.signal.client.ClientSignal.TheVariants.{NfCompleteRep, TcCommitAck, TcKeyFailConf}
 use Rattle.sig_core.specs.declared.signal.host.HostSignal.TheVariants.{Closed}
 use Rattle.sig_core.specs.declared.view.View.{View}
 use Rattle.sig_core.specs.Place.{client}
@@ -32,7 +32,7 @@ use Rattle.api_block.specs.declared.opened.OpenTransaction.{OpenTransaction}
 use Rattle.api_block.specs.Opened.{has_tx}
 use Rattle.api_block.specs.Outcome.{commit_report_row}
 use Rattle.api_views.specs.Client.{client_row, is_known as is_vouched}
-use Rattle.api_views.specs.Members.{greater_view, is_among, is_member, noted, same_member}
+use Rattle.api_views.specs.Members.{is_among, is_member, noted, same_member}
 use Rattle.api_views.specs.Reports.{greater_of}
 use Rattle.api_views.specs.State.{ClientState}
 use Rattle.arbiter_block.specs.Arbiter.{arbiter_row}
@@ -44,14 +44,14 @@ use Rattle.node_views.specs.declared.shell_part.ShellPart.{ShellPart}
 use Rattle.node_views.specs.Fence.{is_body_fenced, is_fenced}
 use Rattle.node_views.specs.Parts.{shell_row}
 use Rattle.node_views.specs.WellFormed.{is_well_formed}
-use Rattle.world_core.specs.Hosts.{hosts as host_count, member_at}
+use Rattle.world_core.specs.Hosts.{member_at}
 use Rattle.world_core.specs.Start.{Start, made}
 use Rattle.world_core.specs.Steps.{Addressed, HostStep}
-use Rattle.world_views.specs.Machine.{after, cause_in, machine, signals_of, step_after, step_by, stops_by}
-use Rattle.world_views.specs.Sending.{is_asked, is_own_work}
+use Rattle.world_views.specs.Machine.{after, cause_in, machine, signals_of, step_after, stops_by}
+use Rattle.world_views.specs.Sending.{is_own_work}
 use Rattle.view_laws.proofs.EraRises.{view_rises}
 use Rattle.view_laws.proofs.EraSound.{each_filter}
-use Rattle.view_laws.proofs.FollowSends.{IsSentBy, each_sent}
+use Rattle.view_laws.proofs.FollowSends.{each_sent}
 use Rattle.view_laws.proofs.RunKept.{have_orderly}
 use Rattle.view_laws.proofs.RunShrink.{views_shrink}
 use Rattle.view_laws.proofs.RunViews.{one_view}
@@ -64,13 +64,13 @@ use Rattle.outcome_laws.proofs.KnowNothing.{AreUntold, IsUntold}
 use Rattle.outcome_laws.proofs.KnowParts.{arbiter_tells_nothing}
 use Rattle.outcome_laws.proofs.OnceMarks.{IsShell, client_light, in_client, of_client, reports_client}
 use Rattle.outcome_laws.proofs.OnceParts.{no_body}
-use Rattle.outcome_laws.proofs.OnceWalk.{IsLight, step_light}
+use Rattle.outcome_laws.proofs.OnceWalk.{step_light}
 use Rattle.outcome_laws.specs.Counts.{coordinator_member, count_open, is_begin, is_report, one_if}
 use Rattle.outcome_laws.specs.Once.{takes_in}
 use Rattle.request_laws.proofs.RouteViews.{nobody_later}
 use Rattle.request_laws.specs.Ways.{is_sent}
 use Rattle.commit_laws.specs.Fates.{aborts, fate}
-use Rattle.commit_laws.specs.Reported.{CompletesLast, IsSaid, TellsCommit, aborted, known, told}
+use Rattle.commit_laws.specs.Reported.{CompletesLast, IsSaid, aborted, known, told}
 use Rattle.commit_laws.specs.Takeovers.{IsOrphan}
 use Rattle.commit_laws.specs.Together.{FatesMove, Follows}
 use Rattle.commit_laws.specs.Traces.{has_sent, is_acknowledgement, is_known}
@@ -83,9 +83,9 @@ use Rattle.commit_laws.proofs.HostGoes.{IsOff, is_for_host}
 use Rattle.commit_laws.proofs.KnownTold.{runs_shell}
 use Rattle.commit_laws.proofs.Passing.{passing}
 use Rattle.commit_laws.proofs.ReportedBegun.{begun_once, begun_some, open_few}
-use Rattle.commit_laws.proofs.ReportedClient.{IsGood, TakenNext, client_is_good, completes, noted_opened, noted_taken, stays}
+use Rattle.commit_laws.proofs.ReportedClient.{TakenNext, client_is_good, completes, noted_opened, noted_taken, stays}
 use Rattle.commit_laws.proofs.ShellGoes.{IsSameBut, ShellGoes, acts, ends, rests, shell_goes, shell_next, shell_view}
-use Rattle.commit_laws.proofs.ShellSees.{IsSeeing, seeing}
+use Rattle.commit_laws.proofs.ShellSees.{seeing}
 
 -- while the shell's host runs
 pub record ClientStands (start : Start) (logs : ℕ → List HostStep) : Type 0 where

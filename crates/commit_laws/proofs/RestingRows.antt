@@ -1,11 +1,11 @@
 -- At rest a live replica of a key has no record of it, and so has the row that the history leaves.
-use Rattle.std.proofs.Common.{◌≡◌, ◌≢◌, ◌⊎◌, ◌==◌, ◌||◌, ◌&&◌, ◌++◌, ◌<◌, ◌+◌, ◌-◌, ◌*◌, ◌∙◌, ℕ, zero, suc, Bool, true, false, length, List, [], ◌∷◌, refl, sym, ap, subst, arith, inl, inr}
+use Rattle.std.proofs.Common.{◌≡◌, ◌≢◌, ◌⊎◌, ◌||◌, ◌++◌, ◌<◌, ◌+◌, ◌-◌, ◌*◌, ◌∙◌, ℕ, zero, suc, Bool, true, false, length, List, [], ◌∷◌, refl, sym, ap, subst, arith, inl, inr}
 use Rattle.std.proofs.Math.Path.{fun_ext}
 use Rattle.std.proofs.lemmas.Bool.{cases_eq, or_from, true≢false}
 use Rattle.std.specs.List.{list_any}
-use Rattle.std.specs.Prelude.{if◌then◌else◌, is_some, slice_get, Option, None, Some}
+use Rattle.std.specs.Prelude.{if◌then◌else◌, is_some, Option, None, Some}
 use Rattle.run_theory.proofs.Runs.{log_of-other, log_of-own}
-use Rattle.run_theory.specs.Lists.{Each, IsIn}
+use Rattle.run_theory.specs.Lists.{IsIn}
 use Rattle.run_theory.specs.Ranks.{in_order}
 use Rattle.frag_map.proofs.FirstReplicas.{first_all}
 use Rattle.frag_map.specs.Laws.{HasReplica, first_chain}
@@ -26,8 +26,8 @@ use Rattle.sig_core.specs.declared.view.View.{View}
 use Rattle.sig_core.specs.Place as place
 use Rattle.lqh_views.specs.Replica.{replica_row}
 use Rattle.lqh_views.specs.State.{ReplicaState}
-use Rattle.key_laws.specs.Records.{AreOnce, edited, found, if_committed, unless_committed}
-use Rattle.key_laws.specs.Replica.{Cell, Event, Replica, aborts, at_key, completes, key_after}
+use Rattle.key_laws.specs.Records.{AreOnce, found, if_committed, unless_committed}
+use Rattle.key_laws.specs.Replica.{Cell, Replica, aborts, at_key, completes, key_after}
 use Rattle.key_laws.proofs.EpochLemmas.{state_found}
 use Rattle.key_laws.proofs.RecordLemmas.{if_keeps, unless_keeps}
 use Rattle.world_core.proofs.HostNumbers.{node_host}
@@ -56,7 +56,7 @@ use Rattle.request_laws.specs.Routed.{layout_in}
 use Rattle.commit_laws.specs.Commits.{ComesWhenDone}
 use Rattle.commit_laws.specs.Cuts.{RestingRowsFollow}
 use Rattle.commit_laws.specs.Together.{AllStand, AllStandAlways}
-use Rattle.commit_laws.specs.Traces.{IsCommittedAtAll, IsReplicaOf, has_marker_at, is_committed_by, is_known, record_at, replica_at, rows_at}
+use Rattle.commit_laws.specs.Traces.{IsCommittedAtAll, IsReplicaOf, has_marker_at, is_committed_by, is_known, record_at, replica_at}
 use Rattle.commit_laws.proofs.CommitPlaces.{cell_before, chain_event, on_self, well}
 use Rattle.commit_laws.proofs.ForthAll.{forth_is_known}
 use Rattle.commit_laws.proofs.GreatestViews.{greatest_current}

@@ -1,5 +1,5 @@
 -- What was sent, and passes a test, is counted.
-use Rattle.std.proofs.Common.{◌≡◌, ◌≤◌, ◌+◌, ◌∙◌, ℕ, Bool, true, List, [], ◌∷◌, inl, inr, sym, ap, arith}
+use Rattle.std.proofs.Common.{◌≡◌, ◌≤◌, ◌∙◌, ℕ, Bool, true, List, [], ◌∷◌, inl, inr, sym, ap, arith}
 use Rattle.std.specs.List.{count_by}
 use Rattle.run_theory.specs.Links.{sent, sent_by}
 use Rattle.run_theory.specs.Lists.{Each, IsIn}

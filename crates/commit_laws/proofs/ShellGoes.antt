@@ -1,21 +1,17 @@
 -- What a step of the shell's host comes to: its part takes the signal once it has noted its view, or leaves it alone.
-use Rattle.std.proofs.Common.{◌≡◌, ◌⊎◌, ◌++◌, ◌∙◌, ℕ, Bool, true, false, List, [], ◌∷◌, inl, inr, refl, sym, ap, subst}
+use Rattle.std.proofs.Common.{◌≡◌, ◌++◌, ◌∙◌, true, false, List, [], ◌∷◌, refl, sym, ap, subst}
 use Rattle.std.proofs.lemmas.Bool.{true≢false}
 use Rattle.std.specs.List.{list_any}
 use Rattle.std.specs.Prelude.{Option, None}
 use Rattle.run_theory.specs.Lists.{Each, IsIn}
-use Rattle.run_theory.specs.Runs.{Happens}
 use Rattle.run_theory.proofs.Pasts.{each_in}
 use Rattle.sig_core.specs.declared.mark.Mark.{Mark}
 use Rattle.sig_core.specs.declared.outs.Outgoing.{Outgoing}
-use Rattle.sig_core.specs.declared.place.BlockId.TheVariants as block
 use Rattle.sig_core.specs.declared.signal.Signal.{Signal}
 use Rattle.sig_core.specs.declared.view.View.{View}
 use Rattle.sig_core.specs.Step.{Step}
 use Rattle.api_block.specs.declared.opened.OpenTransaction.{OpenTransaction}
-use Rattle.api_views.specs.Client.{client_row}
 use Rattle.api_views.specs.Members.{noted}
-use Rattle.api_views.specs.State.{ClientState}
 use Rattle.node_views.specs.declared.host.Host as hosts
 use Rattle.node_views.specs.declared.parts.Parts.{Parts}
 use Rattle.node_views.specs.declared.parts.Parts.TheVariants.{Shell}
@@ -29,10 +25,9 @@ use Rattle.world_core.specs.Start.{Start}
 use Rattle.world_core.specs.Steps.{HostStep}
 use Rattle.world_views.specs.Machine.{after, step_after}
 use Rattle.view_laws.specs.Runs.{view_after}
-use Rattle.moment_laws.specs.Parts.{Enters, IsPassed, enters, stays}
-use Rattle.commit_laws.proofs.ClientViews.{client_notes}
+use Rattle.moment_laws.specs.Parts.{Enters, enters, stays}
 use Rattle.commit_laws.proofs.HostGoes.{HostGoes, IsOff, halts, host_goes, leaves, takes}
-use Rattle.commit_laws.proofs.HostMarks.{IsFrom, IsOfRow, host_marks, is_own_mark, of_blocks, of_host, of_installation}
+use Rattle.commit_laws.proofs.HostMarks.{IsFrom, host_marks, is_own_mark, of_blocks, of_host, of_installation}
 use Rattle.commit_laws.proofs.ReportedClient.{noted_opened, noted_taken}
 use Rattle.commit_laws.proofs.ShellSees.{IsSeeing, seeing}
 

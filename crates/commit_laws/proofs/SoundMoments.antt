@@ -2,28 +2,23 @@
 use Rattle.std.proofs.Common.{◌≡◌, ◌≢◌, ◌⊎◌, ◌||◌, ◌++◌, ◌∙◌, ℕ, Bool, true, false, List, [], ◌∷◌, refl, sym, ap, subst, inl, inr}
 use Rattle.std.proofs.lemmas.Bool.{cases_eq, true≢false}
 use Rattle.std.specs.Prelude.{not}
-use Rattle.frag_map.specs.Layout.{first_layout}
 use Rattle.run_theory.specs.Links.{IsGiven, sent}
-use Rattle.run_theory.specs.Lists.{Each, IsIn, IsPast}
+use Rattle.run_theory.specs.Lists.{Each, IsPast}
 use Rattle.run_theory.proofs.Pasts.{each_map, each_past}
 use Rattle.run_theory.proofs.Runs.{log_of-past}
 use Rattle.run_theory.specs.Runs.{Happens}
-use Rattle.sig_core.specs.declared.member.Member.{Member}
 use Rattle.sig_core.specs.declared.place.BlockId.{BlockId}
 use Rattle.sig_core.specs.declared.signal.Signal.{Signal}
-use Rattle.sig_core.specs.declared.view.View.{View}
 use Rattle.sig_core.specs.Step.{Step, stay}
 use Rattle.node_views.specs.declared.host.Host as node
 use Rattle.node_views.specs.WellFormed.{is_well_formed}
-use Rattle.qmgr_block.specs.Laws.{Event}
-use Rattle.world_core.specs.Start.{Start, made}
+use Rattle.world_core.specs.Start.{Start}
 use Rattle.world_core.specs.Steps.{Addressed, HostStep}
-use Rattle.world_views.specs.Machine.{IsOwn, after, closing_view, comes_rightly, machine, own_stop, signals_of, step_by, stops_by, told}
+use Rattle.world_views.specs.Machine.{IsOwn, after, closing_view, comes_rightly, machine, signals_of, step_by, stops_by, told}
 use Rattle.world_views.specs.Sending.{is_asked}
-use Rattle.view_laws.specs.Ballots.{IsChosen}
 use Rattle.view_laws.specs.HostEvents.{events_at, events_by, events_of, is_arbiter, is_membership, sound_events, taken_in}
 use Rattle.view_laws.specs.Order.{is_sound, sound_machine}
-use Rattle.view_laws.specs.Runs.{ballots_of, events_in, view_after}
+use Rattle.view_laws.specs.Runs.{events_in, view_after}
 use Rattle.view_laws.specs.Votes.{main_of}
 use Rattle.view_laws.proofs.EraShapes.{shape_stays}
 use Rattle.view_laws.proofs.EraSound.{each_filter}
@@ -32,7 +27,7 @@ use Rattle.view_laws.proofs.RunSends.{host_sends}
 use Rattle.view_laws.proofs.RunSound.{AreSoundLogs, Asks, IsGood, IsSoundMember, IsSoundSignal}
 use Rattle.view_laws.proofs.RunStep.{sound_next, sound_start}
 use Rattle.view_laws.proofs.RunViews.{of_greater}
-use Rattle.moment_laws.specs.Moments.{IsMoment, current, logs_of}
+use Rattle.moment_laws.specs.Moments.{IsMoment, logs_of}
 use Rattle.moment_laws.proofs.MomentSignals.{EachSent, sent_next}
 use Rattle.moment_laws.proofs.MomentTurns.{host_low, other_log, own_log}
 use Rattle.moment_laws.proofs.MomentViews.{moment_less, moment_within}

@@ -1,6 +1,6 @@
 -- What right logs have of transactions in the end: what was reported of them, and the rows and records of their keys.
 use Rattle.std.specs.FinMap as map
-use Rattle.std.specs.Prelude.{◌≡◌, ℕ, false, List, [], Option, Some}
+use Rattle.std.specs.Prelude.{◌≡◌, ℕ, false, List, [], Some}
 use Rattle.run_theory.specs.Cuts.{IsCut}
 use Rattle.run_theory.specs.Lists.{Each, IsIn}
 use Rattle.sig_core.specs.declared.entry.Entry.{Entry}

@@ -1,6 +1,5 @@
 -- What is reported of a transaction, and what takes effect.
-use Rattle.std.specs.Prelude.{◌≡◌, ◌≢◌, ℕ, true, List}
-use Rattle.sig_core.specs.declared.outcome.AbortCause.{AbortCause}
+use Rattle.std.specs.Prelude.{◌≡◌, ℕ, List}
 use Rattle.sig_core.specs.declared.member.TxId.{TxId}
 use Rattle.world_core.specs.Start.{Start}
 use Rattle.world_core.specs.Steps.{HostStep}

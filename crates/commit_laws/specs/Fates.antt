@@ -1,5 +1,5 @@
 -- What becomes of a transaction, as far as it is settled: it is committed, or never will be.
-use Rattle.std.specs.Prelude.{◌≡◌, ◌≢◌, ◌||◌, ℕ, Bool, true, false, List, ◌∷◌}
+use Rattle.std.specs.Prelude.{◌≡◌, ℕ, Bool, true, false, List, ◌∷◌}
 use Rattle.lqh_block.specs.Views.{is_coordinated}
 use Rattle.sig_core.specs.declared.member.TxId.{TxId}
 use Rattle.world_core.specs.Start.{Start}

@@ -1,6 +1,5 @@
 -- In each view each key of a transaction is committed once at most, and completed once at most.
-use Rattle.std.specs.Prelude.{◌≡◌, ◌≤◌, ◌&&◌, ◌==◌, ℕ, Bool, true, false, List}
-use Rattle.run_theory.specs.Lists.{IsIn}
+use Rattle.std.specs.Prelude.{◌≤◌, ◌&&◌, ◌==◌, ℕ, Bool, false, List}
 use Rattle.sig_core.specs.declared.member.Member.{Member}
 use Rattle.sig_core.specs.declared.member.TxId.{TxId}
 use Rattle.sig_core.specs.declared.signal.Body.{Body}

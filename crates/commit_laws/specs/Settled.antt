@@ -1,7 +1,7 @@
 -- What the replicas of a key have of a transaction is what it was answered.
-use Rattle.std.specs.Prelude.{◌≡◌, ◌||◌, ◌<◌, ◌⊎◌, ◌++◌, ℕ, Bool, true, false, not, List, [], ◌∷◌, Option, None, Some}
+use Rattle.std.specs.Prelude.{◌≡◌, ◌⊎◌, ℕ, Bool, true, false, not, List, [], ◌∷◌, Option, None, Some}
 use Rattle.std.specs.List.{list_any, slice_get}
-use Rattle.run_theory.specs.Lists.{Each, IsIn}
+use Rattle.run_theory.specs.Lists.{IsIn}
 use Rattle.frag_map.specs.Layout.{chain_of}
 use Rattle.row_locks.specs.declared.mode.Mode.TheVariants.{Exclusive}
 use Rattle.row_locks.specs.Holders.{holds, holds_enough}

@@ -1,5 +1,5 @@
 -- Who speaks of the abort of a transaction, and who of its commit, says what becomes of it.
-use Rattle.std.specs.Prelude.{◌≡◌, ◌≢◌, ℕ, true, List}
+use Rattle.std.specs.Prelude.{◌≡◌, ◌≢◌, ℕ, List}
 use Rattle.run_theory.specs.Links.{sent}
 use Rattle.run_theory.specs.Lists.{Each}
 use Rattle.sig_core.specs.declared.outcome.AbortCause.{AbortCause}

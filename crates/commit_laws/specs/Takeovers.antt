@@ -1,6 +1,6 @@
 -- What takeovers rule agrees with what becomes of transactions.
 use Rattle.std.specs.Prelude.{◌≡◌, ℕ, true, false, List, Option, None, Some}
-use Rattle.std.specs.List.{list_any, slice_get}
+use Rattle.std.specs.List.{slice_get}
 use Rattle.run_theory.specs.Links.{sent}
 use Rattle.run_theory.specs.Lists.{Each, IsIn}
 use Rattle.lqh_block.specs.Views.{is_coordinated}
@@ -8,7 +8,6 @@ use Rattle.sig_core.specs.declared.member.Member.{Member}
 use Rattle.sig_core.specs.declared.member.TxId.{TxId}
 use Rattle.sig_core.specs.declared.signal.Body.{Body}
 use Rattle.sig_core.specs.declared.signal.Body.TheVariants.{Takeover}
-use Rattle.sig_core.specs.declared.signal.takeover.RecordState.{RecordState}
 use Rattle.sig_core.specs.declared.signal.takeover.TakeoverSignal.TheVariants.{LqhTransConf}
 use Rattle.sig_core.specs.declared.view.View.{View}
 use Rattle.takeover_block.specs.declared.gathered.Gathered.{Gathered}
@@ -25,7 +24,7 @@ use Rattle.moment_laws.specs.Moments.{IsMoment, current, logs_of}
 use Rattle.moment_laws.specs.Places.{tc_of}
 use Rattle.request_laws.specs.Blocks.{takeover_after}
 use Rattle.commit_laws.specs.Commits.{HasWritten, HasWrittenOne, IsKept}
-use Rattle.commit_laws.specs.Fates.{Fate, aborts, commits, fate}
+use Rattle.commit_laws.specs.Fates.{aborts, commits, fate}
 use Rattle.commit_laws.specs.Traces.{is_known}
 
 -- the coordinator of the transaction isn't a full member

@@ -1,8 +1,8 @@
 -- The history up to a moment of a run whose end is fixed, and what it makes of each key at its replicas.
 use Rattle.std.specs.FinMap as map
 use Rattle.std.specs.List.{list_any}
-use Rattle.std.specs.Prelude.{◌≡◌, ◌&&◌, ℕ, Bool, true, List, Option, filter}
-use Rattle.run_theory.specs.Lists.{IsIn, IsPast}
+use Rattle.std.specs.Prelude.{ℕ, Bool, List, Option, filter}
+use Rattle.run_theory.specs.Lists.{IsPast}
 use Rattle.sig_core.specs.declared.entry.Entry.{Entry}
 use Rattle.sig_core.specs.declared.member.Member.{Member}
 use Rattle.sig_core.specs.declared.member.TxId.{TxId}

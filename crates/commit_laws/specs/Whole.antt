@@ -1,5 +1,5 @@
 -- What was written is committed along all replicas.
-use Rattle.std.specs.Prelude.{◌≡◌, ℕ, true, List}
+use Rattle.std.specs.Prelude.{◌≡◌, ℕ, List}
 use Rattle.run_theory.specs.Links.{sent}
 use Rattle.run_theory.specs.Lists.{Each}
 use Rattle.frag_map.specs.Layout.{chain_of}

@@ -7,7 +7,6 @@ pub mod MomentTurns
 pub mod MomentViews
 pub mod MomentWalk
 pub mod PartKinds
-pub mod PartSent
 pub mod PartSteps
 pub mod PartTaken
 pub mod SentWalk
