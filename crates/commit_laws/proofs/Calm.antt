@@ -113,84 +113,84 @@ pub record IsCalm (start : Start) (logs : ℕ → List HostStep) (tx : TxId) : T
   pub answered : has_asked (own_live start logs tx) ≡ false
 
 module _ (start : Start) (all : ℕ → List HostStep) (es : List HostStep) (moment : IsMoment start all es) (tx : TxId)
-    where
-  abbrev logs : ℕ → List HostStep
-  logs = logs_of start es
+  where
+    abbrev logs : ℕ → List HostStep
+    logs = logs_of start es
 
-  module _ (there : IsIn (coordinator_member tx) (made start)) where
-    abbrev stands : CoordinatorStands start (coordinator_member tx) logs
-    stands = coordinators_stand start all es moment (coordinator_member tx) there
+    module _ (there : IsIn (coordinator_member tx) (made start)) where
+      abbrev stands : CoordinatorStands start (coordinator_member tx) logs
+      stands = coordinators_stand start all es moment (coordinator_member tx) there
 
-    abbrev says : (t : Transaction) → own_live start logs tx ≡ Some t
-        → SaysIn start (coordinator_member tx) (own_log start logs tx) tx t t.phase
-    says t is = each_found _ _ tx t stands.says is
+      abbrev says : (t : Transaction) → own_live start logs tx ≡ Some t
+          → SaysIn start (coordinator_member tx) (own_log start logs tx) tx t t.phase
+      says t is = each_found _ _ tx t stands.says is
 
-    -- in a phase of what was committed
-    asked_none : (t : Transaction) (phase : Phase) → is_forth start logs tx ≡ true
-        → SaysIn start (coordinator_member tx) (own_log start logs tx) tx t phase → t.asked ≡ None
-    asked_none t Open forth said = absurd (true≢false (sym forth ∙ said.0))
-    asked_none t Verifying forth said = said.0
-    asked_none t (Committing epoch awaited) forth said = said.0
-    asked_none t (Completing epoch awaited) forth said = said.0
-    asked_none t (Aborting why verifying awaited) forth said = absurd (true≢false (sym forth ∙ said))
+      -- in a phase of what was committed
+      asked_none : (t : Transaction) (phase : Phase) → is_forth start logs tx ≡ true
+          → SaysIn start (coordinator_member tx) (own_log start logs tx) tx t phase → t.asked ≡ None
+      asked_none t Open forth said = absurd (true≢false (sym forth ∙ said.0))
+      asked_none t Verifying forth said = said.0
+      asked_none t (Committing epoch awaited) forth said = said.0
+      asked_none t (Completing epoch awaited) forth said = said.0
+      asked_none t (Aborting why verifying awaited) forth said = absurd (true≢false (sym forth ∙ said))
 
-    none_asked : (t : Transaction) → t.asked ≡ None → has_asked (Some t) ≡ false
-    none_asked t is = by t.asked is
+      none_asked : (t : Transaction) → t.asked ≡ None → has_asked (Some t) ≡ false
+      none_asked t is = by t.asked is
+        where
+          by : (o : Option Asked) → o ≡ None → is_some o ≡ false
+          by None is = refl
+          by (Some a) is = absurd cc
+
+      forth_answered : is_forth start logs tx ≡ true → (o : Option Transaction) → own_live start logs tx ≡ o
+          → has_asked o ≡ false
+      forth_answered forth None is = refl
+      forth_answered forth (Some t) is = none_asked t (asked_none t t.phase forth (says t is))
+
+    -- so it is of whoever was committed
+    pub forth_calm : is_forth start logs tx ≡ true → IsCalm start logs tx
+    forth_calm forth =
+        let there = forth_made start all es moment tx forth in
+        record {
+          made = there;
+          back = (stands there).one_way tx forth;
+          answered = forth_answered there forth (own_live start logs tx) refl;
+        }
+
+    -- and of whoever is decided and isn't given up
+    pub decided_calm : is_decided start logs tx ≡ true → is_back start logs tx ≡ false → IsCalm start logs tx
+    decided_calm decided back = record {
+      made = there;
+      back = back;
+      answered = by given.waits;
+    }
       where
-        by : (o : Option Asked) → o ≡ None → is_some o ≡ false
-        by None is = refl
-        by (Some a) is = absurd cc
+        there : IsIn (coordinator_member tx) (made start)
+        there = decided_made start all es moment tx decided
 
-    forth_answered : is_forth start logs tx ≡ true → (o : Option Transaction) → own_live start logs tx ≡ o
-        → has_asked o ≡ false
-    forth_answered forth None is = refl
-    forth_answered forth (Some t) is = none_asked t (asked_none t t.phase forth (says t is))
+        at : IsDecidedAt (own_log start logs tx) tx
+        at = decided_at (own_log start logs tx) tx decided
 
-  -- so it is of whoever was committed
-  pub forth_calm : is_forth start logs tx ≡ true → IsCalm start logs tx
-  forth_calm forth =
-      let there = forth_made start all es moment tx forth in
-      record {
-        made = there;
-        back = (stands there).one_way tx forth;
-        answered = forth_answered there forth (own_live start logs tx) refl;
-      }
+        given : IsGivenWith start (coordinator_member tx) (own_log start logs tx) tx at.epoch
+        given = (stands there).decided tx at.epoch at.marked
 
-  -- and of whoever is decided and isn't given up
-  pub decided_calm : is_decided start logs tx ≡ true → is_back start logs tx ≡ false → IsCalm start logs tx
-  decided_calm decided back = record {
-    made = there;
-    back = back;
-    answered = by given.waits;
-  }
-    where
-      there : IsIn (coordinator_member tx) (made start)
-      there = decided_made start all es moment tx decided
+        by : HasGone start (coordinator_member tx) (own_log start logs tx) tx
+            ⊎ WaitsWith start (coordinator_member tx) (own_log start logs tx) tx given.ops
+            → has_asked (own_live start logs tx) ≡ false
+        by (inl (inl forth)) = forth_answered there forth (own_live start logs tx) refl
+        by (inl (inr gone)) = absurd (true≢false (sym gone ∙ back))
+        by (inr waits) =
+            ap has_asked waits.there
+            ∙ none_asked there waits.transaction
+            (subst (λ (p : Phase). SaysIn start (coordinator_member tx) (own_log start logs tx) tx waits.transaction p)
+            waits.phase (says there waits.transaction waits.there)).0
 
-      at : IsDecidedAt (own_log start logs tx) tx
-      at = decided_at (own_log start logs tx) tx decided
-
-      given : IsGivenWith start (coordinator_member tx) (own_log start logs tx) tx at.epoch
-      given = (stands there).decided tx at.epoch at.marked
-
-      by : HasGone start (coordinator_member tx) (own_log start logs tx) tx
-          ⊎ WaitsWith start (coordinator_member tx) (own_log start logs tx) tx given.ops
-          → has_asked (own_live start logs tx) ≡ false
-      by (inl (inl forth)) = forth_answered there forth (own_live start logs tx) refl
-      by (inl (inr gone)) = absurd (true≢false (sym gone ∙ back))
-      by (inr waits) =
-          ap has_asked waits.there
-          ∙ none_asked there waits.transaction
-          (subst (λ (p : Phase). SaysIn start (coordinator_member tx) (own_log start logs tx) tx waits.transaction p)
-          waits.phase (says there waits.transaction waits.there)).0
-
-  pub calm_stops : (number : ℕ) → IsCalm start logs tx → may_go start logs tx number ≡ false
-  calm_stops number calm = by (is_back start logs tx) (has_asked (own_live start logs tx)) _ calm.back calm.answered
-    where
-      by : (a b c : Bool) → a ≡ false → b ≡ false → ((a || b) && c) ≡ false
-      by true b c is none = absurd (true≢false is)
-      by false true c is none = absurd (true≢false none)
-      by false false c is none = refl
+    pub calm_stops : (number : ℕ) → IsCalm start logs tx → may_go start logs tx number ≡ false
+    calm_stops number calm = by (is_back start logs tx) (has_asked (own_live start logs tx)) _ calm.back calm.answered
+      where
+        by : (a b c : Bool) → a ≡ false → b ≡ false → ((a || b) && c) ≡ false
+        by true b c is none = absurd (true≢false is)
+        by false true c is none = absurd (true≢false none)
+        by false false c is none = refl
 
 -- where none is counted none passes
 pub none_passes : {A : Type 0} (p : A → Bool) (xs : List A) → count_by p xs ≡ 0 → Each (λ x. p x ≡ false) xs

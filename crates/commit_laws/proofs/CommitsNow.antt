@@ -200,7 +200,7 @@ module _ (forth : ForthIsKnownAlways) (remembered : CommitsAreRemembered) (ackno
             → IsMarked (Applied tx key) (new (ldm_of start applied.member)) → AreCommitted start new tx key
         by (inl at) marked =
             either at (subst (IsMarked (Applied tx key))
-                (log_of-own (machine start) e es (ldm_of start applied.member) at) marked)
+            (log_of-own (machine start) e es (ldm_of start applied.member) at) marked)
         by (inr other) marked =
             was (subst (IsMarked (Applied tx key))
             (log_of-other (machine start) e es (ldm_of start applied.member) other) marked)

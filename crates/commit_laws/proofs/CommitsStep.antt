@@ -149,8 +149,11 @@ module _ (forth : ForthIsKnownAlways) (remembered : CommitsAreRemembered) (ackno
         done_stays forth remembered acknowledged start all e es moment tx (decided_of tx gone) done
 
     one_more : (tx : TxId) → is_decided start old tx ≡ true → HasWrittenOne start old tx → HasWrittenOne start new tx
-    one_more tx decided one = record { key = one.key; written = written_more start all e es moment tx one.key decided
-        one.written }
+    one_more tx decided one = record {
+      key = one.key;
+      written = written_more start all e es moment tx one.key decided
+          one.written;
+    }
 
     -- what was told before stays so
     end_stays : (body : Body) → TellsForth (IsForth start old) body → ComesFromTheEnd start old body
@@ -464,7 +467,7 @@ module _ (forth : ForthIsKnownAlways) (remembered : CommitsAreRemembered) (ackno
       pub commits_stand : (moves : (tx : TxId) → FatesMove start e es tx)
           → ((tx : TxId) → IsKept start (logs_of start (e ∷ es)) tx → is_decided start (logs_of start es) tx ≡ false
           → (key : List ℕ) → IsSettledWith start (logs_of start es) key tx
-              (decided_ops start (logs_of start (e ∷ es)) tx))
+          (decided_ops start (logs_of start (e ∷ es)) tx))
           → CommitsStand start (logs_of start (e ∷ es))
       commits_stand moves settled = record {
         held = held_now forth remembered acknowledged start all e es moment follows.stood moves settled;

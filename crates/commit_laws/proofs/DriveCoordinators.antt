@@ -106,8 +106,7 @@ module _ (layout : Layout) (tx : TxId) where
   still_stands sent taken sent_now taken_now moves entry unborn unborn_now count count_now same less own = record {
     drives = by entry own.drives;
     unbegun = λ is.
-        let before = own.unbegun (sym same ∙ is) in
-        (
+        let before = own.unbegun (sym same ∙ is) in (
           still_untouched tx layout sent taken sent_now taken_now [] moves tt before.0,
           omega (arith, before.1, less),
         );

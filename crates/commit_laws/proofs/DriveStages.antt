@@ -28,9 +28,10 @@ KeysApart (key ∷ keys) = Each (λ (own : List ℕ). same_key own key ≡ false
 last_apart : (keys : List (List ℕ)) (key : List ℕ) → has_key keys key ≡ false → KeysApart keys → KeysApart (keys ++ key ∷ [])
 last_apart [] key off apart = (tt, tt)
 last_apart (own ∷ keys) key off apart =
-    let parts = neither (same_key key own) (has_key keys key) off in
-    (each_append (λ (u : List ℕ). same_key u own ≡ false) keys (key ∷ []) apart.0 (parts.0, tt),
-    last_apart keys key parts.1 apart.1)
+    let parts = neither (same_key key own) (has_key keys key) off in (
+      each_append (λ (u : List ℕ). same_key u own ≡ false) keys (key ∷ []) apart.0 (parts.0, tt),
+      last_apart keys key parts.1 apart.1,
+    )
   where
     neither : (a b : Bool) → (a || b) ≡ false → (a ≡ false) × (b ≡ false)
     neither true b is = absurd (true≢false is)

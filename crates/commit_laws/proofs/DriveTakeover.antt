@@ -121,8 +121,7 @@ module _ (tx : TxId) (key : List ℕ) where
     enters_at node layout (Committing e n) g first second third none adds =
         let before = first refl in
         let other = other_way node layout (Committing e n) g 0 completing refl adds in
-        let unsent = third refl in
-        (
+        let unsent = third refl in (
           goes_further node layout (Committing e n) g 0 committing (omega (arith, before)) adds,
           omega (arith, other, unsent),
         )
@@ -130,8 +129,7 @@ module _ (tx : TxId) (key : List ℕ) where
         let before = second refl in
         let other = other_way node layout (Completing e n) g 0 committing refl adds in
         let nothing = before.0 in
-        let few = before.1 in
-        (
+        let few = before.1 in (
           goes_further node layout (Completing e n) g 0 completing (omega (arith, nothing)) adds,
           omega (arith, other, few),
         )
@@ -290,8 +288,7 @@ module _ (tx : TxId) (key : List ℕ) (s : TakeoverState) (sent sent_now : Drive
         → IsAt tx key s.layout (Committing e m) s.left g sent_now
     less_commits e n m g less is =
         let nothing = is.1 in
-        let none = less completing in
-        (
+        let none = less completing in (
           sent_less s.left (sent committing) (sent_now committing) committing (stage_sends s.layout (Committing e n) g)
               (stage_sends s.layout (Committing e m) g) (commits_alike s.layout e n m g) (less committing) is.0,
           omega (arith, nothing, none),
@@ -301,8 +298,7 @@ module _ (tx : TxId) (key : List ℕ) (s : TakeoverState) (sent sent_now : Drive
         → IsAt tx key s.layout (Completing e m) s.left g sent_now
     less_completes e n m g less is =
         let few = is.1 in
-        let fewer = less committing in
-        (
+        let fewer = less committing in (
           sent_less s.left (sent completing) (sent_now completing) completing (stage_sends s.layout (Completing e n) g)
               (stage_sends s.layout (Completing e m) g) (completions_alike s.layout e n m g) (less completing) is.0,
           omega (arith, few, fewer),
@@ -383,10 +379,11 @@ module _ (tx : TxId) (key : List ℕ) (s : TakeoverState) (sent sent_now : Drive
               let before = own.own.own is in
               enters_at tx key sent sent_now s.node s.layout (Completing e (length own.g.keys)) own.g
               (λ way. absurd (true≢false (sym way)))
-              (λ way.
-              (before.1,
-              works_once tx key s.layout (Committing e n) s.left own.g own.rest sent refl
-              (subst (Each (λ (g : Gathered). KeysApart g.keys)) own.is apart).0 own.own committing))
+              (λ way. (
+                before.1,
+                works_once tx key s.layout (Committing e n) s.left own.g own.rest sent refl
+                    (subst (Each (λ (g : Gathered). KeysApart g.keys)) own.is apart).0 own.own committing,
+              ))
               (λ way. absurd (true≢false (sym way))) (λ off other. absurd (true≢false off)) adds;
           later = λ off has drive.
               let nothing = own.own.later off has drive in
@@ -423,16 +420,14 @@ module _ (tx : TxId) (key : List ℕ) (s : TakeoverState) (sent sent_now : Drive
             → IsAt tx key s.layout stage (stage_left s.layout stage g place) g sent_now
         by (Committing e n) is adds =
             let nothing = is.1 in
-            let other = other_way tx key sent sent_now s.node s.layout (Committing e n) g place completing refl adds in
-            (
+            let other = other_way tx key sent sent_now s.node s.layout (Committing e n) g place completing refl adds in (
               goes_further tx key sent sent_now s.node s.layout (Committing e n) g place committing
                   (from_place committing (stage_sends s.layout (Committing e n) g) is.0) adds,
               omega (arith, nothing, other),
             )
         by (Completing e n) is adds =
             let few = is.1 in
-            let other = other_way tx key sent sent_now s.node s.layout (Completing e n) g place committing refl adds in
-            (
+            let other = other_way tx key sent sent_now s.node s.layout (Completing e n) g place committing refl adds in (
               goes_further tx key sent sent_now s.node s.layout (Completing e n) g place completing
                   (from_place completing (stage_sends s.layout (Completing e n) g) is.0) adds,
               omega (arith, few, other),

@@ -138,9 +138,10 @@ module _ (start : Start) (all : ℕ → List HostStep) (es : List HostStep) (mom
             has).ends_behind j)
 
 pub ends_come_behind : EndsComeBehind
-ends_come_behind start all e es moment member closing one full y newer older is ends tx orphan key =
-    (record_told start all es less none one there tx orphan key (tc_of start member) y newer older is ends,
-    marker_told start all es less none one there tx orphan key (tc_of start member) y newer older is ends)
+ends_come_behind start all e es moment member closing one full y newer older is ends tx orphan key = (
+  record_told start all es less none one there tx orphan key (tc_of start member) y newer older is ends,
+  marker_told start all es less none one there tx orphan key (tc_of start member) y newer older is ends,
+)
   where
     less : IsMoment start all es
     less = moment_less start all e es moment

@@ -142,160 +142,160 @@ module _ (tx : TxId) (R : Type 0) where
 
 module _ (start : Start) (all : ℕ → List HostStep) (tx : TxId) (member : Member) (there : IsIn member (made start))
   where
-  abbrev h : ℕ
-  h = tc_of start member
+    abbrev h : ℕ
+    h = tc_of start member
 
-  -- so it is of what a takeover gathers in the current view, as long as none was at work in it
-  abbrev ArePrepared : List HostStep → Type 0
-  ArePrepared es =
-      NoneRuled start es → IsOrphan (current start (logs_of start es)) tx
-      → number_in start (logs_of start es) (tc_of start member) ≡ current_number start (logs_of start es)
-      → SayAt tx (IsPreparedSomewhere start (logs_of start es) tx) (takeover_at start (logs_of start es) member)
+    -- so it is of what a takeover gathers in the current view, as long as none was at work in it
+    abbrev ArePrepared : List HostStep → Type 0
+    ArePrepared es =
+        NoneRuled start es → IsOrphan (current start (logs_of start es)) tx
+        → number_in start (logs_of start es) (tc_of start member) ≡ current_number start (logs_of start es)
+        → SayAt tx (IsPreparedSomewhere start (logs_of start es) tx) (takeover_at start (logs_of start es) member)
 
-  module _ (e : HostStep) (es : List HostStep) (moment : IsMoment start all (e ∷ es)) (before : ArePrepared es)
-      (none : NoneRuled start (e ∷ es)) (orphan : IsOrphan (current start (logs_of start (e ∷ es))) tx)
-    where
-      abbrev old : ℕ → List HostStep
-      old = logs_of start es
+    module _ (e : HostStep) (es : List HostStep) (moment : IsMoment start all (e ∷ es)) (before : ArePrepared es)
+        (none : NoneRuled start (e ∷ es)) (orphan : IsOrphan (current start (logs_of start (e ∷ es))) tx)
+      where
+        abbrev old : ℕ → List HostStep
+        old = logs_of start es
 
-      abbrev new : ℕ → List HostStep
-      new = logs_of start (e ∷ es)
+        abbrev new : ℕ → List HostStep
+        new = logs_of start (e ∷ es)
 
-      abbrev log : List HostStep
-      log = logs_of start es (tc_of start member)
+        abbrev log : List HostStep
+        log = logs_of start es (tc_of start member)
 
-      abbrev x : Signal
-      x = e.step.taken
+        abbrev x : Signal
+        x = e.step.taken
 
-      abbrev R : Type 0
-      R = IsPreparedSomewhere start (logs_of start (e ∷ es)) tx
+        abbrev R : Type 0
+        R = IsPreparedSomewhere start (logs_of start (e ∷ es)) tx
 
-      less : IsMoment start all es
-      less = moment_less start all e es moment
+        less : IsMoment start all es
+        less = moment_less start all e es moment
 
-      orphan_was : current start new ≡ current start old → IsOrphan (current start old) tx
-      orphan_was same = subst (λ (v : View). IsOrphan v tx) same orphan
+        orphan_was : current start new ≡ current start old → IsOrphan (current start old) tx
+        orphan_was same = subst (λ (v : View). IsOrphan v tx) same orphan
 
-      -- where its host stood in the view before the event in which it stands behind it
-      was : number_in start old h ≡ current_number start new → SayAt tx R (takeover_after start member log)
-      was stands gathering =
-          each_map (SaysSo tx (IsPreparedSomewhere start old tx)) (SaysSo tx R)
-          (takeover_after start member log).gathered
-          (λ g says untold is. prepared_stays start all e es moment none tx orphan same (says untold is))
-          (before (none_before start all e es moment none tx orphan same) (orphan_was same)
-          (stands ∙ ap (λ (v : View). v.number) same) gathering)
-        where
-          same : current start new ≡ current start old
-          same =
-              let above = current_above start old h (tc_low start member there) in
-              let rises = current_rises start all e es moment in
-              old_current start all e es moment (omega (arith, stands, above, rises))
+        -- where its host stood in the view before the event in which it stands behind it
+        was : number_in start old h ≡ current_number start new → SayAt tx R (takeover_after start member log)
+        was stands gathering =
+            each_map (SaysSo tx (IsPreparedSomewhere start old tx)) (SaysSo tx R)
+            (takeover_after start member log).gathered
+            (λ g says untold is. prepared_stays start all e es moment none tx orphan same (says untold is))
+            (before (none_before start all e es moment none tx orphan same) (orphan_was same)
+            (stands ∙ ap (λ (v : View). v.number) same) gathering)
+          where
+            same : current start new ≡ current start old
+            same =
+                let above = current_above start old h (tc_low start member there) in
+                let rises = current_rises start all e es moment in
+                old_current start all e es moment (omega (arith, stands, above, rises))
 
-      -- and of what it is told
-      heard : IsTakenNow start all e es moment block.Takeover → (other : TxId) (key : List ℕ) (told : RecordState)
-          (epoch : ℕ)
-          → x.body ≡ Takeover (LqhTransConf other key told epoch) → told_epoch told epoch ≡ None → other ≡ tx → R
-      heard taken other key told epoch is untold own =
-          prepared_stays start all e es moment none tx orphan same (fated untold own)
-        where
-          of_rows : is_of_rows x.body ≡ true
-          of_rows = ap is_of_rows is
+        -- and of what it is told
+        heard : IsTakenNow start all e es moment block.Takeover → (other : TxId) (key : List ℕ) (told : RecordState)
+            (epoch : ℕ)
+            → x.body ≡ Takeover (LqhTransConf other key told epoch) → told_epoch told epoch ≡ None → other ≡ tx → R
+        heard taken other key told epoch is untold own =
+            prepared_stays start all e es moment none tx orphan same (fated untold own)
+          where
+            of_rows : is_of_rows x.body ≡ true
+            of_rows = ap is_of_rows is
 
-          same : current start new ≡ current start old
-          same =
-              fenced_keeps start all e es moment block.Takeover taken of_rows
-              (takeover_fenced x (LqhTransConf other key told epoch) is)
+            same : current start new ≡ current start old
+            same =
+                fenced_keeps start all e es moment block.Takeover taken of_rows
+                (takeover_fenced x (LqhTransConf other key told epoch) is)
 
-          number : x.view.number ≡ current_number start old
-          number =
-              taken.fresh (takeover_fenced x (LqhTransConf other key told epoch) is) ∙ ap (λ (v : View). v.number) same
+            number : x.view.number ≡ current_number start old
+            number =
+                taken.fresh (takeover_fenced x (LqhTransConf other key told epoch) is) ∙ ap (λ (v : View). v.number) same
 
-          fated : IsPreparedIf start old tx other (told_epoch told epoch)
-          fated =
-              subst (Fated (IsPreparedIf start old tx)) is
-              (told_of start all e es moment (TellsPrepared start old tx)
-              (prepared_told start all es less (none_before start all e es moment none tx orphan same) tx
-              (orphan_was same))
-              taken.sound of_rows number)
+            fated : IsPreparedIf start old tx other (told_epoch told epoch)
+            fated =
+                subst (Fated (IsPreparedIf start old tx)) is
+                (told_of start all e es moment (TellsPrepared start old tx)
+                (prepared_told start all es less (none_before start all e es moment none tx orphan same) tx
+                (orphan_was same))
+                taken.sound of_rows number)
 
-      module _ (at : e.host ≡ tc_of start member) where
-        abbrev own : TcStep start (tc_of start member) log e
-        own = own_tc start member there log e
+        module _ (at : e.host ≡ tc_of start member) where
+          abbrev own : TcStep start (tc_of start member) log e
+          own = own_tc start member there log e
 
-        abbrev between : TcPart
-        between = own.does.between
+          abbrev between : TcPart
+          between = own.does.between
 
-        abbrev stood : View
-        stood = view_after start (tc_of start member) log
+          abbrev stood : View
+          stood = view_after start (tc_of start member) log
 
-        abbrev view : View
-        view = view_after start (tc_of start member) (e ∷ log)
+          abbrev view : View
+          view = view_after start (tc_of start member) (e ∷ log)
 
-        module _ (stands : view.number ≡ current_number start new) where
-          between_says : PartEnters tc_kind own.own stood x between view own.does.front → SayAt tx R between.takeover
-          between_says (remains same stays nothing) =
-              let number : view.number ≡ stood.number = ap (λ (v : View). v.number) stays in
-              subst (λ (q : TcPart). SayAt tx R q.takeover) (sym same)
-              (subst (SayAt tx R) (takeover_is start member h log refl own.own own.runs) (was (sym number ∙ stands)))
-          between_says (installs above same stays sent) =
-              subst (λ (q : TcPart). SayAt tx R q.takeover) (sym same)
-              (λ gathering. absurd (true≢false (sym gathering)))
+          module _ (stands : view.number ≡ current_number start new) where
+            between_says : PartEnters tc_kind own.own stood x between view own.does.front → SayAt tx R between.takeover
+            between_says (remains same stays nothing) =
+                let number : view.number ≡ stood.number = ap (λ (v : View). v.number) stays in
+                subst (λ (q : TcPart). SayAt tx R q.takeover) (sym same)
+                (subst (SayAt tx R) (takeover_is start member h log refl own.own own.runs) (was (sym number ∙ stands)))
+            between_says (installs above same stays sent) =
+                subst (λ (q : TcPart). SayAt tx R q.takeover) (sym same)
+                (λ gathering. absurd (true≢false (sym gathering)))
 
-          taken_by : (b : BlockId) → x.to.block ≡ b → IsPassed start.shape (part.Tc between) view x
-              → IsTakenNow start all e es moment b
-          taken_by b to passed =
-              handled_now start all e es moment tc_kind tc_is own.own
-              (subst (λ k. (after start k (old k)).parts ≡ part.Tc own.own) (sym at) own.runs) between own.does.front
-              (subst
-              (λ k. PartEnters tc_kind own.own (view_after start k (old k)) x between (view_after start k (e ∷ old k))
-              own.does.front)
-              (sym at) own.does.enters)
-              (subst (λ k. IsPassed start.shape (part.Tc between) (view_after start k (e ∷ old k)) x) (sym at) passed)
-              b to
+            taken_by : (b : BlockId) → x.to.block ≡ b → IsPassed start.shape (part.Tc between) view x
+                → IsTakenNow start all e es moment b
+            taken_by b to passed =
+                handled_now start all e es moment tc_kind tc_is own.own
+                (subst (λ k. (after start k (old k)).parts ≡ part.Tc own.own) (sym at) own.runs) between own.does.front
+                (subst
+                (λ k. PartEnters tc_kind own.own (view_after start k (old k)) x between (view_after start k (e ∷ old k))
+                own.does.front)
+                (sym at) own.does.enters)
+                (subst (λ k. IsPassed start.shape (part.Tc between) (view_after start k (e ∷ old k)) x) (sym at) passed)
+                b to
 
-          own_row : IsPassed start.shape (part.Tc between) view x → (b : BlockId) → x.to.block ≡ b
-              → SayAt tx R (tc_row between b x).state.takeover
-          unfolding tc_row
-          own_row passed block.Takeover to =
-              row_says tx R between.takeover x (heard (taken_by block.Takeover to passed))
-              (between_says own.does.enters)
-          own_row passed block.Tc to = between_says own.does.enters
-          own_row passed block.Dih to = between_says own.does.enters
-          own_row passed _ to = between_says own.does.enters
+            own_row : IsPassed start.shape (part.Tc between) view x → (b : BlockId) → x.to.block ≡ b
+                → SayAt tx R (tc_row between b x).state.takeover
+            unfolding tc_row
+            own_row passed block.Takeover to =
+                row_says tx R between.takeover x (heard (taken_by block.Takeover to passed))
+                (between_says own.does.enters)
+            own_row passed block.Tc to = between_says own.does.enters
+            own_row passed block.Dih to = between_says own.does.enters
+            own_row passed _ to = between_says own.does.enters
 
-          takes_say : PartTakes tc_kind start.shape between view x own.does.own own.does.rest
-              → SayAt tx R own.does.own.takeover
-          takes_say (ignores same nothing) =
-              subst (λ (q : TcPart). SayAt tx R q.takeover) (sym same) (between_says own.does.enters)
-          takes_say (handles passed same sent) =
-              subst (λ (q : TcPart). SayAt tx R q.takeover) (sym same) (own_row passed x.to.block refl)
+            takes_say : PartTakes tc_kind start.shape between view x own.does.own own.does.rest
+                → SayAt tx R own.does.own.takeover
+            takes_say (ignores same nothing) =
+                subst (λ (q : TcPart). SayAt tx R q.takeover) (sym same) (between_says own.does.enters)
+            takes_say (handles passed same sent) =
+                subst (λ (q : TcPart). SayAt tx R q.takeover) (sym same) (own_row passed x.to.block refl)
 
-          own_says : SayAt tx R (takeover_after start member (e ∷ log))
-          own_says =
-              subst (SayAt tx R) (sym (takeover_is start member h (e ∷ log) refl own.does.own own.does.is))
-              (takes_say own.does.takes)
+            own_says : SayAt tx R (takeover_after start member (e ∷ log))
+            own_says =
+                subst (SayAt tx R) (sym (takeover_is start member h (e ∷ log) refl own.does.own own.does.is))
+                (takes_say own.does.takes)
 
-      prepared_next : number_in start new h ≡ current_number start new → SayAt tx R (takeover_at start new member)
-      prepared_next stands = by (cases_eq e.host h)
-        where
-          by : (e.host ≡ h) ⊎ (e.host ≢ h) → SayAt tx R (takeover_at start new member)
-          by (inl at) =
-              let same = log_of-own (machine start) e es h at in
-              subst (λ l. SayAt tx R (takeover_after start member l)) (sym same)
-              (own_says at (subst (λ l. (view_after start h l).number ≡ current_number start new) same stands))
-          by (inr other) =
-              let same = log_of-other (machine start) e es h other in
-              subst (λ l. SayAt tx R (takeover_after start member l)) (sym same)
-              (was (subst (λ l. (view_after start h l).number ≡ current_number start new) same stands))
+        prepared_next : number_in start new h ≡ current_number start new → SayAt tx R (takeover_at start new member)
+        prepared_next stands = by (cases_eq e.host h)
+          where
+            by : (e.host ≡ h) ⊎ (e.host ≢ h) → SayAt tx R (takeover_at start new member)
+            by (inl at) =
+                let same = log_of-own (machine start) e es h at in
+                subst (λ l. SayAt tx R (takeover_after start member l)) (sym same)
+                (own_says at (subst (λ l. (view_after start h l).number ≡ current_number start new) same stands))
+            by (inr other) =
+                let same = log_of-other (machine start) e es h other in
+                subst (λ l. SayAt tx R (takeover_after start member l)) (sym same)
+                (was (subst (λ l. (view_after start h l).number ≡ current_number start new) same stands))
 
-  are_prepared : (es : List HostStep) → IsMoment start all es → ArePrepared es
-  are_prepared [] moment = λ none orphan stands.
-      subst (SayAt tx (IsPreparedSomewhere start (logs_of start []) tx))
-      (sym (ap (λ (s : hosts_of.Host). takeover_in (resting member.node (first_layout start.shape)) s.parts)
-      (tc_started start member there)))
-      (λ gathering. absurd (true≢false (sym gathering)))
-  are_prepared (e ∷ es) moment = λ none orphan stands.
-      prepared_next e es moment (are_prepared es (moment_less start all e es moment)) none orphan stands
+    are_prepared : (es : List HostStep) → IsMoment start all es → ArePrepared es
+    are_prepared [] moment = λ none orphan stands.
+        subst (SayAt tx (IsPreparedSomewhere start (logs_of start []) tx))
+        (sym (ap (λ (s : hosts_of.Host). takeover_in (resting member.node (first_layout start.shape)) s.parts)
+        (tc_started start member there)))
+        (λ gathering. absurd (true≢false (sym gathering)))
+    are_prepared (e ∷ es) moment = λ none orphan stands.
+        prepared_next e es moment (are_prepared es (moment_less start all e es moment)) none orphan stands
 
 pub entries_prepared : (start : Start) (all : ℕ → List HostStep) (e : HostStep) (es : List HostStep)
     → IsMoment start all (e ∷ es) → (member : Member) → EndsGathering start e es member

@@ -175,9 +175,11 @@ module _ (orders : OrdersAreOnce) (start : Start) (all : ℕ → List HostStep) 
     unordered_rest : (es : List HostStep) → IsMoment start all es → current_number start (logs_of start es) ≡ number
         → all_ordered es ≡ 0 → NoneRuled start es
     unordered_rest [] moment here none = tt
-    unordered_rest (e ∷ es) moment here none =
-        (rests, by (cases_lt (current_number start (logs_of start es)) (current_number start (logs_of start (e ∷ es))))
-        (unordered_rest es (moment_less start all e es moment)))
+    unordered_rest (e ∷ es) moment here none = (
+      rests,
+      by (cases_lt (current_number start (logs_of start es)) (current_number start (logs_of start (e ∷ es))))
+          (unordered_rest es (moment_less start all e es moment)),
+    )
       where
         rests : AllRest start (logs_of start (e ∷ es))
         rests member there stands =
@@ -204,149 +206,152 @@ module _ (orders : OrdersAreOnce) (start : Start) (all : ℕ → List HostStep) 
           (here : current_number start (logs_of start (e ∷ es)) ≡ number) (stands : StandsAt (e ∷ es) member)
           (gathering : is_gathering (stage_at (e ∷ es) member) ≡ true)
         where
-        abbrev old : ℕ → List HostStep
-        old = logs_of start es
+          abbrev old : ℕ → List HostStep
+          old = logs_of start es
 
-        abbrev log : List HostStep
-        log = logs_of start es (tc_of start member)
+          abbrev log : List HostStep
+          log = logs_of start es (tc_of start member)
 
-        abbrev x : Signal
-        x = e.step.taken
+          abbrev x : Signal
+          x = e.step.taken
 
-        own_ordered : 1 ≤ ordered (e ∷ es) member
-        own_ordered = by (cases_eq (ordered (e ∷ es) member) 0)
-          where
-            by : (ordered (e ∷ es) member ≡ 0) ⊎ (ordered (e ∷ es) member ≢ 0) → 1 ≤ ordered (e ∷ es) member
-            by (inl none) =
-                absurd (true≢false (sym gathering ∙ ap is_gathering (idle (e ∷ es) moment member there stands none)))
-            by (inr some) = omega (arith, some)
-
-        -- no other is at work
-        pub others_rest : AllRest start (logs_of start (e ∷ es))
-        others_rest m among m_stands =
-            by (cases_eq (tc_of start m) (tc_of start member)) (cases_eq (ordered (e ∷ es) m) 0)
-          where
-            by : (tc_of start m ≡ tc_of start member) ⊎ (tc_of start m ≢ tc_of start member)
-                → (ordered (e ∷ es) m ≡ 0) ⊎ (ordered (e ∷ es) m ≢ 0) → is_at_work (stage_at (e ∷ es) m) ≡ false
-            by (inl same) count =
-                let one : m ≡ member =
-                sym (tc_member start m among) ∙ (ap (member_at (made start)) same ∙ tc_member start member there) in
-                ap (λ v. is_at_work (stage_at (e ∷ es) v)) one ∙ not_both (stage_at (e ∷ es) member) gathering
-            by (inr apart) (inl none) = ap is_at_work (idle (e ∷ es) moment m among (m_stands ∙ here) none)
-            by (inr apart) (inr some) =
-                let both = two_low (hosts start) (λ k. taken_along start p (logs_of start (e ∷ es) k)) (tc_of start m)
-                (tc_of start member) (tc_low start m among) (tc_low start member there) apart in
-                let own = own_ordered in
-                let once = orders start all (e ∷ es) moment number in
-                absurd (omega (arith, both, own, once, some))
-
-        -- where one was ordered before, it is this one that gathers
-        module _ (some : 1 ≤ all_ordered es) where
-          -- so the event takes no order
-          none_now : IsTakenNow start all e es moment block.Takeover → x.body ≡ Takeover TakeoverOrd → ⊥
-          none_now taken is =
-              absurd (omega (
-                arith,
-                now,
-                some,
-                all_taken_more start all e es moment p,
-                orders start all (e ∷ es) moment number,
-              ))
+          own_ordered : 1 ≤ ordered (e ∷ es) member
+          own_ordered = by (cases_eq (ordered (e ∷ es) member) 0)
             where
-              own : one_if (is_order x.body) ≡ 1
-              own = ap (λ b. one_if (is_order b)) is
+              by : (ordered (e ∷ es) member ≡ 0) ⊎ (ordered (e ∷ es) member ≢ 0) → 1 ≤ ordered (e ∷ es) member
+              by (inl none) =
+                  absurd (true≢false (sym gathering ∙ ap is_gathering (idle (e ∷ es) moment member there stands none)))
+              by (inr some) = omega (arith, some)
 
-              one : 1 ≤ taken_now start all e es moment
-                  (numbered (current_number start (logs_of start (e ∷ es))) is_order)
-              one = omega (arith, test_taken start all e es moment is_order plain block.Takeover taken, own)
-
-              now : 1 ≤ taken_now start all e es moment p
-              now = subst (λ m. 1 ≤ taken_now start all e es moment (numbered m is_order)) here one
-
-          module _ (at : e.host ≡ tc_of start member) where
-            abbrev own : TcStep start (tc_of start member) log e
-            own = own_tc start member there log e
-
-            abbrev between : TcPart
-            between = own.does.between
-
-            abbrev stood : View
-            stood = view_after start (tc_of start member) log
-
-            abbrev view : View
-            view = view_after start (tc_of start member) (e ∷ log)
-
-            abbrev Was : Type 0
-            Was = (number_in start old (tc_of start member) ≡ number)
-                × (is_gathering (takeover_after start member log).stage ≡ true)
-
-            taken_by : (b : BlockId) → x.to.block ≡ b → IsPassed start.shape (part.Tc between) view x
-                → IsTakenNow start all e es moment b
-            taken_by b to passed =
-                handled_now start all e es moment tc_kind tc_is own.own
-                (subst (λ k. (after start k (old k)).parts ≡ part.Tc own.own) (sym at) own.runs) between own.does.front
-                (subst
-                (λ k. PartEnters tc_kind own.own (view_after start k (old k)) x between (view_after start k (e ∷ old k))
-                own.does.front)
-                (sym at) own.does.enters)
-                (subst (λ k. IsPassed start.shape (part.Tc between) (view_after start k (e ∷ old k)) x) (sym at) passed)
-                b to
-
-            between_was : view.number ≡ number → PartEnters tc_kind own.own stood x between view own.does.front
-                → is_gathering between.takeover.stage ≡ true → Was
-            between_was stood_now (remains same stays none) is =
-                let same_number : view.number ≡ stood.number = ap (λ (v : View). v.number) stays in
-                (sym same_number ∙ stood_now,
-                ap (λ (s : TakeoverState). is_gathering s.stage) (takeover_is start member h log refl own.own own.runs)
-                ∙ (sym (ap (λ (q : TcPart). is_gathering q.takeover.stage) same) ∙ is))
-            between_was stood_now (installs above same stays sent) is =
-                absurd (true≢false (sym is ∙ ap (λ (q : TcPart). is_gathering q.takeover.stage) same))
-
-            row_was : IsPassed start.shape (part.Tc between) view x → (b : BlockId) → x.to.block ≡ b
-                → is_gathering (tc_row between b x).state.takeover.stage ≡ true
-                → is_gathering between.takeover.stage ≡ true
-            unfolding tc_row
-            row_was passed block.Takeover to is =
-                still_gathers between.takeover x (none_now (taken_by block.Takeover to passed)) is
-            row_was passed block.Tc to is = is
-            row_was passed block.Dih to is = is
-            row_was passed _ to is = is
-
-            takes_was : PartTakes tc_kind start.shape between view x own.does.own own.does.rest
-                → is_gathering own.does.own.takeover.stage ≡ true → is_gathering between.takeover.stage ≡ true
-            takes_was (ignores same none) is = sym (ap (λ (q : TcPart). is_gathering q.takeover.stage) same) ∙ is
-            takes_was (handles passed same sent) is =
-                row_was passed x.to.block refl (sym (ap (λ (q : TcPart). is_gathering q.takeover.stage) same) ∙ is)
-
-            own_was : view.number ≡ number → is_gathering (takeover_after start member (e ∷ log)).stage ≡ true → Was
-            own_was stood_now is =
-                between_was stood_now own.does.enters
-                (takes_was own.does.takes
-                (sym (ap (λ (s : TakeoverState). is_gathering s.stage)
-                (takeover_is start member h (e ∷ log) refl own.does.own own.does.is)) ∙ is))
-
-          pub gathered_before : (number_in start old (tc_of start member) ≡ number)
-              × (is_gathering (stage_at es member) ≡ true)
-          gathered_before = by (cases_eq e.host h)
+          -- no other is at work
+          pub others_rest : AllRest start (logs_of start (e ∷ es))
+          others_rest m among m_stands =
+              by (cases_eq (tc_of start m) (tc_of start member)) (cases_eq (ordered (e ∷ es) m) 0)
             where
-              by : (e.host ≡ h) ⊎ (e.host ≢ h)
-                  → (number_in start old (tc_of start member) ≡ number) × (is_gathering (stage_at es member) ≡ true)
-              by (inl at) =
-                  let own_log = log_of-own (machine start) e es h at in
-                  own_was at (subst (λ l. (view_after start h l).number ≡ number) own_log stands)
-                  (subst (λ l. is_gathering (takeover_after start member l).stage ≡ true) own_log gathering)
-              by (inr other) =
-                  let same = log_of-other (machine start) e es h other in
-                  (subst (λ l. (view_after start h l).number ≡ number) same stands,
-                  subst (λ l. is_gathering (takeover_after start member l).stage ≡ true) same gathering)
+              by : (tc_of start m ≡ tc_of start member) ⊎ (tc_of start m ≢ tc_of start member)
+                  → (ordered (e ∷ es) m ≡ 0) ⊎ (ordered (e ∷ es) m ≢ 0) → is_at_work (stage_at (e ∷ es) m) ≡ false
+              by (inl same) count =
+                  let one : m ≡ member =
+                  sym (tc_member start m among) ∙ (ap (member_at (made start)) same ∙ tc_member start member there) in
+                  ap (λ v. is_at_work (stage_at (e ∷ es) v)) one ∙ not_both (stage_at (e ∷ es) member) gathering
+              by (inr apart) (inl none) = ap is_at_work (idle (e ∷ es) moment m among (m_stands ∙ here) none)
+              by (inr apart) (inr some) =
+                  let both = two_low (hosts start) (λ k. taken_along start p (logs_of start (e ∷ es) k)) (tc_of start m)
+                  (tc_of start member) (tc_low start m among) (tc_low start member there) apart in
+                  let own = own_ordered in
+                  let once = orders start all (e ∷ es) moment number in
+                  absurd (omega (arith, both, own, once, some))
+
+          -- where one was ordered before, it is this one that gathers
+          module _ (some : 1 ≤ all_ordered es) where
+            -- so the event takes no order
+            none_now : IsTakenNow start all e es moment block.Takeover → x.body ≡ Takeover TakeoverOrd → ⊥
+            none_now taken is =
+                absurd (omega (
+                  arith,
+                  now,
+                  some,
+                  all_taken_more start all e es moment p,
+                  orders start all (e ∷ es) moment number,
+                ))
+              where
+                own : one_if (is_order x.body) ≡ 1
+                own = ap (λ b. one_if (is_order b)) is
+
+                one : 1 ≤ taken_now start all e es moment
+                    (numbered (current_number start (logs_of start (e ∷ es))) is_order)
+                one = omega (arith, test_taken start all e es moment is_order plain block.Takeover taken, own)
+
+                now : 1 ≤ taken_now start all e es moment p
+                now = subst (λ m. 1 ≤ taken_now start all e es moment (numbered m is_order)) here one
+
+            module _ (at : e.host ≡ tc_of start member) where
+              abbrev own : TcStep start (tc_of start member) log e
+              own = own_tc start member there log e
+
+              abbrev between : TcPart
+              between = own.does.between
+
+              abbrev stood : View
+              stood = view_after start (tc_of start member) log
+
+              abbrev view : View
+              view = view_after start (tc_of start member) (e ∷ log)
+
+              abbrev Was : Type 0
+              Was = (number_in start old (tc_of start member) ≡ number)
+                  × (is_gathering (takeover_after start member log).stage ≡ true)
+
+              taken_by : (b : BlockId) → x.to.block ≡ b → IsPassed start.shape (part.Tc between) view x
+                  → IsTakenNow start all e es moment b
+              taken_by b to passed =
+                  handled_now start all e es moment tc_kind tc_is own.own
+                  (subst (λ k. (after start k (old k)).parts ≡ part.Tc own.own) (sym at) own.runs) between own.does.front
+                  (subst
+                  (λ k. PartEnters tc_kind own.own (view_after start k (old k)) x between (view_after start k (e ∷ old k))
+                  own.does.front)
+                  (sym at) own.does.enters)
+                  (subst (λ k. IsPassed start.shape (part.Tc between) (view_after start k (e ∷ old k)) x) (sym at) passed)
+                  b to
+
+              between_was : view.number ≡ number → PartEnters tc_kind own.own stood x between view own.does.front
+                  → is_gathering between.takeover.stage ≡ true → Was
+              between_was stood_now (remains same stays none) is =
+                  let same_number : view.number ≡ stood.number = ap (λ (v : View). v.number) stays in (
+                    sym same_number ∙ stood_now,
+                    ap (λ (s : TakeoverState). is_gathering s.stage) (takeover_is start member h log refl own.own own.runs)
+                        ∙ (sym (ap (λ (q : TcPart). is_gathering q.takeover.stage) same) ∙ is),
+                  )
+              between_was stood_now (installs above same stays sent) is =
+                  absurd (true≢false (sym is ∙ ap (λ (q : TcPart). is_gathering q.takeover.stage) same))
+
+              row_was : IsPassed start.shape (part.Tc between) view x → (b : BlockId) → x.to.block ≡ b
+                  → is_gathering (tc_row between b x).state.takeover.stage ≡ true
+                  → is_gathering between.takeover.stage ≡ true
+              unfolding tc_row
+              row_was passed block.Takeover to is =
+                  still_gathers between.takeover x (none_now (taken_by block.Takeover to passed)) is
+              row_was passed block.Tc to is = is
+              row_was passed block.Dih to is = is
+              row_was passed _ to is = is
+
+              takes_was : PartTakes tc_kind start.shape between view x own.does.own own.does.rest
+                  → is_gathering own.does.own.takeover.stage ≡ true → is_gathering between.takeover.stage ≡ true
+              takes_was (ignores same none) is = sym (ap (λ (q : TcPart). is_gathering q.takeover.stage) same) ∙ is
+              takes_was (handles passed same sent) is =
+                  row_was passed x.to.block refl (sym (ap (λ (q : TcPart). is_gathering q.takeover.stage) same) ∙ is)
+
+              own_was : view.number ≡ number → is_gathering (takeover_after start member (e ∷ log)).stage ≡ true → Was
+              own_was stood_now is =
+                  between_was stood_now own.does.enters
+                  (takes_was own.does.takes
+                  (sym (ap (λ (s : TakeoverState). is_gathering s.stage)
+                  (takeover_is start member h (e ∷ log) refl own.does.own own.does.is)) ∙ is))
+
+            pub gathered_before : (number_in start old (tc_of start member) ≡ number)
+                × (is_gathering (stage_at es member) ≡ true)
+            gathered_before = by (cases_eq e.host h)
+              where
+                by : (e.host ≡ h) ⊎ (e.host ≢ h)
+                    → (number_in start old (tc_of start member) ≡ number) × (is_gathering (stage_at es member) ≡ true)
+                by (inl at) =
+                    let own_log = log_of-own (machine start) e es h at in
+                    own_was at (subst (λ l. (view_after start h l).number ≡ number) own_log stands)
+                    (subst (λ l. is_gathering (takeover_after start member l).stage ≡ true) own_log gathering)
+                by (inr other) =
+                    let same = log_of-other (machine start) e es h other in (
+                      subst (λ l. (view_after start h l).number ≡ number) same stands,
+                      subst (λ l. is_gathering (takeover_after start member l).stage ≡ true) same gathering,
+                    )
 
       gathering_rest : (es : List HostStep) → IsMoment start all es → current_number start (logs_of start es) ≡ number
           → StandsAt es member → is_gathering (stage_at es member) ≡ true → NoneRuled start es
       gathering_rest [] moment here stands gathering = tt
-      gathering_rest (e ∷ es) moment here stands gathering =
-          (others_rest e es moment here stands gathering,
-          by (cases_lt (current_number start (logs_of start es)) (current_number start (logs_of start (e ∷ es))))
-          (gathering_rest es (moment_less start all e es moment)))
+      gathering_rest (e ∷ es) moment here stands gathering = (
+        others_rest e es moment here stands gathering,
+        by (cases_lt (current_number start (logs_of start es)) (current_number start (logs_of start (e ∷ es))))
+            (gathering_rest es (moment_less start all e es moment)),
+      )
         where
           less : IsMoment start all es
           less = moment_less start all e es moment

@@ -75,7 +75,7 @@ module _ (forth : ForthIsKnownAlways) where
           → is_forth start (logs_of start es) tx ≡ true
       trace_forth member there is =
           by (or_cases (list_any (is_committed_of tx) rows.lqh.rows.pending)
-              (list_any (is_marker_of tx) rows.lqh.markers) is)
+          (list_any (is_marker_of tx) rows.lqh.markers) is)
         where
           rows : ReplicaState
           rows = rows_at start logs member
@@ -109,7 +109,7 @@ module _ (forth : ForthIsKnownAlways) where
           by (inr (inl gone)) = gone
           by (inr (inr trace)) =
               let one = passing (λ (member : Member). leave_trace tx (rows_at start logs member))
-                  (members_now start logs) trace in
+              (members_now start logs) trace in
               trace_forth one.item (member_made start all es moment one.item one.there) one.is
 
       -- of who is decided and doesn't abort nothing is asked any more
@@ -140,7 +140,7 @@ module _ (forth : ForthIsKnownAlways) where
           by (inr (inl (full, inr off))) = either (spared (is_forth start logs tx) (is_back start logs tx) _ off)
           by (inr (inr (full, trace))) =
               let one = passing (λ (member : Member). leave_trace tx (rows_at start logs member))
-                  (members_now start logs) trace in
+              (members_now start logs) trace in
               gone (trace_forth one.item (member_made start all es moment one.item one.there) one.is)
 
   module _ (start : Start) (all : ℕ → List HostStep) (e : HostStep) (es : List HostStep)

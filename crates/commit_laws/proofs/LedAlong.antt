@@ -178,13 +178,13 @@ module _ (owed : AreOwed) (start : Start) (all : ℕ → List HostStep) (end : L
           each_by_found _ (replica_at start (logs_of start es) p.primary key).cell.pending
           (good.tidy p.primary p.replica).once
           (λ v r is own committed off.
-              ap (is_final start end) own
-              ∙ owed.let_go start all end es
-              (record { moment = moment; past = past_less e past }) key p.primary p.replica v r
-              is committed
-              (ap (λ t. holds_enough t Exclusive (replica_at start (logs_of start es) p.primary key).lock.holders)
-              (sym own)
-              ∙ off))
+          ap (is_final start end) own
+          ∙ owed.let_go start all end es
+          (record { moment = moment; past = past_less e past }) key p.primary p.replica v r
+          is committed
+          (ap (λ t. holds_enough t Exclusive (replica_at start (logs_of start es) p.primary key).lock.holders)
+          (sym own)
+          ∙ off))
 
       one_good : Good (logs_of start es) (ended_too decided tx) (kept_among (z ∷ list))
       one_good = by (is_final_entry start end z) refl

@@ -99,7 +99,7 @@ module _ (decided final : TxId → Bool) (b : Backup) (tx : TxId) (tidy : IsTidy
         by false e true f own = (
           and_left r.committed (not (final r.tx)) e,
           and_right (not r.committed) (kept_of decided final r.tx)
-          (and_left (decided r.tx) (final r.tx) (undecided r f)),
+              (and_left (decided r.tx) (final r.tx) (undecided r f)),
         )
         by false e false f (inl done) = absurd (true≢false (sym done ∙ e))
         by false e false f (inr exclusive) = absurd (true≢false (sym exclusive ∙ f))

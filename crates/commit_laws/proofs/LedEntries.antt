@@ -185,13 +185,13 @@ pub decisions_once : (start : Start) (all : ℕ → List HostStep) (es : List Ho
 decisions_once start all es moment =
     once_each (decisions start es)
     (λ tx.
-        let h = tc_of start (coordinator_member tx) in
-        omega (
-          arith,
-          decisions_count start all es moment tx,
-          past_counts (is_decision tx) (logs_of start es h) (all h) (moment.inside h),
-          decided_few start all moment.cluster tx h,
-        ))
+    let h = tc_of start (coordinator_member tx) in
+    omega (
+      arith,
+      decisions_count start all es moment tx,
+      past_counts (is_decision tx) (logs_of start es h) (all h) (moment.inside h),
+      decided_few start all moment.cluster tx h,
+    ))
 
 pub one_entry : (xs : List Entry) (a b : Entry) → AreOnce xs → IsIn a xs → IsIn b xs → same_tx a.tx b.tx ≡ true → a ≡ b
 one_entry [] a b once left right same = absurd left

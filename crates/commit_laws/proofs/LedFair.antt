@@ -192,9 +192,10 @@ module _ (forth : ForthIsKnownAlways) (stand : AllStandAlways) (forward : Finals
             absurd (may_not_forth start all es before tx may (ap (is_forth start old) (sym one.1) ∙ one.0 e))
 
     token_may : (tx : TxId) → is_token tx x.body ≡ true → May tx
-    token_may tx is own =
-        (number_now start (logs_of start (e ∷ es)),
-        (token_alone start all e es moment member there tx own taken.now is).may)
+    token_may tx is own = (
+      number_now start (logs_of start (e ∷ es)),
+      (token_alone start all e es moment member there tx own taken.now is).may,
+    )
 
     waiting_may : (q : Request) → IsIn q s.lqh.waiting → May q.tx
     waiting_may q inside own = by between

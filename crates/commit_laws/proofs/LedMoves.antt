@@ -146,8 +146,8 @@ module _ (final : TxId → Bool) where
     clean_committed xs clean =
         clean_edited as_committed xs
         (λ r rest is own after.
-            let parts = clean_parts (committed r) rest after in
-            clean_both r rest (and_right r.committed (not (final r.tx)) parts.0) parts.1)
+        let parts = clean_parts (committed r) rest after in
+        clean_both r rest (and_right r.committed (not (final r.tx)) parts.0) parts.1)
         clean
 
     clean_given_up : (xs : List PendingRecord) → is_clean (edited if_committed tx xs) → is_clean xs
@@ -240,8 +240,8 @@ module _ (decided final : TxId → Bool) (b : Backup) (tx : TxId) (holders : Lis
   commit_stays same row =
       commits_with (subst (Each (IsOver decided)) (sym same) tidy.done)
       (λ value led clean.
-          (λ i. kept_row (kept_of decided final) (row i) (same i))
-          ∙ led (ap (list_any (is_spoilt final)) (sym same) ∙ clean))
+      (λ i. kept_row (kept_of decided final) (row i) (same i))
+      ∙ led (ap (list_any (is_spoilt final)) (sym same) ∙ clean))
 
   -- the commit of one that isn't kept spoils the row
   spoils_if : (x : PendingRecord) (rest : List PendingRecord) (r : PendingRecord) (b : Bool) → final tx ≡ false
@@ -290,9 +290,9 @@ module _ (decided final : TxId → Bool) (b : Backup) (tx : TxId) (holders : Lis
           (each-edited (IsOver decided) (IsOver decided) as_committed tx b.pending tidy.once (λ r apart over. over)
           (own_over now) tidy.done)
           (λ value led clean.
-              ap (λ row. kept_row (kept_of decided final) row (edited as_committed tx b.pending))
-              (ap (committed_row b.row) is ∙ ap (λ c. if c then b.row else x.image) waits)
-              ∙ commit_led x is waits now (final tx) refl value led clean)
+          ap (λ row. kept_row (kept_of decided final) row (edited as_committed tx b.pending))
+          (ap (committed_row b.row) is ∙ ap (λ c. if c then b.row else x.image) waits)
+          ∙ commit_led x is waits now (final tx) refl value led clean)
 
       by : (o : Option PendingRecord) → found tx b.pending ≡ o → Leads decided final b committed_here
       by None is = commit_stays (edited_none as_committed tx b.pending is) (ap (committed_row b.row) is)

@@ -50,8 +50,8 @@ back_past start all (e ∷ newer) es moment v is =
     log_grows start all e (newer ++ es) moment
     (λ log. has_gone_back start (coordinator_member v) v log ≡ true) (tc_of start (coordinator_member v))
     (λ at was.
-        gone_stays start (coordinator_member v) v is_aborting (tells_abort v)
-        (logs_of start (newer ++ es) (tc_of start (coordinator_member v))) e was)
+    gone_stays start (coordinator_member v) v is_aborting (tells_abort v)
+    (logs_of start (newer ++ es) (tc_of start (coordinator_member v))) e was)
     (back_past start all newer es (moment_less start all e (newer ++ es) moment) v is)
 
 pub finals_go_forward : FinalsAreForth → FinalsGoForward

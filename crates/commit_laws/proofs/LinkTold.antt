@@ -172,15 +172,15 @@ module _ (tx : TxId) (key : List ℕ) (Marked : Type 0) (start : Start) (node_is
         comes = λ o left ys n out sound at so.
             next o left (made_of n o ∷ ys)
             (λ telling. inl (inl (record {
-            signal = made_of n o;
-            there = inl refl;
-            is = record {
-              state = telling.state;
-              epoch = telling.epoch;
-              body = body_is o telling;
-              number_is = refl;
-              committed = telling.committed;
-            };
+              signal = made_of n o;
+              there = inl refl;
+              is = record {
+                state = telling.state;
+                epoch = telling.epoch;
+                body = body_is o telling;
+                number_is = refl;
+                committed = telling.committed;
+              };
             }))) ys (more_told tx key Marked number (made_of n o) ys) so;
       }
 

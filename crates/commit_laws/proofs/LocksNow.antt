@@ -339,127 +339,127 @@ module _ (forth : ForthIsKnownAlways) (remembered : CommitsAreRemembered) (ackno
         (done : r.committed ≡ true)
         (off : holds_enough tx Exclusive (replica_at start (logs_of start (e ∷ es)) member key).lock.holders ≡ false)
       where
-      gone : is_forth start old tx ≡ true
-      gone = trace_before forth start all e es moment member there key tx (committed_there r is done)
+        gone : is_forth start old tx ≡ true
+        gone = trace_before forth start all e es moment member there key tx (committed_there r is done)
 
-      written : HasWritten start old tx key
-      written =
-          written_before start all e es moment tx key (forth_decided start all es before tx gone)
-          (written_now forth start all e es moment remembered acknowledged stood member there key tx
-          (committed_there r is done))
+        written : HasWritten start old tx key
+        written =
+            written_before start all e es moment tx key (forth_decided start all es before tx gone)
+            (written_now forth start all e es moment remembered acknowledged stood member there key tx
+            (committed_there r is done))
 
-      stays : IsCommittedAtAll start old tx key → IsCommittedAtAll start new tx key
-      stays was = at_all_stays forth remembered acknowledged start all e es moment tx key was
+        stays : IsCommittedAtAll start old tx key → IsCommittedAtAll start new tx key
+        stays was = at_all_stays forth remembered acknowledged start all e es moment tx key was
 
-      was_free : (own : PendingRecord) → record_at start old member key tx ≡ Some own → own.committed ≡ true
-          → hold_was ≡ false → IsCommittedAtAll start new tx key
-      was_free own own_is so free = stays (stood.commits.let_go member was_among key tx own own_is so free)
+        was_free : (own : PendingRecord) → record_at start old member key tx ≡ Some own → own.committed ≡ true
+            → hold_was ≡ false → IsCommittedAtAll start new tx key
+        was_free own own_is so free = stays (stood.commits.let_go member was_among key tx own own_is so free)
 
-      -- the record before
-      first_case : (own : PendingRecord) → record_at start old member key tx ≡ Some own → (b : Bool)
-          → own.committed ≡ b → (hold_was ≡ false) → IsCommittedAtAll start new tx key
-      first_case own own_is true so free = was_free own own_is so free
-      first_case own own_is false still free =
-          absurd (true≢false (sym (stood.commits.prepared member was_among key tx own own_is still) ∙ free))
+        -- the record before
+        first_case : (own : PendingRecord) → record_at start old member key tx ≡ Some own → (b : Bool)
+            → own.committed ≡ b → (hold_was ≡ false) → IsCommittedAtAll start new tx key
+        first_case own own_is true so free = was_free own own_is so free
+        first_case own own_is false still free =
+            absurd (true≢false (sym (stood.commits.prepared member was_among key tx own own_is still) ∙ free))
 
-      goes : RecordGoes start all e es moment member there key tx
-      goes =
-          (key_goes start all e es moment member there key tx (forth_calm start all es before tx gone)).record_goes
+        goes : RecordGoes start all e es moment member there key tx
+        goes =
+            (key_goes start all e es moment member there key tx (forth_calm start all es before tx gone)).record_goes
 
-      -- it had a record
-      had_record : (own : PendingRecord) × (record_at start old member key tx ≡ Some own)
-      had_record = by_record goes (record_at start old member key tx) refl
-        where
-          from_none : (f : PendingRecord → Option PendingRecord)
-              → record_at start new member key tx ≡ now_by f (record_at start old member key tx)
-              → record_at start old member key tx ≡ None
-              → (own : PendingRecord) × (record_at start old member key tx ≡ Some own)
-          from_none f now none =
-              absurd (let both : None ≡ Some r = sym (now ∙ ap (now_by f) none) ∙ is in cc)
+        -- it had a record
+        had_record : (own : PendingRecord) × (record_at start old member key tx ≡ Some own)
+        had_record = by_record goes (record_at start old member key tx) refl
+          where
+            from_none : (f : PendingRecord → Option PendingRecord)
+                → record_at start new member key tx ≡ now_by f (record_at start old member key tx)
+                → record_at start old member key tx ≡ None
+                → (own : PendingRecord) × (record_at start old member key tx ≡ Some own)
+            from_none f now none =
+                absurd (let both : None ≡ Some r = sym (now ∙ ap (now_by f) none) ∙ is in cc)
 
-          by_record : RecordGoes start all e es moment member there key tx → (o : Option PendingRecord)
-              → record_at start old member key tx ≡ o
-              → (own : PendingRecord) × (record_at start old member key tx ≡ Some own)
-          by_record moves (Some own) own_is = (own, own_is)
-          by_record (record_stays now) None none = (r, sym now ∙ is)
-          by_record (is_committed takes epoch chain at about now) None none = from_none as_committed now none
-          by_record (is_completed takes chain at about now) None none = from_none unless_committed now none
-          by_record (is_aborted takes about now) None none = from_none if_committed now none
+            by_record : RecordGoes start all e es moment member there key tx → (o : Option PendingRecord)
+                → record_at start old member key tx ≡ o
+                → (own : PendingRecord) × (record_at start old member key tx ≡ Some own)
+            by_record moves (Some own) own_is = (own, own_is)
+            by_record (record_stays now) None none = (r, sym now ∙ is)
+            by_record (is_committed takes epoch chain at about now) None none = from_none as_committed now none
+            by_record (is_completed takes chain at about now) None none = from_none unless_committed now none
+            by_record (is_aborted takes about now) None none = from_none if_committed now none
 
-      -- which was committed, where an abort is taken
-      was_committed : x.body ≡ Chain (Abort tx key)
-          → (own : PendingRecord) × ((record_at start old member key tx ≡ Some own) × (own.committed ≡ true))
-      was_committed abort = by_record goes
-        where
-          if_so : (own : PendingRecord) → record_at start old member key tx ≡ Some own → (b : Bool)
-              → own.committed ≡ b → (if b then Some own else None) ≡ Some r
-              → (own : PendingRecord) × ((record_at start old member key tx ≡ Some own) × (own.committed ≡ true))
-          if_so own own_is true so left = (own, (own_is, so))
-          if_so own own_is false so left = absurd cc
+        -- which was committed, where an abort is taken
+        was_committed : x.body ≡ Chain (Abort tx key)
+            → (own : PendingRecord) × ((record_at start old member key tx ≡ Some own) × (own.committed ≡ true))
+        was_committed abort = by_record goes
+          where
+            if_so : (own : PendingRecord) → record_at start old member key tx ≡ Some own → (b : Bool)
+                → own.committed ≡ b → (if b then Some own else None) ≡ Some r
+                → (own : PendingRecord) × ((record_at start old member key tx ≡ Some own) × (own.committed ≡ true))
+            if_so own own_is true so left = (own, (own_is, so))
+            if_so own own_is false so left = absurd cc
 
-          by_record : RecordGoes start all e es moment member there key tx
-              → (own : PendingRecord) × ((record_at start old member key tx ≡ Some own) × (own.committed ≡ true))
-          by_record (record_stays now) = (r, (sym now ∙ is, done))
-          by_record (is_committed takes epoch chain at about now) =
-              absurd (let both : Chain (Abort tx key) ≡ Chain (Commit tx key epoch chain at) = sym abort ∙ about in cc)
-          by_record (is_completed takes chain at about now) =
-              absurd (let both : Chain (Abort tx key) ≡ Chain (Complete tx key chain at) = sym abort ∙ about in cc)
-          by_record (is_aborted takes about now) =
-              let own = had_record in
-              if_so own.0 own.1 own.0.committed refl (sym (now ∙ ap (now_by if_committed) own.1) ∙ is)
+            by_record : RecordGoes start all e es moment member there key tx
+                → (own : PendingRecord) × ((record_at start old member key tx ≡ Some own) × (own.committed ≡ true))
+            by_record (record_stays now) = (r, (sym now ∙ is, done))
+            by_record (is_committed takes epoch chain at about now) =
+                absurd (let both : Chain (Abort tx key) ≡ Chain (Commit tx key epoch chain at) = sym abort ∙ about in cc)
+            by_record (is_completed takes chain at about now) =
+                absurd (let both : Chain (Abort tx key) ≡ Chain (Complete tx key chain at) = sym abort ∙ about in cc)
+            by_record (is_aborted takes about now) =
+                let own = had_record in
+                if_so own.0 own.1 own.0.committed refl (sym (now ∙ ap (now_by if_committed) own.1) ∙ is)
 
-      module _ (s : ReplicaState) (between : IsBetween start all e es moment member there s)
-          (taken : IsTakenAt start all e es moment member there s)
-        where
-          abbrev takes_s : TakesNow start all e es moment member there
-          takes_s = record { rows = s; between = between; taken = taken; at = taken.at; now = taken.now }
+        module _ (s : ReplicaState) (between : IsBetween start all e es moment member there s)
+            (taken : IsTakenAt start all e es moment member there s)
+          where
+            abbrev takes_s : TakesNow start all e es moment member there
+            takes_s = record { rows = s; between = between; taken = taken; at = taken.at; now = taken.now }
 
-          let_go : LetsGo tx key x.body → IsCommittedAtAll start new tx key
-          let_go (by_commit epoch chain at first about) =
-              at_all_first forth remembered acknowledged whole start all e es moment stood member there takes_s tx key
-              epoch
-              chain at about written first
-          let_go (by_completion chain at about) =
-              stays (complete_done forth start all e es moment remembered acknowledged stood member there takes_s tx
-              key chain
-              at about key written)
-          let_go (by_abort about) =
-              let was = was_committed about in
-              absurd (let both : fate_commits ≡ fate_aborts =
-              sym (record_commits forth start all es before member was_among key tx was.0 was.1.0 was.1.1)
-              ∙ abort_aborts start all e es moment taken.now (Abort tx key) about forth stood.spoken tx key refl in cc)
+            let_go : LetsGo tx key x.body → IsCommittedAtAll start new tx key
+            let_go (by_commit epoch chain at first about) =
+                at_all_first forth remembered acknowledged whole start all e es moment stood member there takes_s tx key
+                epoch
+                chain at about written first
+            let_go (by_completion chain at about) =
+                stays (complete_done forth start all e es moment remembered acknowledged stood member there takes_s tx
+                key chain
+                at about key written)
+            let_go (by_abort about) =
+                let was = was_committed about in
+                absurd (let both : fate_commits ≡ fate_aborts =
+                sym (record_commits forth start all es before member was_among key tx was.0 was.1.0 was.1.1)
+                ∙ abort_aborts start all e es moment taken.now (Abort tx key) about forth stood.spoken tx key refl in cc)
 
-          taken_case : (b : Bool) → holds tx (at_key key s.lqh) ≡ b → IsCommittedAtAll start new tx key
-          taken_case true held = let_go (lets_go_now s between taken held off)
-          taken_case false free =
-              let own = had_record in first_case own.0 own.1 own.0.committed refl (was_off between)
-            where
-              was_off : IsBetween start all e es moment member there s → hold_was ≡ false
-              was_off (as_was is stays_in) = sym (ap (λ (s : ReplicaState). holds tx (at_key key s.lqh)) is) ∙ free
-              was_off (entered view is) = by_hold hold_was refl
-                where
-                  by_hold : (b : Bool) → hold_was ≡ b → b ≡ false
-                  by_hold false e = refl
-                  by_hold true held =
-                      let own = had_record in
-                      absurd (true≢false (sym (ap (λ (s : ReplicaState). holds tx (at_key key s.lqh)) is
-                      ∙ install_holds view own.0 own.1 held) ∙ free))
+            taken_case : (b : Bool) → holds tx (at_key key s.lqh) ≡ b → IsCommittedAtAll start new tx key
+            taken_case true held = let_go (lets_go_now s between taken held off)
+            taken_case false free =
+                let own = had_record in first_case own.0 own.1 own.0.committed refl (was_off between)
+              where
+                was_off : IsBetween start all e es moment member there s → hold_was ≡ false
+                was_off (as_was is stays_in) = sym (ap (λ (s : ReplicaState). holds tx (at_key key s.lqh)) is) ∙ free
+                was_off (entered view is) = by_hold hold_was refl
+                  where
+                    by_hold : (b : Bool) → hold_was ≡ b → b ≡ false
+                    by_hold false e = refl
+                    by_hold true held =
+                        let own = had_record in
+                        absurd (true≢false (sym (ap (λ (s : ReplicaState). holds tx (at_key key s.lqh)) is
+                        ∙ install_holds view own.0 own.1 held) ∙ free))
 
-      by : RowsGo start all e es moment member there → IsCommittedAtAll start new tx key
-      by (rest is_same quiet) =
-          was_free r (sym (ap (λ (s : ReplicaState). found tx (at_key key s.lqh).cell.pending) is_same) ∙ is) done
-          (sym (ap (λ (s : ReplicaState). holds tx (at_key key s.lqh)) is_same) ∙ off)
-      by (enter view is_installed quiet) = by_hold hold_was refl
-        where
-          was : record_at start old member key tx ≡ Some r
-          was = sym (ap (λ (s : ReplicaState). found tx (at_key key s.lqh).cell.pending) is_installed) ∙ is
+        by : RowsGo start all e es moment member there → IsCommittedAtAll start new tx key
+        by (rest is_same quiet) =
+            was_free r (sym (ap (λ (s : ReplicaState). found tx (at_key key s.lqh).cell.pending) is_same) ∙ is) done
+            (sym (ap (λ (s : ReplicaState). holds tx (at_key key s.lqh)) is_same) ∙ off)
+        by (enter view is_installed quiet) = by_hold hold_was refl
+          where
+            was : record_at start old member key tx ≡ Some r
+            was = sym (ap (λ (s : ReplicaState). found tx (at_key key s.lqh).cell.pending) is_installed) ∙ is
 
-          by_hold : (b : Bool) → hold_was ≡ b → IsCommittedAtAll start new tx key
-          by_hold false free = was_free r was done free
-          by_hold true held =
-              absurd (true≢false (sym (ap (λ (s : ReplicaState). holds tx (at_key key s.lqh)) is_installed
-              ∙ install_holds view r was held) ∙ off))
-      by (take s between taken) = taken_case s between taken (holds tx (at_key key s.lqh)) refl
+            by_hold : (b : Bool) → hold_was ≡ b → IsCommittedAtAll start new tx key
+            by_hold false free = was_free r was done free
+            by_hold true held =
+                absurd (true≢false (sym (ap (λ (s : ReplicaState). holds tx (at_key key s.lqh)) is_installed
+                ∙ install_holds view r was held) ∙ off))
+        by (take s between taken) = taken_case s between taken (holds tx (at_key key s.lqh)) refl
 
-      pub let_go_now : IsCommittedAtAll start (logs_of start (e ∷ es)) tx key
-      let_go_now = by (rows_go start all e es moment member there)
+        pub let_go_now : IsCommittedAtAll start (logs_of start (e ∷ es)) tx key
+        let_go_now = by (rows_go start all e es moment member there)

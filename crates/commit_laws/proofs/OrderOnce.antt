@@ -223,7 +223,7 @@ module _ (others : OthersAreQuiet) (first : OldestGoFirst) (start : Start) (all 
                 few,
                 own_counts,
                 ap (λ n. if (sound_machine start).asked e then 0
-                else one_if (goes_from last n e.step.taken.to.block e.step.taken.view.number e.step.taken.body)) same,
+                    else one_if (goes_from last n e.step.taken.to.block e.step.taken.view.number e.step.taken.body)) same,
                 reached (oldest_host start view.full == e.host)
                     (equal_self (oldest_host start view.full) e.host (oldest_at start me view.full is ∙ sym at)) number
                     (view_after start e.host old).number behind.number same,

@@ -256,7 +256,7 @@ module _ (start : Start) (member : Member) (there : IsIn member (made start)) (l
             omega (
               arith,
               ap (count_orders last) (sent ∙ ap (λ parts. (parts_row parts x).effects.sends
-              ++ (parts_entered (parts_row parts x).state behind).effects.sends) own.own.is),
+                  ++ (parts_entered (parts_row parts x).state behind).effects.sends) own.own.is),
               count_both (is_counted last) (main_row p x.to.block x).effects.sends (main_entered now behind).effects.sends,
               settles_none p x last behind settled_main,
               enters_none now x last behind

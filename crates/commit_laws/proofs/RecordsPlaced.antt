@@ -141,23 +141,23 @@ module _ (P : List ℕ → Type 0) where
     -- so it stays at each signal
     module _ (s : ReplicaState) (x : Signal) (well : IsWell s.lqh) (asked : IsAsked x.body) (waits : AllWait s.lqh)
       where
-      unless : (stale : Bool) → Stores (event_if (event_at key s.lqh x.body) stale) → P key
-      unless true stores = absurd stores
-      unless false stores = stores_at s.lqh waits x.body asked stores
+        unless : (stale : Bool) → Stores (event_if (event_at key s.lqh x.body) stale) → P key
+        unless true stores = absurd stores
+        unless false stores = stores_at s.lqh waits x.body asked stores
 
-      stores_by : (body : Body) → Stores (event_by key s x body) → P key
-      stores_by (Membership (FenceReq proposal)) stores = absurd stores
-      stores_by (Takeover LqhTransReq) stores = absurd stores
-      stores_by (Host (Continue work.Report at)) stores = absurd stores
-      stores_by (Host (Continue work.Granted at)) stores = unless (is_stale s x) stores
-      stores_by (Host (Continue work.Expired at)) stores = unless (is_stale s x) stores
-      stores_by (Epoch signal) stores = absurd stores
-      stores_by _ stores = stores_at s.lqh waits x.body asked stores
+        stores_by : (body : Body) → Stores (event_by key s x body) → P key
+        stores_by (Membership (FenceReq proposal)) stores = absurd stores
+        stores_by (Takeover LqhTransReq) stores = absurd stores
+        stores_by (Host (Continue work.Report at)) stores = absurd stores
+        stores_by (Host (Continue work.Granted at)) stores = unless (is_stale s x) stores
+        stores_by (Host (Continue work.Expired at)) stores = unless (is_stale s x) stores
+        stores_by (Epoch signal) stores = absurd stores
+        stores_by _ stores = stores_at s.lqh waits x.body asked stores
 
-      row_keeps : IsEmptyOr key s → IsEmptyOr key (replica_row s x).state
-      row_keeps was =
-          subst (λ (r : Replica). (r.cell.pending ≡ []) ⊎ P key) (sym (signals_are_events s x key well))
-          (behind (event_under key s x) (at_key key s.lqh) (stores_by x.body) was)
+        row_keeps : IsEmptyOr key s → IsEmptyOr key (replica_row s x).state
+        row_keeps was =
+            subst (λ (r : Replica). (r.cell.pending ≡ []) ⊎ P key) (sym (signals_are_events s x key well))
+            (behind (event_under key s x) (at_key key s.lqh) (stores_by x.body) was)
 
 -- whoever is in turn began with the life
 begun : (m : Member) → m.start ≡ 0 → m ≡ first_start m.node

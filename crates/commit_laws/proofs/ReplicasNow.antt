@@ -71,8 +71,12 @@ module _ (shape : Shape) (fragment : ℕ) where
           → length (in_turn shape view fragment n
           ++ cond b (first_start (node_in_turn shape fragment n) ∷ []) []) ≤ suc n
       by true few =
-          omega (arith, few, length_both (in_turn shape view fragment n)
-          (first_start (node_in_turn shape fragment n) ∷ []))
+          omega (
+            arith,
+            few,
+            length_both (in_turn shape view fragment n)
+                (first_start (node_in_turn shape fragment n) ∷ []),
+          )
       by false few = omega (arith, few, length_both (in_turn shape view fragment n) [])
 
   turn_full : (view : View) (n : ℕ) (m : Member) → IsIn m (in_turn shape view fragment n) → is_full view m ≡ true

@@ -136,86 +136,86 @@ module _ (stand : AllStandAlways) (list : GatheringsList) (start : Start) (all :
   module _ (e : HostStep) (es : List HostStep) (moment : IsMoment start all (e ∷ es)) (at : e.host ≡ 0) (tx : TxId)
       (why : AbortCause) (not_down : why ≢ cause.Down)
     where
-    abbrev old : ℕ → List HostStep
-    old = logs_of start es
+      abbrev old : ℕ → List HostStep
+      old = logs_of start es
 
-    abbrev log : List HostStep
-    log = logs_of start es 0
+      abbrev log : List HostStep
+      log = logs_of start es 0
 
-    abbrev x : Signal
-    x = e.step.taken
+      abbrev x : Signal
+      x = e.step.taken
 
-    abbrev own : ShellPart
-    own = (seeing start log).part
+      abbrev own : ShellPart
+      own = (seeing start log).part
 
-    less : IsMoment start all es
-    less = moment_less start all e es moment
+      less : IsMoment start all es
+      less = moment_less start all e es moment
 
-    happens : Happens (sound_machine start) es e
-    happens = moment.run.1
+      happens : Happens (sound_machine start) es e
+      happens = moment.run.1
 
-    client : ClientStands start old
-    client =
-        (are_said es less).client (subst (λ k. IsRunning (sound_machine start) (old k)) at happens.step.runs)
+      client : ClientStands start old
+      client =
+          (are_said es less).client (subst (λ k. IsRunning (sound_machine start) (old k)) at happens.step.runs)
 
-    -- whoever tells it of an abort speaks truly
-    client_told : (signal : ClientSignal) → x.body ≡ Client signal → is_well_formed start.shape x ≡ true
-        → SaysAbort (fate start old) (Client signal)
-    client_told signal is sound =
-        subst (SaysAbort (fate start old)) is
-        (taken_told start (λ (y : Addressed). SaysAbort (fate start old) y.signal.body) all e es moment
-        (stand start all es less).spoken.aborts_said sound
-        (λ work. absurd (subst (IsOwnWork start e.host) is work))
-        (λ closes. let differ : Client signal ≡ Host (Closed closes.cause) = sym is ∙ closes.is in absurd cc))
+      -- whoever tells it of an abort speaks truly
+      client_told : (signal : ClientSignal) → x.body ≡ Client signal → is_well_formed start.shape x ≡ true
+          → SaysAbort (fate start old) (Client signal)
+      client_told signal is sound =
+          subst (SaysAbort (fate start old)) is
+          (taken_told start (λ (y : Addressed). SaysAbort (fate start old) y.signal.body) all e es moment
+          (stand start all es less).spoken.aborts_said sound
+          (λ work. absurd (subst (IsOwnWork start e.host) is work))
+          (λ closes. let differ : Client signal ≡ Host (Closed closes.cause) = sym is ∙ closes.is in absurd cc))
 
-    -- a transaction that is open isn't known to be committed
-    not_known : (t : OpenTransaction) → IsIn t own.client.api.opened → t.tx ≡ Some tx → is_known start old tx ≡ true → ⊥
-    not_known t there is knows =
-        let some = any_counts (has_tx tx) own.client.api.opened
-        (any_of (has_tx tx) own.client.api.opened t there (ap (is_tx tx) is ∙ same_tx-self tx)) in
-        let none = client.closed tx knows in
-        let same : in_client (count_open tx) (after start 0 log).parts ≡ count_open tx own.client =
-        ap (in_client (count_open tx)) (seeing start log).runs in
-        omega (arith, some, none, same)
+      -- a transaction that is open isn't known to be committed
+      not_known : (t : OpenTransaction) → IsIn t own.client.api.opened → t.tx ≡ Some tx → is_known start old tx ≡ true → ⊥
+      not_known t there is knows =
+          let some = any_counts (has_tx tx) own.client.api.opened
+          (any_of (has_tx tx) own.client.api.opened t there (ap (is_tx tx) is ∙ same_tx-self tx)) in
+          let none = client.closed tx knows in
+          let same : in_client (count_open tx) (after start 0 log).parts ≡ count_open tx own.client =
+          ap (in_client (count_open tx)) (seeing start log).runs in
+          omega (arith, some, none, same)
 
-    reason : (q : ShellPart) → IsSameBut own q → is_well_formed start.shape x ≡ true
-        → AbortReason (noted q.client x.view).taken_over (noted q.client x.view).api.opened x.body tx why
-        → fate start old tx ≡ aborts
-    reason q same sound (by_rollback is) = client_told (TcRollbackRep tx why) is sound
-    reason q same sound (by_failing is) = client_told (TcKeyFailRef tx) is sound
-    reason q same sound (by_down is) = absurd (not_down is)
-    reason q same sound (by_view view taken out t there is) =
-        which (client.over view (sym same.taken ∙ (sym (noted_taken q.client x.view) ∙ taken)) tx out)
-      where
-        which : (fate start old tx ≡ aborts) ⊎ (is_known start old tx ≡ true) → fate start old tx ≡ aborts
-        which (inl aborting) = aborting
-        which (inr knows) =
-            absurd (not_known t (subst (IsIn t) (noted_opened q.client x.view ∙ same.opened) there) is knows)
+      reason : (q : ShellPart) → IsSameBut own q → is_well_formed start.shape x ≡ true
+          → AbortReason (noted q.client x.view).taken_over (noted q.client x.view).api.opened x.body tx why
+          → fate start old tx ≡ aborts
+      reason q same sound (by_rollback is) = client_told (TcRollbackRep tx why) is sound
+      reason q same sound (by_failing is) = client_told (TcKeyFailRef tx) is sound
+      reason q same sound (by_down is) = absurd (not_down is)
+      reason q same sound (by_view view taken out t there is) =
+          which (client.over view (sym same.taken ∙ (sym (noted_taken q.client x.view) ∙ taken)) tx out)
+        where
+          which : (fate start old tx ≡ aborts) ⊎ (is_known start old tx ≡ true) → fate start old tx ≡ aborts
+          which (inl aborting) = aborting
+          which (inr knows) =
+              absurd (not_known t (subst (IsIn t) (noted_opened q.client x.view ∙ same.opened) there) is knows)
 
-    now_aborts : IsIn (Reported tx (Aborted why)) e.step.marks → fate start old tx ≡ aborts
-    unfolding shell_row
-    now_aborts there =
-        by (shell_marks start log e mark (subst (IsIn mark) marks there) refl)
-      where
-        mark : Mark
-        mark = Reported tx (Aborted why)
+      now_aborts : IsIn (Reported tx (Aborted why)) e.step.marks → fate start old tx ≡ aborts
+      unfolding shell_row
+      now_aborts there =
+          by (shell_marks start log e mark (subst (IsIn mark) marks there) refl)
+        where
+          mark : Mark
+          mark = Reported tx (Aborted why)
 
-        marks : e.step.marks ≡ (step_after start 0 log e).effects.marks
-        marks = subst (λ k. e.step.marks ≡ (step_after start k (old k) e).effects.marks) at happens.step.fits.marks
+          marks : e.step.marks ≡ (step_after start 0 log e).effects.marks
+          marks = subst (λ k. e.step.marks ≡ (step_after start k (old k) e).effects.marks) at happens.step.fits.marks
 
-        row : (q : ShellPart) → IsSameBut own q → is_well_formed start.shape x ≡ true → (b : BlockId)
-            → IsIn (Reported tx (Aborted why)) (shell_row q b x).effects.marks → fate start old tx ≡ aborts
-        row q same sound block.Api inside =
-            reason q same sound
-            (each_in (HasAbortReason x (noted q.client x.view)) (Reported tx (Aborted why))
-            (client_row q.client x).effects.marks (client_is_good x q.client).0 inside)
-        row q same sound block.Arbiter inside =
-            absurd (true≢false (each_in IsNoOutcome (Reported tx (Aborted why)) (arbiter_row q.arbiter x).effects.marks
-            (arbiter_tells_nothing q.arbiter x).1 inside))
-        row q same sound _ inside = absurd inside
+          row : (q : ShellPart) → IsSameBut own q → is_well_formed start.shape x ≡ true → (b : BlockId)
+              → IsIn (Reported tx (Aborted why)) (shell_row q b x).effects.marks → fate start old tx ≡ aborts
+          row q same sound block.Api inside =
+              reason q same sound
+              (each_in (HasAbortReason x (noted q.client x.view)) (Reported tx (Aborted why))
+              (client_row q.client x).effects.marks (client_is_good x q.client).0 inside)
+          row q same sound block.Arbiter inside =
+              absurd (true≢false (each_in IsNoOutcome (Reported tx (Aborted why)) (arbiter_row q.arbiter x).effects.marks
+              (arbiter_tells_nothing q.arbiter x).1 inside))
+          row q same sound _ inside = absurd inside
 
-        by : IsOfShell start log e mark → fate start old tx ≡ aborts
-        by one = row one.q one.same one.sound x.to.block one.there
+          by : IsOfShell start log e mark → fate start old tx ≡ aborts
+          by one = row one.q one.same one.sound x.to.block one.there
 
   reported : (es : List HostStep) → IsMoment start all es → (tx : TxId) (why : AbortCause) → why ≢ cause.Down
       → IsMarked (Reported tx (Aborted why)) (logs_of start es 0) → fate start (logs_of start es) tx ≡ aborts

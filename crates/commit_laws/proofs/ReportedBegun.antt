@@ -30,7 +30,6 @@ use Rattle.commit_laws.specs.Traces.{is_known}
 use Rattle.commit_laws.proofs.ForthClient.{IsToldOf, by_coordinator, by_takeover}
 use Rattle.commit_laws.proofs.KnownTold.{WasTold, known_told}
 
-
 takes_older : (tx : TxId) (newer log : List HostStep) → takes_in (is_begin tx) log ≤ takes_in (is_begin tx) (newer ++ log)
 takes_older tx [] log = omega arith
 takes_older tx (e ∷ newer) log = let rest = takes_older tx newer log in omega (arith, rest)

@@ -325,11 +325,13 @@ module _ (x : Signal) (s : ClientState) where
   vouched_good (Client (TcBeginConf name tx)) false at known = (tt, gone_good name tx)
   vouched_good (Client (TcKeyFailConf tx epoch)) true at known =
       (api_good s.api (Client (TcCommitConf tx epoch)) (λ other why is. absurd cc), stays refl)
-  vouched_good (Client (TcKeyFailRef tx)) true at known =
-      (api_good s.api (Client (TcRollbackRep tx (NodeFail x.view.number)))
-      (λ other why is.
-      let same : tx ≡ other = cc is in
-      by_failing (at ∙ ap (λ v. Client (TcKeyFailRef v)) same)), stays refl)
+  vouched_good (Client (TcKeyFailRef tx)) true at known = (
+    api_good s.api (Client (TcRollbackRep tx (NodeFail x.view.number)))
+        (λ other why is.
+        let same : tx ≡ other = cc is in
+        by_failing (at ∙ ap (λ v. Client (TcKeyFailRef v)) same)),
+    stays refl,
+  )
   vouched_good (Client NfCompleteRep) true at known =
       going_good (stay (record s { taken_over = Some (greater_of x.view s.taken_over) })) (tt, completes at known refl)
   vouched_good body true at known = (own_good s.api, stays refl)

@@ -486,71 +486,71 @@ module _ (start : Start) (all : ℕ → List HostStep) (e : HostStep) (es : List
           (vouched : is_vouched (noted q.client x.view) x ≡ true) (tx : TxId)
           (out : is_member x.view (coordinator_member tx) ≡ false)
         where
-        abbrev i : ℕ
-        i = x.from.0
+          abbrev i : ℕ
+          i = x.from.0
 
-        unasked : n.asked e ≡ false
-        unasked =
-            neither ((x.from.0 == e.host) && is_own_work x.body) (is_well_formed start.shape x)
-            (never (x.from.0 == e.host) (is_own_work x.body) (ap is_own_work body)) sound
-          where
-            never : (a b : Bool) → b ≡ false → (a && b) ≡ false
-            never true b off = off
-            never false b off = refl
+          unasked : n.asked e ≡ false
+          unasked =
+              neither ((x.from.0 == e.host) && is_own_work x.body) (is_well_formed start.shape x)
+              (never (x.from.0 == e.host) (is_own_work x.body) (ap is_own_work body)) sound
+            where
+              never : (a b : Bool) → b ≡ false → (a && b) ≡ false
+              never true b off = off
+              never false b off = refl
 
-            neither : (a b : Bool) → a ≡ false → b ≡ true → (a || not b) ≡ false
-            neither true b off is = absurd (true≢false off)
-            neither false true off is = refl
-            neither false false off is = absurd (true≢false (sym is))
+              neither : (a b : Bool) → a ≡ false → b ≡ true → (a || not b) ≡ false
+              neither true b off is = absurd (true≢false off)
+              neither false true off is = refl
+              neither false false off is = absurd (true≢false (sym is))
 
-        given : IsGiven n i 0 (old i) (n.signal e ∷ taken n i log)
-        given = subst (λ k. IsGiven n i k (old i) (n.signal e ∷ taken n i (old k))) at (happens.takes unasked)
+          given : IsGiven n i 0 (old i) (n.signal e ∷ taken n i log)
+          given = subst (λ k. IsGiven n i k (old i) (n.signal e ∷ taken n i (old k))) at (happens.takes unasked)
 
-        closing_none : (l : List HostStep) → IsClosing n i 0 l (n.signal e ∷ taken n i log) → ⊥
-        closing_none [] closes = closes
-        closing_none (f ∷ l) closes =
-            let same : n.closing i l f 0 ≡ n.signal e = cc (closes.is) in
-            let differ : Client NfCompleteRep ≡ Host (Closed (cause_in f.step.marks)) =
-            sym body ∙ sym (ap (λ (y : Addressed). y.signal.body) same) in
-            absurd cc
+          closing_none : (l : List HostStep) → IsClosing n i 0 l (n.signal e ∷ taken n i log) → ⊥
+          closing_none [] closes = closes
+          closing_none (f ∷ l) closes =
+              let same : n.closing i l f 0 ≡ n.signal e = cc (closes.is) in
+              let differ : Client NfCompleteRep ≡ Host (Closed (cause_in f.step.marks)) =
+              sym body ∙ sym (ap (λ (y : Addressed). y.signal.body) same) in
+              absurd cc
 
-        seen_is : (noted q.client x.view).api.view ≡ view
-        unfolding shell_row
-        seen_is = sym (client_notes q.client x) ∙ shell_view start log e (shell_row q block.Api x).state parts
+          seen_is : (noted q.client x.view).api.view ≡ view
+          unfolding shell_row
+          seen_is = sym (client_notes q.client x) ∙ shell_view start log e (shell_row q block.Api x).state parts
 
-        complete : (fate start new tx ≡ aborts) ⊎ (is_known start new tx ≡ true)
-        complete = by given
-          where
-            of_past : IsPast (n.signal e ∷ taken n i log) (sent n i 0 (old i))
-                → (fate start new tx ≡ aborts) ⊎ (is_known start new tx ≡ true)
-            of_past past = which (last i (n.signal e) past.newer (taken n i log) past.is body tx (not_led x.view tx out))
-              where
-                members : Each (λ (y : Addressed). y.signal.member ≡ member_at (made start) i) (n.signal e ∷ taken n i log)
-                members = each_past _ past (sent_members start i 0 (old i))
+          complete : (fate start new tx ≡ aborts) ⊎ (is_known start new tx ≡ true)
+          complete = by given
+            where
+              of_past : IsPast (n.signal e ∷ taken n i log) (sent n i 0 (old i))
+                  → (fate start new tx ≡ aborts) ⊎ (is_known start new tx ≡ true)
+              of_past past = which (last i (n.signal e) past.newer (taken n i log) past.is body tx (not_led x.view tx out))
+                where
+                  members : Each (λ (y : Addressed). y.signal.member ≡ member_at (made start) i) (n.signal e ∷ taken n i log)
+                  members = each_past _ past (sent_members start i 0 (old i))
 
-                not_both : (z : Addressed) → IsIn z (taken n i log) → is_member stood z.signal.member ≡ false → ⊥
-                not_both z there off =
-                    let own_member : z.signal.member ≡ x.member =
-                    each_in (λ (y : Addressed). y.signal.member ≡ member_at (made start) i) z (taken n i log) members.1 there
-                    ∙ sym members.0 in
-                    true≢false (sym (subst (λ v. is_member v x.member ≡ true) seen_is vouched)
-                    ∙ subst (λ m. is_member view m ≡ false) own_member (still_out z.signal.member off))
+                  not_both : (z : Addressed) → IsIn z (taken n i log) → is_member stood z.signal.member ≡ false → ⊥
+                  not_both z there off =
+                      let own_member : z.signal.member ≡ x.member =
+                      each_in (λ (y : Addressed). y.signal.member ≡ member_at (made start) i) z (taken n i log) members.1 there
+                      ∙ sym members.0 in
+                      true≢false (sym (subst (λ v. is_member v x.member ≡ true) seen_is vouched)
+                      ∙ subst (λ m. is_member view m ≡ false) own_member (still_out z.signal.member off))
 
-                which : IsSaid start old tx (taken n i log)
-                    → (fate start new tx ≡ aborts) ⊎ (is_known start new tx ≡ true)
-                which (aborted is) = ended_more tx (inl is)
-                which (known is) = ended_more tx (inr is)
-                which (told one) = heard_it (before.heard i one.signal one.there one.place tx one.epoch one.body)
-                  where
-                    heard_it : (is_known start old tx ≡ true) ⊎ (is_member stood one.signal.signal.member ≡ false)
-                        → (fate start new tx ≡ aborts) ⊎ (is_known start new tx ≡ true)
-                    heard_it (inl is) = ended_more tx (inr is)
-                    heard_it (inr off) = absurd (not_both one.signal one.there off)
+                  which : IsSaid start old tx (taken n i log)
+                      → (fate start new tx ≡ aborts) ⊎ (is_known start new tx ≡ true)
+                  which (aborted is) = ended_more tx (inl is)
+                  which (known is) = ended_more tx (inr is)
+                  which (told one) = heard_it (before.heard i one.signal one.there one.place tx one.epoch one.body)
+                    where
+                      heard_it : (is_known start old tx ≡ true) ⊎ (is_member stood one.signal.signal.member ≡ false)
+                          → (fate start new tx ≡ aborts) ⊎ (is_known start new tx ≡ true)
+                      heard_it (inl is) = ended_more tx (inr is)
+                      heard_it (inr off) = absurd (not_both one.signal one.there off)
 
-            by : IsGiven n i 0 (old i) (n.signal e ∷ taken n i log)
-                → (fate start new tx ≡ aborts) ⊎ (is_known start new tx ≡ true)
-            by (inl past) = of_past past
-            by (inr closes) = absurd (closing_none (old i) closes)
+              by : IsGiven n i 0 (old i) (n.signal e ∷ taken n i log)
+                  → (fate start new tx ≡ aborts) ⊎ (is_known start new tx ≡ true)
+              by (inl past) = of_past past
+              by (inr closes) = absurd (closing_none (old i) closes)
 
       over_next : (v : View) → (seeing start (e ∷ log)).part.client.taken_over ≡ Some v → (tx : TxId)
           → is_member v (coordinator_member tx) ≡ false

@@ -109,9 +109,10 @@ pub noted_each : (tx : TxId) (key : List ℕ) (Marked : Type 0) (gs : List Gathe
 noted_each tx key Marked gs order has =
     each_from (λ (g : Gathered). g.tx ≡ tx → (has_key g.keys key ≡ true) × (Marked → g.epoch ≡ None → ⊥)) gs
     (λ g there same.
-    let is : g ≡ has.entry = alone gs order has.entry g has.there there (same ∙ sym has.same) in
-    (ap (λ (q : Gathered). has_key q.keys key) is ∙ has.key_in,
-    λ marked none. has.committed marked (ap (λ (q : Gathered). q.epoch) (sym is) ∙ none)))
+    let is : g ≡ has.entry = alone gs order has.entry g has.there there (same ∙ sym has.same) in (
+      ap (λ (q : Gathered). has_key q.keys key) is ∙ has.key_in,
+      λ marked none. has.committed marked (ap (λ (q : Gathered). q.epoch) (sym is) ∙ none),
+    ))
 
 module _ (first : OrdersComeFirst) (start : Start) (all : ℕ → List HostStep) (e : HostStep) (es : List HostStep)
     (moment : IsMoment start all (e ∷ es)) (member : Member) (closing : EndsGathering start e es member)

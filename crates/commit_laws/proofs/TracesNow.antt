@@ -161,144 +161,144 @@ module _ (forth : ForthIsKnownAlways) where
                 (sym (ap (λ (s : ReplicaState). list_any (is_marker tx key) s.lqh.markers) (other_rows other)) ∙ on)
 
       module _ (remembered : CommitsAreRemembered) (acknowledged : AcknowledgedAreKnown) (stood : AllStand start es)
-          where
-        module _ (member : Member) (there : IsIn member (made start)) (key : List ℕ) (tx : TxId) where
-          -- a commit of a record is of a key that it wrote
-          pub commit_written : TakesNow start all e es moment member there → (epoch : ℕ) (chain : List Member) (at : ℕ)
-              → e.step.taken.body ≡ Chain (Commit tx key epoch chain at) → (r : PendingRecord)
-              → record_at start (logs_of start es) member key tx ≡ Some r → HasWritten start (logs_of start es) tx key
-          commit_written takes epoch chain at about r is =
-              let one =
-              commit_kept start all e es moment takes.now (Commit tx key epoch chain at) about forth stood.spoken tx
-              key epoch
-              chain at refl in
-              (stood.commits.records tx one.kept member there key r is).0
+        where
+          module _ (member : Member) (there : IsIn member (made start)) (key : List ℕ) (tx : TxId) where
+            -- a commit of a record is of a key that it wrote
+            pub commit_written : TakesNow start all e es moment member there → (epoch : ℕ) (chain : List Member) (at : ℕ)
+                → e.step.taken.body ≡ Chain (Commit tx key epoch chain at) → (r : PendingRecord)
+                → record_at start (logs_of start es) member key tx ≡ Some r → HasWritten start (logs_of start es) tx key
+            commit_written takes epoch chain at about r is =
+                let one =
+                commit_kept start all e es moment takes.now (Commit tx key epoch chain at) about forth stood.spoken tx
+                key epoch
+                chain at refl in
+                (stood.commits.records tx one.kept member there key r is).0
 
-          module _ (gone : is_forth start old tx ≡ true) where
-            calm : IsCalm start old tx
-            calm = forth_calm start all es before tx gone
+            module _ (gone : is_forth start old tx ≡ true) where
+              calm : IsCalm start old tx
+              calm = forth_calm start all es before tx gone
 
-            goes : KeyGoes start all e es moment member there key tx
-            goes = key_goes start all e es moment member there key tx calm
+              goes : KeyGoes start all e es moment member there key tx
+              goes = key_goes start all e es moment member there key tx calm
 
-            record_written : (r : PendingRecord) → record_at start new member key tx ≡ Some r → r.committed ≡ true
-                → HasWritten start old tx key
-            record_written r is done = by goes.record_goes (record_at start old member key tx) refl
+              record_written : (r : PendingRecord) → record_at start new member key tx ≡ Some r → r.committed ≡ true
+                  → HasWritten start old tx key
+              record_written r is done = by goes.record_goes (record_at start old member key tx) refl
+                where
+                  was : (own : PendingRecord) → record_at start old member key tx ≡ Some own → own.committed ≡ true
+                      → HasWritten start old tx key
+                  was own own_is so = stood.commits.written tx member there key (committed_there own own_is so)
+
+                  if_so : (own : PendingRecord) → record_at start old member key tx ≡ Some own → (b : Bool)
+                      → own.committed ≡ b → (if b then Some own else None) ≡ Some r → HasWritten start old tx key
+                  if_so own own_is true so same = was own own_is so
+                  if_so own own_is false so same = absurd cc
+
+                  unless_so : (own : PendingRecord) → (b : Bool) → own.committed ≡ b
+                      → (if b then None else Some own) ≡ Some r → HasWritten start old tx key
+                  unless_so own true so same = absurd cc
+                  unless_so own false so same =
+                      absurd (true≢false (sym done
+                      ∙ (ap (λ (x : PendingRecord). x.committed) (sym (some_is own r same)) ∙ so)))
+
+                  by : RecordGoes start all e es moment member there key tx → (o : Option PendingRecord)
+                      → record_at start old member key tx ≡ o → HasWritten start old tx key
+                  by (record_stays same) o own_is = was r (sym same ∙ is) done
+                  by (is_committed takes epoch chain at about now) None own_is =
+                      absurd (let both : None ≡ Some r = sym (now ∙ ap (now_by as_committed) own_is) ∙ is in cc)
+                  by (is_committed takes epoch chain at about now) (Some own) own_is =
+                      commit_written takes epoch chain at about own own_is
+                  by (is_completed takes chain at about now) None own_is =
+                      absurd (let both : None ≡ Some r = sym (now ∙ ap (now_by unless_committed) own_is) ∙ is in cc)
+                  by (is_completed takes chain at about now) (Some own) own_is =
+                      unless_so own own.committed refl (sym (now ∙ ap (now_by unless_committed) own_is) ∙ is)
+                  by (is_aborted takes about now) None own_is =
+                      absurd (let both : None ≡ Some r = sym (now ∙ ap (now_by if_committed) own_is) ∙ is in cc)
+                  by (is_aborted takes about now) (Some own) own_is =
+                      if_so own own_is own.committed refl (sym (now ∙ ap (now_by if_committed) own_is) ∙ is)
+
+              marker_written : has_marker_at start new member key tx ≡ true → HasWritten start old tx key
+              marker_written on = by (goes.marker_gives on)
+                where
+                  by : (has_marker_at start old member key tx ≡ true)
+                      ⊎ IsMarkedNow start all e es moment member there key tx
+                      → HasWritten start old tx key
+                  by (inl was) = stood.commits.written tx member there key (marked_there was)
+                  by (inr now) =
+                      commit_written now.takes now.commits.epoch now.commits.chain now.commits.at now.commits.body_is
+                      now.commits.prepared now.commits.there
+
+            pub written_now : LeavesTraceOn start (logs_of start (e ∷ es)) member key tx
+                → HasWritten start (logs_of start (e ∷ es)) tx key
+            written_now trace =
+                written_more start all e es moment tx key
+                (forth_decided start all es before tx (trace_before member there key tx trace))
+                (by trace (trace_before member there key tx trace))
               where
-                was : (own : PendingRecord) → record_at start old member key tx ≡ Some own → own.committed ≡ true
-                    → HasWritten start old tx key
-                was own own_is so = stood.commits.written tx member there key (committed_there own own_is so)
+                by : LeavesTraceOn start new member key tx → is_forth start old tx ≡ true → HasWritten start old tx key
+                by (committed_there r is done) gone = record_written gone r is done
+                by (marked_there on) gone = marker_written gone on
 
-                if_so : (own : PendingRecord) → record_at start old member key tx ≡ Some own → (b : Bool)
-                    → own.committed ≡ b → (if b then Some own else None) ≡ Some r → HasWritten start old tx key
-                if_so own own_is true so same = was own own_is so
-                if_so own own_is false so same = absurd cc
+          -- a completion that is taken is of one that is done
+          pub complete_done : (member : Member) (there : IsIn member (made start))
+              → TakesNow start all e es moment member there → (tx : TxId) (key : List ℕ) (chain : List Member) (at : ℕ)
+              → e.step.taken.body ≡ Chain (Complete tx key chain at) → IsDone start (logs_of start es) tx
+          complete_done member there takes tx key chain at about =
+              subst (ComesWhenDone start old) about
+              (chain_told start all e es moment takes.now (Complete tx key chain at) about
+              (λ (y : Addressed). ComesWhenDone start old y.signal.body) stood.commits.done)
 
-                unless_so : (own : PendingRecord) → (b : Bool) → own.committed ≡ b
-                    → (if b then None else Some own) ≡ Some r → HasWritten start old tx key
-                unless_so own true so same = absurd cc
-                unless_so own false so same =
-                    absurd (true≢false (sym done
-                    ∙ (ap (λ (x : PendingRecord). x.committed) (sym (some_is own r same)) ∙ so)))
-
-                by : RecordGoes start all e es moment member there key tx → (o : Option PendingRecord)
-                    → record_at start old member key tx ≡ o → HasWritten start old tx key
-                by (record_stays same) o own_is = was r (sym same ∙ is) done
-                by (is_committed takes epoch chain at about now) None own_is =
-                    absurd (let both : None ≡ Some r = sym (now ∙ ap (now_by as_committed) own_is) ∙ is in cc)
-                by (is_committed takes epoch chain at about now) (Some own) own_is =
-                    commit_written takes epoch chain at about own own_is
-                by (is_completed takes chain at about now) None own_is =
-                    absurd (let both : None ≡ Some r = sym (now ∙ ap (now_by unless_committed) own_is) ∙ is in cc)
-                by (is_completed takes chain at about now) (Some own) own_is =
-                    unless_so own own.committed refl (sym (now ∙ ap (now_by unless_committed) own_is) ∙ is)
-                by (is_aborted takes about now) None own_is =
-                    absurd (let both : None ≡ Some r = sym (now ∙ ap (now_by if_committed) own_is) ∙ is in cc)
-                by (is_aborted takes about now) (Some own) own_is =
-                    if_so own own_is own.committed refl (sym (now ∙ ap (now_by if_committed) own_is) ∙ is)
-
-            marker_written : has_marker_at start new member key tx ≡ true → HasWritten start old tx key
-            marker_written on = by (goes.marker_gives on)
-              where
-                by : (has_marker_at start old member key tx ≡ true)
-                    ⊎ IsMarkedNow start all e es moment member there key tx
-                    → HasWritten start old tx key
-                by (inl was) = stood.commits.written tx member there key (marked_there was)
-                by (inr now) =
-                    commit_written now.takes now.commits.epoch now.commits.chain now.commits.at now.commits.body_is
-                    now.commits.prepared now.commits.there
-
-          pub written_now : LeavesTraceOn start (logs_of start (e ∷ es)) member key tx
-              → HasWritten start (logs_of start (e ∷ es)) tx key
-          written_now trace =
-              written_more start all e es moment tx key
-              (forth_decided start all es before tx (trace_before member there key tx trace))
-              (by trace (trace_before member there key tx trace))
+          -- a marker alone
+          pub alone_now : (member : Member) → IsIn member (members_now start (logs_of start (e ∷ es))) → (key : List ℕ)
+              (tx : TxId) → has_marker_at start (logs_of start (e ∷ es)) member key tx ≡ true
+              → record_at start (logs_of start (e ∷ es)) member key tx ≡ None
+              → IsDone start (logs_of start (e ∷ es)) tx
+          alone_now member among key tx on none =
+              done_stays forth remembered acknowledged start all e es moment tx
+              (forth_decided start all es before tx gone)
+              (by ((goes member there key tx gone).marker_gives on))
             where
-              by : LeavesTraceOn start new member key tx → is_forth start old tx ≡ true → HasWritten start old tx key
-              by (committed_there r is done) gone = record_written gone r is done
-              by (marked_there on) gone = marker_written gone on
+              was_among : IsIn member (members_now start old)
+              was_among = member_before start all e es moment member among
 
-        -- a completion that is taken is of one that is done
-        pub complete_done : (member : Member) (there : IsIn member (made start))
-            → TakesNow start all e es moment member there → (tx : TxId) (key : List ℕ) (chain : List Member) (at : ℕ)
-            → e.step.taken.body ≡ Chain (Complete tx key chain at) → IsDone start (logs_of start es) tx
-        complete_done member there takes tx key chain at about =
-            subst (ComesWhenDone start old) about
-            (chain_told start all e es moment takes.now (Complete tx key chain at) about
-            (λ (y : Addressed). ComesWhenDone start old y.signal.body) stood.commits.done)
+              there : IsIn member (made start)
+              there = member_made start all es before member was_among
 
-        -- a marker alone
-        pub alone_now : (member : Member) → IsIn member (members_now start (logs_of start (e ∷ es))) → (key : List ℕ)
-            (tx : TxId) → has_marker_at start (logs_of start (e ∷ es)) member key tx ≡ true
-            → record_at start (logs_of start (e ∷ es)) member key tx ≡ None
-            → IsDone start (logs_of start (e ∷ es)) tx
-        alone_now member among key tx on none =
-            done_stays forth remembered acknowledged start all e es moment tx
-            (forth_decided start all es before tx gone)
-            (by ((goes member there key tx gone).marker_gives on))
-          where
-            was_among : IsIn member (members_now start old)
-            was_among = member_before start all e es moment member among
+              gone : is_forth start old tx ≡ true
+              gone = trace_before member there key tx (marked_there on)
 
-            there : IsIn member (made start)
-            there = member_made start all es before member was_among
+              had_one : (own : PendingRecord) → record_at start new member key tx ≡ Some own → IsDone start old tx
+              had_one own is = absurd (let both : Some own ≡ None = sym is ∙ none in cc)
 
-            gone : is_forth start old tx ≡ true
-            gone = trace_before member there key tx (marked_there on)
+              old_marker : has_marker_at start old member key tx ≡ true
+                  → RecordGoes start all e es moment member there key tx → (o : Option PendingRecord)
+                  → record_at start old member key tx ≡ o → IsDone start old tx
+              old_marker was moves None is = stood.commits.alone member was_among key tx was is
+              old_marker was (record_stays same) (Some own) is = had_one own (same ∙ is)
+              old_marker was (is_committed takes epoch chain at about now) (Some own) is =
+                  had_one (committed own) (now ∙ ap (now_by as_committed) is)
+              old_marker was (is_completed takes chain at about now) (Some own) is =
+                  complete_done member there takes tx key chain at about
+              old_marker was (is_aborted takes about now) (Some own) is =
+                  absurd (let both : commits ≡ aborts =
+                  sym (marker_commits start all es before member was_among key tx was)
+                  ∙ abort_aborts start all e es moment takes.now (Abort tx key) about forth stood.spoken tx key refl in
+                  cc)
 
-            had_one : (own : PendingRecord) → record_at start new member key tx ≡ Some own → IsDone start old tx
-            had_one own is = absurd (let both : Some own ≡ None = sym is ∙ none in cc)
+              new_marker : IsMarkedNow start all e es moment member there key tx
+                  → RecordGoes start all e es moment member there key tx → IsDone start old tx
+              new_marker now (record_stays same) = had_one now.commits.prepared (same ∙ now.commits.there)
+              new_marker now (is_committed takes epoch chain at about is) =
+                  had_one (committed now.commits.prepared) (is ∙ ap (now_by as_committed) now.commits.there)
+              new_marker now (is_completed takes chain at about is) =
+                  complete_done member there takes tx key chain at about
+              new_marker now (is_aborted takes about is) =
+                  absurd (let both : Chain (Abort tx key)
+                  ≡ Chain (Commit tx key now.commits.epoch now.commits.chain now.commits.at) =
+                  sym about ∙ now.commits.body_is in cc)
 
-            old_marker : has_marker_at start old member key tx ≡ true
-                → RecordGoes start all e es moment member there key tx → (o : Option PendingRecord)
-                → record_at start old member key tx ≡ o → IsDone start old tx
-            old_marker was moves None is = stood.commits.alone member was_among key tx was is
-            old_marker was (record_stays same) (Some own) is = had_one own (same ∙ is)
-            old_marker was (is_committed takes epoch chain at about now) (Some own) is =
-                had_one (committed own) (now ∙ ap (now_by as_committed) is)
-            old_marker was (is_completed takes chain at about now) (Some own) is =
-                complete_done member there takes tx key chain at about
-            old_marker was (is_aborted takes about now) (Some own) is =
-                absurd (let both : commits ≡ aborts =
-                sym (marker_commits start all es before member was_among key tx was)
-                ∙ abort_aborts start all e es moment takes.now (Abort tx key) about forth stood.spoken tx key refl in
-                cc)
-
-            new_marker : IsMarkedNow start all e es moment member there key tx
-                → RecordGoes start all e es moment member there key tx → IsDone start old tx
-            new_marker now (record_stays same) = had_one now.commits.prepared (same ∙ now.commits.there)
-            new_marker now (is_committed takes epoch chain at about is) =
-                had_one (committed now.commits.prepared) (is ∙ ap (now_by as_committed) now.commits.there)
-            new_marker now (is_completed takes chain at about is) =
-                complete_done member there takes tx key chain at about
-            new_marker now (is_aborted takes about is) =
-                absurd (let both : Chain (Abort tx key)
-                    ≡ Chain (Commit tx key now.commits.epoch now.commits.chain now.commits.at) =
-                sym about ∙ now.commits.body_is in cc)
-
-            by : (has_marker_at start old member key tx ≡ true) ⊎ IsMarkedNow start all e es moment member there key tx
-                → IsDone start old tx
-            by (inl was) =
-                old_marker was (goes member there key tx gone).record_goes (record_at start old member key tx) refl
-            by (inr now) = new_marker now (goes member there key tx gone).record_goes
+              by : (has_marker_at start old member key tx ≡ true) ⊎ IsMarkedNow start all e es moment member there key tx
+                  → IsDone start old tx
+              by (inl was) =
+                  old_marker was (goes member there key tx gone).record_goes (record_at start old member key tx) refl
+              by (inr now) = new_marker now (goes member there key tx gone).record_goes

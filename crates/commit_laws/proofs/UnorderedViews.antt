@@ -192,18 +192,20 @@ module _ (start : Start) (all : ℕ → List HostStep) (e : HostStep) (es : List
             let still : takeover_row between.takeover x ≡ stay between.takeover =
             idle_stays between.takeover x rests
             (λ orders.
-            unordered (subst (λ k. Stands k) (sym at) stands) (taken_by block.Takeover to passed) orders) in
-            (ap (λ (step : Step TakeoverState). step.state.stage) still ∙ rests,
-            subst AreNoReports (sym (ap (λ (step : Step TakeoverState). step.effects.sends) still)) tt)
+            unordered (subst (λ k. Stands k) (sym at) stands) (taken_by block.Takeover to passed) orders) in (
+              ap (λ (step : Step TakeoverState). step.state.stage) still ∙ rests,
+              subst AreNoReports (sym (ap (λ (step : Step TakeoverState). step.effects.sends) still)) tt,
+            )
         row passed block.Tc to = (between_rests own.does.enters, coordinator_no_reports between x)
         row passed block.Dih to = (between_rests own.does.enters, epochs_no_reports between x)
         row passed _ to = (between_rests own.does.enters, tt)
 
         takes : PartTakes tc_kind start.shape between view x own.does.own own.does.rest
             → Rests own.does.own own.does.rest
-        takes (ignores same nothing) =
-            (ap (λ (q : TcPart). q.takeover.stage) same ∙ between_rests own.does.enters,
-            subst AreNoReports (sym nothing) tt)
+        takes (ignores same nothing) = (
+          ap (λ (q : TcPart). q.takeover.stage) same ∙ between_rests own.does.enters,
+          subst AreNoReports (sym nothing) tt,
+        )
         takes (handles passed same sent) =
             let comes = row passed x.to.block refl in
             (ap (λ (q : TcPart). q.takeover.stage) same ∙ comes.0, subst AreNoReports (sym sent) comes.1)
@@ -241,9 +243,10 @@ module _ (start : Start) (all : ℕ → List HostStep) (e : HostStep) (es : List
 
         own_rows : RowsTurn start all e es moment member there
             → ((rows_at start new member).report ≡ None) × AreNoReports (sends_at (ldm_of start member))
-        own_rows (rest_now is quiet stays) =
-            (ap (λ (r : ReplicaState). r.report) is ∙ before.reports member there (stood_before (stays at)),
-            subst AreNoReports (sym (quiet at).sends) tt)
+        own_rows (rest_now is quiet stays) = (
+          ap (λ (r : ReplicaState). r.report) is ∙ before.reports member there (stood_before (stays at)),
+          subst AreNoReports (sym (quiet at).sends) tt,
+        )
         own_rows (enter_now is quiet) =
             (ap (λ (r : ReplicaState). r.report) is, subst AreNoReports (sym (quiet at).sends) tt)
         own_rows (take_now s between which taken) =

@@ -34,15 +34,17 @@ module _ {A : Type 0} (t p : A → Bool) (q : A) (own : t q ≡ true) where
           → (first p xs ≡ Some q → count_by t xs ≡ 1 → Each (λ y. t y ≡ true → y ≡ q) xs)
           → Each (λ y. t y ≡ true → y ≡ q) (x ∷ xs)
       by true is more =
-          let same : x ≡ q = cc in
-          ((λ passes. same),
-          each_map (λ y. t y ≡ false) (λ y. t y ≡ true → y ≡ q) xs
-          (λ y off passes. absurd (true≢false (sym passes ∙ off)))
-          (none_passes t xs (omega (arith, one, count_more t x xs, ap one_if (ap t same ∙ own)))))
+          let same : x ≡ q = cc in (
+            (λ passes. same),
+            each_map (λ y. t y ≡ false) (λ y. t y ≡ true → y ≡ q) xs
+                (λ y off passes. absurd (true≢false (sym passes ∙ off)))
+                (none_passes t xs (omega (arith, one, count_more t x xs, ap one_if (ap t same ∙ own)))),
+          )
       by false is more =
-          let some = first_dropped xs is in
-          ((λ passes. absurd (omega (arith, one, count_more t x xs, ap one_if passes, some))),
-          more is (omega (arith, one, count_more t x xs, some)))
+          let some = first_dropped xs is in (
+            (λ passes. absurd (omega (arith, one, count_more t x xs, ap one_if passes, some))),
+            more is (omega (arith, one, count_more t x xs, some)),
+          )
 
 -- no more pass a test among those that pass another
 pub filter_fewer : {A : Type 0} (t f : A → Bool) (xs : List A) → count_by t (filter f xs) ≤ count_by t xs

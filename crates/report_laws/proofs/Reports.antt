@@ -1,6 +1,5 @@
 -- What the client is told: the laws of reports, put together.
 use Rattle.report_laws.specs.Reports.{ReportsAreMarked}
-
 use Rattle.report_laws.proofs.Requested.{asked_are_requested}
 use Rattle.report_laws.proofs.SingleAnswers.{answers_are_of_their_transaction}
 use Rattle.report_laws.proofs.SingleCounts.{none_is_answered_twice}
