@@ -51,10 +51,11 @@ pub record AreLived (start : Start) (ending : Ending) (commands : List Command) 
   pub stays_calm : are_calm commands ≡ true → NoneWants (logs_at logs) → AreCalm (logs_at logs)
 
 -- What a life of a cluster of this shape says: it begins without rows, in the first epoch; its logs, one for each host
--- and each with its host's number, are a run of the machine from there, in which hosts may stop and cut each other off;
--- the requests in them are those of the commands; every closed cut of them is safe, whatever failed, and so are any two of
--- them, one inside the other; the history of a cut is that of each larger one with some entries left out; and where they are calm, so that nothing failed and no epoch
--- was closed, the cluster served as one does in which nothing can fail.
+-- and each with its host's number, are a run of the machine from there, in which hosts may stop and cut each other
+-- off; the requests in them are those of the commands; every closed cut of them is safe, whatever failed, and so are
+-- any two of them, one inside the other; the history of a cut is that of each larger one with some entries left out;
+-- and where they are calm, so that nothing failed and no epoch was closed, the cluster served as one does in which
+-- nothing can fail.
 pub record IsLife (shape : Shape) (ending : Ending) (commands : List Command) (life : Life) : Type 0 where
   pub begins : start_of shape life ≡ fresh shape
   pub lived : AreLived (start_of shape life) ending commands life.logs
