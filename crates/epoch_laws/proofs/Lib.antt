@@ -1,6 +1,6 @@
-mod DihMoves
-mod DihRows
-mod DihSends
+pub mod DihMoves
+pub mod DihRows
+pub mod DihSends
 pub mod FallAll
 mod FallMarks
 mod MarkClient
@@ -9,38 +9,38 @@ mod MarkMaster
 mod MarkMembership
 mod MarkNone
 mod MarkRows
-mod MarkSteps
+pub mod MarkSteps
 mod MarkTakeover
-mod MasterHears
+pub mod MasterHears
 mod MasterKeeps
 mod MasterKnows
-mod MasterMoves
+pub mod MasterMoves
 mod MasterResumes
 mod MasterResumption
-mod MasterRows
-mod MasterSends
-mod MasterSpeaks
+pub mod MasterRows
+pub mod MasterSends
+pub mod MasterSpeaks
 mod MemberStays
-mod MomentEvents
-mod MomentSteps
+pub mod MomentEvents
+pub mod MomentSteps
 mod OrderKeeps
 mod OrderMoves
 mod OrderOn
 mod SentArbiter
-mod SentKinds
-mod SentMembership
-mod SentNone
-mod SentParts
-mod SentRows
+pub mod SentKinds
+pub mod SentMembership
+pub mod SentNone
+pub mod SentParts
+pub mod SentRows
 mod SignalsOn
-mod StandAll
-mod StandKinds
-mod StandMarks
-mod StandMasters
+pub mod StandAll
+pub mod StandKinds
+pub mod StandMarks
+pub mod StandMasters
 mod StandOn
 mod StandSends
 mod StandStart
-mod StandTakes
-mod StepKinds
-mod StepMain
+pub mod StandTakes
+pub mod StepKinds
+pub mod StepMain
 mod StepTc

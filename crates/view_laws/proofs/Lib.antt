@@ -10,7 +10,7 @@ pub mod EraEntries
 mod EraMarks
 mod EraMaster
 pub mod EraOrder
-mod EraParts
+pub mod EraParts
 pub mod EraRises
 pub mod EraShapes
 pub mod EraSorted
@@ -29,7 +29,7 @@ mod FenceNodes
 mod FenceOrder
 pub mod FencePromised
 pub mod FenceRaised
-mod FenceRanks
+pub mod FenceRanks
 pub mod FenceRows
 mod FenceRuns
 pub mod FenceSeen
@@ -42,22 +42,22 @@ mod FenceWaits
 mod FencedLemmas
 mod Finding
 pub mod FollowHosts
-mod FollowKinds
-mod FollowMemberships
+pub mod FollowKinds
+pub mod FollowMemberships
 mod FollowRoutes
-mod FollowSeen
+pub mod FollowSeen
 pub mod FollowSends
-mod FollowSteps
+pub mod FollowSteps
 pub mod FollowTaken
 pub mod FollowViews
-mod FollowWalk
+pub mod FollowWalk
 pub mod Following
 mod GrantLemmas
 mod GrantRows
 mod GroupLemmas
 mod HeardAnswers
 mod HeardAsking
-mod HeardRows
+pub mod HeardRows
 mod HeardWaiting
 pub mod KindsApi
 pub mod KindsClient
@@ -94,7 +94,7 @@ mod StandingHome
 pub mod StandingMembers
 mod StandingNumbers
 pub mod StandingOldest
-mod StandingSettled
+pub mod StandingSettled
 pub mod StepLemmas
 mod VotesEpochs
 mod VotesKinds
