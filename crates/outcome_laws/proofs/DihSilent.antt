@@ -9,7 +9,7 @@ use Rattle.sig_core.specs.declared.signal.Body.{Body}
 use Rattle.sig_core.specs.declared.signal.Body.TheVariants.{Chain, Client, Epoch, Host, Takeover}
 use Rattle.sig_core.specs.declared.signal.chain.ChainSignal.TheVariants.{Commit}
 use Rattle.sig_core.specs.declared.signal.client.ClientSignal.TheVariants.{TcBeginConf, TcCommitConf, TcCommitReq, TcKeyConf, TcKeyFailConf, TcKeyReq, TcRollbackRep}
-use Rattle.sig_core.specs.declared.signal.epoch.EpochSignal.TheVariants.{DiVerifyConf, DiVerifyReq}
+use Rattle.sig_core.specs.declared.signal.epoch.EpochSignal.TheVariants.{DiVerifyConf, DiVerifyEnd, DiVerifyReq}
 use Rattle.sig_core.specs.declared.signal.host.HostSignal.TheVariants.{Continue}
 use Rattle.sig_core.specs.declared.signal.host.Work.TheVariants.{Transaction}
 use Rattle.sig_core.specs.declared.signal.takeover.TakeoverSignal.TheVariants.{LqhTransConf, LqhTransEnd, LqhTransReq}
@@ -24,6 +24,7 @@ is_telling (Client (TcKeyConf tx answer)) = true
 is_telling (Client (TcCommitReq tx)) = true
 is_telling (Epoch (DiVerifyReq tx ops)) = true
 is_telling (Epoch (DiVerifyConf tx epoch)) = true
+is_telling (Epoch (DiVerifyEnd tx)) = true
 is_telling (Client (TcCommitConf tx epoch)) = true
 is_telling (Client (TcKeyFailConf tx epoch)) = true
 is_telling (Takeover (LqhTransConf tx key told epoch)) = true

@@ -9,7 +9,7 @@ use Rattle.sig_core.specs.declared.portion.TheConstants.{PORTION}
 use Rattle.sig_core.specs.declared.signal.Body.{Body}
 use Rattle.sig_core.specs.declared.signal.Body.TheVariants.{Chain, Client, Epoch, Host, Takeover}
 use Rattle.sig_core.specs.declared.signal.client.ClientSignal.TheVariants.{ViewRep}
-use Rattle.sig_core.specs.declared.signal.epoch.EpochSignal.TheVariants.{DiVerifyConf, DiVerifyReq}
+use Rattle.sig_core.specs.declared.signal.epoch.EpochSignal.TheVariants.{DiVerifyConf, DiVerifyEnd, DiVerifyReq}
 use Rattle.sig_core.specs.declared.signal.host.HostSignal.TheVariants.{Continue}
 use Rattle.sig_core.specs.declared.signal.host.Work.{Work}
 use Rattle.sig_core.specs.declared.signal.host.Work.TheVariants.{Transaction}
@@ -28,6 +28,7 @@ is_tale (Client signal) = true
 is_tale (Chain signal) = true
 is_tale (Epoch (DiVerifyReq tx ops)) = true
 is_tale (Epoch (DiVerifyConf tx epoch)) = true
+is_tale (Epoch (DiVerifyEnd tx)) = true
 is_tale (Takeover (LqhTransConf tx key told epoch)) = true
 is_tale (Takeover LqhTransReq) = true
 is_tale (Takeover LqhTransEnd) = true
@@ -51,6 +52,7 @@ body_silent (Client signal) none = absurd cc
 body_silent (Chain signal) none = absurd cc
 body_silent (Epoch (DiVerifyReq tx ops)) none = absurd cc
 body_silent (Epoch (DiVerifyConf tx epoch)) none = absurd cc
+body_silent (Epoch (DiVerifyEnd tx)) none = absurd cc
 body_silent (Takeover (LqhTransConf tx key told epoch)) none = absurd cc
 body_silent (Takeover LqhTransReq) none = absurd cc
 body_silent (Takeover LqhTransEnd) none = absurd cc
@@ -62,6 +64,7 @@ body_uncounted (Client ViewRep) none = refl
 body_uncounted (Client signal) none = absurd cc
 body_uncounted (Chain signal) none = absurd cc
 body_uncounted (Epoch (DiVerifyReq tx ops)) none = absurd cc
+body_uncounted (Epoch (DiVerifyEnd tx)) none = absurd cc
 body_uncounted body none = refl
 
 pub untold_silent : (sends : List Outgoing) → AreUntold sends → AreSilent sends

@@ -9,7 +9,7 @@ use Rattle.sig_core.specs.declared.signal.Body.{Body}
 use Rattle.sig_core.specs.declared.signal.Body.TheVariants.{Chain, Client, Epoch}
 use Rattle.sig_core.specs.declared.signal.chain.ChainSignal.TheVariants.{LqhKeyRef}
 use Rattle.sig_core.specs.declared.signal.client.ClientSignal.TheVariants.{TcBeginConf, TcKeyConf, TcRollbackRep}
-use Rattle.sig_core.specs.declared.signal.epoch.EpochSignal.TheVariants.{DiVerifyReq}
+use Rattle.sig_core.specs.declared.signal.epoch.EpochSignal.TheVariants.{DiVerifyEnd, DiVerifyReq}
 use Rattle.sig_core.specs.declared.signal.Signal.{Signal}
 use Rattle.api_block.specs.declared.opened.OpenTransaction.{OpenTransaction}
 use Rattle.api_views.specs.Client.{client_row}
@@ -24,6 +24,7 @@ is_coordinators (Client (TcBeginConf name tx)) = true
 is_coordinators (Client (TcKeyConf tx answer)) = true
 is_coordinators (Client (TcRollbackRep tx cause)) = true
 is_coordinators (Epoch (DiVerifyReq tx ops)) = true
+is_coordinators (Epoch (DiVerifyEnd tx)) = true
 is_coordinators (Chain (LqhKeyRef tx key cause)) = is_down_cause cause
 is_coordinators body = false
 
@@ -38,6 +39,7 @@ plain_allowed sent plain = by sent.body plain
     by (Client (TcKeyConf tx answer)) plain = absurd cc
     by (Client (TcRollbackRep tx cause)) plain = absurd cc
     by (Epoch (DiVerifyReq tx ops)) plain = absurd cc
+    by (Epoch (DiVerifyEnd tx)) plain = absurd cc
     by (Chain signal) plain = absurd cc
     by body plain = refl
 

@@ -14,7 +14,7 @@ use Rattle.sig_core.specs.declared.signal.Body.{Body}
 use Rattle.sig_core.specs.declared.signal.Body.TheVariants.{Chain, Client, Epoch}
 use Rattle.sig_core.specs.declared.signal.chain.ChainSignal.TheVariants.{LqhKeyRef}
 use Rattle.sig_core.specs.declared.signal.client.ClientSignal.TheVariants.{TcBeginConf, TcCommitReq, TcKeyConf, TcRollbackRep}
-use Rattle.sig_core.specs.declared.signal.epoch.EpochSignal.TheVariants.{DiVerifyReq}
+use Rattle.sig_core.specs.declared.signal.epoch.EpochSignal.TheVariants.{DiVerifyEnd, DiVerifyReq}
 use Rattle.sig_core.specs.declared.signal.Signal.{Signal}
 use Rattle.sig_core.specs.declared.view.View.{View}
 use Rattle.sig_core.specs.Same.{same_tx}
@@ -99,6 +99,7 @@ counted_coordinators (Client (TcBeginConf name tx)) none = absurd cc
 counted_coordinators (Client (TcKeyConf tx answer)) none = absurd cc
 counted_coordinators (Client (TcRollbackRep tx cause)) none = absurd cc
 counted_coordinators (Epoch (DiVerifyReq tx ops)) none = absurd cc
+counted_coordinators (Epoch (DiVerifyEnd tx)) none = absurd cc
 counted_coordinators (Chain (LqhKeyRef tx key cause)) none = none
 counted_coordinators body none = refl
 

@@ -11,7 +11,7 @@ use Rattle.sig_core.specs.declared.signal.Body.{Body}
 use Rattle.sig_core.specs.declared.signal.Body.TheVariants.{Chain, Client, Epoch}
 use Rattle.sig_core.specs.declared.signal.chain.ChainSignal.TheVariants.{LqhKeyRef}
 use Rattle.sig_core.specs.declared.signal.client.ClientSignal.TheVariants.{TcBeginConf, TcCommitReq, TcKeyConf, TcKeyReq, TcRollbackRep}
-use Rattle.sig_core.specs.declared.signal.epoch.EpochSignal.TheVariants.{DiVerifyReq}
+use Rattle.sig_core.specs.declared.signal.epoch.EpochSignal.TheVariants.{DiVerifyEnd, DiVerifyReq}
 use Rattle.sig_core.specs.Step.{Step}
 use Rattle.outcome_laws.specs.Counts.{is_asking, is_begin, is_wish, one_if}
 use Rattle.outcome_laws.proofs.TcLists.{count_more}
@@ -28,6 +28,7 @@ is_counted (Client (TcKeyConf tx answer)) = true
 is_counted (Client (TcCommitReq tx)) = true
 is_counted (Client (TcRollbackRep tx cause)) = true
 is_counted (Epoch (DiVerifyReq tx ops)) = true
+is_counted (Epoch (DiVerifyEnd tx)) = true
 is_counted (Chain (LqhKeyRef tx key cause)) = is_down_cause cause
 is_counted body = false
 

@@ -12,7 +12,7 @@ use Rattle.sig_core.specs.declared.signal.Body.{Body}
 use Rattle.sig_core.specs.declared.signal.Body.TheVariants.{Chain, Client, Epoch}
 use Rattle.sig_core.specs.declared.signal.chain.ChainSignal.TheVariants.{LqhKeyRef}
 use Rattle.sig_core.specs.declared.signal.client.ClientSignal.TheVariants.{TcBeginConf, TcCommitReq, TcKeyConf, TcKeyReq, TcRollbackRep}
-use Rattle.sig_core.specs.declared.signal.epoch.EpochSignal.TheVariants.{DiVerifyReq}
+use Rattle.sig_core.specs.declared.signal.epoch.EpochSignal.TheVariants.{DiVerifyEnd, DiVerifyReq}
 use Rattle.sig_core.specs.declared.signal.Signal.{Signal}
 use Rattle.sig_core.specs.declared.view.View.{View}
 use Rattle.sig_core.specs.Step.{Effects}
@@ -72,6 +72,7 @@ silent_uncounted sends all = each_map IsSilent IsUncounted sends (λ sent is. by
     by (Client (TcRollbackRep tx cause)) is = absurd cc
     by (Chain (LqhKeyRef tx key cause)) is = absurd cc
     by (Epoch (DiVerifyReq tx ops)) is = absurd cc
+    by (Epoch (DiVerifyEnd tx)) is = absurd cc
     by body is = refl
 
 pub dih_none : (s : DihState) (x : Signal) → AreUncounted (dih_row s x).effects.sends
