@@ -1,0 +1,10 @@
+pub mod StayAll
+pub mod StayCounted
+pub mod StayCuts
+pub mod StayEpochs
+pub mod StayGone
+pub mod StayHistory
+pub mod StayKnown
+pub mod StayLed
+pub mod StayTraces
+pub mod StayViews
