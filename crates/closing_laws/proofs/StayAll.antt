@@ -3,7 +3,6 @@
 use Rattle.std.proofs.Common.{◌≡◌, ◌≤◌, ◌<◌, ◌⊎◌, ◌&&◌, ◌∙◌, ◌++◌, ℕ, Bool, true, false, List, [], ◌∷◌, eq-eqb, refl, sym, ap, subst, inl, inr, arith}
 use Rattle.std.proofs.lemmas.Bool.{cases_lt, true≢false}
 use Rattle.std.specs.List.{list_any}
-use Rattle.std.specs.Prelude.{nat_eq}
 use Rattle.run_theory.proofs.Pasts.{past_nil, past_self}
 use Rattle.run_theory.specs.Cuts.{IsCut}
 use Rattle.run_theory.specs.Lists.{IsIn, IsPast}
@@ -48,11 +47,11 @@ use Rattle.commit_laws.proofs.DecidedStay.{applied_more, forth_decided}
 use Rattle.commit_laws.proofs.FateForth.{fate_decided}
 use Rattle.commit_laws.proofs.FateViews.{any_of}
 use Rattle.commit_laws.proofs.FinalsForth.{HasFinalEntry, IsFinalBy, applied_forth, by_report, by_write, final_by}
-use Rattle.closing_laws.specs.Closed.{ClosersHaveHeardAll, DurableWereClosed, IsClosedBy, IsClosing, IsOver, WasClosed}
+use Rattle.closing_laws.specs.Closed.{ClosersHaveHeardAll, DurableWereClosed, IsClosedBy, IsOver, WasClosed}
 use Rattle.closing_laws.specs.Ended.{ForgottenAreDone, UncountedAreForgotten}
 use Rattle.closing_laws.specs.Over.{LeavesNone, OverLeavesNone}
 use Rattle.closing_laws.specs.Stays.{ClosedStayClosed}
-use Rattle.closing_laws.proofs.StayCuts.{MarksAt, cut_moment, events_of, goes_on, logs_are, marks_at}
+use Rattle.closing_laws.proofs.StayCuts.{cut_moment, events_of, goes_on, logs_are, marks_at}
 use Rattle.closing_laws.proofs.StayGone.{StaysDecided, never_applied, stays_decided}
 use Rattle.closing_laws.proofs.StayHistory.{WritesOne, in_entries, one_entry, own_ops, stays_in, writes_one}
 use Rattle.closing_laws.proofs.StayLed.{IsDecidedAndDone, done_where_led}

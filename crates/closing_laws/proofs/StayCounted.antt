@@ -1,5 +1,5 @@
 -- Whomever a member counts it has decided, in the epoch with which it is counted.
-use Rattle.std.proofs.Common.{◌≡◌, ◌≢◌, ◌≤◌, ◌⊎◌, ◌==◌, ◌∙◌, ◌+◌, ◌++◌, ℕ, Bool, true, false, List, [], ◌∷◌, length, nat_le, nat_lt, refl, sym, ap, subst, inl, inr}
+use Rattle.std.proofs.Common.{◌≡◌, ◌≢◌, ◌⊎◌, ◌==◌, ◌∙◌, ◌+◌, ℕ, Bool, true, false, List, [], ◌∷◌, length, nat_le, nat_lt, refl, sym, ap, subst, inl, inr}
 use Rattle.std.proofs.lemmas.Bool.{cases_eq}
 use Rattle.std.specs.Prelude.{Option, None, Some, position, remove, slice_get}
 use Rattle.run_theory.proofs.EachSent.{each_removed}
@@ -30,15 +30,13 @@ use Rattle.sig_core.specs.declared.signal.host.HostSignal.TheVariants.{Continue}
 use Rattle.sig_core.specs.declared.signal.host.Work.TheVariants.{Held}
 use Rattle.sig_core.specs.declared.signal.membership.MembershipSignal.TheVariants.{FenceReq}
 use Rattle.sig_core.specs.Same.{same_tx}
-use Rattle.sig_core.specs.Step.{Effects, Step, stay}
+use Rattle.sig_core.specs.Step.{Effects, Step}
 use Rattle.node_views.specs.declared.host.Host as node
 use Rattle.node_views.specs.declared.parts.Parts.{Parts}
-use Rattle.node_views.specs.declared.parts.Parts.TheVariants as part
 use Rattle.node_views.specs.declared.tc_part.TcPart.{TcPart}
-use Rattle.node_views.specs.Parts.{tc_entered, tc_row}
+use Rattle.node_views.specs.Parts.{tc_row}
 use Rattle.world_core.specs.Start.{Start, made}
 use Rattle.world_core.specs.Steps.{HostStep}
-use Rattle.world_views.specs.Hosts.{part_started}
 use Rattle.world_views.specs.Machine.{after, machine, step_after}
 use Rattle.view_laws.specs.Order.{sound_machine}
 use Rattle.moment_laws.proofs.MomentHosts.{part_some, tc_started}

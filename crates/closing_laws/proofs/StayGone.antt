@@ -1,6 +1,6 @@
 -- Whoever aborts at a moment, and has no full coordinator there, aborts too where another run comes to the view of that
 -- moment: so it is never applied there.
-use Rattle.std.proofs.Common.{◌≡◌, ◌⊎◌, ◌∙◌, ◌++◌, ℕ, Bool, true, false, List, [], ◌∷◌, append_assoc, refl, sym, ap, subst, inl, inr}
+use Rattle.std.proofs.Common.{◌≡◌, ◌∙◌, ◌++◌, ℕ, Bool, true, false, List, [], ◌∷◌, append_assoc, refl, sym, ap, subst}
 use Rattle.std.proofs.lemmas.Bool.{true≢false}
 use Rattle.run_theory.proofs.Pasts.{past_self, past_trans}
 use Rattle.run_theory.specs.Lists.{IsIn, IsPast}

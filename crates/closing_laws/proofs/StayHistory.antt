@@ -28,7 +28,7 @@ use Rattle.outcome_laws.proofs.StrictEvents.{entries_past}
 use Rattle.outcome_laws.specs.Outcomes.{AreOnce}
 use Rattle.commit_laws.specs.Going.{decided_ops, is_decided, is_written_by}
 use Rattle.commit_laws.specs.Traces.{IsApplied}
-use Rattle.commit_laws.specs.Values.{is_final, is_final_entry}
+use Rattle.commit_laws.specs.Values.{is_final}
 use Rattle.commit_laws.proofs.AllAlways.{all_stand}
 use Rattle.commit_laws.proofs.FateViews.{any_of, some_of}
 use Rattle.commit_laws.proofs.ForthAll.{forth_is_known}

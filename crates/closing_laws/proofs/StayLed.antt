@@ -1,7 +1,6 @@
 -- Whoever has an epoch that is closed, and a full coordinator where it is, was decided by then, and is done.
-use Rattle.std.proofs.Common.{◌≡◌, ◌≤◌, ◌⊎◌, ◌∙◌, ◌++◌, ℕ, Bool, true, false, List, [], ◌∷◌, refl, sym, ap, subst, inl, inr, arith}
+use Rattle.std.proofs.Common.{◌≡◌, ◌≤◌, ◌⊎◌, ◌∙◌, ◌++◌, ℕ, Bool, true, false, List, [], ◌∷◌, refl, sym, subst, inl, inr, arith}
 use Rattle.std.proofs.lemmas.Bool.{le-leb, true≢false}
-use Rattle.std.specs.List.{list_any}
 use Rattle.std.specs.Prelude.{None, Some}
 use Rattle.run_theory.proofs.Pasts.{each_in}
 use Rattle.run_theory.specs.Lists.{IsIn, IsPast}

@@ -2,7 +2,7 @@
 -- members stand in it there, the other run, as it comes to that view, has no more of their logs.
 use Rattle.std.proofs.Common.{◌≡◌, ◌≢◌, ◌≤◌, ◌<◌, ◌⊎◌, ◌∙◌, ◌++◌, ℕ, List, [], ◌∷◌, append_assoc, refl, sym, ap, subst, inl, inr, arith, zero, suc}
 use Rattle.std.proofs.lemmas.Bool.{cases_eq, cases_lt}
-use Rattle.std.specs.Prelude.{None, Some}
+use Rattle.std.specs.Prelude.{Some}
 use Rattle.run_theory.proofs.Pasts.{past_cases, past_self, past_trans}
 use Rattle.run_theory.specs.Lists.{IsIn, IsPast}
 use Rattle.frag_map.specs.Layout.{Layout, first_layout}
@@ -15,7 +15,7 @@ use Rattle.node_views.specs.declared.host.Host as node
 use Rattle.node_views.specs.Blocks.{parts_entered, settled_at}
 use Rattle.node_views.specs.declared.parts.Parts.{Parts}
 use Rattle.world_core.specs.Hosts.{hosts}
-use Rattle.world_core.specs.Start.{Start, made}
+use Rattle.world_core.specs.Start.{Start}
 use Rattle.world_core.specs.Steps.{HostStep}
 use Rattle.world_views.specs.Machine.{after, step_after, told}
 use Rattle.view_laws.proofs.EraRises.{entered_follows, host_follows, settled_above, view_rises}
@@ -25,7 +25,7 @@ use Rattle.view_laws.proofs.RunViews.{one_view}
 use Rattle.view_laws.specs.Runs.{view_after}
 use Rattle.moment_laws.proofs.MomentMembers.{current_made}
 use Rattle.moment_laws.proofs.MomentTurns as turns
-use Rattle.moment_laws.proofs.MomentViews.{current_above, current_number, moment_installed, moment_less, number_in}
+use Rattle.moment_laws.proofs.MomentViews.{current_above, moment_installed, moment_less}
 use Rattle.moment_laws.proofs.PartSteps.{step_do}
 use Rattle.moment_laws.specs.Moments.{IsMoment, current, logs_of}
 use Rattle.moment_laws.specs.Parts.{Enters, PartsDo, Takes, enters, leaves, settles, stays, takes}
