@@ -1,5 +1,5 @@
--- Closed epochs stay closed: where an epoch is closed, whoever has it, or one before it, and takes effect in a later cut,
--- is decided and done, or aborts for ever.
+-- Closed epochs stay closed: where an epoch is closed, whoever has it, or one before it, and takes effect in a later
+-- cut, is decided and done, or aborts for ever.
 use Rattle.std.proofs.Common.{◌≡◌, ◌≤◌, ◌<◌, ◌⊎◌, ◌&&◌, ◌∙◌, ◌++◌, ℕ, Bool, true, false, List, [], ◌∷◌, eq-eqb, refl, sym, ap, subst, inl, inr, arith}
 use Rattle.std.proofs.lemmas.Bool.{cases_lt, true≢false}
 use Rattle.std.specs.List.{list_any}
@@ -58,7 +58,8 @@ use Rattle.closing_laws.proofs.StayLed.{IsDecidedAndDone, done_where_led}
 use Rattle.closing_laws.proofs.StayViews.{comes_also}
 
 -- whoever has no full coordinator commits or aborts
-determined : (known full forth lost trace : Bool) → full ≡ false → fate_if known full forth lost trace ≡ undetermined → ⊥
+determined : (known full forth lost trace : Bool) → full ≡ false → fate_if known full forth lost trace ≡ undetermined
+    → ⊥
 determined true full forth lost trace gone is = absurd cc
 determined false true forth lost trace gone is = true≢false gone
 determined false false forth lost true gone is = absurd cc
@@ -196,8 +197,8 @@ module _ (start : Start) (large : ℕ → List HostStep) (more : AreOfCluster st
         by_led : is_led_by_full start (logs_of start (e ∷ older)) z.tx ≡ true → IsIn z (history (hosts start) small)
         by_led led =
             from_done
-            (done_where_led uncounted forgotten start large some es end at last part epoch closed.ended z.tx led own.epoch
-            own.marked (λ a b one other. at_epoch a one ∙ sym (at_epoch b other))
+            (done_where_led uncounted forgotten start large some es end at last part epoch closed.ended z.tx led
+            own.epoch own.marked (λ a b one other. at_epoch a one ∙ sym (at_epoch b other))
             (let same = at_epoch own.epoch own.marked in omega (arith, same, low)) forth)
 
         module _ (gone : is_led_by_full start (logs_of start (e ∷ older)) z.tx ≡ false) where
@@ -275,7 +276,8 @@ module _ (closers : ClosersHaveHeardAll) (durable : DurableWereClosed) (uncounte
     -- where an epoch was closed
     closed_stay : (start : Start) (small large : ℕ → List HostStep) → 1 ≤ start.epoch → AreOfCluster start small
         → AreOfCluster start large → IsCut small large → (epoch : ℕ) → WasClosed start small epoch → (z : Entry)
-        → IsIn z (history (hosts start) large) → writes z ≡ true → z.epoch ≤ epoch → IsIn z (history (hosts start) small)
+        → IsIn z (history (hosts start) large) → writes z ≡ true → z.epoch ≤ epoch
+        → IsIn z (history (hosts start) small)
     closed_stay start small large some less more cut epoch was z there wrote low =
         let found =
         marks_at start was.host (Closed epoch) (events_of start small)

@@ -96,7 +96,8 @@ module _ (P : Counted → Type 0) where
         first (Some tx) = λ new.
             given_counts (record s { held = remove s.held 0 }) refl tx (λ c inside. new c (front c inside))
           where
-            front : (c : Counted) → IsIn (Decided c.tx c.epoch) (given (record s { held = remove s.held 0 }) tx).effects.marks
+            front : (c : Counted)
+                → IsIn (Decided c.tx c.epoch) (given (record s { held = remove s.held 0 }) tx).effects.marks
                 → IsIn (Decided c.tx c.epoch) (serve_by s (Some tx)).effects.marks
             front c (inl same) = inl same
             front c (inr none) = absurd none
@@ -217,7 +218,8 @@ module _ (start : Start) (all : ℕ → List HostStep) (me : Member) (there : Is
       → Each (λ (c : Counted). IsMarked (Decided c.tx c.epoch) (logs_of start es (tc_of start me)))
       (epochs_of start (logs_of start es) me).counted
   counted_are_decided [] moment =
-      subst (λ (s : node.Host). Each (IsDecidedIn []) (dih_in fresh s.parts).counted) (sym (tc_started start me there)) tt
+      subst (λ (s : node.Host). Each (IsDecidedIn []) (dih_in fresh s.parts).counted)
+      (sym (tc_started start me there)) tt
   counted_are_decided (e ∷ es) moment =
       by (cases_eq e.host h) (counted_are_decided es (moment_less start all e es moment))
     where

@@ -1,5 +1,5 @@
--- A cut of the cluster's logs is a moment of its own run, with all that comes later in the greater one; and each part of a
--- host's log is that of some moment.
+-- A cut of the cluster's logs is a moment of its own run, with all that comes later in the greater one; and each part
+-- of a host's log is that of some moment.
 use Rattle.std.proofs.Common.{◌≡◌, ◌≢◌, ◌⊎◌, ◌∙◌, ◌++◌, ℕ, List, [], ◌∷◌, refl, sym, ap, subst, inl, inr}
 use Rattle.std.proofs.Math.Path.{fun_ext}
 use Rattle.std.proofs.lemmas.Bool.{cases_eq}

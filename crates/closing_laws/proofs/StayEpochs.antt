@@ -103,7 +103,8 @@ module _ (start : Start) (all : ℕ → List HostStep) (some : 1 ≤ start.epoch
         subst (Each (IsGivenBy (epochs_of start old me)))
         (sym (marks_are start all e es moment (stands es (moment_less start all e es moment))))
         (subst (λ h. Each (IsGivenBy (epochs_of start old me)) (step_after start h (old h) e).effects.marks) (sym at)
-        (subst (λ (d : DihState). Each (IsGivenBy d) (step_after start (tc_of start me) (old (tc_of start me)) e).effects.marks)
+        (subst (λ (d : DihState).
+        Each (IsGivenBy d) (step_after start (tc_of start me) (old (tc_of start me)) e).effects.marks)
         (sym (ap (dih_in (fresh_dih 0 0 0 0)) runs.is))
         (tc_steps_give (tc_of start me) (after start (tc_of start me) (old (tc_of start me))) e.step.taken runs.part
         runs.is)))
@@ -113,8 +114,8 @@ module _ (start : Start) (all : ℕ → List HostStep) (some : 1 ≤ start.epoch
     given_now tx epoch inside =
         let is = each_in (IsGivenBy (epochs_of start old me)) (Decided tx epoch) e.step.marks given inside in is.0
 
-  -- Where a member gives a later epoch at a moment, and has decided a transaction in another run, in an epoch up to this
-  -- one, it had decided it by that moment.
+  -- Where a member gives a later epoch at a moment, and has decided a transaction in another run, in an epoch up to
+  -- this one, it had decided it by that moment.
   module _ (es end : List HostStep) (last : IsMoment start all end) (me : Member) (there : IsIn me (made start))
       (part : IsPast (logs_of start es (tc_of start me)) (logs_of start end (tc_of start me))) (tx : TxId) (epoch : ℕ)
       (marked : IsMarked (Decided tx epoch) (logs_of start end (tc_of start me)))
@@ -141,7 +142,8 @@ module _ (start : Start) (all : ℕ → List HostStep) (some : 1 ≤ start.epoch
         let before = moment_less start all d found.older event_at in
         let rises =
         epochs_rise has.newer has.older (subst (IsMoment start all) has.is before) me in
-        let same : (epochs_of start (logs_of start has.older) me).current ≡ (epochs_of start (logs_of start es) me).current =
+        let same : (epochs_of start (logs_of start has.older) me).current
+        ≡ (epochs_of start (logs_of start es) me).current =
         ap (λ l. (dih_in (fresh_dih 0 0 0 0) (after start h l).parts).current) has.log_is in
         let whole : (epochs_of start (logs_of start found.older) me).current
         ≡ (epochs_of start (logs_of start (has.newer ++ has.older)) me).current =

@@ -69,8 +69,9 @@ pub record StaysDecided (start : Start) (tx : TxId) (es later : List HostStep) :
   pub decided : is_decided start (logs_of start later) tx ≡ true
   pub ops : decided_ops start (logs_of start later) tx ≡ decided_ops start (logs_of start es) tx
 
-pub stays_decided : (start : Start) (all : ℕ → List HostStep) (newer es : List HostStep) → IsMoment start all (newer ++ es)
-    → (tx : TxId) → is_decided start (logs_of start es) tx ≡ true → StaysDecided start tx es (newer ++ es)
+pub stays_decided : (start : Start) (all : ℕ → List HostStep) (newer es : List HostStep)
+    → IsMoment start all (newer ++ es) → (tx : TxId) → is_decided start (logs_of start es) tx ≡ true
+    → StaysDecided start tx es (newer ++ es)
 stays_decided start all newer es moment tx is =
     goes_on start all (StaysDecided start tx es)
     (λ e xs at old. record {
@@ -180,8 +181,10 @@ module _ (start : Start) (all : ℕ → List HostStep) (es end : List HostStep) 
         (goes_on start all (λ xs. fate start (logs_of start xs) tx ≡ aborts)
         (λ e xs moment is.
             (fates_move known_commit start all e xs
-            (record { moment = moment; stood = all_stand start all xs (moment_less start all e xs moment) }) tx).aborting is)
+            (record { moment = moment; stood = all_stand start all xs (moment_less start all e xs moment) })
+            tx).aborting is)
         also.newer there (subst (IsMoment start all) also.is last) aborts_there)
 
     pub never_applied : (other : List ℕ) → IsApplied start (logs_of start end) tx other → ⊥
-    never_applied other applied = not_both (sym (applied_commit all_stand start all end last tx other applied) ∙ aborts_end)
+    never_applied other applied =
+        not_both (sym (applied_commit all_stand start all end last tx other applied) ∙ aborts_end)

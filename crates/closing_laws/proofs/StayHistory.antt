@@ -150,7 +150,8 @@ module _ (start : Start) (small large : ℕ → List HostStep) (less : AreOfClus
 
     -- the decisions of the run are the entries of the cut
     pub in_entries : (x : Entry) → IsIn x (decisions start end) → IsIn x (entries (hosts start) small)
-    in_entries x there = subst (IsIn x) (sym (stand_in_order start small less)) (in_turned x (decisions start end) there)
+    in_entries x there =
+        subst (IsIn x) (sym (stand_in_order start small less)) (in_turned x (decisions start end) there)
 
     module _ (z : Entry) (there : IsIn z (entries (hosts start) large))
         (decided : is_decided start (logs_of start (events_of start small)) z.tx ≡ true) where
@@ -182,5 +183,6 @@ module _ (start : Start) (small large : ℕ → List HostStep) (less : AreOfClus
           kept : is_kept (hosts start) small own.entry ≡ true
           kept =
               subst (λ (logs : ℕ → List HostStep). is_kept (hosts start) logs own.entry ≡ true) end_logs
-              (entries_final start large end end (record { moment = end_moment; past = past_self end }) own.entry own.there
+              (entries_final start large end end (record { moment = end_moment; past = past_self end }) own.entry
+              own.there
               ∙ ap (is_final start end) own.tx_is ∙ final)

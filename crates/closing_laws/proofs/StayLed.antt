@@ -79,7 +79,8 @@ module _ (uncounted : UncountedAreForgotten) (forgotten : ForgottenAreDone) (sta
     full : IsIn (coordinator_member tx) (current start (logs_of start es)).full
     full =
         let one = some_of (was_begun_by tx) (current start (logs_of start es)).full led in
-        subst (λ (m : Member). IsIn m (current start (logs_of start es)).full) (begun_by tx one.one one.passes) one.there
+        subst (λ (m : Member). IsIn m (current start (logs_of start es)).full) (begun_by tx one.one one.passes)
+        one.there
 
     there : IsIn (coordinator_member tx) (made start)
     there = current_made start all es at me full
@@ -110,7 +111,8 @@ module _ (uncounted : UncountedAreForgotten) (forgotten : ForgottenAreDone) (sta
             let is =
             once c.epoch given
             (marked_past (Decided tx c.epoch) (logs_of start es h) (logs_of start end h) (part h)
-            (subst (λ t. IsMarked (Decided t c.epoch) (logs_of start es h)) (same_tx-is c.tx tx one.passes) there_marked))
+            (subst (λ t. IsMarked (Decided t c.epoch) (logs_of start es h)) (same_tx-is c.tx tx one.passes)
+            there_marked))
             marked in
             true≢false
             (sym (any_of (is_up_to epoch) counted c one.there (le-leb c.epoch epoch (omega (arith, is, low))))

@@ -42,7 +42,9 @@ trace_stays start all member there tx newer es moment left =
 
     step : (e : HostStep) (xs : List HostStep) → IsMoment start all (e ∷ xs) → P xs → P (e ∷ xs)
     step e xs at is =
-        by (or_cases (leave_trace tx (rows_at start (logs_of start xs) member)) (is_known start (logs_of start xs) tx) is)
+        by
+        (or_cases (leave_trace tx (rows_at start (logs_of start xs) member)) (is_known start (logs_of start xs) tx)
+        is)
       where
         by : (leave_trace tx (rows_at start (logs_of start xs) member) ≡ true)
             ⊎ (is_known start (logs_of start xs) tx ≡ true) → P (e ∷ xs)

@@ -1,5 +1,5 @@
--- Two moments of different runs: where a host has entered a view on the way to one, and the hosts of the rows of its full
--- members stand in it there, the other run, as it comes to that view, has no more of their logs.
+-- Two moments of different runs: where a host has entered a view on the way to one, and the hosts of the rows of its
+-- full members stand in it there, the other run, as it comes to that view, has no more of their logs.
 use Rattle.std.proofs.Common.{◌≡◌, ◌≢◌, ◌≤◌, ◌<◌, ◌⊎◌, ◌∙◌, ◌++◌, ℕ, List, [], ◌∷◌, append_assoc, refl, sym, ap, subst, inl, inr, arith, zero, suc}
 use Rattle.std.proofs.lemmas.Bool.{cases_eq, cases_lt}
 use Rattle.std.specs.Prelude.{Some}
@@ -165,7 +165,8 @@ current_grows start all (e ∷ newer) es moment =
     let up = turns.current_rises start all e (newer ++ es) moment in
     omega (arith, less, up)
 
--- a moment in another run at which the current view is that of this one, and those members' rows have done no more there
+-- a moment in another run at which the current view is that of this one, and those members' rows have done no more
+-- there
 pub record ComesAlso (start : Start) (es end : List HostStep) : Type 0 where
   pub newer : List HostStep
   pub moment : List HostStep
@@ -307,8 +308,8 @@ module _ (start : Start) (all : ℕ → List HostStep) (es end : List HostStep) 
                 → IsPast (logs_of start (f ∷ also.older) h) (logs_of start es h)
             either (inl is) = is
             either (inr past) =
-                absurd (never (subst (IsPast (logs_of start es h)) (turns.other_log start all f also.older comes h other)
-                past))
+                absurd (never (subst (IsPast (logs_of start es h))
+                (turns.other_log start all f also.older comes h other) past))
         by (inl same) = either compared
           where
             log_is : logs_of start (f ∷ also.older) h ≡ f ∷ logs_of start also.older h
@@ -331,8 +332,8 @@ module _ (start : Start) (all : ℕ → List HostStep) (es end : List HostStep) 
             either (inr past) = split (past_cases f (subst (IsPast (logs_of start es h)) log_is past))
 
     pub comes_also : ((member : Member) → IsIn member (current start (logs_of start es)).full
-        → view_after start (ldm_of start member) (logs_of start es (ldm_of start member)) ≡ current start (logs_of start es))
-        → ComesAlso start es end
+        → view_after start (ldm_of start member) (logs_of start es (ldm_of start member))
+        ≡ current start (logs_of start es)) → ComesAlso start es end
     comes_also stand = record {
       newer = up_to.newer ++ also.newer;
       moment = also.event ∷ also.older;
