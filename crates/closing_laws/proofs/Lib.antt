@@ -6,3 +6,13 @@ pub mod CountedTurns
 pub mod EpochsSay
 pub mod Forgotten
 pub mod OverWorks
+pub mod StayAll
+pub mod StayCounted
+pub mod StayCuts
+pub mod StayEpochs
+pub mod StayGone
+pub mod StayHistory
+pub mod StayKnown
+pub mod StayLed
+pub mod StayTraces
+pub mod StayViews
