@@ -6,3 +6,5 @@ pub mod EndedKeeps
 pub mod MasterCloses
 pub mod MasterOwes
 pub mod MainGoes
+pub mod HeardMembers
+pub mod HeardMasters
