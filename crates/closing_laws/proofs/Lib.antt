@@ -8,3 +8,11 @@ pub mod MasterOwes
 pub mod MainGoes
 pub mod HeardMembers
 pub mod HeardMasters
+pub mod ClosersOthers
+pub mod OverMasters
+pub mod ClosersHear
+pub mod OverNone
+pub mod OverMaster
+pub mod OverMembership
+pub mod OverRows
+pub mod OverTakeover
