@@ -55,6 +55,7 @@ use Rattle.epoch_laws.proofs.StepKinds.{RunsTc, runs_tc}
 use Rattle.closing_laws.specs.Closed.{ClosersHaveHeardAll, HasEnded, IsClosing, IsOver}
 use Rattle.closing_laws.proofs.CloseNone.{IsNoClosing, is_closing}
 use Rattle.closing_laws.proofs.ClosersOthers.{HasNoMaster, others_close_none}
+use Rattle.closing_laws.proofs.EndsOwn.{ends_own}
 use Rattle.closing_laws.proofs.HeardMasters.{AllHeard, AreEnded, all_heard, report_true}
 use Rattle.closing_laws.proofs.HeardMembers.{keeps_ended}
 use Rattle.closing_laws.proofs.MainGoes.{Entering, Goes, enters, leaves, main_goes, remains, takes}
@@ -225,11 +226,11 @@ module _ (own : EndsAreOwn) (start : Start) (all : ℕ → List HostStep) (e : H
             over_in : Heard p.master (voice_of x) x.body closes.run → IsOverIn start new me (current start new)
             over_in (last body have none) =
                 subst (IsOverIn start new me) master_seen
-                (still own start all e es moment (all_over own start all es less) me there p.master.view
+                (still own start all e es some moment (all_over own start all es some less) me there p.master.view
                 (subst (λ (t : MasterState). IsOverIn start old me t.view) master_is
-                (all_over own start all es less me there (ap (λ (t : MasterState). t.owed) master_is ∙ none))))
+                (all_over own start all es some less me there (ap (λ (t : MasterState). t.owed) master_is ∙ none))))
             over_in (heard.over body have) =
-                over_now own start all e es moment (all_over own start all es less) me there at taken_here body
+                over_now own start all e es some moment (all_over own start all es some less) me there at taken_here body
                 (current start new) refl
 
             over_is : IsOverIn start new me (current start new)
@@ -309,6 +310,6 @@ module _ (own : EndsAreOwn) (start : Start) (all : ℕ → List HostStep) (e : H
               let runs = runs_rows start me there (old (ldm_of start me)) in
               absurd (no_master (part.Ldm runs.rows) (ap (λ h. (after start h (old h)).parts) at ∙ runs.is) tt)
 
--- if ends of takeovers come from where they should
-pub closers_hear : EndsAreOwn → ClosersHaveHeardAll
-closers_hear own start all e es some moment epoch marked = closes_rightly own start all e es some moment epoch marked
+pub closers_have_heard_all : ClosersHaveHeardAll
+closers_have_heard_all start all e es some moment epoch marked =
+    closes_rightly ends_own start all e es some moment epoch marked

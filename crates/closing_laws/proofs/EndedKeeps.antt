@@ -9,13 +9,14 @@ use Rattle.run_theory.proofs.Pasts.{each_append, each_map}
 use Rattle.sig_core.specs.declared.member.TxId.{TxId}
 use Rattle.sig_core.specs.declared.outs.Outgoing.{Outgoing}
 use Rattle.sig_core.specs.declared.signal.Body.{Body}
-use Rattle.sig_core.specs.declared.signal.Body.TheVariants.{Host, Membership, Epoch}
+use Rattle.sig_core.specs.declared.signal.Body.TheVariants.{Host, Membership, Takeover, Epoch}
 use Rattle.sig_core.specs.declared.signal.Signal.{Signal}
 use Rattle.sig_core.specs.declared.signal.epoch.EpochSignal.{EpochSignal}
 use Rattle.sig_core.specs.declared.signal.epoch.EpochSignal.TheVariants.{DiVerifyReq, DiVerifyEnd, GcpPrepare, GcpCommit, GcpNodeFinish, GcpClosed, CopyGciReq, GcpDone, GcpStateReq}
 use Rattle.sig_core.specs.declared.signal.host.HostSignal.TheVariants.{Continue}
 use Rattle.sig_core.specs.declared.signal.host.Work.TheVariants.{Held}
 use Rattle.sig_core.specs.declared.signal.membership.MembershipSignal.TheVariants.{FenceReq}
+use Rattle.sig_core.specs.declared.signal.takeover.TakeoverSignal.TheVariants.{TakeoverEnd}
 use Rattle.sig_core.specs.Same.{same_tx}
 use Rattle.sig_core.specs.Step.{Step}
 use Rattle.dih_node.specs.declared.dih.Counted.{Counted}
@@ -28,6 +29,7 @@ use Rattle.dih_node.specs.Verify.{end_row, ended, ended_by, given, held_by, is_o
 use Rattle.epoch_laws.specs.Alike.{IsPast, IsSound}
 use Rattle.epoch_laws.proofs.DihRows.{IsOrderPast, Rises, dih_never_falls, ended_past}
 use Rattle.closing_laws.specs.Closed.{HasEnded}
+use Rattle.closing_laws.proofs.OverNone.{AreUnended, IsUnended, is_over}
 
 -- each that is counted has a later epoch
 abbrev pub AreLater : ℕ → List Counted → Type 0
@@ -179,10 +181,15 @@ abbrev pub TellsEnd : DihState → Body → Type 0
 TellsEnd now (Epoch (GcpNodeFinish epoch)) = HasEnded epoch now
 TellsEnd now body = Unit {0}
 
-abbrev Tells : Step DihState → Type 0
-Tells step = Each (λ sent. TellsEnd step.state sent.body) step.effects.sends
+-- and no takeover is told to be over
+abbrev SaysEnd : DihState → Body → Type 0
+SaysEnd now (Takeover TakeoverEnd) = ⊥
+SaysEnd now body = TellsEnd now body
 
-more_tells : (now : DihState) (node : ℕ) (b : Bool) → Each (λ sent. TellsEnd now sent.body) (go_on_if node b)
+abbrev Tells : Step DihState → Type 0
+Tells step = Each (λ sent. SaysEnd step.state sent.body) step.effects.sends
+
+more_tells : (now : DihState) (node : ℕ) (b : Bool) → Each (λ sent. SaysEnd now sent.body) (go_on_if node b)
 more_tells now node true = (tt, tt)
 more_tells now node false = tt
 
@@ -236,7 +243,7 @@ commit_tells s from epoch next rises = by (nat_le s.current epoch) refl
     by true on =
         let now = record (committed s epoch next) { order = Some (record { epoch = epoch; to = from }) } in
         let after = (reported now).state in
-        each_append (λ (sent : Outgoing). TellsEnd after sent.body) (reported now).effects.sends
+        each_append (λ (sent : Outgoing). SaysEnd after sent.body) (reported now).effects.sends
         (go_on_if after.node (can_serve after)) (reported_tells now rises) (more_tells after after.node (can_serve after))
     by false off =
         reported_tells (record s { order = Some (record { epoch = epoch; to = from }) }) (leb-false s.current epoch off)
@@ -267,6 +274,25 @@ table_tells s from number (Epoch signal) rises past = epochs_tell s from signal 
 table_tells s from number _ rises past = tt
 
 -- whatever it takes
+ended_says : (s : DihState) (x : Signal) → Rises x.body → IsSound s → Tells (dih_row s x)
+ended_says s x rises sound = table_tells s x.member.node x.view.number x.body rises sound.order
+
 pub ended_tells : (s : DihState) (x : Signal) → Rises x.body → IsSound s
     → Each (λ sent. TellsEnd (dih_row s x).state sent.body) (dih_row s x).effects.sends
-ended_tells s x rises sound = table_tells s x.member.node x.view.number x.body rises sound.order
+ended_tells s x rises sound =
+    each_map (λ (sent : Outgoing). SaysEnd (dih_row s x).state sent.body)
+    (λ (sent : Outgoing). TellsEnd (dih_row s x).state sent.body) (dih_row s x).effects.sends
+    (λ sent is. by sent.body is) (ended_says s x rises sound)
+  where
+    by : (body : Body) → SaysEnd (dih_row s x).state body → TellsEnd (dih_row s x).state body
+    by (Takeover TakeoverEnd) is = tt
+    by body is = is
+
+pub dih_ends_none : (s : DihState) (x : Signal) → Rises x.body → IsSound s → AreUnended (dih_row s x).effects.sends
+dih_ends_none s x rises sound =
+    each_map (λ (sent : Outgoing). SaysEnd (dih_row s x).state sent.body) IsUnended (dih_row s x).effects.sends
+    (λ sent is. by sent.body is) (ended_says s x rises sound)
+  where
+    by : (body : Body) → SaysEnd (dih_row s x).state body → is_over body ≡ false
+    by (Takeover TakeoverEnd) is = absurd is
+    by body is = refl

@@ -16,3 +16,4 @@ pub mod OverMaster
 pub mod OverMembership
 pub mod OverRows
 pub mod OverTakeover
+pub mod EndsOwn

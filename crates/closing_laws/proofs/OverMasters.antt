@@ -1,6 +1,6 @@
 -- A master owes no takeover in the first view, and later where it was told, in its view, that the takeover of its member is
 -- over.
-use Rattle.std.proofs.Common.{◌≡◌, ◌≢◌, ◌⊎◌, ◌||◌, ◌==◌, ◌&&◌, ℕ, Bool, true, false, List, [], ◌∷◌, refl, sym, ap, subst, ◌∙◌, inl, inr, eq-eqb}
+use Rattle.std.proofs.Common.{◌≡◌, ◌≢◌, ◌≤◌, ◌⊎◌, ◌||◌, ◌==◌, ◌&&◌, ℕ, Bool, true, false, List, [], ◌∷◌, refl, sym, ap, subst, ◌∙◌, inl, inr, eq-eqb}
 use Rattle.std.proofs.lemmas.Bool.{cases_eq, true≢false}
 use Rattle.std.specs.Prelude.{if◌then◌else◌, not}
 use Rattle.frag_map.specs.Layout.{first_layout}
@@ -53,8 +53,8 @@ IsOverTrue start y = y.signal.body ≡ Takeover TakeoverEnd → IsOfTakeover sta
 -- so it is of all that is sent
 abbrev pub EndsAreOwn : Type 0
 EndsAreOwn =
-    (start : Start) (all : ℕ → List HostStep) (es : List HostStep) → IsMoment start all es
-    → EachSent start (IsOverTrue start) (logs_of start es)
+    (start : Start) (all : ℕ → List HostStep) (es : List HostStep) → 1 ≤ start.epoch
+    → IsMoment start all es → EachSent start (IsOverTrue start) (logs_of start es)
 
 -- the master was told in the view of this number
 pub record IsToldOver (start : Start) (logs : ℕ → List HostStep) (member : Member) (number : ℕ) : Type 0 where
@@ -94,7 +94,7 @@ module _ (m : Machine HostStep Addressed) where
       by true b is at = absurd (true≢false is)
 
 module _ (own : EndsAreOwn) (start : Start) (all : ℕ → List HostStep) (e : HostStep) (es : List HostStep)
-    (moment : IsMoment start all (e ∷ es)) (over : AreOver start (logs_of start es))
+    (some : 1 ≤ start.epoch) (moment : IsMoment start all (e ∷ es)) (over : AreOver start (logs_of start es))
   where
     abbrev old : ℕ → List HostStep
     old = logs_of start es
@@ -146,7 +146,7 @@ module _ (own : EndsAreOwn) (start : Start) (all : ℕ → List HostStep) (e : H
 
           is_true : IsOverTrue start (n.signal e)
           is_true =
-              taken_told start (IsOverTrue start) all e es moment (own start all es (moment_less start all e es moment))
+              taken_told start (IsOverTrue start) all e es moment (own start all es some (moment_less start all e es moment))
               taken_here.sound not_own
               (λ closes. let differ : Takeover TakeoverEnd ≡ Host (Closed closes.cause) = sym ends ∙ closes.is in absurd cc)
 
@@ -234,11 +234,12 @@ module _ (own : EndsAreOwn) (start : Start) (all : ℕ → List HostStep) (e : H
               took at taken_here (in_view was x.view) is (λ none. absurd (owing was x.view none))
 
 -- so it is at each moment
-pub all_over : EndsAreOwn → (start : Start) (all : ℕ → List HostStep) (es : List HostStep) → IsMoment start all es
-    → AreOver start (logs_of start es)
-all_over own start all [] moment member there none =
+pub all_over : EndsAreOwn → (start : Start) (all : ℕ → List HostStep) (es : List HostStep) → 1 ≤ start.epoch
+    → IsMoment start all es → AreOver start (logs_of start es)
+all_over own start all [] some moment member there none =
     inl (ap (λ (s : node.Host).
     (master_in (fresh_master member (first_layout start.shape).view 0) s.parts).view)
     (main_started start member there))
-all_over own start all (e ∷ es) moment member there none =
-    over_next own start all e es moment (all_over own start all es (moment_less start all e es moment)) member there none
+all_over own start all (e ∷ es) some moment member there none =
+    over_next own start all e es some moment (all_over own start all es some (moment_less start all e es moment)) member
+    there none
