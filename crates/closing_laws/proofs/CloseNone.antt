@@ -1,0 +1,18 @@
+-- Marks that tell of no closing.
+use Rattle.std.proofs.Common.{◌≡◌, Bool, true, false}
+use Rattle.run_theory.specs.Lists.{Each}
+use Rattle.sig_core.specs.declared.mark.Mark.{Mark}
+use Rattle.sig_core.specs.declared.mark.Mark.TheVariants.{Closed, Durable}
+use Rattle.sig_core.specs.Step.{Step}
+
+abbrev pub is_closing : Mark → Bool
+is_closing (Closed epoch) = true
+is_closing (Durable epoch) = true
+is_closing mark = false
+
+abbrev pub IsNoClosing : Mark → Type 0
+IsNoClosing mark = is_closing mark ≡ false
+
+-- a step tells of none
+abbrev pub ClosesNone : {S : Type 0} → Step S → Type 0
+ClosesNone step = Each IsNoClosing step.effects.marks
