@@ -1,6 +1,6 @@
 -- A member that has ended an epoch has ended it for good, since what it counts from then on has a later one; and what it
 -- reports to be ended has ended.
-use Rattle.std.proofs.Common.{◌≡◌, ◌==◌, ◌||◌, ◌++◌, ℕ, ◌+◌, ◌≤◌, ◌<◌, Bool, true, false, nat_le, nat_lt, List, [], ◌∷◌, length, refl, arith}
+use Rattle.std.proofs.Common.{◌≡◌, ◌==◌, ◌||◌, ℕ, ◌+◌, ◌<◌, Bool, true, false, nat_le, nat_lt, List, [], ◌∷◌, length, refl, arith}
 use Rattle.std.proofs.lemmas.Bool.{leb-false, leb-true, or_parts}
 use Rattle.std.specs.Prelude.{Option, None, Some, position, remove, slice_get}
 use Rattle.run_theory.specs.Lists.{Each}

@@ -17,3 +17,5 @@ pub mod OverMembership
 pub mod OverRows
 pub mod OverTakeover
 pub mod EndsOwn
+pub mod DurableWords
+pub mod DurableDih

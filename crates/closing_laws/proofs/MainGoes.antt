@@ -1,6 +1,6 @@
 -- What a step of a main host comes to for its master of checkpoints, with its marks: the master takes the signal, and what
 -- it marks is marked; or it leaves it alone, or a view is installed in it, and no closing is marked.
-use Rattle.std.proofs.Common.{◌≡◌, ◌≤◌, ◌<◌, ◌⊎◌, ◌||◌, ◌++◌, ◌∙◌, ℕ, zero, suc, Bool, true, false, nat_lt, List, [], ◌∷◌, refl, sym, ap, subst, arith, inl, inr}
+use Rattle.std.proofs.Common.{◌≡◌, ◌≤◌, ◌<◌, ◌||◌, ◌++◌, ◌∙◌, ℕ, zero, suc, Bool, true, false, nat_lt, List, [], ◌∷◌, refl, sym, ap, subst, arith}
 use Rattle.std.proofs.lemmas.Bool.{ltb-false, ltb-true}
 use Rattle.std.specs.Prelude.{not, Option, None, Some}
 use Rattle.run_theory.specs.Lists.{Each}
@@ -22,7 +22,7 @@ use Rattle.api_views.specs.Members.{same_member}
 use Rattle.gcp_master.specs.Master.{master_row}
 use Rattle.gcp_master.specs.Resume as master
 use Rattle.gcp_master.specs.State.{MasterState}
-use Rattle.node_views.specs.Blocks.{fence_at, settled_at}
+use Rattle.node_views.specs.Blocks.{fence_at}
 use Rattle.node_views.specs.declared.host.Host as hosts
 use Rattle.node_views.specs.declared.main_part.MainPart.{MainPart}
 use Rattle.node_views.specs.declared.parts.Parts.TheVariants as part
