@@ -223,7 +223,8 @@ module _ (own : EndsAreOwn) (start : Start) (all : ℕ → List HostStep) (e : H
                 (subst (λ (t : MasterState). IsOverIn start old me t.view) master_is
                 (all_over own start all es some less me there (ap (λ (t : MasterState). t.owed) master_is ∙ none))))
             over_in (heard.over body have) =
-                over_now own start all e es some moment (all_over own start all es some less) me there at taken_here body
+                over_now own start all e es some moment (all_over own start all es some less) me there at
+                taken_here body
                 (current start new) refl
 
             over_is : IsOverIn start new me (current start new)
@@ -257,7 +258,8 @@ module _ (own : EndsAreOwn) (start : Start) (all : ℕ → List HostStep) (e : H
             → (step_after start e.host (old e.host) e).state.standing.view ≡ seen
             → ClosesRun between.master (voice_of x) x.body epoch → IsClosing start e new epoch
         of_row between seen (remains same stands) passed to stood closes =
-            closing seen stands (subst (λ (q : MainPart). IsPassed start.shape (part.Main q) seen x) same passed) to stood
+            closing seen stands
+            (subst (λ (q : MainPart). IsPassed start.shape (part.Main q) seen x) same passed) to stood
             (subst (λ (q : MainPart). ClosesRun q.master (voice_of x) x.body epoch) same closes)
         of_row between seen (enters above same stands) passed to stood closes =
             absurd (not_entered between same closes)

@@ -67,8 +67,8 @@ greater_one P one other first second = by (nat_lt one other)
     by true = second
     by false = first
 
--- a master that goes on with the system files knows that each member has noted the epoch as closed, and that one doesn't
--- know it to be durable
+-- a master that goes on with the system files knows that each member has noted the epoch as closed, and that one
+-- doesn't know it to be durable
 pub record ResumesCopying (known : Known) (run : Run) : Type 0 where
   pub run_is : run.epoch ≡ known.epoch
   pub closed : known.epoch ≤ known.closed

@@ -90,7 +90,8 @@ own_none _ own = absurd own
 
 client_none : (s : ClientState) (x : Signal) → AreUnended (client_row s x).effects.sends
 client_none s x =
-    each_of_kinds is_of_client (λ body. is_over body ≡ false) (client_row s x).effects.sends of_client (client_kinds s x)
+    each_of_kinds is_of_client (λ body. is_over body ≡ false) (client_row s x).effects.sends of_client
+    (client_kinds s x)
 
 coordinator_none : (s : CoordinatorState) (x : Signal) → AreUnended (coordinator_row s x).effects.sends
 coordinator_none s x =
@@ -288,7 +289,8 @@ module _ (start : Start) (all : ℕ → List HostStep) (e : HostStep) (es : List
 
     module _ (me : Member) (there : IsIn me (made start)) (at : e.host ≡ tc_of start me) where
       run : RunsTakeover start e.host me.node (old e.host)
-      run = subst (λ h. RunsTakeover start h me.node (old h)) (sym at) (runs_takeover start me there (old (tc_of start me)))
+      run = subst (λ h. RunsTakeover start h me.node (old h)) (sym at)
+          (runs_takeover start me there (old (tc_of start me)))
 
       above : 1 ≤ e.host
       above = subst (λ h. 1 ≤ h) (sym at) (part_some start parts.Tc me)
@@ -347,7 +349,8 @@ module _ (start : Start) (all : ℕ → List HostStep) (e : HostStep) (es : List
               (step_after start e.host (old e.host) e).effects.sends tc_sends one.there)
 
     others_own : HasNoTc (after start e.host (old e.host)).parts → (y : Addressed)
-        → IsSentBy (made start) e.host stood (step_after start e.host (old e.host) e).effects.sends y → IsOverTrue start y
+        → IsSentBy (made start) e.host stood (step_after start e.host (old e.host) e).effects.sends y
+        → IsOverTrue start y
     others_own none y one ends =
         let off : is_over one.sent.body ≡ false =
         each_in IsUnended one.sent (step_after start e.host (old e.host) e).effects.sends
@@ -355,7 +358,8 @@ module _ (start : Start) (all : ℕ → List HostStep) (e : HostStep) (es : List
         absurd (true≢false (sym (ap is_over (sym one.body ∙ ends)) ∙ off))
 
     sent_own : (y : Addressed)
-        → IsSentBy (made start) e.host stood (step_after start e.host (old e.host) e).effects.sends y → IsOverTrue start y
+        → IsSentBy (made start) e.host stood (step_after start e.host (old e.host) e).effects.sends y
+        → IsOverTrue start y
     sent_own y one = by (whose start e.host (host_low start all e es moment))
       where
         aside : (ps : Parts) → (after start e.host (old e.host)).parts ≡ ps → HasNoTc ps → IsOverTrue start y

@@ -127,7 +127,8 @@ module _ (start : Start) (all : ℕ → List HostStep) (e : HostStep) (es : List
             h = tc_of start member
 
             own : (k : ℕ) → k ≡ h
-                → EpochsMove start.shape (epochs_of start old member) x (view_after start k (e ∷ old k)) (dih_in fresh_epochs (after start h (e ∷ old h)).parts)
+                → EpochsMove start.shape (epochs_of start old member) x (view_after start k (e ∷ old k))
+                (dih_in fresh_epochs (after start h (e ∷ old h)).parts)
             own k at =
                 subst (λ k. EpochsMove start.shape (epochs_of start old member) x (view_after start k (e ∷ old k))
                 (dih_in fresh_epochs (after start h (e ∷ old h)).parts)) (sym at)
