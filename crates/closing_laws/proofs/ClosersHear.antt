@@ -1,5 +1,5 @@
 -- An epoch is closed by the president of the current view, where each full member has ended it and takeover is over.
-use Rattle.std.proofs.Common.{◌≡◌, ◌≤◌, ◌⊎◌, ◌++◌, ℕ, zero, suc, Bool, true, false, List, [], ◌∷◌, refl, sym, ap, subst, ◌∙◌, inl, inr, arith}
+use Rattle.std.proofs.Common.{◌≡◌, ◌≤◌, ◌⊎◌, ℕ, zero, suc, Bool, true, false, List, [], ◌∷◌, refl, sym, ap, subst, ◌∙◌, inl, inr, arith}
 use Rattle.std.proofs.lemmas.Bool.{true≢false}
 use Rattle.frag_map.specs.Layout.{first_layout}
 use Rattle.run_theory.proofs.Pasts.{each_append, each_in, each_map}
@@ -8,16 +8,12 @@ use Rattle.sig_core.specs.declared.mark.Mark.{Mark}
 use Rattle.sig_core.specs.declared.mark.Mark.TheVariants.{Closed}
 use Rattle.sig_core.specs.declared.member.Member.{Member}
 use Rattle.sig_core.specs.declared.place.BlockId.TheVariants as block
-use Rattle.sig_core.specs.declared.place.Part.TheVariants.{Main}
 use Rattle.sig_core.specs.declared.signal.Signal.{Signal}
 use Rattle.sig_core.specs.declared.view.View.{View}
 use Rattle.sig_core.specs.Step.{Step}
-use Rattle.gcp_master.specs.declared.phase.Phase.{Phase}
 use Rattle.gcp_master.specs.declared.phase.Phase.TheVariants.{Unordered, Committing}
-use Rattle.gcp_master.specs.declared.phase.Run.{Run}
 use Rattle.gcp_master.specs.declared.voices.Voice.{Voice}
 use Rattle.gcp_master.specs.Master.{fresh_master, master_row}
-use Rattle.gcp_master.specs.Resume.{in_view}
 use Rattle.gcp_master.specs.State.{MasterState}
 use Rattle.gcp_master.specs.Voices as gcp
 use Rattle.node_views.specs.declared.host.Host as node
@@ -25,10 +21,8 @@ use Rattle.node_views.specs.declared.main_part.MainPart.{MainPart}
 use Rattle.node_views.specs.declared.parts.Parts.{Parts}
 use Rattle.node_views.specs.declared.parts.Parts.TheVariants as part
 use Rattle.node_views.specs.Parts.{main_entered}
-use Rattle.world_core.specs.Hosts.{hosts}
 use Rattle.world_core.specs.Start.{Start, made}
 use Rattle.world_core.specs.Steps.{HostStep}
-use Rattle.world_views.specs.Hosts.{started}
 use Rattle.world_views.specs.Machine.{after, step_after, told}
 use Rattle.view_laws.specs.Runs.{view_after}
 use Rattle.view_laws.specs.Votes.{main_of}
@@ -36,9 +30,9 @@ use Rattle.moment_laws.specs.Moments.{IsMoment, current, logs_of}
 use Rattle.moment_laws.specs.Parts.{IsPassed}
 use Rattle.moment_laws.specs.Places.{ldm_of, tc_of}
 use Rattle.moment_laws.proofs.MomentHosts.{main_low, tc_started}
-use Rattle.moment_laws.proofs.MomentTurns.{current_rises, host_low, number_rises, old_current, own_behind, own_log, taker_stands}
+use Rattle.moment_laws.proofs.MomentTurns.{current_rises, host_low, old_current, own_behind, taker_stands}
 use Rattle.moment_laws.proofs.MomentViews.{current_above, current_number, moment_less, number_in}
-use Rattle.moment_laws.proofs.PartTaken.{IsTakenNow, taken_now}
+use Rattle.moment_laws.proofs.PartTaken.{IsTakenNow}
 use Rattle.outcome_laws.proofs.StrictLists.{in_either}
 use Rattle.epoch_laws.specs.Alike.{EachFull}
 use Rattle.epoch_laws.specs.Masters.{EachHeard}
@@ -61,7 +55,6 @@ use Rattle.closing_laws.proofs.HeardMembers.{keeps_ended}
 use Rattle.closing_laws.proofs.MainGoes.{Entering, Goes, enters, leaves, main_goes, remains, takes}
 use Rattle.closing_laws.proofs.MasterCloses.{ClosesRun, Heard, IsMarkOf, last, master_marks}
 use Rattle.closing_laws.proofs.MasterCloses as heard
-use Rattle.closing_laws.proofs.MasterOwes.{installed_owes, master_owes}
 use Rattle.closing_laws.proofs.OverMasters.{EndsAreOwn, IsOverIn, all_over, over_now, still}
 
 -- a member is the first of a list, or not
@@ -230,7 +223,8 @@ module _ (own : EndsAreOwn) (start : Start) (all : ℕ → List HostStep) (e : H
                 (subst (λ (t : MasterState). IsOverIn start old me t.view) master_is
                 (all_over own start all es some less me there (ap (λ (t : MasterState). t.owed) master_is ∙ none))))
             over_in (heard.over body have) =
-                over_now own start all e es some moment (all_over own start all es some less) me there at taken_here body
+                over_now own start all e es some moment (all_over own start all es some less) me there at
+                taken_here body
                 (current start new) refl
 
             over_is : IsOverIn start new me (current start new)
@@ -264,7 +258,8 @@ module _ (own : EndsAreOwn) (start : Start) (all : ℕ → List HostStep) (e : H
             → (step_after start e.host (old e.host) e).state.standing.view ≡ seen
             → ClosesRun between.master (voice_of x) x.body epoch → IsClosing start e new epoch
         of_row between seen (remains same stands) passed to stood closes =
-            closing seen stands (subst (λ (q : MainPart). IsPassed start.shape (part.Main q) seen x) same passed) to stood
+            closing seen stands
+            (subst (λ (q : MainPart). IsPassed start.shape (part.Main q) seen x) same passed) to stood
             (subst (λ (q : MainPart). ClosesRun q.master (voice_of x) x.body epoch) same closes)
         of_row between seen (enters above same stands) passed to stood closes =
             absurd (not_entered between same closes)

@@ -26,7 +26,6 @@ use Rattle.node_views.specs.declared.shell_part.ShellPart.{ShellPart}
 use Rattle.node_views.specs.declared.tc_part.TcPart.{TcPart}
 use Rattle.node_views.specs.Parts.{ldm_row, shell_row, tc_row}
 use Rattle.tc_views.specs.Views as coordinator
-use Rattle.takeover_block.specs.Takeover.{takeover_row}
 use Rattle.world_views.specs.Machine.{step_by}
 use Rattle.epoch_laws.proofs.DihSends.{dih_installs_give}
 use Rattle.outcome_laws.proofs.DihWalk.{dih_each}

@@ -1,6 +1,6 @@
--- A member that has ended an epoch has ended it for good, since what it counts from then on has a later one; and what it
--- reports to be ended has ended.
-use Rattle.std.proofs.Common.{◌≡◌, ◌==◌, ◌||◌, ◌++◌, ℕ, ◌+◌, ◌≤◌, ◌<◌, Bool, true, false, nat_le, nat_lt, List, [], ◌∷◌, length, refl, arith}
+-- A member that has ended an epoch has ended it for good, since what it counts from then on has a later one; and what
+-- it reports to be ended has ended.
+use Rattle.std.proofs.Common.{◌≡◌, ◌==◌, ◌||◌, ℕ, ◌+◌, ◌<◌, Bool, true, false, nat_le, nat_lt, List, [], ◌∷◌, length, refl, arith}
 use Rattle.std.proofs.lemmas.Bool.{leb-false, leb-true, or_parts}
 use Rattle.std.specs.Prelude.{Option, None, Some, position, remove, slice_get}
 use Rattle.run_theory.specs.Lists.{Each}
@@ -244,7 +244,8 @@ commit_tells s from epoch next rises = by (nat_le s.current epoch) refl
         let now = record (committed s epoch next) { order = Some (record { epoch = epoch; to = from }) } in
         let after = (reported now).state in
         each_append (λ (sent : Outgoing). SaysEnd after sent.body) (reported now).effects.sends
-        (go_on_if after.node (can_serve after)) (reported_tells now rises) (more_tells after after.node (can_serve after))
+        (go_on_if after.node (can_serve after)) (reported_tells now rises)
+        (more_tells after after.node (can_serve after))
     by false off =
         reported_tells (record s { order = Some (record { epoch = epoch; to = from }) }) (leb-false s.current epoch off)
 

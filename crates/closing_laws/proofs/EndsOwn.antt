@@ -1,7 +1,6 @@
 -- The takeover of a member tells the master of that member alone that it is over, and nobody else tells a master so.
-use Rattle.std.proofs.Common.{◌≡◌, ◌≤◌, ◌⊎◌, ◌++◌, ℕ, zero, suc, Bool, true, false, filter, List, [], ◌∷◌, refl, sym, ap, subst, ◌∙◌, inl, inr, arith, ⊎_elim}
+use Rattle.std.proofs.Common.{◌≡◌, ◌≤◌, ◌⊎◌, ◌++◌, ℕ, zero, suc, Bool, true, false, List, [], ◌∷◌, refl, sym, ap, subst, ◌∙◌, inl, inr, arith, ⊎_elim}
 use Rattle.std.proofs.lemmas.Bool.{true≢false}
-use Rattle.std.specs.Prelude.{Option}
 use Rattle.run_theory.proofs.Pasts.{each_append, each_in, each_map}
 use Rattle.run_theory.specs.Lists.{Each, IsIn}
 use Rattle.sig_core.specs.declared.member.Member.{Member}
@@ -9,12 +8,10 @@ use Rattle.sig_core.specs.declared.outs.Outgoing.{Outgoing}
 use Rattle.sig_core.specs.declared.place.BlockId.{BlockId}
 use Rattle.sig_core.specs.declared.place.BlockId.TheVariants as block
 use Rattle.sig_core.specs.declared.place.Part.TheVariants as parts
-use Rattle.sig_core.specs.declared.place.Place.{Place}
 use Rattle.sig_core.specs.declared.signal.Body.{Body}
 use Rattle.sig_core.specs.declared.signal.Body.TheVariants.{Host, Membership, Takeover}
 use Rattle.sig_core.specs.declared.signal.Signal.{Signal}
 use Rattle.sig_core.specs.declared.signal.membership.MembershipSignal.TheVariants.{ArbitReq}
-use Rattle.sig_core.specs.declared.signal.takeover.TakeoverSignal.TheVariants.{TakeoverEnd}
 use Rattle.sig_core.specs.declared.view.View.{View}
 use Rattle.sig_core.specs.Place.{checkpoints}
 use Rattle.sig_core.specs.Step.{Effects}
@@ -23,8 +20,6 @@ use Rattle.api_views.specs.State.{ClientState}
 use Rattle.arbiter_block.specs.Arbiter.{ArbiterState, arbit_if, arbit_row, arbiter_row, arbiter_table, is_granted}
 use Rattle.dih_node.specs.Dih.{dih_row, fresh_dih}
 use Rattle.dih_node.specs.Orders as dih
-use Rattle.dih_node.specs.State.{DihState}
-use Rattle.gcp_master.specs.Master.{master_row}
 use Rattle.node_views.specs.Blocks.{parts_entered, parts_row}
 use Rattle.node_views.specs.declared.host.Host as hosts
 use Rattle.node_views.specs.declared.ldm_part.LdmPart.{LdmPart}
@@ -34,7 +29,6 @@ use Rattle.node_views.specs.declared.parts.Parts.TheVariants as part
 use Rattle.node_views.specs.declared.shell_part.ShellPart.{ShellPart}
 use Rattle.node_views.specs.declared.tc_part.TcPart.{TcPart}
 use Rattle.node_views.specs.Parts.{ldm_row, main_row, shell_row, tc_entered, tc_row}
-use Rattle.qmgr_block.specs.Qmgr.{qmgr_installed, qmgr_row}
 use Rattle.tc_views.specs.Coordinator.{coordinator_row}
 use Rattle.tc_views.specs.State.{CoordinatorState}
 use Rattle.tc_views.specs.Views as coordinator
@@ -42,7 +36,7 @@ use Rattle.world_core.specs.Hosts.{member_at}
 use Rattle.world_core.specs.Start.{Start, made}
 use Rattle.world_core.specs.Steps.{Addressed, HostStep}
 use Rattle.world_views.specs.Hosts.{reached}
-use Rattle.world_views.specs.Machine.{after, signals_of, step_after, step_by, stops_by}
+use Rattle.world_views.specs.Machine.{after, signals_of, step_after, step_by}
 use Rattle.view_laws.specs.Order.{is_sound}
 use Rattle.view_laws.specs.Runs.{view_after}
 use Rattle.view_laws.specs.Votes.{main_of}
@@ -63,7 +57,7 @@ use Rattle.moment_laws.proofs.MomentSignals.{EachSent, sent_next}
 use Rattle.moment_laws.proofs.MomentTurns.{host_low}
 use Rattle.moment_laws.proofs.MomentViews.{moment_less}
 use Rattle.moment_laws.proofs.PartKinds.{tc_after, tc_is}
-use Rattle.moment_laws.proofs.PartTaken.{IsTakenNow, handled_now}
+use Rattle.moment_laws.proofs.PartTaken.{handled_now}
 use Rattle.outcome_laws.proofs.KnowWalk.{AreKept, IsOfEffects, step_keeps}
 use Rattle.epoch_laws.specs.Alike.{IsSound}
 use Rattle.epoch_laws.specs.Members.{dih_in}
@@ -75,11 +69,11 @@ use Rattle.epoch_laws.proofs.StandKinds.{Whose, of_main, of_rows, of_shell, of_t
 use Rattle.epoch_laws.proofs.StandTakes.{taken_rises}
 use Rattle.closing_laws.proofs.EndedKeeps.{dih_ends_none}
 use Rattle.closing_laws.proofs.OverMaster.{master_ends_nothing}
-use Rattle.closing_laws.proofs.OverMasters.{IsOfTakeover, IsOverTrue}
+use Rattle.closing_laws.proofs.OverMasters.{IsOverTrue}
 use Rattle.closing_laws.proofs.OverMembership.{membership_ends_nothing, membership_installs_nothing}
 use Rattle.closing_laws.proofs.OverNone.{AreUnended, IsUnended, is_over}
 use Rattle.closing_laws.proofs.OverRows.{rows_end_none}
-use Rattle.closing_laws.proofs.OverTakeover.{IsForOwn, IsOwnStep, takeover_own, unended_own}
+use Rattle.closing_laws.proofs.OverTakeover.{IsForOwn, takeover_own, unended_own}
 
 -- blocks that tell no master so
 of_client : (body : Body) → is_of_client body ≡ true → is_over body ≡ false
@@ -96,7 +90,8 @@ own_none _ own = absurd own
 
 client_none : (s : ClientState) (x : Signal) → AreUnended (client_row s x).effects.sends
 client_none s x =
-    each_of_kinds is_of_client (λ body. is_over body ≡ false) (client_row s x).effects.sends of_client (client_kinds s x)
+    each_of_kinds is_of_client (λ body. is_over body ≡ false) (client_row s x).effects.sends of_client
+    (client_kinds s x)
 
 coordinator_none : (s : CoordinatorState) (x : Signal) → AreUnended (coordinator_row s x).effects.sends
 coordinator_none s x =
@@ -294,7 +289,8 @@ module _ (start : Start) (all : ℕ → List HostStep) (e : HostStep) (es : List
 
     module _ (me : Member) (there : IsIn me (made start)) (at : e.host ≡ tc_of start me) where
       run : RunsTakeover start e.host me.node (old e.host)
-      run = subst (λ h. RunsTakeover start h me.node (old h)) (sym at) (runs_takeover start me there (old (tc_of start me)))
+      run = subst (λ h. RunsTakeover start h me.node (old h)) (sym at)
+          (runs_takeover start me there (old (tc_of start me)))
 
       above : 1 ≤ e.host
       above = subst (λ h. 1 ≤ h) (sym at) (part_some start parts.Tc me)
@@ -313,7 +309,7 @@ module _ (start : Start) (all : ℕ → List HostStep) (e : HostStep) (es : List
       sound_between : PartEnters tc_kind run.own (view_after start e.host (old e.host)) e.step.taken steps.between stood
           steps.front → IsSound steps.between.dih
       sound_between (remains same stands none) = subst (λ (q : TcPart). IsSound q.dih) (sym same) sound_old
-      sound_between (installs above same stands is) =
+      sound_between (installs newer same stands is) =
           subst (λ (q : TcPart). IsSound q.dih) (sym same)
           (dih_installs_sound run.own.dih e.step.taken.view.number sound_old)
 
@@ -353,7 +349,8 @@ module _ (start : Start) (all : ℕ → List HostStep) (e : HostStep) (es : List
               (step_after start e.host (old e.host) e).effects.sends tc_sends one.there)
 
     others_own : HasNoTc (after start e.host (old e.host)).parts → (y : Addressed)
-        → IsSentBy (made start) e.host stood (step_after start e.host (old e.host) e).effects.sends y → IsOverTrue start y
+        → IsSentBy (made start) e.host stood (step_after start e.host (old e.host) e).effects.sends y
+        → IsOverTrue start y
     others_own none y one ends =
         let off : is_over one.sent.body ≡ false =
         each_in IsUnended one.sent (step_after start e.host (old e.host) e).effects.sends
@@ -361,7 +358,8 @@ module _ (start : Start) (all : ℕ → List HostStep) (e : HostStep) (es : List
         absurd (true≢false (sym (ap is_over (sym one.body ∙ ends)) ∙ off))
 
     sent_own : (y : Addressed)
-        → IsSentBy (made start) e.host stood (step_after start e.host (old e.host) e).effects.sends y → IsOverTrue start y
+        → IsSentBy (made start) e.host stood (step_after start e.host (old e.host) e).effects.sends y
+        → IsOverTrue start y
     sent_own y one = by (whose start e.host (host_low start all e es moment))
       where
         aside : (ps : Parts) → (after start e.host (old e.host)).parts ≡ ps → HasNoTc ps → IsOverTrue start y

@@ -1,18 +1,17 @@
 -- Whom a master has heard to have ended the epoch of its run has ended it.
-use Rattle.std.proofs.Common.{◌≡◌, ◌≤◌, ℕ, List, [], ◌∷◌, refl, sym, ap, subst}
+use Rattle.std.proofs.Common.{◌≡◌, ◌≤◌, ℕ, List, [], ◌∷◌, sym, ap, subst}
 use Rattle.frag_map.specs.Layout.{first_layout}
 use Rattle.run_theory.proofs.Pasts.{each_append, each_map}
-use Rattle.run_theory.specs.Lists.{Each, IsIn}
+use Rattle.run_theory.specs.Lists.{IsIn}
 use Rattle.sig_core.specs.declared.member.Member.{Member}
 use Rattle.sig_core.specs.declared.place.BlockId.{BlockId}
 use Rattle.sig_core.specs.declared.place.BlockId.TheVariants as block
-use Rattle.sig_core.specs.declared.signal.Body.{Body}
 use Rattle.sig_core.specs.declared.signal.Body.TheVariants.{Epoch}
 use Rattle.sig_core.specs.declared.signal.epoch.EpochSignal.TheVariants.{GcpNodeFinish}
 use Rattle.sig_core.specs.declared.signal.Signal.{Signal}
 use Rattle.sig_core.specs.declared.view.View.{View}
 use Rattle.gcp_master.specs.declared.phase.Phase.{Phase}
-use Rattle.gcp_master.specs.declared.phase.Phase.TheVariants.{Unordered, Gathering, Resting, Preparing, Committing, Closing, Saving, Copying}
+use Rattle.gcp_master.specs.declared.phase.Phase.TheVariants.{Committing}
 use Rattle.gcp_master.specs.declared.phase.Run.{Run}
 use Rattle.gcp_master.specs.declared.voices.Voice.{Voice}
 use Rattle.gcp_master.specs.Master.{fresh_master, master_row}
@@ -20,9 +19,7 @@ use Rattle.gcp_master.specs.Resume.{in_view}
 use Rattle.gcp_master.specs.State.{MasterState}
 use Rattle.node_views.specs.declared.host.Host as node
 use Rattle.world_core.specs.Start.{Start, made}
-use Rattle.world_core.specs.Steps.{Addressed, HostStep}
-use Rattle.view_laws.specs.Order.{sound_machine}
-use Rattle.view_laws.specs.Votes.{main_of}
+use Rattle.world_core.specs.Steps.{HostStep}
 use Rattle.view_laws.proofs.FollowHosts.{main_started}
 use Rattle.moment_laws.specs.Moments.{IsMoment, logs_of}
 use Rattle.moment_laws.proofs.MomentSignals.{EachSent, epoch_told}
@@ -31,7 +28,7 @@ use Rattle.moment_laws.proofs.PartTaken.{IsTakenNow}
 use Rattle.epoch_laws.specs.Masters.{EachHeard}
 use Rattle.epoch_laws.specs.Members.{epochs_of, master_in, master_of}
 use Rattle.epoch_laws.specs.Stand.{AllStand}
-use Rattle.epoch_laws.proofs.MasterMoves.{BeginsFrom, IsLate, Moved, voice_of, with_one}
+use Rattle.epoch_laws.proofs.MasterMoves.{BeginsFrom, IsLate, Moved, voice_of}
 use Rattle.epoch_laws.proofs.MasterMoves.{closes, closes_owed, commits, ends, goes_late, hears_finished, hears_prepared, is_ordered, learns, resumes, stays, takes_up}
 use Rattle.epoch_laws.proofs.MasterRows.{master_goes}
 use Rattle.epoch_laws.proofs.MasterSpeaks.{installed}

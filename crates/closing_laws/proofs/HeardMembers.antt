@@ -18,9 +18,7 @@ use Rattle.dih_node.specs.Orders as dih
 use Rattle.dih_node.specs.State.{DihState}
 use Rattle.gcp_master.specs.declared.phase.Phase.{Phase}
 use Rattle.gcp_master.specs.Master.{master_row}
-use Rattle.gcp_master.specs.State.{MasterState}
 use Rattle.node_views.specs.declared.host.Host as node
-use Rattle.node_views.specs.declared.parts.Parts.{Parts}
 use Rattle.node_views.specs.declared.parts.Parts.TheVariants as part
 use Rattle.node_views.specs.declared.tc_part.TcPart.{TcPart}
 use Rattle.node_views.specs.Parts.{tc_entered, tc_row}
@@ -31,17 +29,16 @@ use Rattle.world_core.specs.Hosts.{member_at}
 use Rattle.world_core.specs.Start.{Start, made}
 use Rattle.world_core.specs.Steps.{Addressed, HostStep}
 use Rattle.world_views.specs.Hosts.{started}
-use Rattle.world_views.specs.Machine.{after, signals_of, step_after, stops_by}
+use Rattle.world_views.specs.Machine.{after, signals_of, step_after}
 use Rattle.view_laws.specs.Order.{is_sound}
 use Rattle.view_laws.specs.Runs.{view_after}
 use Rattle.view_laws.specs.Votes.{main_of}
 use Rattle.view_laws.proofs.EraSound.{each_filter}
 use Rattle.view_laws.proofs.FollowSends.{IsSentBy, each_sent}
-use Rattle.view_laws.proofs.RunMade.{member_main}
 use Rattle.moment_laws.specs.Moments.{IsMoment, logs_of}
 use Rattle.moment_laws.specs.PartSteps.{PartEnters, PartTakes, TcDoes, handles, ignores, installs, remains, tc_kind}
 use Rattle.moment_laws.specs.Places.{ldm_of, tc_of}
-use Rattle.moment_laws.proofs.MomentHosts.{ldm_member, part_some, tc_member, tc_started}
+use Rattle.moment_laws.proofs.MomentHosts.{part_some, tc_member, tc_started}
 use Rattle.moment_laws.proofs.MomentSignals.{EachSent, sent_next}
 use Rattle.moment_laws.proofs.MomentTurns.{host_low, other_log, own_log}
 use Rattle.moment_laws.proofs.PartKinds.{tc_after, tc_is}
@@ -130,7 +127,8 @@ module _ (start : Start) (all : ℕ → List HostStep) (e : HostStep) (es : List
             h = tc_of start member
 
             own : (k : ℕ) → k ≡ h
-                → EpochsMove start.shape (epochs_of start old member) x (view_after start k (e ∷ old k)) (dih_in fresh_epochs (after start h (e ∷ old h)).parts)
+                → EpochsMove start.shape (epochs_of start old member) x (view_after start k (e ∷ old k))
+                (dih_in fresh_epochs (after start h (e ∷ old h)).parts)
             own k at =
                 subst (λ k. EpochsMove start.shape (epochs_of start old member) x (view_after start k (e ∷ old k))
                 (dih_in fresh_epochs (after start h (e ∷ old h)).parts)) (sym at)

@@ -9,6 +9,8 @@ pub mod CountedHere
 pub mod CountedOthers
 pub mod CountedOut
 pub mod CountedTurns
+pub mod DurableDih
+pub mod DurableWords
 pub mod EndedKeeps
 pub mod EndsOwn
 pub mod EpochsSay

@@ -1,6 +1,6 @@
--- What a step of a main host comes to for its master of checkpoints, with its marks: the master takes the signal, and what
--- it marks is marked; or it leaves it alone, or a view is installed in it, and no closing is marked.
-use Rattle.std.proofs.Common.{◌≡◌, ◌≤◌, ◌<◌, ◌⊎◌, ◌||◌, ◌++◌, ◌∙◌, ℕ, zero, suc, Bool, true, false, nat_lt, List, [], ◌∷◌, refl, sym, ap, subst, arith, inl, inr}
+-- What a step of a main host comes to for its master of checkpoints, with its marks: the master takes the signal, and
+-- what it marks is marked; or it leaves it alone, or a view is installed in it, and no closing is marked.
+use Rattle.std.proofs.Common.{◌≡◌, ◌≤◌, ◌<◌, ◌||◌, ◌++◌, ◌∙◌, ℕ, zero, suc, Bool, true, false, nat_lt, List, [], ◌∷◌, refl, sym, ap, subst, arith}
 use Rattle.std.proofs.lemmas.Bool.{ltb-false, ltb-true}
 use Rattle.std.specs.Prelude.{not, Option, None, Some}
 use Rattle.run_theory.specs.Lists.{Each}
@@ -22,7 +22,7 @@ use Rattle.api_views.specs.Members.{same_member}
 use Rattle.gcp_master.specs.Master.{master_row}
 use Rattle.gcp_master.specs.Resume as master
 use Rattle.gcp_master.specs.State.{MasterState}
-use Rattle.node_views.specs.Blocks.{fence_at, settled_at}
+use Rattle.node_views.specs.Blocks.{fence_at}
 use Rattle.node_views.specs.declared.host.Host as hosts
 use Rattle.node_views.specs.declared.main_part.MainPart.{MainPart}
 use Rattle.node_views.specs.declared.parts.Parts.TheVariants as part
@@ -175,7 +175,8 @@ module _ (x : Signal) where
         to (ap (λ (h : hosts.Host). h.parts) state ∙ parts) (ap (λ (h : hosts.Host). h.standing.view) state ∙ stood)
         front none (marks ∙ ap (λ (own : List Mark). front ++ own) effects)
 
-    headed_goes : (standing : Standing) (p : MainPart) → Goes shape p standing.view x (headed_row (host_of standing p) x)
+    headed_goes : (standing : Standing) (p : MainPart) → Goes shape p standing.view x
+        (headed_row (host_of standing p) x)
     unfolding headed_row entered
     headed_goes standing p = by (nat_lt standing.view.number x.view.number) refl
       where
@@ -188,7 +189,8 @@ module _ (x : Signal) where
             goes_behind p between standing.view x.view
             (enters (ltb-true standing.view.number x.view.number newer) refl refl) (omega arith)
             (Installed x.view ∷ (qmgr_installed p.qmgr x.view).effects.marks)
-            (refl, membership_installs_close_none p.qmgr x.view) step (entering_if (host_of standing p) x false) refl refl
+            (refl, membership_installs_close_none p.qmgr x.view) step (entering_if (host_of standing p) x false)
+            refl refl
             (row_passes (in_view standing x.view) between)
 
         by : (b : Bool) → nat_lt standing.view.number x.view.number ≡ b

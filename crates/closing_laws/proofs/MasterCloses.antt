@@ -244,9 +244,6 @@ module _ (s : MasterState) (voice : Voice) (body : Body) where
   unfolding takeover_row
   takes_over is_body = by s.phase refl
     where
-      t : MasterState
-      t = record s { owed = false }
-
       by : (phase : Phase) → s.phase ≡ phase → Marks (takeover_by (record s { owed = false }) phase)
       by (Committing run) is =
           closes (record s { owed = false }) run is

@@ -1,5 +1,5 @@
 -- A master owes a takeover until it takes the end of one.
-use Rattle.std.proofs.Common.{◌≡◌, ◌⊎◌, ◌==◌, ◌&&◌, ◌||◌, ◌∙◌, ℕ, Bool, true, false, nat_lt, refl, inl, inr}
+use Rattle.std.proofs.Common.{◌≡◌, ◌⊎◌, ◌==◌, ◌&&◌, ◌||◌, ℕ, Bool, true, false, nat_lt, refl, inl, inr}
 use Rattle.std.specs.Prelude.{Option, None, Some, is_some, not}
 use Rattle.sig_core.specs.declared.signal.Body.{Body}
 use Rattle.sig_core.specs.declared.signal.Body.TheVariants.{Host, Takeover, Epoch}
@@ -22,7 +22,7 @@ use Rattle.gcp_master.specs.declared.phase.Run.{Run}
 use Rattle.gcp_master.specs.declared.sends.TheConstants.{SENDS}
 use Rattle.gcp_master.specs.declared.voices.Voice.{Voice}
 use Rattle.gcp_master.specs.Begin.{begin_global, begin_if, begin_micro, begins, begins_if, begun}
-use Rattle.gcp_master.specs.Closing.{close_if_all, closed_if, copied_if, copy_by, copy_if, copy_row, ended, finish_by, finish_if, finish_row, note_by, note_if, note_row, noted_by, noted_if, prepare_by, prepare_if, prepare_row, prepared_if, save_by, save_if, save_row, saved_if, takeover_row}
+use Rattle.gcp_master.specs.Closing.{close_if_all, closed_if, copied_if, copy_by, copy_if, copy_row, ended, finish_by, finish_if, finish_row, note_by, note_if, note_row, noted_by, noted_if, prepare_by, prepare_if, prepare_row, prepared_if, save_by, save_if, save_row, saved_if}
 use Rattle.gcp_master.specs.Known.{nothing_known, resumed}
 use Rattle.gcp_master.specs.Master.{epoch_table, master_row, master_table, told}
 use Rattle.gcp_master.specs.Numbers.{is_first, next_global, next_micro}

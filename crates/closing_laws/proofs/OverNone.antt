@@ -1,5 +1,5 @@
 -- Steps that don't tell that a takeover is over.
-use Rattle.std.proofs.Common.{◌≡◌, ◌+◌, ℕ, Bool, true, false, List, take, drop, length, nat_lt, refl}
+use Rattle.std.proofs.Common.{◌≡◌, ◌+◌, ℕ, Bool, true, false, List, take, drop, length, nat_lt}
 use Rattle.run_theory.specs.Lists.{Each}
 use Rattle.run_theory.proofs.EachSent.{each_drop, each_take}
 use Rattle.run_theory.proofs.Pasts.{each_append}

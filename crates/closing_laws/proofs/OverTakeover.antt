@@ -69,7 +69,8 @@ stage_none : (node : ℕ) (layout : Layout) (stage : Stage) (g : Gathered) (at :
     → AreUnended (stage_effects node layout stage g at).sends
 unfolding stage_effects stage_sends
 stage_none node layout stage g at =
-    portion_unended (takeover node) (work.Transaction g.tx) (front_sends g.tx stage ++ flat_map (key_sends layout g.tx stage) g.keys) at (λ left. refl)
+    portion_unended (takeover node) (work.Transaction g.tx)
+    (front_sends g.tx stage ++ flat_map (key_sends layout g.tx stage) g.keys) at (λ left. refl)
     (each_append IsUnended (front_sends g.tx stage) (flat_map (key_sends layout g.tx stage) g.keys)
     (front_none g.tx stage)
     (each_flat IsUnended (key_sends layout g.tx stage) g.keys (key_none layout g.tx stage)))
