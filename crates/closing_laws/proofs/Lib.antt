@@ -5,4 +5,5 @@ pub mod CountedOut
 pub mod CountedTurns
 pub mod EpochsSay
 pub mod Forgotten
+pub mod OverStands
 pub mod OverWorks
