@@ -5,5 +5,6 @@ pub mod CountedOut
 pub mod CountedTurns
 pub mod EpochsSay
 pub mod Forgotten
+pub mod OverAll
 pub mod OverStands
 pub mod OverWorks

@@ -1,4 +1,5 @@
--- While a takeover is at work in the current view, and once it is over, the rows of each full member stand in that view.
+-- While a takeover is at work in the current view, and once it is over, the rows of each full member stand in that
+-- view.
 use Rattle.std.proofs.Common.{◌≡◌, ◌≢◌, ◌≤◌, ◌⊎◌, ◌==◌, ◌+◌, ◌++◌, ◌∙◌, nat_lt, ℕ, true, false, List, [], ◌∷◌, arith, inl, inr, length, refl, sym, ap, subst}
 use Rattle.std.proofs.lemmas.Bool.{cases_eq, eqb-true, true≢false}
 use Rattle.run_theory.specs.Links.{sent, sent_by, taken}
@@ -102,7 +103,8 @@ sent_low start i j (e ∷ log) =
         each_filter IsLow (is_sound start) (signals_of start i log e)
         (each_map _ IsLow (signals_of start i log e)
         (λ x one.
-        let same : x.signal.view.number ≡ (view_after start i (e ∷ log)).number = ap (λ (v : View). v.number) one.view_is in
+        let same : x.signal.view.number ≡ (view_after start i (e ∷ log)).number =
+        ap (λ (v : View). v.number) one.view_is in
         omega (arith, same))
         (each_sent start i log e))
 
@@ -170,12 +172,14 @@ module _ (start : Start) (all : ℕ → List HostStep) (e : HostStep) (es : List
 
         not_closed : IsClosed y.signal.body → ⊥
         not_closed closed =
-            let differ : Takeover LqhTransEnd ≡ Host (Closed closed.cause) = sym ended.ends.body ∙ closed.is in absurd cc
+            let differ : Takeover LqhTransEnd ≡ Host (Closed closed.cause) = sym ended.ends.body ∙ closed.is in
+            absurd cc
 
         low : y.signal.view.number ≤ number_in start old l
         low =
             given_so n (sound_closes start) (λ (z : Addressed). z.signal.view.number ≤ number_in start old l) l
-            (tc_of start member) (old l) (taken n l (new (tc_of start member))) (sent_low start l (tc_of start member) (old l))
+            (tc_of start member) (old l) (taken n l (new (tc_of start member)))
+            (sent_low start l (tc_of start member) (old l))
             (given_taken n es e l (tc_of start member) moment.run.1
             ((logs_of_run n es moment.run.0).linked l (tc_of start member)))
             y ended.there not_closed
@@ -229,7 +233,8 @@ module _ (start : Start) (all : ℕ → List HostStep) (e : HostStep) (es : List
               by (remains same seen none) =
                   let number : view.number ≡ stood.number = ap (λ (v : View). v.number) seen in
                   let one = still (omega (arith, number, stands)) in
-                  let same_number : current_number start new ≡ current_number start old = ap (λ (v : View). v.number) one in
+                  let same_number : current_number start new ≡ current_number start old =
+                  ap (λ (v : View). v.number) one in
                   standing_more one
                   (was.work member there (omega (arith, number, stands, same_number))
                   (ap (λ (s : TakeoverState). is_at_work s.stage) (takeover_is start member h log refl p step.runs)
@@ -285,7 +290,8 @@ module _ (start : Start) (all : ℕ → List HostStep) (e : HostStep) (es : List
             where
               zero : (length view.full + length view.starting == 0) ≡ true
               zero =
-                  ap (λ (layout : Layout). length layout.view.full + length layout.view.starting == 0) (sym laid.takeover)
+                  ap (λ (layout : Layout). length layout.view.full + length layout.view.starting == 0)
+                  (sym laid.takeover)
                   ∙ none
 
               few : length view.full ≡ 0
@@ -365,8 +371,8 @@ module _ (start : Start) (all : ℕ → List HostStep) (e : HostStep) (es : List
                   (rest_over step.does.takes))
               by (inr nothing) = subst (Each Over) (sym nothing) tt
 
-        work_here : view.number ≡ current_number start new → is_at_work (takeover_after start member (e ∷ log)).stage ≡ true
-            → AreStanding start new
+        work_here : view.number ≡ current_number start new
+            → is_at_work (takeover_after start member (e ∷ log)).stage ≡ true → AreStanding start new
         work_here stands is =
             own_work stands step.does.takes
             (sym (ap (λ (s : TakeoverState). is_at_work s.stage)
@@ -461,8 +467,10 @@ pub over_stands : (start : Start) (all : ℕ → List HostStep) (es : List HostS
     → AreStanding start (logs_of start es)
 over_stands start all es moment member there over =
     given_so n (sound_closes start) Told h (main_of start member) (logs_of start es h)
-    (taken n h (logs_of start es (main_of start member))) ((overs_stand start all es moment).over member there (main_of start member))
-    ((logs_of_run n es moment.run).linked h (main_of start member)) over.signal over.there not_closed over.body over.number
+    (taken n h (logs_of start es (main_of start member)))
+    ((overs_stand start all es moment).over member there (main_of start member))
+    ((logs_of_run n es moment.run).linked h (main_of start member)) over.signal over.there not_closed over.body
+    over.number
   where
     n : Machine HostStep Addressed
     n = sound_machine start
