@@ -101,7 +101,9 @@ module _ (tx : TxId) (x : Signal) where
   row_accounts between block.Tc sound is = record {
     kept = λ was. inr was;
     decided = λ marked.
-        absurd (true≢false (sym marked ∙ ap (list_any (is_decision tx)) (coordinator_marks_none between.coordinator x)));
+        absurd
+        (true≢false
+        (sym marked ∙ ap (list_any (is_decision tx)) (coordinator_marks_none between.coordinator x)));
   }
   row_accounts between block.Takeover sound is = record {
     kept = λ was. inr was;
@@ -186,7 +188,8 @@ module _ (start : Start) (all : ℕ → List HostStep) (e : HostStep) (es : List
       is_counted_now is =
           ap (λ one. has tx (dih_in (fresh_dih 0 0 0 0) (after start h one).parts).counted) new_log
           ∙ (ap (λ parts. has tx (dih_in (fresh_dih 0 0 0 0) parts).counted)
-          (ap (λ (s : hosts.Host). s.parts) (told_some h (part_some start Tc me) (step_after start h log e)) ∙ comes.runs)
+          (ap (λ (s : hosts.Host). s.parts) (told_some h (part_some start Tc me) (step_after start h log e))
+          ∙ comes.runs)
           ∙ is)
 
       marks_are : e.step.marks ≡ (step_after start h log e).effects.marks
@@ -195,7 +198,8 @@ module _ (start : Start) (all : ℕ → List HostStep) (e : HostStep) (es : List
           subst (λ k. e.step.marks ≡ (step_after start k (old k) e).effects.marks) at happens.step.fits.marks
 
       own_accounted : IsAccounted start old tx → IsAccounted start new tx
-      own_accounted was decided = by (either (list_any (is_decision tx) e.step.marks) (has_mark (is_decision tx) log) marked)
+      own_accounted was decided =
+          by (either (list_any (is_decision tx) e.step.marks) (has_mark (is_decision tx) log) marked)
         where
           marked : (list_any (is_decision tx) e.step.marks || has_mark (is_decision tx) log) ≡ true
           marked = subst (λ one. has_mark (is_decision tx) one ≡ true) new_log decided

@@ -68,7 +68,8 @@ focus_at {A} p xs at there = by (nat_lt place (length xs)) refl there
     place = prefix_len (λ y. not (p y)) xs
 
     by : (b : Bool) → nat_lt place (length xs) ≡ b → cond {A = Option ℕ} b (Some place) None ≡ Some at → IsFocus p xs at
-    by true low is = let same : place ≡ at = cc in subst (IsFocus p xs) same (found p xs (grind (arith, nat_tests, low)))
+    by true low is =
+        let same : place ≡ at = cc in subst (IsFocus p xs) same (found p xs (grind (arith, nat_tests, low)))
     by false low is = absurd cc
 
 module _ (tx : TxId) (s : DihState) (body : Body) where

@@ -150,7 +150,8 @@ module _ (start : Start) (all : ℕ → List HostStep) (e : HostStep) (es : List
       of : IsCoordinatorOf member between.coordinator
       of = between_of start all e es moment member there at
 
-      out_behind : (tx : TxId) (now : CoordinatorState) → coordinator_after start member (new (tc_of start member)) ≡ now
+      out_behind : (tx : TxId) (now : CoordinatorState)
+          → coordinator_after start member (new (tc_of start member)) ≡ now
           → Forgets tx between.coordinator now → IsOut start new tx
       out_behind tx now is forgets = record {
         is_made = subst (λ m. IsIn m (made start)) (sym own) there;
@@ -168,8 +169,8 @@ module _ (start : Start) (all : ℕ → List HostStep) (e : HostStep) (es : List
         where
           own : coordinator_member tx ≡ member
           own =
-              each_found (λ (one : TxId × Transaction). coordinator_member one.0 ≡ member) between.coordinator.tc.live tx
-              forgets.transaction of.own forgets.there
+              each_found (λ (one : TxId × Transaction). coordinator_member one.0 ≡ member)
+              between.coordinator.tc.live tx forgets.transaction of.own forgets.there
 
       coordinator_out : tc.does.own ≡ (tc_row between block.Tc x).state
           → AreOut (coordinator_row between.coordinator x).effects.sends
@@ -249,6 +250,7 @@ ended_are_out start all (e ∷ es) moment =
     sent_out start all e es moment (ended_are_out start all es (moment_less start all e es moment))
 
 -- it stays so
-pub out_stays : (start : Start) (all : ℕ → List HostStep) (e : HostStep) (es : List HostStep) → IsMoment start all (e ∷ es)
-    → (tx : TxId) → IsOut start (logs_of start es) tx → IsOut start (logs_of start (e ∷ es)) tx
+pub out_stays : (start : Start) (all : ℕ → List HostStep) (e : HostStep) (es : List HostStep)
+    → IsMoment start all (e ∷ es) → (tx : TxId) → IsOut start (logs_of start es) tx
+    → IsOut start (logs_of start (e ∷ es)) tx
 out_stays start all e es moment tx out = out_more start all e es moment tx out

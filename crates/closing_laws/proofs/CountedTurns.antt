@@ -247,11 +247,12 @@ module _ (member : Member) (s : CoordinatorState) (of : IsCoordinatorOf member s
       by (passes ahead is same next out) = absurd (none_some t (entry_of s tx) (sym same ∙ gone) found)
       by (begins name is room own none some next out) = absurd (none_some t (entry_of s tx) none found)
       by (turns u is takes same free left next out) =
-          of_same u is (over_of u (turn_for s.tc.node s.tc.layout tx x.body u) (turn_over u takes same) (sym left ∙ gone))
+          of_same u is
+          (over_of u (turn_for s.tc.node s.tc.layout tx x.body u) (turn_over u takes same) (sym left ∙ gone))
       by (resumes u verdict rest place node is about newer own left next out) =
           of_same u is
-          (over_of u (resume_row s.tc.node s.tc.layout tx u verdict s.number) (resume_over u (ap gives_epoch about) verdict)
-          (sym left ∙ gone))
+          (over_of u (resume_row s.tc.node s.tc.layout tx u verdict s.number)
+          (resume_over u (ap gives_epoch about) verdict) (sym left ∙ gone))
 
   pub uncounted_step : (o : Outgoing) → o.body ≡ Epoch (DiVerifyEnd tx)
       → IsIn o (coordinator_row s x).effects.sends → Forgets tx s (coordinator_row s x).state

@@ -1,5 +1,5 @@
--- Whoever was committed and is forgotten is done: its coordinator has heard that its last key is completed, or nothing was
--- written.
+-- Whoever was committed and is forgotten is done: its coordinator has heard that its last key is completed, or nothing
+-- was written.
 use Rattle.std.proofs.Common.{◌≡◌, ◌≢◌, ◌≤◌, ◌⊎◌, ◌==◌, ◌∙◌, ◌++◌, ℕ, Bool, true, false, List, [], ◌∷◌, arith, inl, inr, refl, sym, ap, subst}
 use Rattle.std.proofs.lemmas.Bool.{cases_eq, eqb-true, true≢false}
 use Rattle.std.specs.Prelude.{if◌then◌else◌, None, Option, Some}
@@ -263,7 +263,8 @@ module _ (start : Start) (all : ℕ → List HostStep) (e : HostStep) (es : List
               by (same is unborn untold) = absurd (none_some t (entry_of (c (e ∷ log)) tx) gone (is ∙ found))
               by (begun was some is next untold) = absurd (none_some t (entry_of (c log) tx) was found)
               by (changed sound u also_found turn by_turn left next front more still also out) =
-                  of_turn u (let both : Some u ≡ Some t = sym also_found ∙ found in cc (both)) turn by_turn (sym left ∙ gone)
+                  of_turn u (let both : Some u ≡ Some t = sym also_found ∙ found in cc (both)) turn by_turn
+                  (sym left ∙ gone)
                   (λ none.
                   subst (AreSpared is_commit_told) (sym out)
                   (each_append (IsSpared is_commit_told) front (turn.step.effects.sends ++ more) still.commits
@@ -308,7 +309,8 @@ module _ (start : Start) (all : ℕ → List HostStep) (e : HostStep) (es : List
                   sym wait.ops_are ∙ ap (λ (u : Transaction). u.ops) one
 
           -- so nothing was written
-          none_written : (written_count t.touched == 0) ≡ true → HadOps → (key : List ℕ) → HasWritten start new tx key → ⊥
+          none_written : (written_count t.touched == 0) ≡ true → HadOps → (key : List ℕ)
+              → HasWritten start new tx key → ⊥
           none_written none had key written =
               counted_written t.touched has.one has.among
               (each_in (IsWrittenRightly t.ops) has.one t.touched right.written has.among
@@ -317,7 +319,8 @@ module _ (start : Start) (all : ℕ → List HostStep) (e : HostStep) (es : List
             where
               right : IsTouchedRightly t
               right =
-                  each_found (λ (one : TxId × Transaction). IsTouchedRightly one.1) (c log).tc.live tx t stood.keyed found
+                  each_found (λ (one : TxId × Transaction). IsTouchedRightly one.1) (c log).tc.live tx t stood.keyed
+                  found
 
               is_written : is_written_by t.ops key ≡ true
               is_written =

@@ -20,11 +20,13 @@ pub mod HeardMembers
 pub mod MainGoes
 pub mod MasterCloses
 pub mod MasterOwes
+pub mod OverAll
 pub mod OverMaster
 pub mod OverMasters
 pub mod OverMembership
 pub mod OverNone
 pub mod OverRows
+pub mod OverStands
 pub mod OverTakeover
 pub mod OverWorks
 pub mod StayAll

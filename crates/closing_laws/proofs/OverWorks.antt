@@ -42,13 +42,16 @@ unfolding ask_effects asks_of
 asks_go node view at =
     portion_kinds is_going (takeover node) work.Members (asks_of view) at (λ left. refl)
     (each_append (IsOf is_going) (map ask_of view.full) (map ask_of view.starting)
-    (each_mapped (IsOf is_going) ask_of view.full (λ m. refl)) (each_mapped (IsOf is_going) ask_of view.starting (λ m. refl)))
+    (each_mapped (IsOf is_going) ask_of view.full (λ m. refl))
+    (each_mapped (IsOf is_going) ask_of view.starting (λ m. refl)))
 
 module _ (s : TakeoverState) (body : Body) where
   begins : (step : Step TakeoverState) → Begins s body → Works s body step
   begins step so = record {
     works = λ is. so;
-    over = each_from (λ (o : Outgoing). o.body ≡ Takeover TakeoverEnd → Begins s body) step.effects.sends (λ o there is. so);
+    over =
+        each_from (λ (o : Outgoing). o.body ≡ Takeover TakeoverEnd → Begins s body) step.effects.sends
+        (λ o there is. so);
   }
 
   -- where it doesn't, nothing says so
