@@ -1,11 +1,8 @@
 -- No host without a coordinator ends the count of a transaction, and beside a coordinator no block does.
-use Rattle.std.proofs.Common.{◌≡◌, ◌⊎◌, ◌∙◌, ◌++◌, ℕ, zero, suc, Bool, true, false, List, [], ◌∷◌, refl, sym, ap, subst, inl, inr}
+use Rattle.std.proofs.Common.{◌≡◌, ℕ, zero, suc, Bool, true, false, List, [], ◌∷◌, refl}
 use Rattle.std.proofs.lemmas.Bool.{true≢false}
-use Rattle.run_theory.specs.Lists.{Each}
 use Rattle.run_theory.proofs.Pasts.{each_append, each_map}
 use Rattle.sig_core.specs.declared.outs.Outgoing.{Outgoing}
-use Rattle.sig_core.specs.declared.place.BlockId.{BlockId}
-use Rattle.sig_core.specs.declared.place.BlockId.TheVariants as block
 use Rattle.sig_core.specs.declared.signal.Body.{Body}
 use Rattle.sig_core.specs.declared.signal.Body.TheVariants.{Epoch}
 use Rattle.sig_core.specs.declared.signal.Signal.{Signal}
@@ -60,8 +57,7 @@ dih_counting s x = counting _ (dih_none s x)
 pub dih_installs_counting : (s : DihState) (number : ℕ) → AreCounting (epochs.install_row s number).effects.sends
 dih_installs_counting s number = counting _ (dih_installs_none s number)
 
-pub coordinator_installs_counting : (s : CoordinatorState) (view : View)
-    → AreCounting (install_row s view).effects.sends
+pub coordinator_installs_counting : (s : CoordinatorState) (view : View) → AreCounting (install_row s view).effects.sends
 unfolding install_row
 coordinator_installs_counting s view = by _ _
   where
