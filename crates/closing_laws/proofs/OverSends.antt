@@ -90,7 +90,8 @@ module _ (start : Start) (h : ℕ) (log : List HostStep) (e : HostStep) (step : 
       rest_over (ignores same none) = subst (Each Over) (sym none) tt
       rest_over (handles passed same is) = subst (Each Over) (sym is) (row_over passed x.to.block refl)
 
-      pub sends_over : Each (λ (o : Outgoing). o.body ≡ Takeover TakeoverEnd → P) (step_after start h log e).effects.sends
+      pub sends_over : Each (λ (o : Outgoing). o.body ≡ Takeover TakeoverEnd → P)
+          (step_after start h log e).effects.sends
       sends_over = by step.does.sent
         where
           sends : List Outgoing
