@@ -21,13 +21,17 @@ pub mod MainGoes
 pub mod MasterCloses
 pub mod MasterOwes
 pub mod OverAll
+pub mod OverDone
 pub mod OverMaster
 pub mod OverMasters
 pub mod OverMembership
 pub mod OverNone
 pub mod OverRows
+pub mod OverSeen
+pub mod OverSends
 pub mod OverStands
 pub mod OverTakeover
+pub mod OverTogether
 pub mod OverWorks
 pub mod StayAll
 pub mod StayCounted

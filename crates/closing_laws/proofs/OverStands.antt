@@ -1,27 +1,23 @@
 -- While a takeover is at work in the current view, and once it is over, the rows of each full member stand in that
 -- view.
-use Rattle.std.proofs.Common.{◌≡◌, ◌≢◌, ◌≤◌, ◌⊎◌, ◌==◌, ◌+◌, ◌++◌, ◌∙◌, nat_lt, ℕ, true, false, List, [], ◌∷◌, arith, inl, inr, length, refl, sym, ap, subst}
+use Rattle.std.proofs.Common.{◌≡◌, ◌≢◌, ◌≤◌, ◌⊎◌, ◌==◌, ◌+◌, ◌∙◌, nat_lt, ℕ, true, false, List, [], ◌∷◌, arith, inl, inr, length, refl, sym, ap, subst}
 use Rattle.std.proofs.lemmas.Bool.{cases_eq, eqb-true, true≢false}
 use Rattle.run_theory.specs.Links.{sent, sent_by, taken}
 use Rattle.run_theory.specs.Lists.{Each, IsIn}
 use Rattle.run_theory.specs.Machine.{Machine}
 use Rattle.run_theory.proofs.Links.{put_each, sent_by_each}
-use Rattle.run_theory.proofs.Pasts.{each_append, each_from, each_in, each_map}
+use Rattle.run_theory.proofs.Pasts.{each_from, each_in, each_map}
 use Rattle.run_theory.proofs.Runs.{given_taken, log_of-other, log_of-own, logs_of_run}
 use Rattle.sig_core.specs.declared.member.Member.{Member}
 use Rattle.sig_core.specs.declared.outs.Outgoing.{Outgoing}
 use Rattle.sig_core.specs.declared.place.BlockId.{BlockId}
 use Rattle.sig_core.specs.declared.place.BlockId.TheVariants as block
-use Rattle.sig_core.specs.declared.signal.Body.TheVariants.{Host, Membership, Takeover}
+use Rattle.sig_core.specs.declared.signal.Body.TheVariants.{Host, Takeover}
 use Rattle.sig_core.specs.declared.signal.Signal.{Signal}
 use Rattle.sig_core.specs.declared.signal.host.HostSignal.TheVariants.{Closed}
-use Rattle.sig_core.specs.declared.signal.membership.MembershipSignal.TheVariants.{FenceConf}
 use Rattle.sig_core.specs.declared.signal.takeover.TakeoverSignal.TheVariants.{LqhTransEnd, TakeoverEnd}
 use Rattle.sig_core.specs.declared.view.View.{View}
-use Rattle.dih_node.specs.Orders as epochs
 use Rattle.frag_map.specs.Layout.{Layout, first_layout}
-use Rattle.tc_views.specs.Coordinator.{coordinator_row}
-use Rattle.tc_views.specs.Views as coordinators
 use Rattle.takeover_block.specs.declared.stage.Stage.TheVariants.{Gathering, Resting}
 use Rattle.takeover_block.specs.Rule.{is_at_work}
 use Rattle.takeover_block.specs.State.{TakeoverState, resting}
@@ -40,9 +36,6 @@ use Rattle.view_laws.specs.Votes.{main_of}
 use Rattle.view_laws.proofs.EraRises.{view_rises}
 use Rattle.view_laws.proofs.EraSound.{each_filter}
 use Rattle.view_laws.proofs.FollowSends.{each_sent}
-use Rattle.view_laws.proofs.KindsCoordinator.{AreOfCoordinator, coordinator_installs_kinds, coordinator_kinds}
-use Rattle.view_laws.proofs.KindsSent.{AreOf, each_of_kinds}
-use Rattle.view_laws.proofs.KindsTurns.{is_of_coordinator}
 use Rattle.moment_laws.specs.Moments.{IsMoment, current, logs_of}
 use Rattle.moment_laws.specs.Parts.{IsPassed}
 use Rattle.moment_laws.specs.PartSteps.{PartEnters, PartTakes, handles, ignores, installs, remains, tc_kind}
@@ -64,7 +57,7 @@ use Rattle.commit_laws.specs.Telling.{HasEnded}
 use Rattle.commit_laws.proofs.EndedAll.{all_have_ended}
 use Rattle.commit_laws.proofs.OrdersSound.{given_so, sound_closes}
 use Rattle.closing_laws.specs.Closed.{IsOver}
-use Rattle.closing_laws.proofs.EpochsSay.{IsOfEpochs, epochs_install_send, epochs_send, is_of_epochs}
+use Rattle.closing_laws.proofs.OverSends.{sends_over}
 use Rattle.closing_laws.proofs.OverWorks.{Begins, all_ended, nobody, takeover_works, was_at_work}
 
 -- the rows of each full member stand in the current view
@@ -312,64 +305,15 @@ module _ (start : Start) (all : ℕ → List HostStep) (e : HostStep) (es : List
           own_work (handles passed same sent) is =
               row_work passed x.to.block refl (sym (ap (λ (q : TcPart). is_at_work q.takeover.stage) same) ∙ is)
 
-          abbrev Over : Outgoing → Type 0
-          Over o = o.body ≡ Takeover TakeoverEnd → AreStanding start (logs_of start (e ∷ es))
-
-          of_coordinator : (sends : List Outgoing) → AreOf is_of_coordinator sends → Each Over sends
-          of_coordinator sends all =
-              each_of_kinds is_of_coordinator (λ body. body ≡ Takeover TakeoverEnd → AreStanding start new) sends
-              (λ body kind is. absurd (true≢false (sym kind ∙ ap is_of_coordinator is))) all
-
-          of_epochs : (sends : List Outgoing) → Each IsOfEpochs sends → Each Over sends
-          of_epochs sends all =
-              each_map IsOfEpochs Over sends
-              (λ o kind is. absurd (true≢false (sym kind ∙ ap is_of_epochs is))) all
-
-          row_over : IsPassed start.shape (part.Tc between) view x → (b : BlockId) → x.to.block ≡ b
-              → Each Over (tc_row between b x).effects.sends
-          unfolding tc_row
-          row_over passed block.Takeover to =
-              each_map _ Over (takeover_row between.takeover x).effects.sends
-              (λ (o : Outgoing) so is. begun passed to (so is)) (takeover_works between.takeover x).over
-          row_over passed block.Tc to = either (coordinator_kinds between.coordinator x)
-            where
-              sends : List Outgoing
-              sends = (coordinator_row between.coordinator x).effects.sends
-
-              either : AreOfCoordinator between.coordinator.tc.node x.body sends → Each Over sends
-              either (inl kinds) = of_coordinator sends kinds
-              either (inr confirms) =
-                  subst (Each Over) (sym confirms.1)
-                  ((λ is. absurd (let differ : Membership FenceConf ≡ Takeover TakeoverEnd = is in cc (differ))), tt)
-          row_over passed block.Dih to = of_epochs _ (epochs_send between.dih x)
-          row_over passed _ to = tt
-
-          front_over : PartEnters tc_kind p stood x between view step.does.front → Each Over step.does.front
-          front_over (remains same seen none) = subst (Each Over) (sym none) tt
-          front_over (installs above same seen is) =
-              subst (Each Over) (sym is)
-              (each_append Over (coordinators.install_row p.coordinator x.view).effects.sends
-              (epochs.install_row p.dih x.view.number).effects.sends
-              (of_coordinator _ (coordinator_installs_kinds p.coordinator x.view))
-              (of_epochs _ (epochs_install_send p.dih x.view.number)))
-
-          rest_over : PartTakes tc_kind start.shape between view x step.does.own step.does.rest
-              → Each Over step.does.rest
-          rest_over (ignores same none) = subst (Each Over) (sym none) tt
-          rest_over (handles passed same is) = subst (Each Over) (sym is) (row_over passed x.to.block refl)
-
-          sends_over : Each Over (step_after start (tc_of start member) log e).effects.sends
-          sends_over = by step.does.sent
-            where
-              sends : List Outgoing
-              sends = (step_after start (tc_of start member) log e).effects.sends
-
-              by : (sends ≡ step.does.front ++ step.does.rest) ⊎ (sends ≡ []) → Each Over sends
-              by (inl whole) =
-                  subst (Each Over) (sym whole)
-                  (each_append Over step.does.front step.does.rest (front_over step.does.enters)
-                  (rest_over step.does.takes))
-              by (inr nothing) = subst (Each Over) (sym nothing) tt
+          ends_over : Each (λ (o : Outgoing). o.body ≡ Takeover TakeoverEnd → AreStanding start new)
+              (step_after start (tc_of start member) log e).effects.sends
+          ends_over =
+              sends_over start (tc_of start member) log e step (AreStanding start new)
+              (λ passed to.
+              each_map (λ (o : Outgoing). o.body ≡ Takeover TakeoverEnd → Begins between.takeover x.body)
+              (λ (o : Outgoing). o.body ≡ Takeover TakeoverEnd → AreStanding start new)
+              (takeover_row between.takeover x).effects.sends (λ o so is. begun passed to (so is))
+              (takeover_works between.takeover x).over)
 
         work_here : view.number ≡ current_number start new
             → is_at_work (takeover_after start member (e ∷ log)).stage ≡ true → AreStanding start new
@@ -430,7 +374,7 @@ module _ (start : Start) (all : ℕ → List HostStep) (e : HostStep) (es : List
               (λ (y : Addressed) one body number.
               each_in (λ (o : Outgoing). o.body ≡ Takeover TakeoverEnd → AreStanding start new) one.sent
               (step_after start h log e).effects.sends
-              (sends_over at (ap (λ (v : View). v.number) (sym one.view_is) ∙ number)) one.there (sym one.body ∙ body))
+              (ends_over at (ap (λ (v : View). v.number) (sym one.view_is) ∙ number)) one.there (sym one.body ∙ body))
               (each_sent start h log e))))
               (old_over j))
           by (inr other) =

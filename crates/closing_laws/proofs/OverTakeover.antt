@@ -37,7 +37,7 @@ pub unended_own : (node : ℕ) (to : Place) (body : Body) → is_over body ≡ f
 unended_own node to (Takeover TakeoverEnd) none = absurd cc
 unended_own node to body none = tt
 
-asks_none : (node : ℕ) (view : View) (at : ℕ) → AreUnended (ask_effects node view at).sends
+pub asks_none : (node : ℕ) (view : View) (at : ℕ) → AreUnended (ask_effects node view at).sends
 unfolding ask_effects asks_of
 asks_none node view at =
     portion_unended (takeover node) work.Members (map ask_of view.full ++ map ask_of view.starting) at (λ left. refl)
@@ -65,7 +65,7 @@ front_none tx (Committing epoch n) = tt
 front_none tx (Completing epoch n) = (refl, tt)
 front_none tx (Aborting n) = tt
 
-stage_none : (node : ℕ) (layout : Layout) (stage : Stage) (g : Gathered) (at : ℕ)
+pub stage_none : (node : ℕ) (layout : Layout) (stage : Stage) (g : Gathered) (at : ℕ)
     → AreUnended (stage_effects node layout stage g at).sends
 unfolding stage_effects stage_sends
 stage_none node layout stage g at =
