@@ -18,10 +18,9 @@ use Rattle.node_views.specs.declared.parts.Parts.TheVariants as part
 use Rattle.world_core.specs.Hosts.{hosts}
 use Rattle.world_core.specs.Start.{Start, made}
 use Rattle.world_core.specs.Steps.{Addressed, HostStep}
-use Rattle.world_views.specs.Hosts.{epoch_before}
 use Rattle.world_views.specs.Machine.{after, signals_of, step_after}
 use Rattle.view_laws.specs.Order.{by_views, is_sound}
-use Rattle.view_laws.specs.Runs.{AreOfCluster, view_after}
+use Rattle.view_laws.specs.Runs.{view_after}
 use Rattle.view_laws.specs.Votes.{main_of}
 use Rattle.view_laws.proofs.EraOrder.{run_in_views}
 use Rattle.view_laws.proofs.EraSound.{each_filter}
@@ -42,8 +41,9 @@ use Rattle.epoch_laws.proofs.StandAll.{epochs_stand}
 use Rattle.epoch_laws.proofs.StandKinds.{Whose, of_main, of_rows, of_shell, of_tc, runs_rows, runs_shell, whose}
 use Rattle.epoch_laws.proofs.StandMarks.{marks_are, runs_epochs}
 use Rattle.closing_laws.specs.Durable.{DurableWereClosedFrom, IsClosedFrom}
+use Rattle.closing_laws.proofs.CloseNone.{not_among}
 use Rattle.closing_laws.proofs.ClosersOthers.{HasNoMaster, others_close_none}
-use Rattle.closing_laws.proofs.DurableHosts.{ldm_noted, ldm_said, main_durable, main_good, main_said, not_among, shell_said, tc_noted, tc_said}
+use Rattle.closing_laws.proofs.DurableHosts.{ldm_noted, ldm_said, main_durable, main_good, main_said, shell_said, tc_noted, tc_said}
 use Rattle.closing_laws.proofs.DurableStands.{AllNoted, AllSaid, HasNoted, IsGoodPhase, IsSaidTruly, IsTrulySaid, covered_grows, has_grows, noted_grows, phase_grows, said_grows}
 use Rattle.closing_laws.proofs.DurableWords.{IsNoted}
 

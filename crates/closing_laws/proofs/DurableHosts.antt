@@ -1,6 +1,5 @@
 -- What the hosts of an event make of closed and durable epochs: what each notes, tells, and marks.
-use Rattle.std.proofs.Common.{◌≡◌, ◌≢◌, ◌≤◌, ◌⊎◌, ◌++◌, ℕ, zero, suc, true, List, [], ◌∷◌, refl, sym, ap, subst, ◌∙◌, inl, inr, arith}
-use Rattle.std.proofs.lemmas.Bool.{cases_eq, true≢false}
+use Rattle.std.proofs.Common.{◌≡◌, ◌≤◌, ◌⊎◌, ◌++◌, ℕ, zero, suc, true, List, [], ◌∷◌, refl, sym, ap, subst, ◌∙◌, inl, inr, arith}
 use Rattle.frag_map.specs.Layout.{first_layout}
 use Rattle.run_theory.proofs.Pasts.{each_append, each_in, each_map, in_append}
 use Rattle.run_theory.specs.Lists.{Each, IsIn}
@@ -20,7 +19,7 @@ use Rattle.dih_node.specs.Dih.{dih_row, fresh_dih}
 use Rattle.dih_node.specs.Orders as dih
 use Rattle.dih_node.specs.State.{DihState}
 use Rattle.gcp_master.specs.declared.phase.Phase.{Phase}
-use Rattle.gcp_master.specs.declared.phase.Phase.TheVariants.{Unordered, Gathering, Closing, Saving, Copying}
+use Rattle.gcp_master.specs.declared.phase.Phase.TheVariants.{Gathering, Closing, Saving, Copying}
 use Rattle.gcp_master.specs.Master.{fresh_master, master_row}
 use Rattle.gcp_master.specs.State.{MasterState}
 use Rattle.lqh_views.specs.Replica.{replica_row}
@@ -30,7 +29,7 @@ use Rattle.node_views.specs.declared.main_part.MainPart.{MainPart}
 use Rattle.node_views.specs.declared.parts.Parts.{Parts}
 use Rattle.node_views.specs.declared.parts.Parts.TheVariants as part
 use Rattle.node_views.specs.declared.tc_part.TcPart.{TcPart}
-use Rattle.node_views.specs.Parts.{ldm_row, main_entered, main_row, tc_entered, tc_row}
+use Rattle.node_views.specs.Parts.{ldm_row, main_row, tc_entered, tc_row}
 use Rattle.node_views.specs.WellFormed.{is_well_formed}
 use Rattle.takeover_block.specs.Takeover.{takeover_row}
 use Rattle.tc_views.specs.Coordinator.{coordinator_row}
@@ -41,19 +40,18 @@ use Rattle.world_views.specs.Machine.{after, step_after, told}
 use Rattle.view_laws.specs.Runs.{view_after}
 use Rattle.view_laws.specs.Votes.{main_of}
 use Rattle.moment_laws.specs.Moments.{IsMoment, logs_of}
-use Rattle.moment_laws.specs.Parts.{IsPassed}
 use Rattle.moment_laws.specs.PartSteps.{LdmDoes, PartEnters, PartTakes, TcDoes, handles, ignores, installs, ldm_kind, remains, tc_kind}
 use Rattle.moment_laws.specs.Places.{ldm_of, tc_of}
 use Rattle.moment_laws.proofs.MomentHosts.{part_some, tc_started}
 use Rattle.moment_laws.proofs.MomentSignals.{epoch_told}
-use Rattle.moment_laws.proofs.MomentTurns.{host_low, other_log, own_log}
+use Rattle.moment_laws.proofs.MomentTurns.{host_low, own_log}
 use Rattle.moment_laws.proofs.PartKinds.{ldm_after, tc_after}
 use Rattle.outcome_laws.specs.Decided.{IsMarked}
 use Rattle.outcome_laws.proofs.StrictLists.{in_either}
 use Rattle.request_laws.specs.Blocks.{no_replica, rows_after, rows_in}
 use Rattle.epoch_laws.specs.Members.{dih_in, epochs_of, master_in, master_of}
 use Rattle.epoch_laws.specs.Stand.{AllStand}
-use Rattle.epoch_laws.proofs.MasterMoves.{state_body, voice_of}
+use Rattle.epoch_laws.proofs.MasterMoves.{voice_of}
 use Rattle.epoch_laws.proofs.MasterSends.{MaySay, master_says}
 use Rattle.epoch_laws.proofs.MasterSpeaks.{installed}
 use Rattle.epoch_laws.proofs.SentKinds.{coordinator_none, takeover_none}
@@ -66,21 +64,16 @@ use Rattle.epoch_laws.proofs.StepKinds.{RunsTc, runs_tc}
 use Rattle.epoch_laws.proofs.StepMain.{IsStepOfMain, main_steps}
 use Rattle.epoch_laws.proofs.StepMain as main
 use Rattle.closing_laws.specs.Durable.{IsClosedFrom}
-use Rattle.closing_laws.proofs.CloseNone.{IsNoClosing, is_closing}
+use Rattle.closing_laws.proofs.CloseNone.{not_among}
 use Rattle.closing_laws.proofs.DurableDih.{dih_installs_note, dih_notes}
 use Rattle.closing_laws.proofs.DurableRows.{RowsTell, replica_notes, replica_tells}
-use Rattle.closing_laws.proofs.DurableStands.{AllNoted, AllSaid, HasNoted, IsGoodPhase, IsKnown, IsSaidTruly, IsTrulySaid, covered_grows, dih_noted, dih_said, has_grows, known_copies, known_first, known_more, master_said, none_said, noted_grows, orders_said, phase_grows, rows_noted, rows_said, said_grows, told_truly}
+use Rattle.closing_laws.proofs.DurableStands.{AllNoted, AllSaid, HasNoted, IsGoodPhase, IsKnown, IsSaidTruly, IsTrulySaid, covered_grows, dih_noted, dih_said, has_grows, known_copies, known_first, known_more, master_said, none_said, noted_grows, orders_said, phase_grows, rows_noted, rows_said, told_truly}
 use Rattle.closing_laws.proofs.DurableTells.{TellsNoted, dih_tells_noted}
 use Rattle.closing_laws.proofs.DurableWords.{IsNoted}
 use Rattle.closing_laws.proofs.MainGoes.{Entering, Goes, Left, enters, leaves, main_goes, stays, takes}
 use Rattle.closing_laws.proofs.MainGoes as goes
 use Rattle.closing_laws.proofs.MasterCloses.{IsMarkOf, MakesDurable, master_marks}
 use Rattle.closing_laws.proofs.MasterLates.{IsGood, LateOrMarked, master_lates}
-
--- a mark of a closing isn't among those that tell of none
-pub not_among : (mark : Mark) → is_closing mark ≡ true → (marks : List Mark) → Each IsNoClosing marks → IsIn mark marks
-    → ⊥
-not_among mark is marks none there = true≢false (sym is ∙ each_in IsNoClosing mark marks none there)
 
 -- the parts of a host of a node are those of its step
 told_parts : (h : ℕ) → 1 ≤ h → (t : Step node.Host) → (told h t).parts ≡ t.state.parts
