@@ -4,7 +4,6 @@ use Rattle.std.proofs.lemmas.Bool.{true≢false}
 use Rattle.frag_map.specs.Layout.{first_layout}
 use Rattle.run_theory.proofs.Pasts.{each_append, each_in, each_map}
 use Rattle.run_theory.specs.Lists.{Each, IsIn}
-use Rattle.sig_core.specs.declared.mark.Mark.{Mark}
 use Rattle.sig_core.specs.declared.mark.Mark.TheVariants.{Closed}
 use Rattle.sig_core.specs.declared.member.Member.{Member}
 use Rattle.sig_core.specs.declared.place.BlockId.TheVariants as block
@@ -47,7 +46,7 @@ use Rattle.epoch_laws.proofs.StandMarks.{marks_are}
 use Rattle.epoch_laws.proofs.StandMasters.{master_view}
 use Rattle.epoch_laws.proofs.StepKinds.{RunsTc, runs_tc}
 use Rattle.closing_laws.specs.Closed.{ClosersHaveHeardAll, HasEnded, IsClosing, IsOver}
-use Rattle.closing_laws.proofs.CloseNone.{IsNoClosing, is_closing}
+use Rattle.closing_laws.proofs.CloseNone.{not_among}
 use Rattle.closing_laws.proofs.ClosersOthers.{HasNoMaster, others_close_none}
 use Rattle.closing_laws.proofs.EndsOwn.{ends_own}
 use Rattle.closing_laws.proofs.HeardMasters.{AllHeard, AreEnded, all_heard, report_true}
@@ -70,10 +69,6 @@ first_or member (oldest ∷ members) = by (gcp.same_member member oldest) refl
 told_view : (h : ℕ) (t : Step node.Host) → (told h t).standing.view ≡ t.state.standing.view
 told_view zero t = refl
 told_view (suc h) t = refl
-
--- a mark of a closing isn't among those that tell of none
-not_among : (mark : Mark) → is_closing mark ≡ true → (marks : List Mark) → Each IsNoClosing marks → IsIn mark marks → ⊥
-not_among mark is marks none there = true≢false (sym is ∙ each_in IsNoClosing mark marks none there)
 
 module _ (own : EndsAreOwn) (start : Start) (all : ℕ → List HostStep) (e : HostStep) (es : List HostStep)
     (some : 1 ≤ start.epoch) (moment : IsMoment start all (e ∷ es))

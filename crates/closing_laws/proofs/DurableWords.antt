@@ -8,27 +8,17 @@ use Rattle.gcp_master.specs.declared.phase.Phase.TheVariants.{Committing, Copyin
 use Rattle.gcp_master.specs.declared.phase.Run.{Run}
 use Rattle.gcp_master.specs.Known.{greater, last_run, learned, learned_of_epochs, learned_of_rows, lesser, nothing_known, resumed}
 use Rattle.gcp_master.specs.Numbers.{is_first}
-use Rattle.sig_core.specs.declared.mark.Mark.TheVariants.{Closed}
-use Rattle.world_core.specs.Hosts.{hosts}
 use Rattle.world_core.specs.Start.{Start}
 use Rattle.world_core.specs.Steps.{HostStep}
 use Rattle.world_views.specs.Hosts.{epoch_before}
-use Rattle.outcome_laws.specs.Decided.{IsMarked}
+use Rattle.closing_laws.specs.Durable.{IsClosedFrom}
 
--- some host has marked that this epoch, or a later one, is closed
-pub record IsCovered (start : Start) (logs : ℕ → List HostStep) (epoch : ℕ) : Type 0 where
-  pub host : ℕ
-  pub below : host < hosts start
-  pub closed : ℕ
-  pub far : epoch ≤ closed
-  pub marked : IsMarked (Closed closed) (logs host)
-
--- or the life began behind it
+-- the epoch, or a later one, was closed, or the life began behind it
 abbrev pub IsNoted : Start → (ℕ → List HostStep) → ℕ → Type 0
-IsNoted start logs epoch = (epoch ≤ epoch_before start.epoch) ⊎ IsCovered start logs epoch
+IsNoted start logs epoch = (epoch ≤ epoch_before start.epoch) ⊎ IsClosedFrom start logs epoch
 
 module _ (start : Start) (logs : ℕ → List HostStep) where
-  pub covered_less : (one other : ℕ) → one ≤ other → IsCovered start logs other → IsCovered start logs one
+  pub covered_less : (one other : ℕ) → one ≤ other → IsClosedFrom start logs other → IsClosedFrom start logs one
   covered_less one other low is =
       let far = is.far in
       record { host = is.host; below = is.below; closed = is.closed; far = omega (arith, low, far); marked = is.marked }
@@ -148,14 +138,14 @@ module _ (start : Start) (logs : ℕ → List HostStep) where
 
   -- so the epoch with which a master goes on at the system files was closed, or a later one
   pub copying_covered : (known : Known) (run : Run) → IsKnownTruly known → IsNoted start logs known.closed
-      → resumed known ≡ Copying run → IsCovered start logs run.epoch
+      → resumed known ≡ Copying run → IsClosedFrom start logs run.epoch
   copying_covered known run knows noted is = by knows.durable noted
     where
       goes : ResumesCopying known run
       goes = resumes_copying known run is
 
       by : (epoch_before start.epoch ≤ known.durable) ⊎ (known.durable ≡ MOST) → IsNoted start logs known.closed
-          → IsCovered start logs run.epoch
+          → IsClosedFrom start logs run.epoch
       by durable (inr covered) =
           let same = (resumes_copying known run is).run_is in
           let low = (resumes_copying known run is).closed in

@@ -9,7 +9,12 @@ pub mod CountedHere
 pub mod CountedOthers
 pub mod CountedOut
 pub mod CountedTurns
+pub mod DurableAll
 pub mod DurableDih
+pub mod DurableHosts
+pub mod DurableRows
+pub mod DurableStands
+pub mod DurableTells
 pub mod DurableWords
 pub mod EndedKeeps
 pub mod EndsOwn
@@ -19,6 +24,7 @@ pub mod HeardMasters
 pub mod HeardMembers
 pub mod MainGoes
 pub mod MasterCloses
+pub mod MasterLates
 pub mod MasterOwes
 pub mod OverAll
 pub mod OverDone
