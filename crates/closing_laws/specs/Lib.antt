@@ -1,0 +1,4 @@
+pub mod Ended
+pub mod Closed
+pub mod Over
+pub mod Stays
