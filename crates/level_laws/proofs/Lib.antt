@@ -1,0 +1,11 @@
+pub mod ApiLevels
+pub mod DihLevels
+pub mod HostLevels
+pub mod Level
+pub mod LevelLists
+pub mod LqhLevels
+pub mod MappedLists
+pub mod RowLevels
+pub mod TcLevels
+pub mod TcSends
+pub mod TcTurns
