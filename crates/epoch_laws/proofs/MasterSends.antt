@@ -1,5 +1,5 @@
 -- What a master sends: orders to prepare and to commit of the run that is under way, and nothing that members tell.
-use Rattle.std.proofs.Common.{◌+◌, ℕ, ◌==◌, ◌&&◌, Bool, true, false, not, nat_lt, List, ◌++◌, take, drop, length, refl}
+use Rattle.std.proofs.Common.{◌≡◌, ◌+◌, ℕ, ◌==◌, ◌&&◌, Bool, true, false, not, nat_lt, List, ◌++◌, take, drop, length, refl}
 use Rattle.std.specs.Prelude.{Option, None, Some, is_some}
 use Rattle.run_theory.specs.Lists.{Each}
 use Rattle.run_theory.proofs.EachSent.{each_drop, each_mapped, each_take}
@@ -13,7 +13,7 @@ use Rattle.sig_core.specs.declared.signal.Body.{Body}
 use Rattle.sig_core.specs.declared.signal.Body.TheVariants.{Host, Takeover, Epoch}
 use Rattle.sig_core.specs.declared.signal.Signal.{Signal}
 use Rattle.sig_core.specs.declared.signal.epoch.EpochSignal.{EpochSignal}
-use Rattle.sig_core.specs.declared.signal.epoch.EpochSignal.TheVariants.{GcpCommit, GcpReq, MicroReq, GcpPrepare, GcpPrepareConf, GcpNodeFinish, GcpClosedConf, GcpSaveConf, CopyGciConf, GcpOrd, GcpStateConf}
+use Rattle.sig_core.specs.declared.signal.epoch.EpochSignal.TheVariants.{GcpClosed, GcpCommit, GcpReq, MicroReq, GcpPrepare, GcpPrepareConf, GcpNodeFinish, GcpClosedConf, GcpSaveConf, CopyGciConf, GcpOrd, GcpStateConf}
 use Rattle.sig_core.specs.declared.signal.host.HostSignal.TheVariants.{Continue}
 use Rattle.sig_core.specs.declared.signal.host.Work.{Work}
 use Rattle.sig_core.specs.declared.signal.host.Work.TheVariants.{Members}
@@ -48,10 +48,16 @@ use Rattle.gcp_master.specs.Voices.{is_among}
 use Rattle.epoch_laws.specs.Masters.{Commits, Prepares}
 use Rattle.epoch_laws.proofs.MasterMoves.{voice_of}
 
+-- the end of this epoch is to be noted
+abbrev pub Closes : ℕ → Phase → Type 0
+Closes epoch (Closing run) = epoch ≡ run.epoch
+Closes epoch phase = ⊥
+
 -- what a master in this phase may say
 abbrev pub MaySay : Phase → Body → Type 0
 MaySay phase (Epoch (GcpPrepare epoch next)) = Prepares epoch next phase
 MaySay phase (Epoch (GcpCommit epoch next)) = Commits epoch next phase
+MaySay phase (Epoch (GcpClosed epoch)) = Closes epoch phase
 MaySay phase (Epoch (GcpPrepareConf epoch)) = ⊥
 MaySay phase (Epoch (GcpNodeFinish epoch)) = ⊥
 MaySay phase (Epoch (GcpStateConf current prepared next closed saved durable)) = ⊥
@@ -101,7 +107,7 @@ phase_says view (Preparing run) =
     each_says (Preparing run) block.Dih (order.Prepare run.epoch run.next) view (refl, refl)
 phase_says view (Committing run) =
     each_says (Committing run) block.Dih (order.Commit run.epoch run.next) view (refl, refl)
-phase_says view (Closing run) = both_say (Closing run) (order.Close run.epoch) view tt
+phase_says view (Closing run) = both_say (Closing run) (order.Close run.epoch) view refl
 phase_says view (Saving run) = each_says (Saving run) block.Lqh (order.Save run.epoch) view tt
 phase_says view (Copying run) = each_says (Copying run) block.Dih (order.Copy run.epoch (mask_of view.full)) view tt
 

@@ -5,7 +5,7 @@ use Rattle.sig_core.specs.declared.outs.Outgoing.{Outgoing}
 use Rattle.sig_core.specs.declared.place.Place.{Place}
 use Rattle.sig_core.specs.declared.signal.Body.{Body}
 use Rattle.sig_core.specs.declared.signal.Body.TheVariants.{Epoch}
-use Rattle.sig_core.specs.declared.signal.epoch.EpochSignal.TheVariants.{GcpCommit, GcpNodeFinish, GcpOrd, GcpPrepare, GcpPrepareConf, GcpStateConf}
+use Rattle.sig_core.specs.declared.signal.epoch.EpochSignal.TheVariants.{GcpClosed, GcpCommit, GcpNodeFinish, GcpOrd, GcpPrepare, GcpPrepareConf, GcpStateConf}
 use Rattle.sig_core.specs.declared.signal.host.Work.{Work}
 use Rattle.sig_core.specs.Portion.{rest_if}
 use Rattle.sig_core.specs.Step.{Step}
@@ -16,6 +16,7 @@ is_order (Epoch (GcpPrepare epoch next)) = true
 is_order (Epoch (GcpPrepareConf epoch)) = true
 is_order (Epoch (GcpCommit epoch next)) = true
 is_order (Epoch (GcpNodeFinish epoch)) = true
+is_order (Epoch (GcpClosed epoch)) = true
 is_order (Epoch GcpOrd) = true
 is_order (Epoch (GcpStateConf current prepared next closed saved durable)) = true
 is_order body = false

@@ -19,7 +19,7 @@ use crate::tc_part::TcPart;
 use crate::well_formed::is_well_formed;
 use api_views::is_member;
 use frag_map::Layout;
-use lqh_block::MapRows;
+use frag_store::Store;
 use sig_core::{
     ApiReply, Body, Held, HostId, HostSignal, Mark, Member, NoMemory, Outs, Signal, StopCause, View,
 };
@@ -96,7 +96,7 @@ impl Host {
         alloc: Global,
         member: Member,
         layout: &Layout,
-        rows: MapRows,
+        rows: Store,
         start: u64,
     ) -> Result<Host, NoMemory>
         requires { rows.rows.pending ≡ [] }

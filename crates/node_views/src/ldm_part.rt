@@ -5,7 +5,8 @@ ghost use Rattle.lqh_views.specs.Replica.{fresh_replica};
 ghost use Rattle.node_views.specs.Parts.{greater, ldm_entered, ldm_row, raised};
 
 use frag_map::Layout;
-use lqh_block::{CountJournal, MapRows};
+use frag_store::Store;
+use lqh_block::CountJournal;
 use lqh_views::Replica;
 use sig_core::{Actor, BlockId, Body, Member, MembershipSignal, NoMemory, Outs, Signal, View};
 use std::alloc::Global;
@@ -13,7 +14,7 @@ use std::alloc::Global;
 /// The rows of a node, and the number below which they are fenced off.
 #[derive(Drop)]
 pub struct LdmPart {
-    pub replica: Replica<MapRows, CountJournal>,
+    pub replica: Replica<Store, CountJournal>,
     pub fence: u64,
 }
 
@@ -27,7 +28,7 @@ impl LdmPart {
         alloc: Global,
         member: Member,
         layout: &Layout,
-        rows: MapRows,
+        rows: Store,
         start: u64,
     ) -> Result<LdmPart, NoMemory>
         requires { rows.rows.pending ≡ [] }

@@ -120,8 +120,8 @@ put h = []
 abbrev pub entry : Entry
 entry = record { tx = first_tx; view = 1; stamp = 10; host = record { 0 = 2 }; epoch = 1; ops = (write, Done) ∷ [] }
 
--- These are quiet logs. Their history is the entry of the put, which was reported with its epoch, and its answer was told; the key is at
--- rest, and both nodes have it with the value that was put.
+-- These are quiet logs. Their history is the entry of the put, which was reported with its epoch, and its answer was
+-- told; the key is at rest, and both nodes have it with the value that was put.
 pub record SampleIsPut : Type 0 where
   pub quiet : AreQuiet two put
   pub history_is : history (hosts two) put ≡ entry ∷ []

@@ -11,8 +11,8 @@ ghost use Rattle.world_views.specs.Hosts.{epoch_before, part_started, started};
 
 use crate::hosts::{Made, PARTS, part_by};
 use frag_map::{Layout, holds};
+use frag_store::Store;
 use gcp_master::MICROS;
-use lqh_block::MapRows;
 use node_views::Host;
 use sig_core::{Key, Member, NoMemory, Part, Rows, Shape, Value};
 use std::alloc::Global;
@@ -84,12 +84,12 @@ fn stored(
     node: u8,
     epoch: u64,
     rows: &[(Key, Value)],
-) -> Result<MapRows, NoMemory>
+) -> Result<Store, NoMemory>
     requires { IsShape shape.now }
     ensures rows { IfOk result (λ stored. stored.rows ≡ with_rows no_rows (own_rows shape.now node rows.now) epoch) }
     ensures none { IfOk result (λ stored. stored.rows.pending ≡ []) }
 {
-    let mut stored = MapRows::new(alloc);
+    let mut stored = Store::new(alloc)?;
     for row in rows {
         put(&mut stored, shape, node, epoch, row)?;
     }
@@ -98,7 +98,7 @@ fn stored(
 
 // Puts a row of this epoch, if the node's group has it.
 fn put(
-    stored: &mut MapRows,
+    stored: &mut Store,
     shape: &Shape,
     node: u8,
     epoch: u64,

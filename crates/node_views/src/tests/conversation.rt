@@ -3,7 +3,7 @@ use super::heard::{Heard, body_of, place_of, sender_of, view};
 use super::text::shown;
 use crate::Host;
 use frag_map::Layout;
-use lqh_block::MapRows;
+use frag_store::Store;
 use sig_core::{BlockId, Held, Member, NoMemory, Outs, Shape, Signal};
 use std::alloc::Global;
 use std::process::Abort;
@@ -72,7 +72,7 @@ fn fresh(alloc: Global, kind: Kind) -> Result<Host, NoMemory> {
         Kind::Shell => Host::shell(alloc, &layout()),
         Kind::Main => Host::main(alloc, me(), &layout(), 10),
         Kind::Tc => Host::tc(alloc, me(), &layout(), 10, 5),
-        Kind::Ldm => Host::ldm(alloc, me(), &layout(), MapRows::new(alloc), 5),
+        Kind::Ldm => Host::ldm(alloc, me(), &layout(), Store::new(alloc)?, 5),
     }
 }
 

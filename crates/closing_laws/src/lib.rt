@@ -1,0 +1,2 @@
+//! Closed epochs stay closed, whatever stops and is cut off.
+#![tactic(auto)]
