@@ -1,5 +1,5 @@
 -- Each step of a calm run keeps the hosts alike, and the plain events a run.
-use Rattle.std.proofs.Common.{◌≡◌, ◌≢◌, ◌⊎◌, ◌+◌, ◌<◌, inl, inr, ℕ, List, [], ◌∷◌, Bool, true, false, refl, ap, sym}
+use Rattle.std.proofs.Common.{◌≡◌, ◌≢◌, ◌⊎◌, ◌+◌, ◌<◌, inl, inr, ℕ, List, [], ◌∷◌, Bool, true, false, refl, ap, sym, arith}
 use Rattle.std.proofs.Common.{◌∙◌, subst}
 use Rattle.std.specs.Prelude.{max}
 use Rattle.std.proofs.lemmas.Bool.{cases_eq}
@@ -61,14 +61,14 @@ module _ (start : Start) (es : List HostStep) where
         step = record {
           at = refl;
           stamped =
-              stamped
-              ∙ ap (λ (k : ℕ). max k e.step.taken.stamp + 1)
-              (same_last start e.host (log e.host)
-              ∙ ap (last (plain.machine start) e.host) (sym (same_log start es e.host takes)));
+              let same =
+              same_last start e.host (log e.host)
+              ∙ ap (last (plain.machine start) e.host) (sym (same_log start es e.host takes)) in
+              omega (arith, stamped, same);
           runs = plain_runs start (log_of (plain.machine start) plain_run e.host);
           fits =
               subst (λ rest. plain.FitsRow start e.host rest e) (sym (same_log start es e.host takes))
-              (record { marks = marks; asked = arrival.rightly });
+              (record { marks = marks; asked_at = plain.last_stamp (log e.host); asked = arrival.rightly });
         };
         there = inl refl;
         takes = arrival.takes;

@@ -12,7 +12,7 @@ use Rattle.node_core.specs.Requests.{is_request}
 use Rattle.node_views.specs.WellFormed.{is_body_sound, is_sender, is_view, is_well_formed}
 use Rattle.world_core.proofs.HostNumbers.{members_at}
 use Rattle.world_core.specs.Hosts.{first_membership, hosts, member_at, receiver}
-use Rattle.world_core.specs.Machine.{IsAsked, all_addressed, asked_rightly, counted, last_stamp, sent_count}
+use Rattle.world_core.specs.Machine.{IsAsked, all_addressed, asked_rightly, counted, sent_count}
 use Rattle.world_core.specs.Machine.{signals_of, step_after}
 use Rattle.world_core.specs.Start.{Start, made}
 use Rattle.world_core.specs.Steps.{Addressed, HostStep}
@@ -62,7 +62,7 @@ module _ (start : Start) where
     where
       by : (b : Bool) → is_request e.step.taken.body ≡ b → IsHeaded e.step.taken
       by true is =
-          let stamp = last_stamp (logs_of start es e.host) in
+          let stamp = comes.happens.step.fits.asked_at in
           asked_headed e.host stamp e.step.taken
           (subst (λ b. asked_rightly (first_membership start) b e.host stamp e.step.taken) is
           comes.happens.step.fits.asked)

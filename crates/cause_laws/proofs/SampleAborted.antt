@@ -25,23 +25,24 @@ use Rattle.cause_laws.specs.Sample.{SampleIsAborted, aborted, before_report, lon
 local : (h : ℕ) → IsLog (machine lone) h (aborted h)
 unfolding receiver started row shell_row request_row api.begin_row api.abort_row begun_row abort_report_row tc_part_row tc.begin_row rollback_row aborted_for without fresh_shell fresh_part
 local zero = (
-  record { at = refl; stamped = refl; runs = refl; fits = record { marks = refl; asked = tt } },
+  record { at = refl; stamped = omega arith; runs = refl; fits = record { marks = refl; asked_at = 0; asked = tt } },
   (
     record {
       at = refl;
-      stamped = refl;
+      stamped = omega arith;
       runs = refl;
-      fits = record { marks = refl; asked = record { request = request.Abort 7; shell = refl; is = refl } };
+      fits = record { marks = refl; asked_at = 3; asked = record { request = request.Abort 7; shell = refl; is = refl } };
     },
     (
-      record { at = refl; stamped = refl; runs = refl; fits = record { marks = refl; asked = tt } },
+      record { at = refl; stamped = omega arith; runs = refl; fits = record { marks = refl; asked_at = 0; asked = tt } },
       (
         record {
           at = refl;
-          stamped = refl;
+          stamped = omega arith;
           runs = tt;
           fits = record {
             marks = refl;
+            asked_at = 0;
             asked = record { request = request.Begin 7 (Some 1); shell = refl; is = refl };
           };
         },
@@ -52,8 +53,8 @@ local zero = (
 )
 local (suc zero) = tt
 local (suc (suc zero)) = (
-  record { at = refl; stamped = refl; runs = refl; fits = record { marks = refl; asked = tt } },
-  (record { at = refl; stamped = refl; runs = tt; fits = record { marks = refl; asked = tt } }, tt),
+  record { at = refl; stamped = omega arith; runs = refl; fits = record { marks = refl; asked_at = 0; asked = tt } },
+  (record { at = refl; stamped = omega arith; runs = tt; fits = record { marks = refl; asked_at = 0; asked = tt } }, tt),
 )
 local (suc (suc (suc h))) = tt
 

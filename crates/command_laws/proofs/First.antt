@@ -26,7 +26,7 @@ use Rattle.node_core.specs.Requests.{is_request}
 use Rattle.world_core.proofs.HostNumbers.{api_runs, given_past}
 use Rattle.world_core.proofs.Stamped.{stamped}
 use Rattle.world_core.specs.Hosts.{hosts, first_membership}
-use Rattle.world_core.specs.Machine.{IsAsked, after, asked_rightly, last_stamp, machine, step_after}
+use Rattle.world_core.specs.Machine.{IsAsked, after, asked_rightly, machine, step_after}
 use Rattle.world_core.specs.Requests.{request_in, requests}
 use Rattle.world_core.specs.Start.{Start}
 use Rattle.world_core.specs.Steps.{Addressed, HostStep}
@@ -151,7 +151,7 @@ module _ (start : Start) (was now : ℕ → List HostStep) (request : ApiReq) (s
           by (inl under) = under
           by (inr high) = absurd (nonempty _ _ (sym (served.since.within e.host high) ∙ own e.host refl))
 
-      found : IsAsked (first_membership start) e.host (last_stamp (log_of (machine start) es e.host)) e.step.taken → IsFirst start was now request
+      found : IsAsked (first_membership start) e.host happens.step.fits.asked_at e.step.taken → IsFirst start was now request
       found asked =
           let body_is : e.step.taken.body ≡ Host (Continue (Request asked.request) 0) = ap (λ (x : Signal). x.body) asked.is in
           let log_is = own 0 asked.shell in

@@ -16,7 +16,7 @@ use Rattle.node_core.specs.Requests.{is_request}
 use Rattle.world_core.proofs.HostNumbers.{given_past}
 use Rattle.world_core.proofs.Stamped.{stamped}
 use Rattle.world_core.specs.Hosts.{first_membership, host_for, hosts}
-use Rattle.world_core.specs.Machine.{addressed, all_addressed, last_stamp, machine, sent_count, step_after}
+use Rattle.world_core.specs.Machine.{addressed, all_addressed, machine, sent_count, step_after}
 use Rattle.world_core.specs.Quiet.{IsQuiet}
 use Rattle.world_core.specs.Start.{Start}
 use Rattle.world_core.specs.Steps.{Addressed, HostStep}
@@ -290,7 +290,7 @@ module _ (start : Start) (P : Addressed → (ℕ → List HostStep) → Type 0) 
           by : (b : Bool) → is_request e.step.taken.body ≡ b → b ≡ false
           by false is = refl
           by true is =
-              let asked = fits_asked start e.host (last_stamp (before e.host)) e.step.taken
+              let asked = fits_asked start e.host happens.step.fits.asked_at e.step.taken
               (is_request e.step.taken.body) is happens.step.fits.asked in
               absurd (omega (
                 arith,

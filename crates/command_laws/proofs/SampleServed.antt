@@ -30,22 +30,22 @@ use Rattle.command_laws.specs.Served.{named_in}
 local : (h : ℕ) → IsLog (machine lone) h (committed h)
 unfolding receiver started row shell_row request_row api.begin_row api.commit_row begun_row commit_report_row everyone tc_part_row ldm_row tc.begin_row fresh_shell fresh_part tc_commit.verify_row tc_commit.commit_row all_committed without dih.decide_row dih.end_row acknowledged
 local zero = (
-  record { at = refl; stamped = refl; runs = refl; fits = record { marks = refl; asked = tt } },
+  record { at = refl; stamped = omega arith; runs = refl; fits = record { marks = refl; asked_at = 0; asked = tt } },
   (
     record {
       at = refl;
-      stamped = refl;
+      stamped = omega arith;
       runs = refl;
-      fits = record { marks = refl; asked = record { request = Commit 7; shell = refl; is = refl } };
+      fits = record { marks = refl; asked_at = 3; asked = record { request = Commit 7; shell = refl; is = refl } };
     },
     (
-      record { at = refl; stamped = refl; runs = refl; fits = record { marks = refl; asked = tt } },
+      record { at = refl; stamped = omega arith; runs = refl; fits = record { marks = refl; asked_at = 0; asked = tt } },
       (
         record {
           at = refl;
-          stamped = refl;
+          stamped = omega arith;
           runs = tt;
-          fits = record { marks = refl; asked = record { request = Begin 7 (Some 1); shell = refl; is = refl } };
+          fits = record { marks = refl; asked_at = 0; asked = record { request = Begin 7 (Some 1); shell = refl; is = refl } };
         },
         tt,
       ),
@@ -54,19 +54,19 @@ local zero = (
 )
 local (suc zero) = tt
 local (suc (suc zero)) = (
-  record { at = refl; stamped = refl; runs = refl; fits = record { marks = refl; asked = tt } },
+  record { at = refl; stamped = omega arith; runs = refl; fits = record { marks = refl; asked_at = 0; asked = tt } },
   (
-    record { at = refl; stamped = refl; runs = refl; fits = record { marks = refl; asked = tt } },
+    record { at = refl; stamped = omega arith; runs = refl; fits = record { marks = refl; asked_at = 0; asked = tt } },
     (
-      record { at = refl; stamped = refl; runs = refl; fits = record { marks = refl; asked = tt } },
+      record { at = refl; stamped = omega arith; runs = refl; fits = record { marks = refl; asked_at = 0; asked = tt } },
       (
-        record { at = refl; stamped = refl; runs = refl; fits = record { marks = refl; asked = tt } },
-        (record { at = refl; stamped = refl; runs = tt; fits = record { marks = refl; asked = tt } }, tt),
+        record { at = refl; stamped = omega arith; runs = refl; fits = record { marks = refl; asked_at = 0; asked = tt } },
+        (record { at = refl; stamped = omega arith; runs = tt; fits = record { marks = refl; asked_at = 0; asked = tt } }, tt),
       ),
     ),
   ),
 )
-local (suc (suc (suc zero))) = (record { at = refl; stamped = refl; runs = tt; fits = record { marks = refl; asked = tt } }, tt)
+local (suc (suc (suc zero))) = (record { at = refl; stamped = omega arith; runs = tt; fits = record { marks = refl; asked_at = 0; asked = tt } }, tt)
 local (suc (suc (suc (suc h)))) = tt
 
 linked : (i j : ℕ) → taken (machine lone) i (committed j) ≡ sent (machine lone) i j (committed i)

@@ -42,6 +42,7 @@ game_tests made =
     record {
       host = λ e. e.signal.to;
       stamp = λ e. e.stamp;
+      skips = false;
       signal = λ e. e.signal;
       asked = λ e. is_asked e.signal.kind;
       from = λ x. x.from;

@@ -1,9 +1,9 @@
 -- Stamps along a log and along a link, and what a link gives as its sender's log grows or is cut.
-use Rattle.std.proofs.Common.{◌≡◌, ◌⊎◌, ◌==◌, ◌<◌, ◌≤◌, ℕ, Bool, true, false, List, [], ◌∷◌, ◌++◌, if◌then◌else◌, refl, sym, ap, subst, inl, inr, arith}
+use Rattle.std.proofs.Common.{◌≡◌, ◌⊎◌, ◌==◌, ◌<◌, ◌≤◌, ℕ, max, Bool, true, false, List, [], ◌∷◌, ◌++◌, if◌then◌else◌, refl, sym, ap, subst, inl, inr, arith}
 use Rattle.run_theory.specs.Lists.{Each, IsPast}
 use Rattle.run_theory.specs.Machine.{Machine, IsStamped}
 use Rattle.run_theory.specs.Links.{sent_by, put, sent, IsGiven}
-use Rattle.run_theory.specs.Logs.{last, IsRunning, IsStep, IsLog}
+use Rattle.run_theory.specs.Logs.{last, IsBehind, IsRunning, IsStep, IsLog}
 use Rattle.run_theory.proofs.Pasts.{past_self, past_nil, past_more, past_trans, past_cases, each_map, each_past}
 
 -- the newest entry has a stamp below s
@@ -11,12 +11,18 @@ abbrev pub HeadBelow : {E X : Type 0} → Machine E X → ℕ → List X → Typ
 HeadBelow m s [] = Unit {0}
 HeadBelow m s (x ∷ xs) = m.sent_at x < s
 
+is_behind : (skips : Bool) (before stamp : ℕ) → IsBehind skips before stamp → before < stamp
+is_behind false before stamp is = omega (arith, is)
+is_behind true before stamp is = is
+
 module _ {E X : Type 0} (m : Machine E X) where
   pub step_above : (h : ℕ) (log : List E) (e : E) → IsStep m h log e → last m h log < m.stamp e
-  step_above h log e s = omega (arith, s.stamped)
+  step_above h log e s =
+      omega (arith, is_behind m.skips (max (last m h log) (m.sent_at (m.signal e))) (m.stamp e) s.stamped)
 
   pub signal_below : (h : ℕ) (log : List E) (e : E) → IsStep m h log e → m.sent_at (m.signal e) < m.stamp e
-  signal_below h log e s = omega (arith, s.stamped)
+  signal_below h log e s =
+      omega (arith, is_behind m.skips (max (last m h log) (m.sent_at (m.signal e))) (m.stamp e) s.stamped)
 
   -- no step of a log has a stamp above the last one
   pub stamps_below : (h : ℕ) (log : List E) → IsLog m h log → Each (λ e. m.stamp e ≤ last m h log) log

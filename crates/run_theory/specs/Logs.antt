@@ -1,7 +1,12 @@
 -- The log of one host: which step may follow which.
-use Rattle.std.specs.Prelude.{◌≡◌, ◌⊎◌, ◌+◌, ℕ, max, false, List, [], ◌∷◌}
+use Rattle.std.specs.Prelude.{◌≡◌, ◌⊎◌, ◌+◌, ◌<◌, ℕ, max, Bool, true, false, List, [], ◌∷◌}
 use Rattle.run_theory.specs.Lists.{IsPast}
 use Rattle.run_theory.specs.Machine.{Machine}
+
+-- a stamp that comes behind another one: the next, or where stamps may be skipped a later one
+abbrev pub IsBehind : Bool → ℕ → ℕ → Type 0
+IsBehind false before stamp = stamp ≡ before + 1
+IsBehind true before stamp = before < stamp
 
 module _ {E X : Type 0} (m : Machine E X) where
   -- the stamp of the newest step, or of the making of the host where there is no step
@@ -14,11 +19,11 @@ module _ {E X : Type 0} (m : Machine E X) where
   IsRunning [] = Unit {0}
   IsRunning (e ∷ log) = m.stops e ≡ false
 
-  -- Host h may make the step e after its log: it still runs, the step fits, and the stamp is one more than the
-  -- greater of those of the step before and of the signal.
+  -- Host h may make the step e after its log: it still runs, the step fits, and the stamp comes behind the greater of
+  -- those of the step before and of the signal.
   pub record IsStep (h : ℕ) (log : List E) (e : E) : Type 0 where
     pub at : m.host e ≡ h
-    pub stamped : m.stamp e ≡ max (last h log) (m.sent_at (m.signal e)) + 1
+    pub stamped : IsBehind m.skips (max (last h log) (m.sent_at (m.signal e))) (m.stamp e)
     pub runs : IsRunning log
     pub fits : m.Fits h log e
 

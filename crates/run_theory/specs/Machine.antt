@@ -9,6 +9,8 @@ pub record Machine (E X : Type 0) : Type 1 where
   pub host : E → ℕ
   -- the stamp of a step
   pub stamp : E → ℕ
+  -- stamps may be skipped
+  pub skips : Bool
   -- the signal that a step took
   pub signal : E → X
   -- no link gave the signal of the step: the host was asked, or asked itself

@@ -6,6 +6,7 @@ use Rattle.run_theory.specs.Machine.{Machine}
 pub record TestMachine (E X : Type 0) : Type 0 where
   pub host : E → ℕ
   pub stamp : E → ℕ
+  pub skips : Bool
   pub signal : E → X
   pub asked : E → Bool
   pub from : X → ℕ
@@ -24,6 +25,7 @@ machine t =
     record {
       host = t.host;
       stamp = t.stamp;
+      skips = t.skips;
       signal = t.signal;
       asked = t.asked;
       from = t.from;

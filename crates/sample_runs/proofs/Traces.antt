@@ -1,5 +1,5 @@
 -- Logs of which is written out what each step does: what a host comes to with one, and what it sends.
-use Rattle.std.proofs.Common.{◌≡◌, ℕ, ◌+◌, List, [], ◌∷◌, refl, ap, sym, ◌∙◌}
+use Rattle.std.proofs.Common.{◌≡◌, ℕ, ◌+◌, List, [], ◌∷◌, refl, ap, sym, ◌∙◌, arith}
 use Rattle.std.specs.Prelude.{max}
 use Rattle.run_theory.specs.Links.{put, sent}
 use Rattle.run_theory.specs.Logs.{IsLog, IsRunning, last}
@@ -53,10 +53,11 @@ module _ (start : Start) (h : ℕ) where
   is_log (e ∷ log) (t ∷ steps) all = (
     record {
       at = all.0.at;
-      stamped = all.0.stamped;
+      stamped = omega (arith, all.0.stamped);
       runs = runs log;
       fits = record {
         marks = all.0.marks ∙ sym (ap (λ (step : Step Host). step.effects.marks) (step_is log steps e t all.0 all.1));
+        asked_at = last_stamp log;
         asked = all.0.asked;
       };
     },

@@ -33,7 +33,7 @@ use Rattle.node_core.specs.Blocks.{has_api, has_lqh, has_tc}
 use Rattle.node_core.specs.Fresh.{fresh_part, fresh_shell}
 use Rattle.node_core.specs.Requests.{is_request}
 use Rattle.world_core.specs.Hosts.{first_membership, host_at, host_by, host_for, hosts, member_of, number_of, part_by, receiver, rows_host, started, tc_host}
-use Rattle.world_core.specs.Machine.{after, all_addressed, asked_rightly, counted, last_stamp, machine, sent_count, signals_of, step_after}
+use Rattle.world_core.specs.Machine.{after, all_addressed, asked_rightly, counted, machine, sent_count, signals_of, step_after}
 use Rattle.world_core.specs.Start.{Start, made}
 use Rattle.world_core.specs.Steps.{Addressed, HostStep}
 
@@ -337,10 +337,10 @@ module _ (start : Start) where
   given_past i j [] xs (inr closing) = absurd closing
   given_past i j (e ∷ log) xs (inr closing) = absurd (false≢true closing.stops)
 
-  asked_at : (h : ℕ) (log : List HostStep) (e : HostStep) (b : Bool) → is_request e.step.taken.body ≡ b
-      → asked_rightly (first_membership start) b h (last_stamp log) e.step.taken → b ≡ true → host_for start e.step.taken.to ≡ h
-  asked_at h log e false is rightly asks = absurd (false≢true asks)
-  asked_at h log e true is rightly asks = ap (λ (x : Signal). host_for start x.to) rightly.is ∙ client_host start ∙ sym rightly.shell
+  asked_at : (h stamp : ℕ) (e : HostStep) (b : Bool) → is_request e.step.taken.body ≡ b
+      → asked_rightly (first_membership start) b h stamp e.step.taken → b ≡ true → host_for start e.step.taken.to ≡ h
+  asked_at h stamp e false is rightly asks = absurd (false≢true asks)
+  asked_at h stamp e true is rightly asks = ap (λ (x : Signal). host_for start x.to) rightly.is ∙ client_host start ∙ sym rightly.shell
 
   rest_to : (i : ℕ) (e : HostStep) (log : List HostStep) → Each IsAddressed (taken (machine start) i (e ∷ log)) → Each IsAddressed (taken (machine start) i log)
   rest_to i e log all = go (taken_cases (machine start) i e log)
@@ -355,7 +355,7 @@ module _ (start : Start) where
   steps_to h (e ∷ log) local all = (go (is_request e.step.taken.body) refl, steps_to h log local.1 (λ i. rest_to i e log (all i)))
     where
       go : (b : Bool) → is_request e.step.taken.body ≡ b → host_for start e.step.taken.to ≡ h
-      go true asks = asked_at h log e (is_request e.step.taken.body) refl local.0.fits.asked asks
+      go true asks = asked_at h local.0.fits.asked_at e (is_request e.step.taken.body) refl local.0.fits.asked asks
       go false plain =
           (subst (Each IsAddressed) (taken-step (machine start) e.step.taken.from.0 e log plain refl) (all e.step.taken.from.0)).0 ∙ local.0.at
 

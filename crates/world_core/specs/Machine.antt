@@ -74,7 +74,7 @@ signals_of start h log e = all_addressed (first_membership start) h e.step.stamp
 abbrev pub request_signal : Membership → ℕ → ApiReq → Signal
 request_signal who stamp request = headed who 0 stamp 0 (record { to = client; body = Host (Continue (Request request) 0) })
 
--- a step that a request makes: at host 0, with the stamp of its last step
+-- a step that a request makes, at host 0
 pub record IsAsked (who : Membership) (h stamp : ℕ) (signal : Signal) : Type 0 where
   pub request : ApiReq
   pub shell : h ≡ 0
@@ -89,17 +89,20 @@ abbrev pub last_stamp : List HostStep → ℕ
 last_stamp [] = 0
 last_stamp (e ∷ log) = e.step.stamp
 
--- after its log host h may make the step: it has the marks of its row, and a request is asked rightly
+-- after its log host h may make the step: it has the marks of its row, and a request is asked rightly, at any time
 pub record FitsRow (start : Start) (h : ℕ) (log : List HostStep) (e : HostStep) : Type 0 where
   pub marks : e.step.marks ≡ (step_after start h log e).effects.marks
-  pub asked : asked_rightly (first_membership start) (is_request e.step.taken.body) h (last_stamp log) e.step.taken
+  pub asked_at : ℕ
+  pub asked : asked_rightly (first_membership start) (is_request e.step.taken.body) h asked_at e.step.taken
 
--- The machine, from this start. No host stops and none is made later by now.
+-- The machine, from this start. No host stops and none is made later by now. Stamps may be skipped, so that it goes on
+-- as a part of a cluster does whose hosts have something else to do besides.
 abbrev pub machine : Start → Machine HostStep Addressed
 machine start =
     record {
       host = λ e. e.host;
       stamp = λ e. e.step.stamp;
+      skips = true;
       signal = λ e. record { to = e.host; signal = e.step.taken };
       asked = λ e. is_request e.step.taken.body;
       from = λ x. x.signal.from.0;

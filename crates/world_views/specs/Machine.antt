@@ -179,6 +179,7 @@ machine start =
     record {
       host = λ e. e.host;
       stamp = λ e. e.step.stamp;
+      skips = false;
       signal = λ e. record { to = e.host; signal = e.step.taken };
       asked = λ e. is_asked e.host e.step.taken;
       from = λ x. x.signal.from.0;
