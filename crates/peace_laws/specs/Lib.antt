@@ -1,0 +1,4 @@
+pub mod Alike
+pub mod Laws
+pub mod Parts
+pub mod Peace
