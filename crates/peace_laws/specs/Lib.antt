@@ -2,3 +2,4 @@ pub mod Alike
 pub mod Laws
 pub mod Parts
 pub mod Peace
+pub mod Steps
