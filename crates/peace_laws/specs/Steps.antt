@@ -14,7 +14,7 @@ use Rattle.world_views.specs.Machine.{replies_at, step_by, stops_by, told}
 use Rattle.calm_laws.specs.Alike.{first}
 use Rattle.calm_laws.specs.Plain.{is_beating}
 use Rattle.level_laws.specs.Levels.{host_at}
-use Rattle.peace_laws.specs.Alike.{AreNear}
+use Rattle.peace_laws.specs.Alike.{AreNear, RestsOfClosings}
 use Rattle.peace_laws.specs.Parts.{plain_replies}
 use Rattle.peace_laws.specs.Peace.{asks_closing, is_closing, is_for_closing}
 
@@ -65,5 +65,6 @@ pub record RequestsNear (start : Start) (given : List ApiReply) (s : host.Host) 
 abbrev pub ClosingsAreAskedNear : Type 0
 ClosingsAreAskedNear =
     (start : Start) (given : List ApiReply) (s : host.Host) (other : plain.Host) (x : Signal)
-    → AreNear start given s other → asks_closing 0 x ≡ true → is_well_formed start.shape x ≡ true → x.view ≡ first start
+    → AreNear start given s other → RestsOfClosings s.parts → asks_closing 0 x ≡ true
+    → is_well_formed start.shape x ≡ true → x.view ≡ first start
     → RequestsNear start given s other x
