@@ -81,3 +81,27 @@ pub none_gives_up : (start : Start) (logs : ℕ → List HostStep) → AreLogs (
     → AreUnscheduled start logs → NoneWants logs
     → NoneGivesUp logs
 none_gives_up start logs right own none h = along start logs h (logs h) (right.local h) (own h) (none h)
+
+-- and then none has used up its numbers
+spent_gives_up : (m : Mark) → is_spent m ≡ true → gives_up m ≡ true
+spent_gives_up (Stopped Clock) is = refl
+spent_gives_up m is = absurd (false≢true is)
+
+unspent : (marks : List Mark) → list_any gives_up marks ≡ false → list_any is_spent marks ≡ false
+unspent [] none = refl
+unspent (m ∷ marks) none = by (gives_up m) (is_spent m) refl refl none
+  where
+    by : (gives spent : Bool) → gives_up m ≡ gives → is_spent m ≡ spent → (gives || list_any gives_up marks) ≡ false
+        → (spent || list_any is_spent marks) ≡ false
+    by gives true up is none = absurd (true≢false (sym (spent_gives_up m is ∙ refl) ∙ up ∙ gives_none gives none))
+    by gives false up is none = unspent marks (rest_none gives none)
+
+pub none_stops : (start : Start) (logs : ℕ → List HostStep) → AreLogs (machine start) logs → AreUnscheduled start logs
+    → NoneWants logs
+    → NoneStops logs
+none_stops start logs right own wants =
+    record {
+      none = none_gives_up start logs right own wants;
+      unspent = λ h. each_map (λ e. list_any gives_up e.step.marks ≡ false) (λ e. list_any is_spent e.step.marks ≡ false)
+          (logs h) (λ e none. unspent e.step.marks none) (wants h);
+    }

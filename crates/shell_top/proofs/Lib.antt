@@ -1,4 +1,4 @@
-pub mod CalmLemmas
+pub mod PeaceLemmas
 pub mod EndLemmas
 pub mod GivingUp
 pub mod LivedLemmas

@@ -7,16 +7,14 @@ use Rattle.std.proofs.lemmas.List.{append-nil, take_at}
 use Rattle.run_theory.proofs.Pasts.{past_self}
 use Rattle.script_lang.specs.declared.command.Command.{Command}
 use Rattle.sig_core.specs.declared.log.HostLog.{HostLog}
-use Rattle.calm_laws.specs.Calm.{AreCalm}
-use Rattle.calm_laws.specs.Resting.{NoneGivesUp}
-use Rattle.shell_top.specs.Asked.{AreAsked, AreAskedInFront, AreAskedInPart, AsksInPart, are_calm}
+use Rattle.shell_top.specs.Asked.{AreAsked, AreAskedInFront, AreAskedInPart, AsksInPart, are_peaceful}
 use Rattle.shell_top.specs.declared.ended.Ending.{Ending}
 use Rattle.shell_top.specs.declared.ended.Ending.TheVariants as ending
 use Rattle.shell_top.specs.Lived.{AreAskedFor, AreLived}
 use Rattle.shell_top.specs.Printed.{AppendsPart, is_cut_short}
-use Rattle.shell_top.specs.Served.{AreLeft, IsServed}
-use Rattle.shell_top.proofs.CalmLemmas.{asked_calm, commands_back, commands_front, head_calm, none_before}
-use Rattle.shell_top.proofs.GivingUp.{none_gives_up}
+use Rattle.shell_top.specs.Served.{AreLeft, IsServed, NoneStops}
+use Rattle.shell_top.proofs.PeaceLemmas.{asked_peaceful, commands_back, commands_front, head_peaceful, none_before}
+use Rattle.shell_top.proofs.GivingUp.{none_stops}
 use Rattle.shell_top.proofs.PrintedLemmas.{part_behind}
 use Rattle.world_views.specs.Requests.{requests}
 use Rattle.world_core.specs.Start.{Start}
@@ -72,9 +70,9 @@ module _ (start : Start) where
         at_quiet = was.at_quiet;
         quiet = λ kept. quiet_logs start was.given w was.right was.quiet;
         unscheduled = was.unscheduled;
-        stays_calm = λ calm none.
-            (was.rests (commands_front done rest (subst (λ cs. are_calm cs ≡ true) is calm))
-            (none_gives_up start (logs_at w.logs) (right_logs start was.given w was.right) was.unscheduled none)).life.calm;
+        in_peace = λ peaceful wants.
+            was.peace (commands_front done rest (subst (λ cs. are_peaceful cs ≡ true) is peaceful))
+            (none_stops start (logs_at w.logs) (right_logs start was.given w was.right) was.unscheduled wants);
       }
     where
       asked : (e : Ending) → (is_cut_short e ≡ false → rest ≡ [])
@@ -105,13 +103,15 @@ module _ (start : Start) where
         at_quiet = left.left.at_quiet was.quiet was.at_quiet;
         quiet = λ kept. absurd (kept refl);
         unscheduled = left.left.unscheduled was.unscheduled;
-        stays_calm = λ calm wants.
-            let none : NoneGivesUp (logs_at logs) =
-            none_gives_up start (logs_at logs) left.left.right (left.left.unscheduled was.unscheduled) wants in
-            let all : are_calm (done ++ c ∷ rest) ≡ true = subst (λ cs. are_calm cs ≡ true) is calm in
-            left.left.calm (record { given = was.given; right = was.right }) was.quiet
-            (was.rests (commands_front done (c ∷ rest) all) (none_before (logs_at w.logs) (logs_at logs) left.left.more none))
-            (asked_calm c (head_calm c rest (commands_back done (c ∷ rest) all))) none;
+        in_peace = λ peaceful wants.
+            let none : NoneStops (logs_at logs) =
+            none_stops start (logs_at logs) left.left.right (left.left.unscheduled was.unscheduled) wants in
+            let all : are_peaceful (done ++ c ∷ rest) ≡ true =
+            subst (λ cs. are_peaceful cs ≡ true) is peaceful in
+            left.left.peace (record { given = was.given; right = was.right }) was.quiet
+            (was.peace (commands_front done (c ∷ rest) all)
+            (none_before (logs_at w.logs) (logs_at logs) left.left.more none))
+            (asked_peaceful c (head_peaceful c rest (commands_back done (c ∷ rest) all))) none;
       }
 
 -- as much as this text is printed, and the logs tell that and more

@@ -15,17 +15,16 @@ use Rattle.sig_core.specs.declared.reply.ApiReply.{ApiReply}
 use Rattle.sig_core.specs.declared.request.ApiReq.{ApiReq}
 use Rattle.sig_core.specs.declared.request.ApiReq.TheVariants.{Tick}
 use Rattle.shell_top.specs.Arranged.{arranged}
-use Rattle.shell_top.specs.Asked.{AreAsked, AsksInPart, AsksOn, IsAskedNext, are_calm, is_calm_command, is_served, questions, requests_of}
+use Rattle.shell_top.specs.Asked.{AreAsked, AsksInPart, AsksOn, IsAskedNext, are_peaceful, is_peaceful_command, is_served, questions, requests_of}
 use Rattle.shell_top.specs.Subject.{subject_in}
 use Rattle.shell_top.specs.Asked.{rounds_behind}
 use Rattle.shell_top.specs.declared.ended.Ending.TheVariants as ending
 use Rattle.shell_top.specs.Printed.{AppendsPart}
-use Rattle.calm_laws.specs.Calm.{AreCalm}
-use Rattle.calm_laws.specs.Resting.{NoneGivesUp}
-use Rattle.shell_top.specs.Served.{AreAtRest, AreLeft, AreLeftOff, AsksFirst, HasGoneOn, HasServed, IsServed, PrintsCommand, ServesCommand, are_calm_requests}
+use Rattle.shell_top.specs.Served.{AreInPeace, AreLeft, AreLeftOff, AsksFirst, HasGoneOn, HasServed, IsServed, NoneStops, PrintsCommand, ServesCommand}
 use Rattle.shell_top.specs.Text.{down_line, reply_lines}
 use Rattle.shell_top.specs.Told.{text_of}
-use Rattle.shell_top.proofs.CalmLemmas.{command_calm, commands_back, commands_front, first_calm, head_calm, none_before, one_calm, one_rests, requests_back, requests_front}
+use Rattle.shell_top.proofs.PeaceLemmas.{command_peaceful, commands_back, commands_front, first_peaceful, head_peaceful}
+use Rattle.shell_top.proofs.PeaceLemmas.{none_before, one_peaceful, requests_back, requests_front}
 use Rattle.shell_top.proofs.ToldLemmas.{HasFirst, asks_for, has_first, none_heads, none_both, none_take, one_more, requests_newer}
 use Rattle.world_views.specs.Driven.{HasAsked, HaveGrown, IsDriven, IsSound, IsWorld}
 use Rattle.world_core.specs.Labels.{AreLabelled}
@@ -83,7 +82,7 @@ module _ (start : Start) where
         at_quiet = λ quiet was. was;
         quiet = λ quiet. quiet;
         unscheduled = λ was. was;
-        rests = λ sound quiet rest calm none. rest;
+        peace = λ sound quiet was peaceful none. was;
       }
 
   -- the step that asks for something is a request
@@ -111,9 +110,9 @@ module _ (start : Start) where
         at_quiet = λ still was. drove.grown.asked (asked.asked still was);
         quiet = λ still. quiet;
         unscheduled = λ was. own (asked.unscheduled was);
-        rests = λ sound idle rest calm none.
-            one_rests start request w u sound idle rest asked (logs_at t.logs) drove.grown (first_calm request calm) none
-            (quiet_logs start sound.given t (drove.right sound.given (asked.right sound.given sound.right)) quiet);
+        peace = λ sound idle was peaceful none.
+            one_peaceful start request w u sound idle was asked (logs_at t.logs) drove.grown
+            (first_peaceful request peaceful) none;
       }
 
   -- one list of things, and then another
@@ -127,10 +126,11 @@ module _ (start : Start) where
         at_quiet = λ still was. two.at_quiet (one.quiet still) (one.at_quiet still was);
         quiet = λ still. two.quiet (one.quiet still);
         unscheduled = λ was. two.unscheduled (one.unscheduled was);
-        rests = λ sound idle rest calm none.
-            two.rests (served_sound asked w u one sound) (one.quiet idle)
-            (one.rests sound idle rest (requests_front asked more calm) (none_before (logs_at u.logs) (logs_at t.logs) two.more none))
-            (requests_back asked more calm) none;
+        peace = λ sound idle was peaceful none.
+            two.peace (served_sound asked w u one sound) (one.quiet idle)
+            (one.peace sound idle was (requests_front asked more peaceful)
+            (none_before (logs_at u.logs) (logs_at t.logs) two.more none))
+            (requests_back asked more peaceful) none;
       }
 
   -- memory was wanting before anything was asked for
@@ -148,7 +148,7 @@ module _ (start : Start) where
         at_quiet = λ quiet was. was;
         begun = inl refl;
         unscheduled = λ was. was;
-        calm = λ sound idle rest calm none. rest.life.calm;
+        peace = λ sound idle was peaceful none. was;
       })
 
   -- or when one thing was
@@ -168,8 +168,9 @@ module _ (start : Start) where
         begun = inr (next_longer (logs_at w.logs 0) (logs_at u.logs 0) (logs_at logs 0)
             (record { newer = []; asking = asked.asking; is = asked.next; asks = asks_it request w u asked }) (grown.more 0));
         unscheduled = λ was. own (asked.unscheduled was);
-        calm = λ sound idle rest calm none.
-            one_calm start request w u sound idle rest asked (logs_at logs) grown (first_calm request calm) none;
+        peace = λ sound idle was peaceful none.
+            one_peaceful start request w u sound idle was asked (logs_at logs) grown (first_peaceful request peaceful)
+            none;
       }
 
   -- or behind what was served
@@ -200,10 +201,11 @@ module _ (start : Start) where
         at_quiet = λ still was. left.at_quiet (served.quiet still) (served.at_quiet still was);
         begun = begun_later asked more w u logs served left;
         unscheduled = λ was. left.unscheduled (served.unscheduled was);
-        calm = λ sound idle rest calm none.
-            left.calm (served_sound asked w u served sound) (served.quiet idle)
-            (served.rests sound idle rest (requests_front asked more calm) (none_before (logs_at u.logs) (logs_at logs) left.more none))
-            (requests_back asked more calm) none;
+        peace = λ sound idle was peaceful none.
+            left.peace (served_sound asked w u served sound) (served.quiet idle)
+            (served.peace sound idle was (requests_front asked more peaceful)
+            (none_before (logs_at u.logs) (logs_at logs) left.more none))
+            (requests_back asked more peaceful) none;
       }
 
   -- what was left off of some things was left off of more
@@ -221,7 +223,7 @@ module _ (start : Start) where
         at_quiet = left.at_quiet;
         begun = left.begun;
         unscheduled = left.unscheduled;
-        calm = λ sound idle rest calm none. left.calm sound idle rest (requests_front asked more calm) none;
+        peace = λ sound idle was peaceful none. left.peace sound idle was (requests_front asked more peaceful) none;
       }
 
   -- all was served, and then memory was wanting
@@ -349,26 +351,26 @@ module _ (start : Start) where
       behind : Behind c has w v
       behind = all_served c has w u v own (is_left_open u) on
 
-      -- calm commands are asked for calmly, one after the other
-      rests : (commands : List Command) → IsServed start commands w → are_calm (commands ++ c ∷ []) ≡ true
-          → NoneGivesUp (logs_at v.logs) → AreAtRest start (logs_at v.logs)
-      rests commands was calm none = go (is_left_open u) on
+      -- peaceful commands are asked for in peace, one after the other
+      peace : (commands : List Command) → IsServed start commands w → are_peaceful (commands ++ c ∷ []) ≡ true
+          → NoneStops (logs_at v.logs) → AreInPeace start (logs_at v.logs)
+      peace commands was peaceful none = go (is_left_open u) on
         where
-          before : AreAtRest start (logs_at w.logs)
+          before : AreInPeace start (logs_at w.logs)
           before =
-              was.rests (commands_front commands (c ∷ []) calm)
+              was.peace (commands_front commands (c ∷ []) peaceful)
               (none_before (logs_at w.logs) (logs_at v.logs) behind.served.more none)
 
-          one : is_calm_command c ≡ true
-          one = head_calm c [] (commands_back commands (c ∷ []) calm)
+          one : is_peaceful_command c ≡ true
+          one = head_peaceful c [] (commands_back commands (c ∷ []) peaceful)
 
-          go : (b : Bool) → HasGoneOn start u v b → AreAtRest start (logs_at v.logs)
+          go : (b : Bool) → HasGoneOn start u v b → AreInPeace start (logs_at v.logs)
           go false same =
-              subst (λ (x : Whole). NoneGivesUp (logs_at x.logs) → AreAtRest start (logs_at x.logs)) (sym same)
-              (own.rests sound was.quiet before (command_calm c one)) none
+              subst (λ (x : Whole). NoneStops (logs_at x.logs) → AreInPeace start (logs_at x.logs)) (sym same)
+              (own.peace sound was.quiet before (command_peaceful c one)) none
           go true asked =
-              asked.rests (served_sound (requests_of c) w u own sound) (own.quiet was.quiet)
-              (own.rests sound was.quiet before (command_calm c one)
+              asked.peace (served_sound (requests_of c) w u own sound) (own.quiet was.quiet)
+              (own.peace sound was.quiet before (command_peaceful c one)
               (none_before (logs_at u.logs) (logs_at v.logs) asked.more none)) refl none
 
       after_it : (commands : List Command) → IsServed start commands w → IsServed start (commands ++ c ∷ []) (record v { replies = [] })
@@ -391,7 +393,7 @@ module _ (start : Start) where
             at_quiet = behind.served.at_quiet was.quiet was.at_quiet;
             none_left = refl;
             unscheduled = behind.served.unscheduled was.unscheduled;
-            rests = rests commands was;
+            peace = peace commands was;
           }
 
       told : (commands : List Command) → IsServed start commands w → text_of start (logs_at v.logs 0) ≡ text_of start (logs_at w.logs 0) ++ text

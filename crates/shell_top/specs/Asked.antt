@@ -49,16 +49,14 @@ is_served (command.Rows at) = true
 is_served (command.Digest at) = true
 is_served _ = false
 
--- the command stops nobody, cuts nobody off and closes no epoch
-abbrev pub is_calm_command : Command → Bool
-is_calm_command (command.Kill at) = false
-is_calm_command (command.Cut one other) = false
-is_calm_command command.Micro = false
-is_calm_command command.Gcp = false
-is_calm_command _ = true
+-- the command stops nobody and cuts nobody off
+abbrev pub is_peaceful_command : Command → Bool
+is_peaceful_command (command.Kill at) = false
+is_peaceful_command (command.Cut one other) = false
+is_peaceful_command _ = true
 
-abbrev pub are_calm : List Command → Bool
-are_calm commands = list_all is_calm_command commands
+abbrev pub are_peaceful : List Command → Bool
+are_peaceful commands = list_all is_peaceful_command commands
 
 -- what is asked about a command that left something of its own unanswered
 abbrev pub questions : List ApiReq

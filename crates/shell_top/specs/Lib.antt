@@ -1,6 +1,6 @@
 pub mod Arranged
 pub mod Asked
-pub mod Calm
+pub mod Peace
 pub mod Lived
 pub mod Opened
 pub mod Parsed

@@ -3,17 +3,17 @@ use Rattle.std.specs.Prelude.{◌≡◌, ℕ, Bool, true, false, List, [], ◌�
 use Rattle.run_theory.specs.Cuts.{IsClosed, IsCut}
 use Rattle.run_theory.specs.Orders.{LogsRun}
 use Rattle.run_theory.specs.Runs.{AreLogs, IsWithin}
-use Rattle.calm_laws.specs.Calm.{AreCalm}
 use Rattle.report_laws.specs.Growing.{IsSublist}
 use Rattle.script_lang.specs.declared.command.Command.{Command}
 use Rattle.sig_core.specs.declared.view.Shape.{Shape}
 use Rattle.sig_core.specs.declared.log.HostLog.{HostLog}
 use Rattle.sig_core.specs.declared.log.Life.{Life}
-use Rattle.shell_top.specs.Asked.{AreAsked, are_calm, AreAskedInFront, AreAskedInPart}
-use Rattle.shell_top.specs.Calm.{IsCalmServed}
+use Rattle.shell_top.specs.Asked.{AreAsked, are_peaceful, AreAskedInFront, AreAskedInPart}
+use Rattle.shell_top.specs.Peace.{IsPeacefullyServed}
 use Rattle.shell_top.specs.declared.ended.Ending.{Ending}
 use Rattle.shell_top.specs.declared.ended.Ending.TheVariants.{NoMemory, Words, WriteFault}
 use Rattle.shell_top.specs.Safe.{AreSafe, IsSafe}
+use Rattle.shell_top.specs.Served.{AreInPeace}
 use Rattle.shell_top.specs.Stopped.{NoneWants}
 use Rattle.shell_top.specs.Told.{text_of}
 use Rattle.world_core.specs.History.{history}
@@ -39,7 +39,7 @@ AreAskedFor start ending commands log = AreAsked start (reverse commands) log
 -- The logs of a life in which the shell asked for the commands, each at quiet, as far as the session came. There is one
 -- for each host, and it says which host's it is. At its end nothing was under way, unless memory was wanting. No host
 -- stopped by itself, unless for want of memory or of stamps, and then it had no stamp left, nor cut off a node. Where none
--- did so, and no command kills, cuts or closes anything, the logs are calm.
+-- did so, and no command kills or cuts anything, the logs came about in peace.
 pub record AreLived (start : Start) (ending : Ending) (commands : List Command) (logs : List HostLog) : Type 0 where
   pub labelled : AreLabelled start logs
   pub right : AreLogs (machine start) (logs_at logs)
@@ -48,14 +48,14 @@ pub record AreLived (start : Start) (ending : Ending) (commands : List Command) 
   pub at_quiet : AreAskedAtQuiet start (logs_at logs)
   pub quiet : (ending ≡ NoMemory → ⊥) → IsQuiet start (logs_at logs)
   pub unscheduled : AreUnscheduled start (logs_at logs)
-  pub stays_calm : are_calm commands ≡ true → NoneWants (logs_at logs) → AreCalm (logs_at logs)
+  pub in_peace : are_peaceful commands ≡ true → NoneWants (logs_at logs) → AreInPeace start (logs_at logs)
 
 -- What a life of a cluster of this shape says: it begins without rows, in the first epoch; its logs, one for each host
 -- and each with its host's number, are a run of the machine from there, in which hosts may stop and cut each other
 -- off; the requests in them are those of the commands; every closed cut of them is safe, whatever failed, and so are
 -- any two of them, one inside the other; the history of a cut is that of each larger one with some entries left out;
--- and where they are calm, so that nothing failed and no epoch was closed, the cluster served as one does in which
--- nothing can fail.
+-- and where no command kills or cuts anything, and no host gave up, the cluster served as one does in which nothing can
+-- fail, and each closing of an epoch was answered.
 pub record IsLife (shape : Shape) (ending : Ending) (commands : List Command) (life : Life) : Type 0 where
   pub begins : start_of shape life ≡ fresh shape
   pub lived : AreLived (start_of shape life) ending commands life.logs
@@ -67,7 +67,8 @@ pub record IsLife (shape : Shape) (ending : Ending) (commands : List Command) (l
       → AreSafe (start_of shape life) small large
   pub grows : (small large : ℕ → List HostStep) → IsCut small large → IsCut large (logs_of life)
       → IsSublist (history (hosts (start_of shape life)) small) (history (hosts (start_of shape life)) large)
-  pub calm : AreCalm (logs_of life) → IsCalmServed (start_of shape life) ending (logs_of life)
+  pub peaceful : are_peaceful commands ≡ true → NoneWants (logs_of life)
+      → IsPeacefullyServed (start_of shape life) ending (logs_of life)
 
 -- the endings that can come before there is a life
 abbrev pub may_be_unborn : Ending → Bool

@@ -1,19 +1,19 @@
 -- What a world has done for the commands that it was asked for.
-use Rattle.std.specs.Prelude.{◌≡◌, ◌⊎◌, ℕ, Bool, true, false, List, [], ◌∷◌, ◌++◌, reverse, take, Option, Some}
+use Rattle.std.specs.Prelude.{◌≡◌, ◌⊎◌, ◌×◌, ℕ, Bool, true, false, List, [], ◌∷◌, ◌++◌, reverse, take, Option, Some}
 use Rattle.std.specs.Prelude.{MatchOption}
 use Rattle.std.specs.List.{list_all}
 use Rattle.std.specs.Io.KnownBytes.{Appends}
 use Rattle.run_theory.specs.Lists.{IsPast}
 use Rattle.run_theory.specs.Runs.{AreLogs, IsWithin}
-use Rattle.calm_laws.specs.Calm.{AreCalm, is_calm_request}
-use Rattle.calm_laws.specs.Laws.{IsCalmLife}
-use Rattle.calm_laws.specs.Resting.{AreResting, NoneGivesUp}
+use Rattle.calm_laws.specs.Resting.{NoneGivesUp}
+use Rattle.peace_laws.specs.Laws.{AreServedBy, is_spent}
+use Rattle.peace_laws.specs.Peace.{is_peaceful_request}
 use Rattle.script_lang.specs.declared.command.Command.{Command}
 use Rattle.sig_core.specs.declared.log.HostLog.{HostLog}
 use Rattle.world_core.specs.Steps.{HostStep}
 use Rattle.sig_core.specs.declared.reply.ApiReply.{ApiReply}
 use Rattle.sig_core.specs.declared.request.ApiReq.{ApiReq}
-use Rattle.shell_top.specs.Asked.{AreAsked, are_calm, AsksInPart, IsAskedNext, questions, requests_of}
+use Rattle.shell_top.specs.Asked.{AreAsked, are_peaceful, AsksInPart, IsAskedNext, questions, requests_of}
 use Rattle.shell_top.specs.declared.ended.Ending.{Ending}
 use Rattle.shell_top.specs.declared.ended.Ending.TheVariants.{WriteFault, NoMemory}
 use Rattle.shell_top.specs.Printed.{AppendsPart}
@@ -29,21 +29,25 @@ use Rattle.world_views.specs.Right.{IsRight}
 use Rattle.world_views.specs.Unscheduled.{AreUnscheduled}
 use Rattle.world_views.specs.World.{IsIdle, Whole}
 
--- these requests stop nobody, cut nobody off and close no epoch
-abbrev pub are_calm_requests : List ApiReq → Bool
-are_calm_requests requests = list_all is_calm_request requests
+-- these requests stop nobody and cut nobody off
+abbrev pub are_peaceful_requests : List ApiReq → Bool
+are_peaceful_requests requests = list_all is_peaceful_request requests
 
--- Calm logs of a life that begins without rows, whose memberships are at rest.
-pub record AreAtRest (start : Start) (logs : ℕ → List HostStep) : Type 0 where
-  pub life : IsCalmLife start logs
-  pub resting : AreResting start logs
+-- no host stopped, or cut off another, of its own accord
+pub record NoneStops (logs : ℕ → List HostStep) : Type 0 where
+  pub none : NoneGivesUp logs
+  pub unspent : (h : ℕ) → Each (λ e. list_any is_spent e.step.marks ≡ false) (logs h)
+
+-- the logs came about by such requests, each asked when nothing was under way
+abbrev pub AreInPeace : Start → (ℕ → List HostStep) → Type 0
+AreInPeace start logs = (asked : List ApiReq) × AreServedBy start asked logs
 
 -- the first of these requests is the next step of host 0
 abbrev pub AsksFirst : List ApiReq → List HostStep → List HostStep → Type 0
 AsksFirst [] before log = log ≡ before
 AsksFirst (first ∷ asked) before log = IsAskedNext before log
 
--- The world was asked for these requests, each at quiet, and is quiet. Calm stays, and so does rest.
+-- The world was asked for these requests, each at quiet, and is quiet. Peace goes on.
 pub record HasServed (start : Start) (asked : List ApiReq) (w t : Whole) : Type 0 where
   pub right : (given : List ApiReply) → IsRight start given w → IsRight start given t
   pub more : (h : ℕ) → IsPast (logs_at w.logs h) (logs_at t.logs h)
@@ -52,12 +56,12 @@ pub record HasServed (start : Start) (asked : List ApiReq) (w t : Whole) : Type 
   pub at_quiet : IsIdle w → AreAskedAtQuiet start (logs_at w.logs) → AreAskedAtQuiet start (logs_at t.logs)
   pub quiet : IsIdle w → IsIdle t
   pub unscheduled : AreUnscheduled start (logs_at w.logs) → AreUnscheduled start (logs_at t.logs)
-  pub rests : IsSound start w → IsIdle w → AreAtRest start (logs_at w.logs) → are_calm_requests asked ≡ true
-      → NoneGivesUp (logs_at t.logs)
-      → AreAtRest start (logs_at t.logs)
+  pub peace : IsSound start w → IsIdle w → AreInPeace start (logs_at w.logs) → are_peaceful_requests asked ≡ true
+      → NoneStops (logs_at t.logs)
+      → AreInPeace start (logs_at t.logs)
 
 -- Memory was wanting while the world was asked for these requests: of the logs, a first part of them was asked for, each
--- at quiet; where none was, the shell's host made no step. Calm stays.
+-- at quiet; where none was, the shell's host made no step. Peace goes on.
 pub record AreLeftOff (start : Start) (asked : List ApiReq) (w : Whole) (logs : List HostLog) : Type 0 where
   pub labelled : AreLabelled start logs
   pub right : AreLogs (machine start) (logs_at logs)
@@ -68,17 +72,17 @@ pub record AreLeftOff (start : Start) (asked : List ApiReq) (w : Whole) (logs : 
   pub at_quiet : IsIdle w → AreAskedAtQuiet start (logs_at w.logs) → AreAskedAtQuiet start (logs_at logs)
   pub begun : (logs_at logs 0 ≡ logs_at w.logs 0) ⊎ IsAskedNext (logs_at w.logs 0) (logs_at logs 0)
   pub unscheduled : AreUnscheduled start (logs_at w.logs) → AreUnscheduled start (logs_at logs)
-  pub calm : IsSound start w → IsIdle w → AreAtRest start (logs_at w.logs) → are_calm_requests asked ≡ true
-      → NoneGivesUp (logs_at logs)
-      → AreCalm (logs_at logs)
+  pub peace : IsSound start w → IsIdle w → AreInPeace start (logs_at w.logs) → are_peaceful_requests asked ≡ true
+      → NoneStops (logs_at logs)
+      → AreInPeace start (logs_at logs)
 
 -- What was asked about the last command: nothing where it left nothing of its own unanswered, and else the questions.
 abbrev pub HasGoneOn : Start → Whole → Whole → Bool → Type 0
 HasGoneOn start w t false = t ≡ w
 HasGoneOn start w t true = HasServed start questions w t
 
--- The world is quiet. The shell asked for these commands, each at quiet, and has had all replies. Where they are calm and no
--- host gave up, so are the logs.
+-- The world is quiet. The shell asked for these commands, each at quiet, and has had all replies. Where they stop and cut
+-- off nobody, and no host gave up, the logs are peaceful.
 pub record IsServed (start : Start) (commands : List Command) (w : Whole) : Type 0 where
   pub given : List ApiReply
   pub right : IsRight start given w
@@ -87,7 +91,7 @@ pub record IsServed (start : Start) (commands : List Command) (w : Whole) : Type
   pub at_quiet : AreAskedAtQuiet start (logs_at w.logs)
   pub none_left : w.replies ≡ []
   pub unscheduled : AreUnscheduled start (logs_at w.logs)
-  pub rests : are_calm commands ≡ true → NoneGivesUp (logs_at w.logs) → AreAtRest start (logs_at w.logs)
+  pub peace : are_peaceful commands ≡ true → NoneStops (logs_at w.logs) → AreInPeace start (logs_at w.logs)
 
 -- Memory was wanting while a command was served, after these commands: what the logs are then. The questions were asked
 -- only where it left something of its own unanswered. The text of the logs goes on from the text before.
