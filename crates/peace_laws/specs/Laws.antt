@@ -82,7 +82,7 @@ IsTold Gcp start was now epoch = replies_in start 0 (now 0) ≡ replies_in start
 IsTold Micro start was now epoch = replies_in start 0 (now 0) ≡ replies_in start 0 (was 0) ++ Closed epoch ∷ []
 IsTold request start was now epoch = ⊥
 
-pub record IsClosed (start : Start) (request : ApiReq) (was now : ℕ → List HostStep) : Type 0 where
+pub record IsAnsweredBy (start : Start) (request : ApiReq) (was now : ℕ → List HostStep) : Type 0 where
   pub epoch : ℕ
   pub told : IsTold request start was now epoch
   pub covers : (tx : TxId) (other : ℕ) → IsMarked (Reported tx (Committed other)) (was 0) → other ≤ epoch
@@ -92,4 +92,4 @@ abbrev pub ClosingsAreAnswered : Type 0
 ClosingsAreAnswered =
     (start : Start) (earlier : List ApiReq) (request : ApiReq) (was now : ℕ → List HostStep)
     → IsPeacefulLife start earlier was → IsQuiet start was → is_closing_request request ≡ true
-    → GoOnBy start request was now → IsQuiet start now → IsClosed start request was now
+    → GoOnBy start request was now → IsQuiet start now → IsAnsweredBy start request was now
