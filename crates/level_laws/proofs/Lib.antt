@@ -1,0 +1,4 @@
+pub mod LevelLists
+pub mod TcSends
+pub mod TcTurns
+pub mod TcLevels
