@@ -10,25 +10,7 @@ use Rattle.std.proofs.lemmas.List.{append-nil, get_or_past}
 use Rattle.run_theory.proofs.Merging.{merged_run}
 use Rattle.run_theory.specs.Lists.{Each}
 use Rattle.api_block.specs.State.{ApiState}
-use Rattle.calm_laws.specs.Alike.{ArePartsAlike}
-use Rattle.calm_laws.specs.Calm.{is_calm}
-use Rattle.calm_laws.specs.Laws.{ArePlain, IsCalmLife}
-use Rattle.calm_laws.specs.Plain.{plain_logs}
-use Rattle.calm_laws.specs.Resting.{IsRestingPart}
-use Rattle.calm_laws.specs.Steps.{plain_replies}
-use Rattle.calm_laws.proofs.Quiet.{asked_plain, quiet_plain}
-use Rattle.calm_laws.proofs.Rest.{lives_begin_at_rest}
-use Rattle.calm_laws.proofs.Runs.{logs_plain}
-use Rattle.cause_laws.proofs.Causes.{replies_caused}
-use Rattle.command_laws.proofs.RepliesLive.{replies_live}
-use Rattle.command_laws.proofs.RequestsAnswered.{requests_answered}
-use Rattle.command_laws.specs.Between.{IsAskedAgain}
-use Rattle.report_laws.proofs.Reports.{reports_are_marked}
 use Rattle.host_io.specs.Fault.{Rose}
-use Rattle.node_core.specs.declared.host.Host as plain_host
-use Rattle.node_core.specs.declared.host.Host.TheVariants as plain_part
-use Rattle.node_core.specs.Blocks.{has_api}
-use Rattle.node_core.specs.Replies.{replies_of as host_replies}
 use Rattle.node_views.specs.declared.parts.Parts.{Parts}
 use Rattle.node_views.specs.declared.parts.Parts.TheVariants.{Ldm, Main, Shell, Tc}
 use Rattle.frag_map.specs.Shape.{IsShape}
@@ -38,7 +20,6 @@ use Rattle.sig_core.specs.declared.log.Life.{Life}
 use Rattle.sig_core.specs.declared.reply.ApiReply.{ApiReply}
 use Rattle.sig_core.specs.declared.view.Shape.{Shape}
 use Rattle.report_laws.proofs.Growing.{histories_grow}
-use Rattle.shell_top.specs.Calm.{IsCalmServed, replied}
 use Rattle.shell_top.specs.declared.ended.Ending.{Ending}
 use Rattle.shell_top.specs.declared.ended.Ending.TheVariants as ending
 use Rattle.shell_top.specs.declared.session.Session.{Session}
@@ -46,10 +27,12 @@ use Rattle.shell_top.specs.Lived.{AreLived, IsLife, session_text}
 use Rattle.shell_top.specs.Opened.{HasOpened}
 use Rattle.shell_top.specs.Printed.{Prints, is_cut_short}
 use Rattle.shell_top.specs.Script.{script_from}
-use Rattle.shell_top.specs.Served.{AreAtRest, IsServed}
+use Rattle.shell_top.specs.Served.{AreInPeace, IsServed}
 use Rattle.shell_top.specs.Session.{AreLinesDone, IsSession, IsUnderWay}
 use Rattle.shell_top.specs.Text.{down_line, fault_line}
 use Rattle.shell_top.specs.Told.{text_of}
+use Rattle.peace_laws.proofs.Peaceful.{closings_answered, lives_plain}
+use Rattle.shell_top.proofs.PeacefulLemmas.{peacefully_served}
 use Rattle.shell_top.proofs.PrintedLemmas.{prints_both}
 use Rattle.shell_top.proofs.SafeLemmas.{between_cuts, cuts_are_safe}
 use Rattle.world_core.specs.Hosts.{hosts}
@@ -60,7 +43,6 @@ use Rattle.world_core.specs.Start.{Start}
 use Rattle.world_core.specs.Steps.{HostStep}
 use Rattle.world_core.specs.World.{for_each, logs_at, no_steps, of_host}
 use Rattle.world_core.proofs.FreshWorld.{each_at, each_length}
-use Rattle.world_core.proofs.HostNumbers.{api_runs}
 use Rattle.world_views.specs.Lives.{fresh}
 use Rattle.world_views.specs.Machine.{after, machine}
 use Rattle.world_views.specs.Quiet.{IsQuiet}
@@ -100,21 +82,9 @@ fresh_unscheduled start h newer e before is = absurd (none newer (sym (no_step s
     none [] q = cc
     none (n ∷ newer) q = cc
 
--- and its memberships rest
-fresh_rests : (start : Start) → IsShape start.shape → start.rows ≡ [] → AreAtRest start (logs_at (new_world start).logs)
-fresh_rests start sound none =
-    record {
-      life = record {
-        shape = sound;
-        rows = none;
-        within = within start [] (new_world start) (fresh_right start);
-        right = right_logs start [] (new_world start) (fresh_right start);
-        calm = λ h. subst (Each (λ e. is_calm h e.step.taken ≡ true)) (sym (no_step start h)) tt;
-      };
-      resting = λ h low beats.
-          subst (λ (log : List HostStep). IsRestingPart start h 1 (after start h log).parts) (sym (no_step start h))
-          (lives_begin_at_rest start h low beats);
-    }
+-- and so it came about in peace
+fresh_peace : (start : Start) → AreInPeace start (logs_at (new_world start).logs)
+fresh_peace start = ([], λ h. no_step start h)
 
 -- the session is before its first line
 pub starts : (left written : Option (List ℕ)) (session : Session) (lives : Vec Life) → HasOpened session lives
@@ -136,7 +106,7 @@ starts left written session lives opened =
             at_quiet = fresh_asked (fresh shape);
             none_left = refl;
             unscheduled = fresh_unscheduled (fresh shape);
-            rests = λ calm none. fresh_rests (fresh shape) opened.sound refl;
+            peace = λ peaceful none. fresh_peace (fresh shape);
           });
       line_low = omega (arith, opened.line);
       held_short = let empty : length session.reader ≡ 0 = ap length opened.reader in omega arith;
@@ -146,11 +116,6 @@ starts left written session lives opened =
 -- the one life that is handed back
 pub one_life : (lives before : List Life) (life last : Life) → lives ≡ before ++ life ∷ [] → before ≡ [] → life ≡ last → lives ≡ last ∷ []
 one_life lives before life last are none is = are ∙ ap (λ ls. ls ++ life ∷ []) none ∙ ap (λ l. l ∷ []) is
-
--- nothing is under way at the end, or another request comes later
-ends_or_goes_on : (e : Ending) (Q A : Type 0) → ((e ≡ ending.NoMemory → ⊥) → Q) → (e ≡ ending.NoMemory → A) → Q ⊎ A
-ends_or_goes_on ending.NoMemory Q A quiet again = inr (again refl)
-ends_or_goes_on _ Q A quiet again = inl (quiet (λ is. absurd cc))
 
 -- a count that rose and doesn't fall has risen
 pub rose_still : (before mid now : ℕ) → Rose before mid → mid ≤ now → Rose before now
@@ -163,46 +128,6 @@ nothing_more_printed ending.WriteFault written cut = record { count = 0; appende
 nothing_more_printed ending.NoMemory written cut = record { count = 0; appended = Appends-nil written }
 nothing_more_printed _ written cut = cc
 
--- A host of the plain machine that is alike the shell's was replied what that was, but for the views that it was shown.
-replied_alike : (start : Start) (given : List ApiReply) (parts : Parts) (other : plain_host.Host) → has_api other ≡ true
-    → ArePartsAlike start given parts other
-    → given ≡ host_replies other
-unfolding host_replies
-replied_alike start given (Shell p) (plain_part.Shell a) api alike =
-    sym (ap (λ (b : ApiState). b.replies) alike.1.1.1 ∙ ap (λ rs. given ++ rs) alike.1.1.0 ∙ append-nil given)
-replied_alike start given (Main p) (plain_part.Shell a) api alike = absurd alike
-replied_alike start given (Tc p) (plain_part.Shell a) api alike = absurd alike
-replied_alike start given (Ldm p) (plain_part.Shell a) api alike = absurd alike
-replied_alike start given parts (plain_part.Main m) api alike = absurd (true≢false (sym api))
-replied_alike start given parts (plain_part.Tc q) api alike = absurd (true≢false (sym api))
-replied_alike start given parts (plain_part.Ldm s) api alike = absurd (true≢false (sym api))
-
--- what calm logs say
-module _ (start : Start) (logs : ℕ → List HostStep) (life : IsCalmLife start logs) where
-  are_plain : ArePlain start logs
-  are_plain = logs_plain start logs life
-
-  plainly_replied : plain_replies (replies_in start 0 (logs 0)) ≡ replied start (plain_logs logs 0)
-  plainly_replied =
-      replied_alike start (plain_replies (replies_in start 0 (logs 0))) (after start 0 (logs 0)).parts
-      (plain.after start 0 (plain_logs logs 0)) (api_runs start (plain_logs logs 0)) (are_plain.alike 0).parts
-
-  calmly_served : (e : Ending) → AreAskedAtQuiet start logs → ((e ≡ ending.NoMemory → ⊥) → IsQuiet start logs)
-      → IsCalmServed start e logs
-  calmly_served e asked quiet =
-      record {
-        replies = plainly_replied;
-        answered = λ newer step before request at is again.
-            requests_answered start (plain_logs logs) life.shape are_plain.right are_plain.within
-            (asked_plain start logs life asked) newer step before request at is
-            (ends_or_goes_on e (plain_quiet.IsQuiet (plain.machine start) (hosts start) (plain_logs logs))
-            (IsAskedAgain start newer) (λ kept. quiet_plain start logs life (quiet kept)) again);
-        reported = reports_are_marked start (plain_logs logs) life.shape are_plain.within are_plain.right;
-        caused = λ inside cut closed. replies_caused start inside (plain_logs logs) life.shape
-            (record { within = are_plain.within; right = are_plain.right; cut = cut; closed = closed });
-        living = replies_live start (plain_logs logs) are_plain.within are_plain.right;
-      }
-
 -- what the one life says
 pub is_life : (shape : Shape) → IsShape shape → (e : Ending) (commands : List Command) (logs : List HostLog)
     → AreLived (fresh shape) e commands logs → IsLife shape e commands (fresh_life logs)
@@ -214,10 +139,10 @@ is_life shape sound e commands logs lived =
       safe = cuts_are_safe (fresh shape) (logs_at logs) (omega arith) sound lived.within lived.right;
       between = between_cuts (fresh shape) (logs_at logs) (omega arith) sound lived.within lived.right;
       grows = λ small large inside cut. histories_grow (fresh shape) small large inside;
-      calm = λ calm.
-          calmly_served (fresh shape) (logs_at logs)
-          (record { shape = sound; rows = refl; within = lived.within; right = lived.right; calm = calm }) e
-          lived.at_quiet lived.quiet;
+      peaceful = λ peaceful wants.
+          let peace = lived.in_peace peaceful wants in
+          peacefully_served lives_plain closings_answered (fresh shape) sound refl (omega arith) peace.0 (logs_at logs)
+          peace.1 e lived.quiet;
     }
 
 -- it was done with its lines

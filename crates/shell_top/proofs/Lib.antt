@@ -1,4 +1,5 @@
 pub mod PeaceLemmas
+pub mod PeacefulLemmas
 pub mod EndLemmas
 pub mod GivingUp
 pub mod LivedLemmas
