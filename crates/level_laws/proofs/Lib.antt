@@ -1,0 +1,5 @@
+pub mod ApiLevels
+pub mod DihLevels
+pub mod FreshLevels
+pub mod HostLevels
+pub mod LevelLists
