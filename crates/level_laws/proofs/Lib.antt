@@ -2,4 +2,4 @@ pub mod ApiLevels
 pub mod DihLevels
 pub mod FreshLevels
 pub mod HostLevels
-pub mod LevelLists
+pub mod SignalLevels

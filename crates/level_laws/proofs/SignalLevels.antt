@@ -15,12 +15,13 @@ use Rattle.level_laws.specs.Levels.{body_at, send_at, signal_at}
 
 -- a test of what signals say doesn't look at epochs
 pub record LooksAtNone {A : Type 0} (test : Body → A) : Type 0 where
-  pub reports : (tx : TxId) (one other : ℕ) → test (Client (TcCommitConf tx one)) ≡ test (Client (TcCommitConf tx other))
+  pub reports : (tx : TxId) (one other : ℕ)
+      → test (Client (TcCommitConf tx one)) ≡ test (Client (TcCommitConf tx other))
   pub commits : (tx : TxId) (key : List ℕ) (one other : ℕ) (chain : List Member) (at : ℕ)
       → test (Chain (Commit tx key one chain at)) ≡ test (Chain (Commit tx key other chain at))
   pub gives : (tx : TxId) (one other : ℕ) → test (Epoch (DiVerifyConf tx one)) ≡ test (Epoch (DiVerifyConf tx other))
 
--- and so says the same of any signal
+-- it says the same of every signal
 pub body_kept : {A : Type 0} (test : Body → A) → LooksAtNone test → (epoch : ℕ) (body : Body)
     → test (body_at epoch body) ≡ test body
 body_kept test blind epoch (Client (TcCommitConf tx other)) = blind.reports tx epoch other
@@ -28,6 +29,7 @@ body_kept test blind epoch (Chain (Commit tx key other chain at)) = blind.commit
 body_kept test blind epoch (Epoch (DiVerifyConf tx other)) = blind.gives tx epoch other
 body_kept test blind epoch _ = refl
 
+-- a request of the shell is one before and after
 pub request_kept : (epoch : ℕ) (body : Body) → is_request (body_at epoch body) ≡ is_request body
 request_kept epoch body =
     body_kept is_request
@@ -38,6 +40,7 @@ request_kept epoch body =
     })
     epoch body
 
+-- signals that are sent ask nothing where they did, and only there
 pub asks_kept : (epoch : ℕ) (sends : List Outgoing) → asks_nothing (map (send_at epoch) sends) ≡ asks_nothing sends
 asks_kept epoch [] = refl
 asks_kept epoch (sent ∷ more) =
