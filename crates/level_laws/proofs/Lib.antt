@@ -1,4 +1,9 @@
+pub mod ApiLevels
+pub mod DihLevels
+pub mod FreshLevels
+pub mod HostLevels
 pub mod LevelLists
+pub mod SignalLevels
+pub mod TcLevels
 pub mod TcSends
 pub mod TcTurns
-pub mod TcLevels
