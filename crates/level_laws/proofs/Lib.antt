@@ -1,0 +1,3 @@
+pub mod MappedLists
+pub mod RowLevels
+pub mod LqhLevels
