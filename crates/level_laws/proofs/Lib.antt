@@ -3,6 +3,9 @@ pub mod DihLevels
 pub mod FreshLevels
 pub mod HostLevels
 pub mod LevelLists
+pub mod LqhLevels
+pub mod MappedLists
+pub mod RowLevels
 pub mod SignalLevels
 pub mod TcLevels
 pub mod TcSends
