@@ -2,6 +2,7 @@ pub mod ApiLevels
 pub mod DihLevels
 pub mod FreshLevels
 pub mod HostLevels
+pub mod Level
 pub mod LevelLists
 pub mod LqhLevels
 pub mod MappedLists
