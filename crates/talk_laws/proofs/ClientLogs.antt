@@ -163,7 +163,7 @@ module _ (tx : TxId) where
       )
 
   -- what a step tells, in front of what was told
-  news_count : (b : Bool) (replies : List ApiReply) (before : List Answer)
+  pub news_count : (b : Bool) (replies : List ApiReply) (before : List Answer)
       → length ((if b then reverse (answers_among replies) else []) ++ before)
       ≡ (if b then length (answers_among replies) else 0) + length before
   news_count true replies before =
