@@ -22,7 +22,7 @@ use Rattle.sig_core.specs.Step.{to_place}
 use Rattle.api_block.specs.declared.opened.Doing.{Doing}
 use Rattle.api_block.specs.declared.opened.Doing.TheVariants as doing
 use Rattle.api_block.specs.declared.opened.OpenTransaction.{OpenTransaction}
-use Rattle.api_block.specs.Opened.{answered, asked_for, begins_at, begun, begun_operating, behind, committing, has_tx}
+use Rattle.api_block.specs.Opened.{answered, asked_for, begins_at, begun as has_begun, begun_operating, behind, committing, has_tx}
 use Rattle.api_block.specs.Opened.{is_named, is_tx, operating}
 use Rattle.api_views.specs.Client.{client_row}
 use Rattle.api_views.specs.State.{ClientState}
@@ -319,7 +319,7 @@ module _ (tx : TxId) where
             (each_append (IsPaid asked told) opened (asked_for None node (Some op) ∷ []) talked.paid
             ((λ has. absurd cc), tt));
         begins = λ {replies = replies} name one at f is mute.
-            begins_pays (begins_at name one.tc) at f (begun f.item one) one refl {replies = replies} name is;
+            begins_pays (begins_at name one.tc) at f (has_begun f.item one) one refl {replies = replies} name is;
         begins_alone = λ {replies = replies} name one at f op is nameless does mute.
             begins_alone_pays (begins_at name one.tc) at f (begun_operating f.item one) one refl {replies = replies} name
             op is refl;

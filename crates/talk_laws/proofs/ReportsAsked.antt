@@ -1,5 +1,5 @@
 -- An operation is asked for by the number of the transaction that is open under the name of its request.
-use Rattle.std.proofs.Common.{◌≡◌, ◌++◌, ℕ, List, [], ◌∷◌, ap, inl, refl, subst, sym, ◌∙◌}
+use Rattle.std.proofs.Common.{◌≡◌, ◌++◌, ℕ, Bool, List, [], ◌∷◌, ap, inl, refl, subst, sym, ◌∙◌}
 use Rattle.std.proofs.lemmas.Bool.{true≢false}
 use Rattle.std.specs.Prelude.{Option, None, Some, slice_set}
 use Rattle.run_theory.proofs.Focus.{IsFocus}
@@ -70,8 +70,8 @@ module _ (opened : List OpenTransaction) (body : Body) where
         asks_one (is_named (Some name)) at f (operating f.item) tx op
         (same_name-is f.item.name (Some name) f.passes ∙ sym (ap name_of_request is)) own;
     answers = λ tx answer at f name is does called. tt;
-    answers_last = λ tx answer at f is does nameless. plain_asks _ _ (refl, tt);
-    wishes = λ p at f tx ready own mute. plain_asks _ _ (refl, tt);
+    answers_last = λ tx answer at f is does nameless. ((λ to op same. absurd cc), tt);
+    wishes = λ p at f tx ready own mute. ((λ to op same. absurd cc), tt);
     drops = λ p at f sends plain mute. plain_asks _ sends plain;
     ends = λ p at f tx outcome sends own plain. plain_asks _ sends plain;
   }

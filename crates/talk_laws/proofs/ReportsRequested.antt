@@ -12,7 +12,9 @@ use Rattle.sig_core.specs.declared.op.Op.{Op}
 use Rattle.sig_core.specs.declared.outs.Outgoing.{Outgoing}
 use Rattle.sig_core.specs.declared.request.ApiReq.TheVariants as request
 use Rattle.sig_core.specs.declared.signal.Body.TheVariants.{Client}
-use Rattle.sig_core.specs.declared.signal.client.ClientSignal.TheVariants.{TcKeyReq}
+use Rattle.sig_core.specs.declared.signal.client.ClientSignal.TheVariants.{TcCommitReq, TcKeyReq}
+use Rattle.sig_core.specs.Place.{coordinator_of}
+use Rattle.sig_core.specs.Step.{to_place}
 use Rattle.api_block.specs.declared.opened.Doing.TheVariants.{Beginning, Committing, Ready}
 use Rattle.api_block.specs.declared.opened.OpenTransaction.{OpenTransaction}
 use Rattle.api_block.specs.Opened.{answered, asked_for, begun, begun_operating, behind, committing, is_beginning, operating}
@@ -49,6 +51,9 @@ module _ (e : HostStep) (log : List HostStep) where
   plain_asks sends plain =
       each_map IsPlain (AsksAsRequested e log) sends
       (λ sent is tx op same. absurd (true≢false (sym is ∙ ap is_plain same))) plain
+
+  wished : (tx : TxId) → Each (AsksAsRequested e log) (to_place (coordinator_of tx) (Client (TcCommitReq tx)) ∷ [])
+  wished tx = ((λ to op is. absurd cc), tt)
 
   module _ (opened : List OpenTransaction) (all : Each (IsFrom log) opened) where
     still : Each (IsFrom (e ∷ log)) opened
@@ -118,11 +123,11 @@ module _ (e : HostStep) (log : List HostStep) where
       };
       answers_last = λ tx answer at f is does nameless. record {
         opened = going_on at (answered f.item Committing) refl;
-        asks = plain_asks _ (refl, tt);
+        asks = wished tx;
       };
       wishes = λ p at f tx ready own mute. record {
         opened = going_on at (committing f.item) refl;
-        asks = plain_asks _ (refl, tt);
+        asks = wished tx;
       };
       drops = λ p at f sends plain mute. record { opened = gone at; asks = plain_asks sends plain };
       ends = λ p at f tx outcome sends own plain. record { opened = gone at; asks = plain_asks sends plain };

@@ -15,7 +15,7 @@ use Rattle.sig_core.specs.declared.reply.ApiReply.{ApiReply}
 use Rattle.sig_core.specs.declared.reply.ApiReply.TheVariants.{Answered, Ended}
 use Rattle.sig_core.specs.declared.signal.Body.{Body}
 use Rattle.sig_core.specs.declared.signal.Body.TheVariants.{Client}
-use Rattle.sig_core.specs.declared.signal.client.ClientSignal.TheVariants.{TcKeyConf, TcKeyReq}
+use Rattle.sig_core.specs.declared.signal.client.ClientSignal.TheVariants.{TcCommitReq, TcKeyConf, TcKeyReq}
 use Rattle.sig_core.specs.Place.{coordinator_of}
 use Rattle.sig_core.specs.Same.{same_tx}
 use Rattle.sig_core.specs.Step.{to_place}
@@ -78,12 +78,7 @@ module _ (tx : TxId) where
             ∙ ap (λ (list : List Answer). length list) (mute_answers behind.more behind.mute)
         by false = refl
 
-    -- no more are under way
-    rests : (now : List OpenTransaction) (sends : List Outgoing) (replies : List ApiReply)
-        → count_by is_working now ≤ count_by is_working opened → IsMuteBehind [] replies
-        → Covers now sends [] replies
-    rests now sends replies fewer mute = omega (arith, covered, fewer, mute_news replies mute)
-
+    -- one that is opened isn't under way
     more : (t : OpenTransaction) → is_operating t.doing ≡ false
         → count_by is_working (opened ++ t ∷ []) ≤ count_by is_working opened
     more t off = omega (arith, count_both is_working opened (t ∷ []), count_more is_working t [], idle t off)
@@ -148,40 +143,44 @@ module _ (tx : TxId) where
 
     forms : TalkForms opened [] body Covers
     forms = record {
-      keeps = λ sends plain mute. rests opened sends _ (omega arith) mute;
-      opens = λ name node sends new plain mute. rests _ sends _ (more (asked_for (Some name) node None) refl) mute;
-      opens_alone = λ op node sends is plain mute. rests _ sends _ (more (asked_for None node (Some op)) refl) mute;
-      begins = λ name one at f is mute.
-          rests _ [] _
-          (resting (begins_at name one.tc) at f (begun f.item one) (omega (arith, idle (begun f.item one) refl))) mute;
+      keeps = λ {replies = replies} sends plain mute. omega (arith, covered, mute_news replies mute);
+      opens = λ {replies = replies} name node sends new plain mute.
+          omega (arith, covered, more (asked_for (Some name) node None) refl, mute_news replies mute);
+      opens_alone = λ {replies = replies} op node sends is plain mute.
+          omega (arith, covered, more (asked_for None node (Some op)) refl, mute_news replies mute);
+      begins = λ {replies = replies} name one at f is mute.
+          let u = begun f.item one in
+          omega (arith, covered, resting _ at f u (omega (arith, idle u refl)), mute_news replies mute);
       begins_alone = λ name one at f op is nameless does mute.
           asks (begins_at name one.tc) at f (begun_operating f.item one) one op _ refl refl mute;
-      waits = λ p at f ahead sends plain mute. rests _ sends _ (resting p at f (behind f.item ahead) (omega arith)) mute;
+      waits = λ {replies = replies} p at f ahead sends plain mute.
+          omega (arith, covered, resting p at f (behind f.item ahead) (omega arith), mute_news replies mute);
       operates = λ name op at f one is ready own mute.
           asks (is_named (Some name)) at f (operating f.item) one op _ own refl mute;
       answers = λ one answer at f name is does called.
           answers (has_tx one) at f (answered f.item doing.Ready) one (Some name) answer [] (own_is one f.item.tx f.passes)
           does refl is;
       answers_last = λ one answer at f is does nameless.
-          answers (has_tx one) at f (answered f.item doing.Committing) one None answer _ (own_is one f.item.tx f.passes)
-          does refl is;
-      wishes = λ p at f one ready own mute.
-          rests _ _ _
-          (resting p at f (committing f.item) (omega (arith, idle (committing f.item) refl))) mute;
-      drops = λ p at f sends plain mute. rests _ sends _ (gone p at f) mute;
-      ends = λ p at f one outcome sends own plain. omega (arith, covered, gone p at f, ended f.item.name outcome);
+          answers (has_tx one) at f (answered f.item doing.Committing) one None answer
+          (to_place (coordinator_of one) (Client (TcCommitReq one)) ∷ []) (own_is one f.item.tx f.passes) does refl is;
+      wishes = λ {replies = replies} p at f one ready own mute.
+          let u = committing f.item in
+          omega (arith, covered, resting p at f u (omega (arith, idle u refl)), mute_news replies mute);
+      drops = λ {replies = replies} p at f sends plain mute.
+          omega (arith, covered, gone p at f, mute_news replies mute);
+      ends = λ p at f one outcome sends own plain.
+          omega (arith, covered, gone p at f, none (is_answered tx body) (Ended f.item.name outcome ∷ []) refl);
     }
       where
-        ended : (name : Option ℕ) (outcome : Outcome) → news_of tx body (Ended name outcome ∷ []) ≡ 0
-        ended name outcome = by (is_answered tx body)
-          where
-            by : (b : Bool) → (if b then 0 else 0) ≡ 0
-            by true = refl
-            by false = refl
+        none : (b : Bool) (replies : List ApiReply) → answers_among replies ≡ []
+            → (if b then length (answers_among replies) else 0) ≡ 0
+        none true replies is = ap (λ (list : List Answer). length list) is
+        none false replies is = refl
 
     beside : HostForms opened [] Covers
     beside = record {
-      stays = λ sends marks plain none. rests opened sends [] (omega arith) (record { more = []; is = refl; mute = tt });
+      stays = λ sends marks plain none.
+          omega (arith, covered, mute_news [] (record { more = []; is = refl; mute = tt }));
       installs = λ now sends marks replies view covers. covers;
     }
 

@@ -1,5 +1,5 @@
 -- The client is told the ends that are marked, and the answers that are heard, each under the name of its transaction.
-use Rattle.std.proofs.Common.{◌≡◌, ◌⊎◌, ◌++◌, ℕ, List, [], ◌∷◌, ap, inl, inr, refl, subst, sym, ◌∙◌}
+use Rattle.std.proofs.Common.{◌≡◌, ◌⊎◌, ◌++◌, ℕ, Bool, List, [], ◌∷◌, ap, inl, inr, refl, subst, sym, ◌∙◌}
 use Rattle.std.specs.Prelude.{Option, None, Some}
 use Rattle.run_theory.specs.Lists.{Each, IsIn}
 use Rattle.run_theory.specs.Logs.{IsLog}
@@ -31,7 +31,7 @@ mute_ends [] mute = refl
 mute_ends (Ended name outcome ∷ more) mute = absurd (let no = mute.0 in cc)
 mute_ends (reply ∷ more) mute = mute_ends more mute.1
 
-mute_answers : (more : List ApiReply) → Each IsMute more → answers_among more ≡ []
+pub mute_answers : (more : List ApiReply) → Each IsMute more → answers_among more ≡ []
 mute_answers [] mute = refl
 mute_answers (Answered name answer ∷ more) mute = absurd (let no = mute.0 in cc)
 mute_answers (reply ∷ more) mute = mute_answers more mute.1
@@ -48,7 +48,7 @@ open_at opened p at f name tx named own = record {
 }
 
 module _ (opened : List OpenTransaction) (body : Body) where
-  abbrev AreOwn : List Mark → List ApiReply → Type 0
+  abbrev pub AreOwn : List Mark → List ApiReply → Type 0
   AreOwn marks replies = Each (IsOfItsTransaction opened body marks) replies
 
   mute_own : (marks : List Mark) (reply : ApiReply) → IsMute reply → IsOfItsTransaction opened body marks reply
@@ -64,10 +64,10 @@ module _ (opened : List OpenTransaction) (body : Body) where
   one_mark mark marks reply own = own
 
   -- what a step replies, and marks
-  record TellsMarked (marks : List Mark) (replies : List ApiReply) : Type 0 where
-    same : outcomes_told replies ≡ outcomes_marked marks
-    answers : (answers_among replies ≡ []) ⊎ (answers_among replies ≡ answer_in body)
-    own : AreOwn marks replies
+  pub record TellsMarked (marks : List Mark) (replies : List ApiReply) : Type 0 where
+    pub same : outcomes_told replies ≡ outcomes_marked marks
+    pub answers : (answers_among replies ≡ []) ⊎ (answers_among replies ≡ answer_in body)
+    pub own : AreOwn marks replies
 
   abbrev Tells : Talk
   Tells now sends marks replies = TellsMarked marks replies
