@@ -1,5 +1,6 @@
--- What the client's side does to the transactions that it has opened, with what it sends, marks and replies, as far as it
--- asks for operations and commits, and tells answers and ends: what is so of each form of that is so of each of its steps.
+-- What the client's side does to the transactions that it has opened, with what it sends, marks and replies, as far as
+-- it asks for operations and commits, and tells answers and ends: what is so of each form of that is so of each of its
+-- steps.
 use Rattle.std.proofs.Common.{◌≡◌, ◌==◌, ◌&&◌, ◌||◌, ◌+◌, ◌++◌, ℕ, Bool, true, false, List, [], ◌∷◌, append-nil, map, refl, ap, subst, sym, ◌∙◌}
 use Rattle.std.specs.Prelude.{Option, None, Some, if◌then◌else◌, is_some, not, remove, slice_set}
 use Rattle.run_theory.specs.Counts.{tally}
@@ -31,10 +32,10 @@ use Rattle.sig_core.specs.declared.request.ApiReq.TheVariants as request
 use Rattle.sig_core.specs.declared.signal.Body.{Body}
 use Rattle.sig_core.specs.declared.signal.Body.TheVariants.{Host, Client, Epoch}
 use Rattle.sig_core.specs.declared.signal.Signal.{Signal}
-use Rattle.sig_core.specs.declared.signal.client.ClientSignal.TheVariants.{TcBeginReq, TcBeginConf, TcKeyConf, TcKeyReq, TcCommitReq, TcCommitConf, TcCommitAck}
-use Rattle.sig_core.specs.declared.signal.client.ClientSignal.TheVariants.{TcRollbackReq, TcRollbackRep, TcKeyFailConf, TcKeyFailRef, TcWaitReq}
-use Rattle.sig_core.specs.declared.signal.client.ClientSignal.TheVariants.{DumpReq, NfCompleteRep, ViewRep}
-use Rattle.sig_core.specs.declared.signal.epoch.EpochSignal.TheVariants.{GcpReq, GcpRep, MicroReq, MicroRep}
+use Rattle.sig_core.specs.declared.signal.client.ClientSignal.TheVariants.{TcBeginConf, TcKeyConf, TcKeyReq, TcCommitReq, TcCommitConf}
+use Rattle.sig_core.specs.declared.signal.client.ClientSignal.TheVariants.{TcRollbackRep, TcKeyFailConf, TcKeyFailRef}
+use Rattle.sig_core.specs.declared.signal.client.ClientSignal.TheVariants.{NfCompleteRep, ViewRep}
+use Rattle.sig_core.specs.declared.signal.epoch.EpochSignal.TheVariants.{GcpRep, MicroRep}
 use Rattle.sig_core.specs.declared.signal.host.HostSignal.TheVariants.{Closed, Continue}
 use Rattle.sig_core.specs.declared.signal.host.Work.{Work}
 use Rattle.sig_core.specs.declared.signal.host.Work.TheVariants.{Request, Report}
@@ -61,7 +62,7 @@ use Rattle.api_block.proofs.ApiTurns.{ApiRequestForms, ApiSignalForms, request_t
 use Rattle.api_block.proofs.WhereFound.{where_found, where_own}
 use Rattle.api_views.specs.declared.closings.Closing.{Closing}
 use Rattle.api_views.specs.declared.closings.Closing.TheVariants.{Gcp, Micro}
-use Rattle.api_views.specs.declared.reports.Verdict.TheVariants.{NeverBegins, Ends}
+use Rattle.api_views.specs.declared.reports.Verdict.TheVariants.{NeverBegins}
 use Rattle.api_views.specs.Client.{asked_row, client_row, client_table, command_if, command_row, gone_row, is_known, up_row, vouched_table, work_table}
 use Rattle.api_views.specs.Closings.{anew, ask_at, asked_if, closed_if, closed_reply, closed_row, closing_row, is_asked, view_row}
 use Rattle.api_views.specs.Commands.{begin_if, begin_row, cut_by, cut_row, kill_if, kill_row, lone_by, lone_row, lowest, node_for, on_api, rows_if, rows_row, serves, show_row}
@@ -104,21 +105,22 @@ pub record IsMuteBehind (before replies : List ApiReply) : Type 0 where
 nothing_more : (before : List ApiReply) → IsMuteBehind before before
 nothing_more before = record { more = []; is = sym (append-nil before); mute = tt }
 
-one_more : (before : List ApiReply) (reply : ApiReply) → is_mute reply ≡ true → IsMuteBehind before (before ++ reply ∷ [])
+one_more : (before : List ApiReply) (reply : ApiReply) → is_mute reply ≡ true
+    → IsMuteBehind before (before ++ reply ∷ [])
 one_more before reply mute = record { more = reply ∷ []; is = refl; mute = (mute, tt) }
 
 -- what a step comes to: the transactions that are open behind it, what it sends and marks, and what it has to reply
 abbrev pub Talk : Type 1
 Talk = List OpenTransaction → List Outgoing → List Mark → List ApiReply → Type 0
 
--- R is of what a step of the client's side comes to, from these transactions and replies, at this signal. None, or one of
--- them is opened, begins, is to perform an operation or has performed it, wishes to commit, waits, is dropped before it
--- began, or ends
+-- R is of what a step of the client's side comes to, from these transactions and replies, at this signal. None, or one
+-- of them is opened, begins, is to perform an operation or has performed it, wishes to commit, waits, is dropped before
+-- it began, or ends
 pub record TalkForms (opened : List OpenTransaction) (before : List ApiReply) (body : Body) (R : Talk) : Type 0 where
   pub keeps : {replies : List ApiReply} (sends : List Outgoing) → ArePlain sends → IsMuteBehind before replies
       → R opened sends [] replies
-  pub opens : {replies : List ApiReply} (name node : ℕ) (sends : List Outgoing) → tally (is_named (Some name)) opened ≡ 0
-      → ArePlain sends → IsMuteBehind before replies
+  pub opens : {replies : List ApiReply} (name node : ℕ) (sends : List Outgoing)
+      → tally (is_named (Some name)) opened ≡ 0 → ArePlain sends → IsMuteBehind before replies
       → R (opened ++ asked_for (Some name) node None ∷ []) sends [] replies
   pub opens_alone : {replies : List ApiReply} (op : Op) (node : ℕ) (sends : List Outgoing)
       → request_in body ≡ Some (request.Operate None op) → ArePlain sends → IsMuteBehind before replies
@@ -175,9 +177,11 @@ all_told told view = each_mapped IsPlain (telling told) (everyone view) (λ memb
 
 -- where a request asks for an operation, the signal is that request
 abbrev IsAsked : Body → ApiReq → Type 0
-IsAsked body r = (name : Option ℕ) (op : Op) → r ≡ request.Operate name op → request_in body ≡ Some (request.Operate name op)
+IsAsked body r =
+    (name : Option ℕ) (op : Op) → r ≡ request.Operate name op → request_in body ≡ Some (request.Operate name op)
 
-rows_mute : (rows : List (List ℕ × List ℕ)) (last : List ApiReply) → Each IsMute last → Each IsMute (map row_reply rows ++ last)
+rows_mute : (rows : List (List ℕ × List ℕ)) (last : List ApiReply) → Each IsMute last
+    → Each IsMute (map row_reply rows ++ last)
 rows_mute [] last mute = mute
 rows_mute (row ∷ rows) last mute = (refl, rows_mute rows last mute)
 

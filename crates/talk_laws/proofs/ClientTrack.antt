@@ -321,8 +321,8 @@ module _ (tx : TxId) where
         begins = λ {replies = replies} name one at f is mute.
             begins_pays (begins_at name one.tc) at f (has_begun f.item one) one refl {replies = replies} name is;
         begins_alone = λ {replies = replies} name one at f op is nameless does mute.
-            begins_alone_pays (begins_at name one.tc) at f (begun_operating f.item one) one refl {replies = replies} name
-            op is refl;
+            begins_alone_pays (begins_at name one.tc) at f (begun_operating f.item one) one refl {replies = replies}
+            name op is refl;
         waits = λ {replies = replies} p at f ahead sends plain mute.
             plainly (slice_set opened at (behind f.item ahead)) sends replies plain
             (set_all p at f (IsPaid asked told) (behind f.item ahead) talked.paid

@@ -1,7 +1,7 @@
 -- An operation is asked for by the number of the transaction that is open under the name of its request.
-use Rattle.std.proofs.Common.{◌≡◌, ◌++◌, ℕ, Bool, List, [], ◌∷◌, ap, inl, refl, subst, sym, ◌∙◌}
+use Rattle.std.proofs.Common.{◌≡◌, ℕ, Bool, List, [], ◌∷◌, ap, inl, refl, subst, sym, ◌∙◌}
 use Rattle.std.proofs.lemmas.Bool.{true≢false}
-use Rattle.std.specs.Prelude.{Option, None, Some, slice_set}
+use Rattle.std.specs.Prelude.{Some, slice_set}
 use Rattle.run_theory.proofs.Focus.{IsFocus}
 use Rattle.run_theory.proofs.Pasts.{each_map, in_append}
 use Rattle.run_theory.specs.Lists.{Each, IsIn}
@@ -83,7 +83,8 @@ module _ (opened : List OpenTransaction) (body : Body) where
   }
 
 pub asked_of_its_transaction : (start : Start) (e : HostStep) (log : List HostStep)
-    → Each (IsForItsTransaction (opened_after start (e ∷ log)) e.step.taken.body) (step_after start 0 log e).effects.sends
+    → Each (IsForItsTransaction (opened_after start (e ∷ log)) e.step.taken.body)
+    (step_after start 0 log e).effects.sends
 asked_of_its_transaction start e log =
     step_talks start e log (Asks (opened_after start log) e.step.taken.body)
     (forms (opened_after start log) e.step.taken.body) (beside (opened_after start log) e.step.taken.body)

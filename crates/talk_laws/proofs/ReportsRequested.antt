@@ -1,10 +1,9 @@
 -- What the client asks coordinators for is what the shell requested: at the request, or, of an operation alone, where
 -- its transaction has begun.
-use Rattle.std.proofs.Common.{◌≡◌, ◌++◌, ℕ, Bool, true, false, List, [], ◌∷◌, ap, inl, inr, refl, subst, sym, ◌∙◌}
+use Rattle.std.proofs.Common.{◌≡◌, ◌++◌, ℕ, false, List, [], ◌∷◌, ap, inl, inr, refl, subst, sym, ◌∙◌}
 use Rattle.std.proofs.lemmas.Bool.{true≢false}
-use Rattle.std.specs.Prelude.{Option, None, Some, remove, slice_set}
+use Rattle.std.specs.Prelude.{None, Some, remove, slice_set}
 use Rattle.run_theory.proofs.EachSent.{each_get, each_removed, each_set}
-use Rattle.run_theory.proofs.Focus.{IsFocus}
 use Rattle.run_theory.proofs.Pasts.{each_append, each_map}
 use Rattle.run_theory.specs.Lists.{Each, IsIn}
 use Rattle.sig_core.specs.declared.member.TxId.{TxId}
@@ -12,7 +11,7 @@ use Rattle.sig_core.specs.declared.op.Op.{Op}
 use Rattle.sig_core.specs.declared.outs.Outgoing.{Outgoing}
 use Rattle.sig_core.specs.declared.request.ApiReq.TheVariants as request
 use Rattle.sig_core.specs.declared.signal.Body.TheVariants.{Client}
-use Rattle.sig_core.specs.declared.signal.client.ClientSignal.TheVariants.{TcCommitReq, TcKeyReq}
+use Rattle.sig_core.specs.declared.signal.client.ClientSignal.TheVariants.{TcCommitReq}
 use Rattle.sig_core.specs.Place.{coordinator_of}
 use Rattle.sig_core.specs.Step.{to_place}
 use Rattle.api_block.specs.declared.opened.Doing.TheVariants.{Beginning, Committing, Ready}
@@ -67,7 +66,8 @@ module _ (e : HostStep) (log : List HostStep) where
     more t from = each_append (IsFrom (e ∷ log)) opened (t ∷ []) still (from, tt)
 
     -- one that has begun
-    going_on : (at : ℕ) (t : OpenTransaction) → is_beginning t.doing ≡ false → Each (IsFrom (e ∷ log)) (slice_set opened at t)
+    going_on : (at : ℕ) (t : OpenTransaction) → is_beginning t.doing ≡ false
+        → Each (IsFrom (e ∷ log)) (slice_set opened at t)
     going_on at t idle =
         each_set (IsFrom (e ∷ log)) opened at t still
         (λ op is. absurd (true≢false (sym (ap is_beginning is) ∙ idle)))

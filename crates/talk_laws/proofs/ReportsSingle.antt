@@ -1,15 +1,12 @@
 -- No more answers are told of a transaction than operations of it were asked for: each answer ends an operation that is
 -- under way, and none is under way that wasn't asked for.
-use Rattle.std.proofs.Common.{◌≡◌, ◌≤◌, ◌+◌, ◌&&◌, ◌++◌, ℕ, Bool, true, false, List, [], ◌∷◌, length, ap, arith, refl, subst, sym, ◌∙◌}
+use Rattle.std.proofs.Common.{◌≡◌, ◌≤◌, ◌+◌, ◌&&◌, ◌++◌, ℕ, Bool, true, false, List, [], ◌∷◌, length, ap, arith, refl, ◌∙◌}
 use Rattle.std.specs.List.{count_by}
 use Rattle.std.specs.Prelude.{if◌then◌else◌, Option, None, Some, remove, slice_set}
 use Rattle.run_theory.proofs.Focus.{IsFocus}
-use Rattle.run_theory.proofs.Pasts.{each_map}
-use Rattle.run_theory.specs.Lists.{Each}
 use Rattle.sig_core.specs.declared.member.TxId.{TxId}
 use Rattle.sig_core.specs.declared.op.Answer.{Answer}
 use Rattle.sig_core.specs.declared.op.Op.{Op}
-use Rattle.sig_core.specs.declared.outcome.Outcome.{Outcome}
 use Rattle.sig_core.specs.declared.outs.Outgoing.{Outgoing}
 use Rattle.sig_core.specs.declared.reply.ApiReply.{ApiReply}
 use Rattle.sig_core.specs.declared.reply.ApiReply.TheVariants.{Answered, Ended}
@@ -19,12 +16,11 @@ use Rattle.sig_core.specs.declared.signal.client.ClientSignal.TheVariants.{TcCom
 use Rattle.sig_core.specs.Place.{coordinator_of}
 use Rattle.sig_core.specs.Same.{same_tx}
 use Rattle.sig_core.specs.Step.{to_place}
-use Rattle.api_block.specs.declared.opened.Doing.{Doing}
 use Rattle.api_block.specs.declared.opened.Doing.TheVariants as doing
 use Rattle.api_block.specs.declared.opened.OpenTransaction.{OpenTransaction}
-use Rattle.api_block.specs.Opened.{answered, asked_for, begins_at, begun, begun_operating, behind, committing, has_tx, is_beginning, is_named, is_tx, operating}
+use Rattle.api_block.specs.Opened.{answered, asked_for, begins_at, begun, begun_operating, behind, committing, has_tx, is_named, is_tx, operating}
 use Rattle.outcome_laws.specs.Counts.{count_sent, one_if}
-use Rattle.outcome_laws.proofs.TcLists.{count_between, count_both, count_more, none_counted}
+use Rattle.outcome_laws.proofs.TcLists.{count_between, count_both, count_more}
 use Rattle.report_laws.specs.Answered.{answers_among, is_answered}
 use Rattle.world_core.specs.Start.{Start}
 use Rattle.world_core.specs.Steps.{HostStep}
@@ -32,8 +28,8 @@ use Rattle.world_views.specs.Machine.{replies_at, step_after}
 use Rattle.talk_laws.specs.Reports.{opened_after}
 use Rattle.talk_laws.specs.Talks.{asked_of, told_of}
 use Rattle.talk_laws.proofs.ClientLogs.{asked_count, news_count}
-use Rattle.talk_laws.proofs.ClientTalks.{ArePlain, IsMuteBehind, IsPlain, Talk, TalkForms, own_is}
-use Rattle.talk_laws.proofs.ClientTrack.{is_key, is_operating, news_of, plain_key}
+use Rattle.talk_laws.proofs.ClientTalks.{IsMuteBehind, Talk, TalkForms, own_is}
+use Rattle.talk_laws.proofs.ClientTrack.{is_key, is_operating, news_of}
 use Rattle.talk_laws.proofs.ReportsTold.{mute_answers}
 use Rattle.talk_laws.proofs.ShellLogs.{opened_first, step_talks}
 use Rattle.talk_laws.proofs.ShellTalks.{HostForms}
@@ -137,10 +133,6 @@ module _ (tx : TxId) where
           news : news_of tx body (Answered name answer ∷ []) ≡ one_if (same_tx one tx)
           news = ap (λ (b : Bool). if b then 1 else 0) (ap (is_answered tx) is) ∙ by (same_tx one tx)
 
-    -- one that isn't at an operation has none under way
-    unready : (t : OpenTransaction) (does : Doing) → t.doing ≡ does → is_operating does ≡ false → is_operating t.doing ≡ false
-    unready t does is off = ap is_operating is ∙ off
-
     forms : TalkForms opened [] body Covers
     forms = record {
       keeps = λ {replies = replies} sends plain mute. omega (arith, covered, mute_news replies mute);
@@ -158,8 +150,8 @@ module _ (tx : TxId) where
       operates = λ name op at f one is ready own mute.
           asks (is_named (Some name)) at f (operating f.item) one op _ own refl mute;
       answers = λ one answer at f name is does called.
-          answers (has_tx one) at f (answered f.item doing.Ready) one (Some name) answer [] (own_is one f.item.tx f.passes)
-          does refl is;
+          answers (has_tx one) at f (answered f.item doing.Ready) one (Some name) answer []
+          (own_is one f.item.tx f.passes) does refl is;
       answers_last = λ one answer at f is does nameless.
           answers (has_tx one) at f (answered f.item doing.Committing) one None answer
           (to_place (coordinator_of one) (Client (TcCommitReq one)) ∷ []) (own_is one f.item.tx f.passes) does refl is;

@@ -13,7 +13,6 @@ use Rattle.sig_core.specs.declared.member.TxId.{TxId}
 use Rattle.sig_core.specs.declared.reply.ApiReply.{ApiReply}
 use Rattle.sig_core.specs.declared.reply.ApiReply.TheVariants.{Answered, Ended}
 use Rattle.sig_core.specs.declared.signal.Body.{Body}
-use Rattle.sig_core.specs.declared.view.View.{View}
 use Rattle.api_block.specs.declared.opened.OpenTransaction.{OpenTransaction}
 use Rattle.api_block.specs.Opened.{has_tx}
 use Rattle.report_laws.specs.Answered.{answers_among}
@@ -69,7 +68,7 @@ module _ (opened : List OpenTransaction) (body : Body) where
     pub answers : (answers_among replies ≡ []) ⊎ (answers_among replies ≡ answer_in body)
     pub own : AreOwn marks replies
 
-  abbrev Tells : Talk
+  abbrev pub Tells : Talk
   Tells now sends marks replies = TellsMarked marks replies
 
   silent : (marks : List Mark) (replies : List ApiReply) → AreUnreported marks → IsMuteBehind [] replies
@@ -82,8 +81,8 @@ module _ (opened : List OpenTransaction) (body : Body) where
         own = each_map IsMute (IsOfItsTransaction opened body marks) behind.more (mute_own marks) behind.mute;
       })
 
-  forms : TalkForms opened [] body Tells
-  forms = record {
+  pub told_forms : TalkForms opened [] body Tells
+  told_forms = record {
     keeps = λ sends plain mute. silent [] _ refl mute;
     opens = λ name node sends new plain mute. silent [] _ refl mute;
     opens_alone = λ op node sends is plain mute. silent [] _ refl mute;
@@ -117,8 +116,8 @@ module _ (opened : List OpenTransaction) (body : Body) where
       same = tells.same;
       answers = tells.answers;
       own =
-          each_map (IsOfItsTransaction opened body marks) (IsOfItsTransaction opened body (Installed view ∷ marks)) replies
-          (one_mark (Installed view) marks) tells.own;
+          each_map (IsOfItsTransaction opened body marks) (IsOfItsTransaction opened body (Installed view ∷ marks))
+          replies (one_mark (Installed view) marks) tells.own;
     };
   }
 
@@ -126,21 +125,22 @@ module _ (opened : List OpenTransaction) (body : Body) where
 module _ (start : Start) (logs : ℕ → List HostStep) (right : AreLogs (machine start) logs) (newer : List HostStep)
     (e : HostStep) (before : List HostStep) (is : logs 0 ≡ newer ++ e ∷ before)
   where
-  abbrev replied : List ApiReply
-  replied = replies_at 0 (step_after start 0 before e)
+    abbrev replied : List ApiReply
+    replied = replies_at 0 (step_after start 0 before e)
 
-  pub step_tells : TellsMarked (opened_after start before) e.step.taken.body e.step.marks replied
-  step_tells =
-      let log = log_after (machine start) 0 newer (e ∷ before) (subst (IsLog (machine start) 0) is (right.local 0)) in
-      subst (λ marks. TellsMarked (opened_after start before) e.step.taken.body marks replied) (sym log.0.fits.marks)
-      (step_talks start e before (Tells (opened_after start before) e.step.taken.body)
-      (forms (opened_after start before) e.step.taken.body) (beside (opened_after start before) e.step.taken.body))
+    pub step_tells : TellsMarked (opened_after start before) e.step.taken.body e.step.marks replied
+    step_tells =
+        let log = log_after (machine start) 0 newer (e ∷ before) (subst (IsLog (machine start) 0) is (right.local 0)) in
+        subst (λ marks. TellsMarked (opened_after start before) e.step.taken.body marks replied) (sym log.0.fits.marks)
+        (step_talks start e before (Tells (opened_after start before) e.step.taken.body)
+        (told_forms (opened_after start before) e.step.taken.body)
+        (beside (opened_after start before) e.step.taken.body))
 
-  pub ends_are_marked : outcomes_told replied ≡ outcomes_marked e.step.marks
-  ends_are_marked = step_tells.same
+    pub ends_are_marked : outcomes_told replied ≡ outcomes_marked e.step.marks
+    ends_are_marked = step_tells.same
 
-  pub answers_are_heard : (answers_among replied ≡ []) ⊎ (answers_among replied ≡ answer_in e.step.taken.body)
-  answers_are_heard = step_tells.answers
+    pub answers_are_heard : (answers_among replied ≡ []) ⊎ (answers_among replied ≡ answer_in e.step.taken.body)
+    answers_are_heard = step_tells.answers
 
-  pub told_under_names : Each (IsOfItsTransaction (opened_after start before) e.step.taken.body e.step.marks) replied
-  told_under_names = step_tells.own
+    pub told_under_names : Each (IsOfItsTransaction (opened_after start before) e.step.taken.body e.step.marks) replied
+    told_under_names = step_tells.own

@@ -1,7 +1,6 @@
 -- Along the log of the shell's host: what its steps come to for the client, and what holds after each.
-use Rattle.std.proofs.Common.{◌≡◌, List, [], ◌∷◌, ap, refl, subst, sym, ◌∙◌}
+use Rattle.std.proofs.Common.{◌≡◌, List, [], ◌∷◌, ap, refl, subst, sym}
 use Rattle.sig_core.specs.declared.reply.ApiReply.{ApiReply}
-use Rattle.api_block.specs.declared.opened.OpenTransaction.{OpenTransaction}
 use Rattle.node_views.specs.declared.parts.Parts.{Parts}
 use Rattle.node_views.specs.declared.parts.Parts.TheVariants.{Ldm, Main, Shell, Tc}
 use Rattle.node_views.specs.declared.shell_part.ShellPart.{ShellPart}
@@ -48,8 +47,8 @@ module _ (start : Start) where
   -- what is so of each form of a step is so of what its step comes to
   pub step_talks : (e : HostStep) (log : List HostStep) (R : Talk)
       → TalkForms (opened_after start log) [] e.step.taken.body R → HostForms (opened_after start log) [] R
-      → R (opened_after start (e ∷ log)) (step_after start 0 log e).effects.sends (step_after start 0 log e).effects.marks
-      (replies_at 0 (step_after start 0 log e))
+      → R (opened_after start (e ∷ log)) (step_after start 0 log e).effects.sends
+      (step_after start 0 log e).effects.marks (replies_at 0 (step_after start 0 log e))
   step_talks e log R forms beside =
       let old = stands log in
       let opened = ap opened_in old.runs in
