@@ -35,6 +35,7 @@ use Rattle.peace_laws.proofs.Peaceful.{closings_answered, lives_plain}
 use Rattle.shell_top.proofs.PeacefulLemmas.{peacefully_served}
 use Rattle.shell_top.proofs.PrintedLemmas.{prints_both}
 use Rattle.shell_top.proofs.SafeLemmas.{between_cuts, cuts_are_safe}
+use Rattle.talk_laws.proofs.Reports.{reported}
 use Rattle.world_core.specs.Hosts.{hosts}
 use Rattle.world_core.specs.Lives.{fresh_life}
 use Rattle.world_core.specs.Machine as plain
@@ -139,6 +140,7 @@ is_life shape sound e commands logs lived =
       safe = cuts_are_safe (fresh shape) (logs_at logs) (omega arith) sound lived.within lived.right;
       between = between_cuts (fresh shape) (logs_at logs) (omega arith) sound lived.within lived.right;
       grows = λ small large inside cut. histories_grow (fresh shape) small large inside;
+      reported = reported (fresh shape) (logs_at logs) lived.right;
       peaceful = λ peaceful wants.
           let peace = lived.in_peace peaceful wants in
           peacefully_served lives_plain closings_answered (fresh shape) sound refl (omega arith) peace.0 (logs_at logs)

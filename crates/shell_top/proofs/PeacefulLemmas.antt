@@ -12,7 +12,6 @@ use Rattle.peace_laws.specs.Laws.{ArePlain, AreServedBy, ClosingsAreAnswered, Go
 use Rattle.peace_laws.specs.Laws.{PeacefulLivesArePlain}
 use Rattle.peace_laws.specs.Parts.{plain_parts}
 use Rattle.peace_laws.specs.Peace.{is_closing_request}
-use Rattle.report_laws.proofs.Reports.{reports_are_marked}
 use Rattle.shell_top.specs.declared.ended.Ending.{Ending}
 use Rattle.shell_top.specs.declared.ended.Ending.TheVariants as ending
 use Rattle.shell_top.specs.Peace.{EachIsClosed, IsClosedIn, IsPeacefullyServed}
@@ -145,7 +144,6 @@ module _ (plain_lives : PeacefulLivesArePlain) (closings : ClosingsAreAnswered) 
                 (plain_quiet.IsQuiet (plain.machine start) (hosts start) (plain_parts start logs))
                 (IsAskedAgain start newer) (λ kept. are_plain.quiet (quiet kept)) again);
             closed = closed;
-            reported = reports_are_marked start (plain_parts start logs) shape are_plain.within are_plain.right;
             caused = λ inside cut closed. replies_caused start inside (plain_parts start logs) shape
                 (record { within = are_plain.within; right = are_plain.right; cut = cut; closed = closed });
             living = replies_live start (plain_parts start logs) are_plain.within are_plain.right;

@@ -10,7 +10,6 @@ use Rattle.node_core.specs.Replies.{replies_of}
 use Rattle.peace_laws.specs.Laws.{IsAnsweredBy}
 use Rattle.peace_laws.specs.Parts.{levelled_replies, plain_parts}
 use Rattle.peace_laws.specs.Peace.{ArePeaceful, is_closing_request}
-use Rattle.report_laws.specs.Reports.{AreReported}
 use Rattle.shell_top.specs.declared.ended.Ending.{Ending}
 use Rattle.shell_top.specs.declared.ended.Ending.TheVariants.{NoMemory}
 use Rattle.sig_core.specs.declared.reply.ApiReply.{ApiReply}
@@ -56,15 +55,13 @@ replied start log = replies_of (plain.after start 0 log)
 
 -- Peaceful logs, of a session that ended so. Their plain parts, which leave out what is done for closings and have all
 -- epochs made one, are the logs of a cluster in which nothing can fail: its shell was replied the same, but for the views
--- that it was shown, the ends of closings, and epochs; each request is answered; what is reported is the history of every
--- closed cut, and each abort that is told has its cause there; and no reply tells of a host that stopped. And each closing
--- is answered by itself.
+-- that it was shown, the ends of closings, and epochs; each request is answered; each abort that is told has its cause in every
+-- closed cut; and no reply tells of a host that stopped. And each closing is answered by itself.
 pub record IsPeacefullyServed (start : Start) (ending : Ending) (logs : ℕ → List HostStep) : Type 0 where
   pub peaceful : ArePeaceful logs
   pub replies : levelled_replies start.epoch (replies_in start 0 (logs 0)) ≡ replied start (plain_parts start logs 0)
   pub answered : EachIsAnswered start ending (plain_parts start logs)
   pub closed : EachIsClosed start ending logs
-  pub reported : AreReported start (plain_parts start logs)
   pub caused : (inside : ℕ → List HostStep) → IsCut inside (plain_parts start logs)
       → IsClosed (plain.machine start) inside
       → Each (IsReplyCaused start inside) (replied start (inside 0))
