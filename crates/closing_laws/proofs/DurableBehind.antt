@@ -7,7 +7,7 @@ use Rattle.sig_core.specs.declared.member.Member.{Member}
 use Rattle.world_core.specs.Hosts.{hosts}
 use Rattle.world_core.specs.Start.{Start, made}
 use Rattle.world_core.specs.Steps.{HostStep}
-use Rattle.moment_laws.specs.Moments.{IsMoment, current, logs_of}
+use Rattle.moment_laws.specs.Moments.{IsMoment, logs_of}
 use Rattle.moment_laws.proofs.MomentTurns.{host_low, other_log, own_log}
 use Rattle.moment_laws.proofs.MomentViews.{moment_less}
 use Rattle.outcome_laws.specs.Decided.{IsMarked}
@@ -15,7 +15,7 @@ use Rattle.epoch_laws.specs.Alike.{EachFull}
 use Rattle.epoch_laws.specs.Members.{master_of}
 use Rattle.epoch_laws.specs.Stand.{AllStand}
 use Rattle.epoch_laws.proofs.StandAll.{epochs_stand}
-use Rattle.closing_laws.proofs.DurableMarks.{IsMarkedBy, closing_marked}
+use Rattle.closing_laws.proofs.DurableMarks.{closing_marked}
 use Rattle.closing_laws.proofs.DurableMasters.{IsRunReached, masters_first, masters_next}
 use Rattle.closing_laws.proofs.DurableOrders.{AgreeOnOrders, orders_first, orders_next}
 use Rattle.closing_laws.proofs.DurableReach.{HasReached, each_reached_next}

@@ -1,5 +1,5 @@
 -- Epochs are marked closed, and durable, by masters alone.
-use Rattle.std.proofs.Common.{◌≡◌, ◌⊎◌, ◌∙◌, Bool, true, ℕ, List, ◌∷◌, refl, sym, ap, subst, inl, inr}
+use Rattle.std.proofs.Common.{◌≡◌, ◌⊎◌, ◌∙◌, true, ℕ, List, ◌∷◌, sym, ap, subst, inl, inr}
 use Rattle.std.proofs.lemmas.Bool.{false≢true}
 use Rattle.frag_map.specs.Layout.{first_layout}
 use Rattle.run_theory.proofs.Pasts.{each_in}

@@ -25,14 +25,11 @@ use Rattle.view_laws.specs.Runs.{view_after}
 use Rattle.view_laws.specs.Votes.{main_of}
 use Rattle.view_laws.proofs.FollowHosts.{main_started}
 use Rattle.moment_laws.specs.Moments.{IsMoment, current, logs_of}
-use Rattle.moment_laws.proofs.MomentHosts.{main_low, tc_apart}
-use Rattle.moment_laws.proofs.MomentMembers.{current_made}
 use Rattle.moment_laws.proofs.MomentTurns.{own_behind}
-use Rattle.moment_laws.proofs.MomentViews.{moment_less, number_in, stands_in_current}
 use Rattle.moment_laws.proofs.PartTaken.{IsTakenNow}
 use Rattle.epoch_laws.specs.Alike.{EachFull, IsAcross, Waits}
-use Rattle.epoch_laws.specs.Masters.{IsHad, IsRightIn, IsSilent}
-use Rattle.epoch_laws.specs.Members.{IsFirst, IsStanding, epochs_of, master_in, master_of}
+use Rattle.epoch_laws.specs.Masters.{IsHad, IsRightIn}
+use Rattle.epoch_laws.specs.Members.{IsFirst, IsPresident, IsStanding, epochs_of, master_in, master_of}
 use Rattle.epoch_laws.specs.Stand.{AllStand}
 use Rattle.epoch_laws.specs.Told.{IsTrueOf}
 use Rattle.epoch_laws.proofs.MasterKeeps.{IsBefore, keeps}
@@ -41,7 +38,7 @@ use Rattle.epoch_laws.proofs.MasterMoves.{closes, closes_owed, commits, ends, go
 use Rattle.epoch_laws.proofs.MasterRows.{master_goes}
 use Rattle.epoch_laws.proofs.MasterSpeaks.{installed}
 use Rattle.epoch_laws.proofs.MomentEvents.{MasterDoes, enters, enters_takes, installs, master_does, takes, unmoved}
-use Rattle.epoch_laws.proofs.StandMasters.{Stood, first_inside, first_same, master_view, rose, stood, stood_by}
+use Rattle.epoch_laws.proofs.StandMasters.{Stood, before_it, master_view, rose, stood, stood_by}
 use Rattle.epoch_laws.proofs.StandTakes.{taken_true}
 use Rattle.closing_laws.proofs.ClosersHear.{first_or}
 use Rattle.closing_laws.proofs.DurableOrders.{AgreeOnOrders, across_next}
@@ -219,28 +216,6 @@ module _ (start : Start) (all : ℕ → List HostStep) (e : HostStep) (es : List
       abbrev h : ℕ
       h = main_of start p
 
-      less : IsMoment start all es
-      less = moment_less start all e es moment
-
-      -- the president of the current view, that stands in it
-      president_before : IsStanding start old p → IsFirst p (current start old).full → IsBefore start old was
-      president_before stands first = record {
-        view =
-            ap (λ (v : View). v.full)
-            (master_view start p there old ∙ stands_in_current start all es less h (main_low start p there) stands);
-        one = p;
-        one_in = first_inside p (current start old).full first;
-        apart = λ member inside. tc_apart start member (current_made start all es less member inside);
-        sound =
-            each_from _ (current start old).full
-            (λ member inside. stand.sound member (current_made start all es less member inside));
-        alike = stand.alike;
-        right = stand.president p first stands;
-        silent = λ silent q is at.
-            subst (λ (q : Member). IsSilent (master_of start old q).phase)
-            (first_same p q (current start old).full first is) silent;
-      }
-
       -- a master that takes the signal in the view in which it stood does nothing before, or is that of the president
       taker_before : e.host ≡ main_of start p → IsTakenNow start all e es moment block.GcpMaster
           → master_of start new p ≡ (master_row was x).state → (was.phase ≡ Unordered) ⊎ IsBefore start old was
@@ -259,14 +234,15 @@ module _ (start : Start) (all : ℕ → List HostStep) (e : HostStep) (es : List
               ap (λ (v : View). v.number)
               (sym (master_view start p there new) ∙ view_same ∙ master_view start p there old)
 
-          one_of : IsStanding start old p → IsFirst p (current start old).full ⊎ (IsFirst p (current start old).full → ⊥)
-              → (was.phase ≡ Unordered) ⊎ IsBefore start old was
-          one_of stands (inl first) = inr (president_before stands first)
-          one_of stands (inr other) = inl (stand.others p there other stands)
+          one_of : IsStanding start old p → current start new ≡ current start old
+              → IsPresident start new p ⊎ (IsPresident start new p → ⊥) → (was.phase ≡ Unordered) ⊎ IsBefore start old was
+          one_of stands view (inl first) = inr (before_it start all e es moment stand p there first stands view)
+          one_of stands view (inr other) =
+              inl (stand.others p there (λ first. other (subst (λ (v : View). IsFirst p v.full) (sym view) first)) stands)
 
           by : Stood start all e es moment stand p there → (was.phase ≡ Unordered) ⊎ IsBefore start old was
           by (rose up) = let same = number_same in absurd (omega (arith, up, same))
-          by (stood stands view) = one_of stands (first_or p (current start old).full)
+          by (stood stands view) = one_of stands view (first_or p (current start new).full)
 
       -- so it is behind each event
       pub masters_next : IsReachedBy (master_of start new p)

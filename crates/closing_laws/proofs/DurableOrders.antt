@@ -1,9 +1,8 @@
 -- Full members of the current view that know the same epoch to follow know the same last order.
-use Rattle.std.proofs.Common.{◌≡◌, ◌≤◌, ◌<◌, ◌⊎◌, ◌∙◌, ℕ, Bool, true, false, List, [], ◌∷◌, refl, sym, ap, subst, inl, inr, arith}
+use Rattle.std.proofs.Common.{◌≡◌, ◌≤◌, ◌<◌, ◌⊎◌, ◌∙◌, ℕ, List, [], ◌∷◌, sym, ap, subst, inl, inr, arith}
 use Rattle.run_theory.proofs.Pasts.{each_from, each_in}
 use Rattle.run_theory.specs.Lists.{IsIn}
 use Rattle.sig_core.specs.declared.member.Member.{Member}
-use Rattle.sig_core.specs.declared.view.View.{View}
 use Rattle.dih_node.specs.Dih.{fresh_dih}
 use Rattle.dih_node.specs.State.{DihState}
 use Rattle.gcp_master.specs.declared.phase.Phase.{Phase}
@@ -22,7 +21,6 @@ use Rattle.epoch_laws.specs.Masters.{Commits, IsRightIn, Prepares}
 use Rattle.epoch_laws.specs.Members.{dih_in, epochs_of, master_of}
 use Rattle.epoch_laws.specs.Stand.{AllStand}
 use Rattle.epoch_laws.proofs.DihMoves.{Stays}
-use Rattle.epoch_laws.proofs.OrderMoves.{each_moves}
 use Rattle.epoch_laws.proofs.StandMarks.{full_before}
 use Rattle.epoch_laws.proofs.StandTakes.{Carries, carries, commits, others_same, prepares, stay}
 use Rattle.closing_laws.proofs.ClosersHear.{is_or}
@@ -117,16 +115,12 @@ module _ (start : Start) (all : ℕ → List HostStep) (e : HostStep) (es : List
         ∙ sym (stays other).prepared_is
 
     -- a member carries out an order
-    module _ (m : Member) (at : e.host ≡ tc_of start m) (view : current start new ≡ current start old)
-        (epoch next : ℕ) (each : EachFull start old (Agrees epoch next))
-        (prepared_is : (epochs_of start new m).prepared ≡ epoch) (next_is : (epochs_of start new m).next ≡ next)
+    module _ (m : Member) (at : e.host ≡ tc_of start m) (epoch next : ℕ)
+        (each : EachFull start old (Agrees epoch next)) (prepared_is : (epochs_of start new m).prepared ≡ epoch)
+        (next_is : (epochs_of start new m).next ≡ next)
       where
-        agrees_now : (other : Member) → IsIn other (current start new).full
-            → Agrees epoch next (epochs_of start new other)
-        agrees_now other there =
-            each_moves start old new m (others_same start all e es moment stand m at)
-            (sym (ap (λ (v : View). v.full) view)) (Agrees epoch next) (λ was follows. prepared_is) other
-            (each_in _ other (current start old).full each (was_full other there))
+        unmoved : (other : Member) → (other ≡ m → ⊥) → epochs_of start old other ≡ epochs_of start new other
+        unmoved = others_same start all e es moment stand m at
 
         -- this one knows it
         prepared_of : (one : Member) → one ≡ m → (epochs_of start new one).prepared ≡ epoch
@@ -135,8 +129,15 @@ module _ (start : Start) (all : ℕ → List HostStep) (e : HostStep) (es : List
         next_of : (one : Member) → one ≡ m → (epochs_of start new one).next ≡ next
         next_of one is = ap (λ (k : Member). (epochs_of start new k).next) is ∙ next_is
 
-        unmoved : (other : Member) → (other ≡ m → ⊥) → epochs_of start old other ≡ epochs_of start new other
-        unmoved = others_same start all e es moment stand m at
+        agrees_now : (other : Member) → IsIn other (current start new).full
+            → Agrees epoch next (epochs_of start new other)
+        agrees_now other there = by (is_or other m)
+          where
+            by : (other ≡ m) ⊎ (other ≡ m → ⊥) → Agrees epoch next (epochs_of start new other)
+            by (inl is) = λ follows. prepared_of other is
+            by (inr apart) =
+                subst (Agrees epoch next) (unmoved other apart)
+                (each_in _ other (current start old).full each (was_full other there))
 
         order_agreed : AgreeOnOrders start new
         order_agreed one other one_in other_in same = by (is_or one m) (is_or other m)
@@ -167,13 +168,13 @@ module _ (start : Start) (all : ℕ → List HostStep) (e : HostStep) (es : List
         by (stay stays) = stay_agreed stays
         by (prepares m at inside view epoch next rises order late goes) =
             let p = master_of start old order.president in
-            order_agreed m at view epoch next
+            order_agreed m at epoch next
             (order_agrees start old agree m inside epoch next rises late p.voices p.phase
             (stand.president order.president order.is order.stands) order.far)
             goes.prepared_is goes.next_is
         by (commits m at inside view epoch next rises order late goes) =
             let p = master_of start old order.president in
-            order_agreed m at view epoch next
+            order_agreed m at epoch next
             (order_agrees start old agree m inside epoch next rises late p.voices p.phase
             (stand.president order.president order.is order.stands) (widely order.far))
             goes.prepared_is goes.next_is

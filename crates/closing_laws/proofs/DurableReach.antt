@@ -1,5 +1,5 @@
 -- A member that has come to an epoch stays so: the epoch that it gives isn't below it, nor is that of its last order.
-use Rattle.std.proofs.Common.{◌≡◌, ◌≤◌, ℕ, List, ◌∷◌, sym, subst, inl, inr, arith}
+use Rattle.std.proofs.Common.{◌≤◌, ℕ, List, ◌∷◌, sym, subst, inl, inr, arith}
 use Rattle.run_theory.proofs.Pasts.{each_from, each_in}
 use Rattle.sig_core.specs.declared.member.Member.{Member}
 use Rattle.sig_core.specs.declared.place.BlockId.TheVariants as block

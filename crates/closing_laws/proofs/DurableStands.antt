@@ -15,7 +15,6 @@ use Rattle.gcp_master.specs.declared.known.Known.{Known}
 use Rattle.gcp_master.specs.declared.known.Told.{Told}
 use Rattle.gcp_master.specs.declared.phase.Phase.{Phase}
 use Rattle.gcp_master.specs.declared.phase.Phase.TheVariants.{Gathering, Closing, Saving, Copying}
-use Rattle.gcp_master.specs.declared.phase.Run.{Run}
 use Rattle.gcp_master.specs.Master.{told}
 use Rattle.qmgr_block.specs.declared.known.Known as membership
 use Rattle.world_core.specs.Hosts.{hosts}
