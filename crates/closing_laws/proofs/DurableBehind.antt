@@ -58,7 +58,8 @@ module _ (start : Start) (all : ℕ → List HostStep) (e : HostStep) (es : List
             own (subst (IsMarked (Closed epoch)) (own_log start all e es moment)
             (subst (λ k. IsMarked (Closed epoch) (new k)) (sym at) marked))
         by (inr other) =
-            reached.closed h epoch low (subst (IsMarked (Closed epoch)) (other_log start all e es moment h other) marked)
+            reached.closed h epoch low
+            (subst (IsMarked (Closed epoch)) (other_log start all e es moment h other) marked)
 
     reached_next : AllReached start new
     reached_next = record {

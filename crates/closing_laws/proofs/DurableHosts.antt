@@ -222,7 +222,7 @@ module _ (start : Start) (all : ℕ → List HostStep) (e : HostStep) (es : List
         tc_notes block.Dih to =
             let s = tc_did.between.dih in
             let taken = handled_now start all e es moment tc_kind tc_is tc_runs.part tc_runs.is tc_did.between
-                tc_did.front tc_did.enters passed block.Dih to
+            tc_did.front tc_did.enters passed block.Dih to
             in
             dih_noted start old s (dih_row s x).state (tc_between tc_did.enters) x.body (dih_notes s x) (dih_moves s x)
             (taken_rises start all e es moment stand block.Dih taken) (tc_reached tc_did.enters taken)
@@ -304,19 +304,20 @@ module _ (start : Start) (all : ℕ → List HostStep) (e : HostStep) (es : List
           subst (λ (p : MainPart). IsGoodPhase start old p.master.phase) (sym same)
           (subst (IsGoodPhase start old) (sym (installed main_runs.main.master x.view).phase) tt)
 
-      late_new : (marks : List Mark)
-          → ((epoch : ℕ) → IsIn (Closed epoch) marks → WasClosed start new epoch) → (phase : Phase)
-          → IsGood (LateOrMarked (WasClosed start old) (IsKnownTruly start old) marks) (IsKnownTruly start old) phase
-          → IsGoodPhase start new phase
+      -- what is marked by a step counts as closed
+      abbrev IsGoodBy : List Mark → Phase → Type 0
+      IsGoodBy marks phase =
+          IsGood (LateOrMarked (WasClosed start old) (IsKnownTruly start old) marks) (IsKnownTruly start old) phase
+
+      late_new : (marks : List Mark) → ((epoch : ℕ) → IsIn (Closed epoch) marks → WasClosed start new epoch)
+          → (phase : Phase) → IsGoodBy marks phase → IsGoodPhase start new phase
       late_new marks here phase good = by phase good
         where
           either : (epoch : ℕ) → WasClosed start old epoch ⊎ IsIn (Closed epoch) marks → WasClosed start new epoch
           either epoch (inl was) = closed_grows start all e es moment epoch was
           either epoch (inr now) = here epoch now
 
-          by : (phase : Phase)
-              → IsGood (LateOrMarked (WasClosed start old) (IsKnownTruly start old) marks) (IsKnownTruly start old) phase
-              → IsGoodPhase start new phase
+          by : (phase : Phase) → IsGoodBy marks phase → IsGoodPhase start new phase
           by (Gathering known) good = phase_grows start all e es moment (Gathering known) good
           by (Closing run) good = either run.epoch good
           by (Saving run) good = either run.epoch good
@@ -340,9 +341,10 @@ module _ (start : Start) (all : ℕ → List HostStep) (e : HostStep) (es : List
       row_good between good sound here =
           let s = between.master in
           late_new (master_row s x).effects.marks here (master_row s x).state.phase
-          (master_lates (WasClosed start old) (IsKnownTruly start old) (nothing_truly start old) (copying_closed start old)
-          s good x
-          (λ t is. learned_truly start old t (told_truly start old t (subst (IsSaidTruly start old) is (said_now sound)))))
+          (master_lates (WasClosed start old) (IsKnownTruly start old) (nothing_truly start old)
+          (copying_closed start old) s good x
+          (λ t is.
+          learned_truly start old t (told_truly start old t (subst (IsSaidTruly start old) is (said_now sound)))))
 
       pub main_good : IsGoodPhase start new (master_of start new me).phase
       main_good = by (main_goes start e.host (old e.host) e main_runs.main main_runs.is)

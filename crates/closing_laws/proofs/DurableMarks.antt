@@ -25,7 +25,7 @@ use Rattle.world_views.specs.Machine.{after, step_after}
 use Rattle.view_laws.specs.Runs.{view_after}
 use Rattle.view_laws.specs.Votes.{main_of}
 use Rattle.moment_laws.specs.Moments.{IsMoment, logs_of}
-use Rattle.moment_laws.specs.Places.{ldm_of}
+use Rattle.moment_laws.specs.Places.{ldm_of, tc_of}
 use Rattle.moment_laws.proofs.MomentTurns.{host_low}
 use Rattle.outcome_laws.proofs.StrictLists.{in_either}
 use Rattle.epoch_laws.specs.Members.{master_in, master_of}
@@ -85,7 +85,8 @@ module _ (start : Start) (all : ℕ → List HostStep) (e : HostStep) (es : List
 
         master_is : master_of start old me ≡ p.master
         master_is =
-            ap (λ h. master_in (fresh_master me (first_layout start.shape).view 0) (after start h (old h)).parts) (sym at)
+            ap (λ h. master_in (fresh_master me (first_layout start.shape).view 0) (after start h (old h)).parts)
+            (sym at)
             ∙ ap (master_in (fresh_master me (first_layout start.shape).view 0)) main_runs.is
 
         abbrev MarksIt : MainPart → Type 0
@@ -126,14 +127,20 @@ module _ (start : Start) (all : ℕ → List HostStep) (e : HostStep) (es : List
           inside : IsIn mark step.effects.marks
           inside = subst (IsIn mark) (marks_are start all e es moment stand) marked
 
+          parts_at : (h : ℕ) (parts : Parts) → e.host ≡ h → (after start h (old h)).parts ≡ parts → s.parts ≡ parts
+          parts_at h parts at is = ap (λ h. (after start h (old h)).parts) at ∙ is
+
           by : Whose start e.host → IsMarkedBy mark
           by (of_shell at) =
               let runs = runs_shell start (old 0) in
-              absurd (no_master (part.Shell runs.shell) (ap (λ h. (after start h (old h)).parts) at ∙ runs.is) tt inside)
+              let parts = part.Shell runs.shell in
+              absurd (no_master parts (parts_at 0 parts at runs.is) tt inside)
           by (of_main me there at) = of_main_host me there at inside
           by (of_tc me there at) =
               let runs = runs_epochs start old me there in
-              absurd (no_master (part.Tc runs.part) (ap (λ h. (after start h (old h)).parts) at ∙ runs.is) tt inside)
+              let parts = part.Tc runs.part in
+              absurd (no_master parts (parts_at (tc_of start me) parts at runs.is) tt inside)
           by (of_rows me there at) =
               let runs = runs_rows start me there (old (ldm_of start me)) in
-              absurd (no_master (part.Ldm runs.rows) (ap (λ h. (after start h (old h)).parts) at ∙ runs.is) tt inside)
+              let parts = part.Ldm runs.rows in
+              absurd (no_master parts (parts_at (ldm_of start me) parts at runs.is) tt inside)

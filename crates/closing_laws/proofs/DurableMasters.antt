@@ -235,10 +235,12 @@ module _ (start : Start) (all : ℕ → List HostStep) (e : HostStep) (es : List
               (sym (master_view start p there new) ∙ view_same ∙ master_view start p there old)
 
           one_of : IsStanding start old p → current start new ≡ current start old
-              → IsPresident start new p ⊎ (IsPresident start new p → ⊥) → (was.phase ≡ Unordered) ⊎ IsBefore start old was
+              → IsPresident start new p ⊎ (IsPresident start new p → ⊥)
+              → (was.phase ≡ Unordered) ⊎ IsBefore start old was
           one_of stands view (inl first) = inr (before_it start all e es moment stand p there first stands view)
           one_of stands view (inr other) =
-              inl (stand.others p there (λ first. other (subst (λ (v : View). IsFirst p v.full) (sym view) first)) stands)
+              inl
+              (stand.others p there (λ first. other (subst (λ (v : View). IsFirst p v.full) (sym view) first)) stands)
 
           by : Stood start all e es moment stand p there → (was.phase ≡ Unordered) ⊎ IsBefore start old was
           by (rose up) = let same = number_same in absurd (omega (arith, up, same))

@@ -51,7 +51,9 @@ module _ (start : Start) (logs : ℕ → List HostStep) (agree : AgreeOnOrders s
     preparing_agree : (voices : List Voice) (phase : Phase) → IsRightIn start logs voices phase
         → Prepares epoch next phase → EachFull start logs (Agrees epoch next)
     preparing_agree voices (Preparing run) right (same, same_next) =
-        each_from _ (current start logs).full (λ other there. of_waits (epochs_of start logs other) (each_in _ other (current start logs).full right.0.each there))
+        each_from _ (current start logs).full
+        (λ other there.
+        of_waits (epochs_of start logs other) (each_in _ other (current start logs).full right.0.each there))
       where
         of_waits : (s : DihState) → Waits run.epoch run.next s → Agrees epoch next s
         of_waits s waits follows =

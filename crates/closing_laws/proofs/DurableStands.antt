@@ -51,8 +51,8 @@ module _ (start : Start) (logs : ℕ → List HostStep) where
   abbrev pub AllSaid : List Outgoing → Type 0
   AllSaid sends = Each (λ (sent : Outgoing). IsSaidTruly sent.body) sends
 
-  -- the epochs of a member have noted no open epoch as closed, nor one to which the member hasn't come, and no durable one
-  -- before the start
+  -- what a member has noted as closed was closed, and the member has come to it; as durable it has noted none before the
+  -- start
   pub record HasNoted (s : DihState) : Type 0 where
     pub noted : IsNoted start logs s.closed
     pub reached : HasReached s.closed s
@@ -108,11 +108,11 @@ module _ (start : Start) (logs : ℕ → List HostStep) where
   -- and what is told then
   pub dih_said : (s : DihState) → HasNoted s → (body : Body) → TellsNoted s body → IsSaidTruly body
   dih_said s was (Epoch (GcpClosed epoch)) tells = absurd tells
-  dih_said s was (Epoch (GcpStateConf current prepared next noted saved durable)) (noted_is, (prepared_is, durable_is)) =
+  dih_said s was (Epoch (GcpStateConf current prepared next noted saved durable)) (noted_is, (order_is, durable_is)) =
       let below = was.reached.ordered in
       inr (record {
         noted = subst (IsNoted start logs) (sym noted_is) was.noted;
-        below = omega (arith, below, noted_is, prepared_is);
+        below = omega (arith, below, noted_is, order_is);
         least = subst (λ n. epoch_before start.epoch ≤ n) (sym durable_is) was.least;
       })
   dih_said s was body tells = tt

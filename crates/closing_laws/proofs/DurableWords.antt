@@ -91,8 +91,8 @@ resumes_copying known run =
     by false false false false f g is_c is_g is = absurd cc
 
 module _ (start : Start) (logs : ℕ → List HostStep) where
-  -- what the epochs of a member tell is so: they have noted no open epoch as closed, nor any behind their last order, nor a
-  -- durable one before the start
+  -- what the epochs of a member tell: what they have noted as closed was closed, and isn't behind their last order; as
+  -- durable they have noted none before the start
   pub record IsToldTruly (told : Told) : Type 0 where
     pub noted : IsNoted start logs told.closed
     pub below : told.closed ≤ told.prepared
@@ -101,8 +101,8 @@ module _ (start : Start) (logs : ℕ → List HostStep) where
   abbrev MOST : ℕ
   MOST = 2 ^ 64 - 1
 
-  -- So what is known of that is: the epoch of the last order is closed, if all have noted it, or one behind it. No member
-  -- is known to have noted less than the start, and nothing is known beyond what can be told.
+  -- What is known of that: the epoch of the last order was closed, if no member has noted less as closed. No member is
+  -- known to have noted less than the start, and nothing is known beyond what can be told.
   pub record IsKnownTruly (known : Known) : Type 0 where
     pub noted : known.epoch ≤ known.closed → IsNoted start logs known.epoch
     pub closed : known.closed ≤ MOST
