@@ -1,5 +1,5 @@
 -- What the logs say where a session ends.
-use Rattle.std.proofs.Common.{◌≡◌, inl, ℕ, List, [], ◌∷◌, ◌++◌, length, take, reverse, Bool, true, false, refl, ap, sym}
+use Rattle.std.proofs.Common.{◌≡◌, inl, ℕ, List, [], ◌∷◌, ◌++◌, length, take, reverse, true, false, refl, ap, sym}
 use Rattle.std.proofs.Common.{subst, ◌∙◌}
 use Rattle.std.specs.Prelude.{Option, None, Some, slice_get}
 use Rattle.std.specs.Io.KnownBytes.{Appends}
@@ -7,7 +7,6 @@ use Rattle.std.proofs.lemmas.List.{append-nil, take_at}
 use Rattle.run_theory.proofs.Pasts.{past_self}
 use Rattle.script_lang.specs.declared.command.Command.{Command}
 use Rattle.sig_core.specs.declared.log.HostLog.{HostLog}
-use Rattle.calm_laws.specs.Calm.{AreCalm}
 use Rattle.calm_laws.specs.Resting.{NoneGivesUp}
 use Rattle.shell_top.specs.Asked.{AreAsked, AreAskedInFront, AreAskedInPart, AsksInPart, are_calm}
 use Rattle.shell_top.specs.declared.ended.Ending.{Ending}

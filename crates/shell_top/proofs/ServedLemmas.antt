@@ -1,7 +1,6 @@
 -- A world that has served some commands serves one more.
 use Rattle.std.proofs.Common.{◌≡◌, ◌⊎◌, inl, inr, ℕ, zero, suc, ◌+◌, ◌-◌, ◌≤◌, ◌<◌, arith, List, [], ◌∷◌, ◌++◌, length, take, drop, Bool, true, false, refl, ap, ap₂, sym, subst, ◌∙◌, append_assoc}
-use Rattle.std.specs.Global.{Vec}
-use Rattle.std.specs.Prelude.{Option, None, Some, IfOk, OnErr, OnOk, Result, Ok, Err, is_some, option_to_list}
+use Rattle.std.specs.Prelude.{Option, None, Some, OnErr, OnOk, Result, Ok, Err, is_some, option_to_list}
 use Rattle.std.specs.Io.KnownBytes.{Appends}
 use Rattle.std.proofs.lemmas.List.{append-nil, append_cancel_left, drop_at, reverse-append}
 use Rattle.std.proofs.Math.Seq.{take-append-add}
@@ -20,9 +19,8 @@ use Rattle.shell_top.specs.Subject.{subject_in}
 use Rattle.shell_top.specs.Asked.{rounds_behind}
 use Rattle.shell_top.specs.declared.ended.Ending.TheVariants as ending
 use Rattle.shell_top.specs.Printed.{AppendsPart}
-use Rattle.calm_laws.specs.Calm.{AreCalm}
 use Rattle.calm_laws.specs.Resting.{NoneGivesUp}
-use Rattle.shell_top.specs.Served.{AreAtRest, AreLeft, AreLeftOff, AsksFirst, HasGoneOn, HasServed, IsServed, PrintsCommand, ServesCommand, are_calm_requests}
+use Rattle.shell_top.specs.Served.{AreAtRest, AreLeft, AreLeftOff, AsksFirst, HasGoneOn, HasServed, IsServed, PrintsCommand, ServesCommand}
 use Rattle.shell_top.specs.Text.{down_line, reply_lines}
 use Rattle.shell_top.specs.Told.{text_of}
 use Rattle.shell_top.proofs.CalmLemmas.{command_calm, commands_back, commands_front, first_calm, head_calm, none_before, one_calm, one_rests, requests_back, requests_front}

@@ -17,9 +17,7 @@ use Rattle.world_core.specs.Machine as plain
 use Rattle.world_core.specs.Requests.{request_in}
 use Rattle.world_core.specs.Start.{Start}
 use Rattle.world_core.specs.Steps.{HostStep}
-use Rattle.world_views.specs.Machine.{machine}
 use Rattle.world_views.specs.Right.{replies_in}
-use Rattle.world_views.specs.SerialLaw.{IsSerial}
 
 -- Each request in these logs of a cluster in which nothing can fail is served between two quiet moments and answered there
 -- as it should be; but for the last one, where memory was wanting.
