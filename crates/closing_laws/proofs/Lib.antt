@@ -11,9 +11,13 @@ pub mod CountedOthers
 pub mod CountedOut
 pub mod CountedTurns
 pub mod DurableAll
+pub mod DurableBehind
 pub mod DurableDih
 pub mod DurableHosts
-pub mod DurableRows
+pub mod DurableMarks
+pub mod DurableMasters
+pub mod DurableOrders
+pub mod DurableReach
 pub mod DurableStands
 pub mod DurableTells
 pub mod DurableWords

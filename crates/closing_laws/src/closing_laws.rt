@@ -1,6 +1,5 @@
 //! Closings of epochs, whatever stops and is cut off.
-ghost use Rattle.closing_laws.specs.Closed.{ClosersHaveHeardAll};
-ghost use Rattle.closing_laws.specs.Durable.{DurableWereClosedFrom};
+ghost use Rattle.closing_laws.specs.Closed.{ClosersHaveHeardAll, DurableWereClosed};
 ghost use Rattle.closing_laws.specs.Ended.{ForgottenAreDone, UncountedAreForgotten};
 ghost use Rattle.closing_laws.specs.Over.{OverLeavesNone};
 ghost use Rattle.closing_laws.specs.Stays.{ClosedStayClosed};
@@ -29,7 +28,7 @@ pub fn closed_epochs_stay_closed()
     ensures { ClosedStayClosed }
 {}
 
-/// An epoch that is durable, or a later one, was closed before.
+/// An epoch that is durable was closed before.
 pub fn durable_epochs_were_closed()
-    ensures { DurableWereClosedFrom }
+    ensures { DurableWereClosed }
 {}

@@ -1,6 +1,6 @@
 //! Random runs of a cluster that fails, and the laws that they are judged by. The words are the first
-//! seed, how many runs, and at how many of a hundred requests failures begin; a run is made of its seed
-//! alone, so one that breaks a law can be had again.
+//! seed, how many runs, and at how many of a hundred requests failures begin, and more such threes
+//! behind them; a run is made of its seed alone, so one that breaks a law can be had again.
 #![tactic(auto)]
 
 mod cluster;
@@ -14,7 +14,7 @@ use std::process::ExitCode;
 use std::sync::Wait;
 use std::test::Fail;
 
-const USAGE: &str = "usage: failing_runs SEED COUNT FAILS";
+const USAGE: &str = "usage: failing_runs SEED COUNT FAILS [SEED COUNT FAILS]..";
 
 /// The words, as numbers, each of them none where it isn't one.
 fn numbers(rt: &HostRuntime) -> Result<Vec<Option<u64>>, Fail> {
@@ -52,12 +52,22 @@ fn told(fault: &RunFault) -> &'static str {
     }
 }
 
+fn tell_usage(rt: &HostRuntime) -> Result<ExitCode, Fail> {
+    println!(rt; "{USAGE}")?;
+    Ok(ExitCode::from(2))
+}
+
 fn main(rt: HostRuntime) -> Result<ExitCode, Fail> {
     let numbers = numbers(&rt)?;
-    let [Some(first), Some(count), Some(fails)] = numbers.as_slice() else {
-        println!(rt; "{USAGE}")?;
-        return Ok(ExitCode::from(2));
-    };
-    let faults = run_all(&rt, &rt, *first, *count, *fails)?;
+    if numbers.is_empty() {
+        return tell_usage(&rt);
+    }
+    let mut faults = 0u64;
+    for three in numbers.as_slice().chunks(3) {
+        let [Some(first), Some(count), Some(fails)] = three else {
+            return tell_usage(&rt);
+        };
+        faults = faults.saturating_add(run_all(&rt, &rt, *first, *count, *fails)?);
+    }
     Ok(ExitCode::from(if faults == 0 { 0 } else { 1 }))
 }

@@ -1,5 +1,5 @@
 -- Every closed cut is safe.
-use Rattle.std.proofs.Common.{◌≡◌, ◌≤◌, ℕ, List, [], subst}
+use Rattle.std.proofs.Common.{◌≤◌, ℕ, List, subst}
 use Rattle.frag_map.specs.Shape.{IsShape}
 use Rattle.run_theory.proofs.Cuts.{logs_of_closed}
 use Rattle.run_theory.proofs.Pasts.{past_trans}
@@ -22,7 +22,7 @@ use Rattle.outcome_laws.proofs.OnceReported.{reported_once}
 use Rattle.outcome_laws.proofs.StrictOrder.{histories_in_strict_order}
 use Rattle.talk_laws.proofs.Told.{decided_as_told}
 use Rattle.closing_laws.proofs.Closings.{closed_stay_closed}
-use Rattle.closing_laws.proofs.DurableAll.{durable_were_closed_from}
+use Rattle.closing_laws.proofs.DurableAll.{durable_were_closed}
 use Rattle.commit_laws.proofs.CutLaws.{aborts_effectless, commits_effective, histories_legal, records_alike, resting_rows}
 use Rattle.commit_laws.proofs.GreatestViews.{greatest_viable}
 use Rattle.shell_top.specs.Safe.{AreSafe, IsSafe}
@@ -58,7 +58,7 @@ module _ (start : Start) (logs : ℕ → List HostStep) (some : 1 ≤ start.epoc
           committed = commits_effective start inside of;
           aborted = aborts_effectless start inside of;
           down = none_down_decided start inside of;
-          durable = durable_were_closed_from start inside some of;
+          durable = durable_were_closed start inside some of;
         }
       where
         of : AreOfCluster start inside

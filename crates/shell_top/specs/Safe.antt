@@ -24,7 +24,7 @@ use Rattle.view_laws.specs.Runs.{WasInstalled}
 use Rattle.outcome_laws.specs.Decided.{IsMarked}
 use Rattle.outcome_laws.specs.Outcomes.{AreOnce, HasEntry, reports_in}
 use Rattle.talk_laws.specs.Talks.{asked_of, told_of}
-use Rattle.closing_laws.specs.Durable.{IsClosedFrom}
+use Rattle.closing_laws.specs.Closed.{WasClosed}
 use Rattle.commit_laws.specs.Cuts.{IsAnsweredOn}
 use Rattle.commit_laws.specs.Traces.{record_at}
 
@@ -33,7 +33,7 @@ use Rattle.commit_laws.specs.Traces.{record_at}
 -- epochs never fall along it, and a live replica of a key at rest has the row that it leaves. A transaction is decided
 -- once at most, as its client asked for it and was answered, and reported once at most: where it is reported committed it
 -- is in the history, with that epoch, and where it is reported aborted it isn't; since the cluster is down only where it
--- wasn't decided. An epoch that is durable, or a later one, was closed.
+-- wasn't decided. An epoch that is durable was closed.
 pub record IsSafe (start : Start) (inside : ℕ → List HostStep) : Type 0 where
   pub one_view : (one other : View) → WasInstalled start inside one → WasInstalled start inside other
       → one.number ≡ other.number → one ≡ other
@@ -49,7 +49,7 @@ pub record IsSafe (start : Start) (inside : ℕ → List HostStep) : Type 0 wher
       → Each (λ (entry : Entry). same_tx entry.tx tx ≡ false) (history (hosts start) inside)
   pub down : (tx : TxId) → IsMarked (Reported tx (Aborted Down)) (inside 0)
       → Each (λ (entry : Entry). same_tx entry.tx tx ≡ false) (entries (hosts start) inside)
-  pub durable : (h epoch : ℕ) → h < hosts start → IsMarked (Durable epoch) (inside h) → IsClosedFrom start inside epoch
+  pub durable : (h epoch : ℕ) → h < hosts start → IsMarked (Durable epoch) (inside h) → WasClosed start inside epoch
 
 -- Of a closed cut and a larger one. Once an epoch is closed, or durable, whoever writes, and has that epoch or one before
 -- it in the larger one's history, is in that of the smaller one. Of a transaction that is in the larger one's history, members have the same image of
