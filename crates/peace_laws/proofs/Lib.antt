@@ -1,0 +1,4 @@
+pub mod CompletionTurns
+pub mod Completions
+pub mod NoneCompletes
+pub mod NoneCounted
