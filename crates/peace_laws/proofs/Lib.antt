@@ -1,4 +1,12 @@
+pub mod ClosingSignals
 pub mod CompletionTurns
 pub mod Completions
+pub mod LevelSignals
+pub mod Mirrored
+pub mod NearHosts
 pub mod NoneCompletes
 pub mod NoneCounted
+pub mod PlainAnswers
+pub mod PlainEvents
+pub mod SeenNear
+pub mod SentNear
