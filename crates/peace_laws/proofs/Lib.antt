@@ -8,5 +8,6 @@ pub mod NoneCompletes
 pub mod NoneCounted
 pub mod PlainAnswers
 pub mod PlainEvents
+pub mod RestingHosts
 pub mod SeenNear
 pub mod SentNear
