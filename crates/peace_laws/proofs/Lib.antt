@@ -1,8 +1,10 @@
+pub mod Arrivals
 pub mod ClosingSignals
 pub mod LevelSignals
 pub mod Mirrored
 pub mod NearHosts
 pub mod PlainAnswers
+pub mod PlainCalm
 pub mod PlainEvents
 pub mod SeenNear
 pub mod SentNear
