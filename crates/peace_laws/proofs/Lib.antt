@@ -1,3 +1,4 @@
+pub mod Arrivals
 pub mod ClosingSignals
 pub mod CompletionTurns
 pub mod Completions
@@ -7,6 +8,7 @@ pub mod NearHosts
 pub mod NoneCompletes
 pub mod NoneCounted
 pub mod PlainAnswers
+pub mod PlainCalm
 pub mod PlainEvents
 pub mod RestingHosts
 pub mod SeenNear
