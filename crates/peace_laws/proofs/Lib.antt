@@ -1,6 +1,8 @@
 pub mod Arrivals
+pub mod CalmNear
 pub mod ClosingSignals
 pub mod LevelSignals
+pub mod MainNear
 pub mod Mirrored
 pub mod NearHosts
 pub mod PlainAnswers
