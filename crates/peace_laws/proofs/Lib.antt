@@ -5,8 +5,10 @@ pub mod LevelSignals
 pub mod MainNear
 pub mod Mirrored
 pub mod NearHosts
+pub mod PeaceNext
 pub mod PlainAnswers
 pub mod PlainCalm
 pub mod PlainEvents
+pub mod RunKept
 pub mod SeenNear
 pub mod SentNear
