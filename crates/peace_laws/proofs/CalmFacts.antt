@@ -1,5 +1,5 @@
 -- What is known of a calm step of a peaceful run, where no closing is under way at its host.
-use Rattle.std.proofs.Common.{◌≡◌, ◌<◌, List, ◌∷◌, ℕ, Bool, true, false, refl, ap, ◌∙◌, subst}
+use Rattle.std.proofs.Common.{◌≡◌, ◌<◌, List, ◌∷◌, Bool, true, false, refl, ◌∙◌, subst}
 use Rattle.frag_map.specs.Shape.{IsShape}
 use Rattle.run_laws.specs.Transit.{Comes}
 use Rattle.run_theory.proofs.Runs.{log_of-own}

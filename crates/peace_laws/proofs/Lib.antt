@@ -1,5 +1,6 @@
 pub mod Arrivals
 pub mod CalmFacts
+pub mod CalmGoes
 pub mod CalmNear
 pub mod ClosingSignals
 pub mod CompletionTurns

@@ -1,24 +1,22 @@
 -- Where peace goes on by a calm request: each step leaves what its host has done since the quiet moment good, and the host
 -- at rest in its epoch.
-use Rattle.std.proofs.Common.{◌≡◌, ◌⊎◌, ◌+◌, ◌*◌, ◌≤◌, ◌<◌, inl, inr, ℕ, zero, suc, List, [], ◌∷◌, ◌++◌, length, Bool, true, false}
+use Rattle.std.proofs.Common.{◌≡◌, ◌+◌, ◌*◌, ◌≤◌, ◌<◌, ℕ, zero, suc, List, [], ◌∷◌, ◌++◌, length, true, false}
 use Rattle.std.proofs.Common.{refl, ap, sym, ◌∙◌, subst, append-nil, arith}
 use Rattle.std.specs.Prelude.{map}
-use Rattle.std.proofs.lemmas.Bool.{cases_eq, true≢false}
+use Rattle.std.proofs.lemmas.Bool.{true≢false}
 use Rattle.frag_map.specs.Shape.{IsShape}
 use Rattle.node_core.specs.declared.host.Host as plain_node
 use Rattle.node_core.specs.Requests.{is_request}
 use Rattle.node_core.specs.Row.{row}
 use Rattle.run_laws.specs.Transit.{Comes}
 use Rattle.run_theory.proofs.Pasts.{past_more}
-use Rattle.run_theory.proofs.Runs.{log_of-other, log_of-own}
 use Rattle.run_theory.specs.Links.{taken}
 use Rattle.run_theory.specs.Lists.{Each, IsPast}
-use Rattle.run_theory.specs.Runs.{Run, log_of}
+use Rattle.run_theory.specs.Runs.{log_of}
 use Rattle.sig_core.specs.declared.outs.Outgoing.{Outgoing}
-use Rattle.sig_core.specs.declared.reply.ApiReply.{ApiReply}
 use Rattle.sig_core.specs.declared.signal.Signal.{Signal}
 use Rattle.sig_core.specs.Step.{Step}
-use Rattle.world_core.specs.Hosts.{Membership, first_membership, host_for, hosts, member_at, receiver}
+use Rattle.world_core.specs.Hosts.{Membership, first_membership, hosts, member_at, receiver}
 use Rattle.world_core.specs.Machine as plain
 use Rattle.world_core.specs.Machine.{addressed, all_addressed, counted}
 use Rattle.world_core.specs.Start.{Start, made}
@@ -32,7 +30,7 @@ use Rattle.calm_laws.specs.Plain.{is_beating}
 use Rattle.calm_laws.specs.Steps.{ComesCalmly, IsPlainSend, StepAlike, besides}
 use Rattle.calm_laws.proofs.Arrivals.{arriving}
 use Rattle.calm_laws.proofs.FineSends.{plain_fine}
-use Rattle.calm_laws.proofs.MainPlaces.{main_at, main_beats, main_place, IsMainAt}
+use Rattle.calm_laws.proofs.MainPlaces.{main_at, main_beats}
 use Rattle.calm_laws.proofs.NextCalm.{IsGood}
 use Rattle.calm_laws.proofs.PlainSends.{plain_sends_calm}
 use Rattle.calm_laws.proofs.SentStep.{IsFine, IsFineSend, IsSince, since_next}

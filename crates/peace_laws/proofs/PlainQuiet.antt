@@ -1,20 +1,17 @@
 -- Where nothing is under way in peace, nothing is in the plain machine, and so no node counts a transaction.
 use Rattle.std.proofs.Common.{◌≡◌, ◌<◌, inl, inr, ℕ, Bool, true, false, List, [], ◌∷◌, refl, sym, ap, ◌∙◌, subst}
 use Rattle.std.proofs.Math.Path.{fun_ext}
-use Rattle.std.proofs.lemmas.Bool.{false≢true}
 use Rattle.std.specs.Prelude.{map}
 use Rattle.frag_map.specs.Shape.{IsShape}
 use Rattle.dih_node.specs.declared.dih.Counted.{Counted}
 use Rattle.node_core.specs.Blocks.{dih_of, has_tc}
 use Rattle.node_core.specs.declared.host.Host as plain_host
 use Rattle.node_core.specs.declared.host.Host.TheVariants as kind
-use Rattle.node_core.specs.Dih.{DihState}
 use Rattle.node_views.specs.declared.parts.Parts.{Parts}
 use Rattle.node_views.specs.declared.parts.Parts.TheVariants.{Shell, Main, Tc, Ldm}
 use Rattle.run_theory.proofs.Runs.{logs_of_run}
 use Rattle.run_theory.specs.Links.{IsGiven, sent, taken}
 use Rattle.run_theory.specs.Runs.{AreLogs, IsWithin, log_of}
-use Rattle.sig_core.specs.declared.member.TxId.{TxId}
 use Rattle.sig_core.specs.declared.reply.ApiReply.{ApiReply}
 use Rattle.world_core.proofs.HostNumbers.{IsNodes, tc_found}
 use Rattle.world_core.specs.Hosts.{hosts, tc_host}
@@ -22,7 +19,7 @@ use Rattle.world_core.specs.Machine as plain
 use Rattle.world_core.specs.Quiet as plain_quiet
 use Rattle.world_core.specs.Start.{Start}
 use Rattle.world_core.specs.Steps.{Addressed, HostStep}
-use Rattle.world_views.specs.Machine.{after, machine}
+use Rattle.world_views.specs.Machine.{after}
 use Rattle.world_views.specs.Right.{replies_in}
 use Rattle.answer_laws.specs.Answered.{AreQuiet}
 use Rattle.calm_laws.specs.Alike.{tx_of}

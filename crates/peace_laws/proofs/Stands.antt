@@ -1,8 +1,8 @@
 -- What stands of a life in peace after some logs, and what besides where nothing is under way.
-use Rattle.std.proofs.Common.{◌≡◌, ◌≤◌, ◌<◌, ℕ, zero, suc, ◌%◌, List, [], Bool, true, false, refl, ap, subst}
+use Rattle.std.proofs.Common.{◌≡◌, ◌≤◌, ℕ, zero, suc, ◌%◌, List, [], false, refl, ap, subst}
 use Rattle.std.specs.List.{list_any}
 use Rattle.node_views.specs.Row.{is_one_of}
-use Rattle.run_theory.specs.Links.{sent, taken}
+use Rattle.run_theory.specs.Links.{taken}
 use Rattle.run_theory.specs.Lists.{Each}
 use Rattle.run_theory.specs.Runs.{IsWithin, Run, log_of}
 use Rattle.sig_core.specs.declared.mark.Mark.{Mark}
