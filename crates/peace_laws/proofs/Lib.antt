@@ -5,6 +5,7 @@ pub mod CalmNear
 pub mod ClosingSignals
 pub mod CompletionTurns
 pub mod Completions
+pub mod FirstAsked
 pub mod LevelSignals
 pub mod MainNear
 pub mod Mirrored
