@@ -1,5 +1,6 @@
 pub mod Arrivals
 pub mod CalmNear
+pub mod ClosingNext
 pub mod ClosingSignals
 pub mod LevelSignals
 pub mod MainNear
