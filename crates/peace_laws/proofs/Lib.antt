@@ -10,6 +10,7 @@ pub mod PeaceNext
 pub mod PlainAnswers
 pub mod PlainCalm
 pub mod PlainEvents
+pub mod PlainLogs
 pub mod RunKept
 pub mod SeenNear
 pub mod SentNear
