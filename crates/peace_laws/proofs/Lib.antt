@@ -1,0 +1,4 @@
+pub mod AskingSteps
+pub mod CloserEase
+pub mod ClosingSteps
+pub mod MasterNear

@@ -1,8 +1,8 @@
 -- Peaceful logs: a cluster that closes epochs, and may fail but doesn't, serves as the plain machine does, and closes.
-use Rattle.std.specs.Prelude.{◌≡◌, ◌≤◌, ◌⊎◌, ℕ, true, false, List, [], ◌∷◌, ◌++◌}
+use Rattle.std.specs.Prelude.{◌≡◌, ◌≤◌, ℕ, true, false, List, [], ◌∷◌, ◌++◌}
 use Rattle.frag_map.specs.Shape.{IsShape}
 use Rattle.node_core.specs.Replies.{replies_of}
-use Rattle.run_theory.specs.Lists.{Each, IsPast}
+use Rattle.run_theory.specs.Lists.{IsPast}
 use Rattle.run_theory.specs.Runs.{AreLogs, IsWithin}
 use Rattle.sig_core.specs.declared.mark.Mark.TheVariants.{Reported}
 use Rattle.sig_core.specs.declared.member.TxId.{TxId}
