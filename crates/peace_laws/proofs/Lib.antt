@@ -3,3 +3,5 @@ pub mod CloserEase
 pub mod ClosingSteps
 pub mod MasterNear
 pub mod MemberMoves
+pub mod OrderLists
+pub mod Voices

@@ -170,9 +170,6 @@ module _ (c : Course) (d : DihState) (member : IsMember c d) (from : ℕ) where
   }
 
 -- the rows answer too
-record RowsMove (from : ℕ) (order : Order) (t : Step ReplicaState) : Type 0 where
-  sends : t.effects.sends ≡ map (answer_to from) (answers true order)
-
 rows_move : (c : Course) (s : ReplicaState) (x : Signal) (order : Order) → IsOrder c order
     → (replica_by s x (order_body order)).effects.sends ≡ map (answer_to x.member.node) (answers true order)
 unfolding order_body
