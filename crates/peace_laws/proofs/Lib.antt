@@ -1,7 +1,9 @@
 pub mod AskingSteps
 pub mod CloserEase
 pub mod ClosingSteps
+pub mod MasterAnswers
 pub mod MasterNear
 pub mod MemberMoves
 pub mod OrderLists
 pub mod Voices
+pub mod WayOn
