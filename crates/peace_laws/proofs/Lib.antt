@@ -3,6 +3,7 @@ pub mod CloserEase
 pub mod ClosingSteps
 pub mod MasterAnswers
 pub mod MasterNear
+pub mod MemberOn
 pub mod MemberMoves
 pub mod OrderLists
 pub mod Voices
