@@ -1,11 +1,19 @@
 pub mod Arrivals
+pub mod AskingSteps
 pub mod CalmNear
+pub mod CloserEase
 pub mod ClosingNext
 pub mod ClosingSignals
+pub mod ClosingSteps
 pub mod LevelSignals
 pub mod MainNear
+pub mod MasterAnswers
+pub mod MasterNear
+pub mod MemberMoves
+pub mod MemberOn
 pub mod Mirrored
 pub mod NearHosts
+pub mod OrderLists
 pub mod PeaceNext
 pub mod PlainAnswers
 pub mod PlainCalm
@@ -14,3 +22,5 @@ pub mod PlainLogs
 pub mod RunKept
 pub mod SeenNear
 pub mod SentNear
+pub mod Voices
+pub mod WayOn
