@@ -33,6 +33,7 @@ pub mod RestingHosts
 pub mod RunKept
 pub mod SeenNear
 pub mod SentNear
+pub mod Served
 pub mod Stands
 pub mod Voices
 pub mod WayOn
