@@ -1,6 +1,6 @@
 -- A life in peace, request by request: it stands after each, and rests where nothing is under way. So its plain parts are
 -- what the plain machine does, and each closing is answered, where closings go on from rest to rest.
-use Rattle.std.proofs.Common.{◌≡◌, ◌⊎◌, ◌≤◌, inl, inr, ℕ, Bool, true, false, List, [], ◌∷◌, ◌++◌, refl, sym, ap, ◌∙◌, subst, arith}
+use Rattle.std.proofs.Common.{◌≡◌, ◌⊎◌, ◌≤◌, inl, inr, ℕ, Bool, true, false, List, [], ◌∷◌, ◌++◌, refl, sym, ap, subst, arith}
 use Rattle.std.proofs.Math.Path.{fun_ext}
 use Rattle.std.specs.Prelude.{◌||◌}
 use Rattle.frag_map.specs.Shape.{IsShape}
@@ -28,14 +28,13 @@ use Rattle.world_views.specs.Machine.{machine}
 use Rattle.world_views.specs.Quiet.{IsQuiet}
 use Rattle.calm_laws.specs.Calm.{is_calm_request}
 use Rattle.level_laws.specs.Laws.{HostsAreLevel}
-use Rattle.peace_laws.specs.Laws.{ArePlain, AreServedBy, ClosingsAreAnswered, GoOnBy, IsAnsweredBy, IsPeacefulLife}
+use Rattle.peace_laws.specs.Laws.{AreServedBy, ClosingsAreAnswered, GoOnBy}
 use Rattle.peace_laws.specs.Laws.{IsTold, PeacefulLivesArePlain}
-use Rattle.peace_laws.specs.Parts.{plain_part, plain_parts}
+use Rattle.peace_laws.specs.Parts.{plain_parts}
 use Rattle.peace_laws.specs.Peace.{is_closing_request}
 use Rattle.peace_laws.proofs.CalmGoes.{calm_rests, calm_stands}
 use Rattle.peace_laws.proofs.FirstAsked.{asked_at_quiet}
 use Rattle.peace_laws.proofs.NextSignals.{AllTaken}
-use Rattle.peace_laws.proofs.PlainEvents.{no_part}
 use Rattle.peace_laws.proofs.PlainLogs as plain_logs
 use Rattle.peace_laws.proofs.PlainQuiet.{plain_is_quiet, plain_right}
 use Rattle.peace_laws.proofs.Stands.{AreBelow, IsBelow, Rests, Stands, all_taken, lives_rest}
