@@ -9,6 +9,7 @@ pub mod ClosingSignals
 pub mod ClosingSteps
 pub mod CompletionTurns
 pub mod Completions
+pub mod CountsNobody
 pub mod FirstAsked
 pub mod LevelSignals
 pub mod MainNear
@@ -28,7 +29,6 @@ pub mod PlainAnswers
 pub mod PlainCalm
 pub mod PlainEvents
 pub mod PlainLogs
-pub mod PlainQuiet
 pub mod RestingHosts
 pub mod RunKept
 pub mod SeenNear
