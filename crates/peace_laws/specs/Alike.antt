@@ -1,10 +1,15 @@
 -- Hosts that are alike: one of a cluster in peace, and one of the plain machine, but for how far a closing has come and
 -- for epochs.
-use Rattle.std.specs.Prelude.{◌≡◌, ℕ, List, [], map, None, false}
+use Rattle.std.specs.Prelude.{◌≡◌, List, [], map, Option, None, Some, false}
 use Rattle.api_block.specs.Given.{in_given}
 use Rattle.api_views.specs.Laws.{calm_state}
 use Rattle.dih_node.specs.State as views
 use Rattle.frag_map.specs.Layout.{first_number}
+use Rattle.gcp_master.specs.declared.orders.Ended.{Ended}
+use Rattle.gcp_master.specs.declared.orders.Ended.TheVariants.{Global}
+use Rattle.gcp_master.specs.declared.phase.Phase.{Phase}
+use Rattle.gcp_master.specs.declared.phase.Phase.TheVariants.{Gathering, Preparing, Committing, Closing, Saving, Copying}
+use Rattle.gcp_master.specs.State.{MasterState}
 use Rattle.node_core.specs.declared.host.Host as plain
 use Rattle.node_core.specs.declared.host.Host.TheVariants as plain_host
 use Rattle.node_core.specs.Dih as plain_dih
@@ -24,13 +29,33 @@ pub record AreEpochsNear (one : views.DihState) (other : plain_dih.DihState) : T
   pub counted : map tx_of one.counted ≡ other.counted
   pub held : one.held ≡ []
 
+-- No member is asked how far it is, and no copying of rows waits for the end of a closing: of the one that is under way,
+-- of the last one, and of the next.
+abbrev pub IsPhaseNear : Phase → Type 0
+IsPhaseNear (Gathering known) = ⊥
+IsPhaseNear (Preparing run) = run.copy ≡ false
+IsPhaseNear (Committing run) = run.copy ≡ false
+IsPhaseNear (Closing run) = run.copy ≡ false
+IsPhaseNear (Saving run) = run.copy ≡ false
+IsPhaseNear (Copying run) = run.copy ≡ false
+IsPhaseNear phase = Unit {0}
+
+abbrev pub IsFrontNear : Option Ended → Type 0
+IsFrontNear (Some (Global epoch copy)) = copy ≡ false
+IsFrontNear front = Unit {0}
+
+pub record IsMasterNear (m : MasterState) : Type 0 where
+  pub phase : IsPhaseNear m.phase
+  pub front : IsFrontNear m.front
+  pub asked : m.asked.copy ≡ false
+
 -- parts are near, where the client was told these replies before
 abbrev pub ArePartsNear : Start → List ApiReply → Parts → plain.Host → Type 0
 ArePartsNear start given (Shell p) (plain_host.Shell a) =
     (p.client
     ≡ record (calm_state p.client.api start.shape.nodes None) { closing = p.client.closing; own = p.client.own })
     × ((p.client.api.view ≡ first start) × ((p.client.api.replies ≡ []) × (a ≡ in_given given p.client.api)))
-ArePartsNear start given (Main p) (plain_host.Main m) = Unit {0}
+ArePartsNear start given (Main p) (plain_host.Main m) = IsMasterNear p.master
 ArePartsNear start given (Tc p) (plain_host.Tc q) = (p.coordinator ≡ at_ease q.tc) × AreEpochsNear p.dih q.dih
 ArePartsNear start given (Ldm p) (plain_host.Ldm s) =
     (p.replica.lqh ≡ s) × ((s.layout.view ≡ first start) × (p.fence ≡ first_number))

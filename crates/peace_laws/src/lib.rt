@@ -1,3 +1,7 @@
 //! The laws of peaceful logs: a cluster that may fail does, while nothing fails, what one does in which
 //! nothing can, and closes epochs besides.
 #![tactic(auto)]
+
+mod steps;
+
+pub use steps::closings_step_near;
