@@ -1,10 +1,12 @@
 pub mod AskingSteps
 pub mod CloserEase
 pub mod ClosingSteps
+pub mod ListOn
+pub mod MainOn
 pub mod MasterAnswers
 pub mod MasterNear
-pub mod MemberOn
 pub mod MemberMoves
+pub mod MemberOn
 pub mod OrderLists
 pub mod Voices
 pub mod WayOn
