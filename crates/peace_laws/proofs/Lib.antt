@@ -1,3 +1,4 @@
+pub mod AnswerOn
 pub mod AskingSteps
 pub mod CloserEase
 pub mod ClosingSteps
