@@ -41,6 +41,7 @@ use Rattle.peace_laws.proofs.MasterAnswers.{Ends, Enters, answer_is, answered, c
 use Rattle.peace_laws.proofs.MasterAnswers.{none_counts, over_at}
 use Rattle.peace_laws.proofs.OrderLists.{IsListed, all_letters, list_goes, over_list, over_listed, reaches, report_stands}
 use Rattle.peace_laws.proofs.OrderLists.{stage_in, stage_list, stage_listed}
+use Rattle.peace_laws.proofs.StageBegins.{stage_begins}
 use Rattle.peace_laws.proofs.Voices.{all_are_in, counts_or_heard, counts_unheard, each_is_in, few_on, heard_now, heard_on}
 use Rattle.peace_laws.proofs.Voices.{member_in, voice_found}
 use Rattle.peace_laws.proofs.WayOn.{main_apart}
@@ -77,16 +78,6 @@ true_answer : (c : Course) (committed : Type 0) (said : EpochSignal) → is_answ
     → IsAnswer committed said → committed
 true_answer c committed (signal.GcpNodeFinish epoch) is fits = fits
 true_answer c committed said is fits = absurd (false≢true is)
-
-none_of : (member : Member) → voices_of [] member ≡ 0
-none_of member = refl
-
-some_blocks : (stage : Stage) → 1 ≤ blocks_of stage
-some_blocks Prepares = omega arith
-some_blocks Commits = omega arith
-some_blocks Closes = omega arith
-some_blocks Saves = omega arith
-some_blocks Copies = omega arith
 
 counted_sends : (s : MasterState) (voice : Voice) → master_sends (counted s voice) ≡ master_sends s
 unfolding master_sends
@@ -298,50 +289,15 @@ module _ (start : Start) (shape : IsShape start.shape) (c : Course) (first_is : 
           unfolding listing
           state_is = sym (told_same n _ refl) ∙ sym e.state
 
-          owed_now : (place : ℕ) → place < start.shape.nodes → (rows : Bool) → is_ordered e.next rows ≡ true
-              → IsOwed start c e.next after n place rows
-          owed_now place low rows ordered =
-              go
-              (list_goes start c shape after n 0 w.master.member n_listed here (order_to (order_of start c e.next) place rows)
-              (subst (IsIn (order_to (order_of start c e.next) place rows))
-              (sym (stage_list start c n n_master e.next refl refl)) (stage_in start c e.next place low rows ordered)))
-            where
-              go : IsIn (order_to (order_of start c e.next) place rows)
-                  (after.under_way main (host_for start (order_to (order_of start c e.next) place rows).to))
-                  ⊎ IsUnsent start after n (order_to (order_of start c e.next) place rows)
-                  → IsOwed start c e.next after n place rows
-              go (inl coming) =
-                  inr (inr (inl (subst (λ j. IsIn (order_to (order_of start c e.next) place rows) (after.under_way main j))
-                  (reaches start (order_of start c e.next) place rows low) coming)))
-              go (inr left) = inr (inr (inr left))
-
-          none_in : (b : Bool) → all_in (blocks_of e.next) n ≡ b → all_in (blocks_of e.next) n ≡ false
-          none_in false is = is
-          none_in true is =
-              absurd
-              (omega (
-                arith,
-                each_is_in start n w.master.view (blocks_of e.next) is 0 shape.nodes_some,
-                none_of (first_start 1),
-                some_blocks e.next,
-              ))
-
           committed_now : (is_later stage ≡ true) ⊎ (stage ≡ Commits) → (place : ℕ) → place < start.shape.nodes
               → CommittedAt c after place
           committed_now (inl beyond) place low = committed_on place (under.committed beyond place low)
           committed_now (inr is) place low = gone_on stage refl is all_true place low
 
           entered : IsAt start c e.next after n
-          entered = record {
-            phase_is = refl;
-            front = refl;
-            owed = owed_now;
-            heard = tt;
-            few = omega arith;
-            missing = none_in (all_in (blocks_of e.next) n) refl;
-            committed = λ beyond. committed_now (e.later beyond);
-            global = e.global;
-          }
+          entered =
+              stage_begins start shape c e.next after n n_master refl refl refl here
+              (λ beyond. committed_now (e.later beyond)) e.global
 
           enters_on : IsUnderWay start c after
           enters_on =

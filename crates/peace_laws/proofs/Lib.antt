@@ -9,5 +9,7 @@ pub mod MasterNear
 pub mod MemberMoves
 pub mod MemberOn
 pub mod OrderLists
+pub mod ShellOn
+pub mod StageBegins
 pub mod Voices
 pub mod WayOn
