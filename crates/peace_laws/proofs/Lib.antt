@@ -8,7 +8,9 @@ pub mod MasterAnswers
 pub mod MasterNear
 pub mod MemberMoves
 pub mod MemberOn
+pub mod NextEpochs
 pub mod OrderLists
+pub mod RequestOn
 pub mod ShellOn
 pub mod StageBegins
 pub mod Voices

@@ -36,7 +36,7 @@ pub told_same : (s : MasterState) (more : Bool) → s.front ≡ None → told_if
 told_same s true none = refl
 told_same s false none = ap (λ f. record s { front = f }) (sym none)
 
-main_row_is : (p : MainPart) (x : Signal) → block.GcpMaster ≡ x.to.block
+pub main_row_is : (p : MainPart) (x : Signal) → block.GcpMaster ≡ x.to.block
     → in_main (in_master p (master_row p.master x)) ≡ parts_row (Main p) x
 unfolding main_row
 main_row_is p x to = ap (λ b. row_at (Main p) b x) to ∙ row_is (Main p) x
