@@ -389,8 +389,11 @@ module _ (start : Start) (shape : IsShape start.shape) (c : Course) (first_is : 
             asked = w.master.asked;
             owed = w.master.owed;
           }))
-          (inl (stage, subst (IsAt start c stage after) (sym (ap (λ (r : Step MasterState). r.state) is))
-          (counted_on missing)))
+          (inl (
+            stage,
+            subst (IsAt start c stage after) (sym (ap (λ (r : Step MasterState). r.state) is))
+                (counted_on missing),
+          ))
           (λ one sent. absurd (subst (λ (r : Step MasterState). IsIn one r.effects.sends) is sent))
       by_all true all is = go (completes c q w.master.asked first_is stage under.global)
         where

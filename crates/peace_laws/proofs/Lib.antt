@@ -1,6 +1,7 @@
 pub mod AnswerOn
 pub mod AskingSteps
 pub mod CloserEase
+pub mod ClosingEnds
 pub mod ClosingSteps
 pub mod ListOn
 pub mod MainOn

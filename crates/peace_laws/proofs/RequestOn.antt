@@ -257,8 +257,11 @@ module _ (start : Start) (shape : IsShape start.shape) (c : Course) (next : next
       main_is = after_is;
       master = master;
       stage =
-          inl (Prepares, stage_begins start shape c Prepares after n master refl refl refl here
-          (λ beyond. absurd (false≢true beyond)) (λ saves. absurd (false≢true saves)));
+          inl (
+            Prepares,
+            stage_begins start shape c Prepares after n master refl refl refl here
+                (λ beyond. absurd (false≢true beyond)) (λ saves. absurd (false≢true saves)),
+          );
       shell = subst (ShellHas (IsClient start)) (sym shell_is) (waits (before.parts 0) asked.client).0;
       told = inl (
         subst (ShellHas (λ s. s.closing ≡ Some c.kind)) (sym shell_is) (waits (before.parts 0) asked.client).1,

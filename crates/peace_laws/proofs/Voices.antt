@@ -221,6 +221,15 @@ voices_many place (v ∷ voices) =
     (is_heard voices (voice_of place true)) (voices_of voices (first_start (place + 1)))
     (apart_hosts place v.from.0) (voices_many place voices))
 
+pub one_heard : (place : ℕ) (voices : List Voice) (rows : Bool) → is_heard voices (voice_of place rows) ≡ true
+    → 1 ≤ voices_of voices (first_start (place + 1))
+one_heard place voices false heard = omega (arith, voices_many place voices, ap one_if heard)
+one_heard place voices true heard = omega (arith, voices_many place voices, ap one_if heard)
+
+pub both_heard : (place : ℕ) (voices : List Voice) → is_heard voices (voice_of place false) ≡ true
+    → is_heard voices (voice_of place true) ≡ true → 2 ≤ voices_of voices (first_start (place + 1))
+both_heard place voices epochs rows = omega (arith, voices_many place voices, ap one_if epochs, ap one_if rows)
+
 -- all of a list
 all_of : {A : Type 0} (p : A → Bool) (xs : List A) → list_all p xs ≡ true → (x : A) → IsIn x xs → p x ≡ true
 all_of p [] is x none = absurd none
