@@ -1,23 +1,22 @@
 -- A closing goes on where the president's master takes the answer of a member: once all have answered, the next stage
 -- begins, or the closing has ended.
-use Rattle.std.proofs.Common.{◌≡◌, ◌≢◌, ◌≤◌, ◌<◌, ◌⊎◌, ◌∙◌, ◌++◌, inl, inr, ℕ, ◌+◌, ◌*◌, Bool, true, false, List, [], ◌∷◌, refl, sym, ap}
+use Rattle.std.proofs.Common.{◌≡◌, ◌<◌, ◌⊎◌, ◌∙◌, inl, inr, ℕ, ◌+◌, Bool, true, false, [], ◌∷◌, refl, sym, ap}
 use Rattle.std.proofs.Common.{subst, arith, length, nat_lt}
-use Rattle.std.proofs.lemmas.Bool.{and_from, and_parts, eq-eqb, false≢true, true≢false}
+use Rattle.std.proofs.lemmas.Bool.{and_parts, eq-eqb, false≢true, true≢false}
 use Rattle.std.proofs.lemmas.Bool.Decides.{nat_tests}
-use Rattle.std.specs.Prelude.{◌==◌, ◌&&◌, drop, nat_eq, None, Option, Some}
+use Rattle.std.specs.Prelude.{◌&&◌, drop, nat_eq, Some}
 use Rattle.api_views.specs.declared.closings.Closing.{Closing}
 use Rattle.api_views.specs.declared.closings.Closing.TheVariants.{Gcp, Micro}
 use Rattle.frag_map.specs.Replicas.{first_start}
 use Rattle.frag_map.specs.Shape.{IsShape}
 use Rattle.gcp_master.specs.declared.voices.Voice.{Voice}
-use Rattle.gcp_master.specs.Master.{epoch_table, master_row, master_table}
+use Rattle.gcp_master.specs.Master.{epoch_table, master_table}
 use Rattle.gcp_master.specs.Numbers.{is_first}
-use Rattle.gcp_master.specs.Sends.{front_sends, list_effects, listing, master_sends, phase_sends, told_if}
+use Rattle.gcp_master.specs.Sends.{front_sends, list_effects, listing, master_sends, told_if}
 use Rattle.gcp_master.specs.State.{MasterState, all_in, at_phase, counted, counts}
-use Rattle.gcp_master.specs.Voices.{is_heard, is_of, voices_of}
+use Rattle.gcp_master.specs.Voices.{is_heard, is_of}
 use Rattle.run_theory.specs.Lists.{Each, IsIn}
 use Rattle.run_theory.proofs.Pasts.{each_append, each_map}
-use Rattle.sig_core.specs.declared.member.Member.{Member}
 use Rattle.sig_core.specs.declared.outs.Outgoing.{Outgoing}
 use Rattle.sig_core.specs.declared.portion.TheConstants.{PORTION}
 use Rattle.sig_core.specs.declared.signal.Body.{Body}
@@ -31,18 +30,18 @@ use Rattle.world_core.specs.Start.{Start, made}
 use Rattle.calm_laws.specs.Alike.{first}
 use Rattle.peace_laws.specs.Closing.{Course, host_in, main}
 use Rattle.peace_laws.specs.Moments.{IsTaken, Moment, Takes}
-use Rattle.peace_laws.specs.UnderWay.{AnAnswer, Closes, Commits, CommittedAt, Copies, IsAnswer, IsAnswered, IsAt, IsLeft}
-use Rattle.peace_laws.specs.UnderWay.{IsLetter, IsMaster, IsOver, IsOwed, IsTrue, IsUnderWay, IsUnsent, Prepares, Saves, Stage}
-use Rattle.peace_laws.specs.UnderWay.{answer, answer_of, blocks_of, ended_by, ended_of, going_on, is_later, is_ordered, order_of}
+use Rattle.peace_laws.specs.UnderWay.{AnAnswer, Closes, Commits, CommittedAt, Copies, IsAnswer, IsAt}
+use Rattle.peace_laws.specs.UnderWay.{IsMaster, IsOver, IsOwed, IsTrue, IsUnderWay, Prepares, Saves, Stage}
+use Rattle.peace_laws.specs.UnderWay.{answer, answer_of, blocks_of, ended_by, ended_of, going_on, is_later, order_of}
 use Rattle.peace_laws.specs.UnderWay.{order_to, phase_of, report_of, voice_of}
 use Rattle.peace_laws.proofs.ListOn.{ReportGoes, report_goes, told_master}
 use Rattle.peace_laws.proofs.MainOn.{arrive, committed, main_goes, over_stays, sent_letter, stays_coming, t, told_same}
 use Rattle.peace_laws.proofs.MasterAnswers.{Ends, Enters, answer_is, answered, completed, completes, is_answer, is_gcp}
 use Rattle.peace_laws.proofs.MasterAnswers.{none_counts, over_at}
-use Rattle.peace_laws.proofs.OrderLists.{IsListed, all_letters, list_goes, over_list, over_listed, reaches, report_stands}
-use Rattle.peace_laws.proofs.OrderLists.{stage_in, stage_list, stage_listed}
+use Rattle.peace_laws.proofs.OrderLists.{IsListed, all_letters, over_list, over_listed, report_stands}
+use Rattle.peace_laws.proofs.OrderLists.{stage_listed}
 use Rattle.peace_laws.proofs.StageBegins.{stage_begins}
-use Rattle.peace_laws.proofs.Voices.{all_are_in, counts_or_heard, counts_unheard, each_is_in, few_on, heard_now, heard_on}
+use Rattle.peace_laws.proofs.Voices.{counts_or_heard, counts_unheard, each_is_in, few_on, heard_now, heard_on}
 use Rattle.peace_laws.proofs.Voices.{member_in, voice_found}
 use Rattle.peace_laws.proofs.WayOn.{main_apart}
 

@@ -1,10 +1,10 @@
 -- A closing that was asked for has ended once nothing is under way any more.
-use Rattle.std.proofs.Common.{◌≡◌, ◌≤◌, ◌<◌, ◌⊎◌, ◌∙◌, inl, inr, ℕ, ◌+◌, Bool, true, false, List, [], ◌∷◌, refl, sym, ap, subst, arith}
+use Rattle.std.proofs.Common.{◌≡◌, ◌≤◌, ◌<◌, ◌⊎◌, ◌∙◌, inl, inr, ℕ, ◌+◌, Bool, true, false, List, [], ◌∷◌, refl, sym, subst}
 use Rattle.std.proofs.lemmas.Bool.{false≢true}
 use Rattle.std.specs.Prelude.{None, Some}
 use Rattle.frag_map.specs.Replicas.{first_start}
 use Rattle.frag_map.specs.Shape.{IsShape}
-use Rattle.gcp_master.specs.State.{MasterState, all_in}
+use Rattle.gcp_master.specs.State.{MasterState}
 use Rattle.gcp_master.specs.Voices.{is_heard, voices_of}
 use Rattle.node_views.specs.declared.parts.Parts.{Parts}
 use Rattle.node_views.specs.declared.parts.Parts.TheVariants.{Shell, Main, Tc, Ldm}
@@ -14,12 +14,12 @@ use Rattle.sig_core.specs.Place.{checkpoints}
 use Rattle.sig_core.specs.Step.{to_place}
 use Rattle.api_views.specs.Closings.{ask_of}
 use Rattle.world_core.specs.Start.{Start}
-use Rattle.peace_laws.specs.Closing.{ClosingsEnd, Course, EpochsRest, HasRows, IsAskedFor, IsEnded, MainRests, ShellWaits, host_in}
+use Rattle.peace_laws.specs.Closing.{ClosingsEnd, Course, EpochsRest, IsEnded, MainRests, ShellWaits, host_in}
 use Rattle.peace_laws.specs.Closing.{main, next_of}
-use Rattle.peace_laws.specs.Moments.{GoesOn, IsStill, Moment, Takes, newest}
-use Rattle.peace_laws.specs.UnderWay.{AReport, AnAnswer, AnOrder, Closes, Commits, Copies, GoingOn, HasCommitted, HasMember}
-use Rattle.peace_laws.specs.UnderWay.{IsAnswered, IsAt, IsClient, IsLeft, IsLetter, IsMaster, IsOver, IsOwed, IsUnderWay, Prepares}
-use Rattle.peace_laws.specs.UnderWay.{Saves, ShellHas, Stage, blocks_of, is_ordered, report_of, voice_of}
+use Rattle.peace_laws.specs.Moments.{GoesOn, IsStill, Moment, Takes}
+use Rattle.peace_laws.specs.UnderWay.{AnAnswer, Closes, Commits, Copies, GoingOn, HasCommitted, HasMember}
+use Rattle.peace_laws.specs.UnderWay.{IsAnswered, IsAt, IsClient, IsLeft, IsLetter, IsOver, IsOwed, IsUnderWay, Prepares}
+use Rattle.peace_laws.specs.UnderWay.{Saves, ShellHas, Stage, blocks_of, report_of, voice_of}
 use Rattle.peace_laws.proofs.AnswerOn as answer
 use Rattle.peace_laws.proofs.ListOn as list
 use Rattle.peace_laws.proofs.MemberOn.{member_on}

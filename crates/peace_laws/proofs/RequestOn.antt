@@ -1,23 +1,22 @@
 -- A closing begins where the president's master takes the request for it.
-use Rattle.std.proofs.Common.{◌≡◌, ◌≢◌, ◌<◌, ◌⊎◌, ◌∙◌, ◌++◌, inl, inr, ℕ, ◌+◌, Bool, true, false, List, [], ◌∷◌, refl, sym, ap, subst}
+use Rattle.std.proofs.Common.{◌≡◌, ◌⊎◌, ◌∙◌, ◌++◌, inl, inr, ℕ, Bool, true, false, List, [], ◌∷◌, refl, sym, ap, subst}
 use Rattle.std.proofs.Common.{append-nil, subst₂}
 use Rattle.std.proofs.lemmas.Bool.{false≢true}
 use Rattle.std.specs.Prelude.{None, Option, Some}
 use Rattle.api_views.specs.declared.closings.Closing.{Closing}
 use Rattle.api_views.specs.declared.closings.Closing.TheVariants.{Gcp, Micro}
 use Rattle.api_views.specs.Closings.{ask_of}
-use Rattle.dih_node.specs.State.{DihState}
 use Rattle.frag_map.specs.Replicas.{first_start}
 use Rattle.frag_map.specs.Shape.{IsShape}
 use Rattle.gcp_master.specs.declared.phase.Phase.TheVariants as phase
 use Rattle.gcp_master.specs.declared.voices.Voice.{Voice}
 use Rattle.gcp_master.specs.Begin.{begin_global, begin_micro, begins, begins_if, begun}
 use Rattle.gcp_master.specs.Master.{epoch_table, master_row, master_table}
-use Rattle.gcp_master.specs.Requests.{asked_by, asked_row, global_asked, micro_asked}
+use Rattle.gcp_master.specs.Requests.{asked_row, global_asked}
 use Rattle.gcp_master.specs.Sends.{list_effects, listing}
 use Rattle.gcp_master.specs.State.{MasterState}
 use Rattle.node_views.specs.Blocks.{in_main, parts_row}
-use Rattle.node_views.specs.Parts.{in_master, main_row}
+use Rattle.node_views.specs.Parts.{in_master}
 use Rattle.node_views.specs.declared.main_part.MainPart.{MainPart}
 use Rattle.node_views.specs.declared.parts.Parts.{Parts}
 use Rattle.node_views.specs.declared.parts.Parts.TheVariants.{Shell, Main, Tc, Ldm}
@@ -25,20 +24,17 @@ use Rattle.run_theory.specs.Lists.{Each, IsIn}
 use Rattle.sig_core.specs.declared.member.Member.{Member}
 use Rattle.sig_core.specs.declared.outs.Outgoing.{Outgoing}
 use Rattle.sig_core.specs.declared.place.Place.{Place}
-use Rattle.sig_core.specs.declared.reply.ApiReply.{ApiReply}
-use Rattle.sig_core.specs.declared.signal.Body.{Body}
-use Rattle.sig_core.specs.declared.signal.Body.TheVariants.{Epoch}
 use Rattle.sig_core.specs.declared.signal.epoch.EpochSignal.TheVariants.{GcpReq, MicroReq}
 use Rattle.sig_core.specs.Place.{checkpoints}
 use Rattle.sig_core.specs.Step.{Step, to_place}
 use Rattle.world_core.specs.Hosts.{host_for, member_at}
 use Rattle.world_core.specs.Start.{Start, made}
 use Rattle.calm_laws.specs.Alike.{first}
-use Rattle.peace_laws.specs.Closing.{AllRest, ClientWaits, Course, EpochsRest, HasRows, IsAskedFor, MainRests, MasterRests}
-use Rattle.peace_laws.specs.Closing.{RestsIn, ShellWaits, host_in, main, next_of}
-use Rattle.peace_laws.specs.Moments.{IsTaken, Moment, Takes, behind, told_by}
-use Rattle.peace_laws.specs.UnderWay.{GoingOn, HasMember, IsAt, IsClient, IsLetter, IsMaster, IsUnderWay, IsUntold, Prepares, ShellHas}
-use Rattle.peace_laws.specs.UnderWay.{Stage, phase_of, run_of}
+use Rattle.peace_laws.specs.Closing.{Course, EpochsRest, HasRows, IsAskedFor, MainRests, MasterRests}
+use Rattle.peace_laws.specs.Closing.{ShellWaits, host_in, main, next_of}
+use Rattle.peace_laws.specs.Moments.{Moment, Takes, behind, told_by}
+use Rattle.peace_laws.specs.UnderWay.{GoingOn, HasMember, IsClient, IsLetter, IsMaster, IsUnderWay, Prepares, ShellHas}
+use Rattle.peace_laws.specs.UnderWay.{run_of}
 use Rattle.peace_laws.proofs.MainOn.{main_row_is, told_same}
 use Rattle.peace_laws.proofs.OrderLists.{IsListed, IsSent, all_letters, in_back, stage_listed}
 use Rattle.peace_laws.proofs.StageBegins.{stage_begins}

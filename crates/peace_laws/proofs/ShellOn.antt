@@ -1,14 +1,12 @@
 -- A closing goes on where the client's side takes the report of its end: the client is told, unless it was before.
-use Rattle.std.proofs.Common.{◌≡◌, ◌≢◌, ◌<◌, ◌⊎◌, ◌∙◌, ◌++◌, inl, inr, ℕ, Bool, true, false, List, [], ◌∷◌, refl, sym, ap, subst, append-nil}
+use Rattle.std.proofs.Common.{◌≡◌, ◌≢◌, ◌⊎◌, ◌∙◌, ◌++◌, inl, inr, ℕ, Bool, true, false, List, [], ◌∷◌, refl, sym, ap, subst, append-nil}
 use Rattle.std.proofs.lemmas.Bool.{true≢false}
-use Rattle.std.specs.Prelude.{None, Option, Some}
-use Rattle.api_block.specs.State.{with_replies}
+use Rattle.std.specs.Prelude.{None, Some}
 use Rattle.api_views.specs.declared.closings.Closing.{Closing}
 use Rattle.api_views.specs.declared.closings.Closing.TheVariants.{Gcp, Micro}
 use Rattle.api_views.specs.Client.{client_row, client_table}
 use Rattle.api_views.specs.Closings.{closed_if, closed_reply, closed_row, is_asked}
-use Rattle.api_views.specs.State.{ClientState, with_api}
-use Rattle.frag_map.specs.Shape.{IsShape}
+use Rattle.api_views.specs.State.{ClientState}
 use Rattle.gcp_master.specs.State.{MasterState}
 use Rattle.gcp_master.specs.declared.voices.Voice.{Voice}
 use Rattle.node_views.specs.Blocks.{in_shell, parts_row}
@@ -16,25 +14,22 @@ use Rattle.node_views.specs.Parts.{in_client, shell_row}
 use Rattle.node_views.specs.declared.parts.Parts.{Parts}
 use Rattle.node_views.specs.declared.parts.Parts.TheVariants.{Shell, Main, Tc, Ldm}
 use Rattle.node_views.specs.declared.shell_part.ShellPart.{ShellPart}
-use Rattle.run_theory.specs.Lists.{Each, IsIn}
+use Rattle.run_theory.specs.Lists.{IsIn}
 use Rattle.run_theory.proofs.Pasts.{each_map}
 use Rattle.sig_core.specs.declared.outs.Outgoing.{Outgoing}
 use Rattle.sig_core.specs.declared.place.BlockId.TheVariants as block
 use Rattle.sig_core.specs.declared.place.Place.{Place}
 use Rattle.sig_core.specs.declared.reply.ApiReply.{ApiReply}
-use Rattle.sig_core.specs.declared.signal.Body.{Body}
 use Rattle.sig_core.specs.declared.signal.Body.TheVariants.{Epoch}
 use Rattle.sig_core.specs.declared.signal.Signal.{Signal}
-use Rattle.sig_core.specs.Place.{client}
 use Rattle.sig_core.specs.Step.{Step, stay}
-use Rattle.world_core.specs.Hosts.{host_for}
 use Rattle.world_core.specs.Start.{Start}
 use Rattle.calm_laws.specs.Alike.{first}
 use Rattle.peace_laws.specs.Closing.{Course, HasRows, host_in, main}
 use Rattle.peace_laws.specs.Moments.{IsTaken, Moment, Takes, behind, told_by}
 use Rattle.peace_laws.specs.UnderWay.{AReport, Commits, CommittedAt, HasCommitted, HasMember, IsAnswered, IsAt, IsClient, IsLeft}
-use Rattle.peace_laws.specs.UnderWay.{IsLetter, IsOver, IsOwed, IsTrue, IsUnderWay, IsUntold, ShellHas, Stage, answer, answer_of}
-use Rattle.peace_laws.specs.UnderWay.{going_on, is_ordered, order_of, order_to, report_by, report_of}
+use Rattle.peace_laws.specs.UnderWay.{IsOver, IsOwed, IsTrue, IsUnderWay, ShellHas, Stage}
+use Rattle.peace_laws.specs.UnderWay.{report_by, report_of}
 use Rattle.peace_laws.proofs.ClosingSteps.{row_at, row_is, seen}
 use Rattle.peace_laws.proofs.WayOn.{committed_on, letters_on, shell_apart, stays_true, stepped}
 

@@ -1,11 +1,11 @@
 -- A stage of a closing begins: each order is under way to its member, or left to send, and nobody has answered.
-use Rattle.std.proofs.Common.{◌≡◌, ◌≤◌, ◌<◌, ◌⊎◌, ◌∙◌, inl, inr, ℕ, ◌+◌, Bool, true, false, List, [], ◌∷◌, refl, sym, ap, subst, arith}
+use Rattle.std.proofs.Common.{◌≡◌, ◌≤◌, ◌<◌, ◌⊎◌, inl, inr, ℕ, ◌+◌, Bool, true, false, List, [], refl, sym, ap, subst, arith}
 use Rattle.std.specs.Prelude.{None, length}
 use Rattle.api_views.specs.declared.closings.Closing.TheVariants.{Gcp}
 use Rattle.frag_map.specs.Replicas.{first_start}
 use Rattle.frag_map.specs.Shape.{IsShape}
 use Rattle.gcp_master.specs.declared.voices.Voice.{Voice}
-use Rattle.gcp_master.specs.Sends.{list_effects, master_sends}
+use Rattle.gcp_master.specs.Sends.{list_effects}
 use Rattle.gcp_master.specs.State.{MasterState, all_in}
 use Rattle.gcp_master.specs.Voices.{voices_of}
 use Rattle.run_theory.specs.Lists.{Each, IsIn}
@@ -16,7 +16,7 @@ use Rattle.peace_laws.specs.Closing.{Course, main}
 use Rattle.peace_laws.specs.Moments.{Moment}
 use Rattle.peace_laws.specs.UnderWay.{Closes, Commits, CommittedAt, Copies, IsAt, IsMaster, IsOwed, IsTrue, IsUnsent, Prepares}
 use Rattle.peace_laws.specs.UnderWay.{Saves, Stage, blocks_of, heard_count, is_later, is_ordered, is_saving, order_of, order_to, phase_of}
-use Rattle.peace_laws.proofs.OrderLists.{IsListed, list_goes, reaches, stage_in, stage_list, stage_listed}
+use Rattle.peace_laws.proofs.OrderLists.{list_goes, reaches, stage_in, stage_list, stage_listed}
 use Rattle.peace_laws.proofs.Voices.{each_is_in}
 
 some_blocks : (stage : Stage) → 1 ≤ blocks_of stage
