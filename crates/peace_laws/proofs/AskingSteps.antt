@@ -1,6 +1,6 @@
 -- The client's side is asked for a closing, and asks a master for it.
-use Rattle.std.proofs.Common.{◌≡◌, ◌≤◌, ◌∙◌, ◌++◌, ℕ, zero, suc, true, false, List, [], ◌∷◌, refl, sym, ap, subst₂}
-use Rattle.std.proofs.Common.{arith}
+use Rattle.std.proofs.Common.{◌≡◌, ◌≤◌, ◌∙◌, ◌++◌, ℕ, zero, suc, true, false, List, [], ◌∷◌, refl, sym, ap, subst}
+use Rattle.std.proofs.Common.{subst₂, arith}
 use Rattle.std.proofs.lemmas.Bool.{false≢true, or_right}
 use Rattle.std.proofs.lemmas.List.Folds.{list_any-append}
 use Rattle.std.specs.List.{list_any}
@@ -12,7 +12,7 @@ use Rattle.api_views.specs.declared.closings.Closing.TheVariants.{Gcp, Micro}
 use Rattle.api_views.specs.declared.stops.HostStop.{HostStop}
 use Rattle.api_views.specs.Client.{asked_row, client_table, command_if, command_row}
 use Rattle.api_views.specs.Closings.{ask_at, asked_if, asking, closing_row}
-use Rattle.api_views.specs.Members.{president}
+use Rattle.api_views.specs.Members.{first_node, president}
 use Rattle.api_views.specs.State.{ClientState, left}
 use Rattle.api_views.specs.Stops.{has_stopped, is_down, still_runs}
 use Rattle.frag_map.specs.Layout.{members}
@@ -30,6 +30,7 @@ use Rattle.node_views.specs.declared.parts.Parts.TheVariants.{Shell, Main, Tc, L
 use Rattle.node_views.specs.declared.shell_part.ShellPart.{ShellPart}
 use Rattle.node_views.specs.declared.standing.Standing.{Standing}
 use Rattle.run_theory.specs.Lists.{Each}
+use Rattle.sig_core.specs.declared.member.Member.{Member}
 use Rattle.sig_core.specs.declared.place.BlockId.{BlockId}
 use Rattle.sig_core.specs.declared.place.BlockId.TheVariants as block
 use Rattle.sig_core.specs.declared.reply.ApiReply.{ApiReply}
@@ -59,6 +60,20 @@ some_runs zero some = absurd (omega (arith, some))
 some_runs (suc n) some =
     list_any-append (still_runs []) (members n) (record { node = n + 1; start = 0 } ∷ [])
     ∙ or_right (list_any (still_runs []) (members n)) _ refl
+
+-- the president of the first view is of a node, if it has one
+abbrev IsNodeOf : Option ℕ → Type 0
+IsNodeOf None = Unit {0}
+IsNodeOf (Some node) = 1 ≤ node
+
+first_of : (first : List Member) (node : ℕ) → IsNodeOf (first_node first)
+    → IsNodeOf (first_node (first ++ record { node = node + 1; start = 0 } ∷ []))
+first_of [] node some = omega arith
+first_of (one ∷ more) node some = some
+
+first_president : (n : ℕ) → IsNodeOf (first_node (members n))
+first_president zero = tt
+first_president (suc n) = first_of (members n) n (first_president n)
 
 -- the closing that a request asks for
 abbrev pub closing_of : ApiReq → Closing
@@ -115,11 +130,17 @@ module _ (start : Start) (given : List ApiReply) (shape : IsShape start.shape) (
   abbrev shell : host.Host
   shell = record { standing = standing; parts = Shell p }
 
-  sends_request : (closing : Closing) (node : Option ℕ)
+  sends_request : (closing : Closing) (node : Option ℕ) → IsNodeOf node
       → Each (IsOfClosing 0) (ask_at closing node) × Each IsForMaster (ask_at closing node)
-  sends_request closing None = (tt, tt)
-  sends_request Gcp (Some node) = ((refl, tt), (refl, tt))
-  sends_request Micro (Some node) = ((refl, tt), (refl, tt))
+  sends_request closing None some = (tt, tt)
+  sends_request Gcp (Some node) some = ((refl, tt), ((refl, some), tt))
+  sends_request Micro (Some node) some = ((refl, tt), ((refl, some), tt))
+
+  requested : (closing : Closing)
+      → Each (IsOfClosing 0) (asking closing p.client.api.view) × Each IsForMaster (asking closing p.client.api.view)
+  requested closing =
+      sends_request closing (president p.client.api.view)
+      (subst (λ (view : View). IsNodeOf (president view)) (sym near.1.0) (first_president start.shape.nodes))
 
   asks_near : (closing : Closing)
       → AskedNear start given (with_parts shell (in_shell (in_client p (asks_for p.client closing))))
@@ -144,8 +165,8 @@ module _ (start : Start) (given : List ApiReply) (shape : IsShape start.shape) (
     plain_marks = refl;
     none = ap plain_replies near.1.1.0;
     marks = refl;
-    sends = (sends_request closing (president p.client.api.view)).0;
-    masters = (sends_request closing (president p.client.api.view)).1;
+    sends = (requested closing).0;
+    masters = (requested closing).1;
   }
 
   asked_near : (x : Signal) → x.view ≡ first start → (body : Body) → asks_by block.Api body ≡ true
