@@ -4,6 +4,7 @@ pub mod CloseNone
 pub mod CloseRows
 pub mod ClosersHear
 pub mod ClosersOthers
+pub mod Closings
 pub mod Counted
 pub mod CountedHere
 pub mod CountedOthers

@@ -1,12 +1,15 @@
 -- Peaceful logs: a cluster that closes epochs, and may fail but doesn't, serves as the plain machine does, and closes.
-use Rattle.std.specs.Prelude.{◌≡◌, ◌≤◌, ℕ, true, false, List, [], ◌∷◌, ◌++◌}
+use Rattle.std.specs.Prelude.{◌≡◌, ◌≤◌, ℕ, Bool, true, false, List, [], ◌∷◌, ◌++◌}
+use Rattle.std.specs.List.{list_any}
 use Rattle.frag_map.specs.Shape.{IsShape}
 use Rattle.node_core.specs.Replies.{replies_of}
-use Rattle.run_theory.specs.Lists.{IsPast}
+use Rattle.run_theory.specs.Lists.{Each, IsPast}
 use Rattle.run_theory.specs.Runs.{AreLogs, IsWithin}
-use Rattle.sig_core.specs.declared.mark.Mark.TheVariants.{Reported}
+use Rattle.sig_core.specs.declared.mark.Mark.{Mark}
+use Rattle.sig_core.specs.declared.mark.Mark.TheVariants.{Reported, Stopped}
 use Rattle.sig_core.specs.declared.member.TxId.{TxId}
 use Rattle.sig_core.specs.declared.outcome.Outcome.TheVariants.{Committed}
+use Rattle.sig_core.specs.declared.outcome.StopCause.TheVariants.{Clock}
 use Rattle.sig_core.specs.declared.reply.ApiReply.TheVariants.{Closed, Durable}
 use Rattle.sig_core.specs.declared.request.ApiReq.{ApiReq}
 use Rattle.sig_core.specs.declared.request.ApiReq.TheVariants.{Gcp, Micro}
@@ -17,7 +20,7 @@ use Rattle.world_core.specs.Quiet as plain_quiet
 use Rattle.world_core.specs.Requests as plain_requests
 use Rattle.world_core.specs.Start.{Start}
 use Rattle.world_core.specs.Steps.{HostStep}
-use Rattle.world_views.specs.Machine.{has_stopped, machine}
+use Rattle.world_views.specs.Machine.{machine}
 use Rattle.world_views.specs.Quiet.{IsQuiet}
 use Rattle.world_views.specs.Requests.{requests}
 use Rattle.world_views.specs.Right.{replies_in}
@@ -25,7 +28,12 @@ use Rattle.calm_laws.specs.Resting.{NoneGivesUp}
 use Rattle.peace_laws.specs.Parts.{levelled_replies, plain_parts}
 use Rattle.peace_laws.specs.Peace.{ArePeaceful, is_closing_request, is_peaceful_request}
 
--- The logs went on by one request, which stops nobody and cuts nobody off, and no host stopped.
+-- a host stopped since its numbers are used up
+abbrev pub is_spent : Mark → Bool
+is_spent (Stopped Clock) = true
+is_spent mark = false
+
+-- The logs went on by one request, which stops nobody and cuts nobody off, and no host's numbers are used up.
 pub record GoOnBy (start : Start) (request : ApiReq) (logs more : ℕ → List HostStep) : Type 0 where
   pub past : (h : ℕ) → IsPast (logs h) (more h)
   pub right : AreLogs (machine start) more
@@ -33,7 +41,7 @@ pub record GoOnBy (start : Start) (request : ApiReq) (logs more : ℕ → List H
   pub asked : requests (more 0) ≡ requests (logs 0) ++ request ∷ []
   pub peaceful : is_peaceful_request request ≡ true
   pub none : NoneGivesUp more
-  pub goes_on : (h : ℕ) → has_stopped (more h) ≡ false
+  pub unspent : (h : ℕ) → Each (λ e. list_any is_spent e.step.marks ≡ false) (more h)
 
 -- The logs came about by these requests, the newest first, each asked when nothing was under way.
 abbrev pub AreServedBy : Start → List ApiReq → (ℕ → List HostStep) → Type 0
@@ -74,7 +82,7 @@ IsTold Gcp start was now epoch = replies_in start 0 (now 0) ≡ replies_in start
 IsTold Micro start was now epoch = replies_in start 0 (now 0) ≡ replies_in start 0 (was 0) ++ Closed epoch ∷ []
 IsTold request start was now epoch = ⊥
 
-pub record IsClosed (start : Start) (request : ApiReq) (was now : ℕ → List HostStep) : Type 0 where
+pub record IsAnsweredBy (start : Start) (request : ApiReq) (was now : ℕ → List HostStep) : Type 0 where
   pub epoch : ℕ
   pub told : IsTold request start was now epoch
   pub covers : (tx : TxId) (other : ℕ) → IsMarked (Reported tx (Committed other)) (was 0) → other ≤ epoch
@@ -84,4 +92,4 @@ abbrev pub ClosingsAreAnswered : Type 0
 ClosingsAreAnswered =
     (start : Start) (earlier : List ApiReq) (request : ApiReq) (was now : ℕ → List HostStep)
     → IsPeacefulLife start earlier was → IsQuiet start was → is_closing_request request ≡ true
-    → GoOnBy start request was now → IsQuiet start now → IsClosed start request was now
+    → GoOnBy start request was now → IsQuiet start now → IsAnsweredBy start request was now

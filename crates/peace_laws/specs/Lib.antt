@@ -4,5 +4,6 @@ pub mod Laws
 pub mod Moments
 pub mod Parts
 pub mod Peace
+pub mod Rest
 pub mod Steps
 pub mod UnderWay
