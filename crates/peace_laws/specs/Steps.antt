@@ -1,5 +1,5 @@
 -- What a host does at something of a closing, beside its plain one.
-use Rattle.std.specs.Prelude.{◌≡◌, ℕ, zero, suc, Bool, true, false, List, [], ◌++◌}
+use Rattle.std.specs.Prelude.{◌≡◌, ◌≤◌, ℕ, zero, suc, Bool, true, false, List, [], ◌++◌}
 use Rattle.frag_map.specs.Shape.{IsShape}
 use Rattle.node_core.specs.declared.host.Host as plain
 use Rattle.node_core.specs.Row.{row}
@@ -35,14 +35,14 @@ pub record ComesForClosing (start : Start) (h : ℕ) (x : Signal) : Type 0 where
   pub view : x.view ≡ first start
   pub client : asks_master x.body ≡ true → x.member.node ≡ 0
 
--- Whom host h tells of it: a main part the blocks that take something of closings, and another host a master alone. The
--- client's side alone asks for one.
+-- Whom host h tells of it: a main part the blocks that take something of closings, and another host a master alone, of
+-- a node where it was told by one. The client's side alone asks for a closing.
 abbrev pub IsOfClosing : ℕ → Outgoing → Type 0
 IsOfClosing zero sent = is_for_closing sent.to.block sent.body ≡ true
 IsOfClosing (suc h) sent = (is_for_closing sent.to.block sent.body ≡ true) × (asks_master sent.body ≡ false)
 
 abbrev pub IsForMaster : Outgoing → Type 0
-IsForMaster sent = sent.to.block ≡ GcpMaster
+IsForMaster sent = (sent.to.block ≡ GcpMaster) × (1 ≤ sent.to.node)
 
 -- Host h does something of a closing. Its plain one stays as it is, but for the epoch that it gives.
 pub record StepsNear (start : Start) (h : ℕ) (given : List ApiReply) (s : host.Host) (other : plain.Host) (x : Signal)
@@ -53,7 +53,7 @@ pub record StepsNear (start : Start) (h : ℕ) (given : List ApiReply) (s : host
     pub same : host_at start.epoch inner ≡ host_at start.epoch other
     pub marks : is_beating h ≡ false → (step_by h s x).effects.marks ≡ []
     pub sends : Each (IsOfClosing h) (step_by h s x).effects.sends
-    pub masters : is_beating h ≡ false → Each IsForMaster (step_by h s x).effects.sends
+    pub masters : is_beating h ≡ false → 1 ≤ x.member.node → Each IsForMaster (step_by h s x).effects.sends
 
 -- so it is of each host that goes on
 abbrev pub ClosingsStepNear : Type 0
