@@ -93,15 +93,18 @@ pub record IsPlainKind (of : BlockId) (body : Body) : Type 0 where
   pub own : is_own_work body ≡ true → is_request body ≡ true
   pub client : is_vouched body ≡ true → is_client of ≡ true
 
+-- what is taken in calm closes no link
+pub calm_links : (h : ℕ) (x : Signal) → is_calm h x ≡ true → (cause : StopCause) → x.body ≡ Host (Closed cause) → ⊥
+calm_links h x calm cause is =
+    false≢true (sym (no_closing x.to.block cause) ∙ ap (is_for x.to.block) (sym is) ∙ calm_body h x calm)
+
 -- so it is in calm,
 pub calm_kind : (h : ℕ) (x : Signal) → is_beating h ≡ false → is_calm h x ≡ true → IsPlainKind x.to.block x.body
 calm_kind h x takes calm =
     record {
       views = no_views h x.to.block takes (calm_block h x calm);
       apart = calm_apart h x calm;
-      links = λ cause is.
-          false≢true
-          (sym (no_closing x.to.block cause) ∙ ap (is_for x.to.block) (sym is) ∙ calm_body h x calm);
+      links = calm_links h x calm;
       own = own_request x.to.block x.body (calm_body h x calm);
       client = vouched_client x.to.block x.body (calm_body h x calm);
     }

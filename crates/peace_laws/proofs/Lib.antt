@@ -1,11 +1,13 @@
 pub mod Arrivals
 pub mod AskingSteps
+pub mod CalmNear
 pub mod CloserEase
 pub mod ClosingSignals
 pub mod ClosingSteps
 pub mod CompletionTurns
 pub mod Completions
 pub mod LevelSignals
+pub mod MainNear
 pub mod MasterNear
 pub mod MemberMoves
 pub mod Mirrored
@@ -13,10 +15,12 @@ pub mod NearHosts
 pub mod NoneCompletes
 pub mod NoneCounted
 pub mod OrderLists
+pub mod PeaceNext
 pub mod PlainAnswers
 pub mod PlainCalm
 pub mod PlainEvents
 pub mod RestingHosts
+pub mod RunKept
 pub mod SeenNear
 pub mod SentNear
 pub mod Voices

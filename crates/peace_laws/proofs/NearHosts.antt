@@ -33,7 +33,7 @@ abbrev pub has_main : plain.Host → Bool
 has_main (plain_host.Main m) = true
 has_main s = false
 
-main_stays : (s : plain.Host) (x : Signal) → has_main (row s x).state ≡ has_main s
+pub main_stays : (s : plain.Host) (x : Signal) → has_main (row s x).state ≡ has_main s
 unfolding row
 main_stays (plain_host.Shell s) x = refl
 main_stays (plain_host.Main m) x = refl

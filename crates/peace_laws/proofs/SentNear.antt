@@ -1,8 +1,9 @@
 -- A step sends to the hosts that are no main parts what its plain one does, but for epochs.
-use Rattle.std.proofs.Common.{eqb-true, ne_eqb, ◌≡◌, ◌≤◌, ℕ, List, [], ◌∷◌, ◌++◌, Bool, true, false, refl, ap, sym, ◌∙◌}
+use Rattle.std.proofs.Common.{eqb-true, ne_eqb, ◌≡◌, ◌≤◌, ◌+◌, arith, ℕ, List, [], ◌∷◌, ◌++◌, Bool, true, false, refl, ap, sym, ◌∙◌}
 use Rattle.std.specs.Prelude.{if◌then◌else◌, ◌==◌, map}
 use Rattle.std.proofs.lemmas.Bool.{true≢false}
 use Rattle.node_views.specs.declared.standing.Standing.{Standing}
+use Rattle.run_theory.proofs.Pasts.{each_map}
 use Rattle.run_theory.proofs.Runs.{if_false}
 use Rattle.run_theory.specs.Links.{put, sent}
 use Rattle.run_theory.specs.Lists.{Each}
@@ -10,7 +11,9 @@ use Rattle.sig_core.specs.declared.outs.Outgoing.{Outgoing}
 use Rattle.sig_core.specs.declared.place.BlockId.{BlockId}
 use Rattle.sig_core.specs.declared.place.BlockId.TheVariants.{GcpMaster, Qmgr}
 use Rattle.sig_core.specs.declared.place.Place.{Place}
+use Rattle.sig_core.specs.declared.signal.Body.{Body}
 use Rattle.sig_core.specs.Part.{part_of}
+use Rattle.sig_core.specs.Place.{membership}
 use Rattle.frag_map.specs.Layout.{first_view}
 use Rattle.world_core.specs.Hosts.{first_membership, host_by, host_for, member_of, receiver}
 use Rattle.world_core.specs.Machine as plain
@@ -24,8 +27,9 @@ use Rattle.world_views.specs.Machine.{after, machine, sender, sent_count, step_a
 use Rattle.world_views.specs.Sending.{Routed, addressed, all_addressed, count_routed, is_kept_back, routed, routed_all, routed_if}
 use Rattle.calm_laws.specs.Alike.{IsAtEase, first}
 use Rattle.calm_laws.specs.Plain.{is_beating}
-use Rattle.calm_laws.specs.Steps.{IsPlainSend}
+use Rattle.calm_laws.specs.Steps.{IsPlainSend, besides}
 use Rattle.calm_laws.proofs.Reached.{node_beats}
+use Rattle.calm_laws.proofs.Rounds.{each_besides}
 use Rattle.calm_laws.proofs.SentAlike.{IsAside, here, plainly, routed_alike}
 use Rattle.level_laws.specs.Levels.{send_at, signal_at}
 use Rattle.peace_laws.specs.Steps.{IsForMaster}
@@ -49,21 +53,35 @@ master_beats start to is some =
     (master_part to.block is)
     ∙ node_beats start (record { node = to.node; block = Qmgr }) refl some
 
--- so what is for masters goes aside
+-- What is for main parts goes aside: what is for masters, and the rounds that are told besides.
 module _ (start : Start) (h : ℕ) (standing : Standing) (ease : IsAtEase start standing) where
+  -- it goes to a main part, or to nobody
+  abbrev GoesAside : Outgoing → Type 0
+  GoesAside sent = is_beating (host_for start sent.to) ≡ true
+
   aside_if : (b : Bool) (r : Routed) (rs : List Routed) → IsAside r → Each IsAside rs
       → Each IsAside (routed_if b r rs)
   aside_if true r rs one all = all
   aside_if false r rs one all = (one, all)
 
-  pub masters_aside : (sends : List Outgoing) → Each IsForMaster sends
+  all_aside : (sends : List Outgoing) → Each GoesAside sends
       → Each IsAside (routed_all (made start) h standing sends)
-  masters_aside [] all = tt
-  masters_aside (sent ∷ more) all =
+  all_aside [] all = tt
+  all_aside (sent ∷ more) all =
       aside_if (is_kept_back h standing (reached (made start) h standing.view sent.to) sent)
       (routed (reached (made start) h standing.view sent.to) sent) (routed_all (made start) h standing more)
-      (ap is_beating (here start h standing ease sent.to) ∙ master_beats start sent.to all.0.0 all.0.1)
-      (masters_aside more all.1)
+      (ap is_beating (here start h standing ease sent.to) ∙ all.0) (all_aside more all.1)
+
+  pub masters_aside : (sends : List Outgoing) → Each IsForMaster sends
+      → Each IsAside (routed_all (made start) h standing sends)
+  masters_aside sends all =
+      all_aside sends
+      (each_map IsForMaster GoesAside sends (λ sent is. master_beats start sent.to is.0 is.1) all)
+
+  pub rounds_aside : (body : Body) → Each IsAside (routed_all (made start) h standing (besides start h body))
+  rounds_aside body =
+      all_aside (besides start h body)
+      (each_besides GoesAside start h body (λ k low. node_beats start (membership (k + 1)) refl (omega arith)))
 
 -- What comes on the link to a host that is no main part, and how many signals are counted there.
 module _ (start : Start) (j : ℕ) (takes : is_beating j ≡ false) where
