@@ -12,7 +12,7 @@ use Rattle.api_views.specs.declared.closings.Closing.TheVariants.{Gcp, Micro}
 use Rattle.api_views.specs.declared.stops.HostStop.{HostStop}
 use Rattle.api_views.specs.Client.{asked_row, client_table, command_if, command_row}
 use Rattle.api_views.specs.Closings.{ask_at, asked_if, asking, closing_row}
-use Rattle.api_views.specs.Members.{president}
+use Rattle.api_views.specs.Members.{first_node, president}
 use Rattle.api_views.specs.State.{ClientState, left}
 use Rattle.api_views.specs.Stops.{has_stopped, is_down, still_runs}
 use Rattle.frag_map.specs.Layout.{members}
@@ -30,6 +30,7 @@ use Rattle.node_views.specs.declared.parts.Parts.TheVariants.{Shell, Main, Tc, L
 use Rattle.node_views.specs.declared.shell_part.ShellPart.{ShellPart}
 use Rattle.node_views.specs.declared.standing.Standing.{Standing}
 use Rattle.run_theory.specs.Lists.{Each}
+use Rattle.sig_core.specs.declared.member.Member.{Member}
 use Rattle.sig_core.specs.declared.place.BlockId.{BlockId}
 use Rattle.sig_core.specs.declared.place.BlockId.TheVariants as block
 use Rattle.sig_core.specs.declared.reply.ApiReply.{ApiReply}
@@ -59,6 +60,25 @@ some_runs zero some = absurd (omega (arith, some))
 some_runs (suc n) some =
     list_any-append (still_runs []) (members n) (record { node = n + 1; start = 0 } ∷ [])
     ∙ or_right (list_any (still_runs []) (members n)) _ refl
+
+-- its president is the first node
+pub first_presides : (nodes : ℕ) → 1 ≤ nodes → first_node (members nodes) ≡ Some 1
+first_presides zero some = absurd (omega (arith, some))
+first_presides (suc n) some = go n
+  where
+    go : (n : ℕ) → first_node (members (suc n)) ≡ Some 1
+    go zero = refl
+    go (suc n) = front (members (suc n)) (go n)
+      where
+        front : (those : List Member) → first_node those ≡ Some 1
+            → first_node (those ++ record { node = suc n + 1; start = 0 } ∷ []) ≡ Some 1
+        front [] none = absurd (cc (none))
+        front (member ∷ more) is = is
+
+some_node : (node : ℕ) → Some node ≡ Some 1 → 1 ≤ node
+some_node node is =
+    let one : node ≡ 1 = cc (is) in
+    omega (arith, one)
 
 -- the closing that a request asks for
 abbrev pub closing_of : ApiReq → Closing
@@ -115,11 +135,15 @@ module _ (start : Start) (given : List ApiReply) (shape : IsShape start.shape) (
   abbrev shell : host.Host
   shell = record { standing = standing; parts = Shell p }
 
-  sends_request : (closing : Closing) (node : Option ℕ)
+  -- the president is the first node
+  pub asked_at : president p.client.api.view ≡ Some 1
+  asked_at = ap president near.1.0 ∙ first_presides start.shape.nodes shape.nodes_some
+
+  sends_request : (closing : Closing) (node : Option ℕ) → node ≡ Some 1
       → Each (IsOfClosing 0) (ask_at closing node) × Each IsForMaster (ask_at closing node)
-  sends_request closing None = (tt, tt)
-  sends_request Gcp (Some node) = ((refl, tt), (refl, tt))
-  sends_request Micro (Some node) = ((refl, tt), (refl, tt))
+  sends_request closing None is = (tt, tt)
+  sends_request Gcp (Some node) is = ((refl, tt), ((refl, some_node node is), tt))
+  sends_request Micro (Some node) is = ((refl, tt), ((refl, some_node node is), tt))
 
   asks_near : (closing : Closing)
       → AskedNear start given (with_parts shell (in_shell (in_client p (asks_for p.client closing))))
@@ -144,8 +168,8 @@ module _ (start : Start) (given : List ApiReply) (shape : IsShape start.shape) (
     plain_marks = refl;
     none = ap plain_replies near.1.1.0;
     marks = refl;
-    sends = (sends_request closing (president p.client.api.view)).0;
-    masters = (sends_request closing (president p.client.api.view)).1;
+    sends = (sends_request closing (president p.client.api.view) asked_at).0;
+    masters = (sends_request closing (president p.client.api.view) asked_at).1;
   }
 
   asked_near : (x : Signal) → x.view ≡ first start → (body : Body) → asks_by block.Api body ≡ true

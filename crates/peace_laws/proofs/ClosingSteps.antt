@@ -1,5 +1,5 @@
 -- What hosts do at something of a closing: the plain ones stay as they are, but for the epoch that they give.
-use Rattle.std.proofs.Common.{◌≡◌, ◌∙◌, ◌%◌, ◌&&◌, ◌++◌, ℕ, zero, suc, Bool, true, false, nat_le, nat_lt, List, [], ◌∷◌, refl, sym}
+use Rattle.std.proofs.Common.{◌≡◌, ◌≤◌, ◌∙◌, ◌%◌, ◌&&◌, ◌++◌, ℕ, zero, suc, Bool, true, false, nat_le, nat_lt, List, [], ◌∷◌, refl, sym}
 use Rattle.std.proofs.Common.{ap, subst, append-nil, if◌then◌else◌}
 use Rattle.std.proofs.lemmas.Bool.{and_right, false≢true, true≢false}
 use Rattle.std.specs.Prelude.{None, Some, length}
@@ -54,7 +54,7 @@ use Rattle.sig_core.specs.declared.signal.epoch.EpochSignal.{EpochSignal}
 use Rattle.sig_core.specs.declared.signal.epoch.EpochSignal.TheVariants as epoch
 use Rattle.sig_core.specs.declared.view.View.{View}
 use Rattle.sig_core.specs.Place.{checkpoints}
-use Rattle.sig_core.specs.Step.{Step, sending, stay}
+use Rattle.sig_core.specs.Step.{Step, sending, stay, to_place}
 use Rattle.world_core.specs.Hosts.{part_by}
 use Rattle.world_core.specs.Start.{Start}
 use Rattle.world_views.specs.Machine.{replies_at, step_by, told}
@@ -68,25 +68,26 @@ use Rattle.peace_laws.specs.Steps.{ClosingsStepNear, IsForMaster, IsOfClosing, a
 use Rattle.peace_laws.proofs.CloserEase.{closings_for_blocks, has_its_block, near_parts, takes_it}
 use Rattle.peace_laws.proofs.MasterNear.{master_steps}
 
--- a step of a host that is near its plain one behind it
-record HostNear (start : Start) (h : ℕ) (given : List ApiReply) (t : Step host.Host) (other : plain.Host) : Type 0 where
+-- a step of a host that is near its plain one behind it, where it was told by this node
+record HostNear (start : Start) (h from : ℕ) (given : List ApiReply) (t : Step host.Host) (other : plain.Host) : Type 0
+  where
   inner : plain.Host
   near : AreNear start (given ++ plain_replies (replies_at h t)) (told h t) inner
   same : host_at start.epoch inner ≡ host_at start.epoch other
   marks : is_beating h ≡ false → t.effects.marks ≡ []
   sends : Each (IsOfClosing h) t.effects.sends
-  masters : is_beating h ≡ false → Each IsForMaster t.effects.sends
+  masters : is_beating h ≡ false → 1 ≤ from → Each IsForMaster t.effects.sends
 
 -- a part of a node that stays
-stays : (start : Start) (h : ℕ) (given : List ApiReply) (s : host.Host) (other : plain.Host)
-    → AreNear start given s other → HostNear start (suc h) given (stay s) other
-stays start h given s other near = record {
+stays : (start : Start) (h from : ℕ) (given : List ApiReply) (s : host.Host) (other : plain.Host)
+    → AreNear start given s other → HostNear start (suc h) from given (stay s) other
+stays start h from given s other near = record {
   inner = other;
   near = subst (λ (more : List ApiReply). AreNear start more s other) (sym (append-nil given)) near;
   same = refl;
   marks = λ beats. refl;
   sends = tt;
-  masters = λ beats. tt;
+  masters = λ beats some. tt;
 }
 
 -- a view that was seen
@@ -100,8 +101,8 @@ seen s view same =
     greatest false = refl
 
 -- The client's side is told of the end of a closing.
-module _ (start : Start) (given : List ApiReply) (standing : Standing) (ease : IsAtEase start standing) (p : ShellPart)
-    (a : ApiState) (near : ArePartsNear start given (Shell p) (plain_host.Shell a)) where
+module _ (start : Start) (from : ℕ) (given : List ApiReply) (standing : Standing) (ease : IsAtEase start standing)
+    (p : ShellPart) (a : ApiState) (near : ArePartsNear start given (Shell p) (plain_host.Shell a)) where
   abbrev shell_with : ClientState → host.Host
   shell_with c = record { standing = standing; parts = Shell (record { client = c; arbiter = p.arbiter }) }
 
@@ -117,7 +118,7 @@ module _ (start : Start) (given : List ApiReply) (standing : Standing) (ease : I
   none_told (one ∷ more) is = absurd cc
 
   closed : (closing : Closing) (epoch : ℕ) (asked : Bool)
-      → HostNear start 0 given (stay (shell_with (closed_if p.client closing epoch asked))) (plain_host.Shell a)
+      → HostNear start 0 from given (stay (shell_with (closed_if p.client closing epoch asked))) (plain_host.Shell a)
   closed closing epoch true = record {
     inner =
         plain_host.Shell
@@ -135,7 +136,7 @@ module _ (start : Start) (given : List ApiReply) (standing : Standing) (ease : I
         (ap (with_replies p.client.api) (untold closing epoch p.client.api.replies near.1.1.0) ∙ sym near.1.1.1);
     marks = λ beats. refl;
     sends = tt;
-    masters = λ beats. tt;
+    masters = λ beats some. tt;
   }
   closed closing epoch false = record {
     inner =
@@ -151,58 +152,64 @@ module _ (start : Start) (given : List ApiReply) (standing : Standing) (ease : I
         (ap (with_replies p.client.api) (none_told p.client.api.replies near.1.1.0) ∙ sym near.1.1.1);
     marks = λ beats. refl;
     sends = tt;
-    masters = λ beats. tt;
+    masters = λ beats some. tt;
   }
 
   abbrev of_client : Step ClientState → Step host.Host
   of_client t = with_parts (shell_with p.client) (in_shell (in_client p t))
 
   client_by : (x : Signal) (body : Body) → is_for_closing block.Api body ≡ true
-      → HostNear start 0 given (of_client (client_table p.client x body)) (plain_host.Shell a)
+      → HostNear start 0 from given (of_client (client_table p.client x body)) (plain_host.Shell a)
   unfolding closed_row
   client_by x (Epoch (epoch.GcpRep closed_epoch)) is = closed Gcp closed_epoch (is_asked Gcp p.client.closing)
   client_by x (Epoch (epoch.MicroRep closed_epoch)) is = closed Micro closed_epoch (is_asked Micro p.client.closing)
   client_by x body is = absurd (false≢true is)
 
   client_near : (x : Signal) → x.view ≡ first start → is_for_closing block.Api x.body ≡ true
-      → HostNear start 0 given (of_client (client_row p.client x)) (plain_host.Shell a)
+      → HostNear start 0 from given (of_client (client_row p.client x)) (plain_host.Shell a)
   client_near x view is =
-      subst (λ (c : ClientState). HostNear start 0 given (of_client (client_table c x x.body)) (plain_host.Shell a))
+      subst (λ (c : ClientState). HostNear start 0 from given (of_client (client_table c x x.body)) (plain_host.Shell a))
       (sym (seen p.client x.view (near.1.0 ∙ sym view))) (client_by x x.body is)
 
--- What a member tells: its master's node alone.
-abbrev IsConfirmed : Outgoing → Type 0
-IsConfirmed sent =
-    (sent.to.block ≡ block.GcpMaster)
-    × ((is_for_closing sent.to.block sent.body ≡ true) × (asks_master sent.body ≡ false))
+-- What a member tells: the master of the node that told it.
+record IsConfirmed (from : ℕ) (sent : Outgoing) : Type 0 where
+  block_is : sent.to.block ≡ block.GcpMaster
+  node : sent.to.node ≡ from
+  of : (is_for_closing sent.to.block sent.body ≡ true) × (asks_master sent.body ≡ false)
 
-confirmed_of : (h : ℕ) (sends : List Outgoing) → Each IsConfirmed sends → Each (IsOfClosing (suc h)) sends
-confirmed_of h sends is = each_map IsConfirmed (IsOfClosing (suc h)) sends (λ sent one. one.1) is
+confirmed_of : (h from : ℕ) (sends : List Outgoing) → Each (IsConfirmed from) sends → Each (IsOfClosing (suc h)) sends
+confirmed_of h from sends is = each_map (IsConfirmed from) (IsOfClosing (suc h)) sends (λ sent one. one.of) is
 
-confirmed_for : (sends : List Outgoing) → Each IsConfirmed sends → Each IsForMaster sends
-confirmed_for sends is = each_map IsConfirmed IsForMaster sends (λ sent one. one.0) is
+confirmed_for : (from : ℕ) (sends : List Outgoing) → 1 ≤ from → Each (IsConfirmed from) sends → Each IsForMaster sends
+confirmed_for from sends some is =
+    each_map (IsConfirmed from) IsForMaster sends
+    (λ sent one. (one.block_is, subst (λ node. 1 ≤ node) (sym one.node) some)) is
 
 -- The epochs of a node.
 abbrev at_epoch : plain_dih.DihState → ℕ → plain_dih.DihState
 at_epoch q epoch = record { node = q.node; epoch = epoch; counted = q.counted }
 
-record DihSteps (t : Step views.DihState) (q : plain_dih.DihState) : Type 0 where
+record DihSteps (from : ℕ) (t : Step views.DihState) (q : plain_dih.DihState) : Type 0 where
   epoch : ℕ
   near : AreEpochsNear t.state (at_epoch q epoch)
   marks : t.effects.marks ≡ []
-  sends : Each IsConfirmed t.effects.sends
+  sends : Each (IsConfirmed from) t.effects.sends
 
 none_held : (s : views.DihState) → s.held ≡ [] → can_serve s ≡ false
 none_held s is = ap (λ (held : List TxId). gives s && nat_lt 0 (length held)) is ∙ and_right (gives s) false refl
 
-module _ (q : plain_dih.DihState) where
-  notes : (s : views.DihState) (from closed now : ℕ) → AreEpochsNear s (at_epoch q now)
-      → DihSteps (noting s from closed) q
+module _ (from : ℕ) (q : plain_dih.DihState) where
+  confirms : (signal : EpochSignal) → is_order block.GcpMaster signal ≡ true → asks_master (Epoch signal) ≡ false
+      → IsConfirmed from (to_place (checkpoints from) (Epoch signal))
+  confirms signal order asks = record { block_is = refl; node = refl; of = (order, asks) }
+
+  notes : (s : views.DihState) (closed now : ℕ) → AreEpochsNear s (at_epoch q now)
+      → DihSteps from (noting s from closed) q
   unfolding reported
-  notes s from closed now near = by (is_unfinished s.counted closed)
+  notes s closed now near = by (is_unfinished s.counted closed)
     where
       by : (b : Bool)
-          → DihSteps
+          → DihSteps from
           (report_if (record s { order = Some (record { epoch = closed; to = from }) })
           (record { epoch = closed; to = from }) b) q
       by true = record {
@@ -229,30 +236,30 @@ module _ (q : plain_dih.DihState) where
           held = near.held;
         };
         marks = refl;
-        sends = ((refl, (refl, refl)), tt);
+        sends = (confirms _ refl refl, tt);
       }
 
-  none_served : (node : ℕ) (b : Bool) → b ≡ false → Each IsConfirmed (go_on_if node b)
+  none_served : (node : ℕ) (b : Bool) → b ≡ false → Each (IsConfirmed from) (go_on_if node b)
   none_served node true is = absurd (true≢false is)
   none_served node false is = tt
 
-  serves : (t : Step views.DihState) → DihSteps t q → DihSteps (serving t) q
+  serves : (t : Step views.DihState) → DihSteps from t q → DihSteps from (serving t) q
   serves t step = record {
     epoch = step.epoch;
     near = step.near;
     marks = ap (λ (marks : List Mark). marks ++ []) step.marks;
     sends =
-        each_append IsConfirmed t.effects.sends _ step.sends
+        each_append (IsConfirmed from) t.effects.sends _ step.sends
         (none_served t.state.node (can_serve t.state) (none_held t.state step.near.held));
   }
 
   module _ (s : views.DihState) (near : AreEpochsNear s q) where
-    prepares : (from closed next : ℕ) → DihSteps (prepare_row s from closed next) q
+    prepares : (closed next : ℕ) → DihSteps from (prepare_row s from closed next) q
     unfolding prepare_row
-    prepares from closed next = by (nat_le s.current closed)
+    prepares closed next = by (nat_le s.current closed)
       where
         by : (b : Bool)
-            → DihSteps
+            → DihSteps from
             (sending (prepared_if s closed next b) (checkpoints from) (Epoch (epoch.GcpPrepareConf closed))) q
         by true = record {
           epoch = q.epoch;
@@ -265,17 +272,17 @@ module _ (q : plain_dih.DihState) where
             held = near.held;
           };
           marks = refl;
-          sends = ((refl, (refl, refl)), tt);
+          sends = (confirms _ refl refl, tt);
         }
-        by false = record { epoch = q.epoch; near = near; marks = refl; sends = ((refl, (refl, refl)), tt) }
+        by false = record { epoch = q.epoch; near = near; marks = refl; sends = (confirms _ refl refl, tt) }
 
-    commits : (from closed next : ℕ) → DihSteps (commit_row s from closed next) q
+    commits : (closed next : ℕ) → DihSteps from (commit_row s from closed next) q
     unfolding commit_row
-    commits from closed next = by (nat_le s.current closed)
+    commits closed next = by (nat_le s.current closed)
       where
-        by : (b : Bool) → DihSteps (commit_if s from closed next b) q
+        by : (b : Bool) → DihSteps from (commit_if s from closed next b) q
         by true =
-            serves _ (notes (committed s closed next) from closed next
+            serves _ (notes (committed s closed next) closed next
             (record {
               node = near.node;
               number = near.number;
@@ -284,14 +291,14 @@ module _ (q : plain_dih.DihState) where
               counted = near.counted;
               held = near.held;
             }))
-        by false = notes s from closed q.epoch near
+        by false = notes s closed q.epoch near
 
-    by_order : (from : ℕ) (signal : EpochSignal) → is_order block.Dih signal ≡ true
-        → DihSteps (dih.epoch_table s from signal) q
+    by_order : (signal : EpochSignal) → is_order block.Dih signal ≡ true
+        → DihSteps from (dih.epoch_table s from signal) q
     unfolding close_row copy_row done_row
-    by_order from (epoch.GcpPrepare closed next) is = prepares from closed next
-    by_order from (epoch.GcpCommit closed next) is = commits from closed next
-    by_order from (epoch.GcpClosed closed) is = record {
+    by_order (epoch.GcpPrepare closed next) is = prepares closed next
+    by_order (epoch.GcpCommit closed next) is = commits closed next
+    by_order (epoch.GcpClosed closed) is = record {
       epoch = q.epoch;
       near = record {
         node = near.node;
@@ -302,11 +309,11 @@ module _ (q : plain_dih.DihState) where
         held = near.held;
       };
       marks = refl;
-      sends = ((refl, (refl, refl)), tt);
+      sends = (confirms _ refl refl, tt);
     }
-    by_order from (epoch.CopyGciReq closed mask) is =
-        record { epoch = q.epoch; near = near; marks = refl; sends = ((refl, (refl, refl)), tt) }
-    by_order from (epoch.GcpDone closed) is = record {
+    by_order (epoch.CopyGciReq closed mask) is =
+        record { epoch = q.epoch; near = near; marks = refl; sends = (confirms _ refl refl, tt) }
+    by_order (epoch.GcpDone closed) is = record {
       epoch = q.epoch;
       near = record {
         node = near.node;
@@ -319,12 +326,12 @@ module _ (q : plain_dih.DihState) where
       marks = refl;
       sends = tt;
     }
-    by_order from signal is = absurd (false≢true is)
+    by_order signal is = absurd (false≢true is)
 
-    dih_by : (from number : ℕ) (body : Body) → is_for_closing block.Dih body ≡ true
-        → DihSteps (dih_table s from number body) q
-    dih_by from number (Epoch signal) is = by_order from signal is
-    dih_by from number body is = absurd (false≢true is)
+    dih_by : (number : ℕ) (body : Body) → is_for_closing block.Dih body ≡ true
+        → DihSteps from (dih_table s from number body) q
+    dih_by number (Epoch signal) is = by_order signal is
+    dih_by number body is = absurd (false≢true is)
 
 -- a part that does something of a closing
 module _ (start : Start) (h : ℕ) (given : List ApiReply) (standing : Standing) (ease : IsAtEase start standing)
@@ -334,22 +341,22 @@ module _ (start : Start) (h : ℕ) (given : List ApiReply) (standing : Standing)
 
   tc_near : (p : TcPart) (q : plain_tc.TcPart) → ArePartsNear start given (Tc p) (plain_host.Tc q)
       → is_for_closing block.Dih x.body ≡ true
-      → HostNear start (suc h) given (with_parts (part_with (Tc p)) (in_tc (in_dih p (dih_row p.dih x))))
+      → HostNear start (suc h) x.member.node given (with_parts (part_with (Tc p)) (in_tc (in_dih p (dih_row p.dih x))))
       (plain_host.Tc q)
   tc_near p q near is =
-      let step = dih_by q.dih p.dih near.1 x.member.node x.view.number x.body is in
+      let step = dih_by x.member.node q.dih p.dih near.1 x.view.number x.body is in
       record {
         inner = plain_host.Tc (record { tc = q.tc; dih = at_epoch q.dih step.epoch });
         near = record { standing = ease; parts = (near.0, step.near) };
         same = refl;
         marks = λ beats. step.marks;
-        sends = confirmed_of h _ step.sends;
-        masters = λ beats. confirmed_for _ step.sends;
+        sends = confirmed_of h x.member.node _ step.sends;
+        masters = λ beats some. confirmed_for x.member.node _ some step.sends;
       }
 
   rows_by : (p : LdmPart) (s : LqhState) (body : Body) → ArePartsNear start given (Ldm p) (plain_host.Ldm s)
       → is_for_closing block.Lqh body ≡ true
-      → HostNear start (suc h) given
+      → HostNear start (suc h) x.member.node given
       (with_parts (part_with (Ldm p)) (in_ldm (in_replica p body (replica_by p.replica x body)))) (plain_host.Ldm s)
   rows_by p s (Epoch (epoch.GcpClosed closed)) near is = record {
     inner = plain_host.Ldm s;
@@ -357,7 +364,7 @@ module _ (start : Start) (h : ℕ) (given : List ApiReply) (standing : Standing)
     same = refl;
     marks = λ beats. refl;
     sends = ((refl, refl), tt);
-    masters = λ beats. (refl, tt);
+    masters = λ beats some. ((refl, some), tt);
   }
   rows_by p s (Epoch (epoch.GcpSaveReq closed)) near is = record {
     inner = plain_host.Ldm s;
@@ -365,7 +372,7 @@ module _ (start : Start) (h : ℕ) (given : List ApiReply) (standing : Standing)
     same = refl;
     marks = λ beats. refl;
     sends = ((refl, refl), tt);
-    masters = λ beats. (refl, tt);
+    masters = λ beats some. ((refl, some), tt);
   }
   rows_by p s (Epoch (epoch.GcpDone closed)) near is = record {
     inner = plain_host.Ldm s;
@@ -373,14 +380,14 @@ module _ (start : Start) (h : ℕ) (given : List ApiReply) (standing : Standing)
     same = refl;
     marks = λ beats. refl;
     sends = tt;
-    masters = λ beats. tt;
+    masters = λ beats some. tt;
   }
   rows_by p s body near is = absurd (false≢true is)
 
   main_near : (p : MainPart) (m : plain_main.MainPart) → is_beating (suc h) ≡ true
       → ArePartsNear start given (Main p) (plain_host.Main m) → is_for_closing block.GcpMaster x.body ≡ true
       → (asks_master x.body ≡ true → x.member.node ≡ 0)
-      → HostNear start (suc h) given (with_parts (part_with (Main p)) (in_main (in_master p (master_row p.master x))))
+      → HostNear start (suc h) x.member.node given (with_parts (part_with (Main p)) (in_main (in_master p (master_row p.master x))))
       (plain_host.Main m)
   main_near p m beats near is client =
       let step = master_steps p.master x near is client in
@@ -390,7 +397,7 @@ module _ (start : Start) (h : ℕ) (given : List ApiReply) (standing : Standing)
         same = refl;
         marks = λ none. absurd (true≢false (sym beats ∙ none));
         sends = step.sends;
-        masters = λ none. absurd (true≢false (sym beats ∙ none));
+        masters = λ none some. absurd (true≢false (sym beats ∙ none));
       }
 
 -- the host of a part that takes something of closings for its master has the master, which beats
@@ -416,12 +423,12 @@ module _ (start : Start) (h : ℕ) (given : List ApiReply) (standing : Standing)
     (x : Signal) (client : asks_master x.body ≡ true → x.member.node ≡ 0) where
   abbrev IsStep : BlockId → Parts → plain.Host → Type 0
   IsStep to parts other =
-      HostNear start (suc h) given (with_parts (part_with start h given standing ease x parts) (row_at parts to x)) other
+      HostNear start (suc h) x.member.node given (with_parts (part_with start h given standing ease x parts) (row_at parts to x)) other
 
   same_parts : (parts : Parts) (other : plain.Host) → ArePartsNear start given parts other
-      → HostNear start (suc h) given (stay (part_with start h given standing ease x parts)) other
+      → HostNear start (suc h) x.member.node given (stay (part_with start h given standing ease x parts)) other
   same_parts parts other near =
-      stays start h given (part_with start h given standing ease x parts) other
+      stays start h x.member.node given (part_with start h given standing ease x parts) other
       (record { standing = ease; parts = near })
 
   at_master : is_beating (suc h) ≡ true → is_for_closing block.GcpMaster x.body ≡ true → (parts : Parts)
@@ -464,17 +471,17 @@ module _ (start : Start) (given : List ApiReply) (standing : Standing) (ease : I
     (view : x.view ≡ first start) where
   at_client : is_for_closing block.Api x.body ≡ true → (parts : Parts) (other : plain.Host)
       → ArePartsNear start given parts other
-      → HostNear start 0 given
+      → HostNear start 0 x.member.node given
       (with_parts (record { standing = standing; parts = parts }) (row_at parts block.Api x)) other
   unfolding shell_row main_row tc_row ldm_row
-  at_client is (Shell p) (plain_host.Shell a) near = client_near start given standing ease p a near x view is
+  at_client is (Shell p) (plain_host.Shell a) near = client_near start x.member.node given standing ease p a near x view is
   at_client is (Main p) (plain_host.Main m) near = record {
     inner = plain_host.Main m;
     near = record { standing = ease; parts = near };
     same = refl;
     marks = λ beats. refl;
     sends = tt;
-    masters = λ beats. tt;
+    masters = λ beats some. tt;
   }
   at_client is (Tc p) (plain_host.Tc q) near = record {
     inner = plain_host.Tc q;
@@ -482,7 +489,7 @@ module _ (start : Start) (given : List ApiReply) (standing : Standing) (ease : I
     same = refl;
     marks = λ beats. refl;
     sends = tt;
-    masters = λ beats. tt;
+    masters = λ beats some. tt;
   }
   at_client is (Ldm p) (plain_host.Ldm s) near = record {
     inner = plain_host.Ldm s;
@@ -490,13 +497,13 @@ module _ (start : Start) (given : List ApiReply) (standing : Standing) (ease : I
     same = refl;
     marks = λ beats. refl;
     sends = tt;
-    masters = λ beats. tt;
+    masters = λ beats some. tt;
   }
   at_client is parts other near = absurd near
 
   by_client : (to : BlockId) → has_closer 0 to ≡ true → is_for_closing to x.body ≡ true → (parts : Parts)
       (other : plain.Host) → ArePartsNear start given parts other
-      → HostNear start 0 given (with_parts (record { standing = standing; parts = parts }) (row_at parts to x)) other
+      → HostNear start 0 x.member.node given (with_parts (record { standing = standing; parts = parts }) (row_at parts to x)) other
   by_client block.Api has is = at_client is
   by_client to has is = absurd (false≢true has)
 
@@ -511,7 +518,7 @@ closings_step_near start h given s other x near comes goes = record {
 }
   where
     by : (h : ℕ) → has_closer h x.to.block ≡ true
-        → HostNear start h given (with_parts s (row_at s.parts x.to.block x)) other
+        → HostNear start h x.member.node given (with_parts s (row_at s.parts x.to.block x)) other
     by zero has =
         by_client start given s.standing near.standing x comes.view x.to.block has (takes_it h x comes.closing) s.parts
         other near.parts
@@ -519,9 +526,9 @@ closings_step_near start h given s other x near comes goes = record {
         at_block start host given s.standing near.standing x comes.client (part_by (host % 3)) x.to.block refl has
         (takes_it h x comes.closing) s.parts other near.parts
 
-    all : HostNear start h given (step_by h s x) other
+    all : HostNear start h x.member.node given (step_by h s x) other
     all =
-        subst (λ t. HostNear start h given t other)
+        subst (λ t. HostNear start h x.member.node given t other)
         (ap (with_parts s) (row_is s.parts x)
         ∙ sym (near_parts start h given s other x near comes.fine comes.view
         (closings_for_blocks h x comes.closing) goes))
