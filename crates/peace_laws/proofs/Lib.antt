@@ -1,5 +1,7 @@
 pub mod Arrivals
 pub mod AskingSteps
+pub mod CalmFacts
+pub mod CalmGoes
 pub mod CalmNear
 pub mod CloserEase
 pub mod ClosingSignals
@@ -12,6 +14,8 @@ pub mod MasterNear
 pub mod MemberMoves
 pub mod Mirrored
 pub mod NearHosts
+pub mod NextGood
+pub mod NextSignals
 pub mod NoneCompletes
 pub mod NoneCounted
 pub mod OrderLists
@@ -19,8 +23,10 @@ pub mod PeaceNext
 pub mod PlainAnswers
 pub mod PlainCalm
 pub mod PlainEvents
+pub mod PlainQuiet
 pub mod RestingHosts
 pub mod RunKept
 pub mod SeenNear
 pub mod SentNear
+pub mod Stands
 pub mod Voices

@@ -111,7 +111,7 @@ row_gives epoch (plain.Main m) x gives = tt
 row_gives epoch (plain.Ldm s) x gives = tt
 
 -- a plain host near a host that stays in an epoch gives it
-near_gives : (start : Start) (given : List ApiReply) (epoch : ℕ) (parts : Parts) (other : plain_host.Host)
+pub near_gives : (start : Start) (given : List ApiReply) (epoch : ℕ) (parts : Parts) (other : plain_host.Host)
     → ArePartsNear start given parts other → StaysIn start epoch parts → Gives epoch other
 near_gives start given epoch (Tc p) (plain.Tc q) near stays = sym near.1.current ∙ stays.current
 near_gives start given epoch parts (plain.Shell a) near stays = tt

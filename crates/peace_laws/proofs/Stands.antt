@@ -1,0 +1,96 @@
+-- What stands of a life in peace after some logs, and what besides where nothing is under way.
+use Rattle.std.proofs.Common.{◌≡◌, ◌≤◌, ℕ, zero, suc, ◌%◌, List, [], false, refl, ap, subst}
+use Rattle.std.specs.List.{list_any}
+use Rattle.node_views.specs.Row.{is_one_of}
+use Rattle.run_theory.specs.Links.{taken}
+use Rattle.run_theory.specs.Lists.{Each}
+use Rattle.run_theory.specs.Runs.{IsWithin, Run, log_of}
+use Rattle.sig_core.specs.declared.mark.Mark.{Mark}
+use Rattle.sig_core.specs.declared.mark.Mark.TheVariants.{Decided}
+use Rattle.sig_core.specs.declared.member.HostId.{HostId}
+use Rattle.sig_core.specs.declared.place.Part.{Part}
+use Rattle.sig_core.specs.declared.place.Part.TheVariants as part
+use Rattle.sig_core.specs.declared.member.Member.{Member}
+use Rattle.world_core.specs.Hosts.{hosts, member_at, part_by}
+use Rattle.world_core.specs.Start.{Start, made}
+use Rattle.world_core.specs.Steps.{HostStep}
+use Rattle.world_views.specs.Hosts.{part_started, started}
+use Rattle.world_views.specs.Machine.{has_cut, has_stopped, machine}
+use Rattle.world_views.specs.Quiet.{IsQuiet}
+use Rattle.world_views.specs.Right.{holds_by}
+use Rattle.calm_laws.specs.Resting.{AreResting}
+use Rattle.calm_laws.proofs.Rest.{lives_begin_at_rest}
+use Rattle.peace_laws.specs.Peace.{ArePeaceful}
+use Rattle.peace_laws.specs.Rest.{AreAtRestIn, RestsIn}
+use Rattle.peace_laws.proofs.Mirrored.{IsMirrored}
+use Rattle.peace_laws.proofs.NextSignals.{AllTaken}
+use Rattle.peace_laws.proofs.RunKept.{IsKept, begins_kept}
+
+-- no transaction is decided in a later epoch by these marks, nor by the steps of a log
+abbrev pub IsBelow : ℕ → Mark → Type 0
+IsBelow epoch (Decided tx other) = other ≤ epoch
+IsBelow epoch mark = Unit {0}
+
+abbrev pub AreBelow : ℕ → List HostStep → Type 0
+AreBelow epoch log = Each (λ e. Each (IsBelow epoch) e.step.marks) log
+
+-- The logs are those of a run that is kept, each step is peaceful, and no host has stopped.
+pub record Stands (start : Start) (logs : ℕ → List HostStep) : Type 0 where
+  pub es : List HostStep
+  pub run : Run (machine start) es
+  pub is : log_of (machine start) es ≡ logs
+  pub within : IsWithin (hosts start) logs
+  pub kept : IsKept start es
+  pub peaceful : ArePeaceful logs
+  pub running : (h : ℕ) → has_stopped (logs h) ≡ false
+
+-- Nothing is under way: each host is at rest in this epoch, and nobody was decided in a later one.
+pub record Rests (start : Start) (epoch : ℕ) (logs : ℕ → List HostStep) : Type 0 where
+  pub stands : Stands start logs
+  pub beating : AreResting start logs
+  pub rests : AreAtRestIn start epoch logs
+  pub below : (h : ℕ) → AreBelow epoch (logs h)
+
+module _ (start : Start) (logs : ℕ → List HostStep) (stands : Stands start logs) where
+  pub mirrored : (h : ℕ) → IsMirrored start h (logs h)
+  mirrored h = subst (λ (all : ℕ → List HostStep). IsMirrored start h (all h)) stands.is (stands.kept.mirrored h)
+
+  none_cut : (h other : ℕ) → has_cut start h (logs h) other ≡ false
+  none_cut h other =
+      ap (λ (cut : List HostId). list_any (is_one_of (record { 0 = other })) cut) (mirrored h).near.standing.uncut
+
+  -- so where nothing is under way all that was sent was taken
+  pub all_taken : IsQuiet start logs → AllTaken start logs
+  all_taken quiet i j i_low low =
+      subst (λ b. holds_by b start i j (logs i) (taken (machine start) i (logs j))) (stands.running i)
+      (quiet i j i_low low (record { runs = stands.running j; takes = none_cut j i }))
+
+-- a life that begins without rows begins at rest
+part_rests : (start : Start) (of : Part) (member : Member)
+    → RestsIn start start.epoch (part_started start of member).parts
+part_rests start part.Main member = refl
+part_rests start part.Tc member =
+    record { current = refl; next = refl; counted = refl; held = refl; order = refl }
+part_rests start part.Ldm member = tt
+
+begin_rests : (start : Start) (h : ℕ) → RestsIn start start.epoch (started start h).parts
+unfolding started
+begin_rests start zero = (refl, refl)
+begin_rests start (suc h) = part_rests start (part_by (h % 3)) (member_at (made start) (suc h))
+
+pub lives_rest : (start : Start) → start.rows ≡ [] → Rests start start.epoch (λ h. [])
+lives_rest start rows =
+    record {
+      stands = record {
+        es = [];
+        run = tt;
+        is = refl;
+        within = λ h high. refl;
+        kept = begins_kept start rows;
+        peaceful = λ h. tt;
+        running = λ h. refl;
+      };
+      beating = lives_begin_at_rest start;
+      rests = λ h low. begin_rests start h;
+      below = λ h. tt;
+    }
