@@ -9,9 +9,13 @@ pub mod ClosingSteps
 pub mod CompletionTurns
 pub mod Completions
 pub mod LevelSignals
+pub mod ListOn
 pub mod MainNear
+pub mod MainOn
+pub mod MasterAnswers
 pub mod MasterNear
 pub mod MemberMoves
+pub mod MemberOn
 pub mod Mirrored
 pub mod NearHosts
 pub mod NextGood
@@ -30,3 +34,4 @@ pub mod SeenNear
 pub mod SentNear
 pub mod Stands
 pub mod Voices
+pub mod WayOn
