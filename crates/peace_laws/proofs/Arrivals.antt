@@ -1,4 +1,5 @@
--- What comes to a host in peace: what the shell asks for, or what a link gives in both machines, or something of a closing.
+-- What comes to a host in peace: what the shell asks for, or what a link gives in both machines, or something of a
+-- closing.
 use Rattle.std.proofs.Common.{◌≡◌, ◌⊎◌, ◌<◌, ◌≤◌, ◌+◌, ◌/◌, inl, inr, ℕ, zero, suc, List, [], ◌∷◌, Bool, true, false}
 use Rattle.std.proofs.Common.{refl, ap, sym, ◌∙◌, subst, subst₂, arith}
 use Rattle.std.specs.Prelude.{◌==◌, ◌&&◌, map}
@@ -203,7 +204,8 @@ module _ (start : Start) (es : List HostStep) (h : ℕ) (x : Signal)
               by (inr closing) = false≢true (sym kind.apart ∙ closing.closing)
           go false is = refl
 
-      plain_past : IsPast (arriving h y ∷ taken (plain.machine start) i (part h)) (sent (plain.machine start) i h (part i))
+      plain_past :
+          IsPast (arriving h y ∷ taken (plain.machine start) i (part h)) (sent (plain.machine start) i h (part i))
       plain_past =
           subst₂ IsPast
           (ap (λ xs. arriving h y ∷ xs) (sym ((mirrored h).took i takes sender_plain)))
@@ -296,7 +298,8 @@ module _ (start : Start) (es : List HostStep) (h : ℕ) (x : Signal)
         where
           go : (k : ℕ) → x.member ≡ member_at (made start) k → IsSend k x.to.block x.body → x.member.node ≡ 0
           go zero member send = ap (λ (m : Member). m.node) member
-          go (suc k) member (inl calm) = absurd (false≢true (sym calm.other ∙ asks_at x.to.block x.body (closing_body h x closing) asks))
+          go (suc k) member (inl calm) =
+              absurd (false≢true (sym calm.other ∙ asks_at x.to.block x.body (closing_body h x closing) asks))
           go (suc k) member (inr of) = absurd (cc (of.asks asks))
 
       pub closing_comes : is_well_formed start.shape x ≡ true → ComesForClosing start h x
@@ -329,5 +332,6 @@ module _ (start : Start) (es : List HostStep) (h : ℕ) (x : Signal)
                 → 1 ≤ x.member.node
             go zero low beats member = absurd (false≢true beats)
             go (suc k) low beats member =
-                let node : x.member.node ≡ k / 3 + 1 = ap (λ (m : Member). m.node) (member ∙ member_first start k low) in
+                let node : x.member.node ≡ k / 3 + 1 =
+                ap (λ (m : Member). m.node) (member ∙ member_first start k low) in
                 omega (arith, node)

@@ -1,6 +1,7 @@
 -- The client's side is asked for a closing, and asks a master for it.
-use Rattle.std.proofs.Common.{◌≡◌, ◌≤◌, ◌∙◌, ◌++◌, ℕ, zero, suc, true, false, List, [], ◌∷◌, refl, sym, ap, subst₂}
-use Rattle.std.proofs.Common.{arith}
+use Rattle.std.proofs.Common.{◌≡◌, ◌≤◌, ◌∙◌, ◌++◌, ℕ, zero, suc, true, false, List, [], ◌∷◌, refl, sym, ap, subst}
+use Rattle.std.proofs.Common.{subst₂, arith}
+use Rattle.std.specs.Prelude.{◌+◌}
 use Rattle.std.proofs.lemmas.Bool.{false≢true, or_right}
 use Rattle.std.proofs.lemmas.List.Folds.{list_any-append}
 use Rattle.std.specs.List.{list_any}
@@ -61,6 +62,7 @@ some_runs (suc n) some =
     list_any-append (still_runs []) (members n) (record { node = n + 1; start = 0 } ∷ [])
     ∙ or_right (list_any (still_runs []) (members n)) _ refl
 
+<<<<<<< HEAD
 -- its president is the first node
 pub first_presides : (nodes : ℕ) → 1 ≤ nodes → first_node (members nodes) ≡ Some 1
 first_presides zero some = absurd (omega (arith, some))
@@ -79,6 +81,21 @@ some_node : (node : ℕ) → Some node ≡ Some 1 → 1 ≤ node
 some_node node is =
     let one : node ≡ 1 = cc (is) in
     omega (arith, one)
+=======
+-- the president of the first view is of a node, if it has one
+abbrev IsNodeOf : Option ℕ → Type 0
+IsNodeOf None = Unit {0}
+IsNodeOf (Some node) = 1 ≤ node
+
+first_of : (first : List Member) (node : ℕ) → IsNodeOf (first_node first)
+    → IsNodeOf (first_node (first ++ record { node = node + 1; start = 0 } ∷ []))
+first_of [] node some = omega arith
+first_of (one ∷ more) node some = some
+
+first_president : (n : ℕ) → IsNodeOf (first_node (members n))
+first_president zero = tt
+first_president (suc n) = first_of (members n) n (first_president n)
+>>>>>>> 3ff9eb0594e747bbde469bbcc12d08d0e9e4c4ca
 
 -- the closing that a request asks for
 abbrev pub closing_of : ApiReq → Closing
@@ -135,6 +152,7 @@ module _ (start : Start) (given : List ApiReply) (shape : IsShape start.shape) (
   abbrev shell : host.Host
   shell = record { standing = standing; parts = Shell p }
 
+<<<<<<< HEAD
   -- the president is the first node
   pub asked_at : president p.client.api.view ≡ Some 1
   asked_at = ap president near.1.0 ∙ first_presides start.shape.nodes shape.nodes_some
@@ -144,6 +162,19 @@ module _ (start : Start) (given : List ApiReply) (shape : IsShape start.shape) (
   sends_request closing None is = (tt, tt)
   sends_request Gcp (Some node) is = ((refl, tt), ((refl, some_node node is), tt))
   sends_request Micro (Some node) is = ((refl, tt), ((refl, some_node node is), tt))
+=======
+  sends_request : (closing : Closing) (node : Option ℕ) → IsNodeOf node
+      → Each (IsOfClosing 0) (ask_at closing node) × Each IsForMaster (ask_at closing node)
+  sends_request closing None some = (tt, tt)
+  sends_request Gcp (Some node) some = ((refl, tt), ((refl, some), tt))
+  sends_request Micro (Some node) some = ((refl, tt), ((refl, some), tt))
+
+  requested : (closing : Closing)
+      → Each (IsOfClosing 0) (asking closing p.client.api.view) × Each IsForMaster (asking closing p.client.api.view)
+  requested closing =
+      sends_request closing (president p.client.api.view)
+      (subst (λ (view : View). IsNodeOf (president view)) (sym near.1.0) (first_president start.shape.nodes))
+>>>>>>> 3ff9eb0594e747bbde469bbcc12d08d0e9e4c4ca
 
   asks_near : (closing : Closing)
       → AskedNear start given (with_parts shell (in_shell (in_client p (asks_for p.client closing))))
@@ -168,8 +199,13 @@ module _ (start : Start) (given : List ApiReply) (shape : IsShape start.shape) (
     plain_marks = refl;
     none = ap plain_replies near.1.1.0;
     marks = refl;
+<<<<<<< HEAD
     sends = (sends_request closing (president p.client.api.view) asked_at).0;
     masters = (sends_request closing (president p.client.api.view) asked_at).1;
+=======
+    sends = (requested closing).0;
+    masters = (requested closing).1;
+>>>>>>> 3ff9eb0594e747bbde469bbcc12d08d0e9e4c4ca
   }
 
   asked_near : (x : Signal) → x.view ≡ first start → (body : Body) → asks_by block.Api body ≡ true

@@ -39,7 +39,8 @@ use Rattle.peace_laws.specs.Parts.{levelled, plain_part, plain_replies, shows}
 use Rattle.peace_laws.proofs.ClosingSignals.{calm_apart, not_closing}
 use Rattle.peace_laws.proofs.MainNear.{master_kept, near_main}
 use Rattle.peace_laws.proofs.Mirrored.{IsLeftOut, IsMirrored, IsPlainStep, level_step}
-use Rattle.peace_laws.proofs.NearHosts.{has_main, main_beats, main_level, main_stays, near_alike, resting_main, resting_near}
+use Rattle.peace_laws.proofs.NearHosts.{has_main, main_beats, main_level, main_stays, near_alike}
+use Rattle.peace_laws.proofs.NearHosts.{resting_main, resting_near}
 use Rattle.peace_laws.proofs.PlainAnswers.{ArePlainReplies, IsPlainReply, hosts_reply, replies_level, same_replies}
 use Rattle.peace_laws.proofs.PlainEvents.{none_part, part_next}
 use Rattle.peace_laws.proofs.SeenNear.{IsSentFor, plain_send, round_send, views_send}
@@ -96,7 +97,8 @@ module _ (start : Start) (h : ℕ) (log : List HostStep) (e : HostStep) (beats :
   main_aside : StepAside start h (after start h log) before.inner e.step.taken
   main_aside = main_parts_step start h (after start h log) before.inner e.step.taken beats main_alike comes
 
-  main_resting : AreNear start [] (after start h (e ∷ log)) before.inner × RestsOfClosings (after start h (e ∷ log)).parts
+  main_resting : AreNear start [] (after start h (e ∷ log)) before.inner
+      × RestsOfClosings (after start h (e ∷ log)).parts
   main_resting = by h beats (after start h log) comes main_near main_alike main_aside
     where
       by : (k : ℕ) → is_beating k ≡ true → (s : host.Host) → ComesCalmly start k e.step.taken

@@ -4,6 +4,7 @@ pub mod CalmFacts
 pub mod CalmGoes
 pub mod CalmNear
 pub mod CloserEase
+pub mod ClosingNext
 pub mod ClosingSignals
 pub mod ClosingSteps
 pub mod CompletionTurns
@@ -27,6 +28,7 @@ pub mod PeaceNext
 pub mod PlainAnswers
 pub mod PlainCalm
 pub mod PlainEvents
+pub mod PlainLogs
 pub mod PlainQuiet
 pub mod RestingHosts
 pub mod RunKept

@@ -29,8 +29,8 @@ use Rattle.peace_laws.proofs.LevelSignals.{request_level, work_level}
 use Rattle.peace_laws.proofs.SeenNear.{IsSeen, IsSentFor, seen_next}
 use Rattle.peace_laws.proofs.SentNear.{addressed_at, count_next, sent_next}
 
--- Host h is near an inner one, which is that of the plain part of its log but for epochs. To hosts that are no main parts
--- it sent what that did, and took from them what that did; to main parts that sent nothing.
+-- Host h is near an inner one, which is that of the plain part of its log but for epochs. To hosts that are no main
+-- parts it sent what that did, and took from them what that did; to main parts that sent nothing.
 pub record IsMirrored (start : Start) (h : ℕ) (log : List HostStep) : Type 0 where
   pub inner : plain_host.Host
   pub near : AreNear start (plain_replies (replies_in start h log)) (after start h log) inner
@@ -138,7 +138,8 @@ module _ (hosts_level : HostsAreLevel) (start : Start) (h : ℕ) (log : List Hos
     plain_sends : (plain.step_after start h part now).effects.sends ≡ map (send_at start.epoch) both
     plain_sends = ap (λ (s : Step plain_host.Host). s.effects.sends) level_step
 
-    took_next : (i : ℕ) → taken (plain.machine start) i part ≡ map (addressed_at start.epoch) (taken (machine start) i log)
+    took_next : (i : ℕ)
+        → taken (plain.machine start) i part ≡ map (addressed_at start.epoch) (taken (machine start) i log)
         → taken (plain.machine start) i (now ∷ part)
         ≡ map (addressed_at start.epoch) (taken (machine start) i (e ∷ log))
     took_next i was =

@@ -67,23 +67,26 @@ parts_alike : (start : Start) (given : List ApiReply) (parts : Parts) (other : p
     → ArePartsNear start given parts other → RestsOfClosings parts → ArePartsAlike start given parts other
 parts_alike start given (Shell p) (plain_host.Shell a) near rests = (
   near.0
-  ∙ ap₂
-  (λ (closing : Option Closing) (own : Bool).
-  record (calm_state p.client.api start.shape.nodes None) { closing = closing; own = own })
-  rests.0 rests.1,
+      ∙ ap₂
+      (λ (closing : Option Closing) (own : Bool).
+      record (calm_state p.client.api start.shape.nodes None) { closing = closing; own = own })
+      rests.0 rests.1,
   near.1,
 )
 parts_alike start given (Main p) (plain_host.Main m) near rests = tt
-parts_alike start given (Tc p) (plain_host.Tc q) near rests = (near.0, record {
-  node = near.1.node;
-  number = near.1.number;
-  fence = near.1.fence;
-  current = near.1.current;
-  next = rests.0 ∙ near.1.current;
-  counted = near.1.counted;
-  held = near.1.held;
-  order = rests.1;
-})
+parts_alike start given (Tc p) (plain_host.Tc q) near rests = (
+  near.0,
+  record {
+    node = near.1.node;
+    number = near.1.number;
+    fence = near.1.fence;
+    current = near.1.current;
+    next = rests.0 ∙ near.1.current;
+    counted = near.1.counted;
+    held = near.1.held;
+    order = rests.1;
+  },
+)
 parts_alike start given (Ldm p) (plain_host.Ldm s) near rests = near
 parts_alike start given parts other near rests = absurd near
 
@@ -107,24 +110,27 @@ parts_near start given (Shell p) (plain_host.Shell a) alike master =
     record {
       near = (
         alike.0
-        ∙ ap₂
-        (λ (closing : Option Closing) (own : Bool).
-        record (calm_state p.client.api start.shape.nodes None) { closing = closing; own = own })
-        (sym closing) (sym own),
+            ∙ ap₂
+            (λ (closing : Option Closing) (own : Bool).
+            record (calm_state p.client.api start.shape.nodes None) { closing = closing; own = own })
+            (sym closing) (sym own),
         alike.1,
       );
       rests = (closing, own);
     }
 parts_near start given (Main p) (plain_host.Main m) alike master = record { near = master p refl; rests = tt }
 parts_near start given (Tc p) (plain_host.Tc q) alike master = record {
-  near = (alike.0, record {
-    node = alike.1.node;
-    number = alike.1.number;
-    fence = alike.1.fence;
-    current = alike.1.current;
-    counted = alike.1.counted;
-    held = alike.1.held;
-  });
+  near = (
+    alike.0,
+    record {
+      node = alike.1.node;
+      number = alike.1.number;
+      fence = alike.1.fence;
+      current = alike.1.current;
+      counted = alike.1.counted;
+      held = alike.1.held;
+    },
+  );
   rests = (alike.1.next ∙ sym alike.1.current, alike.1.order);
 }
 parts_near start given (Ldm p) (plain_host.Ldm s) alike master = record { near = alike; rests = tt }

@@ -1,6 +1,6 @@
 -- A plain host replies nothing that the plain part of replies leaves out.
-use Rattle.std.proofs.Common.{◌≡◌, ◌⊎◌, inl, inr, ℕ, zero, suc, ◌%◌, Bool, true, false, List, [], ◌∷◌, ◌++◌, refl, sym, ap}
-use Rattle.std.proofs.Common.{◌∙◌, subst}
+use Rattle.std.proofs.Common.{◌≡◌, ◌⊎◌, inl, inr, ℕ, zero, suc, ◌%◌, Bool, true, false, List, [], ◌∷◌, ◌++◌, refl, sym}
+use Rattle.std.proofs.Common.{ap, ◌∙◌, subst}
 use Rattle.std.specs.Prelude.{if◌then◌else◌, ◌==◌, None, map, not}
 use Rattle.run_theory.specs.Lists.{Each}
 use Rattle.run_theory.proofs.EachSent.{each_mapped}
@@ -54,7 +54,8 @@ lines_plain : (node : ℕ) (digest : Bool) (lines : List (List ℕ × List ℕ))
 unfolding dump_replies
 lines_plain node true lines = (refl, tt)
 lines_plain node false lines =
-    each_append IsPlainReply (map row_reply lines) _ (each_mapped IsPlainReply row_reply lines (λ line. refl)) (refl, tt)
+    each_append IsPlainReply (map row_reply lines) _ (each_mapped IsPlainReply row_reply lines (λ line. refl))
+    (refl, tt)
 
 module _ (s : ApiState) (all : ArePlainReplies s.replies) where
   one_more : (reply : ApiReply) → IsPlainReply reply → ArePlainReplies (s.replies ++ reply ∷ [])
@@ -112,8 +113,10 @@ row_keeps : (s : PlainHost) (x : Signal) → ArePlainReplies (api_of s).replies
     → ArePlainReplies (api_of (row s x).state).replies
 row_keeps s x all = by (api_step s x)
   where
-    by : IsApiStep s x (row s x) ⊎ (api_of (row s x).state ≡ api_of s) → ArePlainReplies (api_of (row s x).state).replies
-    by (inl step) = subst (λ (a : ApiState). ArePlainReplies a.replies) (sym step.state) (api_keeps (api_of s) all x.body)
+    by : IsApiStep s x (row s x) ⊎ (api_of (row s x).state ≡ api_of s)
+        → ArePlainReplies (api_of (row s x).state).replies
+    by (inl step) =
+        subst (λ (a : ApiState). ArePlainReplies a.replies) (sym step.state) (api_keeps (api_of s) all x.body)
     by (inr same) = subst (λ (a : ApiState). ArePlainReplies a.replies) (sym same) all
 
 part_begins : (of : Part) (member : Member) (layout : Layout) (epoch : ℕ) (rows : List (List ℕ × List ℕ))

@@ -66,7 +66,9 @@ first_near epoch false = tt
 master_begins : (start : Start) (of : Part) (member : Member) (p : MainPart)
     → (part_started start of member).parts ≡ Main p → IsMasterNear p.master
 master_begins start part.Main member p is =
-    subst IsNearIn is (record { phase = first_near start.epoch (is_president member (first start)); front = tt; asked = refl })
+    let phase : IsPhaseNear (first_phase start.epoch (is_president member (first start))) =
+    first_near start.epoch (is_president member (first start)) in
+    subst IsNearIn is (record { phase = phase; front = tt; asked = refl })
 master_begins start part.Tc member p is = absurd cc
 master_begins start part.Ldm member p is = absurd cc
 

@@ -1,5 +1,6 @@
 -- A step sends to the hosts that are no main parts what its plain one does, but for epochs.
-use Rattle.std.proofs.Common.{eqb-true, ne_eqb, ◌≡◌, ◌≤◌, ◌+◌, arith, ℕ, List, [], ◌∷◌, ◌++◌, Bool, true, false, refl, ap, sym, ◌∙◌}
+use Rattle.std.proofs.Common.{◌≡◌, ◌≤◌, ◌+◌, ℕ, List, [], ◌∷◌, ◌++◌, Bool, true, false, refl, ap, sym, ◌∙◌}
+use Rattle.std.proofs.Common.{arith, eqb-true, ne_eqb}
 use Rattle.std.specs.Prelude.{if◌then◌else◌, ◌==◌, map}
 use Rattle.std.proofs.lemmas.Bool.{true≢false}
 use Rattle.node_views.specs.declared.standing.Standing.{Standing}
@@ -24,7 +25,8 @@ use Rattle.world_views.proofs.LogFacts.{sent_going_on}
 use Rattle.world_views.specs.declared.sender.Sender.{Sender}
 use Rattle.world_views.specs.Hosts.{reached}
 use Rattle.world_views.specs.Machine.{after, machine, sender, sent_count, step_after, stops_by}
-use Rattle.world_views.specs.Sending.{Routed, addressed, all_addressed, count_routed, is_kept_back, routed, routed_all, routed_if}
+use Rattle.world_views.specs.Sending.{Routed, addressed, all_addressed, count_routed, is_kept_back, routed}
+use Rattle.world_views.specs.Sending.{routed_all, routed_if}
 use Rattle.calm_laws.specs.Alike.{IsAtEase, first}
 use Rattle.calm_laws.specs.Plain.{is_beating}
 use Rattle.calm_laws.specs.Steps.{IsPlainSend, besides}
