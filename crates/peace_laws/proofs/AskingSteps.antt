@@ -62,26 +62,6 @@ some_runs (suc n) some =
     list_any-append (still_runs []) (members n) (record { node = n + 1; start = 0 } ∷ [])
     ∙ or_right (list_any (still_runs []) (members n)) _ refl
 
-<<<<<<< HEAD
--- its president is the first node
-pub first_presides : (nodes : ℕ) → 1 ≤ nodes → first_node (members nodes) ≡ Some 1
-first_presides zero some = absurd (omega (arith, some))
-first_presides (suc n) some = go n
-  where
-    go : (n : ℕ) → first_node (members (suc n)) ≡ Some 1
-    go zero = refl
-    go (suc n) = front (members (suc n)) (go n)
-      where
-        front : (those : List Member) → first_node those ≡ Some 1
-            → first_node (those ++ record { node = suc n + 1; start = 0 } ∷ []) ≡ Some 1
-        front [] none = absurd (cc (none))
-        front (member ∷ more) is = is
-
-some_node : (node : ℕ) → Some node ≡ Some 1 → 1 ≤ node
-some_node node is =
-    let one : node ≡ 1 = cc (is) in
-    omega (arith, one)
-=======
 -- the president of the first view is of a node, if it has one
 abbrev IsNodeOf : Option ℕ → Type 0
 IsNodeOf None = Unit {0}
@@ -95,7 +75,6 @@ first_of (one ∷ more) node some = some
 first_president : (n : ℕ) → IsNodeOf (first_node (members n))
 first_president zero = tt
 first_president (suc n) = first_of (members n) n (first_president n)
->>>>>>> 3ff9eb0594e747bbde469bbcc12d08d0e9e4c4ca
 
 -- the closing that a request asks for
 abbrev pub closing_of : ApiReq → Closing
@@ -152,17 +131,6 @@ module _ (start : Start) (given : List ApiReply) (shape : IsShape start.shape) (
   abbrev shell : host.Host
   shell = record { standing = standing; parts = Shell p }
 
-<<<<<<< HEAD
-  -- the president is the first node
-  pub asked_at : president p.client.api.view ≡ Some 1
-  asked_at = ap president near.1.0 ∙ first_presides start.shape.nodes shape.nodes_some
-
-  sends_request : (closing : Closing) (node : Option ℕ) → node ≡ Some 1
-      → Each (IsOfClosing 0) (ask_at closing node) × Each IsForMaster (ask_at closing node)
-  sends_request closing None is = (tt, tt)
-  sends_request Gcp (Some node) is = ((refl, tt), ((refl, some_node node is), tt))
-  sends_request Micro (Some node) is = ((refl, tt), ((refl, some_node node is), tt))
-=======
   sends_request : (closing : Closing) (node : Option ℕ) → IsNodeOf node
       → Each (IsOfClosing 0) (ask_at closing node) × Each IsForMaster (ask_at closing node)
   sends_request closing None some = (tt, tt)
@@ -174,7 +142,6 @@ module _ (start : Start) (given : List ApiReply) (shape : IsShape start.shape) (
   requested closing =
       sends_request closing (president p.client.api.view)
       (subst (λ (view : View). IsNodeOf (president view)) (sym near.1.0) (first_president start.shape.nodes))
->>>>>>> 3ff9eb0594e747bbde469bbcc12d08d0e9e4c4ca
 
   asks_near : (closing : Closing)
       → AskedNear start given (with_parts shell (in_shell (in_client p (asks_for p.client closing))))
@@ -199,13 +166,8 @@ module _ (start : Start) (given : List ApiReply) (shape : IsShape start.shape) (
     plain_marks = refl;
     none = ap plain_replies near.1.1.0;
     marks = refl;
-<<<<<<< HEAD
-    sends = (sends_request closing (president p.client.api.view) asked_at).0;
-    masters = (sends_request closing (president p.client.api.view) asked_at).1;
-=======
     sends = (requested closing).0;
     masters = (requested closing).1;
->>>>>>> 3ff9eb0594e747bbde469bbcc12d08d0e9e4c4ca
   }
 
   asked_near : (x : Signal) → x.view ≡ first start → (body : Body) → asks_by block.Api body ≡ true

@@ -1,11 +1,6 @@
 -- What hosts do at something of a closing: the plain ones stay as they are, but for the epoch that they give.
-<<<<<<< HEAD
-use Rattle.std.proofs.Common.{◌≡◌, ◌≤◌, ◌∙◌, ◌%◌, ◌&&◌, ◌++◌, ℕ, zero, suc, Bool, true, false, nat_le, nat_lt, List, [], ◌∷◌, refl, sym}
-use Rattle.std.proofs.Common.{ap, subst, append-nil, if◌then◌else◌}
-=======
 use Rattle.std.proofs.Common.{◌≡◌, ◌≤◌, ◌∙◌, ◌%◌, ◌&&◌, ◌++◌, ℕ, zero, suc, Bool, true, false, nat_le, nat_lt, List, []}
 use Rattle.std.proofs.Common.{◌∷◌, refl, sym, ap, subst, append-nil, if◌then◌else◌}
->>>>>>> 3ff9eb0594e747bbde469bbcc12d08d0e9e4c4ca
 use Rattle.std.proofs.lemmas.Bool.{and_right, false≢true, true≢false}
 use Rattle.std.specs.Prelude.{None, Some, length}
 use Rattle.api_block.specs.Given.{in_given}
@@ -60,7 +55,7 @@ use Rattle.sig_core.specs.declared.signal.epoch.EpochSignal.TheVariants as epoch
 use Rattle.sig_core.specs.declared.view.View.{View}
 use Rattle.sig_core.specs.declared.place.Place.{Place}
 use Rattle.sig_core.specs.Place.{checkpoints}
-use Rattle.sig_core.specs.Step.{Step, sending, stay, to_place}
+use Rattle.sig_core.specs.Step.{Step, sending, stay}
 use Rattle.world_core.specs.Hosts.{part_by}
 use Rattle.world_core.specs.Start.{Start}
 use Rattle.world_views.specs.Machine.{replies_at, step_by, told}
@@ -74,14 +69,9 @@ use Rattle.peace_laws.specs.Steps.{ClosingsStepNear, IsForMaster, IsOfClosing, a
 use Rattle.peace_laws.proofs.CloserEase.{closings_for_blocks, has_its_block, near_parts, takes_it}
 use Rattle.peace_laws.proofs.MasterNear.{master_steps}
 
-<<<<<<< HEAD
--- a step of a host that is near its plain one behind it, where it was told by this node
-record HostNear (start : Start) (h from : ℕ) (given : List ApiReply) (t : Step host.Host) (other : plain.Host) : Type 0
-=======
 -- a step of a host that is near its plain one behind it, at a signal from a member of this node
 record HostNear (start : Start) (h : ℕ) (given : List ApiReply) (from : ℕ) (t : Step host.Host) (other : plain.Host)
     : Type 0
->>>>>>> 3ff9eb0594e747bbde469bbcc12d08d0e9e4c4ca
   where
   inner : plain.Host
   near : AreNear start (given ++ plain_replies (replies_at h t)) (told h t) inner
@@ -91,15 +81,9 @@ record HostNear (start : Start) (h : ℕ) (given : List ApiReply) (from : ℕ) (
   masters : is_beating h ≡ false → 1 ≤ from → Each IsForMaster t.effects.sends
 
 -- a part of a node that stays
-<<<<<<< HEAD
-stays : (start : Start) (h from : ℕ) (given : List ApiReply) (s : host.Host) (other : plain.Host)
-    → AreNear start given s other → HostNear start (suc h) from given (stay s) other
-stays start h from given s other near = record {
-=======
 stays : (start : Start) (h : ℕ) (given : List ApiReply) (from : ℕ) (s : host.Host) (other : plain.Host)
     → AreNear start given s other → HostNear start (suc h) given from (stay s) other
 stays start h given from s other near = record {
->>>>>>> 3ff9eb0594e747bbde469bbcc12d08d0e9e4c4ca
   inner = other;
   near = subst (λ (more : List ApiReply). AreNear start more s other) (sym (append-nil given)) near;
   same = refl;
@@ -119,13 +103,8 @@ seen s view same =
     greatest false = refl
 
 -- The client's side is told of the end of a closing.
-<<<<<<< HEAD
-module _ (start : Start) (from : ℕ) (given : List ApiReply) (standing : Standing) (ease : IsAtEase start standing)
-    (p : ShellPart) (a : ApiState) (near : ArePartsNear start given (Shell p) (plain_host.Shell a)) where
-=======
 module _ (start : Start) (given : List ApiReply) (standing : Standing) (ease : IsAtEase start standing) (p : ShellPart)
     (a : ApiState) (near : ArePartsNear start given (Shell p) (plain_host.Shell a)) (from : ℕ) where
->>>>>>> 3ff9eb0594e747bbde469bbcc12d08d0e9e4c4ca
   abbrev shell_with : ClientState → host.Host
   shell_with c = record { standing = standing; parts = Shell (record { client = c; arbiter = p.arbiter }) }
 
@@ -141,11 +120,7 @@ module _ (start : Start) (given : List ApiReply) (standing : Standing) (ease : I
   none_told (one ∷ more) is = absurd cc
 
   closed : (closing : Closing) (epoch : ℕ) (asked : Bool)
-<<<<<<< HEAD
-      → HostNear start 0 from given (stay (shell_with (closed_if p.client closing epoch asked))) (plain_host.Shell a)
-=======
       → HostNear start 0 given from (stay (shell_with (closed_if p.client closing epoch asked))) (plain_host.Shell a)
->>>>>>> 3ff9eb0594e747bbde469bbcc12d08d0e9e4c4ca
   closed closing epoch true = record {
     inner =
         plain_host.Shell
@@ -186,37 +161,13 @@ module _ (start : Start) (given : List ApiReply) (standing : Standing) (ease : I
   of_client t = with_parts (shell_with p.client) (in_shell (in_client p t))
 
   client_by : (x : Signal) (body : Body) → is_for_closing block.Api body ≡ true
-<<<<<<< HEAD
-      → HostNear start 0 from given (of_client (client_table p.client x body)) (plain_host.Shell a)
-=======
       → HostNear start 0 given from (of_client (client_table p.client x body)) (plain_host.Shell a)
->>>>>>> 3ff9eb0594e747bbde469bbcc12d08d0e9e4c4ca
   unfolding closed_row
   client_by x (Epoch (epoch.GcpRep closed_epoch)) is = closed Gcp closed_epoch (is_asked Gcp p.client.closing)
   client_by x (Epoch (epoch.MicroRep closed_epoch)) is = closed Micro closed_epoch (is_asked Micro p.client.closing)
   client_by x body is = absurd (false≢true is)
 
   client_near : (x : Signal) → x.view ≡ first start → is_for_closing block.Api x.body ≡ true
-<<<<<<< HEAD
-      → HostNear start 0 from given (of_client (client_row p.client x)) (plain_host.Shell a)
-  client_near x view is =
-      subst (λ (c : ClientState). HostNear start 0 from given (of_client (client_table c x x.body)) (plain_host.Shell a))
-      (sym (seen p.client x.view (near.1.0 ∙ sym view))) (client_by x x.body is)
-
--- What a member tells: the master of the node that told it.
-record IsConfirmed (from : ℕ) (sent : Outgoing) : Type 0 where
-  block_is : sent.to.block ≡ block.GcpMaster
-  node : sent.to.node ≡ from
-  of : (is_for_closing sent.to.block sent.body ≡ true) × (asks_master sent.body ≡ false)
-
-confirmed_of : (h from : ℕ) (sends : List Outgoing) → Each (IsConfirmed from) sends → Each (IsOfClosing (suc h)) sends
-confirmed_of h from sends is = each_map (IsConfirmed from) (IsOfClosing (suc h)) sends (λ sent one. one.of) is
-
-confirmed_for : (from : ℕ) (sends : List Outgoing) → 1 ≤ from → Each (IsConfirmed from) sends → Each IsForMaster sends
-confirmed_for from sends some is =
-    each_map (IsConfirmed from) IsForMaster sends
-    (λ sent one. (one.block_is, subst (λ node. 1 ≤ node) (sym one.node) some)) is
-=======
       → HostNear start 0 given from (of_client (client_row p.client x)) (plain_host.Shell a)
   client_near x view is =
       subst (λ (c : ClientState). HostNear start 0 given from (of_client (client_table c x x.body)) (plain_host.Shell a))
@@ -238,7 +189,6 @@ confirmed_for from some sends is =
     each_map (IsConfirmed from) IsForMaster sends
     (λ sent one.
     subst (λ (to : Place). (to.block ≡ block.GcpMaster) × (1 ≤ to.node)) (sym one.0) (refl, some)) is
->>>>>>> 3ff9eb0594e747bbde469bbcc12d08d0e9e4c4ca
 
 -- The epochs of a node.
 abbrev at_epoch : plain_dih.DihState → ℕ → plain_dih.DihState
@@ -253,20 +203,11 @@ record DihSteps (from : ℕ) (t : Step views.DihState) (q : plain_dih.DihState) 
 none_held : (s : views.DihState) → s.held ≡ [] → can_serve s ≡ false
 none_held s is = ap (λ (held : List TxId). gives s && nat_lt 0 (length held)) is ∙ and_right (gives s) false refl
 
-<<<<<<< HEAD
-module _ (from : ℕ) (q : plain_dih.DihState) where
-  confirms : (signal : EpochSignal) → is_order block.GcpMaster signal ≡ true → asks_master (Epoch signal) ≡ false
-      → IsConfirmed from (to_place (checkpoints from) (Epoch signal))
-  confirms signal order asks = record { block_is = refl; node = refl; of = (order, asks) }
-
-  notes : (s : views.DihState) (closed now : ℕ) → AreEpochsNear s (at_epoch q now)
-=======
 module _ (q : plain_dih.DihState) where
   notes : (s : views.DihState) (from closed now : ℕ) → AreEpochsNear s (at_epoch q now)
->>>>>>> 3ff9eb0594e747bbde469bbcc12d08d0e9e4c4ca
       → DihSteps from (noting s from closed) q
   unfolding reported
-  notes s closed now near = by (is_unfinished s.counted closed)
+  notes s from closed now near = by (is_unfinished s.counted closed)
     where
       by : (b : Bool)
           → DihSteps from
@@ -296,44 +237,27 @@ module _ (q : plain_dih.DihState) where
           held = near.held;
         };
         marks = refl;
-        sends = (confirms _ refl refl, tt);
+        sends = ((refl, (refl, refl)), tt);
       }
 
-<<<<<<< HEAD
-  none_served : (node : ℕ) (b : Bool) → b ≡ false → Each (IsConfirmed from) (go_on_if node b)
-  none_served node true is = absurd (true≢false is)
-  none_served node false is = tt
-
-  serves : (t : Step views.DihState) → DihSteps from t q → DihSteps from (serving t) q
-  serves t step = record {
-=======
   none_served : (from node : ℕ) (b : Bool) → b ≡ false → Each (IsConfirmed from) (go_on_if node b)
   none_served from node true is = absurd (true≢false is)
   none_served from node false is = tt
 
   serves : (from : ℕ) (t : Step views.DihState) → DihSteps from t q → DihSteps from (serving t) q
   serves from t step = record {
->>>>>>> 3ff9eb0594e747bbde469bbcc12d08d0e9e4c4ca
     epoch = step.epoch;
     near = step.near;
     marks = ap (λ (marks : List Mark). marks ++ []) step.marks;
     sends =
         each_append (IsConfirmed from) t.effects.sends _ step.sends
-<<<<<<< HEAD
-        (none_served t.state.node (can_serve t.state) (none_held t.state step.near.held));
-  }
-
-  module _ (s : views.DihState) (near : AreEpochsNear s q) where
-    prepares : (closed next : ℕ) → DihSteps from (prepare_row s from closed next) q
-=======
         (none_served from t.state.node (can_serve t.state) (none_held t.state step.near.held));
   }
 
   module _ (s : views.DihState) (near : AreEpochsNear s q) where
     prepares : (from closed next : ℕ) → DihSteps from (prepare_row s from closed next) q
->>>>>>> 3ff9eb0594e747bbde469bbcc12d08d0e9e4c4ca
     unfolding prepare_row
-    prepares closed next = by (nat_le s.current closed)
+    prepares from closed next = by (nat_le s.current closed)
       where
         by : (b : Bool)
             → DihSteps from
@@ -349,25 +273,17 @@ module _ (q : plain_dih.DihState) where
             held = near.held;
           };
           marks = refl;
-          sends = (confirms _ refl refl, tt);
+          sends = ((refl, (refl, refl)), tt);
         }
-        by false = record { epoch = q.epoch; near = near; marks = refl; sends = (confirms _ refl refl, tt) }
+        by false = record { epoch = q.epoch; near = near; marks = refl; sends = ((refl, (refl, refl)), tt) }
 
-<<<<<<< HEAD
-    commits : (closed next : ℕ) → DihSteps from (commit_row s from closed next) q
-=======
     commits : (from closed next : ℕ) → DihSteps from (commit_row s from closed next) q
->>>>>>> 3ff9eb0594e747bbde469bbcc12d08d0e9e4c4ca
     unfolding commit_row
-    commits closed next = by (nat_le s.current closed)
+    commits from closed next = by (nat_le s.current closed)
       where
         by : (b : Bool) → DihSteps from (commit_if s from closed next b) q
         by true =
-<<<<<<< HEAD
-            serves _ (notes (committed s closed next) closed next
-=======
             serves from _ (notes (committed s closed next) from closed next
->>>>>>> 3ff9eb0594e747bbde469bbcc12d08d0e9e4c4ca
             (record {
               node = near.node;
               number = near.number;
@@ -376,18 +292,14 @@ module _ (q : plain_dih.DihState) where
               counted = near.counted;
               held = near.held;
             }))
-        by false = notes s closed q.epoch near
+        by false = notes s from closed q.epoch near
 
-<<<<<<< HEAD
-    by_order : (signal : EpochSignal) → is_order block.Dih signal ≡ true
-=======
     by_order : (from : ℕ) (signal : EpochSignal) → is_order block.Dih signal ≡ true
->>>>>>> 3ff9eb0594e747bbde469bbcc12d08d0e9e4c4ca
         → DihSteps from (dih.epoch_table s from signal) q
     unfolding close_row copy_row done_row
-    by_order (epoch.GcpPrepare closed next) is = prepares closed next
-    by_order (epoch.GcpCommit closed next) is = commits closed next
-    by_order (epoch.GcpClosed closed) is = record {
+    by_order from (epoch.GcpPrepare closed next) is = prepares from closed next
+    by_order from (epoch.GcpCommit closed next) is = commits from closed next
+    by_order from (epoch.GcpClosed closed) is = record {
       epoch = q.epoch;
       near = record {
         node = near.node;
@@ -398,11 +310,11 @@ module _ (q : plain_dih.DihState) where
         held = near.held;
       };
       marks = refl;
-      sends = (confirms _ refl refl, tt);
+      sends = ((refl, (refl, refl)), tt);
     }
-    by_order (epoch.CopyGciReq closed mask) is =
-        record { epoch = q.epoch; near = near; marks = refl; sends = (confirms _ refl refl, tt) }
-    by_order (epoch.GcpDone closed) is = record {
+    by_order from (epoch.CopyGciReq closed mask) is =
+        record { epoch = q.epoch; near = near; marks = refl; sends = ((refl, (refl, refl)), tt) }
+    by_order from (epoch.GcpDone closed) is = record {
       epoch = q.epoch;
       near = record {
         node = near.node;
@@ -415,19 +327,12 @@ module _ (q : plain_dih.DihState) where
       marks = refl;
       sends = tt;
     }
-    by_order signal is = absurd (false≢true is)
+    by_order from signal is = absurd (false≢true is)
 
-<<<<<<< HEAD
-    dih_by : (number : ℕ) (body : Body) → is_for_closing block.Dih body ≡ true
-        → DihSteps from (dih_table s from number body) q
-    dih_by number (Epoch signal) is = by_order signal is
-    dih_by number body is = absurd (false≢true is)
-=======
     dih_by : (from number : ℕ) (body : Body) → is_for_closing block.Dih body ≡ true
         → DihSteps from (dih_table s from number body) q
     dih_by from number (Epoch signal) is = by_order from signal is
     dih_by from number body is = absurd (false≢true is)
->>>>>>> 3ff9eb0594e747bbde469bbcc12d08d0e9e4c4ca
 
 -- a part that does something of a closing
 module _ (start : Start) (h : ℕ) (given : List ApiReply) (standing : Standing) (ease : IsAtEase start standing)
@@ -437,34 +342,22 @@ module _ (start : Start) (h : ℕ) (given : List ApiReply) (standing : Standing)
 
   tc_near : (p : TcPart) (q : plain_tc.TcPart) → ArePartsNear start given (Tc p) (plain_host.Tc q)
       → is_for_closing block.Dih x.body ≡ true
-<<<<<<< HEAD
-      → HostNear start (suc h) x.member.node given (with_parts (part_with (Tc p)) (in_tc (in_dih p (dih_row p.dih x))))
-=======
       → HostNear start (suc h) given x.member.node (with_parts (part_with (Tc p)) (in_tc (in_dih p (dih_row p.dih x))))
->>>>>>> 3ff9eb0594e747bbde469bbcc12d08d0e9e4c4ca
       (plain_host.Tc q)
   tc_near p q near is =
-      let step = dih_by x.member.node q.dih p.dih near.1 x.view.number x.body is in
+      let step = dih_by q.dih p.dih near.1 x.member.node x.view.number x.body is in
       record {
         inner = plain_host.Tc (record { tc = q.tc; dih = at_epoch q.dih step.epoch });
         near = record { standing = ease; parts = (near.0, step.near) };
         same = refl;
         marks = λ beats. step.marks;
         sends = confirmed_of h x.member.node _ step.sends;
-<<<<<<< HEAD
-        masters = λ beats some. confirmed_for x.member.node _ some step.sends;
-=======
         masters = λ beats some. confirmed_for x.member.node some _ step.sends;
->>>>>>> 3ff9eb0594e747bbde469bbcc12d08d0e9e4c4ca
       }
 
   rows_by : (p : LdmPart) (s : LqhState) (body : Body) → ArePartsNear start given (Ldm p) (plain_host.Ldm s)
       → is_for_closing block.Lqh body ≡ true
-<<<<<<< HEAD
-      → HostNear start (suc h) x.member.node given
-=======
       → HostNear start (suc h) given x.member.node
->>>>>>> 3ff9eb0594e747bbde469bbcc12d08d0e9e4c4ca
       (with_parts (part_with (Ldm p)) (in_ldm (in_replica p body (replica_by p.replica x body)))) (plain_host.Ldm s)
   rows_by p s (Epoch (epoch.GcpClosed closed)) near is = record {
     inner = plain_host.Ldm s;
@@ -495,11 +388,7 @@ module _ (start : Start) (h : ℕ) (given : List ApiReply) (standing : Standing)
   main_near : (p : MainPart) (m : plain_main.MainPart) → is_beating (suc h) ≡ true
       → ArePartsNear start given (Main p) (plain_host.Main m) → is_for_closing block.GcpMaster x.body ≡ true
       → (asks_master x.body ≡ true → x.member.node ≡ 0)
-<<<<<<< HEAD
-      → HostNear start (suc h) x.member.node given (with_parts (part_with (Main p)) (in_main (in_master p (master_row p.master x))))
-=======
       → HostNear start (suc h) given x.member.node (with_parts (part_with (Main p)) (in_main (in_master p (master_row p.master x))))
->>>>>>> 3ff9eb0594e747bbde469bbcc12d08d0e9e4c4ca
       (plain_host.Main m)
   main_near p m beats near is client =
       let step = master_steps p.master x near is client in
@@ -535,21 +424,12 @@ module _ (start : Start) (h : ℕ) (given : List ApiReply) (standing : Standing)
     (x : Signal) (client : asks_master x.body ≡ true → x.member.node ≡ 0) where
   abbrev IsStep : BlockId → Parts → plain.Host → Type 0
   IsStep to parts other =
-<<<<<<< HEAD
-      HostNear start (suc h) x.member.node given (with_parts (part_with start h given standing ease x parts) (row_at parts to x)) other
-
-  same_parts : (parts : Parts) (other : plain.Host) → ArePartsNear start given parts other
-      → HostNear start (suc h) x.member.node given (stay (part_with start h given standing ease x parts)) other
-  same_parts parts other near =
-      stays start h x.member.node given (part_with start h given standing ease x parts) other
-=======
       HostNear start (suc h) given x.member.node (with_parts (part_with start h given standing ease x parts) (row_at parts to x)) other
 
   same_parts : (parts : Parts) (other : plain.Host) → ArePartsNear start given parts other
       → HostNear start (suc h) given x.member.node (stay (part_with start h given standing ease x parts)) other
   same_parts parts other near =
       stays start h given x.member.node (part_with start h given standing ease x parts) other
->>>>>>> 3ff9eb0594e747bbde469bbcc12d08d0e9e4c4ca
       (record { standing = ease; parts = near })
 
   at_master : is_beating (suc h) ≡ true → is_for_closing block.GcpMaster x.body ≡ true → (parts : Parts)
@@ -592,17 +472,10 @@ module _ (start : Start) (given : List ApiReply) (standing : Standing) (ease : I
     (view : x.view ≡ first start) where
   at_client : is_for_closing block.Api x.body ≡ true → (parts : Parts) (other : plain.Host)
       → ArePartsNear start given parts other
-<<<<<<< HEAD
-      → HostNear start 0 x.member.node given
-      (with_parts (record { standing = standing; parts = parts }) (row_at parts block.Api x)) other
-  unfolding shell_row main_row tc_row ldm_row
-  at_client is (Shell p) (plain_host.Shell a) near = client_near start x.member.node given standing ease p a near x view is
-=======
       → HostNear start 0 given x.member.node
       (with_parts (record { standing = standing; parts = parts }) (row_at parts block.Api x)) other
   unfolding shell_row main_row tc_row ldm_row
   at_client is (Shell p) (plain_host.Shell a) near = client_near start given standing ease p a near x.member.node x view is
->>>>>>> 3ff9eb0594e747bbde469bbcc12d08d0e9e4c4ca
   at_client is (Main p) (plain_host.Main m) near = record {
     inner = plain_host.Main m;
     near = record { standing = ease; parts = near };
@@ -631,11 +504,7 @@ module _ (start : Start) (given : List ApiReply) (standing : Standing) (ease : I
 
   by_client : (to : BlockId) → has_closer 0 to ≡ true → is_for_closing to x.body ≡ true → (parts : Parts)
       (other : plain.Host) → ArePartsNear start given parts other
-<<<<<<< HEAD
-      → HostNear start 0 x.member.node given (with_parts (record { standing = standing; parts = parts }) (row_at parts to x)) other
-=======
       → HostNear start 0 given x.member.node (with_parts (record { standing = standing; parts = parts }) (row_at parts to x)) other
->>>>>>> 3ff9eb0594e747bbde469bbcc12d08d0e9e4c4ca
   by_client block.Api has is = at_client is
   by_client to has is = absurd (false≢true has)
 
@@ -650,11 +519,7 @@ closings_step_near start h given s other x near comes goes = record {
 }
   where
     by : (h : ℕ) → has_closer h x.to.block ≡ true
-<<<<<<< HEAD
-        → HostNear start h x.member.node given (with_parts s (row_at s.parts x.to.block x)) other
-=======
         → HostNear start h given x.member.node (with_parts s (row_at s.parts x.to.block x)) other
->>>>>>> 3ff9eb0594e747bbde469bbcc12d08d0e9e4c4ca
     by zero has =
         by_client start given s.standing near.standing x comes.view x.to.block has (takes_it h x comes.closing) s.parts
         other near.parts
@@ -662,15 +527,9 @@ closings_step_near start h given s other x near comes goes = record {
         at_block start host given s.standing near.standing x comes.client (part_by (host % 3)) x.to.block refl has
         (takes_it h x comes.closing) s.parts other near.parts
 
-<<<<<<< HEAD
-    all : HostNear start h x.member.node given (step_by h s x) other
-    all =
-        subst (λ t. HostNear start h x.member.node given t other)
-=======
     all : HostNear start h given x.member.node (step_by h s x) other
     all =
         subst (λ t. HostNear start h given x.member.node t other)
->>>>>>> 3ff9eb0594e747bbde469bbcc12d08d0e9e4c4ca
         (ap (with_parts s) (row_is s.parts x)
         ∙ sym (near_parts start h given s other x near comes.fine comes.view
         (closings_for_blocks h x comes.closing) goes))

@@ -35,5 +35,6 @@ pub mod RunKept
 pub mod SeenNear
 pub mod SentNear
 pub mod Stands
+pub mod UnderLinks
 pub mod Voices
 pub mod WayOn
