@@ -1,3 +1,4 @@
+pub mod AnswerOn
 pub mod Arrivals
 pub mod AskingSteps
 pub mod CalmFacts

@@ -268,6 +268,16 @@ module _ (start : Start) (c : Course) where
       (in_back _ (drop at (to_both (order.Done c.epoch) (first start)))
       (to_place client (Epoch (report_by c.epoch Gcp)) ∷ []) (inl refl)))
 
+  pub report_stands : IsIn (report_of c) (front_sends 1 (first start) (Some (ended_of c)))
+  unfolding front_sends
+  report_stands = by c.kind
+    where
+      by : (kind : Closing)
+          → IsIn (to_place client (Epoch (report_by c.epoch kind)))
+          (front_sends 1 (first start) (Some (ended_by c.epoch kind)))
+      by Gcp = in_back _ (to_both (order.Done c.epoch) (first start)) _ (inl refl)
+      by Micro = inl refl
+
   -- the list of the president's master
   module _ (s : MasterState) (master : IsMaster start s) where
     list_is : master_sends s ≡ front_sends 1 (first start) s.front ++ phase_sends (first start) s.phase
