@@ -69,7 +69,7 @@ record AreGood (start : Start) (epoch : ℕ) (base : ℕ → List HostStep) (es 
   kept : IsKept start es
   peaceful : ArePeaceful (log_of (machine start) es)
   running : (h : ℕ) → has_stopped (log_of (machine start) es h) ≡ false
-  stays : (h : ℕ) → h < hosts start → StaysIn start epoch (after start h (log_of (machine start) es h)).parts
+  stays : (h : ℕ) → h < hosts start → StaysIn start h epoch (after start h (log_of (machine start) es h)).parts
   good : (h : ℕ) → IsGood start base h (log_of (machine start) es h)
   below : (h : ℕ) → AreBelow epoch (log_of (machine start) es h)
 
@@ -97,18 +97,18 @@ module _ (hosts_level : HostsAreLevel) (start : Start) (shape : IsShape start.sh
     calm : is_calm e.host e.step.taken ≡ true
     calm = next_calm start request was more all by asks_calmly es e run upto are.running are.good
 
-    stays : StaysIn start epoch (after start e.host log).parts
+    stays : StaysIn start e.host epoch (after start e.host log).parts
     stays = are.stays e.host low
 
     known : IsNextInCalm start es e (are.kept.mirrored e.host)
     known =
         facts hosts_level start shape es e run calm within_then low are.kept
-        (stays_closeless start epoch (after start e.host log).parts stays)
+        (stays_closeless start e.host epoch (after start e.host log).parts stays)
 
     kept : IsKept start (e ∷ es)
     kept =
         (next hosts_level start shape es e run calm within_then low are.kept
-        (stays_closeless start epoch (after start e.host log).parts stays)).kept
+        (stays_closeless start e.host epoch (after start e.host log).parts stays)).kept
 
     -- a claim about each host, where the one of the step has it
     each_host : (P : ℕ → List HostStep → Type 0) → P e.host (e ∷ log)
@@ -122,10 +122,10 @@ module _ (hosts_level : HostsAreLevel) (start : Start) (shape : IsShape start.sh
         go (inr apart) = subst (P h) (sym (log_of-other (machine start) e es h apart)) (before h)
 
     Here : Type 0
-    Here = IsGood start was e.host (e ∷ log) × StaysIn start epoch (after start e.host (e ∷ log)).parts
+    Here = IsGood start was e.host (e ∷ log) × StaysIn start e.host epoch (after start e.host (e ∷ log)).parts
 
     here : (b : Bool) → is_beating e.host ≡ b → IsGood start was e.host (e ∷ log)
-        × StaysIn start epoch (after start e.host (e ∷ log)).parts
+        × StaysIn start e.host epoch (after start e.host (e ∷ log)).parts
     here true beats =
         let at : IsMainAt start e.host = main_place start e.host low beats in
         let fine = signal_fine start request was more all by asks_calmly es e run upto are.running are.good in
@@ -151,7 +151,7 @@ module _ (hosts_level : HostsAreLevel) (start : Start) (shape : IsShape start.sh
         (marks_below epoch (row (are.kept.mirrored e.host).inner e.step.taken).effects.marks
         (row_marks epoch (are.kept.mirrored e.host).inner e.step.taken
         (gives_in epoch (are.kept.mirrored e.host).inner
-        (near_gives start _ epoch (after start e.host log).parts (are.kept.mirrored e.host).inner
+        (near_gives start _ e.host epoch (after start e.host log).parts (are.kept.mirrored e.host).inner
         (are.kept.mirrored e.host).near.parts stays))))
 
     good_next : AreGood start epoch was (e ∷ es)
@@ -163,7 +163,7 @@ module _ (hosts_level : HostsAreLevel) (start : Start) (shape : IsShape start.sh
               (ap (λ b. b || (is_closing e.host e.step.taken || asks_closing e.host e.step.taken)) calm,
               are.peaceful e.host) are.peaceful;
           running = each_host (λ h those. has_stopped those ≡ false) known.goes_on are.running;
-          stays = each_host (λ h those. h < hosts start → StaysIn start epoch (after start h those).parts)
+          stays = each_host (λ h those. h < hosts start → StaysIn start h epoch (after start h those).parts)
               (λ there. (here (is_beating e.host) refl).1) are.stays;
           good = each_host (IsGood start was) (here (is_beating e.host) refl).0 are.good;
           below = each_host (λ h those. AreBelow epoch those)
@@ -207,8 +207,8 @@ module _ (hosts_level : HostsAreLevel) (start : Start) (shape : IsShape start.sh
             subst (λ (logs : ℕ → List HostStep). has_stopped (logs h) ≡ false) (sym rests.stands.is)
             (rests.stands.running h);
         stays = λ h low.
-            subst (λ (logs : ℕ → List HostStep). StaysIn start epoch (after start h (logs h)).parts)
-            (sym rests.stands.is) (rests_stays start epoch (after start h (was h)).parts (rests.rests h low));
+            subst (λ (logs : ℕ → List HostStep). StaysIn start h epoch (after start h (logs h)).parts)
+            (sym rests.stands.is) (rests_stays start h epoch (after start h (was h)).parts (rests.rests h low));
         good = λ h.
             subst (λ (logs : ℕ → List HostStep). IsGood start was h (logs h)) (sym rests.stands.is) (begins_good h);
         below = λ h.
@@ -350,8 +350,8 @@ module _ (hosts_level : HostsAreLevel) (start : Start) (shape : IsShape start.sh
           stands = calm_stands;
           beating = all_rest;
           rests = λ h low.
-              stays_rests start epoch (after start h (more h)).parts
-              (subst (λ (logs : ℕ → List HostStep). StaysIn start epoch (after start h (logs h)).parts) logs_are
+              stays_rests start h epoch (after start h (more h)).parts
+              (subst (λ (logs : ℕ → List HostStep). StaysIn start h epoch (after start h (logs h)).parts) logs_are
               (all_good.stays h low))
               (counts_nobody start more calm_stands again shape h low);
           below = λ h.

@@ -10,6 +10,7 @@ pub mod ClosingSignals
 pub mod ClosingSteps
 pub mod CompletionTurns
 pub mod Completions
+pub mod FirstAsked
 pub mod LevelSignals
 pub mod ListOn
 pub mod MainNear
@@ -35,6 +36,7 @@ pub mod RestingHosts
 pub mod RunKept
 pub mod SeenNear
 pub mod SentNear
+pub mod Served
 pub mod Stands
 pub mod UnderLinks
 pub mod Voices

@@ -78,7 +78,7 @@ module _ (hosts_level : HostsAreLevel) (start : Start) (shape : IsShape start.sh
     (base : ℕ → List HostStep) (es : List HostStep) (e : HostStep)
     (mirrored : (h : ℕ) → IsMirrored start h (log_of (machine start) es h)) (low : e.host < hosts start)
     (next : IsNextInCalm start es e (mirrored e.host))
-    (stays : StaysIn start epoch (after start e.host (log_of (machine start) es e.host)).parts)
+    (stays : StaysIn start e.host epoch (after start e.host (log_of (machine start) es e.host)).parts)
     (fine : is_asked e.host e.step.taken ≡ false → IsFine start e.step.taken.from.0 (arriving e.host e.step.taken))
     (before : IsGood start base e.host (log_of (machine start) es e.host)) where
   abbrev log : List HostStep
@@ -106,7 +106,7 @@ module _ (hosts_level : HostsAreLevel) (start : Start) (shape : IsShape start.sh
         subst (λ given. AreAlike start given (after start e.host log) inner) (no_replies e.host at log)
         (near_alike start (plain_replies (replies_in start e.host log)) (after start e.host log) inner
         (mirrored e.host).near
-        (stays_closeless start epoch (after start e.host log).parts stays))
+        (stays_closeless start e.host epoch (after start e.host log).parts stays))
 
     main_on :
         ((j : ℕ) → IsSince start (main_at k) j (base e.host) log
@@ -135,7 +135,7 @@ module _ (hosts_level : HostsAreLevel) (start : Start) (shape : IsShape start.sh
           shell = λ shell. absurd (cc (at, shell));
         }
 
-    pub main_rests : StaysIn start epoch (after start e.host (e ∷ log)).parts
+    pub main_rests : StaysIn start e.host epoch (after start e.host (e ∷ log)).parts
     main_rests =
         main_stays_in start e.host epoch (after start e.host log) inner x beats here_alike
         (inner_main start e.host log (mirrored e.host) ∙ beats) next.comes stays
@@ -227,7 +227,7 @@ module _ (hosts_level : HostsAreLevel) (start : Start) (shape : IsShape start.sh
         go zero at = shell_good at
         go (suc h) at = part_good h at
 
-    pub other_rests : StaysIn start epoch (after start e.host (e ∷ log)).parts
+    pub other_rests : StaysIn start e.host epoch (after start e.host (e ∷ log)).parts
     other_rests =
         part_stays start e.host epoch (plain_replies (replies_in start e.host log)) _ (after start e.host log)
         (after start e.host (e ∷ log)) (mirrored e.host).inner x (mirrored e.host).near.parts stays alike_step.alike

@@ -5,7 +5,6 @@ use Rattle.std.specs.Prelude.{None}
 use Rattle.std.proofs.lemmas.Bool.{false≢true}
 use Rattle.api_views.specs.State.{ClientState}
 use Rattle.dih_node.specs.State as views
-use Rattle.gcp_master.specs.Master.{fresh_master}
 use Rattle.node_core.proofs.DihForms.{dih_forms}
 use Rattle.node_core.specs.declared.host.Host as plain_host
 use Rattle.node_core.specs.declared.host.Host.TheVariants as plain
@@ -31,7 +30,7 @@ use Rattle.calm_laws.specs.Steps.{ComesCalmly}
 use Rattle.calm_laws.proofs.Ease.{blocks_alone, ease_row, has_calm_block}
 use Rattle.calm_laws.proofs.FineSends.{beating_block}
 use Rattle.peace_laws.specs.Alike.{ArePartsNear, RestsOfClosings}
-use Rattle.peace_laws.specs.Rest.{RestsIn}
+use Rattle.peace_laws.specs.Rest.{MasterRests, RestsIn}
 use Rattle.peace_laws.proofs.NearHosts.{has_main}
 
 -- a node gives this epoch, and isn't prepared for another one
@@ -41,39 +40,41 @@ pub record GivesOn (epoch : ℕ) (s : views.DihState) : Type 0 where
   pub held : s.held ≡ []
   pub order : s.order ≡ None
 
--- a part is at rest in this epoch, but for the transactions that are counted
-abbrev pub StaysIn : Start → ℕ → Parts → Type 0
-StaysIn start epoch (Shell p) = (p.client.closing ≡ None) × (p.client.own ≡ false)
-StaysIn start epoch (Main p) = p.master ≡ fresh_master p.master.member (first start) epoch
-StaysIn start epoch (Tc p) = GivesOn epoch p.dih
-StaysIn start epoch (Ldm p) = Unit {0}
+-- a part of host h is at rest in this epoch, but for the transactions that are counted
+abbrev pub StaysIn : Start → ℕ → ℕ → Parts → Type 0
+StaysIn start h epoch (Shell p) = (p.client.closing ≡ None) × (p.client.own ≡ false)
+StaysIn start h epoch (Main p) = MasterRests start h epoch p.master
+StaysIn start h epoch (Tc p) = GivesOn epoch p.dih
+StaysIn start h epoch (Ldm p) = Unit {0}
 
 -- so it is of a part at rest, and no closing is under way at such a part
-pub rests_stays : (start : Start) (epoch : ℕ) (parts : Parts) → RestsIn start epoch parts → StaysIn start epoch parts
-rests_stays start epoch (Shell p) rests = rests
-rests_stays start epoch (Main p) rests = rests
-rests_stays start epoch (Tc p) rests =
+pub rests_stays : (start : Start) (h epoch : ℕ) (parts : Parts) → RestsIn start h epoch parts
+    → StaysIn start h epoch parts
+rests_stays start h epoch (Shell p) rests = rests
+rests_stays start h epoch (Main p) rests = rests
+rests_stays start h epoch (Tc p) rests =
     record { current = rests.current; next = rests.next; held = rests.held; order = rests.order }
-rests_stays start epoch (Ldm p) rests = tt
+rests_stays start h epoch (Ldm p) rests = tt
 
 -- and a part that counts nobody is at rest again
 abbrev pub CountsNobody : Parts → Type 0
 CountsNobody (Tc p) = p.dih.counted ≡ []
 CountsNobody parts = Unit {0}
 
-pub stays_rests : (start : Start) (epoch : ℕ) (parts : Parts) → StaysIn start epoch parts → CountsNobody parts
-    → RestsIn start epoch parts
-stays_rests start epoch (Shell p) stays none = stays
-stays_rests start epoch (Main p) stays none = stays
-stays_rests start epoch (Tc p) stays none =
+pub stays_rests : (start : Start) (h epoch : ℕ) (parts : Parts) → StaysIn start h epoch parts → CountsNobody parts
+    → RestsIn start h epoch parts
+stays_rests start h epoch (Shell p) stays none = stays
+stays_rests start h epoch (Main p) stays none = stays
+stays_rests start h epoch (Tc p) stays none =
     record { current = stays.current; next = stays.next; counted = none; held = stays.held; order = stays.order }
-stays_rests start epoch (Ldm p) stays none = tt
+stays_rests start h epoch (Ldm p) stays none = tt
 
-pub stays_closeless : (start : Start) (epoch : ℕ) (parts : Parts) → StaysIn start epoch parts → RestsOfClosings parts
-stays_closeless start epoch (Shell p) stays = stays
-stays_closeless start epoch (Main p) stays = tt
-stays_closeless start epoch (Tc p) stays = (stays.next ∙ sym stays.current, stays.order)
-stays_closeless start epoch (Ldm p) stays = tt
+pub stays_closeless : (start : Start) (h epoch : ℕ) (parts : Parts) → StaysIn start h epoch parts
+    → RestsOfClosings parts
+stays_closeless start h epoch (Shell p) stays = stays
+stays_closeless start h epoch (Main p) stays = tt
+stays_closeless start h epoch (Tc p) stays = (stays.next ∙ sym stays.current, stays.order)
+stays_closeless start h epoch (Ldm p) stays = tt
 
 -- the parts are those of a main part of a node
 abbrev pub has_main_part : Parts → Bool
@@ -111,43 +112,43 @@ row_gives epoch (plain.Main m) x gives = tt
 row_gives epoch (plain.Ldm s) x gives = tt
 
 -- a plain host near a host that stays in an epoch gives it
-pub near_gives : (start : Start) (given : List ApiReply) (epoch : ℕ) (parts : Parts) (other : plain_host.Host)
-    → ArePartsNear start given parts other → StaysIn start epoch parts → Gives epoch other
-near_gives start given epoch (Tc p) (plain.Tc q) near stays = sym near.1.current ∙ stays.current
-near_gives start given epoch parts (plain.Shell a) near stays = tt
-near_gives start given epoch parts (plain.Main m) near stays = tt
-near_gives start given epoch parts (plain.Ldm s) near stays = tt
-near_gives start given epoch (Shell p) (plain.Tc q) near stays = absurd near
-near_gives start given epoch (Main p) (plain.Tc q) near stays = absurd near
-near_gives start given epoch (Ldm p) (plain.Tc q) near stays = absurd near
+pub near_gives : (start : Start) (given : List ApiReply) (h epoch : ℕ) (parts : Parts) (other : plain_host.Host)
+    → ArePartsNear start given parts other → StaysIn start h epoch parts → Gives epoch other
+near_gives start given h epoch (Tc p) (plain.Tc q) near stays = sym near.1.current ∙ stays.current
+near_gives start given h epoch parts (plain.Shell a) near stays = tt
+near_gives start given h epoch parts (plain.Main m) near stays = tt
+near_gives start given h epoch parts (plain.Ldm s) near stays = tt
+near_gives start given h epoch (Shell p) (plain.Tc q) near stays = absurd near
+near_gives start given h epoch (Main p) (plain.Tc q) near stays = absurd near
+near_gives start given h epoch (Ldm p) (plain.Tc q) near stays = absurd near
 
 -- and a host that is alike one that gives it stays in it, unless it is a main part
-alike_stays : (start : Start) (given : List ApiReply) (epoch : ℕ) (parts : Parts) (other : plain_host.Host)
-    → ArePartsAlike start given parts other → has_main other ≡ false → Gives epoch other → StaysIn start epoch parts
-alike_stays start given epoch (Shell p) (plain.Shell a) alike none gives = (
+alike_stays : (start : Start) (given : List ApiReply) (h epoch : ℕ) (parts : Parts) (other : plain_host.Host)
+    → ArePartsAlike start given parts other → has_main other ≡ false → Gives epoch other → StaysIn start h epoch parts
+alike_stays start given h epoch (Shell p) (plain.Shell a) alike none gives = (
   ap (λ (c : ClientState). c.closing) alike.0,
   ap (λ (c : ClientState). c.own) alike.0,
 )
-alike_stays start given epoch (Tc p) (plain.Tc q) alike none gives =
+alike_stays start given h epoch (Tc p) (plain.Tc q) alike none gives =
     record {
       current = alike.1.current ∙ gives;
       next = alike.1.next ∙ gives;
       held = alike.1.held;
       order = alike.1.order;
     }
-alike_stays start given epoch (Ldm p) (plain.Ldm s) alike none gives = tt
-alike_stays start given epoch parts (plain.Main m) alike none gives = absurd (false≢true (sym none))
-alike_stays start given epoch parts other alike none gives = absurd alike
+alike_stays start given h epoch (Ldm p) (plain.Ldm s) alike none gives = tt
+alike_stays start given h epoch parts (plain.Main m) alike none gives = absurd (false≢true (sym none))
+alike_stays start given h epoch parts other alike none gives = absurd alike
 
 module _ (start : Start) (h epoch : ℕ) where
   -- a step of a host that is no main part
   pub part_stays : (given now : List ApiReply) (s next : host.Host) (other : plain_host.Host) (x : Signal)
-      → ArePartsNear start given s.parts other → StaysIn start epoch s.parts
+      → ArePartsNear start given s.parts other → StaysIn start h epoch s.parts
       → AreAlike start now next (row other x).state → has_main (row other x).state ≡ false
-      → StaysIn start epoch next.parts
+      → StaysIn start h epoch next.parts
   part_stays given now s next other x near stays alike none =
-      alike_stays start now epoch next.parts (row other x).state alike.parts none
-      (row_gives epoch other x (near_gives start given epoch s.parts other near stays))
+      alike_stays start now h epoch next.parts (row other x).state alike.parts none
+      (row_gives epoch other x (near_gives start given h epoch s.parts other near stays))
 
   -- and one of a main part, which does something for its membership
   told_parts : (k : ℕ) (t : Step host.Host) → is_beating k ≡ true → told k t ≡ t.state
@@ -155,10 +156,10 @@ module _ (start : Start) (h epoch : ℕ) where
   told_parts (suc k) t beats = refl
 
   membership_stays : (parts : Parts) (x : Signal) → x.to.block ≡ block.Qmgr → has_main_part parts ≡ true
-      → StaysIn start epoch parts → StaysIn start epoch (parts_row parts x).state
+      → StaysIn start h epoch parts → StaysIn start h epoch (parts_row parts x).state
   unfolding main_row
   membership_stays (Main p) x at main stays =
-      subst (λ to. StaysIn start epoch (in_main (main_row p to x)).state) (sym at) stays
+      subst (λ to. StaysIn start h epoch (in_main (main_row p to x)).state) (sym at) stays
   membership_stays (Shell p) x at main stays = absurd (false≢true main)
   membership_stays (Tc p) x at main stays = absurd (false≢true main)
   membership_stays (Ldm p) x at main stays = absurd (false≢true main)
@@ -174,12 +175,12 @@ module _ (start : Start) (h epoch : ℕ) where
   alike_main given parts (plain.Ldm s) alike main = absurd (false≢true main)
 
   pub main_stays_in : (s : host.Host) (other : plain_host.Host) (x : Signal) → is_beating h ≡ true
-      → AreAlike start [] s other → has_main other ≡ true → ComesCalmly start h x → StaysIn start epoch s.parts
-      → StaysIn start epoch (told h (step_by h s x)).parts
+      → AreAlike start [] s other → has_main other ≡ true → ComesCalmly start h x → StaysIn start h epoch s.parts
+      → StaysIn start h epoch (told h (step_by h s x)).parts
   main_stays_in s other x beats alike main calm stays =
-      subst (λ (next : host.Host). StaysIn start epoch next.parts) (sym (told_parts h (step_by h s x) beats))
-      (subst (λ (t : Step host.Host). StaysIn start epoch t.state.parts)
+      subst (λ (next : host.Host). StaysIn start h epoch next.parts) (sym (told_parts h (step_by h s x) beats))
+      (subst (λ (t : Step host.Host). StaysIn start h epoch t.state.parts)
       (sym (ease_row start h [] s other x alike calm))
-      (subst (λ (t : Step host.Host). StaysIn start epoch t.state.parts) (sym (blocks_alone h s x calm.calm))
+      (subst (λ (t : Step host.Host). StaysIn start h epoch t.state.parts) (sym (blocks_alone h s x calm.calm))
       (membership_stays s.parts x (beating_block h x.to.block beats (has_calm_block h x calm.calm))
       (alike_main [] s.parts other alike.parts main) stays)))

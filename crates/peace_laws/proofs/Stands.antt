@@ -10,7 +10,6 @@ use Rattle.sig_core.specs.declared.mark.Mark.TheVariants.{Decided}
 use Rattle.sig_core.specs.declared.member.HostId.{HostId}
 use Rattle.sig_core.specs.declared.place.Part.{Part}
 use Rattle.sig_core.specs.declared.place.Part.TheVariants as part
-use Rattle.sig_core.specs.declared.member.Member.{Member}
 use Rattle.world_core.specs.Hosts.{hosts, member_at, part_by}
 use Rattle.world_core.specs.Start.{Start, made}
 use Rattle.world_core.specs.Steps.{HostStep}
@@ -66,17 +65,17 @@ module _ (start : Start) (logs : ℕ → List HostStep) (stands : Stands start l
       (quiet i j i_low low (record { runs = stands.running j; takes = none_cut j i }))
 
 -- a life that begins without rows begins at rest
-part_rests : (start : Start) (of : Part) (member : Member)
-    → RestsIn start start.epoch (part_started start of member).parts
-part_rests start part.Main member = refl
-part_rests start part.Tc member =
-    record { current = refl; next = refl; counted = refl; held = refl; order = refl }
-part_rests start part.Ldm member = tt
+part_rests : (start : Start) (h : ℕ) (of : Part)
+    → RestsIn start h start.epoch (part_started start of (member_at (made start) h)).parts
+part_rests start h part.Main =
+    record { member = refl; view = refl; phase = refl; front = refl; asked = refl; owed = refl }
+part_rests start h part.Tc = record { current = refl; next = refl; counted = refl; held = refl; order = refl }
+part_rests start h part.Ldm = tt
 
-begin_rests : (start : Start) (h : ℕ) → RestsIn start start.epoch (started start h).parts
+begin_rests : (start : Start) (h : ℕ) → RestsIn start h start.epoch (started start h).parts
 unfolding started
 begin_rests start zero = (refl, refl)
-begin_rests start (suc h) = part_rests start (part_by (h % 3)) (member_at (made start) (suc h))
+begin_rests start (suc h) = part_rests start (suc h) (part_by (h % 3))
 
 pub lives_rest : (start : Start) → start.rows ≡ [] → Rests start start.epoch (λ h. [])
 lives_rest start rows =

@@ -1,11 +1,13 @@
 -- What a cluster in peace is where nothing is under way.
 use Rattle.std.specs.Prelude.{◌≡◌, ◌<◌, ℕ, false, List, [], None}
 use Rattle.dih_node.specs.State.{DihState}
-use Rattle.gcp_master.specs.Master.{fresh_master}
+use Rattle.gcp_master.specs.Master.{first_phase}
+use Rattle.gcp_master.specs.Resume.{is_president}
+use Rattle.gcp_master.specs.State.{MasterState}
 use Rattle.node_views.specs.declared.parts.Parts.{Parts}
 use Rattle.node_views.specs.declared.parts.Parts.TheVariants.{Shell, Main, Tc, Ldm}
-use Rattle.world_core.specs.Hosts.{hosts}
-use Rattle.world_core.specs.Start.{Start}
+use Rattle.world_core.specs.Hosts.{hosts, member_at}
+use Rattle.world_core.specs.Start.{Start, made}
 use Rattle.world_core.specs.Steps.{HostStep}
 use Rattle.world_views.specs.Machine.{after}
 use Rattle.calm_laws.specs.Alike.{first}
@@ -18,13 +20,22 @@ pub record GivesAlone (epoch : ℕ) (s : DihState) : Type 0 where
   pub held : s.held ≡ []
   pub order : s.order ≡ None
 
--- A part is at rest in this epoch: no closing is asked for, and each master is as it would begin in it.
-abbrev pub RestsIn : Start → ℕ → Parts → Type 0
-RestsIn start epoch (Shell p) = (p.client.closing ≡ None) × (p.client.own ≡ false)
-RestsIn start epoch (Main p) = p.master ≡ fresh_master p.master.member (first start) epoch
-RestsIn start epoch (Tc p) = GivesAlone epoch p.dih
-RestsIn start epoch (Ldm p) = Unit {0}
+-- host h's master is as it would begin in this epoch, but for whom it has heard
+pub record MasterRests (start : Start) (h epoch : ℕ) (m : MasterState) : Type 0 where
+  pub member : m.member ≡ member_at (made start) h
+  pub view : m.view ≡ first start
+  pub phase : m.phase ≡ first_phase epoch (is_president m.member (first start))
+  pub front : m.front ≡ None
+  pub asked : m.asked ≡ record { global = false; copy = false; micro = false }
+  pub owed : m.owed ≡ false
+
+-- A part of host h is at rest in this epoch: no closing is asked for, and its master does nothing.
+abbrev pub RestsIn : Start → ℕ → ℕ → Parts → Type 0
+RestsIn start h epoch (Shell p) = (p.client.closing ≡ None) × (p.client.own ≡ false)
+RestsIn start h epoch (Main p) = MasterRests start h epoch p.master
+RestsIn start h epoch (Tc p) = GivesAlone epoch p.dih
+RestsIn start h epoch (Ldm p) = Unit {0}
 
 -- so is each part after these logs
 abbrev pub AreAtRestIn : Start → ℕ → (ℕ → List HostStep) → Type 0
-AreAtRestIn start epoch logs = (h : ℕ) → h < hosts start → RestsIn start epoch (after start h (logs h)).parts
+AreAtRestIn start epoch logs = (h : ℕ) → h < hosts start → RestsIn start h epoch (after start h (logs h)).parts
