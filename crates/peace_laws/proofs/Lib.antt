@@ -11,6 +11,7 @@ pub mod ClosingSteps
 pub mod CompletionTurns
 pub mod Completions
 pub mod FirstAsked
+pub mod Letters
 pub mod LevelSignals
 pub mod ListOn
 pub mod MainNear
