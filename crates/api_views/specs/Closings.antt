@@ -50,7 +50,7 @@ closed_reply Gcp epoch = reply.Durable epoch
 closed_reply Micro epoch = reply.Closed epoch
 
 abbrev pub closed_if : ClientState → Closing → ℕ → Bool → ClientState
-closed_if s closing epoch true = record (telling s (closed_reply closing epoch)) { closing = None }
+closed_if s closing epoch true = record (telling s (closed_reply closing epoch)) { closing = None; own = false }
 closed_if s closing epoch false = s
 
 -- an epoch is closed: the client is told where it asked for that

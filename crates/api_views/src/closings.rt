@@ -86,6 +86,7 @@ impl Client {
         if is_asked(closing, self.closing) {
             self.api.reply(closed_reply(closing, epoch))?;
             self.closing = None;
+            self.own = false;
         }
         Ok(())
     }

@@ -56,14 +56,18 @@ use Rattle.closing_laws.proofs.MasterCloses.{ClosesRun, Heard, IsMarkOf, last, m
 use Rattle.closing_laws.proofs.MasterCloses as heard
 use Rattle.closing_laws.proofs.OverMasters.{EndsAreOwn, IsOverIn, all_over, over_now, still}
 
--- a member is the first of a list, or not
-first_or : (member : Member) (members : List Member) → IsFirst member members ⊎ (IsFirst member members → ⊥)
-first_or member [] = inr (λ is. is)
-first_or member (oldest ∷ members) = by (gcp.same_member member oldest) refl
+-- a member is this one or another
+pub is_or : (one other : Member) → (one ≡ other) ⊎ (one ≡ other → ⊥)
+is_or one other = by (gcp.same_member one other) refl
   where
-    by : (b : Bool) → gcp.same_member member oldest ≡ b → (member ≡ oldest) ⊎ (member ≡ oldest → ⊥)
-    by true is = inl (same_member-is member oldest is)
-    by false is = inr (λ same. true≢false (sym (same_member-self member oldest same) ∙ is))
+    by : (b : Bool) → gcp.same_member one other ≡ b → (one ≡ other) ⊎ (one ≡ other → ⊥)
+    by true is = inl (same_member-is one other is)
+    by false is = inr (λ same. true≢false (sym (same_member-self one other same) ∙ is))
+
+-- and the first of a list, or not
+pub first_or : (member : Member) (members : List Member) → IsFirst member members ⊎ (IsFirst member members → ⊥)
+first_or member [] = inr (λ is. is)
+first_or member (oldest ∷ members) = is_or member oldest
 
 -- where the shell's replies are told its host stands where it stood
 told_view : (h : ℕ) (t : Step node.Host) → (told h t).standing.view ≡ t.state.standing.view

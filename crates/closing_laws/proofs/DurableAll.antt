@@ -1,5 +1,5 @@
--- An epoch that is durable, or a later one, was closed before, in every closed cut.
-use Rattle.std.proofs.Common.{◌≡◌, ◌≢◌, ◌≤◌, ◌<◌, ◌⊎◌, ◌∙◌, ℕ, Bool, true, false, filter, List, [], ◌∷◌, refl, sym, ap, subst, inl, inr, arith}
+-- A durable epoch was closed before, in every closed cut.
+use Rattle.std.proofs.Common.{◌≡◌, ◌≢◌, ◌≤◌, ◌<◌, ◌⊎◌, ℕ, Bool, true, false, filter, List, [], ◌∷◌, refl, sym, subst, inl, inr, arith}
 use Rattle.std.proofs.lemmas.Bool.{cases_eq}
 use Rattle.std.proofs.Math.Path.{fun_ext}
 use Rattle.frag_map.specs.Layout.{first_layout}
@@ -13,8 +13,6 @@ use Rattle.dih_node.specs.Dih.{fresh_dih}
 use Rattle.gcp_master.specs.Master.{first_phase, fresh_master}
 use Rattle.gcp_master.specs.Resume.{is_president}
 use Rattle.node_views.specs.declared.host.Host as node
-use Rattle.node_views.specs.declared.parts.Parts.{Parts}
-use Rattle.node_views.specs.declared.parts.Parts.TheVariants as part
 use Rattle.world_core.specs.Hosts.{hosts}
 use Rattle.world_core.specs.Start.{Start, made}
 use Rattle.world_core.specs.Steps.{Addressed, HostStep}
@@ -27,29 +25,26 @@ use Rattle.view_laws.proofs.EraSound.{each_filter}
 use Rattle.view_laws.proofs.FollowHosts.{main_started}
 use Rattle.view_laws.proofs.FollowSends.{IsSentBy, each_sent}
 use Rattle.moment_laws.specs.Moments.{IsMoment, logs_of}
-use Rattle.moment_laws.specs.Places.{ldm_of, tc_of}
-use Rattle.moment_laws.proofs.MomentHosts.{ldm_started, tc_started}
+use Rattle.moment_laws.specs.Places.{tc_of}
+use Rattle.moment_laws.proofs.MomentHosts.{tc_started}
 use Rattle.moment_laws.proofs.MomentRuns.{are_moments}
 use Rattle.moment_laws.proofs.MomentSignals.{sent_next}
 use Rattle.moment_laws.proofs.MomentTurns.{host_low, other_log, own_log}
 use Rattle.moment_laws.proofs.MomentViews.{moment_less}
 use Rattle.outcome_laws.specs.Decided.{IsMarked}
-use Rattle.request_laws.specs.Blocks.{no_replica, rows_after, rows_in}
 use Rattle.epoch_laws.specs.Members.{dih_in, epochs_of, master_in, master_of}
 use Rattle.epoch_laws.specs.Stand.{AllStand}
 use Rattle.epoch_laws.proofs.StandAll.{epochs_stand}
-use Rattle.epoch_laws.proofs.StandKinds.{Whose, of_main, of_rows, of_shell, of_tc, runs_rows, runs_shell, whose}
-use Rattle.epoch_laws.proofs.StandMarks.{marks_are, runs_epochs}
-use Rattle.closing_laws.specs.Durable.{DurableWereClosedFrom, IsClosedFrom}
-use Rattle.closing_laws.proofs.CloseNone.{not_among}
-use Rattle.closing_laws.proofs.ClosersOthers.{HasNoMaster, others_close_none}
-use Rattle.closing_laws.proofs.DurableHosts.{ldm_noted, ldm_said, main_durable, main_good, main_said, shell_said, tc_noted, tc_said}
-use Rattle.closing_laws.proofs.DurableStands.{AllNoted, AllSaid, HasNoted, IsGoodPhase, IsSaidTruly, IsTrulySaid, covered_grows, has_grows, noted_grows, phase_grows, said_grows}
-use Rattle.closing_laws.proofs.DurableWords.{IsNoted}
+use Rattle.epoch_laws.proofs.StandKinds.{Whose, of_main, of_rows, of_shell, of_tc, whose}
+use Rattle.closing_laws.specs.Closed.{DurableWereClosed, WasClosed}
+use Rattle.closing_laws.proofs.DurableBehind.{AllReached, all_reached}
+use Rattle.closing_laws.proofs.DurableHosts.{ldm_said, main_good, main_said, shell_said, tc_noted, tc_said}
+use Rattle.closing_laws.proofs.DurableMarks.{closing_marked}
+use Rattle.closing_laws.proofs.DurableStands.{AllNoted, AllSaid, HasNoted, IsGoodPhase, IsSaidTruly, IsTrulySaid, closed_grows, has_grows, phase_grows, said_grows}
 
 module _ (start : Start) (all : ℕ → List HostStep) (e : HostStep) (es : List HostStep)
     (moment : IsMoment start all (e ∷ es)) (stand : AllStand start (logs_of start es))
-    (noted : AllNoted start (logs_of start es))
+    (reached : AllReached start (logs_of start es)) (noted : AllNoted start (logs_of start es))
   where
     abbrev old : ℕ → List HostStep
     old = logs_of start es
@@ -65,23 +60,11 @@ module _ (start : Start) (all : ℕ → List HostStep) (e : HostStep) (es : List
       where
         by : (e.host ≡ tc_of start member) ⊎ (e.host ≢ tc_of start member)
             → HasNoted start new (epochs_of start new member)
-        by (inl at) = tc_noted start all e es moment stand noted member there at
+        by (inl at) = tc_noted start all e es moment stand reached noted member there at
         by (inr other) =
             subst (λ log. HasNoted start new (dih_in (fresh_dih 0 0 0 0) (after start (tc_of start member) log).parts))
             (sym (other_log start all e es moment (tc_of start member) other))
             (has_grows start all e es moment (epochs_of start old member) (noted.epochs member there))
-
-    rows_next : (member : Member) → IsIn member (made start)
-        → IsNoted start new (rows_after start member (new (ldm_of start member))).closed
-    rows_next member there = by (cases_eq e.host (ldm_of start member))
-      where
-        by : (e.host ≡ ldm_of start member) ⊎ (e.host ≢ ldm_of start member)
-            → IsNoted start new (rows_after start member (new (ldm_of start member))).closed
-        by (inl at) = ldm_noted start all e es moment stand noted member there at
-        by (inr other) =
-            subst (λ log. IsNoted start new (rows_after start member log).closed)
-            (sym (other_log start all e es moment (ldm_of start member) other))
-            (noted_grows start all e es moment _ (noted.rows member there))
 
     masters_next : (member : Member) → IsIn member (made start)
         → IsGoodPhase start new (master_of start new member).phase
@@ -89,7 +72,7 @@ module _ (start : Start) (all : ℕ → List HostStep) (e : HostStep) (es : List
       where
         by : (e.host ≡ main_of start member) ⊎ (e.host ≢ main_of start member)
             → IsGoodPhase start new (master_of start new member).phase
-        by (inl at) = main_good start all e es moment stand noted member there at
+        by (inl at) = main_good start all e es moment stand reached noted member there at
         by (inr other) =
             subst
             (λ log. IsGoodPhase start new
@@ -102,10 +85,10 @@ module _ (start : Start) (all : ℕ → List HostStep) (e : HostStep) (es : List
     sent_now = by (whose start e.host (host_low start all e es moment))
       where
         by : Whose start e.host → AllSaid start new sends
-        by (of_shell at) = shell_said start all e es moment stand noted at
-        by (of_main me there at) = main_said start all e es moment stand noted me there at
-        by (of_tc me there at) = tc_said start all e es moment stand noted me there at
-        by (of_rows me there at) = ldm_said start all e es moment stand noted me there at
+        by (of_shell at) = shell_said start all e es moment stand reached noted at
+        by (of_main me there at) = main_said start all e es moment stand reached noted me there at
+        by (of_tc me there at) = tc_said start all e es moment stand reached noted me there at
+        by (of_rows me there at) = ldm_said start all e es moment stand reached noted me there at
 
     one_said : (y : Addressed)
         → IsSentBy (made start) e.host (view_after start e.host (e ∷ old e.host)) sends y → IsTrulySaid start new y
@@ -119,39 +102,21 @@ module _ (start : Start) (all : ℕ → List HostStep) (e : HostStep) (es : List
         (each_map _ (IsTrulySaid start new) (signals_of start e.host (old e.host) e) one_said
         (each_sent start e.host (old e.host) e))
 
-    -- a mark of this event
-    durable_now : (epoch : ℕ) → IsIn (Durable epoch) e.step.marks → IsClosedFrom start old epoch
-    durable_now epoch marked = by (whose start e.host (host_low start all e es moment))
+    -- an epoch that becomes durable now is that of a run that was closed
+    durable_now : (epoch : ℕ) → IsIn (Durable epoch) e.step.marks → WasClosed start old epoch
+    durable_now epoch marked =
+        let by = closing_marked start all e es moment stand (Durable epoch) refl marked in
+        subst (WasClosed start old) by.is.epoch_is
+        (subst (IsGoodPhase start old) by.is.phase (noted.masters by.member by.there))
+
+    durables_next : (h epoch : ℕ) → h < hosts start → IsMarked (Durable epoch) (new h) → WasClosed start new epoch
+    durables_next h epoch low marked = closed_grows start all e es moment epoch (by (cases_eq e.host h))
       where
-        inside : IsIn (Durable epoch) (step_after start e.host (old e.host) e).effects.marks
-        inside = subst (IsIn (Durable epoch)) (marks_are start all e es moment stand) marked
-
-        no_master : (parts : Parts) → (after start e.host (old e.host)).parts ≡ parts → HasNoMaster parts → ⊥
-        no_master parts is none =
-            not_among (Durable epoch) refl (step_after start e.host (old e.host) e).effects.marks
-            (others_close_none e.step.taken e.host (after start e.host (old e.host)) (subst HasNoMaster (sym is) none))
-            inside
-
-        by : Whose start e.host → IsClosedFrom start old epoch
-        by (of_shell at) =
-            let runs = runs_shell start (old 0) in
-            absurd (no_master (part.Shell runs.shell) (ap (λ h. (after start h (old h)).parts) at ∙ runs.is) tt)
-        by (of_main me there at) = main_durable start all e es moment stand noted me there at epoch inside
-        by (of_tc me there at) =
-            let runs = runs_epochs start old me there in
-            absurd (no_master (part.Tc runs.part) (ap (λ h. (after start h (old h)).parts) at ∙ runs.is) tt)
-        by (of_rows me there at) =
-            let runs = runs_rows start me there (old (ldm_of start me)) in
-            absurd (no_master (part.Ldm runs.rows) (ap (λ h. (after start h (old h)).parts) at ∙ runs.is) tt)
-
-    durables_next : (h epoch : ℕ) → h < hosts start → IsMarked (Durable epoch) (new h) → IsClosedFrom start new epoch
-    durables_next h epoch low marked = covered_grows start all e es moment epoch (by (cases_eq e.host h))
-      where
-        own : IsIn (Durable epoch) e.step.marks ⊎ IsMarked (Durable epoch) (old e.host) → IsClosedFrom start old epoch
+        own : IsIn (Durable epoch) e.step.marks ⊎ IsMarked (Durable epoch) (old e.host) → WasClosed start old epoch
         own (inl now) = durable_now epoch now
         own (inr was) = noted.durables e.host epoch (host_low start all e es moment) was
 
-        by : (e.host ≡ h) ⊎ (e.host ≢ h) → IsClosedFrom start old epoch
+        by : (e.host ≡ h) ⊎ (e.host ≢ h) → WasClosed start old epoch
         by (inl at) =
             own (subst (IsMarked (Durable epoch)) (own_log start all e es moment)
             (subst (λ k. IsMarked (Durable epoch) (new k)) (sym at) marked))
@@ -166,7 +131,6 @@ module _ (start : Start) (all : ℕ → List HostStep) (e : HostStep) (es : List
           (λ i j. each_map (IsTrulySaid start old) (IsTrulySaid start new) _
           (λ y is. said_grows start all e es moment y.signal.body is) (noted.said i j)) (λ goes. new_said);
       epochs = epochs_next;
-      rows = rows_next;
       masters = masters_next;
       durables = durables_next;
     }
@@ -175,7 +139,6 @@ noted_first : (start : Start) → AllNoted start (logs_of start [])
 noted_first start = record {
   said = λ i j. tt;
   epochs = epochs;
-  rows = rows;
   masters = masters;
   durables = λ h epoch low marked. absurd marked;
 }
@@ -184,13 +147,11 @@ noted_first start = record {
         → HasNoted start (logs_of start []) (epochs_of start (logs_of start []) member)
     epochs member there =
         subst (λ (s : node.Host). HasNoted start (logs_of start []) (dih_in (fresh_dih 0 0 0 0) s.parts))
-        (sym (tc_started start member there)) (record { noted = inl (omega arith); least = omega arith })
-
-    rows : (member : Member) → IsIn member (made start)
-        → IsNoted start (logs_of start []) (rows_after start member (logs_of start [] (ldm_of start member))).closed
-    rows member there =
-        subst (λ (s : node.Host). IsNoted start (logs_of start []) (rows_in (no_replica start member) s.parts).closed)
-        (sym (ldm_started start member there)) (inl (omega arith))
+        (sym (tc_started start member there)) (record {
+          noted = inl (omega arith);
+          reached = record { gives = omega arith; ordered = omega arith };
+          least = omega arith;
+        })
 
     first : (epoch : ℕ) (b : Bool) → IsGoodPhase start (logs_of start []) (first_phase epoch b)
     first epoch true = tt
@@ -210,14 +171,15 @@ pub all_noted : (start : Start) (all : ℕ → List HostStep) (es : List HostSte
 all_noted start all [] some moment = noted_first start
 all_noted start all (e ∷ es) some moment =
     let less = moment_less start all e es moment in
-    noted_next start all e es moment (epochs_stand start all es some less) (all_noted start all es some less)
+    noted_next start all e es moment (epochs_stand start all es some less) (all_reached start all es some less)
+    (all_noted start all es some less)
 
 -- and of right logs
-pub durable_were_closed_from : DurableWereClosedFrom
-durable_were_closed_from start logs some are h epoch low marked =
+pub durable_were_closed : DurableWereClosed
+durable_were_closed start logs some are h epoch low marked =
     let events = in_order (by_views start logs) in
     let logs_are : logs_of start events ≡ logs = fun_ext (λ h. (run_in_views start logs are).has h) in
     let noted = all_noted start logs events some (are_moments start logs are) in
-    subst (λ (ls : ℕ → List HostStep). IsClosedFrom start ls epoch) logs_are
+    subst (λ (ls : ℕ → List HostStep). WasClosed start ls epoch) logs_are
     (noted.durables h epoch low
     (subst (λ (ls : ℕ → List HostStep). IsMarked (Durable epoch) (ls h)) (sym logs_are) marked))

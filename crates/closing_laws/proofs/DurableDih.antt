@@ -104,7 +104,7 @@ commit_notes s from epoch next = by (nat_le s.current epoch)
     by : (b : Bool) → Notes s (commit_if s from epoch next b).state
     by true =
         let noted = reported_notes
-            (record (committed s epoch next) { order = Some (record { epoch = epoch; to = from }) })
+        (record (committed s epoch next) { order = Some (record { epoch = epoch; to = from }) })
         in record { closed = noted.closed; durable = noted.durable }
     by false =
         let noted = reported_notes (record s { order = Some (record { epoch = epoch; to = from }) }) in

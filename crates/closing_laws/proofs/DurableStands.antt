@@ -1,5 +1,5 @@
 -- What members have noted of closed and durable epochs, what is told of that, and how it grows with the logs.
-use Rattle.std.proofs.Common.{◌≡◌, ◌≢◌, ◌≤◌, ◌<◌, ◌⊎◌, ℕ, false, List, ◌∷◌, refl, sym, ap, subst, inl, inr, arith}
+use Rattle.std.proofs.Common.{◌≡◌, ◌≢◌, ◌≤◌, ◌<◌, ◌⊎◌, ℕ, false, List, ◌∷◌, sym, subst, inl, inr, arith}
 use Rattle.std.proofs.lemmas.Bool.{cases_eq}
 use Rattle.run_theory.specs.Lists.{Each, IsIn}
 use Rattle.sig_core.specs.declared.mark.Mark.{Mark}
@@ -15,115 +15,112 @@ use Rattle.gcp_master.specs.declared.known.Known.{Known}
 use Rattle.gcp_master.specs.declared.known.Told.{Told}
 use Rattle.gcp_master.specs.declared.phase.Phase.{Phase}
 use Rattle.gcp_master.specs.declared.phase.Phase.TheVariants.{Gathering, Closing, Saving, Copying}
-use Rattle.gcp_master.specs.declared.phase.Run.{Run}
-use Rattle.gcp_master.specs.Known.{learned, nothing_known, resumed}
 use Rattle.gcp_master.specs.Master.{told}
-use Rattle.lqh_views.specs.State.{ReplicaState}
 use Rattle.qmgr_block.specs.declared.known.Known as membership
 use Rattle.world_core.specs.Hosts.{hosts}
 use Rattle.world_core.specs.Start.{Start, made}
 use Rattle.world_core.specs.Steps.{Addressed, HostStep}
 use Rattle.world_views.specs.Hosts.{epoch_before}
 use Rattle.moment_laws.specs.Moments.{IsMoment, logs_of}
-use Rattle.moment_laws.specs.Places.{ldm_of}
 use Rattle.moment_laws.proofs.MomentSignals.{EachSent}
 use Rattle.moment_laws.proofs.MomentTurns.{other_log, own_log}
 use Rattle.outcome_laws.specs.Decided.{IsMarked}
-use Rattle.request_laws.specs.Blocks.{rows_after}
 use Rattle.epoch_laws.specs.Members.{epochs_of, master_of}
+use Rattle.epoch_laws.proofs.DihMoves.{Moves, Stays}
+use Rattle.epoch_laws.proofs.DihRows.{Rises}
 use Rattle.epoch_laws.proofs.MasterMoves.{state_body}
 use Rattle.epoch_laws.proofs.MasterSends.{Closes, MaySay}
 use Rattle.epoch_laws.proofs.SentMembership.{OrdersBy}
 use Rattle.epoch_laws.proofs.SentNone.{is_order}
-use Rattle.closing_laws.specs.Durable.{IsClosedFrom}
-use Rattle.closing_laws.proofs.DurableDih.{NotesAt}
-use Rattle.closing_laws.proofs.DurableRows.{RowsNote, RowsTell}
+use Rattle.epoch_laws.proofs.SentRows.{IsOfRowsBy}
+use Rattle.closing_laws.specs.Closed.{WasClosed}
+use Rattle.closing_laws.proofs.DurableDih.{Notes, NotesAt}
+use Rattle.closing_laws.proofs.DurableReach.{HasReached, reached_moves, reached_stays}
 use Rattle.closing_laws.proofs.DurableTells.{TellsNoted}
-use Rattle.closing_laws.proofs.DurableWords.{IsKnownTruly, IsNoted, IsToldTruly, copying_covered, greater_one, learned_truly, nothing_truly, resumes_copying}
+use Rattle.closing_laws.proofs.DurableWords.{IsKnownTruly, IsNoted, IsToldTruly, greater_one}
 use Rattle.closing_laws.proofs.MasterLates.{IsGood}
 
 module _ (start : Start) (logs : ℕ → List HostStep) where
   -- an order to note an epoch is of one that is closed, and what is told of the state of a block is so
   abbrev pub IsSaidTruly : Body → Type 0
-  IsSaidTruly (Epoch (GcpClosed epoch)) = IsClosedFrom start logs epoch
+  IsSaidTruly (Epoch (GcpClosed epoch)) = WasClosed start logs epoch
   IsSaidTruly (Epoch (GcpStateConf current prepared next noted saved durable)) =
-      IsToldTruly start logs (told current prepared next noted saved durable)
+      (current ≡ 0) ⊎ IsToldTruly start logs (told current prepared next noted saved durable)
   IsSaidTruly body = Unit {0}
 
   abbrev pub AllSaid : List Outgoing → Type 0
   AllSaid sends = Each (λ (sent : Outgoing). IsSaidTruly sent.body) sends
 
-  -- the epochs of a member have noted no open epoch as closed, and no durable one before the start
+  -- what a member has noted as closed was closed, and the member has come to it; as durable it has noted none before the
+  -- start
   pub record HasNoted (s : DihState) : Type 0 where
     pub noted : IsNoted start logs s.closed
+    pub reached : HasReached s.closed s
     pub least : epoch_before start.epoch ≤ s.durable
 
-  -- what a master knows that asks
-  abbrev pub IsKnown : Known → Type 0
-  IsKnown known = IsKnownTruly start logs known × ((known ≡ nothing_known) ⊎ IsNoted start logs known.closed)
-
   abbrev pub IsGoodPhase : Phase → Type 0
-  IsGoodPhase phase = IsGood (IsClosedFrom start logs) IsKnown phase
+  IsGoodPhase phase = IsGood (WasClosed start logs) (IsKnownTruly start logs) phase
 
-  pub known_first : IsKnown nothing_known
-  known_first = (nothing_truly start logs, inl refl)
+  pub told_truly : (t : Told) → IsSaidTruly (state_body t) → (t.current ≡ 0) ⊎ IsToldTruly start logs t
+  told_truly t (inl none) = inl none
+  told_truly t (inr is) = inr (record { noted = is.noted; below = is.below; least = is.least })
 
-  pub known_more : (t : Told) → IsToldTruly start logs t → (known : Known) → IsKnown known → IsKnown (learned known t)
-  known_more t tells known knows =
-      let both = learned_truly start logs known t knows.0 tells in (both.0, inr both.1)
+  -- what a signal makes of what is noted, where the member has come to each epoch that was closed
+  module _ (s now : DihState) (was : HasNoted s) where
+    pub installed_noted : Notes s now → Stays s now → HasNoted now
+    installed_noted notes stays = record {
+      noted = subst (IsNoted start logs) (sym notes.closed) was.noted;
+      reached =
+          subst (λ n. HasReached n now) (sym notes.closed) (reached_stays s.closed s now stays was.reached);
+      least = subst (λ n. epoch_before start.epoch ≤ n) (sym notes.durable) was.least;
+    }
 
-  pub known_copies : (known : Known) (run : Run) → IsKnown known → resumed known ≡ Copying run
-      → IsClosedFrom start logs run.epoch
-  known_copies known run knows is = by knows.1
-    where
-      by : (known ≡ nothing_known) ⊎ IsNoted start logs known.closed → IsClosedFrom start logs run.epoch
-      by (inr noted) = copying_covered start logs known run knows.0 noted is
-      by (inl none) =
-          let below = (resumes_copying known run is).durable in
-          let same : known.epoch ≡ 0 = ap (λ (k : Known). k.epoch) none in
-          absurd (omega (arith, below, same))
-
-  pub told_truly : (t : Told) → IsSaidTruly (state_body t) → IsToldTruly start logs t
-  told_truly t is = record { closed = is.closed; durable = is.durable }
-
-  -- what a signal makes of what is noted
-  pub dih_noted : (s now : DihState) (body : Body) → NotesAt s body now → IsSaidTruly body → HasNoted s → HasNoted now
-  dih_noted s now (Epoch (GcpClosed epoch)) notes said was = record {
-    noted =
-        subst (IsNoted start logs) (sym notes.0)
-        (greater_one (IsNoted start logs) s.closed epoch was.noted (inr said));
-    least = subst (λ n. epoch_before start.epoch ≤ n) (sym notes.1) was.least;
-  }
-  dih_noted s now (Epoch (GcpDone epoch)) notes said was =
-      let up = notes.1 in
-      let low = was.least in
-      record { noted = subst (IsNoted start logs) (sym notes.0) was.noted; least = omega (arith, up, low) }
-  dih_noted s now body notes said was = record {
-    noted = subst (IsNoted start logs) (sym notes.closed) was.noted;
-    least = subst (λ n. epoch_before start.epoch ≤ n) (sym notes.durable) was.least;
-  }
-
-  pub rows_noted : (s now : ReplicaState) (body : Body) → RowsNote s body now → IsSaidTruly body
-      → IsNoted start logs s.closed → IsNoted start logs now.closed
-  rows_noted s now (Epoch (GcpClosed epoch)) notes said was =
-      subst (IsNoted start logs) (sym notes) (greater_one (IsNoted start logs) s.closed epoch was (inr said))
-  rows_noted s now body notes said was = subst (IsNoted start logs) (sym notes) was
+    pub dih_noted : (body : Body) → NotesAt s body now → Moves s body now → Rises body
+        → ((epoch : ℕ) → WasClosed start logs epoch → HasReached epoch s) → IsSaidTruly body → HasNoted now
+    dih_noted (Epoch (GcpClosed epoch)) notes moves rises closed said = record {
+      noted =
+          subst (IsNoted start logs) (sym notes.0)
+          (greater_one (IsNoted start logs) s.closed epoch was.noted (inr said));
+      reached =
+          subst (λ n. HasReached n now) (sym notes.0)
+          (reached_moves _ s now (Epoch (GcpClosed epoch)) rises moves
+          (greater_one (λ n. HasReached n s) s.closed epoch was.reached (closed epoch said)));
+      least = subst (λ n. epoch_before start.epoch ≤ n) (sym notes.1) was.least;
+    }
+    dih_noted (Epoch (GcpDone epoch)) notes moves rises closed said =
+        let up = notes.1 in
+        let low = was.least in
+        record {
+          noted = subst (IsNoted start logs) (sym notes.0) was.noted;
+          reached =
+              subst (λ n. HasReached n now) (sym notes.0)
+              (reached_moves s.closed s now (Epoch (GcpDone epoch)) rises moves was.reached);
+          least = omega (arith, up, low);
+        }
+    dih_noted body notes moves rises closed said = record {
+      noted = subst (IsNoted start logs) (sym notes.closed) was.noted;
+      reached =
+          subst (λ n. HasReached n now) (sym notes.closed)
+          (reached_moves s.closed s now body rises moves was.reached);
+      least = subst (λ n. epoch_before start.epoch ≤ n) (sym notes.durable) was.least;
+    }
 
   -- and what is told then
-  pub dih_said : (s : DihState) → HasNoted s → (body : Body) → TellsNoted s.closed s.durable body → IsSaidTruly body
+  pub dih_said : (s : DihState) → HasNoted s → (body : Body) → TellsNoted s body → IsSaidTruly body
   dih_said s was (Epoch (GcpClosed epoch)) tells = absurd tells
-  dih_said s was (Epoch (GcpStateConf current prepared next noted saved durable)) tells = record {
-    closed = subst (IsNoted start logs) (sym tells.0) was.noted;
-    durable = inr (subst (λ n. epoch_before start.epoch ≤ n) (sym tells.1) was.least);
-  }
+  dih_said s was (Epoch (GcpStateConf current prepared next noted saved durable)) (noted_is, (order_is, durable_is)) =
+      let below = was.reached.ordered in
+      inr (record {
+        noted = subst (IsNoted start logs) (sym noted_is) was.noted;
+        below = omega (arith, below, noted_is, order_is);
+        least = subst (λ n. epoch_before start.epoch ≤ n) (sym durable_is) was.least;
+      })
   dih_said s was body tells = tt
 
-  pub rows_said : (noted_closed : ℕ) → IsNoted start logs noted_closed → (body : Body) → RowsTell noted_closed body
-      → IsSaidTruly body
-  rows_said noted_closed was (Epoch (GcpClosed epoch)) tells = absurd tells
-  rows_said noted_closed was (Epoch (GcpStateConf current prepared next noted saved durable)) tells =
-      record { closed = subst (IsNoted start logs) (sym tells.1) was; durable = inl tells.0 }
-  rows_said noted_closed was body tells = tt
+  pub rows_said : (body : Body) → IsOfRowsBy body → IsSaidTruly body
+  rows_said (Epoch (GcpClosed epoch)) is = absurd cc
+  rows_said (Epoch (GcpStateConf current prepared next noted saved durable)) is = inl is
+  rows_said body is = tt
 
   pub none_said : (body : Body) → is_order body ≡ false → IsSaidTruly body
   none_said (Epoch (GcpClosed epoch)) none = absurd cc
@@ -135,8 +132,8 @@ module _ (start : Start) (logs : ℕ → List HostStep) where
   orders_said k to (Epoch (GcpStateConf current prepared next noted saved durable)) is = absurd cc
   orders_said k to body is = tt
 
-  closing_said : (phase : Phase) (epoch : ℕ) → Closes epoch phase → IsGoodPhase phase → IsClosedFrom start logs epoch
-  closing_said (Closing run) epoch same good = subst (IsClosedFrom start logs) (sym same) good
+  closing_said : (phase : Phase) (epoch : ℕ) → Closes epoch phase → IsGoodPhase phase → WasClosed start logs epoch
+  closing_said (Closing run) epoch same good = subst (WasClosed start logs) (sym same) good
   closing_said phase epoch closes good = absurd closes
 
   pub master_said : (phase : Phase) (body : Body) → MaySay phase body → IsGoodPhase phase → IsSaidTruly body
@@ -151,10 +148,8 @@ module _ (start : Start) (logs : ℕ → List HostStep) where
   pub record AllNoted : Type 0 where
     pub said : EachSent start IsTrulySaid logs
     pub epochs : (member : Member) → IsIn member (made start) → HasNoted (epochs_of start logs member)
-    pub rows : (member : Member) → IsIn member (made start)
-        → IsNoted start logs (rows_after start member (logs (ldm_of start member))).closed
     pub masters : (member : Member) → IsIn member (made start) → IsGoodPhase (master_of start logs member).phase
-    pub durables : (h epoch : ℕ) → h < hosts start → IsMarked (Durable epoch) (logs h) → IsClosedFrom start logs epoch
+    pub durables : (h epoch : ℕ) → h < hosts start → IsMarked (Durable epoch) (logs h) → WasClosed start logs epoch
 
 -- what was marked is marked behind an event
 module _ (start : Start) (all : ℕ → List HostStep) (e : HostStep) (es : List HostStep)
@@ -176,39 +171,37 @@ module _ (start : Start) (all : ℕ → List HostStep) (e : HostStep) (es : List
         by (inl at) = subst (λ k. IsMarked mark (old k) → IsMarked mark (new k)) at own is
         by (inr other) = subst (IsMarked mark) (sym (other_log start all e es moment h other)) is
 
-    pub covered_grows : (epoch : ℕ) → IsClosedFrom start old epoch → IsClosedFrom start new epoch
-    covered_grows epoch is = record {
-      host = is.host;
-      below = is.below;
-      closed = is.closed;
-      far = is.far;
-      marked = marked_grows _ is.host is.marked;
-    }
+    pub closed_grows : (epoch : ℕ) → WasClosed start old epoch → WasClosed start new epoch
+    closed_grows epoch is =
+        record { host = is.host; below = is.below; marked = marked_grows _ is.host is.marked }
 
-    pub noted_grows : (epoch : ℕ) → IsNoted start old epoch → IsNoted start new epoch
+    noted_grows : (epoch : ℕ) → IsNoted start old epoch → IsNoted start new epoch
     noted_grows epoch (inl before) = inl before
-    noted_grows epoch (inr covered) = inr (covered_grows epoch covered)
+    noted_grows epoch (inr was) = inr (closed_grows epoch was)
+
+    told_grows : (t : Told) → IsToldTruly start old t → IsToldTruly start new t
+    told_grows t is = record { noted = noted_grows t.closed is.noted; below = is.below; least = is.least }
 
     pub said_grows : (body : Body) → IsSaidTruly start old body → IsSaidTruly start new body
-    said_grows (Epoch (GcpClosed epoch)) is = covered_grows epoch is
-    said_grows (Epoch (GcpStateConf current prepared next noted saved durable)) is =
-        record { closed = noted_grows noted is.closed; durable = is.durable }
+    said_grows (Epoch (GcpClosed epoch)) is = closed_grows epoch is
+    said_grows (Epoch (GcpStateConf current prepared next noted saved durable)) (inl none) = inl none
+    said_grows (Epoch (GcpStateConf current prepared next noted saved durable)) (inr is) =
+        inr (told_grows (told current prepared next noted saved durable) is)
     said_grows body is = tt
 
     pub has_grows : (s : DihState) → HasNoted start old s → HasNoted start new s
-    has_grows s is = record { noted = noted_grows s.closed is.noted; least = is.least }
+    has_grows s is = record { noted = noted_grows s.closed is.noted; reached = is.reached; least = is.least }
 
-    pub known_grows : (known : Known) → IsKnown start old known → IsKnown start new known
-    known_grows known (knows, other) = (record { closed = knows.closed; durable = knows.durable }, by other)
-      where
-        by : (known ≡ nothing_known) ⊎ IsNoted start old known.closed
-            → (known ≡ nothing_known) ⊎ IsNoted start new known.closed
-        by (inl none) = inl none
-        by (inr noted) = inr (noted_grows known.closed noted)
+    known_grows : (known : Known) → IsKnownTruly start old known → IsKnownTruly start new known
+    known_grows known is = record {
+      noted = λ low. noted_grows known.epoch (is.noted low);
+      closed = is.closed;
+      durable = is.durable;
+    }
 
     pub phase_grows : (phase : Phase) → IsGoodPhase start old phase → IsGoodPhase start new phase
     phase_grows (Gathering known) is = known_grows known is
-    phase_grows (Closing run) is = covered_grows run.epoch is
-    phase_grows (Saving run) is = covered_grows run.epoch is
-    phase_grows (Copying run) is = covered_grows run.epoch is
+    phase_grows (Closing run) is = closed_grows run.epoch is
+    phase_grows (Saving run) is = closed_grows run.epoch is
+    phase_grows (Copying run) is = closed_grows run.epoch is
     phase_grows phase is = tt

@@ -1,4 +1,4 @@
--- What the epochs of a member tell: of closed and durable epochs what they have noted.
+-- What the epochs of a member tell: their last order, and of closed and durable epochs what they have noted.
 use Rattle.std.proofs.Common.{◌≡◌, ◌==◌, ℕ, ◌+◌, Bool, true, false, nat_le, nat_lt, length, refl}
 use Rattle.std.specs.Prelude.{Option, None, Some, remove, slice_get}
 use Rattle.run_theory.specs.Lists.{Each}
@@ -21,18 +21,18 @@ use Rattle.dih_node.specs.Orders.{close_row, commit_if, commit_row, committed, c
 use Rattle.dih_node.specs.State.{DihState, can_serve, gives, go_on_if, is_unfinished}
 use Rattle.dih_node.specs.Verify.{end_row, ended, given, report_by, report_if, reported, serve_by, serve_if, serve_row, take_if, verify_if, verify_row}
 
--- it tells of these, and orders nobody to note one
-abbrev pub TellsNoted : ℕ → ℕ → Body → Type 0
-TellsNoted closed durable (Epoch (GcpStateConf current prepared next noted saved last)) =
-    (noted ≡ closed) × (last ≡ durable)
-TellsNoted closed durable (Epoch (GcpClosed epoch)) = ⊥
-TellsNoted closed durable body = Unit {0}
+-- it tells what stands in this state, and orders nobody to note an epoch
+abbrev pub TellsNoted : DihState → Body → Type 0
+TellsNoted t (Epoch (GcpStateConf current prepared next noted saved durable)) =
+    (noted ≡ t.closed) × ((prepared ≡ t.prepared) × (durable ≡ t.durable))
+TellsNoted t (Epoch (GcpClosed epoch)) = ⊥
+TellsNoted t body = Unit {0}
 
-module _ (closed durable : ℕ) where
+module _ (t : DihState) where
   abbrev Tells : Step DihState → Type 0
-  Tells step = Each (λ sent. TellsNoted closed durable sent.body) step.effects.sends
+  Tells step = Each (λ sent. TellsNoted t sent.body) step.effects.sends
 
-  more_tells : (node : ℕ) (b : Bool) → Each (λ sent. TellsNoted closed durable sent.body) (go_on_if node b)
+  more_tells : (node : ℕ) (b : Bool) → Each (λ sent. TellsNoted t sent.body) (go_on_if node b)
   more_tells node true = (tt, tt)
   more_tells node false = tt
 
@@ -85,7 +85,7 @@ module _ (closed durable : ℕ) where
       by true =
           let now = record (committed s epoch next) { order = Some (record { epoch = epoch; to = from }) } in
           let after = (reported now).state in
-          each_append (λ (sent : Outgoing). TellsNoted closed durable sent.body) (reported now).effects.sends
+          each_append (λ (sent : Outgoing). TellsNoted t sent.body) (reported now).effects.sends
           (go_on_if after.node (can_serve after)) (reported_tells now) (more_tells after.node (can_serve after))
       by false = reported_tells (record s { order = Some (record { epoch = epoch; to = from }) })
 
@@ -94,26 +94,26 @@ module _ (closed durable : ℕ) where
   prepare_tells s from epoch next = (tt, tt)
 
 module _ (s : DihState) where
-  epochs_tell : (from : ℕ) (signal : EpochSignal) → Tells s.closed s.durable (epoch_table s from signal)
+  epochs_tell : (from : ℕ) (signal : EpochSignal) → Tells s (epoch_table s from signal)
   unfolding close_row copy_row done_row state_row
-  epochs_tell from (DiVerifyReq tx ops) = verify_tells s.closed s.durable s tx
-  epochs_tell from (DiVerifyEnd tx) = end_tells s.closed s.durable s tx
-  epochs_tell from (GcpPrepare epoch next) = prepare_tells s.closed s.durable s from epoch next
-  epochs_tell from (GcpCommit epoch next) = commit_tells s.closed s.durable s from epoch next
+  epochs_tell from (DiVerifyReq tx ops) = verify_tells s s tx
+  epochs_tell from (DiVerifyEnd tx) = end_tells s s tx
+  epochs_tell from (GcpPrepare epoch next) = prepare_tells s s from epoch next
+  epochs_tell from (GcpCommit epoch next) = commit_tells s s from epoch next
   epochs_tell from (GcpClosed epoch) = (tt, tt)
   epochs_tell from (CopyGciReq epoch mask) = (tt, tt)
   epochs_tell from (GcpDone epoch) = tt
-  epochs_tell from GcpStateReq = ((refl, refl), tt)
+  epochs_tell from GcpStateReq = ((refl, (refl, refl)), tt)
   epochs_tell from _ = tt
 
-  table_tells : (from number : ℕ) (body : Body) → Tells s.closed s.durable (dih_table s from number body)
+  table_tells : (from number : ℕ) (body : Body) → Tells s (dih_table s from number body)
   unfolding fence_row
-  table_tells from number (Host (Continue Held at)) = serve_tells s.closed s.durable s number
+  table_tells from number (Host (Continue Held at)) = serve_tells s s number
   table_tells from number (Membership (FenceReq proposal)) = (tt, tt)
   table_tells from number (Epoch signal) = epochs_tell from signal
   table_tells from number _ = tt
 
 -- whatever it takes
 pub dih_tells_noted : (s : DihState) (x : Signal)
-    → Each (λ sent. TellsNoted s.closed s.durable sent.body) (dih_row s x).effects.sends
+    → Each (λ sent. TellsNoted s sent.body) (dih_row s x).effects.sends
 dih_tells_noted s x = table_tells s x.member.node x.view.number x.body

@@ -1,5 +1,5 @@
 -- Epochs that were closed, or lie behind the start of a life.
-use Rattle.std.proofs.Common.{◌≡◌, ◌≤◌, ◌<◌, ◌⊎◌, ℕ, Bool, true, false, List, refl, sym, ◌∙◌, arith, inl, inr, eq-eqb}
+use Rattle.std.proofs.Common.{◌≡◌, ◌≤◌, ◌<◌, ◌⊎◌, ℕ, Bool, true, false, List, refl, subst, sym, ◌∙◌, arith, inl, inr, eq-eqb}
 use Rattle.std.proofs.lemmas.Bool.{ltb-false, ltb-true, true≢false}
 use Rattle.std.specs.Prelude.{◌-◌, ◌^◌, ◌==◌, ◌&&◌, if◌then◌else◌, nat_lt}
 use Rattle.gcp_master.specs.declared.known.Known.{Known}
@@ -11,31 +11,21 @@ use Rattle.gcp_master.specs.Numbers.{is_first}
 use Rattle.world_core.specs.Start.{Start}
 use Rattle.world_core.specs.Steps.{HostStep}
 use Rattle.world_views.specs.Hosts.{epoch_before}
-use Rattle.closing_laws.specs.Durable.{IsClosedFrom}
+use Rattle.closing_laws.specs.Closed.{WasClosed}
 
--- the epoch, or a later one, was closed, or the life began behind it
+-- the epoch was closed, or the life began behind it
 abbrev pub IsNoted : Start → (ℕ → List HostStep) → ℕ → Type 0
-IsNoted start logs epoch = (epoch ≤ epoch_before start.epoch) ⊎ IsClosedFrom start logs epoch
-
-module _ (start : Start) (logs : ℕ → List HostStep) where
-  pub covered_less : (one other : ℕ) → one ≤ other → IsClosedFrom start logs other → IsClosedFrom start logs one
-  covered_less one other low is =
-      let far = is.far in
-      record { host = is.host; below = is.below; closed = is.closed; far = omega (arith, low, far); marked = is.marked }
-
-  pub noted_less : (one other : ℕ) → one ≤ other → IsNoted start logs other → IsNoted start logs one
-  noted_less one other low (inl before) = inl (omega (arith, low, before))
-  noted_less one other low (inr covered) = inr (covered_less one other low covered)
+IsNoted start logs epoch = (epoch ≤ epoch_before start.epoch) ⊎ WasClosed start logs epoch
 
 -- the lesser of two is neither greater than the one nor than the other
-pub lesser_first : (one other : ℕ) → lesser one other ≤ one
+lesser_first : (one other : ℕ) → lesser one other ≤ one
 lesser_first one other = by (nat_lt one other) refl
   where
     by : (b : Bool) → nat_lt one other ≡ b → (if b then one else other) ≤ one
     by true is = omega arith
     by false is = ltb-false one other is
 
-pub lesser_second : (one other : ℕ) → lesser one other ≤ other
+lesser_second : (one other : ℕ) → lesser one other ≤ other
 lesser_second one other = by (nat_lt one other) refl
   where
     by : (b : Bool) → nat_lt one other ≡ b → (if b then one else other) ≤ other
@@ -43,13 +33,14 @@ lesser_second one other = by (nat_lt one other) refl
     by false is = omega arith
 
 -- and it is one of them
-pub lesser_one : (P : ℕ → Type 0) (one other : ℕ) → P one → P other → P (lesser one other)
+lesser_one : (P : ℕ → Type 0) (one other : ℕ) → P one → P other → P (lesser one other)
 lesser_one P one other first second = by (nat_lt one other)
   where
     by : (b : Bool) → P (if b then one else other)
     by true = first
     by false = second
 
+-- so is the greater, and the other isn't greater than that
 pub greater_one : (P : ℕ → Type 0) (one other : ℕ) → P one → P other → P (greater one other)
 greater_one P one other first second = by (nat_lt one other)
   where
@@ -57,14 +48,21 @@ greater_one P one other first second = by (nat_lt one other)
     by true = second
     by false = first
 
+greater_second : (one other : ℕ) → other ≤ greater one other
+greater_second one other = by (nat_lt one other) refl
+  where
+    by : (b : Bool) → nat_lt one other ≡ b → other ≤ (if b then other else one)
+    by true is = omega arith
+    by false is = ltb-false one other is
+
 -- a master that goes on with the system files knows that each member has noted the epoch as closed, and that one
 -- doesn't know it to be durable
-pub record ResumesCopying (known : Known) (run : Run) : Type 0 where
-  pub run_is : run.epoch ≡ known.epoch
-  pub closed : known.epoch ≤ known.closed
-  pub durable : known.durable < known.epoch
+record ResumesCopying (known : Known) (run : Run) : Type 0 where
+  run_is : known.epoch ≡ run.epoch
+  closed : known.epoch ≤ known.closed
+  durable : known.durable < known.epoch
 
-pub resumes_copying : (known : Known) (run : Run) → resumed known ≡ Copying run → ResumesCopying known run
+resumes_copying : (known : Known) (run : Run) → resumed known ≡ Copying run → ResumesCopying known run
 resumes_copying known run =
     by (nat_lt known.greatest known.next) (nat_lt known.least known.next) (nat_lt known.closed known.epoch)
     (is_first known.next) (nat_lt known.saved known.epoch) (nat_lt known.durable known.epoch) refl refl
@@ -92,23 +90,26 @@ resumes_copying known run =
     by false false false true false false is_c is_g is = absurd cc
     by false false false false f g is_c is_g is = absurd cc
 
--- what is known of what was told
 module _ (start : Start) (logs : ℕ → List HostStep) where
-  -- what was told is so
+  -- what the epochs of a member tell: what they have noted as closed was closed, and isn't behind their last order; as
+  -- durable they have noted none before the start
   pub record IsToldTruly (told : Told) : Type 0 where
-    pub closed : IsNoted start logs told.closed
-    pub durable : (told.current ≡ 0) ⊎ (epoch_before start.epoch ≤ told.durable)
+    pub noted : IsNoted start logs told.closed
+    pub below : told.closed ≤ told.prepared
+    pub least : epoch_before start.epoch ≤ told.durable
 
-  abbrev pub MOST : ℕ
+  abbrev MOST : ℕ
   MOST = 2 ^ 64 - 1
 
-  -- no member is known to have noted less than the start, and nothing is known beyond what can be told
+  -- What is known of that: the epoch of the last order was closed, if no member has noted less as closed. No member is
+  -- known to have noted less than the start, and nothing is known beyond what can be told.
   pub record IsKnownTruly (known : Known) : Type 0 where
+    pub noted : known.epoch ≤ known.closed → IsNoted start logs known.epoch
     pub closed : known.closed ≤ MOST
     pub durable : (epoch_before start.epoch ≤ known.durable) ⊎ (known.durable ≡ MOST)
 
   pub nothing_truly : IsKnownTruly nothing_known
-  nothing_truly = record { closed = omega arith; durable = inr refl }
+  nothing_truly = record { noted = λ low. inl (omega arith); closed = omega arith; durable = inr refl }
 
   either_least : (one other : ℕ) → (epoch_before start.epoch ≤ one) ⊎ (one ≡ MOST) → epoch_before start.epoch ≤ other
       → (epoch_before start.epoch ≤ lesser one other) ⊎ (lesser one other ≡ MOST)
@@ -116,44 +117,54 @@ module _ (start : Start) (logs : ℕ → List HostStep) where
       lesser_one (λ n. (epoch_before start.epoch ≤ n) ⊎ (n ≡ MOST)) one other first (inl second)
 
   -- one more has told
-  pub learned_truly : (known : Known) (told : Told) → IsKnownTruly known → IsToldTruly told
-      → IsKnownTruly (learned known told) × IsNoted start logs (learned known told).closed
-  learned_truly known told knows tells = by (told.current == 0) refl tells.durable
+  pub learned_truly : (told : Told) → (told.current ≡ 0) ⊎ IsToldTruly told → (known : Known) → IsKnownTruly known
+      → IsKnownTruly (learned known told)
+  learned_truly told tells known knows = by (told.current == 0) refl tells
     where
       below : lesser known.closed told.closed ≤ MOST
       below = let first = lesser_first known.closed told.closed in let most = knows.closed in omega (arith, first, most)
 
-      noted : IsNoted start logs (lesser known.closed told.closed)
-      noted =
-          noted_less start logs (lesser known.closed told.closed) told.closed (lesser_second known.closed told.closed)
-          tells.closed
+      -- rows tell of no order
+      of_rows : IsKnownTruly (learned_of_rows known told)
+      of_rows = record {
+        noted = λ low. let first = lesser_first known.closed told.closed in knows.noted (omega (arith, low, first));
+        closed = below;
+        durable = knows.durable;
+      }
 
-      by : (b : Bool) → (told.current == 0) ≡ b → (told.current ≡ 0) ⊎ (epoch_before start.epoch ≤ told.durable)
+      -- where no less is noted than the greatest order, that is the one that is told
+      of_epochs : IsToldTruly told → IsKnownTruly (learned_of_epochs known told)
+      of_epochs tells = record { noted = noted; closed = below; durable = either_least _ _ knows.durable tells.least }
+        where
+          noted : greater known.epoch told.prepared ≤ lesser known.closed told.closed
+              → IsNoted start logs (greater known.epoch told.prepared)
+          noted low =
+              let up = greater_second known.epoch told.prepared in
+              let down = lesser_second known.closed told.closed in
+              let under = tells.below in
+              let same : told.closed ≡ greater known.epoch told.prepared = omega (arith, low, up, down, under) in
+              subst (IsNoted start logs) same tells.noted
+
+      by : (b : Bool) → (told.current == 0) ≡ b → (told.current ≡ 0) ⊎ IsToldTruly told
           → IsKnownTruly (if b then learned_of_rows known told else learned_of_epochs known told)
-          × IsNoted start logs (if b then learned_of_rows known told else learned_of_epochs known told).closed
-      by true is durable = (record { closed = below; durable = knows.durable }, noted)
-      by false is (inr durable) =
-          (record { closed = below; durable = either_least known.durable told.durable knows.durable durable }, noted)
+      by true is tells = of_rows
+      by false is (inr tells) = of_epochs tells
       by false is (inl none) = absurd (true≢false (sym (eq-eqb told.current 0 none) ∙ is))
 
-  -- so the epoch with which a master goes on at the system files was closed, or a later one
-  pub copying_covered : (known : Known) (run : Run) → IsKnownTruly known → IsNoted start logs known.closed
-      → resumed known ≡ Copying run → IsClosedFrom start logs run.epoch
-  copying_covered known run knows noted is = by knows.durable noted
+  -- so the epoch with which a master goes on at the system files was closed
+  pub copying_closed : (known : Known) (run : Run) → IsKnownTruly known → resumed known ≡ Copying run
+      → WasClosed start logs run.epoch
+  copying_closed known run knows is = by knows.durable (knows.noted goes.closed)
     where
       goes : ResumesCopying known run
       goes = resumes_copying known run is
 
-      by : (epoch_before start.epoch ≤ known.durable) ⊎ (known.durable ≡ MOST) → IsNoted start logs known.closed
-          → IsClosedFrom start logs run.epoch
-      by durable (inr covered) =
-          let same = (resumes_copying known run is).run_is in
-          let low = (resumes_copying known run is).closed in
-          covered_less start logs run.epoch known.closed (omega (arith, same, low)) covered
-      by (inl durable) (inl before) =
-          let low = (resumes_copying known run is).closed in
+      by : (epoch_before start.epoch ≤ known.durable) ⊎ (known.durable ≡ MOST) → IsNoted start logs known.epoch
+          → WasClosed start logs run.epoch
+      by durable (inr was) = subst (WasClosed start logs) (resumes_copying known run is).run_is was
+      by (inl least) (inl before) =
           let above = (resumes_copying known run is).durable in
-          absurd (omega (arith, low, above, durable, before))
+          absurd (omega (arith, least, above, before))
       by (inr durable) (inl before) =
           let low = (resumes_copying known run is).closed in
           let above = (resumes_copying known run is).durable in

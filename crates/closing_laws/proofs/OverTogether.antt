@@ -75,11 +75,10 @@ takeover_together s x =
       all_complete = λ tx key g e n is first at last. finishes_together s;
       aborts = λ tx key g n is first at more. tt;
       all_abort = λ tx key g n is first at last.
-          let sends = (finishing s).effects.sends in
-          (
+          let sends = (finishing s).effects.sends in (
             beside_none (told_aborted tx ∷ sends) (told_aborted tx) refl,
             each_map (IsBeside sends) (IsBeside (told_aborted tx ∷ sends)) sends (λ o beside is. inr (beside is))
-            (finishes_together s),
+                (finishes_together s),
           );
       goes_on = λ tx place g is due at first. none_together _ (stage_none s.node s.layout s.stage g place);
     })

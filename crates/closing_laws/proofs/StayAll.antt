@@ -47,8 +47,7 @@ use Rattle.commit_laws.proofs.DecidedStay.{applied_more, forth_decided}
 use Rattle.commit_laws.proofs.FateForth.{fate_decided}
 use Rattle.commit_laws.proofs.FateViews.{any_of}
 use Rattle.commit_laws.proofs.FinalsForth.{HasFinalEntry, IsFinalBy, applied_forth, by_report, by_write, final_by}
-use Rattle.closing_laws.specs.Closed.{ClosersHaveHeardAll, IsClosedBy, IsOver, WasClosed}
-use Rattle.closing_laws.specs.Durable.{DurableWereClosedFrom}
+use Rattle.closing_laws.specs.Closed.{ClosersHaveHeardAll, DurableWereClosed, IsClosedBy, IsOver, WasClosed}
 use Rattle.closing_laws.specs.Ended.{ForgottenAreDone, UncountedAreForgotten}
 use Rattle.closing_laws.specs.Over.{LeavesNone, OverLeavesNone}
 use Rattle.closing_laws.specs.Stays.{ClosedStayClosed}
@@ -271,7 +270,7 @@ module _ (start : Start) (large : ℕ → List HostStep) (more : AreOfCluster st
             by true led = by_led led
             by false gone = by_gone gone
 
-module _ (closers : ClosersHaveHeardAll) (durable : DurableWereClosedFrom) (uncounted : UncountedAreForgotten)
+module _ (closers : ClosersHaveHeardAll) (durable : DurableWereClosed) (uncounted : UncountedAreForgotten)
     (forgotten : ForgottenAreDone) (leaves : OverLeavesNone)
   where
     -- where an epoch was closed
@@ -301,7 +300,5 @@ module _ (closers : ClosersHaveHeardAll) (durable : DurableWereClosedFrom) (unco
             closed_stay start small large some less more cut epoch
             (record { host = h; below = below; marked = closed }) z there wrote low
         by (inr saved) =
-            let is = durable start small some less h epoch below saved in
-            let far = is.far in
-            closed_stay start small large some less more cut is.closed
-            (record { host = is.host; below = is.below; marked = is.marked }) z there wrote (omega (arith, low, far))
+            closed_stay start small large some less more cut epoch (durable start small some less h epoch below saved) z
+            there wrote low

@@ -211,8 +211,8 @@ module _ (start : Start) (all : ℕ → List HostStep) (me : Member) (there : Is
           (row_counts (IsDecidedIn (e ∷ log)) between
           (entered_counts (IsDecidedIn (e ∷ log)) run.own between old entered) e.step.taken.to.block e.step.taken
           (λ c inside.
-              inl (subst (IsIn (Decided c.tx c.epoch)) (sym (marks_are ∙ ap (λ (f : Effects). f.marks) effects))
-              (in_append (Decided c.tx c.epoch) front.marks _ inside))))
+          inl (subst (IsIn (Decided c.tx c.epoch)) (sym (marks_are ∙ ap (λ (f : Effects). f.marks) effects))
+          (in_append (Decided c.tx c.epoch) front.marks _ inside))))
 
   pub counted_are_decided : (es : List HostStep) → IsMoment start all es
       → Each (λ (c : Counted). IsMarked (Decided c.tx c.epoch) (logs_of start es (tc_of start me)))

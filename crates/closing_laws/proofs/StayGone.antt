@@ -180,9 +180,9 @@ module _ (start : Start) (all : ℕ → List HostStep) (es end : List HostStep) 
         subst (λ xs. fate start (logs_of start xs) tx ≡ aborts) (sym also.is)
         (goes_on start all (λ xs. fate start (logs_of start xs) tx ≡ aborts)
         (λ e xs moment is.
-            (fates_move known_commit start all e xs
-            (record { moment = moment; stood = all_stand start all xs (moment_less start all e xs moment) })
-            tx).aborting is)
+        (fates_move known_commit start all e xs
+        (record { moment = moment; stood = all_stand start all xs (moment_less start all e xs moment) })
+        tx).aborting is)
         also.newer there (subst (IsMoment start all) also.is last) aborts_there)
 
     pub never_applied : (other : List ℕ) → IsApplied start (logs_of start end) tx other → ⊥

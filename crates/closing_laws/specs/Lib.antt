@@ -1,5 +1,4 @@
 pub mod Ended
 pub mod Closed
-pub mod Durable
 pub mod Over
 pub mod Stays

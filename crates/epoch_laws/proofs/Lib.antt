@@ -12,7 +12,7 @@ mod MarkRows
 pub mod MarkSteps
 mod MarkTakeover
 pub mod MasterHears
-mod MasterKeeps
+pub mod MasterKeeps
 mod MasterKnows
 pub mod MasterMoves
 mod MasterResumes

@@ -316,7 +316,7 @@ module _ (start : Start) (all : ℕ → List HostStep) (e : HostStep) (es : List
           full_same : (current start old).full ≡ (current start new).full
           full_same = sym (ap (λ (v : View). v.full) view)
 
-          before_it : IsBefore start old was
+          pub before_it : IsBefore start old was
           before_it = record {
             view =
                 ap (λ (v : View). v.full)

@@ -1,5 +1,5 @@
 -- All epochs made one: in what a plain host knows, takes, sends and marks.
-use Rattle.std.specs.Prelude.{ℕ, if◌then◌else◌, ◌×◌, List, map, Option, None, Some}
+use Rattle.std.specs.Prelude.{ℕ, if◌then◌else◌, map, Option, None, Some}
 use Rattle.api_block.specs.State.{ApiState, with_replies}
 use Rattle.lqh_block.specs.State.{LqhState, with_markers, with_rows}
 use Rattle.node_core.specs.declared.host.Host.{Host}

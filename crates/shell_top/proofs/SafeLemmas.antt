@@ -21,6 +21,8 @@ use Rattle.outcome_laws.proofs.OnceDown.{none_down_decided}
 use Rattle.outcome_laws.proofs.OnceReported.{reported_once}
 use Rattle.outcome_laws.proofs.StrictOrder.{histories_in_strict_order}
 use Rattle.talk_laws.proofs.Told.{decided_as_told}
+use Rattle.closing_laws.proofs.Closings.{closed_stay_closed}
+use Rattle.closing_laws.proofs.DurableAll.{durable_were_closed}
 use Rattle.commit_laws.proofs.CutLaws.{aborts_effectless, commits_effective, histories_legal, records_alike, resting_rows}
 use Rattle.commit_laws.proofs.GreatestViews.{greatest_viable}
 use Rattle.shell_top.specs.Safe.{AreSafe, IsSafe}
@@ -56,6 +58,7 @@ module _ (start : Start) (logs : ℕ → List HostStep) (some : 1 ≤ start.epoc
           committed = commits_effective start inside of;
           aborted = aborts_effectless start inside of;
           down = none_down_decided start inside of;
+          durable = durable_were_closed start inside some of;
         }
       where
         of : AreOfCluster start inside
@@ -65,6 +68,9 @@ module _ (start : Start) (logs : ℕ → List HostStep) (some : 1 ≤ start.epoc
         → IsClosed (machine start) small → IsClosed (machine start) large → AreSafe start small large
     between_cuts small large inside cut closed closed_too =
         record {
+          closed =
+              closed_stay_closed start small large some (of_cluster small (λ h. past_trans (inside h) (cut h)) closed)
+              (of_cluster large cut closed_too) inside;
           agreed = λ tx key answered entry there own one other made_one made_other r q at at_other.
               records_alike start small large (of_cluster small (λ h. past_trans (inside h) (cut h)) closed)
               (of_cluster large cut closed_too) inside tx key answered entry there own one other made_one made_other r q

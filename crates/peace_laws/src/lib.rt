@@ -1,0 +1,3 @@
+//! The laws of peaceful logs: a cluster that may fail does, while nothing fails, what one does in which
+//! nothing can, and closes epochs besides.
+#![tactic(auto)]
