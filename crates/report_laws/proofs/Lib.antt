@@ -1,10 +1,1 @@
 pub mod Growing
-pub mod Reports
-pub mod Requested
-pub mod SingleAnswers
-pub mod SingleCounts
-pub mod SingleNames
-pub mod SingleOperations
-pub mod SingleReplies
-pub mod Told
-pub mod NewReplies

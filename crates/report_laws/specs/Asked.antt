@@ -1,4 +1,4 @@
--- The operations that the client asked for, of a transaction, and those of its entry.
+-- The operations of a transaction that signals ask for, and those of its entry.
 use Rattle.std.specs.List.{cons_option}
 use Rattle.std.specs.Prelude.{if◌then◌else◌, List, [], ◌∷◌, map, reverse, Option, None, Some}
 use Rattle.sig_core.specs.declared.entry.Entry.{Entry}
@@ -10,9 +10,6 @@ use Rattle.sig_core.specs.declared.signal.Body.{Body}
 use Rattle.sig_core.specs.declared.signal.Body.TheVariants.{Client}
 use Rattle.sig_core.specs.declared.signal.client.ClientSignal.TheVariants.{TcKeyReq}
 use Rattle.sig_core.specs.Same.{same_tx}
-use Rattle.world_core.specs.Machine.{step_after}
-use Rattle.world_core.specs.Start.{Start}
-use Rattle.world_core.specs.Steps.{HostStep}
 
 -- the operation of the transaction that the signal asks for
 abbrev pub asked_by : TxId → Body → Option Op
@@ -23,11 +20,6 @@ asked_by tx body = None
 abbrev pub asked_in : TxId → List Outgoing → List Op → List Op
 asked_in tx [] before = before
 asked_in tx (o ∷ more) before = asked_in tx more (cons_option (asked_by tx o.body) before)
-
--- the operations of the transaction that the client asked its coordinator for, in this log of host 0, the newest first
-abbrev pub asked : Start → TxId → List HostStep → List Op
-asked start tx [] = []
-asked start tx (e ∷ log) = asked_in tx (step_after start 0 log e).effects.sends (asked start tx log)
 
 -- the operations of an entry, the newest first
 abbrev pub operations_of : Entry → List Op

@@ -24,8 +24,6 @@ use Rattle.world_core.specs.Hosts.{receiver, rows_host}
 use Rattle.world_core.specs.Machine.{after, machine}
 use Rattle.world_core.specs.Rest.{IsAtRest, IsSettled}
 use Rattle.world_core.specs.Views.{live_nodes}
-use Rattle.report_laws.proofs.Reports.{reports_are_marked}
-use Rattle.report_laws.specs.Reports.{AreReported}
 use Rattle.sample_runs.proofs.PutChain.{one_holds, two_holds}
 use Rattle.sample_runs.proofs.PutCoordinator.{coordinator_do, coordinator_steps}
 use Rattle.sample_runs.proofs.PutRows.{backup_do, backup_steps, primary_do, primary_steps}
@@ -139,9 +137,6 @@ shape = record {
 closed : IsClosed (machine two) put
 closed = closed_of_logs (machine two) (stamped two) put right
 
-told_so : AreReported two put
-told_so = reports_are_marked two put shape within right
-
 -- what is so at both nodes is so at each that is live
 each_live : (P : Member → Type 0) → P (first_start 1) → P (first_start 2) → (member : Member) → IsIn member (live_nodes two put) → P member
 each_live P one other member (inl is) = subst P (sym is) one
@@ -192,5 +187,4 @@ sample_put = record {
   at_backup = record { live = inr (inl refl); holding = two_holds };
   rows = λ member replica.
       each_live (λ (live : Member). row_in two put live.node key ≡ Some value) row_primary row_backup member replica.live;
-  told = told_so;
 }

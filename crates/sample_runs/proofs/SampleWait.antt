@@ -13,7 +13,6 @@ use Rattle.world_core.specs.Hosts.{receiver}
 use Rattle.world_core.specs.Machine.{machine}
 use Rattle.frag_map.specs.Shape.{IsShape}
 use Rattle.answer_laws.specs.Sample.{lone}
-use Rattle.report_laws.proofs.Reports.{reports_are_marked}
 use Rattle.sample_runs.proofs.Traces.{after_is, is_log, told, told_is}
 use Rattle.sample_runs.proofs.WaitCoordinator.{ordering_do, ordering_steps}
 use Rattle.sample_runs.proofs.WaitRows.{serving_do, serving_steps}
@@ -115,5 +114,4 @@ sample_wait = record {
   none_holds = ap (λ host. (lqh_of host).locks) (after_is lone 3 serving serving_steps serving_do);
   history_is = refl;
   row = row_is;
-  told = reports_are_marked lone waited shape within right;
 }

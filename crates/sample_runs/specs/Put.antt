@@ -33,7 +33,6 @@ use Rattle.world_core.specs.Start.{Start, fresh}
 use Rattle.world_core.specs.Steps.{HostStep}
 use Rattle.answer_laws.specs.Answered.{AreQuiet}
 use Rattle.answer_laws.specs.Sample.{first_tx, takes}
-use Rattle.report_laws.specs.Reports.{AreReported}
 
 -- the transaction was reported committed in this epoch
 abbrev pub is_committed_in : TxId → ℕ → Mark → Bool
@@ -131,4 +130,3 @@ pub record SampleIsPut : Type 0 where
   pub at_primary : IsLiveReplica two put key (first_start 1)
   pub at_backup : IsLiveReplica two put key (first_start 2)
   pub rows : (member : Member) → IsLiveReplica two put key member → row_in two put member.node key ≡ Some value
-  pub told : AreReported two put

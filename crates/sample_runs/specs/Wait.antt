@@ -30,7 +30,6 @@ use Rattle.world_core.specs.Machine.{after, headed, request_signal}
 use Rattle.world_core.specs.Steps.{HostStep}
 use Rattle.answer_laws.specs.Answered.{AreQuiet}
 use Rattle.answer_laws.specs.Sample.{first_tx, lone, one, takes}
-use Rattle.report_laws.specs.Reports.{AreReported}
 use Rattle.sample_runs.specs.Put.{key, marked}
 
 abbrev pub second_tx : TxId
@@ -132,4 +131,3 @@ pub record SampleIsGranted : Type 0 where
   pub none_holds : (lqh_of (after lone 3 (waited 3))).locks ≡ map.empty
   pub history_is : history (hosts lone) waited ≡ first_entry ∷ second_entry ∷ []
   pub row : row_in lone waited 1 key ≡ Some second_value
-  pub told : AreReported lone waited

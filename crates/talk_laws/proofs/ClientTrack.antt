@@ -14,7 +14,6 @@ use Rattle.sig_core.specs.declared.reply.ApiReply.{ApiReply}
 use Rattle.sig_core.specs.declared.reply.ApiReply.TheVariants.{Answered, Ended}
 use Rattle.sig_core.specs.declared.signal.Body.{Body}
 use Rattle.sig_core.specs.declared.signal.Body.TheVariants.{Client}
-use Rattle.sig_core.specs.declared.signal.Signal.{Signal}
 use Rattle.sig_core.specs.declared.signal.client.ClientSignal.TheVariants.{TcBeginConf, TcCommitReq, TcKeyConf, TcKeyReq}
 use Rattle.sig_core.specs.Place.{coordinator_of}
 use Rattle.sig_core.specs.Same.{same_tx}
@@ -24,13 +23,11 @@ use Rattle.api_block.specs.declared.opened.Doing.TheVariants as doing
 use Rattle.api_block.specs.declared.opened.OpenTransaction.{OpenTransaction}
 use Rattle.api_block.specs.Opened.{answered, asked_for, begins_at, begun as has_begun, begun_operating, behind, committing, has_tx}
 use Rattle.api_block.specs.Opened.{is_named, is_tx, operating}
-use Rattle.api_views.specs.Client.{client_row}
-use Rattle.api_views.specs.State.{ClientState}
 use Rattle.report_laws.specs.Answered.{answers_among, is_answered}
 use Rattle.outcome_laws.specs.Counts.{count_sent, is_begin, is_committing, is_unwished, is_wish, one_if}
-use Rattle.outcome_laws.proofs.ClientCounts.{reports_few, wishes_few}
 use Rattle.outcome_laws.proofs.TcLists.{count_between, count_more, none_counted}
-use Rattle.talk_laws.proofs.ClientTalks.{ArePlain, IsPlain, Talk, TalkForms, client_talks, is_plain, own_is}
+use Rattle.talk_laws.proofs.ClientTalks.{ArePlain, IsPlain, Talk, TalkForms, is_plain, own_is}
+use Rattle.talk_laws.proofs.ShellTalks.{HostForms}
 
 -- it asks for an operation of the transaction
 abbrev pub is_key : TxId → Body → Bool
@@ -80,10 +77,10 @@ module _ (tx : TxId) where
       (talked : ClientTalked opened asked told wished begun) (body : Body)
       (few : one_if (is_begin tx body) + begun ≤ 1)
     where
-      record Pays (now : List OpenTransaction) (sends : List Outgoing) (replies : List ApiReply) : Type 0 where
-        paid : Each (IsPaid (count_sent (is_key tx) sends + asked) (news_of tx body replies + told)) now
-        unbegun : one_if (is_begin tx body) + begun ≡ 0 → count_sent (is_key tx) sends + asked ≡ 0
-        wished_paid : 1 ≤ count_sent (is_wish tx) sends + wished
+      pub record Pays (now : List OpenTransaction) (sends : List Outgoing) (replies : List ApiReply) : Type 0 where
+        pub paid : Each (IsPaid (count_sent (is_key tx) sends + asked) (news_of tx body replies + told)) now
+        pub unbegun : one_if (is_begin tx body) + begun ≡ 0 → count_sent (is_key tx) sends + asked ≡ 0
+        pub wished_paid : 1 ≤ count_sent (is_wish tx) sends + wished
             → count_sent (is_key tx) sends + asked ≤ news_of tx body replies + told
 
       no_keys : (sends : List Outgoing) → ArePlain sends → count_sent (is_key tx) sends ≡ 0
@@ -304,10 +301,10 @@ module _ (tx : TxId) where
                 ap (λ (b : Bool). if b then length (answers_among (Answered name answer ∷ [])) else 0)
                 (ap (is_answered tx) is ∙ same)
 
-      abbrev PaysSo : Talk
+      abbrev pub PaysSo : Talk
       PaysSo now sends marks replies = Pays now sends replies
 
-      pays_forms : TalkForms opened [] body PaysSo
+      pub pays_forms : TalkForms opened [] body PaysSo
       pays_forms = record {
         keeps = λ {replies = replies} sends plain mute. plainly opened sends replies plain talked.paid;
         opens = λ {replies = replies} name node sends new plain mute.
@@ -368,23 +365,8 @@ module _ (tx : TxId) where
             (removed_is p at f (IsPaid asked told) talked.paid);
       }
 
-  -- whatever the client's side takes, with no reply left from before
-  pub client_talked : (s : ClientState) (x : Signal) (asked told wished begun : ℕ) → s.api.replies ≡ []
-      → one_if (is_begin tx x.body) + begun ≤ 1
-      → ClientTalked s.api.opened asked told wished begun
-      → ClientTalked (client_row s x).state.api.opened (count_sent (is_key tx) (client_row s x).effects.sends + asked)
-      (news_of tx x.body (client_row s x).state.api.replies + told)
-      (count_sent (is_wish tx) (client_row s x).effects.sends + wished) (one_if (is_begin tx x.body) + begun)
-  client_talked s x asked told wished begun none few talked =
-      let pays =
-      client_talks s x (PaysSo s.api.opened asked told wished begun talked x.body few)
-      (subst
-      (λ before. TalkForms s.api.opened before x.body (PaysSo s.api.opened asked told wished begun talked x.body few))
-      (sym none) (pays_forms s.api.opened asked told wished begun talked x.body few)) in
-      record {
-        paid = pays.paid;
-        open_few = omega (arith, reports_few tx s x, talked.open_few);
-        wish_few = omega (arith, wishes_few tx s x, talked.wish_few);
-        unbegun = pays.unbegun;
-        wished_paid = pays.wished_paid;
+      pub pays_beside : HostForms opened [] PaysSo
+      pays_beside = record {
+        stays = λ sends marks plain none. plainly opened sends [] plain talked.paid;
+        installs = λ now sends marks replies view pays. pays;
       }

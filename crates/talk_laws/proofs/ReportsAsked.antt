@@ -16,7 +16,7 @@ use Rattle.sig_core.specs.Step.{to_place}
 use Rattle.api_block.specs.declared.opened.OpenTransaction.{OpenTransaction}
 use Rattle.api_block.specs.Opened.{begins_at, begun_operating, is_named, operating}
 use Rattle.host_laws.proofs.ApiBegins.{same_name-is}
-use Rattle.report_laws.specs.Single.{name_of_request}
+use Rattle.report_laws.specs.Requested.{name_of_request}
 use Rattle.world_core.specs.Requests.{request_in}
 use Rattle.world_core.specs.Start.{Start}
 use Rattle.world_core.specs.Steps.{HostStep}

@@ -68,7 +68,7 @@ module _ (opened : List OpenTransaction) (body : Body) where
     pub answers : (answers_among replies ≡ []) ⊎ (answers_among replies ≡ answer_in body)
     pub own : AreOwn marks replies
 
-  abbrev pub Tells : Talk
+  abbrev Tells : Talk
   Tells now sends marks replies = TellsMarked marks replies
 
   silent : (marks : List Mark) (replies : List ApiReply) → AreUnreported marks → IsMuteBehind [] replies
@@ -81,8 +81,8 @@ module _ (opened : List OpenTransaction) (body : Body) where
         own = each_map IsMute (IsOfItsTransaction opened body marks) behind.more (mute_own marks) behind.mute;
       })
 
-  pub told_forms : TalkForms opened [] body Tells
-  told_forms = record {
+  forms : TalkForms opened [] body Tells
+  forms = record {
     keeps = λ sends plain mute. silent [] _ refl mute;
     opens = λ name node sends new plain mute. silent [] _ refl mute;
     opens_alone = λ op node sends is plain mute. silent [] _ refl mute;
@@ -121,20 +121,26 @@ module _ (opened : List OpenTransaction) (body : Body) where
     };
   }
 
--- the step has the marks of its row
+-- so it is of the row of each step
+pub row_tells : (start : Start) (e : HostStep) (log : List HostStep)
+    → TellsMarked (opened_after start log) e.step.taken.body (step_after start 0 log e).effects.marks
+    (replies_at 0 (step_after start 0 log e))
+row_tells start e log =
+    step_talks start e log (Tells (opened_after start log) e.step.taken.body)
+    (forms (opened_after start log) e.step.taken.body) (beside (opened_after start log) e.step.taken.body)
+
+-- whose marks the step has
 module _ (start : Start) (logs : ℕ → List HostStep) (right : AreLogs (machine start) logs) (newer : List HostStep)
     (e : HostStep) (before : List HostStep) (is : logs 0 ≡ newer ++ e ∷ before)
   where
     abbrev replied : List ApiReply
     replied = replies_at 0 (step_after start 0 before e)
 
-    pub step_tells : TellsMarked (opened_after start before) e.step.taken.body e.step.marks replied
+    step_tells : TellsMarked (opened_after start before) e.step.taken.body e.step.marks replied
     step_tells =
         let log = log_after (machine start) 0 newer (e ∷ before) (subst (IsLog (machine start) 0) is (right.local 0)) in
         subst (λ marks. TellsMarked (opened_after start before) e.step.taken.body marks replied) (sym log.0.fits.marks)
-        (step_talks start e before (Tells (opened_after start before) e.step.taken.body)
-        (told_forms (opened_after start before) e.step.taken.body)
-        (beside (opened_after start before) e.step.taken.body))
+        (row_tells start e before)
 
     pub ends_are_marked : outcomes_told replied ≡ outcomes_marked e.step.marks
     ends_are_marked = step_tells.same

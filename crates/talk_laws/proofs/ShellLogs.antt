@@ -10,6 +10,7 @@ use Rattle.world_core.specs.Steps.{HostStep}
 use Rattle.world_views.specs.Hosts.{started}
 use Rattle.world_views.specs.Machine.{after, replies_at, step_after}
 use Rattle.moment_laws.proofs.PartKinds.{shell_after}
+use Rattle.outcome_laws.proofs.OnceMarks.{IsShell}
 use Rattle.talk_laws.specs.Reports.{opened_after, opened_in}
 use Rattle.talk_laws.proofs.ClientTalks.{Talk, TalkForms}
 use Rattle.talk_laws.proofs.ShellTalks.{HostForms, shell_talks}
@@ -35,6 +36,9 @@ module _ (start : Start) where
       let old = stands log in
       let did = shell_after start log e old.own old.runs in
       record { own = _; runs = ap (λ parts. giving parts []) did.is; none = refl }
+
+  pub is_shell : (log : List HostStep) → IsShell (after start 0 log).parts
+  is_shell log = subst IsShell (sym (stands log).runs) tt
 
   pub opened_first : opened_after start [] ≡ []
   unfolding started

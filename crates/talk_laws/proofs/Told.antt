@@ -1,5 +1,5 @@
 -- Whoever is decided has the operations that its client asked for, and the answers that it was told: all, and no others.
-use Rattle.std.proofs.Common.{◌≡◌, ◌≤◌, ◌<◌, ◌+◌, ◌⊎◌, ◌∙◌, ◌++◌, ℕ, zero, suc, Bool, true, false, List, [], ◌∷◌, length, map, reverse, ap, arith, inl, inr, refl, subst, sym}
+use Rattle.std.proofs.Common.{◌≡◌, ◌≤◌, ◌<◌, ◌+◌, ◌⊎◌, ◌∙◌, ◌++◌, ℕ, zero, suc, Bool, true, false, List, [], ◌∷◌, length, map, reverse, ap, append-nil, arith, inl, inr, refl, subst, sym}
 use Rattle.std.proofs.lemmas.Bool.{cases_lt}
 use Rattle.std.specs.List.{count_by}
 use Rattle.std.specs.Prelude.{if◌then◌else◌, Option, None, Some}
@@ -22,7 +22,6 @@ use Rattle.sig_core.proofs.Keys.{same_tx-self}
 use Rattle.report_laws.specs.Answered.{is_answered}
 use Rattle.report_laws.specs.Asked.{asked_by}
 use Rattle.talk_laws.proofs.Newest.{newest, newest_is, newest_ops, newest_ops_is}
-use Rattle.report_laws.proofs.Told.{append_none}
 use Rattle.world_core.specs.Entries.{ops_of, verified_by}
 use Rattle.world_core.specs.Hosts.{hosts}
 use Rattle.world_core.specs.Start.{Start, made}
@@ -282,6 +281,6 @@ pub decided_as_told : DecidedAsAskedAndTold
 decided_as_told start logs are entry there =
     let log = entry_log entry (hosts start) logs there in
     let both = entry_done entry.tx start logs are log.host entry refl log.is in (
-      both.0 ∙ (newest_ops_is entry.ops [] ∙ append_none (reverse (map (λ (op : Op × Answer). op.0) entry.ops))),
-      both.1 ∙ (newest_is entry.ops [] ∙ append_none (reverse (map (λ (op : Op × Answer). op.1) entry.ops))),
+      both.0 ∙ (newest_ops_is entry.ops [] ∙ append-nil (reverse (map (λ (op : Op × Answer). op.0) entry.ops))),
+      both.1 ∙ (newest_is entry.ops [] ∙ append-nil (reverse (map (λ (op : Op × Answer). op.1) entry.ops))),
     )

@@ -17,8 +17,7 @@ use Rattle.api_block.specs.declared.opened.OpenTransaction.{OpenTransaction}
 use Rattle.node_views.specs.declared.parts.Parts.{Parts}
 use Rattle.node_views.specs.declared.parts.Parts.TheVariants.{Shell}
 use Rattle.report_laws.specs.Answered.{answers_among}
-use Rattle.report_laws.specs.Requested.{AsksAsRequested}
-use Rattle.report_laws.specs.Single.{name_of_request}
+use Rattle.report_laws.specs.Requested.{AsksAsRequested, name_of_request}
 use Rattle.report_laws.specs.Told.{answer_in, outcomes_marked, outcomes_told}
 use Rattle.world_core.specs.Requests.{request_in}
 use Rattle.world_core.specs.Start.{Start}
