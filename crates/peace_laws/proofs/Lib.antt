@@ -31,6 +31,7 @@ pub mod NoneCompletes
 pub mod NoneCounted
 pub mod OrderLists
 pub mod PeaceNext
+pub mod Peaceful
 pub mod PlainAnswers
 pub mod PlainCalm
 pub mod PlainEvents
