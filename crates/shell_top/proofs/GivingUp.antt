@@ -2,13 +2,17 @@
 use Rattle.std.proofs.Common.{◌≡◌, ℕ, List, [], ◌∷◌, ◌++◌, Bool, true, false, refl, ap, sym, ◌∙◌}
 use Rattle.std.specs.Prelude.{◌==◌, ◌&&◌, ◌||◌, if◌then◌else◌, None, Some}
 use Rattle.std.specs.List.{list_any}
-use Rattle.std.proofs.lemmas.Bool.{true≢false}
+use Rattle.std.proofs.lemmas.Bool.{false≢true, true≢false}
 use Rattle.calm_laws.specs.Resting.{NoneGivesUp}
 use Rattle.node_core.specs.Requests.{is_request}
+use Rattle.run_theory.proofs.Pasts.{each_map}
 use Rattle.run_theory.specs.Lists.{Each}
 use Rattle.run_theory.specs.Logs.{IsLog, IsStep}
 use Rattle.run_theory.specs.Runs.{AreLogs}
+use Rattle.peace_laws.specs.Laws.{is_spent}
+use Rattle.shell_top.specs.Served.{NoneStops}
 use Rattle.shell_top.specs.Stopped.{NoneWants, gives_up, gives_up_for}
+use Rattle.sig_core.specs.declared.mark.Mark.{Mark}
 use Rattle.sig_core.specs.declared.mark.Mark.TheVariants.{Stopped}
 use Rattle.sig_core.specs.declared.outcome.StopCause.{StopCause}
 use Rattle.sig_core.specs.declared.outcome.StopCause.TheVariants.{Clock, Memory}
@@ -89,12 +93,14 @@ spent_gives_up m is = absurd (false≢true is)
 
 unspent : (marks : List Mark) → list_any gives_up marks ≡ false → list_any is_spent marks ≡ false
 unspent [] none = refl
-unspent (m ∷ marks) none = by (gives_up m) (is_spent m) refl refl none
+unspent (m ∷ marks) none = by (gives_up m) (is_spent m) refl refl none (unspent marks)
   where
     by : (gives spent : Bool) → gives_up m ≡ gives → is_spent m ≡ spent → (gives || list_any gives_up marks) ≡ false
+        → (list_any gives_up marks ≡ false → list_any is_spent marks ≡ false)
         → (spent || list_any is_spent marks) ≡ false
-    by gives true up is none = absurd (true≢false (sym (spent_gives_up m is ∙ refl) ∙ up ∙ gives_none gives none))
-    by gives false up is none = unspent marks (rest_none gives none)
+    by true spent given is none rest = absurd (true≢false none)
+    by false true given is none rest = absurd (true≢false (sym (spent_gives_up m is) ∙ given))
+    by false false given is none rest = rest none
 
 pub none_stops : (start : Start) (logs : ℕ → List HostStep) → AreLogs (machine start) logs → AreUnscheduled start logs
     → NoneWants logs

@@ -112,25 +112,24 @@ pub one_peaceful : (start : Start) (request : ApiReq) (w u : Whole) → IsSound 
     → AreInPeace start (logs_at w.logs) → HasAsked start request w u → (more : ℕ → List HostStep)
     → HaveGrown start (logs_at u.logs) more → is_peaceful_request request ≡ true → NoneStops more
     → AreInPeace start more
-one_peaceful start request w u sound idle peace asked more grown peaceful stops =
+one_peaceful start request w u sound idle peace asked more grown peaceful stops = (
+  request ∷ peace.0,
+  (
+    logs_at w.logs,
     (
-      request ∷ peace.0,
+      peace.1,
       (
-        logs_at w.logs,
-        (
-          peace.1,
-          (
-            quiet_logs start sound.given w sound.right idle,
-            record {
-              past = λ h. past_trans (asked.more h) (grown.more h);
-              right = grown.right;
-              within = grown.within;
-              asked = grown.requests ∙ asked.requests;
-              peaceful = peaceful;
-              none = stops.none;
-              unspent = stops.unspent;
-            },
-          ),
-        ),
+        quiet_logs start sound.given w sound.right idle,
+        record {
+          past = λ h. past_trans (asked.more h) (grown.more h);
+          right = grown.right;
+          within = grown.within;
+          asked = grown.requests ∙ asked.requests;
+          peaceful = peaceful;
+          none = stops.none;
+          unspent = stops.unspent;
+        },
       ),
-    )
+    ),
+  ),
+)

@@ -80,9 +80,10 @@ module _ (plain_lives : PeacefulLivesArePlain) (closings : ClosingsAreAnswered) 
         no_request : (front : List ApiReq) → [] ≡ front ++ request ∷ later → ⊥
         no_request [] is = cc
         no_request (x ∷ front) is = cc
-    closed_along (newest ∷ before) logs served earlier later request quiet is closing = by (last_of later)
+    closed_along (newest ∷ before) logs served earlier later request quiet is closing =
+        by (last_of later) (λ front. closed_along before served.0 served.1.0 earlier front request)
       where
-        abbrev was : ℕ → List HostStep
+        was : ℕ → List HostStep
         was = served.0
 
         was_quiet : IsQuiet start was
@@ -91,8 +92,11 @@ module _ (plain_lives : PeacefulLivesArePlain) (closings : ClosingsAreAnswered) 
         goes : GoOnBy start newest was logs
         goes = served.1.1.1
 
-        by : (later ≡ []) ⊎ HasLast later → IsClosedIn start logs earlier request
-        by (inl none) =
+        by : (later ≡ []) ⊎ HasLast later
+            → ((front : List ApiReq) → (front ≡ [] → IsQuiet start was) → requests (was 0) ≡ earlier ++ request ∷ front
+            → is_closing_request request ≡ true → IsClosedIn start was earlier request)
+            → IsClosedIn start logs earlier request
+        by (inl none) inside =
             let both = same_last (requests (was 0)) earlier newest request
             (sym goes.asked ∙ is ∙ ap (λ (rs : List ApiReq). earlier ++ request ∷ rs) none) in
             record {
@@ -108,12 +112,11 @@ module _ (plain_lives : PeacefulLivesArePlain) (closings : ClosingsAreAnswered) 
                   closings start before request was logs (life before was served.1.0) was_quiet closing
                   (subst (λ r. GoOnBy start r was logs) both.1 goes) (quiet none);
             }
-        by (inr has) =
+        by (inr has) inside =
             let both = same_last (requests (was 0)) (earlier ++ request ∷ has.front) newest has.last
             (sym goes.asked ∙ is ∙ ap (λ (rs : List ApiReq). earlier ++ request ∷ rs) has.is
             ∙ sym (append_assoc earlier (request ∷ has.front) (has.last ∷ []))) in
-            let inner =
-            closed_along before was served.1.0 earlier has.front request (λ none. was_quiet) both.0 closing in
+            let inner = inside has.front (λ none. was_quiet) both.0 closing in
             record {
               was = inner.was;
               now = inner.now;
