@@ -3,7 +3,7 @@ use Rattle.std.proofs.Common.{◌≡◌, ◌≢◌, ◌⊎◌, ◌∙◌, ◌++�
 use Rattle.std.proofs.lemmas.Bool.{cases_eq, true≢false}
 use Rattle.std.specs.List.{list_any}
 use Rattle.std.specs.Prelude.{None}
-use Rattle.run_theory.specs.Lists.{Each, IsIn}
+use Rattle.run_theory.specs.Lists.{IsIn}
 use Rattle.run_theory.specs.Runs.{Happens}
 use Rattle.run_theory.proofs.Runs.{log_of-other, log_of-own}
 use Rattle.sig_core.specs.declared.mark.Mark.{Mark}
@@ -38,7 +38,7 @@ use Rattle.outcome_laws.proofs.TakeoverMarks.{takeover_marks_nothing}
 use Rattle.outcome_laws.proofs.TcMarks.{coordinator_marks_none}
 use Rattle.request_laws.proofs.PhaseAlong.{IsRun, runs_tc, told_some}
 use Rattle.request_laws.proofs.PhaseHosts.{AreNoDecisions, Goes, IsEntered, is_decided_mark, leaves, takes, tc_goes}
-use Rattle.epoch_laws.specs.Members.{dih_in, epochs_of}
+use Rattle.epoch_laws.specs.Members.{dih_in}
 use Rattle.commit_laws.specs.Going.{is_decided, own_live}
 use Rattle.closing_laws.specs.Ended.{UncountedAreForgotten, is_counted}
 use Rattle.closing_laws.proofs.CountedHere.{Counts, dih_counts, has, installs_still}

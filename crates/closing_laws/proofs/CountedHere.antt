@@ -6,7 +6,6 @@ use Rattle.std.specs.List.{list_any, prefix_len}
 use Rattle.std.specs.Prelude.{None, not, Option, position, remove, slice_get, Some}
 use Rattle.run_theory.proofs.Focus.{IsFocus, found}
 use Rattle.sig_core.specs.declared.mark.Mark.{Mark}
-use Rattle.sig_core.specs.declared.mark.Mark.TheVariants.{Decided}
 use Rattle.sig_core.specs.declared.member.TxId.{TxId}
 use Rattle.sig_core.specs.declared.signal.Body.{Body}
 use Rattle.sig_core.specs.declared.signal.Body.TheVariants.{Epoch, Host, Membership}
@@ -18,7 +17,7 @@ use Rattle.sig_core.specs.declared.signal.host.Work.TheVariants.{Held}
 use Rattle.sig_core.specs.declared.signal.membership.MembershipSignal.TheVariants.{FenceReq}
 use Rattle.sig_core.specs.Place.{checkpoints}
 use Rattle.sig_core.specs.Same.{same_tx}
-use Rattle.sig_core.specs.Step.{Step, sending, stay}
+use Rattle.sig_core.specs.Step.{Step, sending}
 use Rattle.sig_core.proofs.TxLemmas.{same_tx-is}
 use Rattle.dih_node.specs.declared.dih.Counted.{Counted}
 use Rattle.dih_node.specs.declared.dih.Report.{Report}

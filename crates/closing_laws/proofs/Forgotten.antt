@@ -1,10 +1,10 @@
 -- Whoever was committed and is forgotten is done: its coordinator has heard that its last key is completed, or nothing
 -- was written.
-use Rattle.std.proofs.Common.{◌≡◌, ◌≢◌, ◌≤◌, ◌⊎◌, ◌==◌, ◌∙◌, ◌++◌, ℕ, Bool, true, false, List, [], ◌∷◌, arith, inl, inr, refl, sym, ap, subst}
+use Rattle.std.proofs.Common.{◌≡◌, ◌≢◌, ◌≤◌, ◌⊎◌, ◌==◌, ◌∙◌, ◌++◌, ℕ, true, false, List, [], ◌∷◌, arith, inl, inr, refl, sym, ap, subst}
 use Rattle.std.proofs.lemmas.Bool.{cases_eq, eqb-true, true≢false}
 use Rattle.std.specs.Prelude.{if◌then◌else◌, None, Option, Some}
 use Rattle.run_theory.specs.Links.{sent}
-use Rattle.run_theory.specs.Lists.{Each, IsIn, IsPast}
+use Rattle.run_theory.specs.Lists.{IsIn, IsPast}
 use Rattle.run_theory.proofs.Links.{sent_more}
 use Rattle.run_theory.proofs.Pasts.{each_append, each_from, each_in, each_map, in_past, past_self}
 use Rattle.run_theory.proofs.Runs.{log_of-other, log_of-own}
@@ -23,7 +23,6 @@ use Rattle.sig_core.specs.declared.signal.Signal.{Signal}
 use Rattle.sig_core.specs.declared.signal.chain.ChainSignal.TheVariants.{Completed}
 use Rattle.sig_core.specs.declared.signal.client.ClientSignal.TheVariants.{TcCommitConf}
 use Rattle.sig_core.specs.declared.signal.host.HostSignal.TheVariants.{Closed}
-use Rattle.sig_core.specs.declared.view.View.{View}
 use Rattle.tc_block.specs.Complete.{one_if, written_count}
 use Rattle.tc_block.specs.declared.phase.Phase.{Phase}
 use Rattle.tc_block.specs.declared.phase.Phase.TheVariants.{Aborting, Committing, Completing, Open, Verifying}
@@ -31,7 +30,6 @@ use Rattle.tc_block.specs.declared.touched.Touched.{Touched}
 use Rattle.tc_block.specs.declared.transaction.Transaction.{Transaction}
 use Rattle.tc_block.specs.Phases.{is_decided as is_in_commit}
 use Rattle.tc_block.specs.Turn.{Turn}
-use Rattle.tc_views.specs.Coordinator.{coordinator_row}
 use Rattle.tc_views.specs.State.{CoordinatorState}
 use Rattle.tc_views.specs.Views.{install_row}
 use Rattle.node_views.specs.declared.tc_part.TcPart.{TcPart}
@@ -39,7 +37,6 @@ use Rattle.node_views.specs.Parts.{tc_row}
 use Rattle.node_views.specs.WellFormed.{is_well_formed}
 use Rattle.run_laws.specs.Keyed.{IsTouchedRightly, IsWrittenRightly}
 use Rattle.world_core.specs.Entries.{ops_of}
-use Rattle.world_core.specs.Marks.{has_mark}
 use Rattle.world_core.specs.Start.{Start, made}
 use Rattle.world_core.specs.Steps.{Addressed, HostStep}
 use Rattle.world_views.specs.Machine.{IsOwnWork, machine, step_after}
@@ -47,15 +44,14 @@ use Rattle.view_laws.specs.Order.{sound_machine}
 use Rattle.view_laws.specs.Runs.{view_after}
 use Rattle.moment_laws.specs.Moments.{IsMoment, logs_of}
 use Rattle.moment_laws.specs.PartSteps.{PartEnters, PartTakes, handles, ignores, installs, remains, tc_kind}
-use Rattle.moment_laws.specs.Parts.{IsPassed}
 use Rattle.moment_laws.specs.Places.{tc_of}
 use Rattle.moment_laws.proofs.MomentSignals.{IsClosed, taken_told}
 use Rattle.moment_laws.proofs.MomentViews.{moment_less}
-use Rattle.outcome_laws.specs.Counts.{IsCoordinatorOf, coordinator_member, is_decision}
+use Rattle.outcome_laws.specs.Counts.{coordinator_member}
 use Rattle.outcome_laws.specs.Decided.{IsMarked}
 use Rattle.request_laws.specs.Blocks.{coordinator_after}
 use Rattle.request_laws.specs.Phases.{CoordinatorStands, HasGone, IsGivenWith, SaysIn, SaysOf, WaitsWith}
-use Rattle.request_laws.specs.Ways.{entry_of, has_gone_back, has_gone_forth, is_at, tells_commit}
+use Rattle.request_laws.specs.Ways.{entry_of, has_gone_forth, is_at, tells_commit}
 use Rattle.request_laws.proofs.PhaseAlong.{coordinator_comes}
 use Rattle.request_laws.proofs.PhaseGone.{gone_nowhere, gone_same}
 use Rattle.request_laws.proofs.PhaseHeard.{heard_at}

@@ -1,6 +1,6 @@
 -- Commits and completions of keys go along replicas until one tells of them: tests of signals by the transaction and the
 -- key that they name.
-use Rattle.std.proofs.Common.{◌≡◌, ◌+◌, ◌||◌, ◌&&◌, ◌==◌, ℕ, Bool, true, false, List, refl, sym, arith, ◌∙◌}
+use Rattle.std.proofs.Common.{◌≡◌, ◌+◌, ◌||◌, ◌&&◌, ◌==◌, ℕ, Bool, true, false, List, refl, arith}
 use Rattle.std.proofs.lemmas.Bool.{true≢false}
 use Rattle.sig_core.specs.declared.member.TxId.{TxId}
 use Rattle.sig_core.specs.declared.signal.Body.{Body}
@@ -42,14 +42,6 @@ pub either_aside : (drive : Drive) (w : Keys) (body : Body) → is_of_rows body 
 either_aside drive w (Chain signal) aside = absurd (true≢false aside)
 either_aside committing w body aside = refl
 either_aside completing w body aside = refl
-
--- such a signal is about rows
-pub either_chain : (drive : Drive) (w : Keys) (body : Body) → either drive w body ≡ true → is_of_rows body ≡ true
-either_chain drive w body is = by (is_of_rows body) refl
-  where
-    by : (b : Bool) → is_of_rows body ≡ b → b ≡ true
-    by true e = refl
-    by false e = absurd (true≢false (sym is ∙ either_aside drive w body e))
 
 -- it is one of both, and not the other
 pub either_parts : (drive : Drive) (w : Keys) (body : Body)

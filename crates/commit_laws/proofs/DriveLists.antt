@@ -113,11 +113,6 @@ module _ (node : ℕ) (tx : TxId) (list : List Outgoing) (at : ℕ) where
           )
       rest false = omega arith
 
--- a flat list, part by part
-count_flat : {A : Type 0} (p : Outgoing → Bool) (f : A → List Outgoing) (x : A) (xs : List A)
-    → count_by p (flat_map f (x ∷ xs)) ≡ count_by p (f x) + count_by p (flat_map f xs)
-count_flat p f x xs = count_both p (f x) (flat_map f xs)
-
 module _ (layout : Layout) (tx : TxId) where
   abbrev pub commits_of : ℕ → ℕ → List Touched → List Outgoing
   commits_of epoch awaited touched = phase_sends layout tx (Committing epoch awaited) touched

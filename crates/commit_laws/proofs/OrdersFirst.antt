@@ -1,11 +1,11 @@
 -- Before a takeover is ordered in a view nobody was told in it of what rows have, as one order is taken in each view.
 use Rattle.std.proofs.Common.{◌≡◌, ◌==◌, ◌&&◌, ◌||◌, ◌∙◌, ℕ, Bool, true, false, List, ◌∷◌, refl, sym, ap, arith}
 use Rattle.std.proofs.lemmas.Bool.{eq-eqb, true≢false}
-use Rattle.std.specs.Prelude.{if◌then◌else◌, not, None}
+use Rattle.std.specs.Prelude.{if◌then◌else◌, not}
 use Rattle.run_theory.proofs.Pasts.{each_past}
 use Rattle.run_theory.proofs.Runs.{logs_of_run}
 use Rattle.run_theory.specs.Links.{taken}
-use Rattle.run_theory.specs.Lists.{Each, IsIn}
+use Rattle.run_theory.specs.Lists.{IsIn}
 use Rattle.run_theory.specs.Machine.{Machine}
 use Rattle.outcome_laws.specs.Counts.{one_if}
 use Rattle.sig_core.specs.declared.member.Member.{Member}
@@ -14,9 +14,6 @@ use Rattle.sig_core.specs.declared.signal.Body.TheVariants.{Host, Takeover}
 use Rattle.sig_core.specs.declared.signal.Signal.{Signal}
 use Rattle.sig_core.specs.declared.signal.host.HostSignal.TheVariants.{Closed}
 use Rattle.sig_core.specs.declared.signal.takeover.TakeoverSignal.TheVariants.{LqhTransConf, TakeoverOrd}
-use Rattle.takeover_block.specs.declared.gathered.Gathered.{Gathered}
-use Rattle.takeover_block.specs.Gathered.{told_epoch}
-use Rattle.takeover_block.specs.Keys.{has_key}
 use Rattle.node_views.specs.WellFormed.{is_well_formed}
 use Rattle.world_core.specs.Start.{Start, made}
 use Rattle.world_core.specs.Steps.{Addressed, HostStep}
@@ -30,13 +27,10 @@ use Rattle.moment_laws.proofs.MomentHosts.{tc_low}
 use Rattle.moment_laws.proofs.MomentViews.{current_number, moment_less}
 use Rattle.request_laws.specs.Tokens.{all_taken}
 use Rattle.request_laws.proofs.TokenViews.{all_taken_more, taken_now}
-use Rattle.commit_laws.specs.Gathering.{EndsGathering}
-use Rattle.commit_laws.specs.Takeovers.{takeover_at}
 use Rattle.commit_laws.specs.Telling.{IsTelling, OrdersComeFirst}
 use Rattle.commit_laws.proofs.DriveKinds.{numbered}
 use Rattle.commit_laws.proofs.DriveRuled.{is_order}
 use Rattle.commit_laws.proofs.OrdersSound.{IsSoundOf, given_so, order_given, order_sound, sound_closes, taken_sound}
-use Rattle.commit_laws.proofs.TellingsGathered.{gathered_noted}
 use Rattle.commit_laws.proofs.TogetherOnce.{orders_once}
 use Rattle.commit_laws.proofs.UnorderedHosts.{is_of_reports}
 use Rattle.commit_laws.proofs.UnorderedViews.{IsOff, IsUnordered, unordered_views}
@@ -117,13 +111,3 @@ module _ (start : Start) (all : ℕ → List HostStep) (e : HostStep) (es : List
 pub orders_come_first : OrdersComeFirst
 orders_come_first start all e es moment member there at to order header i y inside tx key tells =
     none_told start all e es moment member there order header i y inside tx key tells
-
--- so what takeovers are told until the last member ends is noted
-pub tellings_are_noted : (start : Start) (all : ℕ → List HostStep) (e : HostStep) (es : List HostStep)
-    → IsMoment start all (e ∷ es) → (member : Member) → EndsGathering start e es member → (i : ℕ) (y : Addressed)
-    → IsIn y (taken (sound_machine start) i (logs_of start es (tc_of start member))) → (tx : TxId) (key : List ℕ)
-    → (tells : IsTelling start (logs_of start es) tx key y)
-    → Each (λ (g : Gathered). g.tx ≡ tx → (has_key g.keys key ≡ true)
-    × ((told_epoch tells.told tells.epoch ≡ None → ⊥) → g.epoch ≡ None → ⊥))
-    (takeover_at start (logs_of start es) member).gathered
-tellings_are_noted = gathered_noted orders_come_first

@@ -1,7 +1,7 @@
 -- A client is told of a commit, and keys are completed, when each key that was written has been committed in that view.
 use Rattle.std.specs.Prelude.{◌≡◌, ◌⊎◌, ℕ, true, List}
 use Rattle.run_theory.specs.Links.{sent}
-use Rattle.run_theory.specs.Lists.{Each, IsIn}
+use Rattle.run_theory.specs.Lists.{IsIn}
 use Rattle.sig_core.specs.declared.member.TxId.{TxId}
 use Rattle.sig_core.specs.declared.signal.Body.{Body}
 use Rattle.sig_core.specs.declared.signal.Body.TheVariants.{Chain, Client}
@@ -10,7 +10,6 @@ use Rattle.sig_core.specs.declared.signal.client.ClientSignal.TheVariants.{TcCom
 use Rattle.world_core.specs.Start.{Start}
 use Rattle.world_core.specs.Steps.{Addressed, HostStep}
 use Rattle.view_laws.specs.Order.{sound_machine}
-use Rattle.moment_laws.specs.Moments.{IsMoment, logs_of}
 use Rattle.commit_laws.specs.Going.{decided_ops, is_written_by}
 use Rattle.commit_laws.specs.Traces.{is_known}
 
@@ -34,9 +33,3 @@ module _ (start : Start) (logs : ℕ → List HostStep) where
   IsAnswered number (Client (TcKeyFailConf tx epoch)) = AllWereCommittedIn number tx ⊎ (is_known start logs tx ≡ true)
   IsAnswered number (Chain (Complete tx key chain at)) = AllWereCommittedIn number tx ⊎ (is_known start logs tx ≡ true)
   IsAnswered number body = Unit {0}
-
-abbrev pub CommitsAreAnswered : Type 0
-CommitsAreAnswered =
-    (start : Start) (all : ℕ → List HostStep) (es : List HostStep) → IsMoment start all es
-    → (i j : ℕ) → Each (λ (x : Addressed). IsAnswered start (logs_of start es) x.signal.view.number x.signal.body)
-    (sent (sound_machine start) i j (logs_of start es i))

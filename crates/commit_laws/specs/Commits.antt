@@ -15,7 +15,7 @@ use Rattle.world_core.specs.Start.{Start, made}
 use Rattle.world_core.specs.Steps.{Addressed, HostStep}
 use Rattle.view_laws.specs.Order.{sound_machine}
 use Rattle.row_locks.specs.Holders.{holds_enough}
-use Rattle.moment_laws.specs.Moments.{IsMoment, current, logs_of}
+use Rattle.moment_laws.specs.Moments.{current}
 use Rattle.commit_laws.specs.Fates.{aborts, fate}
 use Rattle.commit_laws.specs.Going.{decided_ops, image_by, is_decided, is_written_by}
 use Rattle.commit_laws.specs.Traces.{AreCommitted, IsApplied, IsCommittedAtAll, IsReplicaOf, has_marker_at, is_committed_at, is_known, members_now, record_at, replica_at}
@@ -99,8 +99,3 @@ module _ (start : Start) (logs : ℕ → List HostStep) where
         → holds_enough tx Exclusive (replica_at start logs member key).lock.holders ≡ true
     -- whatever the client's side knows to be committed is done
     pub known : (tx : TxId) → is_known start logs tx ≡ true → IsDone tx
-
-abbrev pub CommitsStandAlways : Type 0
-CommitsStandAlways =
-    (start : Start) (all : ℕ → List HostStep) (es : List HostStep) → IsMoment start all es
-    → CommitsStand start (logs_of start es)

@@ -16,7 +16,6 @@ use Rattle.world_core.specs.Steps.{HostStep}
 use Rattle.view_laws.specs.Runs.{view_after}
 use Rattle.moment_laws.specs.Moments.{IsMoment, current, logs_of}
 use Rattle.moment_laws.specs.Places.{tc_of}
-use Rattle.commit_laws.specs.Going.{decided_ops, is_decided}
 use Rattle.commit_laws.specs.Takeovers.{IsOrphan, takeover_at}
 use Rattle.commit_laws.specs.Traces.{IsReplicaOf, has_marker_at, record_at}
 
@@ -61,13 +60,3 @@ abbrev pub GatheringsAreWhole : Type 0
 GatheringsAreWhole =
     (start : Start) (all : ℕ → List HostStep) (e : HostStep) (es : List HostStep) → IsMoment start all (e ∷ es)
     → (member : Member) → EndsGathering start e es member → AllIsTold start (logs_of start es) member
-
--- Of whoever has no coordinator in the current view nothing is decided by an event, and who is decided keeps the operations
--- with which it is.
-abbrev pub OrphansAreStill : Type 0
-OrphansAreStill =
-    (start : Start) (all : ℕ → List HostStep) (e : HostStep) (es : List HostStep) → IsMoment start all (e ∷ es)
-    → (tx : TxId) → IsOrphan (current start (logs_of start (e ∷ es))) tx
-    → is_decided start (logs_of start (e ∷ es)) tx ≡ true
-    → (is_decided start (logs_of start es) tx ≡ true)
-    × (decided_ops start (logs_of start (e ∷ es)) tx ≡ decided_ops start (logs_of start es) tx)

@@ -41,11 +41,6 @@ pub record AreSpokenTruly (start : Start) (logs : ℕ → List HostStep) : Type 
       → Each (λ (x : Addressed). x.signal.view.number ≡ (current start logs).number → SaysCommit (fate start logs) x.signal.body)
       (sent (sound_machine start) i j (logs i))
 
-abbrev pub SpeakersAreTrue : Type 0
-SpeakersAreTrue =
-    (start : Start) (all : ℕ → List HostStep) (es : List HostStep) → IsMoment start all es
-    → AreSpokenTruly start (logs_of start es)
-
 -- whoever is reported aborted, but for the going down of the cluster, aborts
 abbrev pub ReportedAbort : Type 0
 ReportedAbort =

@@ -20,7 +20,7 @@ use Rattle.world_core.specs.Start.{Start, made}
 use Rattle.world_core.specs.Steps.{Addressed, HostStep}
 use Rattle.view_laws.specs.Order.{sound_machine}
 use Rattle.view_laws.specs.Runs.{view_after}
-use Rattle.moment_laws.specs.Moments.{IsMoment, current, logs_of}
+use Rattle.moment_laws.specs.Moments.{current}
 use Rattle.moment_laws.specs.Places.{tc_of}
 use Rattle.request_laws.specs.Blocks.{takeover_after}
 use Rattle.commit_laws.specs.Commits.{HasWritten, HasWrittenOne, IsKept}
@@ -94,8 +94,3 @@ module _ (start : Start) (logs : ℕ → List HostStep) where
     pub reports : (i j : ℕ)
         → Each (λ (x : Addressed). x.signal.view.number ≡ (current start logs).number
         → IsTrueReport x.signal.view x.signal.body) (sent (sound_machine start) i j (logs i))
-
-abbrev pub TakeoversStandAlways : Type 0
-TakeoversStandAlways =
-    (start : Start) (all : ℕ → List HostStep) (es : List HostStep) → IsMoment start all es
-    → TakeoversStand start (logs_of start es)

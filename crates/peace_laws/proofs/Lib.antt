@@ -13,6 +13,7 @@ pub mod CompletionTurns
 pub mod Completions
 pub mod CountsNobody
 pub mod FirstAsked
+pub mod Letters
 pub mod LevelSignals
 pub mod ListOn
 pub mod MainNear
@@ -43,5 +44,6 @@ pub mod Served
 pub mod ShellOn
 pub mod StageBegins
 pub mod Stands
+pub mod UnderLinks
 pub mod Voices
 pub mod WayOn

@@ -37,7 +37,7 @@ use Rattle.world_core.specs.Start.{Start}
 use Rattle.calm_laws.specs.Alike.{first}
 use Rattle.peace_laws.specs.Closing.{Course, host_in, main}
 use Rattle.peace_laws.specs.Moments.{Moment}
-use Rattle.peace_laws.specs.UnderWay.{AReport, AnOrder, GoingOn, IsMaster, IsOrder, IsUnsent, Stage, block_of, ended_by, ended_of}
+use Rattle.peace_laws.specs.UnderWay.{AReport, AnOrder, GoingOn, IsMaster, HasMask, IsOrder, IsUnsent, Stage, block_of, ended_by, ended_of}
 use Rattle.peace_laws.specs.UnderWay.{going_on, is_ordered, order_of, order_to, phase_of, report_by, report_of}
 use Rattle.peace_laws.specs.UnderWay.{Prepares, Commits, Closes, Saves, Copies}
 
@@ -131,9 +131,9 @@ module _ (start : Start) (c : Course) where
   IsSent one =
       AnOrder start c main (host_for start one.to) one ⊎ AReport c main (host_for start one.to) one
 
-  orders_sent : (rows : Bool) (order : Order) → IsOrder c order
+  orders_sent : (rows : Bool) (order : Order) → IsOrder c order → HasMask start order
       → Each IsSent (orders_at (block_of rows) order (members start.shape.nodes))
-  orders_sent rows order fits =
+  orders_sent rows order fits mask =
       go (members start.shape.nodes)
       (each_member (λ member. IsSent (order_at (block_of rows) order member)) start.shape.nodes
       (λ place low.
@@ -143,6 +143,7 @@ module _ (start : Start) (c : Course) where
         rows = rows;
         order = order;
         fits = fits;
+        mask = mask;
         from = refl;
         to = reaches start order place rows low;
         is = refl;
@@ -153,24 +154,26 @@ module _ (start : Start) (c : Course) where
       go [] all = tt
       go (m ∷ ms) all = (all.0, go ms all.1)
 
-  each_sent : (rows : Bool) (order : Order) → IsOrder c order → Each IsSent (to_each (block_of rows) order (first start))
+  each_sent : (rows : Bool) (order : Order) → IsOrder c order → HasMask start order
+      → Each IsSent (to_each (block_of rows) order (first start))
   unfolding to_each
-  each_sent rows order fits =
-      each_append IsSent (orders_at (block_of rows) order (members start.shape.nodes)) [] (orders_sent rows order fits) tt
+  each_sent rows order fits mask =
+      each_append IsSent (orders_at (block_of rows) order (members start.shape.nodes)) [] 
+      (orders_sent rows order fits mask) tt
 
-  both_sent : (order : Order) → IsOrder c order → Each IsSent (to_both order (first start))
+  both_sent : (order : Order) → IsOrder c order → HasMask start order → Each IsSent (to_both order (first start))
   unfolding to_both
-  both_sent order fits =
+  both_sent order fits mask =
       each_append IsSent (to_each block.Dih order (first start)) (to_each block.Lqh order (first start))
-      (each_sent false order fits) (each_sent true order fits)
+      (each_sent false order fits mask) (each_sent true order fits mask)
 
   stage_sent : (stage : Stage) → Each IsSent (phase_sends (first start) (phase_of c stage))
   unfolding phase_sends
-  stage_sent Prepares = each_sent false (order.Prepare c.epoch c.next) (refl, refl)
-  stage_sent Commits = each_sent false (order.Commit c.epoch c.next) (refl, refl)
-  stage_sent Closes = both_sent (order.Close c.epoch) tt
-  stage_sent Saves = each_sent true (order.Save c.epoch) tt
-  stage_sent Copies = each_sent false (order_of start c Copies) tt
+  stage_sent Prepares = each_sent false (order.Prepare c.epoch c.next) (refl, refl) tt
+  stage_sent Commits = each_sent false (order.Commit c.epoch c.next) (refl, refl) tt
+  stage_sent Closes = both_sent (order.Close c.epoch) tt tt
+  stage_sent Saves = each_sent true (order.Save c.epoch) tt tt
+  stage_sent Copies = each_sent false (order_of start c Copies) tt refl
 
   report_sent : (kind : Closing) → c.kind ≡ kind → IsSent (to_place client (Epoch (report_by c.epoch kind)))
   report_sent kind is =
@@ -183,7 +186,7 @@ module _ (start : Start) (c : Course) where
   front_sent : (kind : Closing) → c.kind ≡ kind → Each IsSent (front_sends 1 (first start) (Some (ended_by c.epoch kind)))
   unfolding front_sends
   front_sent Gcp is =
-      each_append IsSent (to_both (order.Done c.epoch) (first start)) _ (both_sent (order.Done c.epoch) tt)
+      each_append IsSent (to_both (order.Done c.epoch) (first start)) _ (both_sent (order.Done c.epoch) tt tt)
       (report_sent Gcp is, tt)
   front_sent Micro is = (report_sent Micro is, tt)
 

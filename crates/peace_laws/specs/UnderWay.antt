@@ -160,12 +160,18 @@ IsOrder c (order.Prepare epoch next) = (epoch ≡ c.epoch) × (next ≡ c.next)
 IsOrder c (order.Commit epoch next) = (epoch ≡ c.epoch) × (next ≡ c.next)
 IsOrder c order = Unit {0}
 
+-- with the mask of all members, where it has one,
+abbrev pub HasMask : Start → Order → Type 0
+HasMask start (order.Copy epoch mask) = mask ≡ mask_of (first start).full
+HasMask start order = Unit {0}
+
 pub record AnOrder (start : Start) (c : Course) (i j : ℕ) (one : Outgoing) : Type 0 where
   pub place : ℕ
   pub low : place < start.shape.nodes
   pub rows : Bool
   pub order : Order
   pub fits : IsOrder c order
+  pub mask : HasMask start order
   pub from : i ≡ main
   pub to : j ≡ host_in place rows
   pub is : one ≡ order_to order place rows

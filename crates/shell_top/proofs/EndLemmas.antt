@@ -23,7 +23,6 @@ use Rattle.cause_laws.proofs.Causes.{replies_caused}
 use Rattle.command_laws.proofs.RepliesLive.{replies_live}
 use Rattle.command_laws.proofs.RequestsAnswered.{requests_answered}
 use Rattle.command_laws.specs.Between.{IsAskedAgain}
-use Rattle.report_laws.proofs.Reports.{reports_are_marked}
 use Rattle.host_io.specs.Fault.{Rose}
 use Rattle.node_core.specs.declared.host.Host as plain_host
 use Rattle.node_core.specs.declared.host.Host.TheVariants as plain_part
@@ -52,6 +51,7 @@ use Rattle.shell_top.specs.Text.{down_line, fault_line}
 use Rattle.shell_top.specs.Told.{text_of}
 use Rattle.shell_top.proofs.PrintedLemmas.{prints_both}
 use Rattle.shell_top.proofs.SafeLemmas.{between_cuts, cuts_are_safe}
+use Rattle.talk_laws.proofs.Reports.{reported}
 use Rattle.world_core.specs.Hosts.{hosts}
 use Rattle.world_core.specs.Lives.{fresh_life}
 use Rattle.world_core.specs.Machine as plain
@@ -197,7 +197,6 @@ module _ (start : Start) (logs : ℕ → List HostStep) (life : IsCalmLife start
             (asked_plain start logs life asked) newer step before request at is
             (ends_or_goes_on e (plain_quiet.IsQuiet (plain.machine start) (hosts start) (plain_logs logs))
             (IsAskedAgain start newer) (λ kept. quiet_plain start logs life (quiet kept)) again);
-        reported = reports_are_marked start (plain_logs logs) life.shape are_plain.within are_plain.right;
         caused = λ inside cut closed. replies_caused start inside (plain_logs logs) life.shape
             (record { within = are_plain.within; right = are_plain.right; cut = cut; closed = closed });
         living = replies_live start (plain_logs logs) are_plain.within are_plain.right;
@@ -214,6 +213,7 @@ is_life shape sound e commands logs lived =
       safe = cuts_are_safe (fresh shape) (logs_at logs) (omega arith) sound lived.within lived.right;
       between = between_cuts (fresh shape) (logs_at logs) (omega arith) sound lived.within lived.right;
       grows = λ small large inside cut. histories_grow (fresh shape) small large inside;
+      reported = reported (fresh shape) (logs_at logs) lived.right;
       calm = λ calm.
           calmly_served (fresh shape) (logs_at logs)
           (record { shape = sound; rows = refl; within = lived.within; right = lived.right; calm = calm }) e

@@ -9,7 +9,6 @@ use Rattle.command_laws.specs.Answers.{IsAnsweredIn}
 use Rattle.command_laws.specs.Between.{IsAskedAgain}
 use Rattle.command_laws.specs.Living.{is_of_living}
 use Rattle.node_core.specs.Replies.{replies_of}
-use Rattle.report_laws.specs.Reports.{AreReported}
 use Rattle.shell_top.specs.declared.ended.Ending.{Ending}
 use Rattle.shell_top.specs.declared.ended.Ending.TheVariants.{NoMemory}
 use Rattle.sig_core.specs.declared.reply.ApiReply.{ApiReply}
@@ -37,12 +36,10 @@ replied start log = replies_of (plain.after start 0 log)
 
 -- Calm logs, of a session that ended so. Their plain parts are the logs of a cluster
 -- in which nothing can fail: its shell was replied the same, but for the views that it was shown; each request is
--- answered; what is reported is the history of every closed cut, and each abort that is told has its cause there; and no
--- reply tells of a host that stopped.
+-- answered; each abort that is told has its cause in every closed cut; and no reply tells of a host that stopped.
 pub record IsCalmServed (start : Start) (ending : Ending) (logs : ℕ → List HostStep) : Type 0 where
   pub replies : plain_replies (replies_in start 0 (logs 0)) ≡ replied start (plain_logs logs 0)
   pub answered : EachIsAnswered start ending (plain_logs logs)
-  pub reported : AreReported start (plain_logs logs)
   pub caused : (inside : ℕ → List HostStep) → IsCut inside (plain_logs logs) → IsClosed (plain.machine start) inside
       → Each (IsReplyCaused start inside) (replied start (inside 0))
   pub living : Each (λ (reply : ApiReply). is_of_living reply ≡ true) (replied start (plain_logs logs 0))

@@ -16,6 +16,7 @@ use Rattle.shell_top.specs.declared.ended.Ending.TheVariants.{NoMemory, Words, W
 use Rattle.shell_top.specs.Safe.{AreSafe, IsSafe}
 use Rattle.shell_top.specs.Stopped.{NoneWants}
 use Rattle.shell_top.specs.Told.{text_of}
+use Rattle.talk_laws.specs.Reports.{AreReported}
 use Rattle.world_core.specs.History.{history}
 use Rattle.world_core.specs.Hosts.{hosts}
 use Rattle.world_core.specs.Labels.{AreLabelled}
@@ -54,6 +55,7 @@ pub record AreLived (start : Start) (ending : Ending) (commands : List Command) 
 -- and each with its host's number, are a run of the machine from there, in which hosts may stop and cut each other
 -- off; the requests in them are those of the commands; every closed cut of them is safe, whatever failed, and so are
 -- any two of them, one inside the other; the history of a cut is that of each larger one with some entries left out;
+-- what the client is told is what is marked as reported, and what was answered, under the name of its transaction;
 -- and where they are calm, so that nothing failed and no epoch was closed, the cluster served as one does in which
 -- nothing can fail.
 pub record IsLife (shape : Shape) (ending : Ending) (commands : List Command) (life : Life) : Type 0 where
@@ -67,6 +69,7 @@ pub record IsLife (shape : Shape) (ending : Ending) (commands : List Command) (l
       → AreSafe (start_of shape life) small large
   pub grows : (small large : ℕ → List HostStep) → IsCut small large → IsCut large (logs_of life)
       → IsSublist (history (hosts (start_of shape life)) small) (history (hosts (start_of shape life)) large)
+  pub reported : AreReported (start_of shape life) (logs_of life)
   pub calm : AreCalm (logs_of life) → IsCalmServed (start_of shape life) ending (logs_of life)
 
 -- the endings that can come before there is a life

@@ -11,25 +11,17 @@ use Rattle.sig_core.specs.declared.outs.Outgoing.{Outgoing}
 use Rattle.sig_core.specs.declared.place.BlockId.{BlockId}
 use Rattle.sig_core.specs.declared.place.BlockId.TheVariants as block
 use Rattle.sig_core.specs.declared.reply.ApiReply.{ApiReply}
-use Rattle.sig_core.specs.declared.reply.ApiReply.TheVariants.{Answered}
 use Rattle.sig_core.specs.declared.signal.Body.{Body}
 use Rattle.sig_core.specs.declared.signal.Body.TheVariants.{Client}
 use Rattle.sig_core.specs.declared.signal.Signal.{Signal}
 use Rattle.sig_core.specs.declared.signal.client.ClientSignal.TheVariants.{TcCommitReq, TcKeyConf, TcKeyReq}
 use Rattle.sig_core.specs.declared.view.View.{View}
 use Rattle.sig_core.specs.Same.{same_tx}
-use Rattle.sig_core.specs.Step.{stay}
-use Rattle.api_block.specs.declared.opened.Doing.{Doing}
-use Rattle.api_block.specs.declared.opened.Doing.TheVariants as doing
 use Rattle.api_block.specs.declared.opened.OpenTransaction.{OpenTransaction}
-use Rattle.api_block.specs.Api.{api_table}
-use Rattle.api_block.specs.Opened.{has_tx}
-use Rattle.api_block.specs.Operate.{answer_by, answer_row}
-use Rattle.api_block.proofs.WhereFound.{where_found}
-use Rattle.api_views.specs.Client.{client_row, client_table}
+use Rattle.api_views.specs.Client.{client_row}
 use Rattle.api_views.specs.Members.{noted}
-use Rattle.api_block.specs.State.{ApiState, with_replies}
-use Rattle.api_views.specs.State.{ClientState, with_api, within}
+use Rattle.api_block.specs.State.{with_replies}
+use Rattle.api_views.specs.State.{ClientState, with_api}
 use Rattle.sig_core.specs.declared.view.Shape.{Shape}
 use Rattle.moment_laws.specs.PartSteps.{PartEnters, PartTakes, ShellDoes, handles, ignores, installs, remains, shell_kind}
 use Rattle.moment_laws.proofs.PartKinds.{shell_after}
@@ -41,6 +33,7 @@ use Rattle.view_laws.specs.Runs.{view_after}
 use Rattle.world_views.specs.Hosts.{started}
 use Rattle.report_laws.specs.Answered.{answers_among, is_answered}
 use Rattle.report_laws.specs.Asked.{asked_by, asked_in}
+use Rattle.report_laws.specs.Told.{answer_in}
 use Rattle.talk_laws.specs.Talks.{asked_of, told_of}
 use Rattle.outcome_laws.specs.Counts.{count_sent, is_begin, is_wish, one_if}
 use Rattle.outcome_laws.proofs.KnowNothing.{untold_uncounted}
@@ -51,6 +44,8 @@ use Rattle.outcome_laws.proofs.TcLists.{count_more}
 use Rattle.node_views.specs.declared.shell_part.ShellPart.{ShellPart}
 use Rattle.node_views.specs.Parts.{shell_entered, shell_row}
 use Rattle.talk_laws.proofs.Among.{AreAmong, among_more}
+use Rattle.talk_laws.proofs.ClientTalks.{TalkForms, client_talks}
+use Rattle.talk_laws.proofs.ReportsTold.{TellsMarked, Tells, told_forms}
 use Rattle.talk_laws.proofs.ClientTrack.{ClientTalked, IsPaid, client_talked, is_key, news_of}
 use Rattle.talk_laws.proofs.Picks.{pick_sends, sent_of, taken_of}
 use Rattle.world_core.specs.Start.{Start}
@@ -58,34 +53,25 @@ use Rattle.world_core.specs.Steps.{HostStep}
 use Rattle.world_views.specs.Machine.{after, step_after}
 
 -- what an answer makes the client's side reply is that answer, or nothing
-module _ (one : TxId) (answer : Answer) where
-  abbrev OnlyThat : List ApiReply → Type 0
-  OnlyThat replies = AreAmong (reverse (answers_among replies)) (answer ∷ [])
+client_only : (one : TxId) (answer : Answer) (s : ClientState) (x : Signal) → x.body ≡ Client (TcKeyConf one answer)
+    → s.api.replies ≡ []
+    → AreAmong (reverse (answers_among (client_row s x).state.api.replies)) (answer ∷ [])
+client_only one answer s x is none = by tells.answers
+  where
+    replies : List ApiReply
+    replies = (client_row s x).state.api.replies
 
-  api_only : (a : ApiState) → a.replies ≡ [] → OnlyThat (answer_row a one answer).state.replies
-  unfolding answer_row
-  api_only a none =
-      where_found (has_tx one) a.opened (stay a) (λ at t. answer_by a one answer at t t.doing t.name)
-      (λ step. OnlyThat step.state.replies) (λ void. subst OnlyThat (sym none) tt)
-      (λ at f. by at f.item f.item.doing f.item.name)
-    where
-      by : (at : ℕ) (t : OpenTransaction) (does : Doing) (name : Option ℕ)
-          → OnlyThat (answer_by a one answer at t does name).state.replies
-      by at t doing.Operating (Some name) =
-          subst (λ before. OnlyThat (before ++ Answered (Some name) answer ∷ [])) (sym none) (inl (refl, tt))
-      by at t doing.Operating None =
-          subst (λ before. OnlyThat (before ++ Answered None answer ∷ [])) (sym none) (inl (refl, tt))
-      by at t doing.Ready name = subst OnlyThat (sym none) tt
-      by at t doing.Committing name = subst OnlyThat (sym none) tt
-      by at t (doing.Beginning op) name = subst OnlyThat (sym none) tt
+    tells : TellsMarked s.api.opened x.body (client_row s x).effects.marks (client_row s x).state.api.replies
+    tells =
+        client_talks s x (Tells s.api.opened x.body)
+        (subst (λ before. TalkForms s.api.opened before x.body (Tells s.api.opened x.body)) (sym none)
+        (told_forms s.api.opened x.body))
 
-  pub client_only : (s : ClientState) (x : Signal) → x.body ≡ Client (TcKeyConf one answer) → s.api.replies ≡ []
-      → OnlyThat (client_row s x).state.api.replies
-  unfolding noted
-  client_only s x is none =
-      subst (λ b. OnlyThat (client_table (noted s x.view) x b).state.api.replies) (sym is)
-      (subst (λ b. OnlyThat (within (noted s x.view) (api_table (noted s x.view).api b)).state.api.replies) (sym is)
-      (api_only (noted s x.view).api none))
+    by : (answers_among replies ≡ []) ⊎ (answers_among replies ≡ answer_in x.body)
+        → AreAmong (reverse (answers_among replies)) (answer ∷ [])
+    by (inl nothing) = subst (λ list. AreAmong (reverse list) (answer ∷ [])) (sym nothing) tt
+    by (inr that) =
+        subst (λ list. AreAmong (reverse list) (answer ∷ [])) (sym (that ∙ ap answer_in is)) (inl (refl, tt))
 
 -- the signal asks for the commit of this transaction
 abbrev pub wished_by : TxId → Body → Option TxId
@@ -163,7 +149,7 @@ module _ (tx : TxId) where
       )
 
   -- what a step tells, in front of what was told
-  news_count : (b : Bool) (replies : List ApiReply) (before : List Answer)
+  pub news_count : (b : Bool) (replies : List ApiReply) (before : List Answer)
       → length ((if b then reverse (answers_among replies) else []) ++ before)
       ≡ (if b then length (answers_among replies) else 0) + length before
   news_count true replies before =

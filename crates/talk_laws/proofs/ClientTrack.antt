@@ -2,7 +2,7 @@
 -- than it asked for, and none is missing where it has asked for the commit.
 use Rattle.std.proofs.Common.{◌≡◌, ◌≤◌, ◌+◌, ◌∙◌, ◌++◌, ◌&&◌, ℕ, Bool, true, false, List, [], ◌∷◌, length, ap, arith, refl, subst, sym}
 use Rattle.std.specs.List.{count_by}
-use Rattle.std.specs.Prelude.{if◌then◌else◌, not, remove, slice_set, Option, Some}
+use Rattle.std.specs.Prelude.{if◌then◌else◌, not, remove, slice_set, Option, None, Some}
 use Rattle.run_theory.specs.Lists.{Each}
 use Rattle.run_theory.proofs.Focus.{IsFocus}
 use Rattle.run_theory.proofs.Pasts.{each_after, each_append, each_before, each_map}
@@ -11,7 +11,7 @@ use Rattle.sig_core.specs.declared.op.Answer.{Answer}
 use Rattle.sig_core.specs.declared.op.Op.{Op}
 use Rattle.sig_core.specs.declared.outs.Outgoing.{Outgoing}
 use Rattle.sig_core.specs.declared.reply.ApiReply.{ApiReply}
-use Rattle.sig_core.specs.declared.reply.ApiReply.TheVariants.{Answered}
+use Rattle.sig_core.specs.declared.reply.ApiReply.TheVariants.{Answered, Ended}
 use Rattle.sig_core.specs.declared.signal.Body.{Body}
 use Rattle.sig_core.specs.declared.signal.Body.TheVariants.{Client}
 use Rattle.sig_core.specs.declared.signal.Signal.{Signal}
@@ -22,14 +22,15 @@ use Rattle.sig_core.specs.Step.{to_place}
 use Rattle.api_block.specs.declared.opened.Doing.{Doing}
 use Rattle.api_block.specs.declared.opened.Doing.TheVariants as doing
 use Rattle.api_block.specs.declared.opened.OpenTransaction.{OpenTransaction}
-use Rattle.api_block.specs.Opened.{asked_for, has_tx, is_tx}
+use Rattle.api_block.specs.Opened.{answered, asked_for, begins_at, begun as has_begun, begun_operating, behind, committing, has_tx}
+use Rattle.api_block.specs.Opened.{is_named, is_tx, operating}
 use Rattle.api_views.specs.Client.{client_row}
 use Rattle.api_views.specs.State.{ClientState}
 use Rattle.report_laws.specs.Answered.{answers_among, is_answered}
 use Rattle.outcome_laws.specs.Counts.{count_sent, is_begin, is_committing, is_unwished, is_wish, one_if}
 use Rattle.outcome_laws.proofs.ClientCounts.{reports_few, wishes_few}
 use Rattle.outcome_laws.proofs.TcLists.{count_between, count_more, none_counted}
-use Rattle.talk_laws.proofs.ClientTalks.{ArePlain, IsPlain, TalkForms, client_talks, is_plain}
+use Rattle.talk_laws.proofs.ClientTalks.{ArePlain, IsPlain, Talk, TalkForms, client_talks, is_plain, own_is}
 
 -- it asks for an operation of the transaction
 abbrev pub is_key : TxId → Body → Bool
@@ -44,7 +45,7 @@ is_operating other = false
 abbrev pub news_of : TxId → Body → List ApiReply → ℕ
 news_of tx body replies = if is_answered tx body then length (answers_among replies) else 0
 
-plain_key : (tx : TxId) (body : Body) → is_plain body ≡ true → is_key tx body ≡ false
+pub plain_key : (tx : TxId) (body : Body) → is_plain body ≡ true → is_key tx body ≡ false
 plain_key tx (Client (TcKeyReq other op)) plain = absurd cc
 plain_key tx body plain = refl
 
@@ -303,52 +304,68 @@ module _ (tx : TxId) where
                 ap (λ (b : Bool). if b then length (answers_among (Answered name answer ∷ [])) else 0)
                 (ap (is_answered tx) is ∙ same)
 
-      pays_forms : TalkForms opened [] body Pays
+      abbrev PaysSo : Talk
+      PaysSo now sends marks replies = Pays now sends replies
+
+      pays_forms : TalkForms opened [] body PaysSo
       pays_forms = record {
-        keeps = λ {replies = replies} sends plain. plainly opened sends replies plain talked.paid;
-        opens = λ {replies = replies} name node op sends plain.
-            plainly (opened ++ asked_for name node op ∷ []) sends replies plain
-            (each_append (IsPaid asked told) opened (asked_for name node op ∷ []) talked.paid ((λ has. absurd cc), tt));
-        begins = λ {replies = replies} p at f u name one is own. begins_pays p at f u one own {replies = replies} name is;
-        begins_alone = λ {replies = replies} p at f u name one op is own does.
-            begins_alone_pays p at f u one own {replies = replies} name op is does;
-        changes = λ {replies = replies} p at f u sends own does plain.
-            plainly (slice_set opened at u) sends replies plain
-            (set_all p at f (IsPaid asked told) u talked.paid
-            (λ has.
-            subst (λ d. asked ≤ told + one_if (is_operating d)) (sym does)
-            (item_is p at f (IsPaid asked told) talked.paid (ap (is_tx tx) (sym own) ∙ has))));
-        operates = λ {replies = replies} p at f u one op own same ready does.
-            operates_pays p at f u one (same ∙ own) own {replies = replies} op ready does;
-        answers = λ p at f u one name answer is own same does.
-            settles p at f u one (same ∙ own) own [] (Answered name answer ∷ []) refl (omega arith)
+        keeps = λ {replies = replies} sends plain mute. plainly opened sends replies plain talked.paid;
+        opens = λ {replies = replies} name node sends new plain mute.
+            plainly (opened ++ asked_for (Some name) node None ∷ []) sends replies plain
+            (each_append (IsPaid asked told) opened (asked_for (Some name) node None ∷ []) talked.paid
+            ((λ has. absurd cc), tt));
+        opens_alone = λ {replies = replies} op node sends is plain mute.
+            plainly (opened ++ asked_for None node (Some op) ∷ []) sends replies plain
+            (each_append (IsPaid asked told) opened (asked_for None node (Some op) ∷ []) talked.paid
+            ((λ has. absurd cc), tt));
+        begins = λ {replies = replies} name one at f is mute.
+            begins_pays (begins_at name one.tc) at f (has_begun f.item one) one refl {replies = replies} name is;
+        begins_alone = λ {replies = replies} name one at f op is nameless does mute.
+            begins_alone_pays (begins_at name one.tc) at f (begun_operating f.item one) one refl {replies = replies}
+            name op is refl;
+        waits = λ {replies = replies} p at f ahead sends plain mute.
+            plainly (slice_set opened at (behind f.item ahead)) sends replies plain
+            (set_all p at f (IsPaid asked told) (behind f.item ahead) talked.paid
+            (item_is p at f (IsPaid asked told) talked.paid));
+        operates = λ {replies = replies} name op at f one is ready own mute.
+            operates_pays (is_named (Some name)) at f (operating f.item) one own own {replies = replies} op ready refl;
+        answers = λ one answer at f name is does called.
+            let own = own_is one f.item.tx f.passes in
+            let u = answered f.item doing.Ready in
+            settles (has_tx one) at f u one own own [] (Answered (Some name) answer ∷ []) refl (omega arith)
             (λ is_it.
             omega (
               arith,
-              item_paid p at f u one (same ∙ own) own is_it,
+              item_paid (has_tx one) at f u one own own is_it,
               ap (λ d. one_if (is_operating d)) does,
-              told_one p at f u one (same ∙ own) own name answer is is_it,
+              told_one (has_tx one) at f u one own own (Some name) answer is is_it,
             ));
-        answers_last = λ p at f u one name answer is own same does.
-            settles p at f u one (same ∙ own) own _ (Answered name answer ∷ []) refl
-            (omega (arith, wish_sent p at f u one (same ∙ own)))
+        answers_last = λ one answer at f is does nameless.
+            let own = own_is one f.item.tx f.passes in
+            let u = answered f.item doing.Committing in
+            settles (has_tx one) at f u one own own _ (Answered None answer ∷ []) refl
+            (omega (arith, wish_sent (has_tx one) at f u one own))
             (λ is_it.
             omega (
               arith,
-              item_paid p at f u one (same ∙ own) own is_it,
+              item_paid (has_tx one) at f u one own own is_it,
               ap (λ d. one_if (is_operating d)) does,
-              told_one p at f u one (same ∙ own) own name answer is is_it,
+              told_one (has_tx one) at f u one own own None answer is is_it,
             ));
-        wishes = λ {replies = replies} p at f u one own same ready.
-            settles p at f u one (same ∙ own) own _ replies refl (omega (arith, wish_sent p at f u one (same ∙ own)))
+        wishes = λ {replies = replies} p at f one ready own mute.
+            settles p at f (committing f.item) one own own _ replies refl
+            (omega (arith, wish_sent p at f (committing f.item) one own))
             (λ is_it.
             omega (
               arith,
-              item_paid p at f u one (same ∙ own) own is_it,
+              item_paid p at f (committing f.item) one own own is_it,
               ap (λ d. one_if (is_operating d)) ready,
             ));
-        drops = λ {replies = replies} p at f sends plain.
+        drops = λ {replies = replies} p at f sends plain mute.
             plainly (remove opened at) sends replies plain (removed_is p at f (IsPaid asked told) talked.paid);
+        ends = λ p at f one outcome sends own plain.
+            plainly (remove opened at) sends (Ended f.item.name outcome ∷ []) plain
+            (removed_is p at f (IsPaid asked told) talked.paid);
       }
 
   -- whatever the client's side takes, with no reply left from before
@@ -360,8 +377,9 @@ module _ (tx : TxId) where
       (count_sent (is_wish tx) (client_row s x).effects.sends + wished) (one_if (is_begin tx x.body) + begun)
   client_talked s x asked told wished begun none few talked =
       let pays =
-      client_talks s x (Pays s.api.opened asked told wished begun talked x.body few)
-      (subst (λ before. TalkForms s.api.opened before x.body (Pays s.api.opened asked told wished begun talked x.body few))
+      client_talks s x (PaysSo s.api.opened asked told wished begun talked x.body few)
+      (subst
+      (λ before. TalkForms s.api.opened before x.body (PaysSo s.api.opened asked told wished begun talked x.body few))
       (sym none) (pays_forms s.api.opened asked told wished begun talked x.body few)) in
       record {
         paid = pays.paid;

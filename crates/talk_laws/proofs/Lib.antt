@@ -12,3 +12,11 @@ pub mod TcTalks
 pub mod TcTrack
 pub mod Told
 pub mod Newest
+pub mod ShellTalks
+pub mod ShellLogs
+pub mod ReportsTold
+pub mod ReportsRequested
+pub mod ReportsNames
+pub mod ReportsAsked
+pub mod ReportsSingle
+pub mod Reports

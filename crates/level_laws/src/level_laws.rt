@@ -1,0 +1,8 @@
+//! What hosts of the plain machine do, whatever the epochs.
+ghost use Rattle.level_laws.specs.Laws.{HostsAreLevel};
+
+/// Where all epochs are made one, in what a host knows and in what it takes, so are those in what it knows
+/// then, sends and marks, and nothing else is changed.
+pub fn hosts_are_level()
+    ensures { HostsAreLevel }
+{}
