@@ -159,9 +159,10 @@ module _ (hosts_level : HostsAreLevel) (start : Start) (shape : IsShape start.sh
         record {
           kept = kept;
           peaceful =
-              each_host (λ h those. Each (λ d. is_peaceful h d.step.taken ≡ true) those)
-              (ap (λ b. b || (is_closing e.host e.step.taken || asks_closing e.host e.step.taken)) calm,
-              are.peaceful e.host) are.peaceful;
+              each_host (λ h those. Each (λ d. is_peaceful h d.step.taken ≡ true) those) (
+                ap (λ b. b || (is_closing e.host e.step.taken || asks_closing e.host e.step.taken)) calm,
+                are.peaceful e.host,
+              ) are.peaceful;
           running = each_host (λ h those. has_stopped those ≡ false) known.goes_on are.running;
           stays = each_host (λ h those. h < hosts start → StaysIn start h epoch (after start h those).parts)
               (λ there. (here (is_beating e.host) refl).1) are.stays;
