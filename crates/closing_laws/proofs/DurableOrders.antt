@@ -40,14 +40,11 @@ pub across_next : (epoch next : ℕ) (s : DihState) → IsAcross epoch next s �
 across_next epoch next s (inl ready) = ready.next_is
 across_next epoch next s (inr gone) = gone.next_is
 
--- an order of the president that isn't late for a member is known to each, or the epoch that it names to follow isn't
+-- where an order of the president isn't late for a member, whoever knows the epoch that it names to follow knows it
 module _ (start : Start) (logs : ℕ → List HostStep) (agree : AgreeOnOrders start logs) (m : Member)
     (inside : IsIn m (current start logs).full) (epoch next : ℕ) (rises : epoch < next)
     (late : (epochs_of start logs m).current ≤ epoch)
   where
-    abbrev full : List Member
-    full = (current start logs).full
-
     preparing_agree : (voices : List Voice) (phase : Phase) → IsRightIn start logs voices phase
         → Prepares epoch next phase → EachFull start logs (Agrees epoch next)
     preparing_agree voices (Preparing run) right (same, same_next) =

@@ -77,10 +77,6 @@ data Passes (p : MainPart) (view : View) (x : Signal) (step : Step hosts.Host) :
 abbrev host_of : Standing → MainPart → hosts.Host
 host_of standing p = record { standing = standing; parts = part.Main p }
 
--- a view that is installed in what was left so leaves it so
-left_installed : (s t : MasterState) (view : View) → Left s (master.in_view t view)
-left_installed s t view = installs t view refl
-
 module _ (x : Signal) where
   module _ (standing : Standing) (p : MainPart) where
     abbrev s : hosts.Host
