@@ -5,6 +5,8 @@ pub mod CalmFacts
 pub mod CalmGoes
 pub mod CalmNear
 pub mod CloserEase
+pub mod ClosingMarks
+pub mod ClosingMoments
 pub mod ClosingNext
 pub mod ClosingSignals
 pub mod ClosingSteps
