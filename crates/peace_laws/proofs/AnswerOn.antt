@@ -1,23 +1,22 @@
 -- A closing goes on where the president's master takes the answer of a member: once all have answered, the next stage
 -- begins, or the closing has ended.
-use Rattle.std.proofs.Common.{◌≡◌, ◌≢◌, ◌≤◌, ◌<◌, ◌⊎◌, ◌∙◌, ◌++◌, inl, inr, ℕ, ◌+◌, ◌*◌, Bool, true, false, List, [], ◌∷◌, refl, sym, ap}
+use Rattle.std.proofs.Common.{◌≡◌, ◌<◌, ◌⊎◌, ◌∙◌, inl, inr, ℕ, ◌+◌, Bool, true, false, [], ◌∷◌, refl, sym, ap}
 use Rattle.std.proofs.Common.{subst, arith, length, nat_lt}
-use Rattle.std.proofs.lemmas.Bool.{and_from, and_parts, eq-eqb, false≢true, true≢false}
+use Rattle.std.proofs.lemmas.Bool.{and_parts, eq-eqb, false≢true, true≢false}
 use Rattle.std.proofs.lemmas.Bool.Decides.{nat_tests}
-use Rattle.std.specs.Prelude.{◌==◌, ◌&&◌, drop, nat_eq, None, Option, Some}
+use Rattle.std.specs.Prelude.{◌&&◌, drop, nat_eq, Some}
 use Rattle.api_views.specs.declared.closings.Closing.{Closing}
 use Rattle.api_views.specs.declared.closings.Closing.TheVariants.{Gcp, Micro}
 use Rattle.frag_map.specs.Replicas.{first_start}
 use Rattle.frag_map.specs.Shape.{IsShape}
 use Rattle.gcp_master.specs.declared.voices.Voice.{Voice}
-use Rattle.gcp_master.specs.Master.{epoch_table, master_row, master_table}
+use Rattle.gcp_master.specs.Master.{epoch_table, master_table}
 use Rattle.gcp_master.specs.Numbers.{is_first}
-use Rattle.gcp_master.specs.Sends.{front_sends, list_effects, listing, master_sends, phase_sends, told_if}
+use Rattle.gcp_master.specs.Sends.{front_sends, list_effects, listing, master_sends, told_if}
 use Rattle.gcp_master.specs.State.{MasterState, all_in, at_phase, counted, counts}
-use Rattle.gcp_master.specs.Voices.{is_heard, is_of, voices_of}
+use Rattle.gcp_master.specs.Voices.{is_heard, is_of}
 use Rattle.run_theory.specs.Lists.{Each, IsIn}
 use Rattle.run_theory.proofs.Pasts.{each_append, each_map}
-use Rattle.sig_core.specs.declared.member.Member.{Member}
 use Rattle.sig_core.specs.declared.outs.Outgoing.{Outgoing}
 use Rattle.sig_core.specs.declared.portion.TheConstants.{PORTION}
 use Rattle.sig_core.specs.declared.signal.Body.{Body}
@@ -31,17 +30,18 @@ use Rattle.world_core.specs.Start.{Start, made}
 use Rattle.calm_laws.specs.Alike.{first}
 use Rattle.peace_laws.specs.Closing.{Course, host_in, main}
 use Rattle.peace_laws.specs.Moments.{IsTaken, Moment, Takes}
-use Rattle.peace_laws.specs.UnderWay.{AnAnswer, Closes, Commits, CommittedAt, Copies, IsAnswer, IsAnswered, IsAt, IsLeft}
-use Rattle.peace_laws.specs.UnderWay.{IsLetter, IsMaster, IsOver, IsOwed, IsTrue, IsUnderWay, IsUnsent, Prepares, Saves, Stage}
-use Rattle.peace_laws.specs.UnderWay.{answer, answer_of, blocks_of, ended_by, ended_of, going_on, is_later, is_ordered, order_of}
+use Rattle.peace_laws.specs.UnderWay.{AnAnswer, Closes, Commits, CommittedAt, Copies, IsAnswer, IsAt}
+use Rattle.peace_laws.specs.UnderWay.{IsMaster, IsOver, IsOwed, IsTrue, IsUnderWay, Prepares, Saves, Stage}
+use Rattle.peace_laws.specs.UnderWay.{answer, answer_of, blocks_of, ended_by, ended_of, going_on, is_later, order_of}
 use Rattle.peace_laws.specs.UnderWay.{order_to, phase_of, report_of, voice_of}
 use Rattle.peace_laws.proofs.ListOn.{ReportGoes, report_goes, told_master}
 use Rattle.peace_laws.proofs.MainOn.{arrive, committed, main_goes, over_stays, sent_letter, stays_coming, t, told_same}
 use Rattle.peace_laws.proofs.MasterAnswers.{Ends, Enters, answer_is, answered, completed, completes, is_answer, is_gcp}
 use Rattle.peace_laws.proofs.MasterAnswers.{none_counts, over_at}
-use Rattle.peace_laws.proofs.OrderLists.{IsListed, all_letters, list_goes, over_list, over_listed, reaches, report_stands}
-use Rattle.peace_laws.proofs.OrderLists.{stage_in, stage_list, stage_listed}
-use Rattle.peace_laws.proofs.Voices.{all_are_in, counts_or_heard, counts_unheard, each_is_in, few_on, heard_now, heard_on}
+use Rattle.peace_laws.proofs.OrderLists.{IsListed, all_letters, over_list, over_listed, report_stands}
+use Rattle.peace_laws.proofs.OrderLists.{stage_listed}
+use Rattle.peace_laws.proofs.StageBegins.{stage_begins}
+use Rattle.peace_laws.proofs.Voices.{counts_or_heard, counts_unheard, each_is_in, few_on, heard_now, heard_on}
 use Rattle.peace_laws.proofs.Voices.{member_in, voice_found}
 use Rattle.peace_laws.proofs.WayOn.{main_apart}
 
@@ -77,16 +77,6 @@ true_answer : (c : Course) (committed : Type 0) (said : EpochSignal) → is_answ
     → IsAnswer committed said → committed
 true_answer c committed (signal.GcpNodeFinish epoch) is fits = fits
 true_answer c committed said is fits = absurd (false≢true is)
-
-none_of : (member : Member) → voices_of [] member ≡ 0
-none_of member = refl
-
-some_blocks : (stage : Stage) → 1 ≤ blocks_of stage
-some_blocks Prepares = omega arith
-some_blocks Commits = omega arith
-some_blocks Closes = omega arith
-some_blocks Saves = omega arith
-some_blocks Copies = omega arith
 
 counted_sends : (s : MasterState) (voice : Voice) → master_sends (counted s voice) ≡ master_sends s
 unfolding master_sends
@@ -298,50 +288,15 @@ module _ (start : Start) (shape : IsShape start.shape) (c : Course) (first_is : 
           unfolding listing
           state_is = sym (told_same n _ refl) ∙ sym e.state
 
-          owed_now : (place : ℕ) → place < start.shape.nodes → (rows : Bool) → is_ordered e.next rows ≡ true
-              → IsOwed start c e.next after n place rows
-          owed_now place low rows ordered =
-              go
-              (list_goes start c shape after n 0 w.master.member n_listed here (order_to (order_of start c e.next) place rows)
-              (subst (IsIn (order_to (order_of start c e.next) place rows))
-              (sym (stage_list start c n n_master e.next refl refl)) (stage_in start c e.next place low rows ordered)))
-            where
-              go : IsIn (order_to (order_of start c e.next) place rows)
-                  (after.under_way main (host_for start (order_to (order_of start c e.next) place rows).to))
-                  ⊎ IsUnsent start after n (order_to (order_of start c e.next) place rows)
-                  → IsOwed start c e.next after n place rows
-              go (inl coming) =
-                  inr (inr (inl (subst (λ j. IsIn (order_to (order_of start c e.next) place rows) (after.under_way main j))
-                  (reaches start (order_of start c e.next) place rows low) coming)))
-              go (inr left) = inr (inr (inr left))
-
-          none_in : (b : Bool) → all_in (blocks_of e.next) n ≡ b → all_in (blocks_of e.next) n ≡ false
-          none_in false is = is
-          none_in true is =
-              absurd
-              (omega (
-                arith,
-                each_is_in start n w.master.view (blocks_of e.next) is 0 shape.nodes_some,
-                none_of (first_start 1),
-                some_blocks e.next,
-              ))
-
           committed_now : (is_later stage ≡ true) ⊎ (stage ≡ Commits) → (place : ℕ) → place < start.shape.nodes
               → CommittedAt c after place
           committed_now (inl beyond) place low = committed_on place (under.committed beyond place low)
           committed_now (inr is) place low = gone_on stage refl is all_true place low
 
           entered : IsAt start c e.next after n
-          entered = record {
-            phase_is = refl;
-            front = refl;
-            owed = owed_now;
-            heard = tt;
-            few = omega arith;
-            missing = none_in (all_in (blocks_of e.next) n) refl;
-            committed = λ beyond. committed_now (e.later beyond);
-            global = e.global;
-          }
+          entered =
+              stage_begins start shape c e.next after n n_master refl refl refl here
+              (λ beyond. committed_now (e.later beyond)) e.global
 
           enters_on : IsUnderWay start c after
           enters_on =
@@ -433,8 +388,11 @@ module _ (start : Start) (shape : IsShape start.shape) (c : Course) (first_is : 
             asked = w.master.asked;
             owed = w.master.owed;
           }))
-          (inl (stage, subst (IsAt start c stage after) (sym (ap (λ (r : Step MasterState). r.state) is))
-          (counted_on missing)))
+          (inl (
+            stage,
+            subst (IsAt start c stage after) (sym (ap (λ (r : Step MasterState). r.state) is))
+                (counted_on missing),
+          ))
           (λ one sent. absurd (subst (λ (r : Step MasterState). IsIn one r.effects.sends) is sent))
       by_all true all is = go (completes c q w.master.asked first_is stage under.global)
         where

@@ -5,6 +5,7 @@ pub mod CalmFacts
 pub mod CalmGoes
 pub mod CalmNear
 pub mod CloserEase
+pub mod ClosingEnds
 pub mod ClosingMarks
 pub mod ClosingMoments
 pub mod ClosingNext
@@ -24,6 +25,7 @@ pub mod MemberMoves
 pub mod MemberOn
 pub mod Mirrored
 pub mod NearHosts
+pub mod NextEpochs
 pub mod NextGood
 pub mod NextSignals
 pub mod NoneCompletes
@@ -35,11 +37,14 @@ pub mod PlainCalm
 pub mod PlainEvents
 pub mod PlainLogs
 pub mod PlainQuiet
+pub mod RequestOn
 pub mod RestingHosts
 pub mod RunKept
 pub mod SeenNear
 pub mod SentNear
 pub mod Served
+pub mod ShellOn
+pub mod StageBegins
 pub mod Stands
 pub mod UnderLinks
 pub mod Voices

@@ -1,20 +1,19 @@
 -- A closing goes on where the president's master goes on with its list.
-use Rattle.std.proofs.Common.{◌≡◌, ◌≢◌, ◌≤◌, ◌<◌, ◌⊎◌, ◌∙◌, ◌++◌, inl, inr, ℕ, ◌+◌, Bool, true, false, List, [], ◌∷◌, refl, sym, ap, subst}
+use Rattle.std.proofs.Common.{◌≡◌, ◌≤◌, ◌<◌, ◌⊎◌, ◌∙◌, inl, inr, ℕ, ◌+◌, Bool, true, false, refl, sym, ap, subst}
 use Rattle.std.proofs.Common.{arith, length, nat_lt}
-use Rattle.std.proofs.lemmas.Bool.{and_from, false≢true, true≢false}
+use Rattle.std.proofs.lemmas.Bool.{and_from}
 use Rattle.std.proofs.lemmas.Bool.Decides.{nat_tests}
-use Rattle.std.specs.Prelude.{◌==◌, ◌&&◌, drop, Option, None, Some}
+use Rattle.std.specs.Prelude.{◌==◌, drop, Option, None, Some}
 use Rattle.api_views.specs.declared.closings.Closing.TheVariants.{Gcp}
 use Rattle.frag_map.specs.Shape.{IsShape}
 use Rattle.gcp_master.specs.declared.orders.Ended.{Ended}
-use Rattle.gcp_master.specs.Master.{master_row, master_table}
+use Rattle.gcp_master.specs.Master.{master_table}
 use Rattle.gcp_master.specs.Sends.{front_sends, go_on_if, go_on_row, list_effects, listing, master_sends, told_if}
 use Rattle.gcp_master.specs.State.{MasterState}
 use Rattle.gcp_master.specs.declared.sends.TheConstants.{SENDS}
 use Rattle.run_theory.specs.Lists.{Each, IsIn}
 use Rattle.sig_core.specs.declared.outs.Outgoing.{Outgoing}
 use Rattle.sig_core.specs.declared.portion.TheConstants.{PORTION}
-use Rattle.sig_core.specs.declared.signal.Body.{Body}
 use Rattle.sig_core.specs.declared.view.View.{View}
 use Rattle.sig_core.specs.Place.{checkpoints}
 use Rattle.sig_core.specs.Portion.{portion}
@@ -24,10 +23,10 @@ use Rattle.world_core.specs.Start.{Start}
 use Rattle.calm_laws.specs.Alike.{first}
 use Rattle.peace_laws.specs.Closing.{Course, host_in, main}
 use Rattle.peace_laws.specs.Moments.{IsTaken, Moment, Takes}
-use Rattle.peace_laws.specs.UnderWay.{GoingOn, IsAnswered, IsAt, IsLeft, IsLetter, IsMaster, IsOver, IsOwed, IsTrue, IsUnderWay}
-use Rattle.peace_laws.specs.UnderWay.{IsUnsent, Commits, Stage, answer, answer_of, ended_of, going_on, is_ordered, order_of, order_to}
+use Rattle.peace_laws.specs.UnderWay.{GoingOn, IsAnswered, IsAt, IsLeft, IsMaster, IsOver, IsOwed, IsTrue, IsUnderWay}
+use Rattle.peace_laws.specs.UnderWay.{IsUnsent, Commits, Stage, answer, answer_of, ended_of, going_on, order_of, order_to}
 use Rattle.peace_laws.specs.UnderWay.{report_of}
-use Rattle.peace_laws.proofs.MainOn.{arrive, committed, main_goes, over_stays, same_place, sent_letter, shell_off, stays_coming}
+use Rattle.peace_laws.proofs.MainOn.{arrive, committed, main_goes, same_place, sent_letter, shell_off, stays_coming}
 use Rattle.peace_laws.proofs.MainOn.{t, told_same}
 use Rattle.peace_laws.proofs.OrderLists.{IsListed, all_letters, client_reached, left_below, list_goes, over_list, over_listed}
 use Rattle.peace_laws.proofs.OrderLists.{portion_arrives, portion_or_rest, reaches, report_left, rest_arrives, stage_listed}

@@ -1,5 +1,5 @@
 -- A step of the president's master in a closing.
-use Rattle.std.proofs.Common.{◌≡◌, ◌≢◌, ◌<◌, ◌⊎◌, ◌∙◌, ◌++◌, inl, inr, ℕ, Bool, true, false, List, [], ◌∷◌, refl, sym, ap, subst}
+use Rattle.std.proofs.Common.{◌≡◌, ◌≢◌, ◌⊎◌, ◌∙◌, inl, inr, ℕ, Bool, true, false, refl, sym, ap, subst}
 use Rattle.std.specs.Prelude.{None}
 use Rattle.frag_map.specs.Shape.{IsShape}
 use Rattle.gcp_master.specs.Master.{master_row}
@@ -12,7 +12,6 @@ use Rattle.node_views.specs.declared.parts.Parts.{Parts}
 use Rattle.node_views.specs.declared.parts.Parts.TheVariants.{Main}
 use Rattle.run_theory.specs.Lists.{Each, IsIn}
 use Rattle.sig_core.specs.declared.outs.Outgoing.{Outgoing}
-use Rattle.sig_core.specs.declared.place.BlockId.{BlockId}
 use Rattle.sig_core.specs.declared.place.BlockId.TheVariants as block
 use Rattle.sig_core.specs.declared.place.Place.{Place}
 use Rattle.sig_core.specs.declared.signal.Body.{Body}
@@ -36,7 +35,7 @@ pub told_same : (s : MasterState) (more : Bool) → s.front ≡ None → told_if
 told_same s true none = refl
 told_same s false none = ap (λ f. record s { front = f }) (sym none)
 
-main_row_is : (p : MainPart) (x : Signal) → block.GcpMaster ≡ x.to.block
+pub main_row_is : (p : MainPart) (x : Signal) → block.GcpMaster ≡ x.to.block
     → in_main (in_master p (master_row p.master x)) ≡ parts_row (Main p) x
 unfolding main_row
 main_row_is p x to = ap (λ b. row_at (Main p) b x) to ∙ row_is (Main p) x

@@ -1,5 +1,5 @@
 -- What the president's master does where a member answers in a stage of a closing.
-use Rattle.std.proofs.Common.{◌≡◌, ◌⊎◌, ◌∙◌, ◌&&◌, ◌||◌, inl, inr, ℕ, Bool, true, false, not, List, [], refl, sym, ap}
+use Rattle.std.proofs.Common.{◌≡◌, ◌⊎◌, ◌∙◌, ◌&&◌, ◌||◌, inl, inr, Bool, true, false, not, [], refl, sym, ap}
 use Rattle.std.proofs.lemmas.Bool.{false≢true}
 use Rattle.std.specs.Prelude.{◌==◌, Some}
 use Rattle.api_views.specs.declared.closings.Closing.{Closing}
@@ -7,7 +7,6 @@ use Rattle.api_views.specs.declared.closings.Closing.TheVariants.{Gcp, Micro}
 use Rattle.gcp_master.specs.declared.orders.Ended.{Ended}
 use Rattle.gcp_master.specs.declared.orders.Ended.TheVariants as ended_as
 use Rattle.gcp_master.specs.declared.phase.Asked.{Asked}
-use Rattle.gcp_master.specs.declared.phase.Phase.{Phase}
 use Rattle.gcp_master.specs.declared.phase.Phase.TheVariants as phase
 use Rattle.gcp_master.specs.declared.phase.Run.{Run}
 use Rattle.gcp_master.specs.declared.voices.Voice.{Voice}
@@ -20,7 +19,6 @@ use Rattle.gcp_master.specs.Numbers.{is_first}
 use Rattle.gcp_master.specs.Sends.{entering, list_effects, listing, marking}
 use Rattle.gcp_master.specs.State.{MasterState, all_in, at_phase, counted, counts}
 use Rattle.sig_core.specs.declared.mark.Mark.TheVariants.{Closed, Durable}
-use Rattle.sig_core.specs.declared.outs.Outgoing.{Outgoing}
 use Rattle.sig_core.specs.declared.signal.epoch.EpochSignal.{EpochSignal}
 use Rattle.sig_core.specs.declared.signal.epoch.EpochSignal.TheVariants as signal
 use Rattle.sig_core.specs.Step.{Step, stay}

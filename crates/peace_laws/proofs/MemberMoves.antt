@@ -1,38 +1,33 @@
 -- What a member of a closing does at an order: it answers, and is in the epoch that ends, or has gone on to the next.
-use Rattle.std.proofs.Common.{◌≡◌, ◌<◌, ◌⊎◌, ◌∙◌, ◌++◌, inl, inr, ℕ, Bool, true, false, nat_le, nat_lt, List, [], ◌∷◌, refl, sym}
+use Rattle.std.proofs.Common.{◌≡◌, ◌⊎◌, ◌∙◌, ◌++◌, inl, inr, ℕ, Bool, true, false, nat_le, nat_lt, List, [], ◌∷◌, refl, sym}
 use Rattle.std.proofs.Common.{ap, subst, map, arith}
-use Rattle.std.proofs.lemmas.Bool.{and_right, false≢true, true≢false}
+use Rattle.std.proofs.lemmas.Bool.{and_right, true≢false}
 use Rattle.std.proofs.lemmas.Bool.Decides.{nat_tests}
 use Rattle.std.specs.Prelude.{◌&&◌, None, Some, length}
 use Rattle.dih_node.specs.declared.dih.Counted.{Counted}
-use Rattle.dih_node.specs.declared.dih.Report.{Report}
 use Rattle.dih_node.specs.Dih.{dih_row, dih_table}
 use Rattle.dih_node.specs.Orders.{close_row, commit_if, commit_row, committed, copy_row, done_row, noting, prepare_row}
 use Rattle.dih_node.specs.Orders.{prepared_if, serving}
-use Rattle.dih_node.specs.State.{DihState, can_serve, gives, go_on_if, is_unfinished}
+use Rattle.dih_node.specs.State.{DihState, gives, go_on_if, is_unfinished}
 use Rattle.dih_node.specs.Verify.{report_if, reported}
 use Rattle.gcp_master.specs.declared.orders.Order.{Order}
 use Rattle.gcp_master.specs.declared.orders.Order.TheVariants as order
 use Rattle.gcp_master.specs.Orders.{order_body}
 use Rattle.lqh_views.specs.Replica.{replica_by}
 use Rattle.lqh_views.specs.State.{ReplicaState}
-use Rattle.node_views.specs.Blocks.{in_ldm, in_tc, parts_row}
-use Rattle.node_views.specs.Parts.{in_dih, in_replica, ldm_row, tc_row}
-use Rattle.node_views.specs.declared.ldm_part.LdmPart.{LdmPart}
+use Rattle.node_views.specs.Blocks.{parts_row}
+use Rattle.node_views.specs.Parts.{ldm_row, tc_row}
 use Rattle.node_views.specs.declared.parts.Parts.{Parts}
 use Rattle.node_views.specs.declared.parts.Parts.TheVariants.{Tc, Ldm}
-use Rattle.node_views.specs.declared.tc_part.TcPart.{TcPart}
 use Rattle.run_theory.specs.Lists.{Each}
 use Rattle.sig_core.specs.declared.member.TxId.{TxId}
 use Rattle.sig_core.specs.declared.outs.Outgoing.{Outgoing}
-use Rattle.sig_core.specs.declared.place.BlockId.{BlockId}
-use Rattle.sig_core.specs.declared.signal.Body.{Body}
 use Rattle.sig_core.specs.declared.signal.Body.TheVariants.{Epoch}
 use Rattle.sig_core.specs.declared.signal.epoch.EpochSignal.{EpochSignal}
 use Rattle.sig_core.specs.declared.signal.epoch.EpochSignal.TheVariants as signal
 use Rattle.sig_core.specs.declared.signal.Signal.{Signal}
 use Rattle.sig_core.specs.Place.{checkpoints}
-use Rattle.sig_core.specs.Step.{Effects, Step, joined, sending, sends_only, stay, to_place}
+use Rattle.sig_core.specs.Step.{Step, joined, sending, sends_only, to_place}
 use Rattle.peace_laws.specs.Closing.{Course, HasRows}
 use Rattle.peace_laws.specs.UnderWay.{HasCommitted, HasGoneOn, HasMember, IsAnswer, IsMember, IsOrder, answer, block_of}
 use Rattle.peace_laws.proofs.ClosingSteps.{row_at, row_is}

@@ -1,37 +1,32 @@
 -- A closing goes on where a member takes an order: what was on its way to it is answered.
-use Rattle.std.proofs.Common.{◌≡◌, ◌≢◌, ◌<◌, ◌⊎◌, ◌∙◌, ◌++◌, inl, inr, ℕ, zero, suc, ◌+◌, ◌*◌, Bool, true, false, List, [], ◌∷◌, refl, sym}
-use Rattle.std.proofs.Common.{ap, subst, map, arith}
+use Rattle.std.proofs.Common.{◌≡◌, ◌≢◌, ◌<◌, ◌⊎◌, ◌∙◌, inl, inr, ℕ, Bool, true, false, List, [], ◌∷◌, refl, sym}
+use Rattle.std.proofs.Common.{ap, subst, map}
 use Rattle.std.proofs.lemmas.Bool.{false≢true}
 use Rattle.std.specs.Prelude.{None}
-use Rattle.frag_map.specs.Replicas.{first_start}
 use Rattle.frag_map.specs.Shape.{IsShape}
 use Rattle.gcp_master.specs.declared.orders.Order.{Order}
 use Rattle.gcp_master.specs.declared.orders.Order.TheVariants as order
 use Rattle.gcp_master.specs.declared.voices.Voice.{Voice}
-use Rattle.gcp_master.specs.Orders.{order_body}
 use Rattle.gcp_master.specs.State.{MasterState}
-use Rattle.node_views.specs.Blocks.{parts_row}
 use Rattle.node_views.specs.declared.parts.Parts.{Parts}
 use Rattle.run_theory.specs.Lists.{Each, IsIn}
 use Rattle.run_theory.proofs.Pasts.{each_in, each_map}
 use Rattle.sig_core.specs.declared.member.Member.{Member}
 use Rattle.sig_core.specs.declared.outs.Outgoing.{Outgoing}
 use Rattle.sig_core.specs.declared.place.Place.{Place}
-use Rattle.sig_core.specs.declared.signal.epoch.EpochSignal.{EpochSignal}
-use Rattle.sig_core.specs.Place.{checkpoints}
 use Rattle.sig_core.specs.Step.{Step}
 use Rattle.world_core.specs.Hosts.{host_for, member_at}
 use Rattle.world_core.specs.Start.{Start, made}
 use Rattle.calm_laws.proofs.MainPlaces.{main_member}
 use Rattle.peace_laws.specs.Closing.{Course, HasRows, host_in, main}
 use Rattle.peace_laws.specs.Moments.{IsTaken, Moment, Takes, behind}
-use Rattle.peace_laws.specs.UnderWay.{AnAnswer, AnOrder, Closes, Commits, CommittedAt, Copies, HasCommitted, HasMember}
-use Rattle.peace_laws.specs.UnderWay.{IsAnswer, IsAnswered, IsAt, IsLeft, IsLetter, IsOrder, IsOver, IsOwed, IsTrue, IsUnderWay, IsUnsent}
-use Rattle.peace_laws.specs.UnderWay.{Prepares, Saves, Stage, answer, answer_of, block_of, going_on, is_ordered, order_of}
+use Rattle.peace_laws.specs.UnderWay.{AnOrder, Closes, Commits, CommittedAt, Copies, HasCommitted, HasMember}
+use Rattle.peace_laws.specs.UnderWay.{IsAnswer, IsAnswered, IsAt, IsLeft, IsLetter, IsOrder, IsOver, IsOwed, IsTrue, IsUnderWay}
+use Rattle.peace_laws.specs.UnderWay.{Prepares, Saves, Stage, answer, answer_of, going_on, is_ordered, order_of}
 use Rattle.peace_laws.specs.UnderWay.{order_to, report_of}
 use Rattle.peace_laws.proofs.MemberMoves.{HasBlock, PartsMove, answers, parts_move}
 use Rattle.peace_laws.proofs.OrderLists.{main_reached}
-use Rattle.peace_laws.proofs.WayOn.{answered_stays, behind_part, client_stays, committed_on, letter, letters_on}
+use Rattle.peace_laws.proofs.WayOn.{answered_stays, behind_part, client_stays, committed_on, letters_on}
 use Rattle.peace_laws.proofs.WayOn.{main_apart, shell_apart, stays_true, stepped, told_stays}
 
 -- an order of a stage is one of the closing, and is answered

@@ -1,10 +1,10 @@
 -- What the president's master has to send in a closing: an order to each member, or the report of the end.
-use Rattle.std.proofs.Common.{◌≡◌, ◌≤◌, ◌<◌, ◌⊎◌, ◌∙◌, ◌++◌, inl, inr, ℕ, zero, suc, ◌+◌, ◌*◌, Bool, true, false, List, [], ◌∷◌, refl, sym}
+use Rattle.std.proofs.Common.{◌≡◌, ◌≤◌, ◌<◌, ◌⊎◌, ◌∙◌, ◌++◌, inl, inr, ℕ, zero, suc, ◌+◌, Bool, true, false, List, [], ◌∷◌, refl, sym}
 use Rattle.std.proofs.Common.{ap, subst, map, length, length-append, arith}
 use Rattle.std.proofs.lemmas.Bool.{cases_lt, false≢true}
 use Rattle.std.proofs.lemmas.Bool.Decides.{nat_tests}
 use Rattle.std.proofs.lemmas.List.{append-nil, drop-append-le, drop-drop, length-map, take-append-drop}
-use Rattle.std.specs.Prelude.{nat_lt, not, drop, take, Option, None, Some}
+use Rattle.std.specs.Prelude.{nat_lt, drop, take, Option, None, Some}
 use Rattle.api_views.specs.declared.closings.Closing.{Closing}
 use Rattle.api_views.specs.declared.closings.Closing.TheVariants.{Gcp, Micro}
 use Rattle.frag_map.specs.Layout.{members}
@@ -340,78 +340,78 @@ over_listed start c s master phase (inr left) =
 module _ (start : Start) (c : Course) (shape : IsShape start.shape) (after : Moment) (s : MasterState) (at : ℕ)
     (member : s.member ≡ first_start 1) (listed : IsListed start c s)
     (arrive : Each (λ (one : Outgoing). IsIn one (after.under_way main (host_for start one.to))) (list_effects s at).sends)
-    where
-  arrives : (one : Outgoing) → IsIn one (list_effects s at).sends
-      → IsIn one (after.under_way main (host_for start one.to))
-  arrives one is =
-      each_in (λ (o : Outgoing). IsIn o (after.under_way main (host_for start o.to))) one (list_effects s at).sends
-      arrive is
+  where
+    arrives : (one : Outgoing) → IsIn one (list_effects s at).sends
+        → IsIn one (after.under_way main (host_for start one.to))
+    arrives one is =
+        each_in (λ (o : Outgoing). IsIn o (after.under_way main (host_for start o.to))) one (list_effects s at).sends
+        arrive is
 
-  pub portion_arrives : (one : Outgoing) → IsIn one (portion (master_sends s) at)
-      → IsIn one (after.under_way main (host_for start one.to))
-  unfolding list_effects
-  portion_arrives one is =
-      arrives one
-      (in_front one (portion (master_sends s) at) (rest (checkpoints s.member.node) Members (master_sends s) at) is)
+    pub portion_arrives : (one : Outgoing) → IsIn one (portion (master_sends s) at)
+        → IsIn one (after.under_way main (host_for start one.to))
+    unfolding list_effects
+    portion_arrives one is =
+        arrives one
+        (in_front one (portion (master_sends s) at) (rest (checkpoints s.member.node) Members (master_sends s) at) is)
 
-  rest_in : (more : Bool) → more ≡ true
-      → IsIn (going_on (at + PORTION)) (rest_if (checkpoints s.member.node) Members at more)
-  rest_in true is = inl (ap (λ (m : Member). go_on_at (checkpoints m.node) Members (at + PORTION)) (sym member))
-  rest_in false is = absurd (false≢true is)
+    rest_in : (more : Bool) → more ≡ true
+        → IsIn (going_on (at + PORTION)) (rest_if (checkpoints s.member.node) Members at more)
+    rest_in true is = inl (ap (λ (m : Member). go_on_at (checkpoints m.node) Members (at + PORTION)) (sym member))
+    rest_in false is = absurd (false≢true is)
 
-  pub rest_arrives : nat_lt (at + PORTION) (length (master_sends s)) ≡ true
-      → IsIn (going_on (at + PORTION)) (after.under_way main main)
-  unfolding list_effects
-  rest_arrives more =
-      subst (λ j. IsIn (going_on (at + PORTION)) (after.under_way main j)) (main_reached start shape)
-      (arrives (going_on (at + PORTION))
-      (in_back (going_on (at + PORTION)) (portion (master_sends s) at)
-      (rest (checkpoints s.member.node) Members (master_sends s) at)
-      (rest_in (nat_lt (at + PORTION) (length (master_sends s))) more)))
+    pub rest_arrives : nat_lt (at + PORTION) (length (master_sends s)) ≡ true
+        → IsIn (going_on (at + PORTION)) (after.under_way main main)
+    unfolding list_effects
+    rest_arrives more =
+        subst (λ j. IsIn (going_on (at + PORTION)) (after.under_way main j)) (main_reached start shape)
+        (arrives (going_on (at + PORTION))
+        (in_back (going_on (at + PORTION)) (portion (master_sends s) at)
+        (rest (checkpoints s.member.node) Members (master_sends s) at)
+        (rest_in (nat_lt (at + PORTION) (length (master_sends s))) more)))
 
-  -- what stands there is under way then, or is left to send
-  pub list_goes : (one : Outgoing) → IsIn one (drop at (master_sends s))
-      → IsIn one (after.under_way main (host_for start one.to)) ⊎ IsUnsent start after s one
-  list_goes one is = go (portion_or_rest (master_sends s) at one is)
-    where
-      go : IsIn one (portion (master_sends s) at) ⊎ IsIn one (drop (at + PORTION) (master_sends s))
-          → IsIn one (after.under_way main (host_for start one.to)) ⊎ IsUnsent start after s one
-      go (inl now) = inl (portion_arrives one now)
-      go (inr later) =
-          let below : at + PORTION < length (master_sends s) = left_below (master_sends s) (at + PORTION) one later in
-          inr (record {
-            at = at + PORTION;
-            low = omega (arith, below, listed.few);
-            coming = rest_arrives (grind (arith, nat_tests, below));
-            left = later;
-          })
+    -- what stands there is under way then, or is left to send
+    pub list_goes : (one : Outgoing) → IsIn one (drop at (master_sends s))
+        → IsIn one (after.under_way main (host_for start one.to)) ⊎ IsUnsent start after s one
+    list_goes one is = go (portion_or_rest (master_sends s) at one is)
+      where
+        go : IsIn one (portion (master_sends s) at) ⊎ IsIn one (drop (at + PORTION) (master_sends s))
+            → IsIn one (after.under_way main (host_for start one.to)) ⊎ IsUnsent start after s one
+        go (inl now) = inl (portion_arrives one now)
+        go (inr later) =
+            let below : at + PORTION < length (master_sends s) = left_below (master_sends s) (at + PORTION) one later in
+            inr (record {
+              at = at + PORTION;
+              low = omega (arith, below, listed.few);
+              coming = rest_arrives (grind (arith, nat_tests, below));
+              left = later;
+            })
 
-  -- all that is sent is of this closing
-  rest_is : (more : Bool) → nat_lt (at + PORTION) (length (master_sends s)) ≡ more → (one : Outgoing)
-      → IsIn one (rest_if (checkpoints s.member.node) Members at more) → GoingOn start main (host_for start one.to) one
-  rest_is true more one (inl same) =
-      let own : one ≡ going_on (at + PORTION) =
-      same ∙ ap (λ (m : Member). go_on_at (checkpoints m.node) Members (at + PORTION)) member in
-      record {
-        at = at + PORTION;
-        low = omega (arith, lt_of (at + PORTION) (length (master_sends s)) more, listed.few);
-        from = refl;
-        to = ap (λ (o : Outgoing). host_for start o.to) own ∙ main_reached start shape;
-        is = own;
-      }
-  rest_is true more one (inr none) = absurd none
-  rest_is false more one none = absurd none
+    -- all that is sent is of this closing
+    rest_is : (more : Bool) → nat_lt (at + PORTION) (length (master_sends s)) ≡ more → (one : Outgoing)
+        → IsIn one (rest_if (checkpoints s.member.node) Members at more) → GoingOn start main (host_for start one.to) one
+    rest_is true more one (inl same) =
+        let own : one ≡ going_on (at + PORTION) =
+        same ∙ ap (λ (m : Member). go_on_at (checkpoints m.node) Members (at + PORTION)) member in
+        record {
+          at = at + PORTION;
+          low = omega (arith, lt_of (at + PORTION) (length (master_sends s)) more, listed.few);
+          from = refl;
+          to = ap (λ (o : Outgoing). host_for start o.to) own ∙ main_reached start shape;
+          is = own;
+        }
+    rest_is true more one (inr none) = absurd none
+    rest_is false more one none = absurd none
 
-  pub all_letters : (one : Outgoing) → IsIn one (list_effects s at).sends
-      → IsSent start c one ⊎ GoingOn start main (host_for start one.to) one
-  unfolding list_effects
-  all_letters one is =
-      go
-      (either_part one (portion (master_sends s) at) (rest (checkpoints s.member.node) Members (master_sends s) at) is)
-    where
-      go : IsIn one (portion (master_sends s) at) ⊎ IsIn one (rest (checkpoints s.member.node) Members (master_sends s) at)
-          → IsSent start c one ⊎ GoingOn start main (host_for start one.to) one
-      go (inl there) =
-          inl (each_in (IsSent start c) one (portion (master_sends s) at)
-          (each_take (IsSent start c) PORTION _ (each_drop (IsSent start c) at (master_sends s) listed.sent)) there)
-      go (inr there) = inr (rest_is (nat_lt (at + PORTION) (length (master_sends s))) refl one there)
+    pub all_letters : (one : Outgoing) → IsIn one (list_effects s at).sends
+        → IsSent start c one ⊎ GoingOn start main (host_for start one.to) one
+    unfolding list_effects
+    all_letters one is =
+        go
+        (either_part one (portion (master_sends s) at) (rest (checkpoints s.member.node) Members (master_sends s) at) is)
+      where
+        go : IsIn one (portion (master_sends s) at) ⊎ IsIn one (rest (checkpoints s.member.node) Members (master_sends s) at)
+            → IsSent start c one ⊎ GoingOn start main (host_for start one.to) one
+        go (inl there) =
+            inl (each_in (IsSent start c) one (portion (master_sends s) at)
+            (each_take (IsSent start c) PORTION _ (each_drop (IsSent start c) at (master_sends s) listed.sent)) there)
+        go (inr there) = inr (rest_is (nat_lt (at + PORTION) (length (master_sends s))) refl one there)

@@ -1,24 +1,23 @@
 -- The voices of members: who was heard, how many there are, and when all are in.
 use Rattle.std.proofs.Common.{◌≡◌, ◌≤◌, ◌<◌, ◌⊎◌, ◌∙◌, ◌++◌, inl, inr, ℕ, zero, suc, ◌+◌, ◌*◌, ◌/◌, Bool, true, false, List, [], ◌∷◌, refl, sym}
-use Rattle.std.proofs.Common.{ap, subst, length, length-append, arith, if◌then◌else◌, nat_le, nat_lt}
+use Rattle.std.proofs.Common.{ap, subst, length, length-append, arith, if◌then◌else◌, nat_le}
 use Rattle.std.proofs.lemmas.Bool.{and_from, and_parts, cases_lt, false≢true, or_left, or_right}
 use Rattle.std.proofs.lemmas.Bool.Decides.{nat_tests}
 use Rattle.std.proofs.lemmas.List.Folds.{list_all-append, list_any-append}
-use Rattle.std.specs.List.{list_all, list_any}
+use Rattle.std.specs.List.{list_all}
 use Rattle.std.specs.Prelude.{◌&&◌, ◌||◌, filter, nat_eq, not}
 use Rattle.api_views.specs.Members.{is_member}
 use Rattle.frag_map.specs.Layout.{members}
 use Rattle.frag_map.specs.Replicas.{first_start}
 use Rattle.frag_map.specs.Shape.{IsShape}
-use Rattle.gcp_master.specs.declared.voices.TheConstants.{VOICES}
 use Rattle.gcp_master.specs.declared.voices.Voice.{Voice}
-use Rattle.gcp_master.specs.State.{MasterState, all_in, counted, counts}
+use Rattle.gcp_master.specs.State.{MasterState, all_in, counts}
 use Rattle.gcp_master.specs.Voices.{has_all, is_heard, is_in, is_of, same_member, same_voice, voices_of}
 use Rattle.run_theory.specs.Counts.{one_if}
 use Rattle.run_theory.specs.Lists.{Each, IsIn}
 use Rattle.sig_core.specs.declared.member.Member.{Member}
 use Rattle.sig_core.specs.declared.view.View.{View}
-use Rattle.world_core.specs.Hosts.{hosts, member_at}
+use Rattle.world_core.specs.Hosts.{member_at}
 use Rattle.world_core.specs.Start.{Start, made}
 use Rattle.calm_laws.specs.Alike.{first}
 use Rattle.calm_laws.proofs.FirstMembers.{member_first, member_known}
@@ -220,6 +219,15 @@ voices_many place (v ∷ voices) =
     (nat_eq (host_in place true) v.from.0) (is_heard voices (voice_of place false))
     (is_heard voices (voice_of place true)) (voices_of voices (first_start (place + 1)))
     (apart_hosts place v.from.0) (voices_many place voices))
+
+pub one_heard : (place : ℕ) (voices : List Voice) (rows : Bool) → is_heard voices (voice_of place rows) ≡ true
+    → 1 ≤ voices_of voices (first_start (place + 1))
+one_heard place voices false heard = omega (arith, voices_many place voices, ap one_if heard)
+one_heard place voices true heard = omega (arith, voices_many place voices, ap one_if heard)
+
+pub both_heard : (place : ℕ) (voices : List Voice) → is_heard voices (voice_of place false) ≡ true
+    → is_heard voices (voice_of place true) ≡ true → 2 ≤ voices_of voices (first_start (place + 1))
+both_heard place voices epochs rows = omega (arith, voices_many place voices, ap one_if epochs, ap one_if rows)
 
 -- all of a list
 all_of : {A : Type 0} (p : A → Bool) (xs : List A) → list_all p xs ≡ true → (x : A) → IsIn x xs → p x ≡ true

@@ -1,10 +1,10 @@
 -- A step of a closing leaves as it is what its host doesn't know, and under way what it doesn't take.
-use Rattle.std.proofs.Common.{◌≡◌, ◌≢◌, ◌<◌, ◌⊎◌, ◌∙◌, ◌++◌, inl, inr, ℕ, zero, suc, ◌+◌, ◌*◌, Bool, true, false, List, [], ◌∷◌, refl, sym}
-use Rattle.std.proofs.Common.{ap, subst, map, append-nil, arith}
+use Rattle.std.proofs.Common.{◌≡◌, ◌≢◌, ◌⊎◌, ◌∙◌, ◌++◌, inl, inr, ℕ, zero, suc, Bool, true, false, List, [], ◌∷◌, refl, sym}
+use Rattle.std.proofs.Common.{ap, subst, append-nil, arith}
 use Rattle.std.proofs.lemmas.Bool.{cases_eq}
 use Rattle.node_views.specs.Blocks.{parts_row}
 use Rattle.node_views.specs.declared.parts.Parts.{Parts}
-use Rattle.run_theory.specs.Lists.{Each, IsIn}
+use Rattle.run_theory.specs.Lists.{IsIn}
 use Rattle.sig_core.specs.declared.outs.Outgoing.{Outgoing}
 use Rattle.sig_core.specs.declared.reply.ApiReply.{ApiReply}
 use Rattle.sig_core.specs.declared.signal.epoch.EpochSignal.{EpochSignal}
@@ -13,9 +13,9 @@ use Rattle.sig_core.specs.Step.{Step}
 use Rattle.world_core.specs.Hosts.{host_for}
 use Rattle.world_core.specs.Start.{Start}
 use Rattle.peace_laws.specs.Closing.{Course, host_in, main}
-use Rattle.peace_laws.specs.Moments.{IsTaken, Moment, Takes, behind, told_by}
-use Rattle.peace_laws.specs.UnderWay.{AnAnswer, CommittedAt, HasCommitted, IsAnswer, IsAnswered, IsClient, IsLetter, IsUnderWay}
-use Rattle.peace_laws.specs.UnderWay.{IsUntold, ShellHas, answer}
+use Rattle.peace_laws.specs.Moments.{Moment, Takes, behind, told_by}
+use Rattle.peace_laws.specs.UnderWay.{CommittedAt, HasCommitted, IsAnswer, IsAnswered, IsClient, IsLetter, IsUnderWay}
+use Rattle.peace_laws.specs.UnderWay.{IsUntold, ShellHas}
 use Rattle.peace_laws.proofs.OrderLists.{in_back}
 
 -- hosts that differ

@@ -7,7 +7,6 @@ use Rattle.run_theory.specs.Lists.{Each, IsIn}
 use Rattle.sig_core.specs.declared.outs.Outgoing.{Outgoing}
 use Rattle.sig_core.specs.declared.reply.ApiReply.{ApiReply}
 use Rattle.sig_core.specs.declared.signal.Signal.{Signal}
-use Rattle.sig_core.specs.Step.{Step}
 use Rattle.world_core.specs.Hosts.{host_for, member_at}
 use Rattle.world_core.specs.Start.{Start, made}
 use Rattle.calm_laws.specs.Alike.{first}

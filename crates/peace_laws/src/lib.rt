@@ -2,6 +2,8 @@
 //! nothing can, and closes epochs besides.
 #![tactic(auto)]
 
+mod closing;
 mod steps;
 
+pub use closing::closings_end;
 pub use steps::closings_step_near;
