@@ -43,10 +43,10 @@ use Rattle.peace_laws.specs.Peace.{ArePeaceful, asks_closing, is_closing, is_pea
 use Rattle.peace_laws.proofs.CalmFacts.{facts, next}
 use Rattle.peace_laws.proofs.NextGood.{IsNextInCalm, main_good, main_rests, other_good, other_rests}
 use Rattle.peace_laws.proofs.NextSignals.{AllTaken, next_calm, room, signal_fine, within_now}
-use Rattle.peace_laws.proofs.PlainQuiet.{counts_nobody}
+use Rattle.peace_laws.proofs.CountsNobody.{counts_nobody}
 use Rattle.peace_laws.proofs.RestingHosts.{Gives, StaysIn, near_gives, rests_stays, stays_closeless, stays_rests}
 use Rattle.peace_laws.proofs.RunKept.{IsKept}
-use Rattle.peace_laws.proofs.Stands.{AreBelow, IsBelow, Rests, Stands, all_taken}
+use Rattle.peace_laws.proofs.Stands.{AreBelow, IsBelow, Rests, Stands, taken_by_all}
 
 -- what a plain host that gives an epoch decides is below no other
 plain_below : (epoch : ℕ) (those : List Mark) → ArePlain those → Each (IsBelow epoch) those
@@ -77,7 +77,7 @@ module _ (hosts_level : HostsAreLevel) (start : Start) (shape : IsShape start.sh
     (was more : ℕ → List HostStep) (rests : Rests start epoch was) (quiet : IsQuiet start was)
     (by : GoOnBy start request was more) (asks_calmly : is_calm_request request ≡ true) where
   all : AllTaken start was
-  all = all_taken start was rests.stands quiet
+  all = taken_by_all start was rests.stands quiet
 
   -- one more step
   module _ (es : List HostStep) (e : HostStep) (run : Run (machine start) (e ∷ es))
@@ -159,9 +159,10 @@ module _ (hosts_level : HostsAreLevel) (start : Start) (shape : IsShape start.sh
         record {
           kept = kept;
           peaceful =
-              each_host (λ h those. Each (λ d. is_peaceful h d.step.taken ≡ true) those)
-              (ap (λ b. b || (is_closing e.host e.step.taken || asks_closing e.host e.step.taken)) calm,
-              are.peaceful e.host) are.peaceful;
+              each_host (λ h those. Each (λ d. is_peaceful h d.step.taken ≡ true) those) (
+                ap (λ b. b || (is_closing e.host e.step.taken || asks_closing e.host e.step.taken)) calm,
+                are.peaceful e.host,
+              ) are.peaceful;
           running = each_host (λ h those. has_stopped those ≡ false) known.goes_on are.running;
           stays = each_host (λ h those. h < hosts start → StaysIn start h epoch (after start h those).parts)
               (λ there. (here (is_beating e.host) refl).1) are.stays;
@@ -257,7 +258,7 @@ module _ (hosts_level : HostsAreLevel) (start : Start) (shape : IsShape start.sh
   -- Where nothing is under way again:
   module _ (quiet_again : IsQuiet start more) where
     again : AllTaken start more
-    again = all_taken start more calm_stands quiet_again
+    again = taken_by_all start more calm_stands quiet_again
 
     shell : IsShellSteady start (was 0) (more 0)
     shell = (good_at 0).shell refl
@@ -353,7 +354,7 @@ module _ (hosts_level : HostsAreLevel) (start : Start) (shape : IsShape start.sh
               stays_rests start h epoch (after start h (more h)).parts
               (subst (λ (logs : ℕ → List HostStep). StaysIn start h epoch (after start h (logs h)).parts) logs_are
               (all_good.stays h low))
-              (counts_nobody start more calm_stands again shape h low);
+              (counts_nobody start shape more calm_stands quiet_again h low);
           below = λ h.
               subst (λ (logs : ℕ → List HostStep). AreBelow epoch (logs h)) logs_are (all_good.below h);
         }

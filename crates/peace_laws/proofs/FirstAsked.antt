@@ -3,8 +3,8 @@
 use Rattle.std.proofs.Common.{◌≡◌, ◌⊎◌, ◌+◌, ◌<◌, ◌≤◌, inl, inr, ℕ, List, [], ◌∷◌, ◌++◌, length, Bool, true, false}
 use Rattle.std.proofs.Common.{refl, ap, sym, ◌∙◌, subst, append_assoc, length-append, arith}
 use Rattle.std.proofs.Math.Path.{fun_ext}
-use Rattle.std.specs.Prelude.{if◌then◌else◌, Option, None, Some, filter, map, not, option_to_list}
-use Rattle.std.proofs.lemmas.Bool.{cases_lt, false≢true, true≢false}
+use Rattle.std.specs.Prelude.{if◌then◌else◌, Option, None, Some, filter, map, option_to_list}
+use Rattle.std.proofs.lemmas.Bool.{cases_lt, false≢true}
 use Rattle.std.proofs.lemmas.List.{map-append}
 use Rattle.std.proofs.lemmas.List.Elements.{filter-append}
 use Rattle.node_core.specs.Requests.{is_request}
@@ -46,7 +46,8 @@ use Rattle.peace_laws.proofs.ClosingSignals.{closing_asks, closing_body}
 use Rattle.peace_laws.proofs.LevelSignals.{request_level}
 use Rattle.peace_laws.proofs.NextSignals.{AllTaken}
 use Rattle.peace_laws.proofs.PlainEvents.{part_next}
-use Rattle.peace_laws.proofs.Stands.{Stands, mirrored}
+use Rattle.peace_laws.proofs.Stands.{Stands, has}
+use Rattle.peace_laws.proofs.PlainLogs.{mirrored}
 
 -- the last of a list, if it has one
 last_split : {A : Type 0} (xs : List A) → (xs ≡ []) ⊎ ((front : List A) × ((x : A) × (xs ≡ front ++ x ∷ [])))
@@ -301,7 +302,7 @@ module _ (start : Start) (request : ApiReq) (was more : ℕ → List HostStep) (
       level_unasked start.epoch 0 f.newer
       (unasked f.newer newer_none
       (each_before IsAskedAlike f.newer (f.first ∷ was 0)
-      (subst (Each IsAskedAlike) f.is ((mirrored start more now 0).asked refl))))
+      (subst (Each IsAskedAlike) f.is ((mirrored start now.es more (has start more now) now.kept 0).asked refl))))
 
   beside : is_closing 0 f.first.step.taken ≡ false
   beside = go (is_closing 0 f.first.step.taken) refl

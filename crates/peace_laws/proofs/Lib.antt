@@ -13,6 +13,7 @@ pub mod ClosingSignals
 pub mod ClosingSteps
 pub mod CompletionTurns
 pub mod Completions
+pub mod CountsNobody
 pub mod FirstAsked
 pub mod Letters
 pub mod LevelSignals

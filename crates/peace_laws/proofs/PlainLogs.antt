@@ -145,7 +145,7 @@ module _ (start : Start) (es : List HostStep) (logs : ℕ → List HostStep) (ha
     none_cut h other =
         ap (λ (cut : List HostId). list_any (is_one_of (record { 0 = other })) cut) (mirrored h).near.standing.uncut
 
-    all_taken : (i j : ℕ) → i < hosts start → j < hosts start
+    pub all_taken : (i j : ℕ) → i < hosts start → j < hosts start
         → taken (machine start) i (logs j) ≡ sent (machine start) i j (logs i)
     all_taken i j i_low low =
         subst (λ b. holds_by b start i j (logs i) (taken (machine start) i (logs j))) (goes_on i)

@@ -24,7 +24,7 @@ use Rattle.sig_core.specs.declared.signal.Signal.{Signal}
 use Rattle.sig_core.specs.Step.{Step}
 use Rattle.world_core.specs.Start.{Start}
 use Rattle.world_views.specs.Machine.{step_by, told}
-use Rattle.calm_laws.specs.Alike.{AreAlike, ArePartsAlike, first}
+use Rattle.calm_laws.specs.Alike.{AreAlike, ArePartsAlike}
 use Rattle.calm_laws.specs.Plain.{is_beating}
 use Rattle.calm_laws.specs.Steps.{ComesCalmly}
 use Rattle.calm_laws.proofs.Ease.{blocks_alone, ease_row, has_calm_block}

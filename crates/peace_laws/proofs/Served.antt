@@ -1,6 +1,6 @@
 -- A life in peace, request by request: it stands after each, and rests where nothing is under way. So its plain parts are
 -- what the plain machine does, and each closing is answered, where closings go on from rest to rest.
-use Rattle.std.proofs.Common.{◌≡◌, ◌⊎◌, ◌≤◌, inl, inr, ℕ, Bool, true, false, List, [], ◌∷◌, ◌++◌, refl, sym, ap, ◌∙◌, subst, arith}
+use Rattle.std.proofs.Common.{◌≡◌, ◌⊎◌, ◌≤◌, inl, inr, ℕ, Bool, true, false, List, [], ◌∷◌, ◌++◌, refl, sym, subst, arith}
 use Rattle.std.proofs.Math.Path.{fun_ext}
 use Rattle.std.specs.Prelude.{◌||◌}
 use Rattle.frag_map.specs.Shape.{IsShape}
@@ -11,7 +11,7 @@ use Rattle.run_laws.proofs.EachEntry.{each_entry}
 use Rattle.run_theory.proofs.Pasts.{each_in}
 use Rattle.run_theory.proofs.Runs.{logs_of_run}
 use Rattle.run_theory.specs.Lists.{Each}
-use Rattle.run_theory.specs.Runs.{AreLogs, log_of}
+use Rattle.run_theory.specs.Runs.{AreLogs}
 use Rattle.sig_core.specs.declared.entry.Entry.{Entry}
 use Rattle.sig_core.specs.declared.mark.Mark.{Mark}
 use Rattle.sig_core.specs.declared.mark.Mark.TheVariants.{Decided, Reported}
@@ -28,17 +28,15 @@ use Rattle.world_views.specs.Machine.{machine}
 use Rattle.world_views.specs.Quiet.{IsQuiet}
 use Rattle.calm_laws.specs.Calm.{is_calm_request}
 use Rattle.level_laws.specs.Laws.{HostsAreLevel}
-use Rattle.peace_laws.specs.Laws.{ArePlain, AreServedBy, ClosingsAreAnswered, GoOnBy, IsAnsweredBy, IsPeacefulLife}
+use Rattle.peace_laws.specs.Laws.{AreServedBy, ClosingsAreAnswered, GoOnBy}
 use Rattle.peace_laws.specs.Laws.{IsTold, PeacefulLivesArePlain}
-use Rattle.peace_laws.specs.Parts.{plain_part, plain_parts}
+use Rattle.peace_laws.specs.Parts.{plain_parts}
 use Rattle.peace_laws.specs.Peace.{is_closing_request}
 use Rattle.peace_laws.proofs.CalmGoes.{calm_rests, calm_stands}
 use Rattle.peace_laws.proofs.FirstAsked.{asked_at_quiet}
 use Rattle.peace_laws.proofs.NextSignals.{AllTaken}
-use Rattle.peace_laws.proofs.PlainEvents.{no_part}
 use Rattle.peace_laws.proofs.PlainLogs as plain_logs
-use Rattle.peace_laws.proofs.PlainQuiet.{plain_is_quiet, plain_right}
-use Rattle.peace_laws.proofs.Stands.{AreBelow, IsBelow, Rests, Stands, all_taken, lives_rest}
+use Rattle.peace_laws.proofs.Stands.{AreBelow, IsBelow, Rests, Stands, has, lives_rest, taken_by_all}
 
 -- Peace goes on by a closing: it stands, and where nothing is under way again it rests in the next epoch, and the client
 -- was told of the end of the one that was closed.
@@ -95,13 +93,17 @@ module _ (hosts_level : HostsAreLevel) (closes : ClosingGoesOn) (start : Start) 
     rest : RestsSome start was
     rest = served.rests quiet
 
+    abbrev old : Stands start was
+    old = rest.rests.stands
+
     all : AllTaken start was
-    all = all_taken start was rest.rests.stands quiet
+    all = taken_by_all start was old quiet
 
     asked : Stands start more → plain_requests.AreAskedAtQuiet start (plain_parts start more)
     asked now =
-        asked_at_quiet start request was more rest.rests.stands now all by
-        (plain_right start was rest.rests.stands) (plain_is_quiet start was rest.rests.stands all) served.asked
+        asked_at_quiet start request was more old now all by
+        (plain_logs.right start old.es was (has start was old) old.kept)
+        (plain_logs.quiet_plain start old.es was (has start was old) old.kept old.running quiet) served.asked
 
     next_by : (is_calm_request request ≡ true) ⊎ (is_closing_request request ≡ true) → IsServed start more
     next_by (inl calm) =
@@ -141,16 +143,14 @@ lives_plain hosts_level closes start asked logs life =
     let served : IsServed start logs =
     serves hosts_level closes start life.shape life.rows life.some asked logs life.served in
     let stands : Stands start logs = served.stands in
-    let has : (h : ℕ) → log_of (machine start) stands.es h ≡ logs h =
-    λ h. ap (λ (all : ℕ → List HostStep). all h) stands.is in
     record {
       peaceful = stands.peaceful;
-      right = plain_logs.right start stands.es logs has stands.kept;
-      within = plain_logs.within start stands.es logs has stands.kept stands.within;
-      replies = plain_logs.replies start stands.es logs has stands.kept;
-      asked = plain_logs.asked start stands.es logs has stands.kept;
+      right = plain_logs.right start stands.es logs (has start logs stands) stands.kept;
+      within = plain_logs.within start stands.es logs (has start logs stands) stands.kept stands.within;
+      replies = plain_logs.replies start stands.es logs (has start logs stands) stands.kept;
+      asked = plain_logs.asked start stands.es logs (has start logs stands) stands.kept;
       at_quiet = served.asked;
-      quiet = λ quiet. plain_logs.quiet_plain start stands.es logs has stands.kept stands.running quiet;
+      quiet = λ quiet. plain_logs.quiet_plain start stands.es logs (has start logs stands) stands.kept stands.running quiet;
     }
 
 -- what was decided in no later epoch has no entry in one

@@ -1,28 +1,24 @@
 -- What stands of a life in peace after some logs, and what besides where nothing is under way.
-use Rattle.std.proofs.Common.{◌≡◌, ◌≤◌, ℕ, zero, suc, ◌%◌, List, [], false, refl, ap, subst}
-use Rattle.std.specs.List.{list_any}
-use Rattle.node_views.specs.Row.{is_one_of}
-use Rattle.run_theory.specs.Links.{taken}
+use Rattle.std.proofs.Common.{◌≡◌, ◌≤◌, ℕ, zero, suc, ◌%◌, List, [], false, refl, ap}
 use Rattle.run_theory.specs.Lists.{Each}
+use Rattle.run_theory.specs.Orders.{HasLogs}
 use Rattle.run_theory.specs.Runs.{IsWithin, Run, log_of}
 use Rattle.sig_core.specs.declared.mark.Mark.{Mark}
 use Rattle.sig_core.specs.declared.mark.Mark.TheVariants.{Decided}
-use Rattle.sig_core.specs.declared.member.HostId.{HostId}
 use Rattle.sig_core.specs.declared.place.Part.{Part}
 use Rattle.sig_core.specs.declared.place.Part.TheVariants as part
 use Rattle.world_core.specs.Hosts.{hosts, member_at, part_by}
 use Rattle.world_core.specs.Start.{Start, made}
 use Rattle.world_core.specs.Steps.{HostStep}
 use Rattle.world_views.specs.Hosts.{part_started, started}
-use Rattle.world_views.specs.Machine.{has_cut, has_stopped, machine}
+use Rattle.world_views.specs.Machine.{has_stopped, machine}
 use Rattle.world_views.specs.Quiet.{IsQuiet}
-use Rattle.world_views.specs.Right.{holds_by}
 use Rattle.calm_laws.specs.Resting.{AreResting}
 use Rattle.calm_laws.proofs.Rest.{lives_begin_at_rest}
 use Rattle.peace_laws.specs.Peace.{ArePeaceful}
 use Rattle.peace_laws.specs.Rest.{AreAtRestIn, RestsIn}
-use Rattle.peace_laws.proofs.Mirrored.{IsMirrored}
 use Rattle.peace_laws.proofs.NextSignals.{AllTaken}
+use Rattle.peace_laws.proofs.PlainLogs.{all_taken}
 use Rattle.peace_laws.proofs.RunKept.{IsKept, begins_kept}
 
 -- no transaction is decided in a later epoch by these marks, nor by the steps of a log
@@ -51,18 +47,12 @@ pub record Rests (start : Start) (epoch : ℕ) (logs : ℕ → List HostStep) : 
   pub below : (h : ℕ) → AreBelow epoch (logs h)
 
 module _ (start : Start) (logs : ℕ → List HostStep) (stands : Stands start logs) where
-  pub mirrored : (h : ℕ) → IsMirrored start h (logs h)
-  mirrored h = subst (λ (all : ℕ → List HostStep). IsMirrored start h (all h)) stands.is (stands.kept.mirrored h)
-
-  none_cut : (h other : ℕ) → has_cut start h (logs h) other ≡ false
-  none_cut h other =
-      ap (λ (cut : List HostId). list_any (is_one_of (record { 0 = other })) cut) (mirrored h).near.standing.uncut
+  pub has : HasLogs (machine start) stands.es logs
+  has h = ap (λ (all : ℕ → List HostStep). all h) stands.is
 
   -- so where nothing is under way all that was sent was taken
-  pub all_taken : IsQuiet start logs → AllTaken start logs
-  all_taken quiet i j i_low low =
-      subst (λ b. holds_by b start i j (logs i) (taken (machine start) i (logs j))) (stands.running i)
-      (quiet i j i_low low (record { runs = stands.running j; takes = none_cut j i }))
+  pub taken_by_all : IsQuiet start logs → AllTaken start logs
+  taken_by_all quiet = all_taken start stands.es logs has stands.kept stands.running quiet
 
 -- a life that begins without rows begins at rest
 part_rests : (start : Start) (h : ℕ) (of : Part)
