@@ -37,7 +37,6 @@ pub mod PlainAnswers
 pub mod PlainCalm
 pub mod PlainEvents
 pub mod PlainLogs
-pub mod PlainQuiet
 pub mod RequestOn
 pub mod RestingHosts
 pub mod RunKept
