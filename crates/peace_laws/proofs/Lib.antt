@@ -1,5 +1,6 @@
 pub mod AnswerOn
 pub mod Arrivals
+pub mod AskedMoment
 pub mod AskingSteps
 pub mod CalmFacts
 pub mod CalmGoes
@@ -32,6 +33,7 @@ pub mod NextSignals
 pub mod NoneCompletes
 pub mod NoneCounted
 pub mod OrderLists
+pub mod PartKinds
 pub mod PeaceNext
 pub mod PlainAnswers
 pub mod PlainCalm
