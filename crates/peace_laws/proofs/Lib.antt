@@ -10,6 +10,7 @@ pub mod ClosingEnds
 pub mod ClosingMarks
 pub mod ClosingMoments
 pub mod ClosingNext
+pub mod ClosingRuns
 pub mod ClosingSignals
 pub mod ClosingSteps
 pub mod CompletionTurns
@@ -46,6 +47,7 @@ pub mod SeenNear
 pub mod SentNear
 pub mod Served
 pub mod ShellOn
+pub mod ShellOwns
 pub mod StageBegins
 pub mod Stands
 pub mod UnderLinks
