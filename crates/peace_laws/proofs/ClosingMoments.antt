@@ -20,8 +20,8 @@ use Rattle.sig_core.specs.declared.outs.Outgoing.{Outgoing}
 use Rattle.sig_core.specs.declared.reply.ApiReply.{ApiReply}
 use Rattle.sig_core.specs.declared.signal.Signal.{Signal}
 use Rattle.sig_core.specs.Step.{Step}
-use Rattle.world_core.specs.Hosts.{host_for, hosts}
-use Rattle.world_core.specs.Start.{Start}
+use Rattle.world_core.specs.Hosts.{host_for, hosts, member_at}
+use Rattle.world_core.specs.Start.{Start, made}
 use Rattle.world_core.specs.Steps.{HostStep}
 use Rattle.world_views.specs.Machine.{after, has_stopped, machine, replies_at, step_after, step_by, stops_by, told}
 use Rattle.world_views.specs.Right.{replies_in}
@@ -138,11 +138,17 @@ module _ (hosts_level : HostsAreLevel) (start : Start) (shape : IsShape start.sh
   is_there : map said (links i h).under ≡ rest ++ one ∷ []
   is_there = there start base es e links unasked took given
 
+  pub one_under : IsIn one (map said (links i h).under)
+  one_under = subst (IsIn one) (sym is_there) (in_back one rest)
+
   pub fits : IsFit start i h one
-  fits = fit i h one (subst (IsIn one) (sym is_there) (in_back one rest))
+  fits = fit i h one one_under
 
   is_seen : IsSeen start i (arriving h x)
   is_seen = seen start es h x within kept.mirrored fits.open_link (run.1.takes unasked)
+
+  pub member_is : x.member ≡ member_at (made start) i
+  member_is = is_seen.member
 
   pub for_closing : is_for_closing x.to.block x.body ≡ true
   for_closing = fits.closing is_seen.send

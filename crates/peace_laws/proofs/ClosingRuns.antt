@@ -87,20 +87,31 @@ pub record IsOn (start : Start) (c : Course) (base : ℕ → List HostStep) (es 
 -- whatever is under way fits
 module _ (start : Start) (shape : IsShape start.shape) (c : Course) (base : ℕ → List HostStep) (es : List HostStep)
     (links : Links start base es) where
-  pub asked_fits : IsAskedFor start c (moment start base es links) → (i h : ℕ) (one : Outgoing)
-      → IsIn one (map said (links i h).under) → IsFit start i h one
-  asked_fits asked i h one is =
-      let at : (i ≡ 0) × (h ≡ main) = asked.alone i h one is in
-      fit_at start i h 0 main one (to_place (checkpoints 1) (ask_of c.kind)) at.0 at.1
-      (alone (subst (IsIn one) asked.request
-      (subst (λ k. IsIn one (map said (links 0 k).under)) at.1
-      (subst (λ k. IsIn one (map said (links k h).under)) at.0 is))))
-      (request_fits start shape c c.kind)
+  pub asked_is : IsAskedFor start c (moment start base es links) → (i h : ℕ) (one : Outgoing)
+      → IsIn one (map said (links i h).under)
+      → (i ≡ 0) × ((h ≡ main) × (one ≡ to_place (checkpoints 1) (ask_of c.kind)))
+  asked_is asked i h one is =
+      let at : (i ≡ 0) × (h ≡ main) = asked.alone i h one is in (
+        at.0,
+        (
+          at.1,
+          alone (subst (IsIn one) asked.request
+              (subst (λ k. IsIn one (map said (links 0 k).under)) at.1
+              (subst (λ k. IsIn one (map said (links k h).under)) at.0 is))),
+        ),
+      )
     where
       alone : IsIn one (to_place (checkpoints 1) (ask_of c.kind) ∷ [])
           → one ≡ to_place (checkpoints 1) (ask_of c.kind)
       alone (inl same) = same
       alone (inr none) = absurd none
+
+  pub asked_fits : IsAskedFor start c (moment start base es links) → (i h : ℕ) (one : Outgoing)
+      → IsIn one (map said (links i h).under) → IsFit start i h one
+  asked_fits asked i h one is =
+      let at : (i ≡ 0) × ((h ≡ main) × (one ≡ to_place (checkpoints 1) (ask_of c.kind))) = asked_is asked i h one is in
+      fit_at start i h 0 main one (to_place (checkpoints 1) (ask_of c.kind)) at.0 at.1.0 at.1.1
+      (request_fits start shape c c.kind)
 
   pub fits : IsAskedFor start c (moment start base es links) ⊎ IsUnderWay start c (moment start base es links)
       → (i h : ℕ) (one : Outgoing) → IsIn one (map said (links i h).under) → IsFit start i h one

@@ -48,6 +48,7 @@ pub mod SentNear
 pub mod Served
 pub mod ShellOn
 pub mod ShellOwns
+pub mod SpentEpochs
 pub mod StageBegins
 pub mod Stands
 pub mod UnderLinks
