@@ -7,6 +7,7 @@ pub mod CalmGoes
 pub mod CalmNear
 pub mod CloserEase
 pub mod ClosingEnds
+pub mod ClosingGoes
 pub mod ClosingMarks
 pub mod ClosingMoments
 pub mod ClosingNext
@@ -41,6 +42,7 @@ pub mod PlainCalm
 pub mod PlainEvents
 pub mod PlainLogs
 pub mod RequestOn
+pub mod RestAgain
 pub mod RestingHosts
 pub mod RunKept
 pub mod SeenNear

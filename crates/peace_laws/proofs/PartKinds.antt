@@ -40,7 +40,7 @@ front_kept : (those : List Member) (last : Member) → slice_get those 0 ≡ Som
 front_kept [] last none = absurd (cc (none))
 front_kept (one ∷ more) last is = is
 
-first_member : (n : ℕ) → 1 ≤ n → slice_get (members n) 0 ≡ Some (first_start 1)
+pub first_member : (n : ℕ) → 1 ≤ n → slice_get (members n) 0 ≡ Some (first_start 1)
 first_member zero some = absurd (omega (arith, some))
 first_member (suc n) some = go n
   where
