@@ -158,7 +158,7 @@ module _ (start : Start) (h : ℕ) (given : List ApiReply) (s : host.Host) (othe
   comes = ap (λ (view : View). view.number) view
 
   -- the host takes it as its blocks do,
-  near_row : step_by h s x ≡ hushed (with_parts s (parts_row s.parts x))
+  pub near_row : step_by h s x ≡ hushed (with_parts s (parts_row s.parts x))
   unfolding blocks_row
   near_row =
       ap (step_if s x) (if_none (x.from.0 == h) (closes x.body) (closes_none x.body for_blocks.theirs))

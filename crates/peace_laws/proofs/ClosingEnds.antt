@@ -30,7 +30,7 @@ use Rattle.peace_laws.proofs.Voices.{all_are_in, both_heard, one_heard}
 use Rattle.peace_laws.proofs.WayOn.{letter}
 
 -- whatever is taken, the closing goes on
-goes_on : (start : Start) → IsShape start.shape → (c : Course) → next_of c.kind c.epoch ≡ Some c.next
+pub goes_on : (start : Start) → IsShape start.shape → (c : Course) → next_of c.kind c.epoch ≡ Some c.next
     → (before after : Moment) → IsUnderWay start c before → Takes start before after → IsUnderWay start c after
 goes_on start shape c next before after w step = by (letter start c before after w step)
   where

@@ -65,18 +65,19 @@ use Rattle.level_laws.specs.Levels.{host_at}
 use Rattle.peace_laws.specs.Alike.{AreEpochsNear, AreNear, ArePartsNear}
 use Rattle.peace_laws.specs.Parts.{plain_replies}
 use Rattle.peace_laws.specs.Peace.{has_closer, is_closer, is_for_closing, is_order}
-use Rattle.peace_laws.specs.Steps.{ClosingsStepNear, IsForMaster, IsOfClosing, asks_master}
+use Rattle.peace_laws.specs.Steps.{ClosingsStepNear, ComesForClosing, IsForMaster, IsOfClosing, asks_master}
 use Rattle.peace_laws.proofs.CloserEase.{closings_for_blocks, has_its_block, near_parts, takes_it}
-use Rattle.peace_laws.proofs.MasterNear.{master_steps}
+use Rattle.peace_laws.proofs.MasterNear.{IsClosingMark, master_steps}
 
 -- a step of a host that is near its plain one behind it, at a signal from a member of this node
-record HostNear (start : Start) (h : ℕ) (given : List ApiReply) (from : ℕ) (t : Step host.Host) (other : plain.Host)
+pub record HostNear (start : Start) (h : ℕ) (given : List ApiReply) (from : ℕ) (t : Step host.Host) (other : plain.Host)
     : Type 0
   where
   inner : plain.Host
   near : AreNear start (given ++ plain_replies (replies_at h t)) (told h t) inner
   same : host_at start.epoch inner ≡ host_at start.epoch other
   marks : is_beating h ≡ false → t.effects.marks ≡ []
+  pub only : Each IsClosingMark t.effects.marks
   sends : Each (IsOfClosing h) t.effects.sends
   masters : is_beating h ≡ false → 1 ≤ from → Each IsForMaster t.effects.sends
 
@@ -88,6 +89,7 @@ stays start h given from s other near = record {
   near = subst (λ (more : List ApiReply). AreNear start more s other) (sym (append-nil given)) near;
   same = refl;
   marks = λ beats. refl;
+  only = tt;
   sends = tt;
   masters = λ beats some. tt;
 }
@@ -137,6 +139,7 @@ module _ (start : Start) (given : List ApiReply) (standing : Standing) (ease : I
         ap (λ (b : ApiState). host_at start.epoch (plain_host.Shell b))
         (ap (with_replies p.client.api) (untold closing epoch p.client.api.replies near.1.1.0) ∙ sym near.1.1.1);
     marks = λ beats. refl;
+    only = tt;
     sends = tt;
     masters = λ beats some. tt;
   }
@@ -153,6 +156,7 @@ module _ (start : Start) (given : List ApiReply) (standing : Standing) (ease : I
         ap (λ (b : ApiState). host_at start.epoch (plain_host.Shell b))
         (ap (with_replies p.client.api) (none_told p.client.api.replies near.1.1.0) ∙ sym near.1.1.1);
     marks = λ beats. refl;
+    only = tt;
     sends = tt;
     masters = λ beats some. tt;
   }
@@ -351,6 +355,7 @@ module _ (start : Start) (h : ℕ) (given : List ApiReply) (standing : Standing)
         near = record { standing = ease; parts = (near.0, step.near) };
         same = refl;
         marks = λ beats. step.marks;
+        only = subst (Each IsClosingMark) (sym step.marks) tt;
         sends = confirmed_of h x.member.node _ step.sends;
         masters = λ beats some. confirmed_for x.member.node some _ step.sends;
       }
@@ -364,6 +369,7 @@ module _ (start : Start) (h : ℕ) (given : List ApiReply) (standing : Standing)
     near = record { standing = ease; parts = near };
     same = refl;
     marks = λ beats. refl;
+    only = tt;
     sends = ((refl, refl), tt);
     masters = λ beats some. ((refl, some), tt);
   }
@@ -372,6 +378,7 @@ module _ (start : Start) (h : ℕ) (given : List ApiReply) (standing : Standing)
     near = record { standing = ease; parts = near };
     same = refl;
     marks = λ beats. refl;
+    only = tt;
     sends = ((refl, refl), tt);
     masters = λ beats some. ((refl, some), tt);
   }
@@ -380,6 +387,7 @@ module _ (start : Start) (h : ℕ) (given : List ApiReply) (standing : Standing)
     near = record { standing = ease; parts = near };
     same = refl;
     marks = λ beats. refl;
+    only = tt;
     sends = tt;
     masters = λ beats some. tt;
   }
@@ -397,6 +405,7 @@ module _ (start : Start) (h : ℕ) (given : List ApiReply) (standing : Standing)
         near = record { standing = ease; parts = step.near };
         same = refl;
         marks = λ none. absurd (true≢false (sym beats ∙ none));
+        only = step.marks;
         sends = step.sends;
         masters = λ none some. absurd (true≢false (sym beats ∙ none));
       }
@@ -481,6 +490,7 @@ module _ (start : Start) (given : List ApiReply) (standing : Standing) (ease : I
     near = record { standing = ease; parts = near };
     same = refl;
     marks = λ beats. refl;
+    only = tt;
     sends = tt;
     masters = λ beats some. tt;
   }
@@ -489,6 +499,7 @@ module _ (start : Start) (given : List ApiReply) (standing : Standing) (ease : I
     near = record { standing = ease; parts = near };
     same = refl;
     marks = λ beats. refl;
+    only = tt;
     sends = tt;
     masters = λ beats some. tt;
   }
@@ -497,6 +508,7 @@ module _ (start : Start) (given : List ApiReply) (standing : Standing) (ease : I
     near = record { standing = ease; parts = near };
     same = refl;
     marks = λ beats. refl;
+    only = tt;
     sends = tt;
     masters = λ beats some. tt;
   }
@@ -508,15 +520,13 @@ module _ (start : Start) (given : List ApiReply) (standing : Standing) (ease : I
   by_client block.Api has is = at_client is
   by_client to has is = absurd (false≢true has)
 
-pub closings_step_near : ClosingsStepNear
-closings_step_near start h given s other x near comes goes = record {
-  inner = all.inner;
-  near = all.near;
-  same = all.same;
-  marks = all.marks;
-  sends = all.sends;
-  masters = all.masters;
-}
+-- so whatever the parts of a host do
+pub parts_near : (start : Start) (h : ℕ) (given : List ApiReply) (s : host.Host) (other : plain.Host) (x : Signal)
+    → AreNear start given s other → ComesForClosing start h x
+    → HostNear start h given x.member.node (with_parts s (parts_row s.parts x)) other
+parts_near start h given s other x near comes =
+    subst (λ t. HostNear start h given x.member.node (with_parts s t) other) (row_is s.parts x)
+    (by h (has_its_block h x comes.closing))
   where
     by : (h : ℕ) → has_closer h x.to.block ≡ true
         → HostNear start h given x.member.node (with_parts s (row_at s.parts x.to.block x)) other
@@ -527,10 +537,19 @@ closings_step_near start h given s other x near comes goes = record {
         at_block start host given s.standing near.standing x comes.client (part_by (host % 3)) x.to.block refl has
         (takes_it h x comes.closing) s.parts other near.parts
 
+pub closings_step_near : ClosingsStepNear
+closings_step_near start h given s other x near comes goes = record {
+  inner = all.inner;
+  near = all.near;
+  same = all.same;
+  marks = all.marks;
+  sends = all.sends;
+  masters = all.masters;
+}
+  where
     all : HostNear start h given x.member.node (step_by h s x) other
     all =
         subst (λ t. HostNear start h given x.member.node t other)
-        (ap (with_parts s) (row_is s.parts x)
-        ∙ sym (near_parts start h given s other x near comes.fine comes.view
+        (sym (near_parts start h given s other x near comes.fine comes.view
         (closings_for_blocks h x comes.closing) goes))
-        (by h (has_its_block h x comes.closing))
+        (parts_near start h given s other x near comes)

@@ -26,6 +26,7 @@ use Rattle.sig_core.specs.Place.{checkpoints}
 use Rattle.sig_core.specs.Step.{to_place}
 use Rattle.world_core.specs.Hosts.{hosts, part_by}
 use Rattle.world_core.specs.Start.{Start}
+use Rattle.calm_laws.specs.Plain.{is_beating, is_main}
 use Rattle.peace_laws.specs.Closing.{Course, host_in, main}
 use Rattle.peace_laws.specs.Moments.{Moment}
 use Rattle.peace_laws.specs.Peace.{has_closer, is_closer, is_for_closing}
@@ -43,6 +44,11 @@ rows_in place = ap (λ left. is_closer (part_by left) block.Lqh) (mod-mul-add pl
 has_block_of : (place : ℕ) (rows : Bool) → has_closer (host_in place rows) (block_of rows) ≡ true
 has_block_of place false = part_in place false
 has_block_of place true = rows_in place
+
+-- none of them is a main part
+pub member_rests : (place : ℕ) (rows : Bool) → is_beating (host_in place rows) ≡ false
+member_rests place false = ap (λ left. is_main (part_by left)) (mod-mul-add place 3 1 (omega arith))
+member_rests place true = ap (λ left. is_main (part_by left)) (mod-mul-add place 3 2 (omega arith))
 
 pub member_low : (start : Start) (place : ℕ) (rows : Bool) → place < start.shape.nodes
     → host_in place rows < hosts start
@@ -69,12 +75,13 @@ mask_fits (suc (suc (suc (suc (suc (suc (suc (suc (suc n))))))))) some few = abs
 pub record IsFit (start : Start) (i h : ℕ) (one : Outgoing) : Type 0 where
   pub from_low : i < hosts start
   pub low : h < hosts start
+  pub beats : is_beating h ≡ true → h ≡ main
   pub block : has_closer h one.to.block ≡ true
   pub sound : is_body_sound start.shape one.body ≡ true
   pub open_link : (cause : StopCause) → one.body ≡ Host (Closed cause) → ⊥
   pub closing : IsSend i one.to.block one.body → is_for_closing one.to.block one.body ≡ true
 
-fit_at : (start : Start) (i h k l : ℕ) (one other : Outgoing) → i ≡ k → h ≡ l → one ≡ other → IsFit start k l other
+pub fit_at : (start : Start) (i h k l : ℕ) (one other : Outgoing) → i ≡ k → h ≡ l → one ≡ other → IsFit start k l other
     → IsFit start i h one
 fit_at start i h k l one other from to is fit =
     subst (λ a. IsFit start a h one) (sym from)
@@ -118,6 +125,7 @@ module _ (start : Start) (shape : IsShape start.shape) (c : Course) where
       record {
         from_low = main_there;
         low = member_low start place rows low;
+        beats = λ beats. absurd (false≢true (sym (member_rests place rows) ∙ beats));
         block = has_block_of place rows;
         sound = order_sound o fits mask;
         open_link = order_open o;
@@ -149,6 +157,7 @@ module _ (start : Start) (shape : IsShape start.shape) (c : Course) where
       record {
         from_low = member_low start place rows low;
         low = main_there;
+        beats = λ beats. refl;
         block = refl;
         sound = answer_sound committed s is;
         open_link = λ cause same. absurd (cc (same));
@@ -161,6 +170,7 @@ module _ (start : Start) (shape : IsShape start.shape) (c : Course) where
       record {
         from_low = main_there;
         low = main_there;
+        beats = λ beats. refl;
         block = refl;
         sound = refl;
         open_link = λ cause same. absurd (cc (same));
@@ -180,6 +190,7 @@ module _ (start : Start) (shape : IsShape start.shape) (c : Course) where
       record {
         from_low = main_there;
         low = omega arith;
+        beats = λ beats. absurd (false≢true beats);
         block = refl;
         sound = report_sound c.epoch c.kind;
         open_link = λ cause same. absurd (cc (same));
@@ -204,6 +215,7 @@ module _ (start : Start) (shape : IsShape start.shape) (c : Course) where
       record {
         from_low = omega arith;
         low = main_there;
+        beats = λ beats. refl;
         block = refl;
         sound = request_sound kind;
         open_link = request_open kind;

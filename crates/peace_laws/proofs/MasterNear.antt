@@ -26,7 +26,10 @@ use Rattle.gcp_master.specs.State.{MasterState, all_in, at_phase, counted, count
 use Rattle.run_theory.specs.Lists.{Each}
 use Rattle.run_theory.proofs.EachSent.{each_drop, each_mapped, each_take}
 use Rattle.run_theory.proofs.Pasts.{each_append}
+use Rattle.sig_core.specs.declared.mark.Mark.{Mark}
+use Rattle.sig_core.specs.declared.mark.Mark.TheVariants as mark
 use Rattle.sig_core.specs.declared.member.Member.{Member}
+use Rattle.sig_core.specs.declared.outcome.StopCause.TheVariants.{Clock}
 use Rattle.sig_core.specs.declared.outs.Outgoing.{Outgoing}
 use Rattle.sig_core.specs.declared.place.BlockId.{BlockId}
 use Rattle.sig_core.specs.declared.place.BlockId.TheVariants as block
@@ -100,13 +103,21 @@ all_told s near =
     each_append Told (front_sends s.member.node s.view s.front) (phase_sends s.view s.phase)
     (front_told s.member.node s.view s.front near.front) (phase_told s.view s.phase near.phase)
 
+-- a mark of a closing: of the end of an epoch, or that the numbers of epochs are used up
+abbrev pub IsClosingMark : Mark → Type 0
+IsClosingMark (mark.Stopped Clock) = Unit {0}
+IsClosingMark (mark.Closed epoch) = Unit {0}
+IsClosingMark (mark.Durable epoch) = Unit {0}
+IsClosingMark mark = ⊥
+
 -- a step after which no copying waits, and what it sends
 pub record MasterSteps (t : Step MasterState) : Type 0 where
   pub near : IsMasterNear t.state
   pub sends : Each Told t.effects.sends
+  pub marks : Each IsClosingMark t.effects.marks
 
 stays : (s : MasterState) → IsMasterNear s → MasterSteps (stay s)
-stays s near = record { near = near; sends = tt }
+stays s near = record { near = near; sends = tt; marks = tt }
 
 rest_told : (node at : ℕ) (more : Bool) → Each Told (rest_if (checkpoints node) Members at more)
 rest_told node at true = ((refl, refl), tt)
@@ -124,8 +135,8 @@ told_near s true near = near
 told_near s false near = record { phase = near.phase; front = tt; asked = near.asked }
 
 lists : (s : MasterState) (at : ℕ) → IsMasterNear s → MasterSteps (listing s at)
-unfolding listing
-lists s at near = record { near = told_near s _ near; sends = sends_told s at near }
+unfolding listing list_effects
+lists s at near = record { near = told_near s _ near; sends = sends_told s at near; marks = tt }
 
 enters : (s : MasterState) (p : Phase) → IsMasterNear s → IsPhaseNear p → MasterSteps (entering s p)
 enters s p near is = lists (at_phase s p) 0 (record { phase = is; front = tt; asked = near.asked })
@@ -146,7 +157,7 @@ begun_near s current false true near = by (next_micro current)
 begun_near s current false false near = record { phase = tt; front = near.front; asked = near.asked }
 
 begins_by : (s : MasterState) (spent listed : Bool) → IsMasterNear s → MasterSteps (begins_if s spent listed)
-begins_by s true listed near = record { near = near; sends = tt }
+begins_by s true listed near = record { near = near; sends = tt; marks = (tt, tt) }
 begins_by s false true near = stays s near
 begins_by s false false near = lists s 0 near
 
@@ -193,7 +204,7 @@ module _ (s : MasterState) (voice : Voice) (near : IsMasterNear s) where
       entered : (all : Bool) → MasterSteps (closed_if (counted s voice) run all)
       entered true =
           let step = enters (counted s voice) (phase.Closing run) heard is in
-          record { near = step.near; sends = step.sends }
+          record { near = step.near; sends = step.sends; marks = (tt, step.marks) }
       entered false = stays (counted s voice) heard
 
       by : (b : Bool) → MasterSteps (finish_if s voice run b)
@@ -239,7 +250,7 @@ module _ (s : MasterState) (voice : Voice) (near : IsMasterNear s) where
       entered : (all : Bool) → MasterSteps (copied_if (counted s voice) run all)
       entered true =
           let step = ends run (Global run.epoch run.copy) is in
-          record { near = step.near; sends = step.sends }
+          record { near = step.near; sends = step.sends; marks = (tt, step.marks) }
       entered false = stays (counted s voice) heard
 
       by : (b : Bool) → MasterSteps (copy_if s voice run b)

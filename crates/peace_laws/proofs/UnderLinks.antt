@@ -126,6 +126,19 @@ module _ (start : Start) (j : ℕ) (by : Sender) where
       go (inl there) = inside (host_for start first.to == j) refl there
       go (inr new) = inr (new.0, inr new.1)
 
+  -- so one thing alone
+  puts_lone : (count : ℕ → ℕ) (sends : List Outgoing) (before : List Addressed) (one : Outgoing) → sends ≡ one ∷ []
+      → map said before ≡ [] → j ≡ host_for start one.to → map said (puts count sends before) ≡ one ∷ []
+  puts_lone count [] before one is none at = absurd (cc (is))
+  puts_lone count (first ∷ second ∷ more) before one is none at =
+      let rest : second ∷ more ≡ [] = cc (is) in
+      absurd (cc (rest))
+  puts_lone count (first ∷ []) before one is none at =
+      let same : first ≡ one = cc (is) in
+      ap (λ b. map said (in_front b count first before))
+      (eq-eqb (host_for start first.to) j (sym (at ∙ ap (λ (o : Outgoing). host_for start o.to) (sym same))))
+      ∙ ap₂ (λ (o : Outgoing) (os : List Outgoing). o ∷ os) same none
+
 -- A link behind what a step takes, and behind what it sends.
 pub record TakenOn (start : Start) (base : ℕ → List HostStep) (i h : ℕ) (one : Outgoing) (rest : List Outgoing)
     (a b : ℕ) (before : List Outgoing) (from at : List HostStep) : Type 0
@@ -144,6 +157,8 @@ pub record SentOn (start : Start) (base : ℕ → List HostStep) (h : ℕ) (send
         → IsIn other (map said link.under)
     pub only : (other : Outgoing) → IsIn other (map said link.under)
         → IsIn other before ⊎ ((a ≡ h) × ((b ≡ host_for start other.to) × IsIn other sends))
+    pub lone : (other : Outgoing) → sends ≡ other ∷ [] → before ≡ [] → a ≡ h → b ≡ host_for start other.to
+        → map said link.under ≡ other ∷ []
 
 module _ (start : Start) (base : ℕ → List HostStep) (es : List HostStep) (e : HostStep) where
   abbrev h : ℕ
@@ -294,6 +309,8 @@ module _ (start : Start) (base : ℕ → List HostStep) (es : List HostStep) (e 
               puts_sent start b by (sent_count start h (log h)) sends (mid h b).under other is to;
           only = λ other is.
               go other (puts_only start b by (sent_count start h (log h)) sends (mid h b).under other is);
+          lone = λ other is none from to.
+              puts_lone start b by (sent_count start h (log h)) sends (mid h b).under other is none to;
         }
       where
         go : (other : Outgoing)
@@ -320,4 +337,5 @@ module _ (start : Start) (base : ℕ → List HostStep) (es : List HostStep) (e 
               keeps = λ other is. is;
               puts = λ other is from to. absurd (apart (sym from));
               only = λ other is. inl is;
+              lone = λ other is none from to. absurd (apart (sym from));
             }
