@@ -1,15 +1,15 @@
 -- The client's side is asked for a closing where nothing is under way: that leads to the moment at which the master is
 -- asked for it.
-use Rattle.std.proofs.Common.{◌≡◌, ◌≢◌, ◌⊎◌, ◌<◌, ◌≤◌, inl, inr, ℕ, zero, suc, List, [], ◌∷◌, ◌++◌, Bool, true, false}
+use Rattle.std.proofs.Common.{◌≡◌, ◌≢◌, ◌⊎◌, ◌<◌, ◌≤◌, inl, inr, ℕ, zero, suc, List, [], ◌∷◌, ◌++◌, true, false}
 use Rattle.std.proofs.Common.{refl, ap, sym, ◌∙◌, subst, append-nil, map, arith}
-use Rattle.std.specs.Prelude.{Option, None, Some}
+use Rattle.std.specs.Prelude.{None, Some}
 use Rattle.std.proofs.lemmas.Bool.{cases_eq, false≢true}
 use Rattle.api_block.specs.State.{ApiState}
 use Rattle.api_views.specs.declared.closings.Closing.{Closing}
 use Rattle.api_views.specs.declared.closings.Closing.TheVariants as closing
-use Rattle.api_views.specs.Client.{client_row, client_table}
+use Rattle.api_views.specs.Client.{client_table}
 use Rattle.api_views.specs.Closings.{ask_at, ask_of, asking}
-use Rattle.api_views.specs.Members.{first_node, president}
+use Rattle.api_views.specs.Members.{first_node}
 use Rattle.api_views.specs.State.{ClientState}
 use Rattle.frag_map.specs.Layout.{members}
 use Rattle.frag_map.specs.Shape.{IsShape}
@@ -26,17 +26,15 @@ use Rattle.node_views.specs.declared.parts.Parts.TheVariants.{Shell, Main, Tc, L
 use Rattle.node_views.specs.declared.shell_part.ShellPart.{ShellPart}
 use Rattle.node_views.specs.declared.standing.Standing.{Standing}
 use Rattle.run_theory.proofs.Runs.{log_of-other, log_of-own, taken-asked}
-use Rattle.run_theory.specs.Links.{sent, taken}
+use Rattle.run_theory.specs.Links.{taken}
 use Rattle.run_theory.specs.Lists.{IsIn}
 use Rattle.run_theory.specs.Runs.{IsWithin, Run, log_of}
 use Rattle.sig_core.specs.declared.member.Member.{Member}
 use Rattle.sig_core.specs.declared.outs.Outgoing.{Outgoing}
-use Rattle.sig_core.specs.declared.place.BlockId.{BlockId}
 use Rattle.sig_core.specs.declared.place.BlockId.TheVariants as block
 use Rattle.sig_core.specs.declared.place.Place.{Place}
 use Rattle.sig_core.specs.declared.reply.ApiReply.{ApiReply}
 use Rattle.sig_core.specs.declared.request.ApiReq.{ApiReq}
-use Rattle.sig_core.specs.declared.signal.Body.{Body}
 use Rattle.sig_core.specs.declared.signal.Body.TheVariants.{Host}
 use Rattle.sig_core.specs.declared.signal.Signal.{Signal}
 use Rattle.sig_core.specs.declared.signal.host.HostSignal.TheVariants.{Continue}
@@ -44,9 +42,8 @@ use Rattle.sig_core.specs.declared.signal.host.Work.TheVariants.{Request}
 use Rattle.sig_core.specs.declared.view.View.{View}
 use Rattle.sig_core.specs.Place.{checkpoints, client}
 use Rattle.sig_core.specs.Step.{Step, to_place}
-use Rattle.world_core.specs.Hosts.{host_for, hosts, member_at}
-use Rattle.world_core.specs.Machine.{last_stamp}
-use Rattle.world_core.specs.Start.{Start, made}
+use Rattle.world_core.specs.Hosts.{host_for, hosts}
+use Rattle.world_core.specs.Start.{Start}
 use Rattle.world_core.specs.Steps.{HostStep}
 use Rattle.world_views.specs.Machine.{IsOwn, after, has_stopped, machine, replies_at, step_after, step_by, stops_by, told}
 use Rattle.world_views.specs.Right.{replies_in}
@@ -55,12 +52,12 @@ use Rattle.calm_laws.specs.Alike.{IsAtEase, first}
 use Rattle.calm_laws.proofs.Events.{host_there, within_before}
 use Rattle.calm_laws.proofs.FirstMembers.{first_fine}
 use Rattle.level_laws.specs.Laws.{HostsAreLevel}
-use Rattle.peace_laws.specs.Alike.{AreNear, ArePartsNear, RestsOfClosings}
+use Rattle.peace_laws.specs.Alike.{ArePartsNear, RestsOfClosings}
 use Rattle.peace_laws.specs.Closing.{AllRest, EpochsRest, HasRows, IsAskedFor, MainRests, ShellWaits, host_in, main}
 use Rattle.peace_laws.specs.Moments.{Moment, behind, told_by}
 use Rattle.peace_laws.specs.Parts.{plain_replies}
 use Rattle.peace_laws.specs.Peace.{asks_by, asks_closing, is_closing_request}
-use Rattle.peace_laws.specs.Rest.{AreAtRestIn, RestsIn}
+use Rattle.peace_laws.specs.Rest.{AreAtRestIn}
 use Rattle.peace_laws.specs.Steps.{RequestsNear}
 use Rattle.peace_laws.proofs.AskingSteps.{asks_for, closing_of, closings_are_asked_near, table_is}
 use Rattle.peace_laws.proofs.CalmNear.{inner_api}

@@ -1,11 +1,11 @@
 -- Peace goes on by a closing from one moment at which nothing is under way to the next: it stands, and where nothing is
 -- under way again it rests in the next epoch, and the client was told.
-use Rattle.std.proofs.Common.{◌≡◌, ◌≢◌, ◌⊎◌, ◌<◌, ◌≤◌, ◌+◌, ◌*◌, ◌/◌, ◌%◌, inl, inr, ℕ, zero, suc, List, [], ◌∷◌, ◌++◌, Bool, true, false}
-use Rattle.std.proofs.Common.{refl, ap, sym, ◌∙◌, subst, append-nil, append_assoc, length, length-append, map, arith}
+use Rattle.std.proofs.Common.{◌≡◌, ◌≢◌, ◌⊎◌, ◌<◌, ◌≤◌, ◌+◌, ◌*◌, ◌/◌, ◌%◌, inl, inr, ℕ, List, [], ◌∷◌, ◌++◌, Bool, true, false}
+use Rattle.std.proofs.Common.{refl, ap, sym, ◌∙◌, subst, length, length-append, map, arith}
 use Rattle.std.proofs.Math.Path.{fun_ext}
 use Rattle.std.specs.List.{list_any}
 use Rattle.std.specs.Prelude.{◌||◌, if◌then◌else◌, nat_lt, Option, None, Some, option_to_list}
-use Rattle.std.proofs.lemmas.Bool.{cases_lt, false≢true, true≢false}
+use Rattle.std.proofs.lemmas.Bool.{cases_lt, false≢true}
 use Rattle.api_views.specs.declared.closings.Closing.{Closing}
 use Rattle.api_views.specs.declared.closings.Closing.TheVariants as closing
 use Rattle.api_views.specs.Closings.{ask_of, closed_reply}
@@ -16,13 +16,12 @@ use Rattle.node_views.specs.declared.parts.Parts.{Parts}
 use Rattle.node_views.specs.declared.parts.Parts.TheVariants.{Shell, Main, Tc, Ldm}
 use Rattle.run_theory.proofs.Growth.{grow}
 use Rattle.run_theory.proofs.Pasts.{each_past, past_self, past_trans}
-use Rattle.run_theory.proofs.Runs.{log_of-other, log_of-own, log_of-past}
+use Rattle.run_theory.proofs.Runs.{log_of-own, log_of-past}
 use Rattle.run_theory.specs.Along.{Grows}
 use Rattle.run_theory.specs.Links.{sent, taken}
 use Rattle.run_theory.specs.Lists.{Each, IsIn, IsPast}
 use Rattle.run_theory.specs.Runs.{IsWithin, Run, log_of}
 use Rattle.sig_core.specs.declared.outs.Outgoing.{Outgoing}
-use Rattle.sig_core.specs.declared.reply.ApiReply.{ApiReply}
 use Rattle.sig_core.specs.declared.request.ApiReq.{ApiReq}
 use Rattle.sig_core.specs.declared.request.ApiReq.TheVariants as req
 use Rattle.sig_core.specs.declared.signal.Body.{Body}
@@ -46,29 +45,28 @@ use Rattle.calm_laws.specs.Calm.{is_calm}
 use Rattle.calm_laws.specs.Plain.{is_beating}
 use Rattle.calm_laws.specs.Resting.{IsRestingPart}
 use Rattle.calm_laws.proofs.Arrivals.{arriving}
-use Rattle.calm_laws.proofs.Events.{host_there, none_before, within_before}
+use Rattle.calm_laws.proofs.Events.{host_there, none_before}
 use Rattle.calm_laws.proofs.NextCalm.{IsAskedBehind, asked_behind, past_short}
 use Rattle.calm_laws.proofs.QuietLinks.{given_running}
 use Rattle.level_laws.specs.Laws.{HostsAreLevel}
 use Rattle.peace_laws.specs.Closing.{Course, IsAskedFor, IsEnded, ShellWaits, main, next_of}
 use Rattle.peace_laws.specs.Laws.{GoOnBy, IsTold, is_spent}
-use Rattle.peace_laws.specs.Moments.{IsStill, Moment, newest}
+use Rattle.peace_laws.specs.Moments.{IsStill, Moment}
 use Rattle.peace_laws.specs.Peace.{ArePeaceful, asks_closing, is_closing, is_closing_request, is_peaceful}
 use Rattle.peace_laws.specs.Rest.{AreAtRestIn}
 use Rattle.peace_laws.proofs.AskedMoment as first
 use Rattle.peace_laws.proofs.AskingSteps.{closing_of}
 use Rattle.peace_laws.proofs.ClosingEnds.{closings_end}
 use Rattle.peace_laws.proofs.ClosingMoments.{Links, moment}
-use Rattle.peace_laws.proofs.ClosingRuns.{AreOn, IsOn, each_host, fits, is_on_next, on_next}
+use Rattle.peace_laws.proofs.ClosingRuns.{AreOn, IsOn, each_host, fits, is_on_next}
 use Rattle.peace_laws.proofs.Letters.{IsFit}
 use Rattle.peace_laws.proofs.NextSignals.{AllTaken}
 use Rattle.peace_laws.proofs.RestAgain.{all_rest, logs_later}
-use Rattle.peace_laws.proofs.RunKept.{IsKept}
 use Rattle.peace_laws.proofs.Served.{ClosesOn, ClosingGoesOn}
 use Rattle.peace_laws.proofs.ShellOwns.{ShellOwns}
 use Rattle.peace_laws.proofs.SpentEpochs.{none_takes}
 use Rattle.peace_laws.proofs.Stands.{AreBelow, IsBelow, Rests, Stands, taken_by_all}
-use Rattle.peace_laws.proofs.UnderLinks.{OnLink, said}
+use Rattle.peace_laws.proofs.UnderLinks.{said}
 
 -- the next epoch is no earlier one
 pub later_epoch : (kind : Closing) (epoch next : ℕ) → next_of kind epoch ≡ Some next → epoch ≤ next
@@ -313,11 +311,12 @@ module _ (hosts_level : HostsAreLevel) (start : Start) (shape : IsShape start.sh
               rests.stands.kept at_rest running is_request_of.shell asked (own es e upto run asked) body_is)
               running;
           peaceful =
-              each_host start es e (λ k log. Each (λ d. is_peaceful k d.step.taken ≡ true) log)
-              (last_of (is_calm e.host x) (is_closing e.host x) (asks_closing e.host x)
-              (first.asks_host hosts_level start shape request closes epoch es e run (within (e ∷ es) upto)
-              rests.stands.kept at_rest running is_request_of.shell asked (own es e upto run asked) body_is),
-              subst ArePeaceful (sym rests.stands.is) rests.stands.peaceful e.host)
+              each_host start es e (λ k log. Each (λ d. is_peaceful k d.step.taken ≡ true) log) (
+                last_of (is_calm e.host x) (is_closing e.host x) (asks_closing e.host x)
+                    (first.asks_host hosts_level start shape request closes epoch es e run (within (e ∷ es) upto)
+                    rests.stands.kept at_rest running is_request_of.shell asked (own es e upto run asked) body_is),
+                subst ArePeaceful (sym rests.stands.is) rests.stands.peaceful e.host,
+              )
               (subst ArePeaceful (sym rests.stands.is) rests.stands.peaceful);
           beating = λ h low beats.
               subst (IsRestingPart start h 1) (sym (stay h (apart h beats)))
@@ -327,13 +326,14 @@ module _ (hosts_level : HostsAreLevel) (start : Start) (shape : IsShape start.sh
           owns =
               waits_owns start kind (after start 0 (log_of (machine start) (e ∷ es) 0)).parts (asked_for epoch).client;
           below =
-              each_host start es e (λ k log. AreBelow epoch log)
-              (subst (Each (IsBelow epoch))
-              (sym (first.no_marks hosts_level start shape request closes epoch es e run (within (e ∷ es) upto)
-              rests.stands.kept at_rest running is_request_of.shell asked (own es e upto run asked) body_is))
-              tt,
-              subst (λ (logs : ℕ → List HostStep). AreBelow epoch (logs e.host)) (sym rests.stands.is)
-              (rests.below e.host))
+              each_host start es e (λ k log. AreBelow epoch log) (
+                subst (Each (IsBelow epoch))
+                    (sym (first.no_marks hosts_level start shape request closes epoch es e run (within (e ∷ es) upto)
+                    rests.stands.kept at_rest running is_request_of.shell asked (own es e upto run asked) body_is))
+                    tt,
+                subst (λ (logs : ℕ → List HostStep). AreBelow epoch (logs e.host)) (sym rests.stands.is)
+                    (rests.below e.host),
+              )
               (λ h.
               subst (λ (logs : ℕ → List HostStep). AreBelow epoch (logs h)) (sym rests.stands.is) (rests.below h));
           once =

@@ -1,11 +1,9 @@
 -- A step of a run in which a closing is under way goes from one moment of the closing to the next, and the run is kept.
-use Rattle.std.proofs.Common.{◌≡◌, ◌≢◌, ◌⊎◌, ◌<◌, ◌≤◌, inl, inr, ℕ, zero, suc, List, [], ◌∷◌, ◌++◌, Bool, true, false}
+use Rattle.std.proofs.Common.{◌≡◌, ◌≢◌, ◌⊎◌, ◌<◌, ◌≤◌, inl, inr, ℕ, zero, suc, List, [], ◌∷◌, ◌++◌, true, false}
 use Rattle.std.proofs.Common.{refl, ap, sym, ◌∙◌, subst, append-nil, map}
 use Rattle.std.specs.List.{list_any}
-use Rattle.std.specs.Prelude.{◌&&◌}
 use Rattle.std.proofs.lemmas.Bool.{and_from, cases_eq, cases_lt}
 use Rattle.frag_map.specs.Shape.{IsShape}
-use Rattle.node_core.specs.declared.host.Host as plain_host
 use Rattle.node_views.specs.Blocks.{parts_row}
 use Rattle.node_views.specs.Row.{with_parts}
 use Rattle.node_views.specs.WellFormed.{is_well_formed}

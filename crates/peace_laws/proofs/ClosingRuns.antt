@@ -1,5 +1,5 @@
 -- A run in which a closing is under way, step by step: it is kept, and its moments are those of the closing.
-use Rattle.std.proofs.Common.{◌≡◌, ◌≢◌, ◌⊎◌, ◌<◌, ◌≤◌, ◌+◌, inl, inr, ℕ, zero, suc, List, [], ◌∷◌, ◌++◌, Bool, true, false}
+use Rattle.std.proofs.Common.{◌≡◌, ◌≢◌, ◌⊎◌, ◌<◌, ◌+◌, inl, inr, ℕ, zero, suc, List, [], ◌∷◌, ◌++◌, Bool, true, false}
 use Rattle.std.proofs.Common.{refl, ap, sym, ◌∙◌, subst, append-nil, length, map}
 use Rattle.std.specs.List.{list_any}
 use Rattle.std.specs.Prelude.{◌||◌, ◌%◌, Option, None, Some, if◌then◌else◌, option_to_list}
@@ -45,7 +45,7 @@ use Rattle.peace_laws.proofs.NextSignals.{AllTaken}
 use Rattle.peace_laws.proofs.RequestOn.{request_on}
 use Rattle.peace_laws.proofs.RunKept.{IsKept}
 use Rattle.peace_laws.proofs.ShellOwns.{ShellOwns, owns_next, resting_next}
-use Rattle.peace_laws.proofs.Stands.{AreBelow, IsBelow}
+use Rattle.peace_laws.proofs.Stands.{AreBelow}
 use Rattle.peace_laws.proofs.UnderLinks.{said}
 
 -- a claim about each host, where the one of the step has it
@@ -248,11 +248,12 @@ module _ (hosts_level : HostsAreLevel) (start : Start) (shape : IsShape start.sh
         aside = aside;
         owns = owns;
         below =
-            each_host start es e (λ k those. AreBelow epoch those)
-            (all_below epoch e.step.marks
-            (moments.marks_now hosts_level start shape base all es e run within_now on.kept on.running unasked unspent
-            links fit),
-            on.below h)
+            each_host start es e (λ k those. AreBelow epoch those) (
+              all_below epoch e.step.marks
+                  (moments.marks_now hosts_level start shape base all es e run within_now on.kept on.running unasked unspent
+                  links fit),
+              on.below h,
+            )
             on.below;
         once = once;
       }

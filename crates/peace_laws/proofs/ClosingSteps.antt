@@ -73,13 +73,13 @@ use Rattle.peace_laws.proofs.MasterNear.{IsClosingMark, master_steps}
 pub record HostNear (start : Start) (h : ℕ) (given : List ApiReply) (from : ℕ) (t : Step host.Host) (other : plain.Host)
     : Type 0
   where
-  inner : plain.Host
-  near : AreNear start (given ++ plain_replies (replies_at h t)) (told h t) inner
-  same : host_at start.epoch inner ≡ host_at start.epoch other
-  marks : is_beating h ≡ false → t.effects.marks ≡ []
-  pub only : Each IsClosingMark t.effects.marks
-  sends : Each (IsOfClosing h) t.effects.sends
-  masters : is_beating h ≡ false → 1 ≤ from → Each IsForMaster t.effects.sends
+    inner : plain.Host
+    near : AreNear start (given ++ plain_replies (replies_at h t)) (told h t) inner
+    same : host_at start.epoch inner ≡ host_at start.epoch other
+    marks : is_beating h ≡ false → t.effects.marks ≡ []
+    pub only : Each IsClosingMark t.effects.marks
+    sends : Each (IsOfClosing h) t.effects.sends
+    masters : is_beating h ≡ false → 1 ≤ from → Each IsForMaster t.effects.sends
 
 -- a part of a node that stays
 stays : (start : Start) (h : ℕ) (given : List ApiReply) (from : ℕ) (s : host.Host) (other : plain.Host)

@@ -1,5 +1,5 @@
 -- What is under way in a closing its host takes as something of a closing, and it is well formed.
-use Rattle.std.proofs.Common.{◌≡◌, ◌≤◌, ◌<◌, ◌⊎◌, inl, inr, ℕ, zero, suc, ◌+◌, ◌*◌, ◌%◌, Bool, true, false, refl, ap, sym, ◌∙◌}
+use Rattle.std.proofs.Common.{◌≡◌, ◌≤◌, ◌<◌, inl, inr, ℕ, zero, suc, ◌+◌, ◌*◌, ◌%◌, Bool, true, false, refl, ap, sym, ◌∙◌}
 use Rattle.std.proofs.Common.{subst, arith}
 use Rattle.std.specs.Prelude.{◌&&◌, ◌^◌, nat_lt}
 use Rattle.std.proofs.lemmas.Bool.{false≢true}
@@ -15,7 +15,6 @@ use Rattle.gcp_master.specs.Orders.{mask_of, order_body}
 use Rattle.node_views.specs.WellFormed.{is_body_sound, is_mask}
 use Rattle.sig_core.specs.declared.outcome.StopCause.{StopCause}
 use Rattle.sig_core.specs.declared.outs.Outgoing.{Outgoing}
-use Rattle.sig_core.specs.declared.place.BlockId.{BlockId}
 use Rattle.sig_core.specs.declared.place.BlockId.TheVariants as block
 use Rattle.sig_core.specs.declared.signal.Body.{Body}
 use Rattle.sig_core.specs.declared.signal.Body.TheVariants.{Host, Epoch}
@@ -30,7 +29,7 @@ use Rattle.calm_laws.specs.Plain.{is_beating, is_main}
 use Rattle.peace_laws.specs.Closing.{Course, host_in, main}
 use Rattle.peace_laws.specs.Moments.{Moment}
 use Rattle.peace_laws.specs.Peace.{has_closer, is_closer, is_for_closing}
-use Rattle.peace_laws.specs.UnderWay.{AReport, AnAnswer, AnOrder, GoingOn, HasMask, IsAnswer, IsLetter, IsOrder, answer, block_of}
+use Rattle.peace_laws.specs.UnderWay.{HasMask, IsAnswer, IsLetter, IsOrder, answer, block_of}
 use Rattle.peace_laws.specs.UnderWay.{going_on, order_to, report_by, report_of}
 use Rattle.peace_laws.proofs.SeenNear.{IsSend}
 

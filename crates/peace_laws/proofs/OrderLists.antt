@@ -158,7 +158,7 @@ module _ (start : Start) (c : Course) where
       → Each IsSent (to_each (block_of rows) order (first start))
   unfolding to_each
   each_sent rows order fits mask =
-      each_append IsSent (orders_at (block_of rows) order (members start.shape.nodes)) [] 
+      each_append IsSent (orders_at (block_of rows) order (members start.shape.nodes)) []
       (orders_sent rows order fits mask) tt
 
   both_sent : (order : Order) → IsOrder c order → HasMask start order → Each IsSent (to_both order (first start))

@@ -1,13 +1,13 @@
 -- Which parts the hosts have that are near inner ones, and what it says of them that they are at rest.
-use Rattle.std.proofs.Common.{◌≡◌, ◌<◌, ◌≤◌, ℕ, zero, suc, ◌+◌, List, [], ◌∷◌, ◌++◌, Bool, true, false, refl, ap, sym, ◌∙◌, subst, arith}
-use Rattle.std.specs.Prelude.{Option, None, Some, slice_get}
+use Rattle.std.proofs.Common.{◌≡◌, ◌<◌, ◌≤◌, ℕ, zero, suc, ◌+◌, List, [], ◌∷◌, ◌++◌, true, false, refl, ap, sym, ◌∙◌, subst, arith}
+use Rattle.std.specs.Prelude.{Some, slice_get}
 use Rattle.std.proofs.lemmas.Bool.{false≢true}
 use Rattle.frag_map.specs.Layout.{members}
 use Rattle.frag_map.specs.Replicas.{first_start}
 use Rattle.frag_map.specs.Shape.{IsShape}
 use Rattle.gcp_master.specs.Master.{first_phase}
 use Rattle.gcp_master.specs.Resume.{is_first_by, is_president}
-use Rattle.node_core.specs.Blocks.{has_api, has_lqh, has_tc}
+use Rattle.node_core.specs.Blocks.{has_lqh, has_tc}
 use Rattle.node_core.specs.declared.host.Host as plain
 use Rattle.node_core.specs.declared.host.Host.TheVariants as kind
 use Rattle.node_views.specs.declared.parts.Parts.{Parts}
@@ -16,9 +16,9 @@ use Rattle.sig_core.specs.declared.member.Member.{Member}
 use Rattle.sig_core.specs.declared.reply.ApiReply.{ApiReply}
 use Rattle.sig_core.specs.Place.{coordinator, rows_of}
 use Rattle.world_core.proofs.HostNumbers.{node_host, rows_run, tc_runs}
-use Rattle.world_core.specs.Hosts.{member_at, rows_host, tc_host}
+use Rattle.world_core.specs.Hosts.{rows_host, tc_host}
 use Rattle.world_core.specs.Machine as plain_world
-use Rattle.world_core.specs.Start.{Start, made}
+use Rattle.world_core.specs.Start.{Start}
 use Rattle.world_core.specs.Steps.{HostStep}
 use Rattle.world_views.specs.Machine.{after}
 use Rattle.world_views.specs.Right.{replies_in}
@@ -28,7 +28,6 @@ use Rattle.level_laws.specs.Levels.{host_at}
 use Rattle.peace_laws.specs.Alike.{ArePartsNear}
 use Rattle.peace_laws.specs.Closing.{EpochsRest, HasRows, MainRests, host_in, main}
 use Rattle.peace_laws.specs.Parts.{plain_part, plain_replies}
-use Rattle.peace_laws.specs.Rest as rest
 use Rattle.peace_laws.specs.Rest.{RestsIn}
 use Rattle.peace_laws.proofs.CalmNear.{inner_main}
 use Rattle.peace_laws.proofs.Mirrored.{IsMirrored}

@@ -5,7 +5,7 @@ use Rattle.peace_laws.proofs.ClosingGoes.{closing_goes_on}
 use Rattle.peace_laws.proofs.Served as served
 
 pub lives_plain : PeacefulLivesArePlain
-lives_plain = served.lives_plain all_level closing_goes_on
+lives_plain = served.lives_plain all_level (closing_goes_on all_level)
 
 pub closings_answered : ClosingsAreAnswered
-closings_answered = served.closings_answered all_level closing_goes_on
+closings_answered = served.closings_answered all_level (closing_goes_on all_level)

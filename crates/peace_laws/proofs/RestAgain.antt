@@ -1,9 +1,8 @@
 -- Where a closing has ended all hosts rest in the next epoch.
-use Rattle.std.proofs.Common.{◌≡◌, ◌≢◌, ◌⊎◌, ◌<◌, ◌≤◌, ◌+◌, ◌*◌, ◌/◌, ◌%◌, inl, inr, ℕ, zero, suc, List, [], ◌∷◌, Bool, true, false}
+use Rattle.std.proofs.Common.{◌≡◌, ◌≢◌, ◌⊎◌, ◌<◌, ◌≤◌, ◌+◌, ◌/◌, ◌%◌, inl, inr, ℕ, zero, suc, List, [], ◌∷◌, true, false}
 use Rattle.std.proofs.Common.{refl, ap, sym, ◌∙◌, subst, ne_eqb, arith}
-use Rattle.std.specs.Prelude.{◌==◌, ◌&&◌, None, Some, nat_eq}
+use Rattle.std.specs.Prelude.{◌&&◌, None}
 use Rattle.std.proofs.lemmas.Bool.{cases_eq, false≢true}
-use Rattle.frag_map.specs.Layout.{members}
 use Rattle.frag_map.specs.Replicas.{first_start}
 use Rattle.frag_map.specs.Shape.{IsShape}
 use Rattle.gcp_master.specs.Master.{first_phase}
@@ -13,19 +12,18 @@ use Rattle.node_core.specs.declared.host.Host.TheVariants as kind
 use Rattle.node_views.specs.declared.parts.Parts.{Parts}
 use Rattle.node_views.specs.declared.parts.Parts.TheVariants.{Shell, Main, Tc, Ldm}
 use Rattle.run_theory.specs.Lists.{Each}
-use Rattle.run_theory.specs.Runs.{log_of}
 use Rattle.sig_core.specs.declared.mark.Mark.{Mark}
 use Rattle.sig_core.specs.declared.mark.Mark.TheVariants.{Decided}
 use Rattle.sig_core.specs.declared.member.Member.{Member}
 use Rattle.sig_core.specs.declared.reply.ApiReply.{ApiReply}
-use Rattle.world_core.specs.Hosts.{hosts, member_at, part_by}
+use Rattle.world_core.specs.Hosts.{hosts, member_at}
 use Rattle.world_core.specs.Start.{Start, made}
 use Rattle.world_core.specs.Steps.{HostStep}
-use Rattle.world_views.specs.Machine.{after, machine}
+use Rattle.world_views.specs.Machine.{after}
 use Rattle.world_views.specs.Right.{replies_in}
 use Rattle.calm_laws.specs.Alike.{first}
-use Rattle.calm_laws.specs.Plain.{is_beating, is_main}
-use Rattle.calm_laws.proofs.MainPlaces.{IsMainAt, main_at, main_beats, main_member, main_place}
+use Rattle.calm_laws.specs.Plain.{is_beating}
+use Rattle.calm_laws.proofs.MainPlaces.{main_at, main_beats, main_member}
 use Rattle.peace_laws.specs.Alike.{ArePartsNear}
 use Rattle.peace_laws.specs.Closing.{EpochsRest, HasRows, MainRests, ShellWaits, host_in, main}
 use Rattle.peace_laws.specs.Parts.{plain_replies}

@@ -1,14 +1,14 @@
 -- What a step of a closing leaves of the client's side and of the memberships as it was.
-use Rattle.std.proofs.Common.{◌≡◌, ℕ, zero, suc, Bool, true, false, [], refl, ap, sym, ◌∙◌, subst}
+use Rattle.std.proofs.Common.{◌≡◌, ℕ, Bool, true, false, refl, sym, subst}
 use Rattle.std.proofs.lemmas.Bool.{false≢true}
-use Rattle.std.specs.Prelude.{Option, None, Some}
+use Rattle.std.specs.Prelude.{None}
 use Rattle.api_views.specs.declared.closings.Closing.{Closing}
 use Rattle.api_views.specs.declared.closings.Closing.TheVariants.{Gcp, Micro}
 use Rattle.api_views.specs.Client.{client_table}
 use Rattle.api_views.specs.Closings.{closed_if, closed_row, is_asked}
 use Rattle.api_views.specs.Members.{noted}
 use Rattle.api_views.specs.State.{ClientState}
-use Rattle.node_views.specs.Blocks.{in_main, in_shell, parts_row}
+use Rattle.node_views.specs.Blocks.{in_main, parts_row}
 use Rattle.node_views.specs.Parts.{main_row, shell_row}
 use Rattle.node_views.specs.declared.main_part.MainPart.{MainPart}
 use Rattle.node_views.specs.declared.parts.Parts.{Parts}
@@ -20,7 +20,6 @@ use Rattle.sig_core.specs.declared.signal.Body.{Body}
 use Rattle.sig_core.specs.declared.signal.Body.TheVariants.{Epoch}
 use Rattle.sig_core.specs.declared.signal.Signal.{Signal}
 use Rattle.sig_core.specs.declared.signal.epoch.EpochSignal.TheVariants as epoch
-use Rattle.sig_core.specs.Step.{Step}
 use Rattle.world_core.specs.Start.{Start}
 use Rattle.calm_laws.specs.Resting.{IsRestingPart}
 use Rattle.peace_laws.specs.Moments.{behind}

@@ -1,7 +1,7 @@
 -- Where the numbers of epochs are used up, the master that is asked for a closing stops its host.
-use Rattle.std.proofs.Common.{◌≡◌, ◌≢◌, ◌∙◌, ℕ, zero, suc, List, [], ◌∷◌, Bool, true, false, refl, ap, sym, subst}
+use Rattle.std.proofs.Common.{◌≡◌, ◌∙◌, ℕ, List, ◌∷◌, true, false, ap, sym, subst}
 use Rattle.std.specs.List.{list_any}
-use Rattle.std.specs.Prelude.{◌||◌, is_some, Option, None, Some}
+use Rattle.std.specs.Prelude.{is_some, Option, None}
 use Rattle.std.proofs.lemmas.Bool.{true≢false}
 use Rattle.api_views.specs.declared.closings.Closing.{Closing}
 use Rattle.api_views.specs.declared.closings.Closing.TheVariants.{Gcp, Micro}
@@ -19,7 +19,6 @@ use Rattle.node_views.specs.declared.host.Host as host
 use Rattle.node_views.specs.declared.main_part.MainPart.{MainPart}
 use Rattle.node_views.specs.declared.parts.Parts.{Parts}
 use Rattle.node_views.specs.declared.parts.Parts.TheVariants.{Shell, Main, Tc, Ldm}
-use Rattle.run_theory.specs.Lists.{IsIn}
 use Rattle.run_theory.specs.Runs.{IsWithin, Run, log_of}
 use Rattle.sig_core.specs.declared.member.Member.{Member}
 use Rattle.sig_core.specs.declared.outs.Outgoing.{Outgoing}
