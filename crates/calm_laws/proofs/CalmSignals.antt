@@ -26,7 +26,11 @@ use Rattle.calm_laws.specs.Calm.{is_for_rows, is_in}
 use Rattle.calm_laws.specs.Known.{txs_in}
 use Rattle.calm_laws.specs.Plain.{is_beating, is_main}
 use Rattle.calm_laws.specs.Steps.{is_of_views}
-use Rattle.calm_laws.proofs.SentSeen.{is_client}
+
+-- a block of the client's side
+abbrev pub is_client : BlockId → Bool
+is_client block.Api = true
+is_client of = false
 
 both : (a b : Bool) → (a && b) ≡ true → (a ≡ true) × (b ≡ true)
 both true b e = (refl, e)

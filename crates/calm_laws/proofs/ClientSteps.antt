@@ -47,7 +47,7 @@ use Rattle.calm_laws.proofs.ShellSends.{marks_plain, sends_plain}
 use Rattle.calm_laws.proofs.Rounds.{memberships_told, none_besides, rows_told}
 
 -- a cluster of some nodes of which none has stopped isn't down
-some_runs : (nodes : ℕ) → 1 ≤ nodes → list_any (still_runs []) (members nodes) ≡ true
+pub some_runs : (nodes : ℕ) → 1 ≤ nodes → list_any (still_runs []) (members nodes) ≡ true
 unfolding has_stopped
 some_runs zero some = absurd (omega (arith, some))
 some_runs (suc n) some =

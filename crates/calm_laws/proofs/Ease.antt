@@ -63,7 +63,7 @@ settling_off to (Membership (PrepFailConf number)) is = for_none _ (refl, refl, 
 settling_off to (Membership (ArbitConf number)) is = for_none _ (refl, refl, refl, refl, refl) to
 settling_off to body is = absurd (false≢true is)
 
-off_by : (a b : Bool) → (a ≡ true → b ≡ false) → b ≡ true → a ≡ false
+pub off_by : (a b : Bool) → (a ≡ true → b ≡ false) → b ≡ true → a ≡ false
 off_by true b off is = absurd (false≢true (sym (off refl) ∙ is))
 off_by false b off is = refl
 
@@ -83,11 +83,11 @@ none_settling h x is =
     off_by (may_settle x.body) (is_for x.to.block x.body) (settling_off x.to.block x.body) (takes_calmly h x is)
 
 -- so it stops no host by itself
-closes_none : (body : Body) → is_own body ≡ false → closes body ≡ None
+pub closes_none : (body : Body) → is_own body ≡ false → closes body ≡ None
 closes_none (Host (Closed cause)) is = absurd (true≢false is)
 closes_none body is = refl
 
-if_none : (b : Bool) (o : Option StopCause) → o ≡ None → (if b then o else None) ≡ None
+pub if_none : (b : Bool) (o : Option StopCause) → o ≡ None → (if b then o else None) ≡ None
 if_none true o is = is
 if_none false o is = refl
 
@@ -96,13 +96,13 @@ stops_none h x is = if_none (x.from.0 == h) (closes x.body) (closes_none x.body 
 
 -- no block has a fence above the first view
 module _ (number : ℕ) (is : number ≡ first_number) where
-  tc_fence : (p : TcPart) → p.coordinator.fence ≡ first_number → p.dih.fence ≡ first_number → (to : BlockId)
+  pub tc_fence : (p : TcPart) → p.coordinator.fence ≡ first_number → p.dih.fence ≡ first_number → (to : BlockId)
       → fence_at (Tc p) to number ≡ first_number
   tc_fence p coordinator dih block.Tc = coordinator
   tc_fence p coordinator dih block.Dih = dih
   tc_fence p coordinator dih to = is
 
-  ldm_fence : (p : LdmPart) → p.fence ≡ first_number → (to : BlockId) → fence_at (Ldm p) to number ≡ first_number
+  pub ldm_fence : (p : LdmPart) → p.fence ≡ first_number → (to : BlockId) → fence_at (Ldm p) to number ≡ first_number
   ldm_fence p rows block.Lqh = rows
   ldm_fence p rows to = is
 
@@ -117,7 +117,7 @@ module _ (number : ℕ) (is : number ≡ first_number) where
       })
 
 -- what comes in calm is of no lesser view than that, and of no greater one
-not_barred : (x : Signal) (own : ℕ) → x.view.number ≡ first_number → own ≡ first_number
+pub not_barred : (x : Signal) (own : ℕ) → x.view.number ≡ first_number → own ≡ first_number
     → (is_fenced x && nat_lt x.view.number own) ≡ false
 not_barred x own view is =
     and_right (is_fenced x) (nat_lt x.view.number own)
@@ -142,7 +142,7 @@ ease_row start h given s other x alike calm =
     comes = ap (λ (view : View). view.number) calm.view
 
 -- and its blocks settle on no view
-settles_none : (parts : Parts) (x : Signal) → may_settle x.body ≡ false → settled_at parts x ≡ None
+pub settles_none : (parts : Parts) (x : Signal) → may_settle x.body ≡ false → settled_at parts x ≡ None
 settles_none (Main p) x is = by x.to.block
   where
     by : (to : BlockId) → main_settled p to x ≡ None
@@ -157,7 +157,7 @@ blocks_alone h s x calm =
     ap (settle (with_parts s (parts_row s.parts x))) (settles_none s.parts x (none_settling h x calm))
 
 -- where they don't stop the host it sends all that they send
-goes_on : (step : Step host.Host) → list_any is_stop step.effects.marks ≡ false → hushed step ≡ step
+pub goes_on : (step : Step host.Host) → list_any is_stop step.effects.marks ≡ false → hushed step ≡ step
 goes_on step is =
     ap (λ b. record {
       state = step.state;

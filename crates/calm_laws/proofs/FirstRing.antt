@@ -44,16 +44,7 @@ front_low many at low = by (at == 0) refl
     by true is = omega arith
     by false is = omega arith
 
--- in front of the one behind
-pub front_of_behind : (many at : ℕ) → at < many → place_in_front many (place_behind many at) ≡ at
-front_of_behind many at low = by (at + 1 == many) refl
-  where
-    by : (b : Bool) → (at + 1 == many) ≡ b → place_in_front many (if b then 0 else at + 1) ≡ at
-    by true is = omega (arith, eqb-true (at + 1) many is)
-    by false is =
-        ap (λ b. if b then many - 1 else at + 1 - 1) (ne_eqb (at + 1) 0 (λ same. omega arith)) ∙ omega arith
-
--- behind the one in front
+-- the one behind the one in front
 pub behind_of_front : (many at : ℕ) → at < many → place_behind many (place_in_front many at) ≡ at
 behind_of_front many at low = by (at == 0) refl
   where
@@ -126,28 +117,6 @@ module _ (start : Start) (shape : IsShape start.shape) where
         (position (same_member me) (members_of (first_view start.shape.nodes)))) (main_member node some low)
         ∙ ap (λ ms. sides_at ms (position (same_member (first_start node)) ms)) everyone
         ∙ ap (sides_at (members start.shape.nodes)) (place_of start.shape.nodes node some low)
-
-    pub behind_there : (1 ≤ behind start node) × (behind start node ≤ start.shape.nodes)
-    behind_there =
-        let there = behind_low start.shape.nodes (node - 1) (omega (arith, some, low)) in
-        (omega arith, omega (arith, there))
-
-    pub front_there : (1 ≤ in_front start node) × (in_front start node ≤ start.shape.nodes)
-    front_there =
-        let there = front_low start.shape.nodes (node - 1) (omega (arith, some, low)) in
-        (omega arith, omega (arith, there))
-
-    pub in_front_of_behind : in_front start (behind start node) ≡ node
-    in_front_of_behind =
-        let there = front_of_behind start.shape.nodes (node - 1) (omega (arith, some, low)) in
-        let place : behind start node - 1 ≡ place_behind start.shape.nodes (node - 1) = omega arith in
-        ap (λ at. place_in_front start.shape.nodes at + 1) place ∙ ap (λ at. at + 1) there ∙ omega (arith, some)
-
-    pub behind_in_front : behind start (in_front start node) ≡ node
-    behind_in_front =
-        let there = behind_of_front start.shape.nodes (node - 1) (omega (arith, some, low)) in
-        let place : in_front start node - 1 ≡ place_in_front start.shape.nodes (node - 1) = omega arith in
-        ap (λ at. place_behind start.shape.nodes at + 1) place ∙ ap (λ at. at + 1) there ∙ omega (arith, some)
 
     -- who is beside it, where there are others
     abbrev sides_by : (many : Bool) → Sides

@@ -18,7 +18,7 @@ use Rattle.run_theory.proofs.Runs as theory
 use Rattle.run_theory.proofs.Tally.{tally_append}
 use Rattle.run_theory.specs.Counts.{one_if, tally}
 use Rattle.run_theory.specs.Links.{sent, taken}
-use Rattle.run_theory.specs.Lists.{Each}
+use Rattle.run_theory.specs.Lists.{Each, IsPast}
 use Rattle.sig_core.specs.declared.member.Member.{Member}
 use Rattle.sig_core.specs.declared.outs.Outgoing.{Outgoing}
 use Rattle.sig_core.specs.declared.place.BlockId.{BlockId}
@@ -84,6 +84,13 @@ pub record IsShellSteady (start : Start) (base log : List HostStep) : Type 0 whe
   pub told : (k : ℕ) → k < start.shape.nodes
       → length (sent (machine start) 0 (main_at k) log) ≡ rounds + length (sent (machine start) 0 (main_at k) base)
   pub asked : rounds + length (requests base) ≤ length (requests log)
+
+-- What host h has done since a quiet moment.
+pub record IsGood (start : Start) (logs : ℕ → List HostStep) (h : ℕ) (log : List HostStep) : Type 0 where
+  pub past : IsPast (logs h) log
+  pub since : (j : ℕ) → IsSince start h j (logs h) log
+  pub main : (k : ℕ) → k < start.shape.nodes → h ≡ main_at k → IsMainGood start (logs h) k log
+  pub shell : h ≡ 0 → IsShellSteady start (logs h) log
 
 -- who rests with so many missed at most rests with more at most
 pub rests_more : (start : Start) (h few many : ℕ) (parts : Parts) → few ≤ many → IsRestingPart start h few parts

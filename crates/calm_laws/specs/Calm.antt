@@ -1,7 +1,6 @@
--- Calm logs: what was taken is what a cluster sends in which nothing fails and no epoch is closed, with its rounds and
+-- What hosts take in calm: what a cluster sends in which nothing fails and no epoch is closed, with its rounds and
 -- heartbeats.
-use Rattle.std.specs.Prelude.{◌≡◌, ℕ, zero, suc, ◌%◌, ◌&&◌, Bool, true, false, List}
-use Rattle.run_theory.specs.Lists.{Each}
+use Rattle.std.specs.Prelude.{ℕ, zero, suc, ◌%◌, ◌&&◌, Bool, true, false}
 use Rattle.sig_core.specs.declared.place.BlockId.{BlockId}
 use Rattle.sig_core.specs.declared.place.BlockId.TheVariants.{Api, Qmgr, Tc, Dih, Lqh}
 use Rattle.sig_core.specs.declared.place.Part.{Part}
@@ -19,7 +18,6 @@ use Rattle.sig_core.specs.declared.signal.host.HostSignal.TheVariants.{Continue,
 use Rattle.sig_core.specs.declared.signal.host.Work.TheVariants as work
 use Rattle.sig_core.specs.declared.signal.membership.MembershipSignal.TheVariants.{Heartbeat}
 use Rattle.world_core.specs.Hosts.{part_by}
-use Rattle.world_core.specs.Steps.{HostStep}
 
 -- a command that stops nobody, cuts nobody off and closes no epoch
 abbrev pub is_calm_request : ApiReq → Bool
@@ -115,7 +113,3 @@ has_block (suc h) block = is_in (part_by (h % 3)) block
 -- host h takes such a signal in calm
 abbrev pub is_calm : ℕ → Signal → Bool
 is_calm h x = has_block h x.to.block && is_for x.to.block x.body
-
--- each that was taken is one
-abbrev pub AreCalm : (ℕ → List HostStep) → Type 0
-AreCalm logs = (h : ℕ) → Each (λ e. is_calm h e.step.taken ≡ true) (logs h)

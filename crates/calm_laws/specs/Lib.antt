@@ -1,7 +1,6 @@
 pub mod Alike
 pub mod Calm
 pub mod Known
-pub mod Laws
 pub mod Plain
 pub mod Resting
 pub mod Steps

@@ -1,6 +1,6 @@
--- Calm goes on from one moment at which nothing is under way to the next, where the shell asks for nothing that fails
--- or closes anything: no member misses the heartbeats of another for four rounds.
-use Rattle.std.specs.Prelude.{◌≡◌, ◌≤◌, ◌<◌, ℕ, true, List, [], ◌∷◌, ◌++◌}
+-- Memberships at rest: no member has missed more than one round of the one before it. And what hosts of the plain
+-- machine send to one another.
+use Rattle.std.specs.Prelude.{◌≡◌, ◌≤◌, ◌<◌, ℕ, true, List, []}
 use Rattle.frag_map.specs.Layout.{first_layout}
 use Rattle.node_core.specs.Requests.{is_request}
 use Rattle.node_views.specs.declared.main_part.MainPart.{MainPart}
@@ -8,19 +8,14 @@ use Rattle.node_views.specs.declared.parts.Parts.{Parts}
 use Rattle.node_views.specs.declared.parts.Parts.TheVariants.{Main}
 use Rattle.qmgr_block.specs.State.{QmgrState, fresh_known}
 use Rattle.run_laws.specs.Transit.{Comes, logs_of}
-use Rattle.run_theory.specs.Lists.{Each, IsPast}
-use Rattle.run_theory.specs.Runs.{AreLogs, IsWithin}
-use Rattle.sig_core.specs.declared.request.ApiReq.{ApiReq}
+use Rattle.run_theory.specs.Lists.{Each}
 use Rattle.world_core.specs.Hosts.{hosts, member_at}
 use Rattle.world_core.specs.Machine.{signals_of}
 use Rattle.world_core.specs.Start.{Start, made}
 use Rattle.world_core.specs.Steps.{Addressed, HostStep}
-use Rattle.world_views.specs.Machine.{after, machine}
-use Rattle.world_views.specs.Quiet.{IsQuiet}
-use Rattle.world_views.specs.Requests.{requests}
+use Rattle.world_views.specs.Machine.{after}
 use Rattle.world_views.specs.Sending.{is_asked}
-use Rattle.calm_laws.specs.Calm.{AreCalm, is_calm, is_calm_request}
-use Rattle.calm_laws.specs.Laws.{IsCalmLife}
+use Rattle.calm_laws.specs.Calm.{is_calm}
 use Rattle.calm_laws.specs.Plain.{is_beating}
 
 -- all that the membership of host h knows, where it has missed so many rounds of the member before it
@@ -51,31 +46,9 @@ abbrev pub NoneGivesUp : (ℕ → List HostStep) → Type 0
 NoneGivesUp logs =
     (h : ℕ) → Each (λ e. is_asked h e.step.taken ≡ true → is_request e.step.taken.body ≡ true) (logs h)
 
--- The logs went on by one request, which stops nobody, cuts nobody off and closes no epoch.
-pub record GoOnBy (start : Start) (request : ApiReq) (logs more : ℕ → List HostStep) : Type 0 where
-  pub past : (h : ℕ) → IsPast (logs h) (more h)
-  pub right : AreLogs (machine start) more
-  pub within : IsWithin (hosts start) more
-  pub asked : requests (more 0) ≡ requests (logs 0) ++ request ∷ []
-  pub request_calm : is_calm_request request ≡ true
-  pub none : NoneGivesUp more
-
--- a life begins at rest; from rest, where nothing is under way, calm goes on; and where nothing is under way again
--- there is rest
+-- a life begins at rest
 abbrev pub LivesBeginAtRest : Type 0
 LivesBeginAtRest = (start : Start) → AreResting start (λ h. [])
-
-abbrev pub CalmGoesOn : Type 0
-CalmGoesOn =
-    (start : Start) (request : ApiReq) (logs more : ℕ → List HostStep) → IsCalmLife start logs → IsQuiet start logs
-    → AreResting start logs → GoOnBy start request logs more
-    → AreCalm more
-
-abbrev pub RestReturns : Type 0
-RestReturns =
-    (start : Start) (request : ApiReq) (logs more : ℕ → List HostStep) → IsCalmLife start logs → IsQuiet start logs
-    → AreResting start logs → GoOnBy start request logs more → IsQuiet start more
-    → AreResting start more
 
 -- what a host of the plain machine sends in a step, whoever is to take it takes in calm
 abbrev pub PlainSendsAreCalm : Type 0

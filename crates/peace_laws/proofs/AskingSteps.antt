@@ -46,20 +46,13 @@ use Rattle.sig_core.specs.Step.{Step, sends_only, stay}
 use Rattle.world_core.specs.Start.{Start}
 use Rattle.world_views.specs.Machine.{replies_at, step_by, stops_by, told}
 use Rattle.calm_laws.specs.Alike.{IsAtEase, first}
+use Rattle.calm_laws.proofs.ClientSteps.{some_runs}
 use Rattle.peace_laws.specs.Alike.{AreNear, ArePartsNear, RestsOfClosings}
 use Rattle.peace_laws.specs.Parts.{plain_replies}
 use Rattle.peace_laws.specs.Peace.{asks_by, is_closing_request}
 use Rattle.peace_laws.specs.Steps.{ClosingsAreAskedNear, IsForMaster, IsOfClosing}
 use Rattle.peace_laws.proofs.CloserEase.{near_parts_by, requests_for_blocks}
 use Rattle.peace_laws.proofs.ClosingSteps.{row_at, row_is, seen}
-
--- a cluster of some nodes of which none has stopped isn't down
-some_runs : (nodes : ℕ) → 1 ≤ nodes → list_any (still_runs []) (members nodes) ≡ true
-unfolding has_stopped
-some_runs zero some = absurd (omega (arith, some))
-some_runs (suc n) some =
-    list_any-append (still_runs []) (members n) (record { node = n + 1; start = 0 } ∷ [])
-    ∙ or_right (list_any (still_runs []) (members n)) _ refl
 
 -- the president of the first view is of a node, if it has one
 abbrev IsNodeOf : Option ℕ → Type 0

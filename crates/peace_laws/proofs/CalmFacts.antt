@@ -14,7 +14,7 @@ use Rattle.calm_laws.specs.Alike.{IsAtEase}
 use Rattle.calm_laws.specs.Calm.{is_calm}
 use Rattle.calm_laws.specs.Plain.{is_beating}
 use Rattle.calm_laws.specs.Steps.{ComesCalmly}
-use Rattle.calm_laws.proofs.Events.{unless_left, within_next}
+use Rattle.calm_laws.proofs.Events.{within_next}
 use Rattle.level_laws.specs.Laws.{HostsAreLevel}
 use Rattle.peace_laws.specs.Alike.{RestsOfClosings}
 use Rattle.peace_laws.specs.Parts.{levelled}
@@ -24,7 +24,7 @@ use Rattle.peace_laws.proofs.ClosingSignals.{IsPlainKind, calm_apart, calm_kind,
 use Rattle.peace_laws.proofs.Mirrored.{IsMirrored}
 use Rattle.peace_laws.proofs.NextGood.{IsNextInCalm}
 use Rattle.peace_laws.proofs.PeaceNext.{IsCalmNext, calm_next}
-use Rattle.peace_laws.proofs.PlainEvents.{left_none, plain_events, plain_within}
+use Rattle.peace_laws.proofs.PlainEvents.{left_none, plain_events, plain_within, unless_left}
 use Rattle.peace_laws.proofs.RunKept.{IsKept, arrival, fine, known}
 
 module _ (hosts_level : HostsAreLevel) (start : Start) (shape : IsShape start.shape) (es : List HostStep) (e : HostStep)

@@ -34,8 +34,7 @@ use Rattle.calm_laws.specs.Resting.{AreResting, IsRestingPart}
 use Rattle.calm_laws.proofs.Events.{host_there, within_before}
 use Rattle.calm_laws.proofs.FirstRing.{behind_of_front, front_low}
 use Rattle.calm_laws.proofs.MainPlaces.{IsMainAt, main_at, main_beats, main_low, main_place}
-use Rattle.calm_laws.proofs.NextCalm.{IsGood}
-use Rattle.calm_laws.proofs.Steady.{IsShellSteady, IsSteady, behind, rests_more}
+use Rattle.calm_laws.proofs.Steady.{IsGood, IsShellSteady, IsSteady, behind, rests_more}
 use Rattle.qmgr_block.specs.Ring.{place_in_front}
 use Rattle.level_laws.specs.Laws.{HostsAreLevel}
 use Rattle.peace_laws.specs.Laws.{GoOnBy}

@@ -28,10 +28,10 @@ use Rattle.calm_laws.specs.Alike.{AreAlike, ArePartsAlike}
 use Rattle.calm_laws.specs.Plain.{is_beating}
 use Rattle.calm_laws.specs.Steps.{ComesCalmly, IsForViews, IsPlainSend, StepAlike, StepAside, besides}
 use Rattle.calm_laws.specs.Steps as calm
+use Rattle.calm_laws.proofs.Asked.{IsAskedAlike}
 use Rattle.calm_laws.proofs.PartSteps.{main_parts_step, parts_step}
 use Rattle.calm_laws.proofs.Rounds.{each_besides}
 use Rattle.calm_laws.proofs.ShellSteps.{shells_step}
-use Rattle.calm_laws.proofs.TakenAlike.{IsAskedAlike}
 use Rattle.level_laws.specs.Laws.{HostsAreLevel}
 use Rattle.level_laws.specs.Levels.{host_at}
 use Rattle.peace_laws.specs.Alike.{AreNear, RestsOfClosings}

@@ -33,6 +33,7 @@ use Rattle.tc_views.specs.State.{CoordinatorState}
 use Rattle.world_core.specs.Start.{Start}
 use Rattle.world_views.specs.Machine.{closes, step_by, step_if, stops_by}
 use Rattle.calm_laws.specs.Alike.{first}
+use Rattle.calm_laws.proofs.Ease.{closes_none, goes_on, if_none, ldm_fence, not_barred, off_by, settles_none, tc_fence}
 use Rattle.peace_laws.specs.Alike.{AreNear, ArePartsNear}
 use Rattle.peace_laws.specs.Peace.{asks_by, asks_closing, has_closer, is_closing, is_for_closing}
 
@@ -73,10 +74,6 @@ settling_unasked block.Api (Membership (ArbitConf number)) is = refl
 settling_unasked to (Membership (ArbitConf number)) is = refl
 settling_unasked to body is = absurd (false≢true is)
 
-off_by : (a b : Bool) → (a ≡ true → b ≡ false) → b ≡ true → a ≡ false
-off_by true b off is = absurd (false≢true (sym (off refl) ∙ is))
-off_by false b off is = refl
-
 -- what a host takes of a closing is for a block that it has, which takes it
 pub has_its_block : (h : ℕ) (x : Signal) → is_closing h x ≡ true → has_closer h x.to.block ≡ true
 has_its_block h x is = (and_parts (has_closer h x.to.block) (is_for_closing x.to.block x.body) is).0
@@ -96,57 +93,16 @@ requests_for_blocks x is = record {
   settles = off_by (may_settle x.body) _ (settling_unasked x.to.block x.body) is;
 }
 
--- such a signal stops no host by itself
-closes_none : (body : Body) → is_own body ≡ false → closes body ≡ None
-closes_none (Host (Closed cause)) is = absurd (true≢false is)
-closes_none body is = refl
-
-if_none : (b : Bool) (o : Option StopCause) → o ≡ None → (if b then o else None) ≡ None
-if_none true o is = is
-if_none false o is = refl
-
 -- no block has a fence above the first view
 module _ (number : ℕ) (is : number ≡ first_number) where
-  tc_fence : (p : TcPart) → p.coordinator.fence ≡ first_number → p.dih.fence ≡ first_number → (to : BlockId)
-      → fence_at (Tc p) to number ≡ first_number
-  tc_fence p coordinator dih block.Tc = coordinator
-  tc_fence p coordinator dih block.Dih = dih
-  tc_fence p coordinator dih to = is
-
-  ldm_fence : (p : LdmPart) → p.fence ≡ first_number → (to : BlockId) → fence_at (Ldm p) to number ≡ first_number
-  ldm_fence p rows block.Lqh = rows
-  ldm_fence p rows to = is
-
   fence_first : (start : Start) (given : List ApiReply) (to : BlockId) (parts : Parts) (other : plain.Host)
       → ArePartsNear start given parts other → fence_at parts to number ≡ first_number
   fence_first start given to (Shell p) (plain_host.Shell a) near = is
   fence_first start given to (Main p) (plain_host.Main m) near = is
   fence_first start given to (Tc p) (plain_host.Tc q) near =
-      tc_fence p (ap (λ (c : CoordinatorState). c.fence) near.0) near.1.fence to
-  fence_first start given to (Ldm p) (plain_host.Ldm s) near = ldm_fence p near.1.1 to
+      tc_fence number is p (ap (λ (c : CoordinatorState). c.fence) near.0) near.1.fence to
+  fence_first start given to (Ldm p) (plain_host.Ldm s) near = ldm_fence number is p near.1.1 to
   fence_first start given to parts other near = absurd near
-
--- what comes is of no lesser view than that, and of no greater one
-not_barred : (x : Signal) (own : ℕ) → x.view.number ≡ first_number → own ≡ first_number
-    → (is_fenced x && nat_lt x.view.number own) ≡ false
-not_barred x own view is =
-    and_right (is_fenced x) (nat_lt x.view.number own)
-    (ap (λ n. nat_lt n own) view ∙ ap (λ n. nat_lt first_number n) is)
-
-settles_none : (parts : Parts) (x : Signal) → may_settle x.body ≡ false → settled_at parts x ≡ None
-settles_none (Main p) x is = by x.to.block
-  where
-    by : (to : BlockId) → main_settled p to x ≡ None
-    by block.Qmgr = ap (settled_if p.qmgr x) is
-    by to = refl
-settles_none parts x is = refl
-
-goes_on : (step : Step host.Host) → list_any is_stop step.effects.marks ≡ false → hushed step ≡ step
-goes_on step is =
-    ap (λ b. record {
-      state = step.state;
-      effects = record { sends = unless_stopped step.effects.sends b; marks = step.effects.marks };
-    }) is
 
 module _ (start : Start) (h : ℕ) (given : List ApiReply) (s : host.Host) (other : plain.Host) (x : Signal)
     (near : AreNear start given s other) (fine : is_well_formed start.shape x ≡ true) (view : x.view ≡ first start)

@@ -17,8 +17,8 @@ use Rattle.world_views.specs.Sending.{is_own_work}
 use Rattle.calm_laws.specs.Calm.{is_calm, is_for}
 use Rattle.calm_laws.specs.Plain.{is_beating}
 use Rattle.calm_laws.specs.Steps.{is_of_views}
-use Rattle.calm_laws.proofs.CalmSignals.{calm_block, calm_body, no_closing, no_views, own_request, vouched_client}
-use Rattle.calm_laws.proofs.SentSeen.{is_client}
+use Rattle.calm_laws.proofs.CalmSignals.{calm_block, calm_body, is_client, no_closing, no_views, own_request}
+use Rattle.calm_laws.proofs.CalmSignals.{vouched_client}
 use Rattle.peace_laws.specs.Peace.{asks_by, asks_closing, has_closer, is_closing, is_for_closing, is_order}
 
 -- the block of a host that takes something of a closing, and what it takes

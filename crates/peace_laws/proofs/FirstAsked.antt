@@ -34,11 +34,9 @@ use Rattle.world_views.specs.Machine.{IsOwn, IsOwnWork, comes_rightly, has_stopp
 use Rattle.world_views.specs.Requests.{request_of, requests}
 use Rattle.world_views.specs.Sending.{is_asked}
 use Rattle.calm_laws.specs.Plain.{is_beating}
-use Rattle.calm_laws.proofs.Arrivals.{arriving}
+use Rattle.calm_laws.proofs.Arrivals.{arriving, given_running}
+use Rattle.calm_laws.proofs.Asked.{IsAskedAlike, IsAskedBehind, asked_behind, past_short}
 use Rattle.calm_laws.proofs.Events.{none_before}
-use Rattle.calm_laws.proofs.NextCalm.{IsAskedBehind, asked_behind, past_short}
-use Rattle.calm_laws.proofs.QuietLinks.{given_running}
-use Rattle.calm_laws.proofs.TakenAlike.{IsAskedAlike}
 use Rattle.peace_laws.specs.Laws.{GoOnBy}
 use Rattle.peace_laws.specs.Parts.{is_beside, levelled, plain_part, plain_parts}
 use Rattle.peace_laws.specs.Peace.{is_closing}

@@ -18,16 +18,15 @@ use Rattle.world_views.specs.Right.{replies_in}
 use Rattle.world_views.specs.Sending.{is_asked, routed_all}
 use Rattle.calm_laws.specs.Plain.{is_beating}
 use Rattle.calm_laws.specs.Steps.{IsPlainSend}
+use Rattle.calm_laws.proofs.Asked.{IsAskedAlike}
 use Rattle.calm_laws.proofs.PlainPlaces.{none_next}
-use Rattle.calm_laws.proofs.SentAlike.{IsAside}
-use Rattle.calm_laws.proofs.TakenAlike.{IsAskedAlike}
 use Rattle.level_laws.specs.Laws.{HostsAreLevel}
 use Rattle.level_laws.specs.Levels.{effects_at, host_at, send_at, signal_at}
 use Rattle.peace_laws.specs.Alike.{AreNear}
 use Rattle.peace_laws.specs.Parts.{levelled, plain_part, plain_replies}
 use Rattle.peace_laws.proofs.LevelSignals.{request_level, work_level}
 use Rattle.peace_laws.proofs.SeenNear.{IsSeen, IsSentFor, seen_next}
-use Rattle.peace_laws.proofs.SentNear.{addressed_at, count_next, sent_next}
+use Rattle.peace_laws.proofs.SentNear.{IsAside, addressed_at, count_next, sent_next}
 
 -- Host h is near an inner one, which is that of the plain part of its log but for epochs. To hosts that are no main
 -- parts it sent what that did, and took from them what that did; to main parts that sent nothing.

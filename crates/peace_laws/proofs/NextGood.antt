@@ -31,10 +31,9 @@ use Rattle.calm_laws.specs.Steps.{ComesCalmly, IsPlainSend, StepAlike, besides}
 use Rattle.calm_laws.proofs.Arrivals.{arriving}
 use Rattle.calm_laws.proofs.FineSends.{plain_fine}
 use Rattle.calm_laws.proofs.MainPlaces.{main_at, main_beats}
-use Rattle.calm_laws.proofs.NextCalm.{IsGood}
 use Rattle.calm_laws.proofs.PlainSends.{plain_sends_calm}
 use Rattle.calm_laws.proofs.SentStep.{IsFine, IsFineSend, IsSince, since_next}
-use Rattle.calm_laws.proofs.Steady.{IsMainGood, main_next, shell_next, shell_since}
+use Rattle.calm_laws.proofs.Steady.{IsGood, IsMainGood, main_next, shell_next, shell_since}
 use Rattle.level_laws.specs.Laws.{HostsAreLevel}
 use Rattle.level_laws.specs.Levels.{send_at}
 use Rattle.peace_laws.specs.Parts.{levelled, plain_part, plain_replies}

@@ -31,13 +31,12 @@ use Rattle.world_views.specs.Machine.{IsOwn, IsOwnWork, comes_rightly, has_stopp
 use Rattle.world_views.specs.Requests.{request_of, requests}
 use Rattle.world_views.specs.Sending.{is_asked}
 use Rattle.calm_laws.specs.Calm.{has_block, is_calm, is_calm_request, is_for}
-use Rattle.calm_laws.proofs.Arrivals.{arriving}
+use Rattle.calm_laws.proofs.Arrivals.{arriving, given_running}
+use Rattle.calm_laws.proofs.Asked.{IsAskedBehind, asked_behind, past_short}
 use Rattle.calm_laws.proofs.Events.{host_there, none_before, within_before}
 use Rattle.calm_laws.proofs.MainPlaces.{main_at}
-use Rattle.calm_laws.proofs.NextCalm.{IsAskedBehind, IsGood, asked_behind, past_short}
-use Rattle.calm_laws.proofs.QuietLinks.{given_running}
 use Rattle.calm_laws.proofs.SentStep.{IsFine, IsSince}
-use Rattle.calm_laws.proofs.Steady.{IsShellSteady}
+use Rattle.calm_laws.proofs.Steady.{IsGood, IsShellSteady}
 use Rattle.peace_laws.specs.Laws.{GoOnBy}
 
 -- each host has taken all that the others sent to it

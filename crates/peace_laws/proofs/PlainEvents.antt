@@ -9,9 +9,13 @@ use Rattle.world_core.specs.Start.{Start}
 use Rattle.world_core.specs.Steps.{HostStep}
 use Rattle.world_views.specs.Machine.{machine}
 use Rattle.calm_laws.specs.Plain.{is_beating}
-use Rattle.calm_laws.proofs.Events.{unless_left}
 use Rattle.peace_laws.specs.Parts.{is_beside, levelled, plain_part}
 use Rattle.peace_laws.specs.Peace.{is_closing}
+
+-- an event is left out
+abbrev pub unless_left : Bool → HostStep → List HostStep → List HostStep
+unless_left true e es = es
+unless_left false e es = e ∷ es
 
 -- a step that the plain machine doesn't make
 abbrev pub is_left : HostStep → Bool

@@ -34,7 +34,7 @@ use Rattle.calm_laws.specs.Alike.{first}
 use Rattle.calm_laws.specs.Known.{IsOfFirst, txs_in}
 use Rattle.calm_laws.specs.Plain.{is_beating}
 use Rattle.calm_laws.proofs.Beginnings.{begin_alike}
-use Rattle.calm_laws.proofs.Events.{unless_left, within_next}
+use Rattle.calm_laws.proofs.Events.{within_next}
 use Rattle.calm_laws.proofs.KnownTxs.{coming_known}
 use Rattle.calm_laws.proofs.WellFormed.{coming_well_formed}
 use Rattle.level_laws.specs.Laws.{HostsAreLevel}
@@ -48,6 +48,7 @@ use Rattle.peace_laws.proofs.LevelSignals.{fine_level, txs_level}
 use Rattle.peace_laws.proofs.Mirrored.{IsLeftOut, IsMirrored, IsPlainStep, left_mirrored, level_step, plain_mirrored}
 use Rattle.peace_laws.proofs.NearHosts.{begin_level, resting_main}
 use Rattle.peace_laws.proofs.PlainEvents.{events_are, is_left, left_none, no_part, plain_events, plain_within}
+use Rattle.peace_laws.proofs.PlainEvents.{unless_left}
 
 -- The plain events are a run, and after it each host is near an inner one.
 pub record IsKept (start : Start) (es : List HostStep) : Type 0 where

@@ -22,7 +22,7 @@ use Rattle.world_views.specs.Sending.{Routed, all_addressed, is_kept_back, route
 use Rattle.calm_laws.specs.Alike.{first}
 use Rattle.calm_laws.specs.Plain.{is_beating}
 use Rattle.calm_laws.specs.Steps.{IsForViews, IsPlainSend, is_of_parts, is_of_views, round_for}
-use Rattle.calm_laws.proofs.SentSeen.{is_client}
+use Rattle.calm_laws.proofs.CalmSignals.{is_client}
 use Rattle.sig_core.specs.declared.member.Member.{Member}
 use Rattle.peace_laws.specs.Peace.{is_for_closing}
 use Rattle.peace_laws.specs.Steps.{IsForMaster, IsOfClosing, asks_master}

@@ -32,13 +32,17 @@ use Rattle.calm_laws.specs.Plain.{is_beating}
 use Rattle.calm_laws.specs.Steps.{IsPlainSend, besides}
 use Rattle.calm_laws.proofs.Reached.{node_beats}
 use Rattle.calm_laws.proofs.Rounds.{each_besides}
-use Rattle.calm_laws.proofs.SentAlike.{IsAside, here, plainly, routed_alike}
+use Rattle.calm_laws.proofs.SentAlike.{here, plainly, routed_alike}
 use Rattle.level_laws.specs.Levels.{send_at, signal_at}
 use Rattle.peace_laws.specs.Steps.{IsForMaster}
 
 -- a signal on its way with all epochs made one
 abbrev pub addressed_at : ℕ → Addressed → Addressed
 addressed_at epoch x = record { to = x.to; signal = signal_at epoch x.signal }
+
+-- it goes to a main part, or to nobody
+abbrev pub IsAside : Routed → Type 0
+IsAside r = is_beating r.to ≡ true
 
 -- a master of checkpoints is in the part in which a membership is
 master_part : (of : BlockId) → of ≡ GcpMaster → part_of of ≡ part_of Qmgr
