@@ -1,8 +1,7 @@
 -- The client's side is asked for a closing, and asks a master for it.
 use Rattle.std.proofs.Common.{◌≡◌, ◌≤◌, ◌∙◌, ◌++◌, ℕ, zero, suc, true, false, List, [], ◌∷◌, refl, sym, ap, subst}
 use Rattle.std.proofs.Common.{subst₂, arith}
-use Rattle.std.proofs.lemmas.Bool.{false≢true, or_right}
-use Rattle.std.proofs.lemmas.List.Folds.{list_any-append}
+use Rattle.std.proofs.lemmas.Bool.{false≢true}
 use Rattle.std.specs.List.{list_any}
 use Rattle.std.specs.Prelude.{◌+◌, is_some, not, Option, None, Some}
 use Rattle.api_block.specs.Api.{api_table, request_row}
@@ -14,7 +13,7 @@ use Rattle.api_views.specs.Client.{asked_row, client_table, command_if, command_
 use Rattle.api_views.specs.Closings.{ask_at, asked_if, asking, closing_row}
 use Rattle.api_views.specs.Members.{first_node, president}
 use Rattle.api_views.specs.State.{ClientState, left}
-use Rattle.api_views.specs.Stops.{has_stopped, is_down, still_runs}
+use Rattle.api_views.specs.Stops.{is_down, still_runs}
 use Rattle.frag_map.specs.Layout.{members}
 use Rattle.frag_map.specs.Shape.{IsShape}
 use Rattle.node_core.specs.declared.host.Host as plain

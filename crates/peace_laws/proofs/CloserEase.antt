@@ -1,24 +1,20 @@
 -- Nothing stands between what is told of a closing and the blocks of a host in the first view.
-use Rattle.std.proofs.Common.{◌≡◌, ◌==◌, ◌&&◌, ℕ, Bool, true, false, List, if◌then◌else◌, nat_lt, Option, None, refl}
+use Rattle.std.proofs.Common.{◌≡◌, ◌==◌, ℕ, true, false, List, nat_lt, refl}
 use Rattle.std.proofs.Common.{sym, ap, ◌∙◌}
 use Rattle.std.specs.List.{list_any}
-use Rattle.std.proofs.lemmas.Bool.{and_parts, and_right, false≢true, true≢false}
+use Rattle.std.proofs.lemmas.Bool.{and_parts, false≢true}
 use Rattle.frag_map.specs.Layout.{first_number}
 use Rattle.node_core.specs.declared.host.Host as plain
 use Rattle.node_core.specs.declared.host.Host.TheVariants as plain_host
-use Rattle.node_views.specs.Blocks.{fence_at, parts_row, settled_at}
-use Rattle.node_views.specs.Fence.{is_fenced}
+use Rattle.node_views.specs.Blocks.{fence_at, parts_row}
 use Rattle.node_views.specs.Laws.{is_own}
-use Rattle.node_views.specs.Parts.{main_settled, may_settle, settled_if}
-use Rattle.node_views.specs.Row.{blocks_row, hushed, is_stop, settle, unless_stopped, with_parts}
+use Rattle.node_views.specs.Parts.{may_settle}
+use Rattle.node_views.specs.Row.{blocks_row, hushed, is_stop, settle, with_parts}
 use Rattle.node_views.specs.WellFormed.{is_well_formed}
 use Rattle.node_views.specs.declared.host.Host as host
-use Rattle.node_views.specs.declared.ldm_part.LdmPart.{LdmPart}
 use Rattle.node_views.specs.declared.parts.Parts.{Parts}
 use Rattle.node_views.specs.declared.parts.Parts.TheVariants.{Shell, Main, Tc, Ldm}
-use Rattle.node_views.specs.declared.tc_part.TcPart.{TcPart}
 use Rattle.node_views.proofs.LawLemmas.{calm_hosts_leave_it_to_blocks}
-use Rattle.sig_core.specs.declared.outcome.StopCause.{StopCause}
 use Rattle.sig_core.specs.declared.place.BlockId.{BlockId}
 use Rattle.sig_core.specs.declared.place.BlockId.TheVariants as block
 use Rattle.sig_core.specs.declared.reply.ApiReply.{ApiReply}
