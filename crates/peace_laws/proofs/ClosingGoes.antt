@@ -46,8 +46,8 @@ use Rattle.calm_laws.specs.Plain.{is_beating}
 use Rattle.calm_laws.specs.Resting.{IsRestingPart}
 use Rattle.calm_laws.proofs.Arrivals.{arriving}
 use Rattle.calm_laws.proofs.Events.{host_there, none_before}
-use Rattle.calm_laws.proofs.NextCalm.{IsAskedBehind, asked_behind, past_short}
-use Rattle.calm_laws.proofs.QuietLinks.{given_running}
+use Rattle.calm_laws.proofs.Asked.{IsAskedBehind, asked_behind, past_short}
+use Rattle.calm_laws.proofs.Arrivals.{given_running}
 use Rattle.level_laws.specs.Laws.{HostsAreLevel}
 use Rattle.peace_laws.specs.Closing.{Course, IsAskedFor, IsEnded, ShellWaits, main, next_of}
 use Rattle.peace_laws.specs.Laws.{GoOnBy, IsTold, is_spent}

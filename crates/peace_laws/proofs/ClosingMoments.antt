@@ -28,7 +28,7 @@ use Rattle.calm_laws.specs.Alike.{IsAtEase}
 use Rattle.calm_laws.proofs.Arrivals.{arriving}
 use Rattle.calm_laws.proofs.Events.{host_there, none_before, within_before}
 use Rattle.calm_laws.proofs.FirstMembers.{first_fine}
-use Rattle.calm_laws.proofs.QuietLinks.{given_running}
+use Rattle.calm_laws.proofs.Arrivals.{given_running}
 use Rattle.level_laws.specs.Laws.{HostsAreLevel}
 use Rattle.peace_laws.specs.Laws.{is_spent}
 use Rattle.peace_laws.specs.Moments.{IsTaken, Moment, Takes, behind, told_by}
