@@ -1,13 +1,11 @@
 pub mod ApiLevels
 pub mod DihLevels
-pub mod FreshLevels
 pub mod HostLevels
 pub mod Level
 pub mod LevelLists
 pub mod LqhLevels
 pub mod MappedLists
 pub mod RowLevels
-pub mod SignalLevels
 pub mod TcLevels
 pub mod TcSends
 pub mod TcTurns

@@ -21,10 +21,6 @@ use Rattle.calm_laws.proofs.CalmSignals.{calm_block, calm_body, is_client, no_cl
 use Rattle.calm_laws.proofs.CalmSignals.{vouched_client}
 use Rattle.peace_laws.specs.Peace.{asks_by, asks_closing, has_closer, is_closing, is_for_closing, is_order}
 
--- the block of a host that takes something of a closing, and what it takes
-pub closing_block : (h : ℕ) (x : Signal) → is_closing h x ≡ true → has_closer h x.to.block ≡ true
-closing_block h x closing = (and_parts (has_closer h x.to.block) (is_for_closing x.to.block x.body) closing).0
-
 pub closing_body : (h : ℕ) (x : Signal) → is_closing h x ≡ true → is_for_closing x.to.block x.body ≡ true
 closing_body h x closing = (and_parts (has_closer h x.to.block) (is_for_closing x.to.block x.body) closing).1
 
@@ -75,9 +71,6 @@ views_apart block.Arbiter (Epoch signal) views = refl
 views_apart block.Arbiter body views = refl
 views_apart of body views = absurd cc
 
-pub closing_views : (of : BlockId) (body : Body) → is_for_closing of body ≡ true → is_of_views of ≡ true → ⊥
-closing_views of body closing views = false≢true (sym (views_apart of body views) ∙ closing)
-
 -- nor does it close a link
 pub closing_links : (of : BlockId) (body : Body) (cause : StopCause) → is_for_closing of body ≡ true
     → body ≡ Host (Closed cause) → ⊥
@@ -127,9 +120,6 @@ asks_kind x asks = asking x.to.block x.body asks
 asking_request : (of : BlockId) (body : Body) → asks_by of body ≡ true → is_request body ≡ true
 asking_request block.Api (Host (Continue (work.Request request) at)) asks = refl
 asking_request of body asks = absurd cc
-
-pub asks_request : (x : Signal) → asks_closing 0 x ≡ true → is_request x.body ≡ true
-asks_request x asks = asking_request x.to.block x.body asks
 
 -- only the shell's host is asked for one
 pub asks_shell : (h : ℕ) (x : Signal) → asks_closing h x ≡ true → h ≡ 0

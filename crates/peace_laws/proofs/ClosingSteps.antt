@@ -410,11 +410,6 @@ module _ (start : Start) (h : ℕ) (given : List ApiReply) (standing : Standing)
         masters = λ none some. absurd (true≢false (sym beats ∙ none));
       }
 
--- the host of a part that takes something of closings for its master has the master, which beats
-closers_beat : (of : Part) → is_closer of block.GcpMaster ≡ true → is_main of ≡ true
-closers_beat part.Main is = refl
-closers_beat of is = absurd (false≢true is)
-
 -- what the parts do, by the block that a signal is for
 abbrev pub row_at : Parts → BlockId → Signal → Step Parts
 row_at (Shell p) to x = in_shell (shell_row p to x)

@@ -37,10 +37,6 @@ pub record OnLink (start : Start) (base : ℕ → List HostStep) (i j : ℕ) (fr
   pub sent_is : sent (machine start) i j from ≡ under ++ (gone ++ sent (machine start) i j (base i))
   pub taken_is : taken (machine start) i at ≡ gone ++ taken (machine start) i (base j)
 
--- at first nothing is
-pub none_under : (start : Start) (base : ℕ → List HostStep) (i j : ℕ) → OnLink start base i j (base i) (base j)
-none_under start base i j = record { under = []; gone = []; sent_is = refl; taken_is = refl }
-
 -- what a step puts on a link, where its host is at ease and sends nothing that a host asks of itself
 abbrev IsGiven : Outgoing → Type 0
 IsGiven one = is_own_work one.body ≡ false

@@ -5,7 +5,6 @@ use Rattle.api_views.specs.declared.closings.Closing.{Closing}
 use Rattle.api_views.specs.declared.closings.Closing.TheVariants.{Gcp, Micro}
 use Rattle.api_views.specs.Closings.{ask_of, closed_reply}
 use Rattle.api_views.specs.State.{ClientState}
-use Rattle.dih_node.specs.State.{DihState}
 use Rattle.frag_map.specs.Replicas.{first_start}
 use Rattle.frag_map.specs.Shape.{IsShape}
 use Rattle.gcp_master.specs.declared.phase.Phase.TheVariants.{Resting}
@@ -14,6 +13,7 @@ use Rattle.gcp_master.specs.State.{MasterState}
 use Rattle.node_views.specs.declared.parts.Parts.{Parts}
 use Rattle.node_views.specs.declared.parts.Parts.TheVariants.{Shell, Main, Tc, Ldm}
 use Rattle.run_theory.specs.Lists.{IsIn}
+use Rattle.peace_laws.specs.Rest.{GivesAlone}
 use Rattle.sig_core.specs.declared.outs.Outgoing.{Outgoing}
 use Rattle.sig_core.specs.declared.reply.ApiReply.{ApiReply}
 use Rattle.sig_core.specs.Place.{checkpoints}
@@ -42,16 +42,9 @@ abbrev pub host_in : ℕ → Bool → ℕ
 host_in place false = suc (place * 3 + 1)
 host_in place true = suc (place * 3 + 2)
 
--- a member's epochs, at rest in an epoch
-pub record RestsIn (epoch : ℕ) (d : DihState) : Type 0 where
-  pub current : d.current ≡ epoch
-  pub next : d.next ≡ epoch
-  pub counted : d.counted ≡ []
-  pub held : d.held ≡ []
-  pub order : d.order ≡ None
-
+-- the epochs of a member, and its rows
 abbrev pub EpochsRest : ℕ → Parts → Type 0
-EpochsRest epoch (Tc p) = RestsIn epoch p.dih
+EpochsRest epoch (Tc p) = GivesAlone epoch p.dih
 EpochsRest epoch parts = ⊥
 
 abbrev pub HasRows : Parts → Type 0
