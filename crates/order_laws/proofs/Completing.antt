@@ -11,7 +11,6 @@ use Rattle.sig_core.proofs.TxLemmas.{same_tx-is}
 use Rattle.sig_core.specs.declared.member.Member.{Member}
 use Rattle.sig_core.specs.declared.member.TxId.{TxId}
 use Rattle.sig_core.specs.declared.outs.Outgoing.{Outgoing}
-use Rattle.sig_core.specs.declared.place.BlockId.{BlockId}
 use Rattle.sig_core.specs.declared.place.BlockId.TheVariants as block
 use Rattle.sig_core.specs.declared.place.Place.{Place}
 use Rattle.sig_core.specs.declared.signal.Body.{Body}
@@ -88,7 +87,7 @@ use Rattle.order_laws.proofs.Carried.{carried_out_stay_out}
 use Rattle.order_laws.proofs.Completed.{TellsBehind, let_go_more, tells_along}
 use Rattle.order_laws.proofs.CompletingTurns.{Completes, begins, elsewhere, ends, goes, has_written, is_completion}
 use Rattle.order_laws.proofs.CompletingTurns.{turn_completes, undecided, written_few}
-use Rattle.order_laws.proofs.Leads.{any_sent, lead}
+use Rattle.order_laws.proofs.Leads.{any_sent, lead, tc_block_is}
 use Rattle.order_laws.proofs.Passed.{passed}
 use Rattle.order_laws.proofs.Records.{holders_passed}
 use Rattle.order_laws.proofs.Still.{IsZero, home_for, home_low, none_weigh, replica_low}
@@ -102,10 +101,6 @@ few false = omega arith
 record IsLast (tx : TxId) (key : List ℕ) (body : Body) : Type 0 where
   chain : List Member
   is : body ≡ Chain (Complete tx key chain 0)
-
-tc_block_is : (b : BlockId) → is_tc b ≡ true → b ≡ block.Tc
-tc_block_is block.Tc is = refl
-tc_block_is _ is = absurd cc
 
 module _ (tx : TxId) (key : List ℕ) where
   abbrev wanted : List Outgoing → Place → Body → ℕ

@@ -1,38 +1,31 @@
 -- Who is given up is away from the first place of each chain, where nothing is under way: on the link to it the abort
 -- comes behind the last request.
 use Rattle.std.proofs.Common.{◌≡◌, ◌≢◌, ◌⊎◌, ◌≤◌, ◌<◌, ◌+◌, ℕ, zero, suc, Bool, true, false, List, [], ◌∷◌, drop, length, refl, sym}
-use Rattle.std.proofs.Common.{ap, ◌∙◌, subst, arith, inl, inr, eq-eqb}
+use Rattle.std.proofs.Common.{ap, ◌∙◌, subst, arith, inl, inr}
 use Rattle.std.proofs.lemmas.Bool.{cases_eq, eqb-true, false≢true, true≢false}
 use Rattle.std.specs.List.{list_any}
 use Rattle.std.specs.Prelude.{◌==◌, ◌&&◌, if◌then◌else◌, Option, None, Some}
 use Rattle.run_theory.proofs.Runs.{log_of-other, log_of-own}
 use Rattle.run_theory.specs.Counts.{one_if}
-use Rattle.run_theory.specs.Links.{put, sent, taken}
-use Rattle.run_theory.specs.Lists.{Each}
+use Rattle.run_theory.specs.Links.{sent, taken}
 use Rattle.run_theory.proofs.Pasts.{each_map}
 use Rattle.sig_core.specs.declared.member.TxId.{TxId}
 use Rattle.sig_core.specs.declared.outs.Outgoing.{Outgoing}
-use Rattle.sig_core.specs.declared.place.BlockId.{BlockId}
 use Rattle.sig_core.specs.declared.place.BlockId.TheVariants as block
 use Rattle.sig_core.specs.declared.place.Place.{Place}
 use Rattle.sig_core.specs.declared.signal.Body.{Body}
 use Rattle.sig_core.specs.declared.signal.Body.TheVariants.{Chain, Client, Epoch, Host}
-use Rattle.sig_core.specs.declared.signal.chain.ChainSignal.TheVariants.{Abort, LqhKeyReq}
 use Rattle.sig_core.specs.declared.signal.client.ClientSignal.TheVariants.{TcRollbackRep}
 use Rattle.sig_core.specs.declared.signal.host.HostSignal.TheVariants.{Continue, Round}
 use Rattle.sig_core.specs.declared.signal.host.Work.TheVariants as work
 use Rattle.sig_core.specs.Chain.{node_at}
 use Rattle.sig_core.specs.Place.{coordinator_of, rows_of}
-use Rattle.sig_core.specs.Same.{same_key, same_tx}
+use Rattle.sig_core.specs.Same.{same_tx}
 use Rattle.sig_core.specs.Step.{Effects, Step}
-use Rattle.sig_core.specs.Work.{work_key}
 use Rattle.frag_map.specs.Layout.{Layout, first_layout}
-use Rattle.tc_block.proofs.EachTurn.{is_onward}
-use Rattle.tc_block.proofs.LiveKeeps.{SendsBeside}
 use Rattle.tc_block.proofs.TurnRows.{turn_for}
 use Rattle.tc_block.specs.declared.transaction.Transaction.{Transaction}
 use Rattle.tc_block.specs.Phases.{is_aborting}
-use Rattle.tc_block.specs.Sends.{phase_sends}
 use Rattle.tc_block.specs.State.{TcState}
 use Rattle.tc_block.specs.Tc.{tc_row}
 use Rattle.tc_block.specs.Turn.{Turn}
@@ -44,14 +37,13 @@ use Rattle.node_core.specs.declared.host.Host.TheVariants.{Ldm, Main, Shell, Tc}
 use Rattle.node_core.specs.Requests.{is_request}
 use Rattle.node_core.specs.Row.{row}
 use Rattle.world_core.proofs.HostNumbers.{host_below, tc_runs}
-use Rattle.world_core.specs.Hosts.{first_membership, home, host_for, hosts, rows_host, tc_host}
-use Rattle.world_core.specs.Machine.{addressed, after, all_addressed, counted, machine, sent_count, signals_of, step_after}
+use Rattle.world_core.specs.Hosts.{home, host_for, hosts, tc_host}
+use Rattle.world_core.specs.Machine.{after, machine, signals_of, step_after}
 use Rattle.world_core.specs.Start.{Start}
 use Rattle.world_core.specs.Steps.{Addressed, HostStep}
 use Rattle.host_laws.proofs.ApiMoves.{is_api_kind}
 use Rattle.host_laws.proofs.BlocksAlong.{tc_layout}
 use Rattle.host_laws.proofs.DihSends.{dih_kinds}
-use Rattle.host_laws.proofs.LqhOps.{is_lqh}
 use Rattle.host_laws.proofs.OfLive.{each_found}
 use Rattle.host_laws.proofs.SendKinds.{each_of, is_dih_kind}
 use Rattle.host_laws.proofs.TcLives.{IsOwn}
@@ -71,706 +63,420 @@ use Rattle.run_laws.proofs.RoutesChain.{replicas_are_nodes, replicas_some}
 use Rattle.run_laws.proofs.TcSaid.{idle_silent, tc_silent, tc_speaks}
 use Rattle.run_laws.proofs.TcSound.{log_sound}
 use Rattle.run_laws.proofs.TcTokens.{IsOwned}
-use Rattle.run_laws.proofs.Transit.{along_transit, comes, earlier}
-use Rattle.run_laws.proofs.TransitRuns.{runs_have_transit}
+use Rattle.run_laws.proofs.Transit.{along_transit}
 use Rattle.run_laws.proofs.TxSteps.{next_number, none_of}
 use Rattle.run_laws.proofs.TxTurns as turn
-use Rattle.run_laws.proofs.TxTurns.{OthersSend, TcTurn, is_for as is_for_tx, tc_turn}
+use Rattle.run_laws.proofs.TxTurns.{TcTurn, is_for as is_for_tx, tc_turn}
 use Rattle.run_laws.proofs.WaysPassed.{api_each}
-use Rattle.run_laws.proofs.Weighing.{in_sends, in_transit, joins_weigh, none_passes, takes_weigh, weigh_less}
+use Rattle.run_laws.proofs.Weighing.{in_sends, in_transit, joins_weigh, takes_weigh, weigh_less}
 use Rattle.order_laws.specs.Awaited.{IsAwaited, list_length}
 use Rattle.order_laws.specs.First.{GivenUpAreOutAtFirst}
 use Rattle.order_laws.specs.Standing.{is_away}
-use Rattle.order_laws.specs.Unanswered.{asks_on, is_part_on}
-use Rattle.order_laws.proofs.Aborting as goes
-use Rattle.order_laws.proofs.Aborting.{beside_unbacked, given_same, others_unbacked}
+use Rattle.order_laws.specs.Still.{IsStill}
+use Rattle.order_laws.proofs.AbortingSteps.{fewer, list_at, part_asked, short}
 use Rattle.order_laws.proofs.AbortingTurns as back
 use Rattle.order_laws.proofs.AbortingTurns.{Aborts, is_abort_to, place_there, turn_aborts}
 use Rattle.order_laws.proofs.Awaited as awaited
 use Rattle.order_laws.proofs.Awaited.{all_is_awaited}
-use Rattle.order_laws.proofs.FirstTaken.{asks_last, last_by, taken_asks}
-use Rattle.order_laws.proofs.Leads.{any_sent, lead}
-use Rattle.order_laws.proofs.Standing.{IsKnown, asks_known, known_next, who_is_away_is_out}
-use Rattle.order_laws.specs.Still.{IsStill}
+use Rattle.order_laws.proofs.FirstSends as at_first
+use Rattle.order_laws.proofs.FirstSends.{AreMute, IsMute, beside_mute, last_in, mute_in, off_each, onward_few}
+use Rattle.order_laws.proofs.FirstSends.{others_mute, sent_known, sent_step, still_asks}
+use Rattle.order_laws.proofs.FirstTaken.{asks_last, taken_asks}
+use Rattle.order_laws.proofs.GivenUp.{aborting_given, given_aborting, given_same}
+use Rattle.order_laws.proofs.Leads.{any_sent, tc_block_is}
+use Rattle.order_laws.proofs.Standing.{who_is_away_is_out}
 use Rattle.order_laws.proofs.Still.{IsZero, home_for, home_low, none_weigh, still_at_quiet}
 use Rattle.order_laws.proofs.Unanswered as part
-use Rattle.order_laws.proofs.Unanswered.{beside_apart, others_apart, parts_are_unanswered}
 use Rattle.order_laws.proofs.UnansweredTurns as parts
 use Rattle.order_laws.proofs.UnansweredTurns.{AreUnbacked, Parts, is_backing, parts_out, turn_parts}
 
-tc_block_is : (b : BlockId) → is_tc b ≡ true → b ≡ block.Tc
-tc_block_is block.Tc is = refl
-tc_block_is _ is = absurd cc
-
-lqh_block_is : (b : BlockId) → is_lqh b ≡ true → b ≡ block.Lqh
-lqh_block_is block.Lqh is = refl
-lqh_block_is _ is = absurd cc
-
-module _ (start : Start) (tx : TxId) (key : List ℕ) where
-  -- where it takes nothing back and sends no part of an operation
-  abbrev IsMute : Outgoing → Type 0
-  IsMute o = (is_backing tx o.body ≡ false) × (is_part_on tx key o.body ≡ false)
-
-  abbrev AreMute : List Outgoing → Type 0
-  AreMute sends = Each IsMute sends
-
-  both_each : (sends : List Outgoing) → Each (λ (o : Outgoing). is_backing tx o.body ≡ false) sends
-      → Each (λ (o : Outgoing). is_part_on tx key o.body ≡ false) sends → AreMute sends
-  both_each [] a b = tt
-  both_each (o ∷ sends) a b = ((a.0, b.0), both_each sends a.1 b.1)
-
-  others_mute : (s : TcState) (body : Body) → OthersSend IsMute tx s body
-  others_mute s body one off its t =
-      both_each _ (others_unbacked tx s body one off its t) (others_apart tx key s body one off its t)
-
-  beside_mute : (s : TcState) → SendsBeside IsMute s
-  beside_mute s = record {
-    full = λ name. ((refl, refl), tt);
-    begins = λ name. ((refl, refl), tt);
-    passes = λ one ahead. ((refl, refl), tt);
-  }
-
-  -- what such a signal makes of the newest one
-  mute_one : (body : Body) (was : Bool) → is_backing tx body ≡ false → is_part_on tx key body ≡ false
-      → last_by tx key body was ≡ was
-  mute_one (Chain (LqhKeyReq other work chain at)) was off none = ap (λ b. if b then true else was) none
-  mute_one (Chain (Abort other own)) was off none =
-      ap (λ b. if b && same_key own key then false else was) off
-  mute_one _ was off none = refl
-
-  -- the host of the key's first place, and what a step sends there
-  abbrev first_host : ℕ
-  first_host = replica_host start key 0
-
-  abbrev last_in : List Outgoing → Bool → Bool
-  last_in [] was = was
-  last_in (o ∷ more) was =
-      last_in more (if host_for start o.to == replica_host start key 0 then last_by tx key o.body was else was)
-
-  put_last : (h stamp : ℕ) (count : ℕ → ℕ) (sends : List Outgoing) (before : List Addressed)
-      → asks_last tx key (put (machine start) (replica_host start key 0)
-      (all_addressed (first_membership start) h stamp count sends) before)
-      ≡ last_in sends (asks_last tx key before)
-  put_last h stamp count [] before = refl
-  put_last h stamp count (o ∷ more) before =
-      put_last h stamp (counted (host_for start o.to) count) more
-      (if host_for start o.to == replica_host start key 0 then one ∷ before else before)
-      ∙ ap (last_in more) (by (host_for start o.to == replica_host start key 0))
-    where
-      one : Addressed
-      one = addressed (first_membership start) h stamp (count (host_for start o.to)) o
-
-      by : (b : Bool) → asks_last tx key (if b then one ∷ before else before)
-          ≡ (if b then last_by tx key o.body (asks_last tx key before) else asks_last tx key before)
-      by true = refl
-      by false = refl
-
-  sent_step : (h : ℕ) (e : HostStep) (log : List HostStep)
-      → asks_last tx key (sent (machine start) h (replica_host start key 0) (e ∷ log))
-      ≡ last_in (step_after start h log e).effects.sends
-      (asks_last tx key (sent (machine start) h (replica_host start key 0) log))
-  sent_step h e log =
-      put_last h e.step.stamp (sent_count start h log) (step_after start h log e).effects.sends
-      (sent (machine start) h (replica_host start key 0) log)
-
-  mute_in : (sends : List Outgoing) (was : Bool) → AreMute sends → last_in sends was ≡ was
-  mute_in [] was all = refl
-  mute_in (o ∷ more) was all =
-      mute_in more (if host_for start o.to == replica_host start key 0 then last_by tx key o.body was else was) all.1
-      ∙ by (host_for start o.to == replica_host start key 0)
-    where
-      by : (b : Bool) → (if b then last_by tx key o.body was else was) ≡ was
-      by true = mute_one o.body was all.0.0 all.0.1
-      by false = refl
-
-  abbrev test : Place → Body → Bool
-  test to body = is_abort_to tx key (node_at (replicas start key) 0) to body
-
+module _ (start : Start) (tx : TxId) (key : List ℕ) (some : 1 ≤ tx.tc) (low : tx.tc ≤ start.shape.nodes) where
   abbrev wanted : List Outgoing → Place → Body → ℕ
-  wanted list to body = lead tx (is_abort_to tx key (node_at (replicas start key) 0)) list to body
+  wanted list to body = at_first.wanted start tx key list to body
 
-  -- what leads there by going on alone
   abbrev onward : List Outgoing → Place → Body → ℕ
-  onward list to body =
-      if is_onward body then lead tx (is_abort_to tx key (node_at (replicas start key) 0)) list to body else 0
+  onward list to body = at_first.onward start tx key list to body
 
-  onward_few : (list : List Outgoing) (to : Place) (body : Body) → onward list to body ≤ wanted list to body
-  onward_few list to body = by (is_onward body)
-    where
-      by : (b : Bool) → (if b then wanted list to body else 0) ≤ wanted list to body
-      by true = omega arith
-      by false = omega arith
+  -- where a request is the newest that was sent there, an abort is still to be sent
+  abbrev Holds : List HostStep → List Addressed → Type 0
+  Holds es xs =
+      is_given_up start (logs_of start es) tx ≡ true
+      → asks_last tx key (sent (machine start) (home start tx) (replica_host start key 0)
+      (logs_of start es (home start tx))) ≡ true
+      → 1 ≤ in_transit (onward (list_at start tx (live_at start (logs_of start es) tx))) xs
 
-  -- where a request is the newest still, no abort was sent, so what leads there does so by going on
-  record StillAsks (list : List Outgoing) (sends : List Outgoing) (was : Bool) : Type 0 where
-    was_so : was ≡ true
-    less : in_sends (wanted list) sends ≤ in_sends (onward list) sends
+  no_request : (list : List Outgoing) (to : Place) (body : Body) → is_request body ≡ true → onward list to body ≡ 0
+  no_request list to (Chain c) is = absurd (false≢true is)
+  no_request list to (Host (Continue (work.Transaction other) place)) is = absurd (false≢true is)
+  no_request list to _ is = refl
 
-  one_asks : (list : List Outgoing) (to : Place) (body : Body) (was : Bool) → is_part_on tx key body ≡ false
-      → (if host_for start to == replica_host start key 0 then last_by tx key body was else was) ≡ true
-      → (was ≡ true) × (wanted list to body ≤ onward list to body)
-  one_asks list to (Chain (LqhKeyReq other work chain at)) was off is = (by (host_for start to == first_host) is, omega arith)
-    where
-      by : (b : Bool)
-          → (if b then (if same_tx other tx && same_key (work_key work) key then true else was) else was) ≡ true
-          → was ≡ true
-      by true q = sym (ap (λ b. if b then true else was) off) ∙ q
-      by false q = q
-  one_asks list to (Chain (Abort other own)) was off is =
-      by (is_lqh to.block) refl (to.node == node_at (replicas start key) 0) refl (same_tx other tx && same_key own key)
-      refl is
-    where
-      there : is_lqh to.block ≡ true → (to.node == node_at (replicas start key) 0) ≡ true
-          → host_for start to ≡ replica_host start key 0
-      there rows node =
-          ap (λ b. host_for start (record { node = to.node; block = b })) (lqh_block_is to.block rows)
-          ∙ ap (rows_host start) (eqb-true to.node (node_at (replicas start key) 0) node)
+  module _ (es : List HostStep) (e : HostStep) (come : Comes start es e) (before between : List Addressed)
+      (transit : AreInTransit start es before) (takes : Takes e before between) (was : Holds es before) where
+    abbrev g : host.Host
+    g = after start e.host (logs_of start es e.host)
 
-      rest : (b c : Bool) → c ≡ false → (if b then (if c then false else was) else was) ≡ true → was ≡ true
-      rest true c off q = sym (ap (λ c. if c then false else was) off) ∙ q
-      rest false c off q = q
+    abbrev next : Step host.Host
+    next = row g e.step.taken
 
-      some : (b : Bool) → (if b then false else was) ≡ true → was ≡ true
-      some true q = absurd (false≢true q)
-      some false q = q
+    abbrev sends : List Outgoing
+    sends = (step_after start e.host (logs_of start es e.host) e).effects.sends
 
-      by : (a : Bool) → is_lqh to.block ≡ a → (b : Bool) → (to.node == node_at (replicas start key) 0) ≡ b → (c : Bool)
-          → (same_tx other tx && same_key own key) ≡ c
-          → (if host_for start to == replica_host start key 0 then
-          (if same_tx other tx && same_key own key then false else was) else was) ≡ true
-          → (was ≡ true)
-          × (one_if ((is_lqh to.block && (to.node == node_at (replicas start key) 0))
-          && (same_tx other tx && same_key own key)) ≤ 0)
-      by true p true q true r is =
-          let at : (host_for start to == replica_host start key 0) ≡ true = eq-eqb _ _ (there p q) in
-          absurd (false≢true (sym (ap (λ b. if b then (if same_tx other tx && same_key own key then false else was)
-          else was) at ∙ ap (λ c. if c then false else was) r) ∙ is))
-      by true p true q false r is = (
-        rest (host_for start to == replica_host start key 0) (same_tx other tx && same_key own key) r is,
-        omega (
-          arith,
-          none (is_lqh to.block && (to.node == node_at (replicas start key) 0)) (same_tx other tx && same_key own key) r,
-        ),
-      )
-        where
-          none : (a c : Bool) → c ≡ false → one_if (a && c) ≡ 0
-          none true c off = ap one_if off
-          none false c off = refl
-      by true p false q c r is = (
-        plain (host_for start to == replica_host start key 0) is,
-        omega (
-          arith,
-          ap (λ b. one_if ((is_lqh to.block && b) && (same_tx other tx && same_key own key))) q,
-          gone (is_lqh to.block),
-        ),
-      )
-        where
-          gone : (a : Bool) → one_if ((a && false) && (same_tx other tx && same_key own key)) ≡ 0
-          gone true = refl
-          gone false = refl
+    abbrev later : List Addressed
+    later = joined (signals_of start e.host (logs_of start es e.host) e) between
 
-          plain : (b : Bool) → (if b then (if same_tx other tx && same_key own key then false else was) else was) ≡ true
-              → was ≡ true
-          plain true q = some (same_tx other tx && same_key own key) q
-          plain false q = q
-      by false p b q c r is = (
-        plain (host_for start to == replica_host start key 0) is,
-        omega (
-          arith,
-          ap (λ a. one_if ((a && (to.node == node_at (replicas start key) 0))
-              && (same_tx other tx && same_key own key))) p,
-        ),
-      )
-        where
-          plain : (b : Bool) → (if b then (if same_tx other tx && same_key own key then false else was) else was) ≡ true
-              → was ≡ true
-          plain true q = some (same_tx other tx && same_key own key) q
-          plain false q = q
-  one_asks list to (Host (Continue (work.Transaction other) at)) was off is =
-      (by (host_for start to == first_host) is, omega arith)
-    where
-      by : (b : Bool) → (if b then was else was) ≡ true → was ≡ true
-      by true q = q
-      by false q = q
-  one_asks list to body was off is = (by (host_for start to == first_host) is, omega arith)
-    where
-      by : (b : Bool) → (if b then was else was) ≡ true → was ≡ true
-      by true q = q
-      by false q = q
+    abbrev came : List Outgoing → ℕ
+    came list = onward list e.step.taken.to e.step.taken.body
 
-  still_asks : (list sends : List Outgoing) (was : Bool)
-      → Each (λ (o : Outgoing). is_part_on tx key o.body ≡ false) sends → last_in sends was ≡ true
-      → StillAsks list sends was
-  still_asks list [] was all is = record { was_so = is; less = omega arith }
-  still_asks list (o ∷ more) was all is =
-      let rest = still_asks list more
-      (if host_for start o.to == replica_host start key 0 then last_by tx key o.body was else was) all.1 is in
-      let here = one_asks list o.to o.body was all.0 rest.was_so in
-      record { was_so = here.0; less = omega (arith, here.1, rest.less) }
+    out : (list : List Outgoing) → in_transit (onward list) before ≡ came list + in_transit (onward list) between
+    out list = takes_weigh (onward list) e before between (no_request list e.step.taken.to e.step.taken.body) takes
 
-  off_each : (sends : List Outgoing) → parts_out tx key sends ≡ 0
-      → Each (λ (o : Outgoing). is_part_on tx key o.body ≡ false) sends
-  off_each sends none = none_passes (λ (o : Outgoing). is_part_on tx key o.body) sends none
+    into : (list : List Outgoing)
+        → in_transit (onward list) later ≡ in_sends (onward list) sends + in_transit (onward list) between
+    into list = joins_weigh (onward list) start e.host (logs_of start es e.host) e between
 
-  abbrev Asks : List HostStep → Type 0
-  Asks log = asks_last tx key (sent (machine start) (home start tx) (replica_host start key 0) log) ≡ true
+    inside : 0 < length (replicas start key)
+    inside = replicas_some start come.before.shape key
 
-  -- whose request was sent is known
-  sent_known : (es : List HostStep) → IsRun start es → Asks (logs_of start es (home start tx))
-      → IsKnown tx key start (logs_of start es)
-  sent_known [] run is = absurd (false≢true is)
-  sent_known (e ∷ es) run is = by (cases_eq e.host at_home) (sent_known es (earlier start es e run))
-    where
-      come : Comes start es e
-      come = comes start es e run
+    facts : IsHome tx (tc_of g)
+    facts = all_home start tx e.host (logs_of start es e.host)
 
-      at_home : ℕ
-      at_home = home start tx
+    abbrev Now : Option Transaction → Type 0
+    Now o = 1 ≤ in_transit (onward (list_at start tx o)) later
 
-      log : List HostStep
-      log = logs_of start es (home start tx)
+    -- nothing goes on by what comes elsewhere, or where it isn't
+    goes_none : (o : Option Transaction)
+        → (is_tc e.step.taken.to.block ≡ true → (e.step.taken.to.node == tx.tc) ≡ true
+        → is_for_tx tx e.step.taken.body ≡ true → list_at start tx o ≡ []) → came (list_at start tx o) ≡ 0
+    goes_none o none = by e.step.taken.body refl
+      where
+        nothing : (n : ℕ) → any_sent (is_abort_to tx key (node_at (replicas start key) 0)) (drop n []) ≡ false
+        nothing zero = refl
+        nothing (suc n) = refl
 
-      sends : List Outgoing
-      sends = (step_after start (home start tx) log e).effects.sends
+        at_place : (other : TxId) (place : ℕ) → e.step.taken.body ≡ Host (Continue (work.Transaction other) place)
+            → (a b c : Bool) → is_tc e.step.taken.to.block ≡ a → (e.step.taken.to.node == tx.tc) ≡ b
+            → same_tx other tx ≡ c
+            → one_if ((a && b) && (c && any_sent (is_abort_to tx key (node_at (replicas start key) 0))
+            (drop place (list_at start tx o)))) ≡ 0
+        at_place other place is true true true p q r =
+            ap (λ list. one_if (any_sent (is_abort_to tx key (node_at (replicas start key) 0)) (drop place list)))
+            (none p q (ap (is_for_tx tx) is ∙ r)) ∙ ap one_if (nothing place)
+        at_place other place is true true false p q r = refl
+        at_place other place is true false c p q r = refl
+        at_place other place is false b c p q r = refl
 
-      by : (e.host ≡ at_home) ⊎ (e.host ≢ at_home)
-          → (Asks (logs_of start es (home start tx)) → IsKnown tx key start (logs_of start es))
-          → IsKnown tx key start (logs_of start (e ∷ es))
-      by (inr off) more =
-          known_next tx key start es e come
-          (more (ap (λ l. asks_last tx key (sent (machine start) (home start tx) (replica_host start key 0) l))
-          (sym (log_of-other (machine start) e es at_home off)) ∙ is))
-      by (inl here) more =
-          which (asks_last tx key (sent (machine start) (home start tx) (replica_host start key 0) log)) refl
-        where
-          now_asks : last_in sends
-              (asks_last tx key (sent (machine start) (home start tx) (replica_host start key 0) log)) ≡ true
-          now_asks =
-              sym (ap (λ l. asks_last tx key (sent (machine start) (home start tx) (replica_host start key 0) l))
-              (log_of-own (machine start) e es at_home here) ∙ sent_step (home start tx) e log) ∙ is
+        by : (body : Body) → e.step.taken.body ≡ body → onward (list_at start tx o) e.step.taken.to body ≡ 0
+        by (Host (Continue (work.Transaction other) place)) is =
+            at_place other place is (is_tc e.step.taken.to.block) (e.step.taken.to.node == tx.tc) (same_tx other tx)
+            refl refl refl
+        by _ is = refl
 
-          which : (b : Bool) → asks_last tx key (sent (machine start) (home start tx) (replica_host start key 0) log) ≡ b
-              → IsKnown tx key start (logs_of start (e ∷ es))
-          which true was = known_next tx key start es e come (more was)
-          which false was = asks_known tx key start (e ∷ es) (asked (asks_on key (live_at start (logs_of start (e ∷ es)) tx)) refl)
-            where
-              some : 1 ≤ parts_out tx key sends
-              some = go (parts_out tx key sends) refl
-                where
-                  go : (n : ℕ) → parts_out tx key sends ≡ n → 1 ≤ parts_out tx key sends
-                  go (suc n) q = omega (arith, q)
-                  go zero q =
-                      absurd (false≢true (sym was
-                      ∙ (still_asks [] sends
-                      (asks_last tx key (sent (machine start) (home start tx) (replica_host start key 0) log))
-                      (off_each sends q) now_asks).was_so))
+    passes : (o : Option Transaction) → came (list_at start tx o) ≡ 0
+        → 1 ≤ in_transit (onward (list_at start tx o)) before → Now o
+    passes o none one = omega (arith, one, none, out (list_at start tx o), into (list_at start tx o))
 
-              asked : (b : Bool) → asks_on key (live_at start (logs_of start (e ∷ es)) tx) ≡ b → b ≡ true
-              asked true on = refl
-              asked false off =
-                  absurd (omega (
-                    arith,
-                    some,
-                    ap one_if off,
-                    parts_are_unanswered start (e ∷ es) transit.0 tx key run transit.1,
-                    part.tally_is start tx key transit.0,
-                    part.sends_is start tx key sends,
-                    ap (in_transit (λ to body. one_if (is_part_on tx key body))) transit.1.1.1.is,
-                    joins_weigh (λ to body. one_if (is_part_on tx key body)) start e.host (logs_of start es e.host) e
-                        transit.1.1.1.between,
-                    ap (λ k. in_sends (λ to body. one_if (is_part_on tx key body))
-                        (step_after start k (logs_of start es k) e).effects.sends) here,
-                  ))
-                where
-                  transit : (xs : List Addressed) × AreInTransit start (e ∷ es) xs
-                  transit = runs_have_transit start (e ∷ es) run
+    -- a step elsewhere
+    far : e.host ≢ home start tx → Holds (e ∷ es) later
+    far differs given asks =
+        subst Now (sym same_live)
+        (passes (live_at start (logs_of start es) tx)
+        (goes_none (live_at start (logs_of start es) tx)
+        (λ tc node its. absurd (differs (tc_addressed start es e come (tc_block_is e.step.taken.to.block tc)
+        ∙ ap (tc_host start) (eqb-true e.step.taken.to.node tx.tc node)))))
+        (was (sym same_given ∙ given) (sym same_asks ∙ asks)))
+      where
+        same_log : logs_of start (e ∷ es) (home start tx) ≡ logs_of start es (home start tx)
+        same_log = log_of-other (machine start) e es (home start tx) differs
 
-  module _ (some : 1 ≤ tx.tc) (low : tx.tc ≤ start.shape.nodes) where
-    abbrev list_at : Option Transaction → List Outgoing
-    list_at None = []
-    list_at (Some t) = phase_sends (first_layout start.shape) tx t.phase t.touched
+        same_live : live_at start (logs_of start (e ∷ es)) tx ≡ live_at start (logs_of start es) tx
+        same_live = ap (of_host tx) (away start es e come tx differs)
 
-    -- where a request is the newest that was sent there, an abort is still to be sent
-    abbrev Holds : List HostStep → List Addressed → Type 0
-    Holds es xs =
-        is_given_up start (logs_of start es) tx ≡ true
-        → asks_last tx key (sent (machine start) (home start tx) (replica_host start key 0)
-        (logs_of start es (home start tx))) ≡ true
-        → 1 ≤ in_transit (onward (list_at (live_at start (logs_of start es) tx))) xs
+        same_given : is_given_up start (logs_of start (e ∷ es)) tx ≡ is_given_up start (logs_of start es) tx
+        same_given = ap (λ log. list_any (same_tx tx) (sent_ways start back_by (home start tx) log)) same_log
 
-    no_request : (list : List Outgoing) (to : Place) (body : Body) → is_request body ≡ true → onward list to body ≡ 0
-    no_request list to (Chain c) is = absurd (false≢true is)
-    no_request list to (Host (Continue (work.Transaction other) place)) is = absurd (false≢true is)
-    no_request list to _ is = refl
+        same_asks : asks_last tx key (sent (machine start) (home start tx) (replica_host start key 0)
+            (logs_of start (e ∷ es) (home start tx)))
+            ≡ asks_last tx key (sent (machine start) (home start tx) (replica_host start key 0)
+            (logs_of start es (home start tx)))
+        same_asks =
+            ap (λ log. asks_last tx key (sent (machine start) (home start tx) (replica_host start key 0) log)) same_log
 
-    module _ (es : List HostStep) (e : HostStep) (come : Comes start es e) (before between : List Addressed)
-        (transit : AreInTransit start es before) (takes : Takes e before between) (was : Holds es before) where
-      abbrev g : host.Host
-      g = after start e.host (logs_of start es e.host)
+    -- a step at the host of its coordinator
+    module _ (here : e.host ≡ home start tx) where
+      abbrev asked_before : Bool
+      asked_before =
+          asks_last tx key (sent (machine start) (home start tx) (replica_host start key 0)
+          (logs_of start es (home start tx)))
 
-      abbrev next : Step host.Host
-      next = row g e.step.taken
+      now_asks : asks_last tx key (sent (machine start) (home start tx) (replica_host start key 0)
+          (logs_of start (e ∷ es) (home start tx))) ≡ last_in start tx key sends asked_before
+      now_asks =
+          ap (λ l. asks_last tx key (sent (machine start) (home start tx) (replica_host start key 0) l))
+          (log_of-own (machine start) e es (home start tx) here)
+          ∙ sent_step start tx key (home start tx) e (logs_of start es (home start tx))
+          ∙ ap (λ k. last_in start tx key (step_after start k (logs_of start es k) e).effects.sends asked_before)
+          (sym here)
 
-      abbrev sends : List Outgoing
-      sends = (step_after start e.host (logs_of start es e.host) e).effects.sends
-
-      abbrev later : List Addressed
-      later = joined (signals_of start e.host (logs_of start es e.host) e) between
-
-      abbrev came : List Outgoing → ℕ
-      came list = onward list e.step.taken.to e.step.taken.body
-
-      out : (list : List Outgoing) → in_transit (onward list) before ≡ came list + in_transit (onward list) between
-      out list = takes_weigh (onward list) e before between (no_request list e.step.taken.to e.step.taken.body) takes
-
-      into : (list : List Outgoing)
-          → in_transit (onward list) later ≡ in_sends (onward list) sends + in_transit (onward list) between
-      into list = joins_weigh (onward list) start e.host (logs_of start es e.host) e between
-
-      inside : 0 < length (replicas start key)
-      inside = replicas_some start come.before.shape key
-
-      facts : IsHome tx (tc_of g)
-      facts = all_home start tx e.host (logs_of start es e.host)
-
-      abbrev Now : Option Transaction → Type 0
-      Now o = 1 ≤ in_transit (onward (list_at o)) later
-
-      -- nothing goes on by what comes elsewhere, or where it isn't
-      goes_none : (o : Option Transaction)
-          → (is_tc e.step.taken.to.block ≡ true → (e.step.taken.to.node == tx.tc) ≡ true
-          → is_for_tx tx e.step.taken.body ≡ true → list_at o ≡ []) → came (list_at o) ≡ 0
-      goes_none o none = by e.step.taken.body refl
-        where
-          nothing : (n : ℕ) → any_sent (is_abort_to tx key (node_at (replicas start key) 0)) (drop n []) ≡ false
-          nothing zero = refl
-          nothing (suc n) = refl
-
-          at_place : (other : TxId) (place : ℕ) → e.step.taken.body ≡ Host (Continue (work.Transaction other) place)
-              → (a b c : Bool) → is_tc e.step.taken.to.block ≡ a → (e.step.taken.to.node == tx.tc) ≡ b
-              → same_tx other tx ≡ c
-              → one_if ((a && b) && (c && any_sent (is_abort_to tx key (node_at (replicas start key) 0))
-              (drop place (list_at o)))) ≡ 0
-          at_place other place is true true true p q r =
-              ap (λ list. one_if (any_sent (is_abort_to tx key (node_at (replicas start key) 0)) (drop place list)))
-              (none p q (ap (is_for_tx tx) is ∙ r)) ∙ ap one_if (nothing place)
-          at_place other place is true true false p q r = refl
-          at_place other place is true false c p q r = refl
-          at_place other place is false b c p q r = refl
-
-          by : (body : Body) → e.step.taken.body ≡ body → onward (list_at o) e.step.taken.to body ≡ 0
-          by (Host (Continue (work.Transaction other) place)) is =
-              at_place other place is (is_tc e.step.taken.to.block) (e.step.taken.to.node == tx.tc) (same_tx other tx)
-              refl refl refl
-          by _ is = refl
-
-      passes : (o : Option Transaction) → came (list_at o) ≡ 0 → 1 ≤ in_transit (onward (list_at o)) before → Now o
-      passes o none one = omega (arith, one, none, out (list_at o), into (list_at o))
-
-      -- a step elsewhere
-      far : e.host ≢ home start tx → Holds (e ∷ es) later
-      far differs given asks =
+      aside : AreMute tx key sends
+          → is_given_up start (logs_of start (e ∷ es)) tx ≡ is_given_up start (logs_of start es) tx
+          → of_host tx next.state ≡ of_host tx g
+          → (is_tc e.step.taken.to.block ≡ true → is_for_tx tx e.step.taken.body ≡ true → of_host tx g ≡ None)
+          → Holds (e ∷ es) later
+      aside mute same alike missed given asks =
           subst Now (sym same_live)
           (passes (live_at start (logs_of start es) tx)
           (goes_none (live_at start (logs_of start es) tx)
-          (λ tc node its. absurd (differs (tc_addressed start es e come (tc_block_is e.step.taken.to.block tc)
-          ∙ ap (tc_host start) (eqb-true e.step.taken.to.node tx.tc node)))))
-          (was (sym same_given ∙ given) (sym same_asks ∙ asks)))
+          (λ tc node its. ap (list_at start tx) (ap (of_host tx) (here_was start es e come tx here) ∙ missed tc its)))
+          (was (sym same ∙ given) (sym (now_asks ∙ mute_in start tx key sends asked_before mute) ∙ asks)))
         where
-          same_log : logs_of start (e ∷ es) (home start tx) ≡ logs_of start es (home start tx)
-          same_log = log_of-other (machine start) e es (home start tx) differs
-
           same_live : live_at start (logs_of start (e ∷ es)) tx ≡ live_at start (logs_of start es) tx
-          same_live = ap (of_host tx) (away start es e come tx differs)
+          same_live =
+              ap (of_host tx) (here_now start es e come tx here) ∙ alike
+              ∙ sym (ap (of_host tx) (here_was start es e come tx here))
 
-          same_given : is_given_up start (logs_of start (e ∷ es)) tx ≡ is_given_up start (logs_of start es) tx
-          same_given = ap (λ log. list_any (same_tx tx) (sent_ways start back_by (home start tx) log)) same_log
+      -- a turn of the transaction
+      module _ (number : ℕ) (home_is : number ≡ tx.tc) (u : Transaction)
+          (live_was : live_at start (logs_of start es) tx ≡ Some u) (own_body : is_for_tx tx e.step.taken.body ≡ true)
+          (rows : lqh_of next.state ≡ lqh_of g) (right : is_right u.asked u.phase ≡ true)
+          (same : AreUnbacked tx sends
+          → is_given_up start (logs_of start (e ∷ es)) tx ≡ is_given_up start (logs_of start es) tx)
+          (given : is_given_up start (logs_of start (e ∷ es)) tx ≡ true)
+          (asks : last_in start tx key sends asked_before ≡ true) where
+        abbrev layout : Layout
+        layout = first_layout start.shape
 
-          same_asks : asks_last tx key (sent (machine start) (home start tx) (replica_host start key 0)
-              (logs_of start (e ∷ es) (home start tx)))
-              ≡ asks_last tx key (sent (machine start) (home start tx) (replica_host start key 0)
-              (logs_of start es (home start tx)))
-          same_asks =
-              ap (λ log. asks_last tx key (sent (machine start) (home start tx) (replica_host start key 0) log)) same_log
+        abbrev its_turn : Turn
+        its_turn = turn_for number layout tx e.step.taken.body u
 
-      -- a step at the host of its coordinator
-      module _ (here : e.host ≡ home start tx) where
-        abbrev asked_before : Bool
-        asked_before =
-            asks_last tx key (sent (machine start) (home start tx) (replica_host start key 0)
-            (logs_of start es (home start tx)))
+        aborting : is_given_up start (logs_of start es) tx ≡ true → is_aborting u.phase ≡ true
+        aborting =
+            given_aborting start es tx u live_was
 
-        now_asks : asks_last tx key (sent (machine start) (home start tx) (replica_host start key 0)
-            (logs_of start (e ∷ es) (home start tx))) ≡ last_in sends asked_before
-        now_asks =
-            ap (λ l. asks_last tx key (sent (machine start) (home start tx) (replica_host start key 0) l))
-            (log_of-own (machine start) e es (home start tx) here)
-            ∙ sent_step (home start tx) e (logs_of start es (home start tx))
-            ∙ ap (λ k. last_in (step_after start k (logs_of start es k) e).effects.sends asked_before) (sym here)
+        given_is : is_aborting u.phase ≡ true → is_given_up start (logs_of start es) tx ≡ true
+        given_is =
+            aborting_given start es tx u live_was
 
-        aside : AreMute sends
-            → is_given_up start (logs_of start (e ∷ es)) tx ≡ is_given_up start (logs_of start es) tx
-            → of_host tx next.state ≡ of_host tx g
-            → (is_tc e.step.taken.to.block ≡ true → is_for_tx tx e.step.taken.body ≡ true → of_host tx g ≡ None)
-            → Holds (e ∷ es) later
-        aside mute same alike missed given asks =
-            subst Now (sym same_live)
-            (passes (live_at start (logs_of start es) tx)
-            (goes_none (live_at start (logs_of start es) tx)
-            (λ tc node its. ap list_at (ap (of_host tx) (here_was start es e come tx here) ∙ missed tc its)))
-            (was (sym same ∙ given) (sym (now_asks ∙ mute_in sends asked_before mute) ∙ asks)))
+        -- what it leaves, where a request was the newest before
+        turned : (turn : Turn) → sends ≡ turn.step.effects.sends → asked_before ≡ true
+            → Aborts number layout tx key (node_at (replicas start key) 0) home_is
+            (place_there (replicas start key) 0 inside) u e.step.taken.to e.step.taken.body turn
+            → Now (left_of_turn turn)
+        turned turn sent_is asked (back.unbacked off none) =
+            absurd (true≢false (sym (aborting (sym (same (subst (AreUnbacked tx) (sym sent_is) none)) ∙ given))
+            ∙ off))
+        turned turn sent_is asked (back.begins off over one still) =
+            subst (λ b. Now (if b then None else Some turn.step.state)) (sym over)
+            (omega (
+              arith,
+              one,
+              into (list_at start tx (Some turn.step.state)),
+              (still_asks start tx key (list_at start tx (Some turn.step.state)) sends asked_before
+                  (off_each start tx key sends (ap (parts_out tx key) sent_is ∙ still)) asks).less,
+              ap (in_sends (wanted (list_at start tx (Some turn.step.state)))) sent_is,
+            ))
+        turned turn sent_is asked (back.late on over one still) =
+            subst (λ b. Now (if b then None else Some turn.step.state)) (sym over)
+            (omega (
+              arith,
+              one,
+              into (list_at start tx (Some turn.step.state)),
+              (still_asks start tx key (list_at start tx (Some turn.step.state)) sends asked_before
+                  (off_each start tx key sends (ap (parts_out tx key) sent_is ∙ still)) asks).less,
+              ap (in_sends (wanted (list_at start tx (Some turn.step.state)))) sent_is,
+            ))
+        turned turn sent_is asked (back.keeps on over alike less off still) =
+            subst (λ b. Now (if b then None else Some turn.step.state)) (sym over)
+            (subst (λ list. 1 ≤ in_transit (onward list) later) (sym alike)
+            (omega (
+              arith,
+              subst (λ o. 1 ≤ in_transit (onward (list_at start tx o)) before) live_was (was (given_is on) asked),
+              less,
+              onward_few start tx key (list_at start tx (Some u)) e.step.taken.to e.step.taken.body,
+              out (list_at start tx (Some u)),
+              into (list_at start tx (Some u)),
+              (still_asks start tx key (list_at start tx (Some u)) sends asked_before
+                  (off_each start tx key sends (ap (parts_out tx key) sent_is ∙ still)) asks).less,
+              ap (in_sends (wanted (list_at start tx (Some u)))) sent_is,
+            )))
+        turned turn sent_is asked (back.ends on over last none off still) =
+            absurd (omega (
+              arith,
+              subst (λ o. 1 ≤ in_transit (onward (list_at start tx o)) before) live_was (was (given_is on) asked),
+              none,
+              onward_few start tx key (list_at start tx (Some u)) e.step.taken.to e.step.taken.body,
+              out (list_at start tx (Some u)),
+              last,
+              subst (IsAwaited layout tx before) live_was (all_is_awaited start es before tx come.before transit),
+              awaited.out tx start es e come before between takes (list_length layout u.phase u.touched),
+              weigh_less (λ (x : Addressed). onward (list_at start tx (Some u)) x.signal.to x.signal.body)
+                  (λ (x : Addressed). wanted (list_at start tx (Some u)) x.signal.to x.signal.body) between
+                  (λ x. onward_few start tx key (list_at start tx (Some u)) x.signal.to x.signal.body),
+              fewer start tx key 0 inside (list_at start tx (Some u)) (list_length layout u.phase u.touched) between,
+            ))
+
+        silent : (turn : Turn) → sends ≡ turn.step.effects.sends → asked_before ≡ false
+            → parts_out tx key turn.step.effects.sends ≡ 0 → ⊥
+        silent turn sent_is none zero_out =
+            false≢true (sym none
+            ∙ (still_asks start tx key [] sends asked_before
+            (off_each start tx key sends (ap (parts_out tx key) sent_is ∙ zero_out)) asks).was_so)
+
+        -- an operation is asked for by no abort
+        unasked : (turn : Turn) → sends ≡ turn.step.effects.sends → asked_before ≡ false
+            → Parts tx key number layout u e.step.taken.body turn → Now (left_of_turn turn)
+        unasked turn sent_is none (parts.asks over nothing less unaborted unbacked) =
+            absurd (true≢false (sym (aborting (sym (same (subst (AreUnbacked tx) (sym sent_is) unbacked)) ∙ given))
+            ∙ unaborted))
+        unasked turn sent_is none (parts.same over alike zero_out) = absurd (silent turn sent_is none zero_out)
+        unasked turn sent_is none (parts.answered less zero_out) = absurd (silent turn sent_is none zero_out)
+        unasked turn sent_is none (parts.free nothing zero_out) = absurd (silent turn sent_is none zero_out)
+        unasked turn sent_is none (parts.aborted on last zero_out) = absurd (silent turn sent_is none zero_out)
+
+        pub turn_holds : sends ≡ its_turn.step.effects.sends → Now (left_of_turn its_turn)
+        turn_holds sent_is = by asked_before refl
           where
-            same_live : live_at start (logs_of start (e ∷ es)) tx ≡ live_at start (logs_of start es) tx
-            same_live =
-                ap (of_host tx) (here_now start es e come tx here) ∙ alike
-                ∙ sym (ap (of_host tx) (here_was start es e come tx here))
+            by : (b : Bool) → asked_before ≡ b → Now (left_of_turn its_turn)
+            by false none =
+                unasked its_turn sent_is none
+                (turn_parts tx key number layout (λ own. replicas_some start come.before.shape own) u
+                e.step.taken.body right own_body)
+            by true asked =
+                turned its_turn sent_is asked
+                (turn_aborts number layout tx key (node_at (replicas start key) 0) home_is
+                (place_there (replicas start key) 0 inside) u e.step.taken.to e.step.taken.body own_body
+                (λ off. (sent_known start tx key es come.before asked).touched u live_was)
+                (part_asked start tx key 0 inside es e come before between transit takes u live_was)
+                (short start tx key 0 inside es u live_was))
 
-        -- a turn of the transaction
-        module _ (number : ℕ) (home_is : number ≡ tx.tc) (u : Transaction)
-            (live_was : live_at start (logs_of start es) tx ≡ Some u) (own_body : is_for_tx tx e.step.taken.body ≡ true)
-            (rows : lqh_of next.state ≡ lqh_of g) (right : is_right u.asked u.phase ≡ true)
-            (same : AreUnbacked tx sends
-            → is_given_up start (logs_of start (e ∷ es)) tx ≡ is_given_up start (logs_of start es) tx)
-            (given : is_given_up start (logs_of start (e ∷ es)) tx ≡ true)
-            (asks : last_in sends asked_before ≡ true) where
-          abbrev layout : Layout
-          layout = first_layout start.shape
+      both_no : (s : host.Host) → has_tc s ≡ true → has_lqh s ≡ true → ⊥
+      both_no (Tc p) tc rows = false≢true rows
+      both_no (Ldm l) tc rows = false≢true tc
+      both_no (Shell a) tc rows = false≢true tc
+      both_no (Main m) tc rows = false≢true tc
 
-          abbrev its_turn : Turn
-          its_turn = turn_for number layout tx e.step.taken.body u
+      here_runs : has_tc g ≡ true
+      here_runs =
+          subst (λ k. has_tc (after start k (logs_of start es k)) ≡ true) (sym here)
+          (tc_runs start tx.tc (logs_of start es (home start tx)) some low)
 
-          aborting : is_given_up start (logs_of start es) tx ≡ true → is_aborting u.phase ≡ true
-          aborting =
-              goes.given_aborting start tx key 0 inside es e come before between transit takes
-              (goes.ending_along start tx key 0 inside es before come.before transit) number home_is u
-              live_was own_body rows
+      quiet_same : tc_sends g e.step.taken ≡ []
+          → is_given_up start (logs_of start (e ∷ es)) tx ≡ is_given_up start (logs_of start es) tx
+      quiet_same nil = given_same start es e come tx (subst (AreUnbacked tx) (sym nil) tt)
 
-          given_is : is_aborting u.phase ≡ true → is_given_up start (logs_of start es) tx ≡ true
-          given_is =
-              goes.aborting_given start tx key 0 inside es e come before between transit takes
-              (goes.ending_along start tx key 0 inside es before come.before transit) number home_is u
-              live_was own_body rows
+      live_of : {a b : TcState} → a ≡ b → of_live tx a.live ≡ of_live tx b.live
+      live_of alike = ap (λ (c : TcState). of_live tx c.live) alike
 
-          -- what it leaves, where a request was the newest before
-          turned : (turn : Turn) → sends ≡ turn.step.effects.sends → asked_before ≡ true
-              → Aborts number layout tx key (node_at (replicas start key) 0) home_is
-              (place_there (replicas start key) 0 inside) u e.step.taken.to e.step.taken.body turn
-              → Now (left_of_turn turn)
-          turned turn sent_is asked (back.unbacked off none) =
-              absurd (true≢false (sym (aborting (sym (same (subst (AreUnbacked tx) (sym sent_is) none)) ∙ given))
-              ∙ off))
-          turned turn sent_is asked (back.begins off over one still) =
-              subst (λ b. Now (if b then None else Some turn.step.state)) (sym over)
-              (omega (
-                arith,
-                one,
-                into (list_at (Some turn.step.state)),
-                (still_asks (list_at (Some turn.step.state)) sends asked_before
-                    (off_each sends (ap (parts_out tx key) sent_is ∙ still)) asks).less,
-                ap (in_sends (wanted (list_at (Some turn.step.state)))) sent_is,
-              ))
-          turned turn sent_is asked (back.late on over one still) =
-              subst (λ b. Now (if b then None else Some turn.step.state)) (sym over)
-              (omega (
-                arith,
-                one,
-                into (list_at (Some turn.step.state)),
-                (still_asks (list_at (Some turn.step.state)) sends asked_before
-                    (off_each sends (ap (parts_out tx key) sent_is ∙ still)) asks).less,
-                ap (in_sends (wanted (list_at (Some turn.step.state)))) sent_is,
-              ))
-          turned turn sent_is asked (back.keeps on over alike less off still) =
-              subst (λ b. Now (if b then None else Some turn.step.state)) (sym over)
-              (subst (λ list. 1 ≤ in_transit (onward list) later) (sym alike)
-              (omega (
-                arith,
-                subst (λ o. 1 ≤ in_transit (onward (list_at o)) before) live_was (was (given_is on) asked),
-                less,
-                onward_few (list_at (Some u)) e.step.taken.to e.step.taken.body,
-                out (list_at (Some u)),
-                into (list_at (Some u)),
-                (still_asks (list_at (Some u)) sends asked_before
-                    (off_each sends (ap (parts_out tx key) sent_is ∙ still)) asks).less,
-                ap (in_sends (wanted (list_at (Some u)))) sent_is,
-              )))
-          turned turn sent_is asked (back.ends on over last none off still) =
+      mute_by : (f : Effects) → next.effects ≡ f → AreMute tx key f.sends → AreMute tx key sends
+      mute_by f is all = subst (λ (f : Effects). AreMute tx key f.sends) (sym is) all
+
+      api_mute : (body : Body) → is_api_kind body ≡ true → is_backing tx body ≡ false
+      api_mute (Client (TcRollbackRep other cause)) is = absurd cc
+      api_mute (Client c) is = refl
+      api_mute (Host Round) is = refl
+      api_mute _ is = absurd cc
+
+      dih_mute : (body : Body) → is_dih_kind body ≡ true → is_backing tx body ≡ false
+      dih_mute (Epoch x) is = refl
+      dih_mute _ is = absurd cc
+
+      takes_turn : IsTcStep g e.step.taken next → Holds (e ∷ es) later
+      takes_turn step =
+          which
+          (tc_turn (IsMute tx key) tx (tc_of g) (beside_mute tx key (tc_of g)) facts.own facts.once e.step.taken.body
+          (others_mute tx key (tc_of g) e.step.taken.body))
+        where
+          live_is : of_host tx next.state ≡ of_live tx (tc_row (tc_of g) e.step.taken).state.live
+          live_is = live_of step.state
+
+          same_by : AreUnbacked tx (tc_row (tc_of g) e.step.taken).effects.sends
+              → is_given_up start (logs_of start (e ∷ es)) tx ≡ is_given_up start (logs_of start es) tx
+          same_by none =
+              given_same start es e come tx
+              (subst (AreUnbacked tx) (sym (tc_speaks g e.step.taken step.runs step.at)) none)
+
+          unbacked_of : (os : List Outgoing) → AreMute tx key os → AreUnbacked tx os
+          unbacked_of os all =
+              each_map (IsMute tx key) (λ (o : Outgoing). is_backing tx o.body ≡ false) os (λ o is. is.0) all
+
+          which : TcTurn (IsMute tx key) tx (tc_of g) e.step.taken.body (tc_row (tc_of g) e.step.taken)
+              → Holds (e ∷ es) later
+          which (turn.idle alike mute deaf) =
+              aside (mute_by _ step.effects mute) (same_by (unbacked_of _ mute)) (live_is ∙ alike)
+              (λ tc its. deaf its)
+          which (turn.begins is left mute none) = λ given asks.
+              let asked : asked_before ≡ true =
+              sym (now_asks ∙ mute_in start tx key sends asked_before (mute_by _ step.effects mute)) ∙ asks in
               absurd (omega (
                 arith,
-                subst (λ o. 1 ≤ in_transit (onward (list_at o)) before) live_was (was (given_is on) asked),
-                none,
-                onward_few (list_at (Some u)) e.step.taken.to e.step.taken.body,
-                out (list_at (Some u)),
-                last,
-                subst (IsAwaited layout tx before) live_was (all_is_awaited start es before tx come.before transit),
-                awaited.out tx start es e come before between takes (list_length layout u.phase u.touched),
-                weigh_less (λ (x : Addressed). onward (list_at (Some u)) x.signal.to x.signal.body)
-                    (λ (x : Addressed). wanted (list_at (Some u)) x.signal.to x.signal.body) between
-                    (λ x. onward_few (list_at (Some u)) x.signal.to x.signal.body),
-                goes.fewer start tx key 0 inside (list_at (Some u)) (list_length layout u.phase u.touched) between,
+                subst (λ x. tx.seq < next_number x) (here_was start es e come tx here)
+                    (sent_known start tx key es come.before asked).old,
+                ap (λ (v : TxId). v.seq) is,
               ))
-
-          silent : (turn : Turn) → sends ≡ turn.step.effects.sends → asked_before ≡ false
-              → parts_out tx key turn.step.effects.sends ≡ 0 → ⊥
-          silent turn sent_is none zero_out =
-              false≢true (sym none
-              ∙ (still_asks [] sends asked_before (off_each sends (ap (parts_out tx key) sent_is ∙ zero_out)) asks).was_so)
-
-          -- an operation is asked for by no abort
-          unasked : (turn : Turn) → sends ≡ turn.step.effects.sends → asked_before ≡ false
-              → Parts tx key number layout u e.step.taken.body turn → Now (left_of_turn turn)
-          unasked turn sent_is none (parts.asks over nothing less unaborted unbacked) =
-              absurd (true≢false (sym (aborting (sym (same (subst (AreUnbacked tx) (sym sent_is) unbacked)) ∙ given))
-              ∙ unaborted))
-          unasked turn sent_is none (parts.same over alike zero_out) = absurd (silent turn sent_is none zero_out)
-          unasked turn sent_is none (parts.answered less zero_out) = absurd (silent turn sent_is none zero_out)
-          unasked turn sent_is none (parts.free nothing zero_out) = absurd (silent turn sent_is none zero_out)
-          unasked turn sent_is none (parts.aborted on last zero_out) = absurd (silent turn sent_is none zero_out)
-
-          pub turn_holds : sends ≡ its_turn.step.effects.sends → Now (left_of_turn its_turn)
-          turn_holds sent_is = by asked_before refl
+          which (turn.turns u there own_body sent_is left) = λ given asks.
+              subst Now
+              (sym (ap (of_host tx) (here_now start es e come tx here) ∙ live_is ∙ left
+              ∙ ap (λ l. left_of_turn (turn_for (tc_of g).node l tx e.step.taken.body u)) same_layout))
+              (turn_holds (tc_of g).node (sym number) u
+              (ap (of_host tx) (here_was start es e come tx here) ∙ there) own_body step.rows owned.right
+              (λ none. same_by (subst (AreUnbacked tx) (ap (λ (f : Effects). f.sends) step.effects) none)) given
+              (sym now_asks ∙ asks)
+              (ap (λ (f : Effects). f.sends) step.effects ∙ sent_is
+              ∙ ap (λ l. (turn_for (tc_of g).node l tx e.step.taken.body u).step.effects.sends) same_layout))
             where
-              by : (b : Bool) → asked_before ≡ b → Now (left_of_turn its_turn)
-              by false none =
-                  unasked its_turn sent_is none
-                  (turn_parts tx key number layout (λ own. replicas_some start come.before.shape own) u
-                  e.step.taken.body right own_body)
-              by true asked =
-                  turned its_turn sent_is asked
-                  (turn_aborts number layout tx key (node_at (replicas start key) 0) home_is
-                  (place_there (replicas start key) 0 inside) u e.step.taken.to e.step.taken.body own_body
-                  (λ off. (sent_known es come.before asked).touched u live_was)
-                  (goes.part_asked start tx key 0 inside es e come before between transit takes
-                  (goes.ending_along start tx key 0 inside es before come.before transit) u live_was)
-                  (goes.short start tx key 0 inside es e come before between transit takes
-                  (goes.ending_along start tx key 0 inside es before come.before transit) number home_is u live_was
-                  own_body rows))
+              number : tx.tc ≡ (tc_of g).node
+              number =
+                  (of_each (λ one t. IsOwn (tc_of g).node (tc_of g).next_seq one) tx (tc_of g).live u facts.own
+                  there).home
 
-        both_no : (s : host.Host) → has_tc s ≡ true → has_lqh s ≡ true → ⊥
-        both_no (Tc p) tc rows = false≢true rows
-        both_no (Ldm l) tc rows = false≢true tc
-        both_no (Shell a) tc rows = false≢true tc
-        both_no (Main m) tc rows = false≢true tc
+              same_layout : (tc_of g).layout ≡ first_layout start.shape
+              same_layout = tc_layout start e.host (logs_of start es e.host) step.runs
 
-        here_runs : has_tc g ≡ true
-        here_runs =
-            subst (λ k. has_tc (after start k (logs_of start es k)) ≡ true) (sym here)
-            (tc_runs start tx.tc (logs_of start es (home start tx)) some low)
+              owned : IsOwned (tc_of g).node (tc_of g).next_seq
+                  (sent_ways start back_by e.host (logs_of start es e.host)) (tx, u)
+              owned =
+                  each_found
+                  (IsOwned (tc_of g).node (tc_of g).next_seq
+                  (sent_ways start back_by e.host (logs_of start es e.host)))
+                  (tc_of g).live tx u (log_sound start e.host (logs_of start es e.host)).tc.live there
 
-        quiet_same : tc_sends g e.step.taken ≡ []
-            → is_given_up start (logs_of start (e ∷ es)) tx ≡ is_given_up start (logs_of start es) tx
-        quiet_same nil = given_same start es e come tx (subst (AreUnbacked tx) (sym nil) tt)
-
-        live_of : {a b : TcState} → a ≡ b → of_live tx a.live ≡ of_live tx b.live
-        live_of alike = ap (λ (c : TcState). of_live tx c.live) alike
-
-        mute_by : (f : Effects) → next.effects ≡ f → AreMute f.sends → AreMute sends
-        mute_by f is all = subst (λ (f : Effects). AreMute f.sends) (sym is) all
-
-        api_mute : (body : Body) → is_api_kind body ≡ true → is_backing tx body ≡ false
-        api_mute (Client (TcRollbackRep other cause)) is = absurd cc
-        api_mute (Client c) is = refl
-        api_mute (Host Round) is = refl
-        api_mute _ is = absurd cc
-
-        dih_mute : (body : Body) → is_dih_kind body ≡ true → is_backing tx body ≡ false
-        dih_mute (Epoch x) is = refl
-        dih_mute _ is = absurd cc
-
-        takes_turn : IsTcStep g e.step.taken next → Holds (e ∷ es) later
-        takes_turn step =
-            which
-            (tc_turn IsMute tx (tc_of g) (beside_mute (tc_of g)) facts.own facts.once e.step.taken.body
-            (others_mute (tc_of g) e.step.taken.body))
-          where
-            live_is : of_host tx next.state ≡ of_live tx (tc_row (tc_of g) e.step.taken).state.live
-            live_is = live_of step.state
-
-            same_by : AreUnbacked tx (tc_row (tc_of g) e.step.taken).effects.sends
-                → is_given_up start (logs_of start (e ∷ es)) tx ≡ is_given_up start (logs_of start es) tx
-            same_by none =
-                given_same start es e come tx
-                (subst (AreUnbacked tx) (sym (tc_speaks g e.step.taken step.runs step.at)) none)
-
-            unbacked_of : (os : List Outgoing) → AreMute os → AreUnbacked tx os
-            unbacked_of os all = each_map IsMute (λ (o : Outgoing). is_backing tx o.body ≡ false) os (λ o is. is.0) all
-
-            which : TcTurn IsMute tx (tc_of g) e.step.taken.body (tc_row (tc_of g) e.step.taken) → Holds (e ∷ es) later
-            which (turn.idle alike mute deaf) =
-                aside (mute_by _ step.effects mute) (same_by (unbacked_of _ mute)) (live_is ∙ alike)
-                (λ tc its. deaf its)
-            which (turn.begins is left mute none) = λ given asks.
-                let asked : asked_before ≡ true =
-                sym (now_asks ∙ mute_in sends asked_before (mute_by _ step.effects mute)) ∙ asks in
-                absurd (omega (
-                  arith,
-                  subst (λ x. tx.seq < next_number x) (here_was start es e come tx here)
-                      (sent_known es come.before asked).old,
-                  ap (λ (v : TxId). v.seq) is,
-                ))
-            which (turn.turns u there own_body sent_is left) = λ given asks.
-                subst Now
-                (sym (ap (of_host tx) (here_now start es e come tx here) ∙ live_is ∙ left
-                ∙ ap (λ l. left_of_turn (turn_for (tc_of g).node l tx e.step.taken.body u)) same_layout))
-                (turn_holds (tc_of g).node (sym number) u
-                (ap (of_host tx) (here_was start es e come tx here) ∙ there) own_body step.rows owned.right
-                (λ none. same_by (subst (AreUnbacked tx) (ap (λ (f : Effects). f.sends) step.effects) none)) given
-                (sym now_asks ∙ asks)
-                (ap (λ (f : Effects). f.sends) step.effects ∙ sent_is
-                ∙ ap (λ l. (turn_for (tc_of g).node l tx e.step.taken.body u).step.effects.sends) same_layout))
-              where
-                number : tx.tc ≡ (tc_of g).node
-                number =
-                    (of_each (λ one t. IsOwn (tc_of g).node (tc_of g).next_seq one) tx (tc_of g).live u facts.own
-                    there).home
-
-                same_layout : (tc_of g).layout ≡ first_layout start.shape
-                same_layout = tc_layout start e.host (logs_of start es e.host) step.runs
-
-                owned : IsOwned (tc_of g).node (tc_of g).next_seq
-                    (sent_ways start back_by e.host (logs_of start es e.host)) (tx, u)
-                owned =
-                    each_found
-                    (IsOwned (tc_of g).node (tc_of g).next_seq
-                    (sent_ways start back_by e.host (logs_of start es e.host)))
-                    (tc_of g).live tx u (log_sound start e.host (logs_of start es e.host)).tc.live there
-
-        pub near : Holds (e ∷ es) later
-        near = by (block_case g e.step.taken)
-          where
-            by : BlockCase g e.step.taken next → Holds (e ∷ es) later
-            by (api_takes step) =
-                aside
-                (mute_by _ step.effects
-                (api_each IsMute (λ o is. (api_mute o.body is, part.api_apart tx key o.body is)) (λ name node. (refl, refl))
-                (api_of g) e.step.taken.body))
-                (quiet_same (tc_silent g e.step.taken (λ at. let both : block.Api ≡ block.Tc = sym step.at ∙ at in cc)))
-                (live_of step.tc) (λ is its. absurd (false≢true (sym (ap is_tc step.at) ∙ is)))
-            by (tc_takes step) = takes_turn step
-            by (dih_takes step) =
-                aside
-                (mute_by _ step.effects
-                (each_of is_dih_kind IsMute (λ o is. (dih_mute o.body is, part.dih_apart tx key o.body is)) _
-                (dih_kinds (dih_of g) e.step.taken.body)))
-                (quiet_same (tc_silent g e.step.taken (λ at. let both : block.Dih ≡ block.Tc = sym step.at ∙ at in cc)))
-                (live_of step.tc) (λ is its. absurd (false≢true (sym (ap is_tc step.at) ∙ is)))
-            by (rows_take step) = absurd (both_no g here_runs step.runs)
-            by (none_takes step) =
-                aside (mute_by _ (ap (λ (v : Step host.Host). v.effects) step.is) tt)
-                (quiet_same (idle_silent g e.step.taken step.runs))
-                (live_of (ap (λ (v : Step host.Host). tc_of v.state) step.is))
-                (λ is its. none_of tx g e.step.taken.to.block is step.runs)
-
-      holds_next : Holds (e ∷ es) later
-      holds_next = by (cases_eq e.host (home start tx))
+      pub near : Holds (e ∷ es) later
+      near = by (block_case g e.step.taken)
         where
-          by : (e.host ≡ home start tx) ⊎ (e.host ≢ home start tx) → Holds (e ∷ es) later
-          by (inl here) = near here
-          by (inr differs) = far differs
+          by : BlockCase g e.step.taken next → Holds (e ∷ es) later
+          by (api_takes step) =
+              aside
+              (mute_by _ step.effects
+              (api_each (IsMute tx key) (λ o is. (api_mute o.body is, part.api_apart tx key o.body is))
+              (λ name node. (refl, refl))
+              (api_of g) e.step.taken.body))
+              (quiet_same (tc_silent g e.step.taken (λ at. let both : block.Api ≡ block.Tc = sym step.at ∙ at in cc)))
+              (live_of step.tc) (λ is its. absurd (false≢true (sym (ap is_tc step.at) ∙ is)))
+          by (tc_takes step) = takes_turn step
+          by (dih_takes step) =
+              aside
+              (mute_by _ step.effects
+              (each_of is_dih_kind (IsMute tx key) (λ o is. (dih_mute o.body is, part.dih_apart tx key o.body is)) _
+              (dih_kinds (dih_of g) e.step.taken.body)))
+              (quiet_same (tc_silent g e.step.taken (λ at. let both : block.Dih ≡ block.Tc = sym step.at ∙ at in cc)))
+              (live_of step.tc) (λ is its. absurd (false≢true (sym (ap is_tc step.at) ∙ is)))
+          by (rows_take step) = absurd (both_no g here_runs step.runs)
+          by (none_takes step) =
+              aside (mute_by _ (ap (λ (v : Step host.Host). v.effects) step.is) tt)
+              (quiet_same (idle_silent g e.step.taken step.runs))
+              (live_of (ap (λ (v : Step host.Host). tc_of v.state) step.is))
+              (λ is its. none_of tx g e.step.taken.to.block is step.runs)
 
-    holds_along : (es : List HostStep) (xs : List Addressed) → IsRun start es → AreInTransit start es xs → Holds es xs
-    holds_along =
-        along_transit start Holds (λ given asks. absurd (false≢true asks))
-        (λ es e before between come transit was takes. holds_next es e come before between transit takes was)
+    holds_next : Holds (e ∷ es) later
+    holds_next = by (cases_eq e.host (home start tx))
+      where
+        by : (e.host ≡ home start tx) ⊎ (e.host ≢ home start tx) → Holds (e ∷ es) later
+        by (inl here) = near here
+        by (inr differs) = far differs
+
+  holds_along : (es : List HostStep) (xs : List Addressed) → IsRun start es → AreInTransit start es xs → Holds es xs
+  holds_along =
+      along_transit start Holds (λ given asks. absurd (false≢true asks))
+      (λ es e before between come transit was takes. holds_next es e come before between transit takes was)
 
 pub given_up_are_out_at_first : GivenUpAreOutAtFirst
 given_up_are_out_at_first start es key tx run quiet some low given =
@@ -792,26 +498,26 @@ given_up_are_out_at_first start es key tx run quiet some low given =
     still : (xs : List Addressed) × IsStill start es xs
     still = still_at_quiet start es run quiet
 
-    none_onward : in_transit (onward start tx key (list_at start tx key some low (live_at start (logs_of start es) tx))) still.0
-        ≡ 0
+    none_onward : in_transit
+        (at_first.onward start tx key (list_at start tx (live_at start (logs_of start es) tx))) still.0 ≡ 0
     none_onward =
         none_weigh start es still.0 run still.1
-        (onward start tx key (list_at start tx key some low (live_at start (logs_of start es) tx))) at_place
+        (at_first.onward start tx key (list_at start tx (live_at start (logs_of start es) tx))) at_place
       where
         list : List Outgoing
-        list = list_at start tx key some low (live_at start (logs_of start es) tx)
+        list = list_at start tx (live_at start (logs_of start es) tx)
 
         by_home : (other : TxId) (place : ℕ) (to : Place) → hosts start ≤ host_for start to → (b : Bool)
             → (is_tc to.block && (to.node == tx.tc)) ≡ b
             → one_if (b && (same_tx other tx
             && any_sent (is_abort_to tx key (node_at (replicas start key) 0)) (drop place
-            (list_at start tx key some low (live_at start (logs_of start es) tx))))) ≡ 0
+            (list_at start tx (live_at start (logs_of start es) tx))))) ≡ 0
         by_home other place to high false is = refl
         by_home other place to high true is =
             absurd (omega (arith, high, home_for start tx (home_low start es tx run (inl given)) to is))
 
         at_place : IsZero start es still.0 run still.1
-            (onward start tx key (list_at start tx key some low (live_at start (logs_of start es) tx)))
+            (at_first.onward start tx key (list_at start tx (live_at start (logs_of start es) tx)))
         at_place to (Host (Continue (work.Transaction other) place)) routed home high =
             by_home other place to high (is_tc to.block && (to.node == tx.tc)) refl
         at_place to _ routed home high = refl

@@ -11,6 +11,8 @@ use Rattle.run_theory.specs.Counts.{one_if}
 use Rattle.sig_core.proofs.Keys.{same_tx-self}
 use Rattle.sig_core.specs.declared.member.TxId.{TxId}
 use Rattle.sig_core.specs.declared.outs.Outgoing.{Outgoing}
+use Rattle.sig_core.specs.declared.place.BlockId.{BlockId}
+use Rattle.sig_core.specs.declared.place.BlockId.TheVariants as block
 use Rattle.sig_core.specs.declared.place.Place.{Place}
 use Rattle.sig_core.specs.declared.portion.TheConstants.{PORTION}
 use Rattle.sig_core.specs.declared.signal.Body.{Body}
@@ -20,10 +22,19 @@ use Rattle.sig_core.specs.declared.signal.host.Work.TheVariants as work
 use Rattle.sig_core.specs.Same.{same_tx}
 use Rattle.tc_block.proofs.EachTurn.{is_onward}
 use Rattle.tc_block.specs.Part.{part_effects, rest_if}
-use Rattle.host_laws.proofs.LqhOps.{true_and}
+use Rattle.host_laws.proofs.LqhOps.{is_lqh, true_and}
 use Rattle.host_laws.proofs.TcSends.{eqb-self}
 use Rattle.host_laws.proofs.Wishes.{is_tc}
 use Rattle.run_laws.proofs.Weighing.{in_sends, weigh, weigh_append}
+
+-- only the coordinators' block passes its test, and only that of the rows
+pub tc_block_is : (b : BlockId) → is_tc b ≡ true → b ≡ block.Tc
+tc_block_is block.Tc is = refl
+tc_block_is _ is = absurd cc
+
+pub lqh_block_is : (b : BlockId) → is_lqh b ≡ true → b ≡ block.Lqh
+lqh_block_is block.Lqh is = refl
+lqh_block_is _ is = absurd cc
 
 -- one of the signals passes the test
 abbrev pub any_sent : (Place → Body → Bool) → List Outgoing → Bool

@@ -1,4 +1,5 @@
 pub mod Aborting
+pub mod AbortingSteps
 pub mod AbortingTurns
 pub mod Askers
 pub mod Attended
@@ -13,9 +14,11 @@ pub mod CompletingTurns
 pub mod Ending
 pub mod Ends
 pub mod First
+pub mod FirstSends
 pub mod FirstSources
 pub mod FirstTaken
 pub mod Further
+pub mod GivenUp
 pub mod Gone
 pub mod Later
 pub mod Leads

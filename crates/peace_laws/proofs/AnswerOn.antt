@@ -116,7 +116,8 @@ module _ (start : Start) (shape : IsShape start.shape) (c : Course) (first_is : 
   committed_on = committed start shape c before after w step said.to to
 
   -- the master's own signals stay on their way
-  own_stays : (at : ℕ) → IsIn (going_on at) (before.under_way main main) → IsIn (going_on at) (after.under_way main main)
+  own_stays : (at : ℕ) → IsIn (going_on at) (before.under_way main main)
+      → IsIn (going_on at) (after.under_way main main)
   own_stays at is = go (step.keeps main main (going_on at) is)
     where
       go : IsIn (going_on at) (after.under_way main main)
@@ -137,7 +138,8 @@ module _ (start : Start) (shape : IsShape start.shape) (c : Course) (first_is : 
 
   pub over_on : IsOver start c before s → IsUnderWay start c after
   over_on over =
-      stay_goes (now_is ∙ none_counts c s voice w.master.owed (CommittedAt c before said.place) said.signal said.fits over.phase_is)
+      stay_goes (now_is ∙ none_counts c s voice w.master.owed (CommittedAt c before said.place) said.signal said.fits
+      over.phase_is)
       (inr (over_stays start shape c before after w step said.to to own_stays over))
 
   -- In a stage.
@@ -147,7 +149,8 @@ module _ (start : Start) (shape : IsShape start.shape) (c : Course) (first_is : 
     true_on of v is = tt
 
     still_true : Each (IsTrue start c after stage) s.voices
-    still_true = each_map (IsTrue start c before stage) (IsTrue start c after stage) s.voices (true_on stage) under.heard
+    still_true =
+        each_map (IsTrue start c before stage) (IsTrue start c after stage) s.voices (true_on stage) under.heard
 
     -- all else that is owed is owed on, where the master has heard what it took, and all that it had
     module _ (q : MasterState) (list : master_sends q ≡ master_sends s)

@@ -164,7 +164,7 @@ module _ (start : Start) (es : List HostStep) (h : ℕ) (x : Signal)
     pub seen : IsSeen start i (arriving h x)
     seen = each_in (IsSeen start i) (arriving h x) (sent (machine start) i h (log i)) ((mirrored i).seen h) there
 
-    pub sender_low : i < hosts start
+    sender_low : i < hosts start
     sender_low = go (cases_lt i (hosts start))
       where
         go : (i < hosts start) ⊎ (hosts start ≤ i) → i < hosts start
@@ -240,7 +240,7 @@ module _ (start : Start) (es : List HostStep) (h : ℕ) (x : Signal)
           go zero low member (inr closing) = absurd (false≢true (sym kind.apart ∙ closing.closing))
           go (suc k) low member send = ap (is_member (first start)) member ∙ member_known start k low
 
-      pub given_arrives : is_asked h x ≡ false → Arrives start es h x
+      given_arrives : is_asked h x ≡ false → Arrives start es h x
       given_arrives unasked =
           record {
             view = seen.view;
@@ -251,7 +251,7 @@ module _ (start : Start) (es : List HostStep) (h : ℕ) (x : Signal)
           }
 
   -- what the shell asks itself for
-  pub asked_arrives : IsPlainKind x.to.block x.body → is_asked h x ≡ true → IsOwn start h (log h) x
+  asked_arrives : IsPlainKind x.to.block x.body → is_asked h x ≡ true → IsOwn start h (log h) x
       → Arrives start es h x
   asked_arrives kind asked own =
       let work : is_own_work x.body ≡ true = own_parts (x.from.0 == h) (is_own_work x.body) asked in

@@ -1,8 +1,8 @@
 -- The client's side is asked for a closing where nothing is under way: that leads to the moment at which the master is
 -- asked for it.
-use Rattle.std.proofs.Common.{◌≡◌, ◌≢◌, ◌⊎◌, ◌<◌, ◌≤◌, inl, inr, ℕ, zero, suc, List, [], ◌∷◌, ◌++◌, true, false}
+use Rattle.std.proofs.Common.{◌≡◌, ◌≢◌, ◌⊎◌, ◌<◌, inl, inr, ℕ, List, [], ◌∷◌, ◌++◌, true, false}
 use Rattle.std.proofs.Common.{refl, ap, sym, ◌∙◌, subst, append-nil, map, arith}
-use Rattle.std.specs.Prelude.{None, Some}
+use Rattle.std.specs.Prelude.{None, Some, slice_get}
 use Rattle.std.proofs.lemmas.Bool.{cases_eq, false≢true}
 use Rattle.api_block.specs.State.{ApiState}
 use Rattle.api_views.specs.declared.closings.Closing.{Closing}
@@ -12,6 +12,7 @@ use Rattle.api_views.specs.Closings.{ask_at, ask_of, asking}
 use Rattle.api_views.specs.Members.{first_node}
 use Rattle.api_views.specs.State.{ClientState}
 use Rattle.frag_map.specs.Layout.{members}
+use Rattle.frag_map.specs.Replicas.{first_start}
 use Rattle.frag_map.specs.Shape.{IsShape}
 use Rattle.node_core.specs.Blocks.{has_api}
 use Rattle.node_core.specs.declared.host.Host as plain
@@ -67,23 +68,18 @@ use Rattle.peace_laws.proofs.ClosingNext.{request_goes_on, request_next}
 use Rattle.peace_laws.proofs.ClosingSteps.{seen}
 use Rattle.peace_laws.proofs.Mirrored.{IsMirrored}
 use Rattle.peace_laws.proofs.OrderLists.{main_reached}
-use Rattle.peace_laws.proofs.PartKinds.{epochs_rest, has_rows, main_rests}
+use Rattle.peace_laws.proofs.PartKinds.{epochs_rest, first_member, has_rows, main_rests}
 use Rattle.peace_laws.proofs.RestingHosts.{rests_stays, stays_closeless}
 use Rattle.peace_laws.proofs.RunKept.{IsKept}
 use Rattle.peace_laws.proofs.UnderLinks.{OnLink, SentOn, said, sent_next}
 
 -- the president of the first view is the first node
-front_kept : (those : List Member) (last : Member) → first_node those ≡ Some 1 → first_node (those ++ last ∷ []) ≡ Some 1
-front_kept [] last none = absurd (cc (none))
-front_kept (one ∷ more) last is = is
-
-presides : (n : ℕ) → 1 ≤ n → first_node (members n) ≡ Some 1
-presides zero some = absurd (omega (arith, some))
-presides (suc n) some = go n
-  where
-    go : (n : ℕ) → first_node (members (suc n)) ≡ Some 1
-    go zero = refl
-    go (suc n) = front_kept (members (suc n)) _ (go n)
+node_of : (those : List Member) → slice_get those 0 ≡ Some (first_start 1) → first_node those ≡ Some 1
+node_of [] none = absurd (cc (none))
+node_of (one ∷ more) is =
+    let there : Some one ≡ Some (first_start 1) = is in
+    let same : one ≡ first_start 1 = cc (there) in
+    ap (λ (m : Member). Some m.node) same
 
 -- what the parts of the shell's host do
 record AsksMaster (start : Start) (kind : Closing) (t : Step Parts) : Type 0 where
@@ -110,7 +106,8 @@ module _ (start : Start) (shape : IsShape start.shape) (request : ApiReq) (asks 
 
   asks_at : (view : View) → view ≡ first start → asking kind view ≡ to_place (checkpoints 1) (ask_of kind) ∷ []
   asks_at view is =
-      ap (asking kind) is ∙ ap (ask_at kind) (presides start.shape.nodes shape.nodes_some)
+      ap (asking kind) is ∙ ap (ask_at kind)
+      (node_of (members start.shape.nodes) (first_member start.shape.nodes shape.nodes_some))
 
   parts_ask : (given : List ApiReply) (standing : Standing) → IsAtEase start standing → (parts : Parts)
       (other : plain.Host) → ArePartsNear start given parts other → has_api other ≡ true → RestsOfClosings parts
@@ -282,7 +279,7 @@ module _ (hosts_level : HostsAreLevel) (start : Start) (shape : IsShape start.sh
       (ap (replies_at 0) blocks ∙ does.told)
       ∙ append-nil (replies_in start 0 (log 0))
 
-  pub shell_asks : ShellWaits start (Some kind_of) (after start 0 (now 0)).parts
+  shell_asks : ShellWaits start (Some kind_of) (after start 0 (now 0)).parts
   shell_asks =
       subst (ShellWaits start (Some kind_of))
       (sym (ap (λ (those : List HostStep). (after start 0 those).parts) own_log
@@ -294,7 +291,8 @@ module _ (hosts_level : HostsAreLevel) (start : Start) (shape : IsShape start.sh
       record {
         master =
             subst (MainRests start epoch) (sym (stay main (λ is. absurd (cc (is)))))
-            (main_rests start shape epoch (log main) (kept.mirrored main) (rests main (omega (arith, shape.nodes_some))));
+            (main_rests start shape epoch (log main) (kept.mirrored main)
+            (rests main (omega (arith, shape.nodes_some))));
         epochs = λ place low.
             subst (EpochsRest epoch) (sym (stay (host_in place false) (λ is. absurd (cc (is)))))
             (epochs_rest start shape epoch place low (log (host_in place false)) (kept.mirrored (host_in place false))

@@ -148,7 +148,8 @@ module _ (start : Start) (given : List ApiReply) (shape : IsShape start.shape) (
           (
             refl,
             ap (λ (b : ApiState). about b None) near.1.1.1
-                ∙ ap (λ (replies : List ApiReply). with_replies (about p.client.api None) (given ++ replies)) near.1.1.0,
+                ∙ ap (λ (replies : List ApiReply). with_replies (about p.client.api None) (given ++ replies))
+                near.1.1.0,
           ),
         ),
       );

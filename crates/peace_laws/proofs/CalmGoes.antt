@@ -130,8 +130,8 @@ module _ (hosts_level : HostsAreLevel) (start : Start) (shape : IsShape start.sh
         let fine = signal_fine start request was more all by asks_calmly es e run upto are.running are.good in
         let rooms = room start request was more all by asks_calmly es e run upto are.running are.good at.place at.low
         at.is (known.unasked beats) in (
-          main_good hosts_level start shape epoch was es e are.kept.mirrored low known stays fine (are.good e.host) beats
-              at.place at.low at.is rooms,
+          main_good hosts_level start shape epoch was es e are.kept.mirrored low known stays fine (are.good e.host)
+              beats at.place at.low at.is rooms,
           main_rests hosts_level start shape epoch was es e are.kept.mirrored low known stays fine (are.good e.host)
               beats at.place at.low at.is rooms,
         )
@@ -236,7 +236,8 @@ module _ (hosts_level : HostsAreLevel) (start : Start) (shape : IsShape start.sh
   all_good : AreGood start epoch was (grows.more ++ first)
   all_good =
       goes grows.more grows.run
-      (subst (λ (logs : ℕ → List HostStep). (h : ℕ) → IsPast (logs h) (more h)) (sym logs_are) (λ h. past_self (more h)))
+      (subst (λ (logs : ℕ → List HostStep). (h : ℕ) → IsPast (logs h) (more h)) (sym logs_are)
+      (λ h. past_self (more h)))
 
   good_at : (h : ℕ) → IsGood start was h (more h)
   good_at h = subst (λ (logs : ℕ → List HostStep). IsGood start was h (logs h)) logs_are (all_good.good h)

@@ -1,11 +1,10 @@
 -- Peace goes on by a closing from one moment at which nothing is under way to the next: it stands, and where nothing is
 -- under way again it rests in the next epoch, and the client was told.
-use Rattle.std.proofs.Common.{◌≡◌, ◌≢◌, ◌⊎◌, ◌<◌, ◌≤◌, ◌+◌, ◌*◌, ◌/◌, ◌%◌, inl, inr, ℕ, List, [], ◌∷◌, ◌++◌, Bool, true, false}
+use Rattle.std.proofs.Common.{◌≡◌, ◌≢◌, ◌<◌, ◌≤◌, ◌+◌, ◌*◌, ◌/◌, ◌%◌, inl, ℕ, List, [], ◌∷◌, ◌++◌, Bool, true, false}
 use Rattle.std.proofs.Common.{refl, ap, sym, ◌∙◌, subst, length, length-append, map, arith}
-use Rattle.std.proofs.Math.Path.{fun_ext}
 use Rattle.std.specs.List.{list_any}
 use Rattle.std.specs.Prelude.{◌||◌, if◌then◌else◌, nat_lt, Option, None, Some, option_to_list}
-use Rattle.std.proofs.lemmas.Bool.{cases_lt, false≢true}
+use Rattle.std.proofs.lemmas.Bool.{false≢true}
 use Rattle.api_views.specs.declared.closings.Closing.{Closing}
 use Rattle.api_views.specs.declared.closings.Closing.TheVariants as closing
 use Rattle.api_views.specs.Closings.{ask_of, closed_reply}
@@ -14,11 +13,10 @@ use Rattle.gcp_master.specs.declared.numbers.TheConstants.{MICROS}
 use Rattle.node_core.specs.Requests.{is_request}
 use Rattle.node_views.specs.declared.parts.Parts.{Parts}
 use Rattle.node_views.specs.declared.parts.Parts.TheVariants.{Shell, Main, Tc, Ldm}
-use Rattle.run_theory.proofs.Growth.{grow}
 use Rattle.run_theory.proofs.Pasts.{each_past, past_self, past_trans}
 use Rattle.run_theory.proofs.Runs.{log_of-own, log_of-past}
 use Rattle.run_theory.specs.Along.{Grows}
-use Rattle.run_theory.specs.Links.{sent, taken}
+use Rattle.run_theory.specs.Links.{taken}
 use Rattle.run_theory.specs.Lists.{Each, IsIn, IsPast}
 use Rattle.run_theory.specs.Runs.{IsWithin, Run, log_of}
 use Rattle.sig_core.specs.declared.outs.Outgoing.{Outgoing}
@@ -35,7 +33,6 @@ use Rattle.world_core.specs.Hosts.{hosts}
 use Rattle.world_core.specs.Requests.{request_in}
 use Rattle.world_core.specs.Start.{Start}
 use Rattle.world_core.specs.Steps.{Addressed, HostStep}
-use Rattle.world_views.proofs.SentFacts.{is_stamped}
 use Rattle.world_views.specs.Machine.{IsOwn, IsOwnWork, after, comes_rightly, has_stopped, machine}
 use Rattle.world_views.specs.Quiet.{IsQuiet}
 use Rattle.world_views.specs.Requests.{request_of, requests}
@@ -44,10 +41,8 @@ use Rattle.world_views.specs.Sending.{is_asked}
 use Rattle.calm_laws.specs.Calm.{is_calm}
 use Rattle.calm_laws.specs.Plain.{is_beating}
 use Rattle.calm_laws.specs.Resting.{IsRestingPart}
-use Rattle.calm_laws.proofs.Arrivals.{arriving}
-use Rattle.calm_laws.proofs.Events.{host_there, none_before}
-use Rattle.calm_laws.proofs.Asked.{IsAskedBehind, asked_behind, past_short}
-use Rattle.calm_laws.proofs.Arrivals.{given_running}
+use Rattle.calm_laws.proofs.Events.{none_before}
+use Rattle.calm_laws.proofs.Asked.{IsAskedBehind, asked_behind}
 use Rattle.level_laws.specs.Laws.{HostsAreLevel}
 use Rattle.peace_laws.specs.Closing.{Course, IsAskedFor, IsEnded, ShellWaits, main, next_of}
 use Rattle.peace_laws.specs.Laws.{GoOnBy, IsTold, is_spent}
@@ -59,6 +54,7 @@ use Rattle.peace_laws.proofs.AskingSteps.{closing_of}
 use Rattle.peace_laws.proofs.ClosingEnds.{closings_end}
 use Rattle.peace_laws.proofs.ClosingMoments.{Links, moment}
 use Rattle.peace_laws.proofs.ClosingRuns.{AreOn, IsOn, each_host, fits, is_on_next}
+use Rattle.peace_laws.proofs.FirstAsked as opening
 use Rattle.peace_laws.proofs.Letters.{IsFit}
 use Rattle.peace_laws.proofs.NextSignals.{AllTaken}
 use Rattle.peace_laws.proofs.RestAgain.{all_rest, logs_later}
@@ -234,34 +230,15 @@ module _ (hosts_level : HostsAreLevel) (start : Start) (shape : IsShape start.sh
     abbrev x : Signal
     x = e.step.taken
 
-    low : e.host < hosts start
-    low = host_there start (hosts start) e es (within (e ∷ es) upto)
-
-    not_given : is_asked e.host x ≡ false → ⊥
-    not_given unasked = go (cases_lt x.from.0 (hosts start))
-      where
-        given : IsPast (arriving e.host x ∷ taken (machine start) x.from.0 (base e.host))
-            (sent (machine start) x.from.0 e.host (base x.from.0))
-        given =
-            given_running start x.from.0 e.host (base x.from.0)
-            (arriving e.host x ∷ taken (machine start) x.from.0 (base e.host)) (running x.from.0)
-            (run.1.takes unasked)
-
-        go : (x.from.0 < hosts start) ⊎ (hosts start ≤ x.from.0) → ⊥
-        go (inl under) = absurd (omega (arith, past_short given, ap length (all x.from.0 e.host under low)))
-        go (inr above) =
-            absurd
-            (cc (none_before (arriving e.host x ∷ taken (machine start) x.from.0 (base e.host))
-            (sent (machine start) x.from.0 e.host (base x.from.0)) given
-            (ap (sent (machine start) x.from.0 e.host)
-            (within es (before es e upto) x.from.0 above))))
-
     asked : is_asked e.host x ≡ true
     asked = go (is_asked e.host x) refl
       where
         go : (b : Bool) → is_asked e.host x ≡ b → b ≡ true
         go true is = refl
-        go false unasked = absurd (not_given unasked)
+        go false unasked =
+            absurd
+            (opening.not_given start request was more rests.stands (taken_by_all start was rests.stands quiet) by e run
+            upto unasked)
 
     is_request_of : IsRequested e
     is_request_of = what es e upto run asked
@@ -359,28 +336,18 @@ module _ (hosts_level : HostsAreLevel) (start : Start) (shape : IsShape start.sh
         }
 
   -- the run to it goes on
-  grows : Grows (machine start) es more
-  grows = grow (machine start) (is_stamped start) (hosts start) es more rests.stands.run by.within by.right past
+  abbrev grows : Grows (machine start) es more
+  grows = opening.grows start request was more rests.stands (taken_by_all start was rests.stands quiet) by
 
   abbrev whole : List HostStep
   whole = grows.more ++ es
 
   logs_are : log_of (machine start) whole ≡ more
-  logs_are = fun_ext grows.logs
+  logs_are = opening.logs_are start request was more rests.stands (taken_by_all start was rests.stands quiet) by
 
   upto_whole : Upto whole
   upto_whole =
       subst (λ (logs : ℕ → List HostStep). (h : ℕ) → IsPast (logs h) (more h)) (sym logs_are) (λ h. past_self (more h))
-
-  some_more : grows.more ≡ [] → ⊥
-  some_more none =
-      absurd (omega (
-        arith,
-        ap length asked_once,
-        length-append (requests (base 0)) (request ∷ []),
-        ap (λ (logs : ℕ → List HostStep). length (requests (logs 0)))
-            (sym logs_are ∙ ap (λ newer. log_of (machine start) (newer ++ es)) none),
-      ))
 
   stands_by : AreOn start epoch base whole → Stands start more
   stands_by on =
@@ -524,12 +491,14 @@ module _ (hosts_level : HostsAreLevel) (start : Start) (shape : IsShape start.sh
             told = told;
           }
 
-  pub closes_by : ClosesOn start request epoch was more
+  closes_by : ClosesOn start request epoch was more
   closes_by = go grows.more grows.run upto_whole refl (next_of kind epoch) refl
     where
       go : (newer : List HostStep) → Run (machine start) (newer ++ es) → Upto (newer ++ es) → grows.more ≡ newer
           → (next : Option ℕ) → next_of kind epoch ≡ next → ClosesOn start request epoch was more
-      go [] run upto is next of = absurd (some_more is)
+      go [] run upto is next of =
+          absurd
+          (opening.none_more start request was more rests.stands (taken_by_all start was rests.stands quiet) by is)
       go (e ∷ newer) run upto is None of =
           none_closes
           (subst (λ those. OnlyAsked (those ++ es)) (sym is) (only_asked of e newer run upto))

@@ -232,7 +232,7 @@ module _ (hosts_level : HostsAreLevel) (start : Start) (shape : IsShape start.sh
           ap length (append-nil (requests (log h)))
           ∙ subst (λ j. length (requests (log j)) ≡ 1 + length (requests (base 0))) (sym at) on.once
 
-  pub on_next : AreOn start epoch base (e ∷ es)
+  on_next : AreOn start epoch base (e ∷ es)
   on_next =
       record {
         kept =
@@ -250,8 +250,8 @@ module _ (hosts_level : HostsAreLevel) (start : Start) (shape : IsShape start.sh
         below =
             each_host start es e (λ k those. AreBelow epoch those) (
               all_below epoch e.step.marks
-                  (moments.marks_now hosts_level start shape base all es e run within_now on.kept on.running unasked unspent
-                  links fit),
+                  (moments.marks_now hosts_level start shape base all es e run within_now on.kept on.running unasked
+                  unspent links fit),
               on.below h,
             )
             on.below;

@@ -63,14 +63,6 @@ calm_apart h x calm = go (is_for_closing x.to.block x.body) refl
 pub not_closing : (h : ℕ) (x : Signal) → is_for_closing x.to.block x.body ≡ false → is_closing h x ≡ false
 not_closing h x apart = and_right (has_closer h x.to.block) (is_for_closing x.to.block x.body) apart
 
--- nor is it for a block of views
-views_apart : (of : BlockId) (body : Body) → is_of_views of ≡ true → is_for_closing of body ≡ false
-views_apart block.Qmgr (Epoch signal) views = refl
-views_apart block.Qmgr body views = refl
-views_apart block.Arbiter (Epoch signal) views = refl
-views_apart block.Arbiter body views = refl
-views_apart of body views = absurd cc
-
 -- nor does it close a link
 pub closing_links : (of : BlockId) (body : Body) (cause : StopCause) → is_for_closing of body ≡ true
     → body ≡ Host (Closed cause) → ⊥
@@ -116,10 +108,6 @@ asking of body asks = absurd cc
 
 pub asks_kind : (x : Signal) → asks_closing 0 x ≡ true → IsPlainKind x.to.block x.body
 asks_kind x asks = asking x.to.block x.body asks
-
-asking_request : (of : BlockId) (body : Body) → asks_by of body ≡ true → is_request body ≡ true
-asking_request block.Api (Host (Continue (work.Request request) at)) asks = refl
-asking_request of body asks = absurd cc
 
 -- only the shell's host is asked for one
 pub asks_shell : (h : ℕ) (x : Signal) → asks_closing h x ≡ true → h ≡ 0

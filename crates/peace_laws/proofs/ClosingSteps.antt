@@ -174,7 +174,8 @@ module _ (start : Start) (given : List ApiReply) (standing : Standing) (ease : I
   client_near : (x : Signal) → x.view ≡ first start → is_for_closing block.Api x.body ≡ true
       → HostNear start 0 given from (of_client (client_row p.client x)) (plain_host.Shell a)
   client_near x view is =
-      subst (λ (c : ClientState). HostNear start 0 given from (of_client (client_table c x x.body)) (plain_host.Shell a))
+      subst (λ (c : ClientState). HostNear start 0 given from (of_client (client_table c x x.body))
+      (plain_host.Shell a))
       (sym (seen p.client x.view (near.1.0 ∙ sym view))) (client_by x x.body is)
 
 -- What a member tells: its master's node alone.
@@ -396,7 +397,8 @@ module _ (start : Start) (h : ℕ) (given : List ApiReply) (standing : Standing)
   main_near : (p : MainPart) (m : plain_main.MainPart) → is_beating (suc h) ≡ true
       → ArePartsNear start given (Main p) (plain_host.Main m) → is_for_closing block.GcpMaster x.body ≡ true
       → (asks_master x.body ≡ true → x.member.node ≡ 0)
-      → HostNear start (suc h) given x.member.node (with_parts (part_with (Main p)) (in_main (in_master p (master_row p.master x))))
+      → HostNear start (suc h) given x.member.node
+      (with_parts (part_with (Main p)) (in_main (in_master p (master_row p.master x))))
       (plain_host.Main m)
   main_near p m beats near is client =
       let step = master_steps p.master x near is client in
@@ -428,7 +430,8 @@ module _ (start : Start) (h : ℕ) (given : List ApiReply) (standing : Standing)
     (x : Signal) (client : asks_master x.body ≡ true → x.member.node ≡ 0) where
   abbrev IsStep : BlockId → Parts → plain.Host → Type 0
   IsStep to parts other =
-      HostNear start (suc h) given x.member.node (with_parts (part_with start h given standing ease x parts) (row_at parts to x)) other
+      HostNear start (suc h) given x.member.node
+      (with_parts (part_with start h given standing ease x parts) (row_at parts to x)) other
 
   same_parts : (parts : Parts) (other : plain.Host) → ArePartsNear start given parts other
       → HostNear start (suc h) given x.member.node (stay (part_with start h given standing ease x parts)) other
@@ -439,7 +442,8 @@ module _ (start : Start) (h : ℕ) (given : List ApiReply) (standing : Standing)
   at_master : is_beating (suc h) ≡ true → is_for_closing block.GcpMaster x.body ≡ true → (parts : Parts)
       (other : plain.Host) → ArePartsNear start given parts other → IsStep block.GcpMaster parts other
   unfolding shell_row main_row tc_row ldm_row
-  at_master beats is (Main p) (plain_host.Main m) near = main_near start h given standing ease x p m beats near is client
+  at_master beats is (Main p) (plain_host.Main m) near =
+      main_near start h given standing ease x p m beats near is client
   at_master beats is (Shell p) other near = same_parts (Shell p) other near
   at_master beats is (Tc p) other near = same_parts (Tc p) other near
   at_master beats is (Ldm p) other near = same_parts (Ldm p) other near
@@ -479,7 +483,8 @@ module _ (start : Start) (given : List ApiReply) (standing : Standing) (ease : I
       → HostNear start 0 given x.member.node
       (with_parts (record { standing = standing; parts = parts }) (row_at parts block.Api x)) other
   unfolding shell_row main_row tc_row ldm_row
-  at_client is (Shell p) (plain_host.Shell a) near = client_near start given standing ease p a near x.member.node x view is
+  at_client is (Shell p) (plain_host.Shell a) near =
+      client_near start given standing ease p a near x.member.node x view is
   at_client is (Main p) (plain_host.Main m) near = record {
     inner = plain_host.Main m;
     near = record { standing = ease; parts = near };
@@ -511,7 +516,8 @@ module _ (start : Start) (given : List ApiReply) (standing : Standing) (ease : I
 
   by_client : (to : BlockId) → has_closer 0 to ≡ true → is_for_closing to x.body ≡ true → (parts : Parts)
       (other : plain.Host) → ArePartsNear start given parts other
-      → HostNear start 0 given x.member.node (with_parts (record { standing = standing; parts = parts }) (row_at parts to x)) other
+      → HostNear start 0 given x.member.node
+      (with_parts (record { standing = standing; parts = parts }) (row_at parts to x)) other
   by_client block.Api has is = at_client is
   by_client to has is = absurd (false≢true has)
 

@@ -36,8 +36,8 @@ module _ (node : ℕ) (layout : Layout) (tx : TxId) (home : node ≡ tx.tc) wher
   abbrev pub list_of : Transaction → List Outgoing
   list_of t = phase_sends layout tx t.phase t.touched
 
-  -- A turn ends the transaction, or leaves it in another phase; or it begins to complete, and sends as much as it awaits
-  -- then, or goes on with that.
+  -- A turn ends the transaction, or leaves it in another phase; or it begins to complete, and sends as much as it
+  -- awaits then, or goes on with that.
   pub data Completes (t : Transaction) (to : Place) (body : Body) (turn : Turn) : Type 0 where
     ends : turn.over ≡ true → Completes t to body turn
     elsewhere : turn.over ≡ false → is_completing turn.step.state.phase ≡ false → Completes t to body turn
@@ -86,8 +86,8 @@ module _ (node : ℕ) (layout : Layout) (tx : TxId) (home : node ≡ tx.tc) wher
           begins refl (at_least (complete.written_count t.touched) some)
           (omega (
             arith,
-            part_stands tx (phase_sends layout tx (Completing epoch (complete.written_count t.touched)) t.touched) node 0
-                home,
+            part_stands tx (phase_sends layout tx (Completing epoch (complete.written_count t.touched)) t.touched)
+                node 0 home,
             list_completions layout tx epoch (complete.written_count t.touched) t.touched,
           ));
       ends = λ none. ends refl;

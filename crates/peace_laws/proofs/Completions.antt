@@ -143,7 +143,8 @@ module _ (tx : TxId) (list : List Outgoing) where
   pub rows_stand : (s : LqhState) (to : Place) (body : Body) → to.block ≡ block.Lqh
       → stands tx list to body ≤ in_sends (stands tx list) (lqh_table s body).effects.sends
   rows_stand s to (Chain (Complete other key chain at)) here =
-      complete_forms (λ step. one_if (same_tx other tx) ≤ in_sends (stands tx list) step.effects.sends) s other key chain
+      complete_forms (λ step. one_if (same_tx other tx) ≤ in_sends (stands tx list) step.effects.sends) s other key
+      chain
       at (record { last = λ first. omega (arith, answered (same_tx other tx) refl); passes = λ is. omega arith })
     where
       answered : (b : Bool) → same_tx other tx ≡ b → one_if b ≤ one_if ((other.tc == tx.tc) && b) + 0

@@ -81,16 +81,17 @@ module _ (start : Start) (request : ApiReq) (was more : ℕ → List HostStep) (
   abbrev es : List HostStep
   es = stands.es
 
-  grows : Grows (machine start) es more
+  -- the run to it goes on
+  pub grows : Grows (machine start) es more
   grows =
       grow (machine start) (is_stamped start) (hosts start) es more stands.run by.within by.right
       (subst (λ (logs : ℕ → List HostStep). (h : ℕ) → IsPast (logs h) (more h)) (sym stands.is) by.past)
 
-  logs_are : log_of (machine start) (grows.more ++ es) ≡ more
+  pub logs_are : log_of (machine start) (grows.more ++ es) ≡ more
   logs_are = fun_ext grows.logs
 
   -- something was done
-  none_more : grows.more ≡ [] → ⊥
+  pub none_more : grows.more ≡ [] → ⊥
   none_more none =
       absurd (omega (
         arith,
@@ -119,7 +120,7 @@ module _ (start : Start) (request : ApiReq) (was more : ℕ → List HostStep) (
         go (inr above) =
             absurd (cc (none_before (e ∷ was e.host) (more e.host) upto_own (by.within e.host above)))
 
-    not_given : is_asked e.host x ≡ false → ⊥
+    pub not_given : is_asked e.host x ≡ false → ⊥
     not_given unasked = go (cases_lt x.from.0 (hosts start))
       where
         given : IsPast (arriving e.host x ∷ taken (machine start) x.from.0 (was e.host))
@@ -217,7 +218,7 @@ part_append start h newer base = by (is_beating h)
         ap (map (levelled start.epoch)) (filter-append (is_beside h) newer base)
         ∙ map-append (levelled start.epoch) (filter (is_beside h) newer) (filter (is_beside h) base)
 
-pub part_past : (start : Start) (h : ℕ) (base all : List HostStep) → IsPast base all
+part_past : (start : Start) (h : ℕ) (base all : List HostStep) → IsPast base all
     → IsPast (plain_part start h base) (plain_part start h all)
 part_past start h base all past =
     record {

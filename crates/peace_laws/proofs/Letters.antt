@@ -45,11 +45,11 @@ has_block_of place false = part_in place false
 has_block_of place true = rows_in place
 
 -- none of them is a main part
-pub member_rests : (place : ℕ) (rows : Bool) → is_beating (host_in place rows) ≡ false
+member_rests : (place : ℕ) (rows : Bool) → is_beating (host_in place rows) ≡ false
 member_rests place false = ap (λ left. is_main (part_by left)) (mod-mul-add place 3 1 (omega arith))
 member_rests place true = ap (λ left. is_main (part_by left)) (mod-mul-add place 3 2 (omega arith))
 
-pub member_low : (start : Start) (place : ℕ) (rows : Bool) → place < start.shape.nodes
+member_low : (start : Start) (place : ℕ) (rows : Bool) → place < start.shape.nodes
     → host_in place rows < hosts start
 member_low start place false low = omega (arith, low)
 member_low start place true low = omega (arith, low)
@@ -69,8 +69,8 @@ mask_fits (suc (suc (suc (suc (suc (suc (suc zero))))))) some few = refl
 mask_fits (suc (suc (suc (suc (suc (suc (suc (suc zero)))))))) some few = refl
 mask_fits (suc (suc (suc (suc (suc (suc (suc (suc (suc n))))))))) some few = absurd (omega (arith, few))
 
--- A thing that is under way between hosts that are there, to a block that takes something of closings: it is well formed,
--- and no end of a link; and whoever may send it sends it for a closing.
+-- A thing that is under way between hosts that are there, to a block that takes something of closings: it is well
+-- formed, and no end of a link; and whoever may send it sends it for a closing.
 pub record IsFit (start : Start) (i h : ℕ) (one : Outgoing) : Type 0 where
   pub from_low : i < hosts start
   pub low : h < hosts start

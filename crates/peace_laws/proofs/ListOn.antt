@@ -68,7 +68,8 @@ report_goes start c shape after s at master listed front global there arrive =
           coming = rest_arrives start c shape after s at master.member listed arrive more;
         } in
         record { report = inr left; front = inr left }
-    by false none = record { report = inl (go (portion_or_rest (master_sends s) at (report_of c) there)); front = inl refl }
+    by false none =
+        record { report = inl (go (portion_or_rest (master_sends s) at (report_of c) there)); front = inl refl }
       where
         go : IsIn (report_of c) (portion (master_sends s) at)
             ⊎ IsIn (report_of c) (drop (at + PORTION) (master_sends s))

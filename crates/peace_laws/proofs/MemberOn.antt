@@ -30,7 +30,7 @@ use Rattle.peace_laws.proofs.WayOn.{answered_stays, behind_part, client_stays, c
 use Rattle.peace_laws.proofs.WayOn.{main_apart, shell_apart, stays_true, stepped, told_stays}
 
 -- an order of a stage is one of the closing, and is answered
-pub stage_order : (start : Start) (c : Course) (stage : Stage) → IsOrder c (order_of start c stage)
+stage_order : (start : Start) (c : Course) (stage : Stage) → IsOrder c (order_of start c stage)
 stage_order start c Prepares = (refl, refl)
 stage_order start c Commits = (refl, refl)
 stage_order start c Closes = tt
@@ -119,7 +119,8 @@ module _ (start : Start) (shape : IsShape start.shape) (c : Course) (before afte
   says : Each (IsAnswer (CommittedAt c after taken.place)) (answers taken.rows taken.order)
   says = by taken.rows refl
     where
-      by : (rows : Bool) → taken.rows ≡ rows → Each (IsAnswer (CommittedAt c after taken.place)) (answers rows taken.order)
+      by : (rows : Bool) → taken.rows ≡ rows
+          → Each (IsAnswer (CommittedAt c after taken.place)) (answers rows taken.order)
       by true is = rows_say _ taken.order
       by false is =
           let at : step.host ≡ host_in taken.place false =

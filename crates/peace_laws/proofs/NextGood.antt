@@ -1,5 +1,5 @@
--- Where peace goes on by a calm request: each step leaves what its host has done since the quiet moment good, and the host
--- at rest in its epoch.
+-- Where peace goes on by a calm request: each step leaves what its host has done since the quiet moment good, and the
+-- host at rest in its epoch.
 use Rattle.std.proofs.Common.{◌≡◌, ◌+◌, ◌*◌, ◌≤◌, ◌<◌, ℕ, zero, suc, List, [], ◌∷◌, ◌++◌, length, true, false}
 use Rattle.std.proofs.Common.{refl, ap, sym, ◌∙◌, subst, append-nil, arith}
 use Rattle.std.specs.Prelude.{map}
@@ -20,12 +20,11 @@ use Rattle.world_core.specs.Hosts.{Membership, first_membership, hosts, member_a
 use Rattle.world_core.specs.Machine as plain
 use Rattle.world_core.specs.Machine.{addressed, all_addressed, counted}
 use Rattle.world_core.specs.Start.{Start, made}
-use Rattle.world_core.specs.Steps.{Addressed, HostStep}
+use Rattle.world_core.specs.Steps.{HostStep}
 use Rattle.world_views.specs.Machine.{after, machine, step_after, stops_by}
 use Rattle.world_views.specs.Right.{replies_in}
 use Rattle.world_views.specs.Sending.{is_asked}
 use Rattle.calm_laws.specs.Alike.{AreAlike, IsAtEase}
-use Rattle.calm_laws.specs.Calm.{is_calm}
 use Rattle.calm_laws.specs.Plain.{is_beating}
 use Rattle.calm_laws.specs.Steps.{ComesCalmly, IsPlainSend, StepAlike, besides}
 use Rattle.calm_laws.proofs.Arrivals.{arriving}
@@ -41,19 +40,18 @@ use Rattle.peace_laws.proofs.CalmNear.{inner_main, nothing_replied}
 use Rattle.peace_laws.proofs.LevelSignals.{calm_level}
 use Rattle.peace_laws.proofs.Mirrored.{IsMirrored, level_step}
 use Rattle.peace_laws.proofs.NearHosts.{main_stays, near_alike}
+use Rattle.peace_laws.proofs.PlainCalm.{IsTakenCalmly}
 use Rattle.peace_laws.proofs.PlainEvents.{events_are, plain_events}
 use Rattle.peace_laws.proofs.RestingHosts.{StaysIn, main_stays_in, part_stays, stays_closeless}
 
 -- whoever is to take it takes it in calm, whatever its epoch
-abbrev pub IsTakenCalmly : Start → Addressed → Type 0
-IsTakenCalmly start x = x.to < hosts start → is_calm x.to x.signal ≡ true
-
 level_calm : (start : Start) (epoch : ℕ) (who : Membership) (h stamp : ℕ) (count : ℕ → ℕ) (sends : List Outgoing)
     → Each (IsTakenCalmly start) (all_addressed who h stamp count (map (send_at epoch) sends))
     → Each (IsTakenCalmly start) (all_addressed who h stamp count sends)
 level_calm start epoch who h stamp count [] all = tt
 level_calm start epoch who h stamp count (one ∷ more) all = (
-  λ low. sym (calm_level epoch (receiver who one.to) (addressed who h stamp (count (receiver who one.to)) one).signal) ∙ all.0 low,
+  λ low. sym (calm_level epoch (receiver who one.to) (addressed who h stamp (count (receiver who one.to)) one).signal)
+      ∙ all.0 low,
   level_calm start epoch who h stamp (counted (receiver who one.to) count) more all.1,
 )
 

@@ -1,5 +1,5 @@
--- Where peace goes on by a calm request: the next signal of a run is calm, since it was sent since the quiet moment, or is
--- the request.
+-- Where peace goes on by a calm request: the next signal of a run is calm, since it was sent since the quiet moment, or
+-- is the request.
 use Rattle.std.proofs.Common.{◌≡◌, ◌⊎◌, ◌+◌, ◌<◌, ◌≤◌, inl, inr, ℕ, List, [], ◌∷◌, ◌++◌, length, Bool, true, false}
 use Rattle.std.proofs.Common.{refl, ap, sym, ◌∙◌, subst, append_assoc, length-append, arith}
 use Rattle.std.specs.Prelude.{◌&&◌, if◌then◌else◌, Option, None, Some, option_to_list}

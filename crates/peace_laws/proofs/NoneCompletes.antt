@@ -1,5 +1,5 @@
--- Where nothing is under way no coordinator waits for rows of a transaction to be completed: along every run as much as it
--- awaits is on its way.
+-- Where nothing is under way no coordinator waits for rows of a transaction to be completed: along every run as much as
+-- it awaits is on its way.
 use Rattle.std.proofs.Common.{◌≡◌, ◌≢◌, ◌⊎◌, ◌≤◌, ◌<◌, ◌+◌, ℕ, suc, Bool, true, false, List, ◌∷◌, [], drop, length, refl, sym, ap}
 use Rattle.std.proofs.Common.{◌∙◌, subst, arith, inl, inr}
 use Rattle.std.proofs.lemmas.Bool.{and_parts, cases_eq, eqb-true, false≢true}
@@ -77,7 +77,8 @@ use Rattle.order_laws.specs.Still.{IsStill}
 use Rattle.peace_laws.proofs.Completions.{completions, is_home, rows_stand, stands}
 use Rattle.peace_laws.proofs.CompletionTurns.{Completes, begins, elsewhere, ends, goes, turn_completes}
 
--- What a step does to one transaction: nothing, where its signal isn't for it; a step of rows; it begins, or takes a turn.
+-- What a step does to one transaction: nothing, where its signal isn't for it; a step of rows; it begins, or takes a
+-- turn.
 data Moves (tx : TxId) (s : host.Host) (x : Signal) (t : Step host.Host) : Type 0 where
   aside : of_host tx t.state ≡ of_host tx s → (is_lqh x.to.block ≡ true → has_lqh s ≡ false)
       → (is_for tx x.body ≡ true → is_tc x.to.block ≡ true → of_host tx s ≡ None) → Moves tx s x t
@@ -360,7 +361,8 @@ module _ (start : Start) (tx : TxId) where
           where
             number : tx.tc ≡ (tc_of g).node
             number =
-                (of_each (λ one t. IsOwn (tc_of g).node (tc_of g).next_seq one) tx (tc_of g).live u facts.own there).home
+                (of_each (λ one t. IsOwn (tc_of g).node (tc_of g).next_seq one) tx (tc_of g).live u facts.own
+                there).home
 
             own : e.host ≡ home start tx
             own = own_home start es e come tx step.runs number
@@ -422,7 +424,8 @@ none_completes start logs h tx t quiet low live = by (is_completing t.phase) ref
     run = record {
       shape = quiet.shape;
       run = merged_run (machine start) (stamped start) (hosts start) logs quiet.within quiet.right;
-      within = subst (IsWithin (hosts start)) (sym (logs_merged (machine start) (hosts start) logs quiet.within quiet.right))
+      within =
+          subst (IsWithin (hosts start)) (sym (logs_merged (machine start) (hosts start) logs quiet.within quiet.right))
           quiet.within;
     }
 

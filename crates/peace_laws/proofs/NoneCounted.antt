@@ -55,7 +55,8 @@ module _ (start : Start) (logs : ℕ → List HostStep) (quiet : AreQuiet start 
   low : tc_host start node < hosts start
   low = host_below start (coordinator node) some few
 
-  one_off : (e : TxId × Transaction) → IsIn e (tc_of (after start (tc_host start node) (logs (tc_host start node)))).live
+  one_off : (e : TxId × Transaction)
+      → IsIn e (tc_of (after start (tc_host start node) (logs (tc_host start node)))).live
       → is_counted_one e ≡ false
   one_off (tx, t) there =
       uncounted t.phase (no_epoch start logs (tc_host start node) tx t quiet low there)
@@ -76,7 +77,9 @@ module _ (start : Start) (logs : ℕ → List HostStep) (quiet : AreQuiet start 
       whole = quiet.quiet (tc_host start node) (tc_host start node) low low
 
       d : DihIs start node some few (logs (tc_host start node))
-      d = dih_is start node some few (logs (tc_host start node)) (all_own start node some few logs quiet.within quiet.right)
+      d =
+          dih_is start node some few (logs (tc_host start node))
+          (all_own start node some few logs quiet.within quiet.right)
 
       s : SentCounts start node some few (logs (tc_host start node))
       s = sent_counts start node some few (logs (tc_host start node))

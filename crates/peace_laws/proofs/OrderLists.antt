@@ -51,7 +51,7 @@ pub in_back : {A : Type 0} (x : A) (xs ys : List A) → IsIn x ys → IsIn x (xs
 in_back x [] ys is = is
 in_back x (y ∷ xs) ys is = inr (in_back x xs ys is)
 
-pub either_part : {A : Type 0} (x : A) (xs ys : List A) → IsIn x (xs ++ ys) → IsIn x xs ⊎ IsIn x ys
+either_part : {A : Type 0} (x : A) (xs ys : List A) → IsIn x (xs ++ ys) → IsIn x xs ⊎ IsIn x ys
 either_part x [] ys is = inr is
 either_part x (y ∷ xs) ys (inl same) = inl (inl same)
 either_part {A} x (y ∷ xs) ys (inr later) = go (either_part x xs ys later)
@@ -107,7 +107,7 @@ in_members (suc n) place low = go (in_members n place) (cases_lt place n)
         in_back (first_start (place + 1)) (members n) (first_start (n + 1) ∷ [])
         (inl (ap (λ k. first_start (k + 1)) same))
 
-pub lt_of : (m n : ℕ) → nat_lt m n ≡ true → m < n
+lt_of : (m n : ℕ) → nat_lt m n ≡ true → m < n
 lt_of m n is = grind (arith, nat_tests, is)
 
 -- where what is for a member goes
@@ -183,7 +183,8 @@ module _ (start : Start) (c : Course) where
         is = ap (λ (k : Closing). to_place client (Epoch (report_by c.epoch k))) (sym is);
       })
 
-  front_sent : (kind : Closing) → c.kind ≡ kind → Each IsSent (front_sends 1 (first start) (Some (ended_by c.epoch kind)))
+  front_sent : (kind : Closing) → c.kind ≡ kind
+      → Each IsSent (front_sends 1 (first start) (Some (ended_by c.epoch kind)))
   unfolding front_sends
   front_sent Gcp is =
       each_append IsSent (to_both (order.Done c.epoch) (first start)) _ (both_sent (order.Done c.epoch) tt tt)
@@ -339,7 +340,8 @@ over_listed start c s master phase (inr left) =
 -- A step of the master that sends its list from a place on.
 module _ (start : Start) (c : Course) (shape : IsShape start.shape) (after : Moment) (s : MasterState) (at : ℕ)
     (member : s.member ≡ first_start 1) (listed : IsListed start c s)
-    (arrive : Each (λ (one : Outgoing). IsIn one (after.under_way main (host_for start one.to))) (list_effects s at).sends)
+    (arrive : Each (λ (one : Outgoing). IsIn one (after.under_way main (host_for start one.to)))
+    (list_effects s at).sends)
   where
     arrives : (one : Outgoing) → IsIn one (list_effects s at).sends
         → IsIn one (after.under_way main (host_for start one.to))
@@ -388,7 +390,8 @@ module _ (start : Start) (c : Course) (shape : IsShape start.shape) (after : Mom
 
     -- all that is sent is of this closing
     rest_is : (more : Bool) → nat_lt (at + PORTION) (length (master_sends s)) ≡ more → (one : Outgoing)
-        → IsIn one (rest_if (checkpoints s.member.node) Members at more) → GoingOn start main (host_for start one.to) one
+        → IsIn one (rest_if (checkpoints s.member.node) Members at more)
+        → GoingOn start main (host_for start one.to) one
     rest_is true more one (inl same) =
         let own : one ≡ going_on (at + PORTION) =
         same ∙ ap (λ (m : Member). go_on_at (checkpoints m.node) Members (at + PORTION)) member in
@@ -407,9 +410,11 @@ module _ (start : Start) (c : Course) (shape : IsShape start.shape) (after : Mom
     unfolding list_effects
     all_letters one is =
         go
-        (either_part one (portion (master_sends s) at) (rest (checkpoints s.member.node) Members (master_sends s) at) is)
+        (either_part one (portion (master_sends s) at)
+        (rest (checkpoints s.member.node) Members (master_sends s) at) is)
       where
-        go : IsIn one (portion (master_sends s) at) ⊎ IsIn one (rest (checkpoints s.member.node) Members (master_sends s) at)
+        go : IsIn one (portion (master_sends s) at)
+            ⊎ IsIn one (rest (checkpoints s.member.node) Members (master_sends s) at)
             → IsSent start c one ⊎ GoingOn start main (host_for start one.to) one
         go (inl there) =
             inl (each_in (IsSent start c) one (portion (master_sends s) at)

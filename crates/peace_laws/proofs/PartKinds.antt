@@ -98,14 +98,7 @@ module _ (start : Start) (shape : IsShape start.shape) (epoch : ℕ) where
   epochs_at_rest : (h : ℕ) (given : List ApiReply) (parts : Parts) (other : plain.Host)
       → ArePartsNear start given parts other → has_tc other ≡ true → RestsIn start h epoch parts
       → EpochsRest epoch parts
-  epochs_at_rest h given (Tc p) (kind.Tc q) near is rests =
-      record {
-        current = rests.current;
-        next = rests.next;
-        counted = rests.counted;
-        held = rests.held;
-        order = rests.order;
-      }
+  epochs_at_rest h given (Tc p) (kind.Tc q) near is rests = rests
   epochs_at_rest h given (Shell p) (kind.Tc q) near is rests = absurd near
   epochs_at_rest h given (Main p) (kind.Tc q) near is rests = absurd near
   epochs_at_rest h given (Ldm p) (kind.Tc q) near is rests = absurd near

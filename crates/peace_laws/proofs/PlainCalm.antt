@@ -17,7 +17,7 @@ use Rattle.calm_laws.specs.Calm.{is_calm}
 use Rattle.calm_laws.proofs.PlainSends.{plain_sends_calm}
 
 -- whoever is to take it takes it in calm
-abbrev IsTakenCalmly : Start → Addressed → Type 0
+abbrev pub IsTakenCalmly : Start → Addressed → Type 0
 IsTakenCalmly start x = x.to < hosts start → is_calm x.to x.signal ≡ true
 
 module _ (start : Start) where

@@ -30,7 +30,7 @@ use Rattle.sig_core.specs.Step.{Step, to_place}
 use Rattle.world_core.specs.Hosts.{host_for, member_at}
 use Rattle.world_core.specs.Start.{Start, made}
 use Rattle.calm_laws.specs.Alike.{first}
-use Rattle.peace_laws.specs.Closing.{Course, EpochsRest, HasRows, IsAskedFor, MainRests, MasterRests}
+use Rattle.peace_laws.specs.Closing.{Course, EpochsRest, HasRows, IsAskedFor, MainRests, PresidentRests}
 use Rattle.peace_laws.specs.Closing.{ShellWaits, host_in, main, next_of}
 use Rattle.peace_laws.specs.Moments.{Moment, Takes, behind, told_by}
 use Rattle.peace_laws.specs.UnderWay.{GoingOn, HasMember, IsClient, IsLetter, IsMaster, IsUnderWay, Prepares, ShellHas}
@@ -66,7 +66,7 @@ begun_by start c =
       voices = [];
     }
 
-resting_is : (start : Start) (epoch : ℕ) (s : MasterState) → MasterRests start epoch s
+resting_is : (start : Start) (epoch : ℕ) (s : MasterState) → PresidentRests start epoch s
     → s ≡ resting start epoch s.voices
 resting_is start epoch s rests = λ i. record {
   member = rests.member i;
@@ -88,7 +88,8 @@ module _ (start : Start) (c : Course) (voices : List Voice) (voice : Voice) (cli
   global_begins next =
       ap (λ n. asked_row s (global_asked s.asked n)) client
       ∙ ap (λ (o : Option ℕ).
-      begins_if (begin_global (record s { asked = record { global = true; copy = false; micro = false } }) c.epoch o).state
+      begins_if
+      (begin_global (record s { asked = record { global = true; copy = false; micro = false } }) c.epoch o).state
       (begin_global (record s { asked = record { global = true; copy = false; micro = false } }) c.epoch o).spent false)
       next
 
@@ -96,7 +97,8 @@ module _ (start : Start) (c : Course) (voices : List Voice) (voice : Voice) (cli
   unfolding asked_row begins begun
   micro_begins next =
       ap (λ (o : Option ℕ).
-      begins_if (begin_micro (record s { asked = record { global = false; copy = false; micro = true } }) c.epoch o).state
+      begins_if
+      (begin_micro (record s { asked = record { global = false; copy = false; micro = true } }) c.epoch o).state
       (begin_micro (record s { asked = record { global = false; copy = false; micro = true } }) c.epoch o).spent false)
       next
 
@@ -145,7 +147,7 @@ module _ (start : Start) (shape : IsShape start.shape) (c : Course) (next : next
       cc (own)
 
   -- the master begins the closing
-  module _ (p : MainPart) (main_is : before.parts main ≡ Main p) (rests : MasterRests start c.epoch p.master) where
+  module _ (p : MainPart) (main_is : before.parts main ≡ Main p) (rests : PresidentRests start c.epoch p.master) where
     abbrev t : Step MasterState
     t = master_row p.master step.x
 
@@ -236,7 +238,8 @@ module _ (start : Start) (shape : IsShape start.shape) (c : Course) (next : next
         sent (inr on) = inr (inr (inl on))
 
         go : (IsIn one (before.under_way i j) × (i ≡ step.sender → j ≡ step.host → IsIn one step.rest))
-            ⊎ ((i ≡ step.host) × ((j ≡ host_for start one.to) × IsIn one (parts_row (before.parts step.host) step.x).effects.sends))
+            ⊎ ((i ≡ step.host)
+            × ((j ≡ host_for start one.to) × IsIn one (parts_row (before.parts step.host) step.x).effects.sends))
             → IsLetter start c after i j one
         go (inl was) =
             let where_from = asked.alone i j one was.0 in

@@ -57,14 +57,7 @@ shell_rests start epoch (Tc p) waits owns = absurd waits
 shell_rests start epoch (Ldm p) waits owns = absurd waits
 
 epochs_rest : (start : Start) (h epoch : ℕ) (parts : Parts) → EpochsRest epoch parts → RestsIn start h epoch parts
-epochs_rest start h epoch (Tc p) rests =
-    record {
-      current = rests.current;
-      next = rests.next;
-      counted = rests.counted;
-      held = rests.held;
-      order = rests.order;
-    }
+epochs_rest start h epoch (Tc p) rests = rests
 epochs_rest start h epoch (Shell p) rests = absurd rests
 epochs_rest start h epoch (Main p) rests = absurd rests
 epochs_rest start h epoch (Ldm p) rests = absurd rests

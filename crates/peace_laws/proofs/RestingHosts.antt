@@ -1,5 +1,5 @@
--- A host at which no closing is under way stays so at a calm step, and in its epoch: no closing is asked for, its master of
--- checkpoints does nothing, and its node gives the same epoch.
+-- A host at which no closing is under way stays so at a calm step, and in its epoch: no closing is asked for, its
+-- master of checkpoints does nothing, and its node gives the same epoch.
 use Rattle.std.proofs.Common.{◌≡◌, ℕ, zero, suc, List, [], Bool, true, false, refl, ap, sym, ◌∙◌, subst}
 use Rattle.std.specs.Prelude.{None}
 use Rattle.std.proofs.lemmas.Bool.{false≢true}
@@ -30,7 +30,7 @@ use Rattle.calm_laws.specs.Steps.{ComesCalmly}
 use Rattle.calm_laws.proofs.Ease.{blocks_alone, ease_row, has_calm_block}
 use Rattle.calm_laws.proofs.FineSends.{beating_block}
 use Rattle.peace_laws.specs.Alike.{ArePartsNear, RestsOfClosings}
-use Rattle.peace_laws.specs.Rest.{MasterRests, RestsIn}
+use Rattle.peace_laws.specs.Rest.{MasterRestsIn, RestsIn}
 use Rattle.peace_laws.proofs.NearHosts.{has_main}
 
 -- a node gives this epoch, and isn't prepared for another one
@@ -43,7 +43,7 @@ pub record GivesOn (epoch : ℕ) (s : views.DihState) : Type 0 where
 -- a part of host h is at rest in this epoch, but for the transactions that are counted
 abbrev pub StaysIn : Start → ℕ → ℕ → Parts → Type 0
 StaysIn start h epoch (Shell p) = (p.client.closing ≡ None) × (p.client.own ≡ false)
-StaysIn start h epoch (Main p) = MasterRests start h epoch p.master
+StaysIn start h epoch (Main p) = MasterRestsIn start h epoch p.master
 StaysIn start h epoch (Tc p) = GivesOn epoch p.dih
 StaysIn start h epoch (Ldm p) = Unit {0}
 
@@ -104,7 +104,7 @@ part_gives epoch p block.Dih x gives = epoch_stays p.dih x.body ∙ gives
 part_gives epoch p block.Tc x gives = gives
 part_gives epoch p to x gives = gives
 
-pub row_gives : (epoch : ℕ) (s : plain_host.Host) (x : Signal) → Gives epoch s → Gives epoch (row s x).state
+row_gives : (epoch : ℕ) (s : plain_host.Host) (x : Signal) → Gives epoch s → Gives epoch (row s x).state
 unfolding row
 row_gives epoch (plain.Tc p) x gives = part_gives epoch p x.to.block x gives
 row_gives epoch (plain.Shell a) x gives = tt

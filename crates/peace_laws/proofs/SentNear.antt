@@ -48,7 +48,7 @@ IsAside r = is_beating r.to ≡ true
 master_part : (of : BlockId) → of ≡ GcpMaster → part_of of ≡ part_of Qmgr
 master_part of is = ap part_of is
 
-pub master_beats : (start : Start) (to : Place) → to.block ≡ GcpMaster → 1 ≤ to.node
+master_beats : (start : Start) (to : Place) → to.block ≡ GcpMaster → 1 ≤ to.node
     → is_beating (host_for start to) ≡ true
 unfolding receiver
 master_beats start to is some =

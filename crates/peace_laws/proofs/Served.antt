@@ -1,5 +1,5 @@
--- A life in peace, request by request: it stands after each, and rests where nothing is under way. So its plain parts are
--- what the plain machine does, and each closing is answered, where closings go on from rest to rest.
+-- A life in peace, request by request: it stands after each, and rests where nothing is under way. So its plain parts
+-- are what the plain machine does, and each closing is answered, where closings go on from rest to rest.
 use Rattle.std.proofs.Common.{◌≡◌, ◌⊎◌, ◌≤◌, inl, inr, ℕ, Bool, true, false, List, [], ◌∷◌, ◌++◌, refl, sym, subst, arith}
 use Rattle.std.proofs.Math.Path.{fun_ext}
 use Rattle.std.specs.Prelude.{◌||◌}
@@ -38,8 +38,8 @@ use Rattle.peace_laws.proofs.NextSignals.{AllTaken}
 use Rattle.peace_laws.proofs.PlainLogs as plain_logs
 use Rattle.peace_laws.proofs.Stands.{AreBelow, IsBelow, Rests, Stands, has, lives_rest, taken_by_all}
 
--- Peace goes on by a closing: it stands, and where nothing is under way again it rests in the next epoch, and the client
--- was told of the end of the one that was closed.
+-- Peace goes on by a closing: it stands, and where nothing is under way again it rests in the next epoch, and the
+-- client was told of the end of the one that was closed.
 pub record ClosesOn (start : Start) (request : ApiReq) (epoch : ℕ) (was more : ℕ → List HostStep) : Type 0 where
   pub stands : Stands start more
   pub next : ℕ
@@ -150,7 +150,8 @@ lives_plain hosts_level closes start asked logs life =
       replies = plain_logs.replies start stands.es logs (has start logs stands) stands.kept;
       asked = plain_logs.asked start stands.es logs (has start logs stands) stands.kept;
       at_quiet = served.asked;
-      quiet = λ quiet. plain_logs.quiet_plain start stands.es logs (has start logs stands) stands.kept stands.running quiet;
+      quiet =
+          λ quiet. plain_logs.quiet_plain start stands.es logs (has start logs stands) stands.kept stands.running quiet;
     }
 
 -- what was decided in no later epoch has no entry in one

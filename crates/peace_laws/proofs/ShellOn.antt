@@ -159,7 +159,8 @@ module _ (start : Start) (c : Course) (before after : Moment) (w : IsUnderWay st
       → P (behind step.host now.state)
   none_of P off was =
       absurd
-      (go (before.parts step.host) (subst (λ h. ShellHas (IsClient start) (before.parts h)) (sym report.to) w.shell) was)
+      (go (before.parts step.host) (subst (λ h. ShellHas (IsClient start) (before.parts h)) (sym report.to) w.shell)
+      was)
     where
       go : (parts : Parts) → ShellHas (IsClient start) parts → P parts → ⊥
       go (Shell p) is was = off p was

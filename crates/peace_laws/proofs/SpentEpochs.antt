@@ -34,14 +34,14 @@ use Rattle.world_core.specs.Steps.{HostStep}
 use Rattle.world_views.specs.Machine.{after, machine}
 use Rattle.world_views.specs.Sending.{is_asked}
 use Rattle.level_laws.specs.Laws.{HostsAreLevel}
-use Rattle.peace_laws.specs.Closing.{Course, IsAskedFor, MainRests, MasterRests, main, next_of}
+use Rattle.peace_laws.specs.Closing.{Course, IsAskedFor, MainRests, PresidentRests, main, next_of}
 use Rattle.peace_laws.specs.Laws.{is_spent}
 use Rattle.peace_laws.proofs.ClosingMoments as moments
 use Rattle.peace_laws.proofs.ClosingMoments.{Links, moment}
 use Rattle.peace_laws.proofs.ClosingRuns.{AreOn, asked_fits, asked_is}
 use Rattle.peace_laws.proofs.NextSignals.{AllTaken}
 
-module _ (start : Start) (epoch : ℕ) (s : MasterState) (rests : MasterRests start epoch s) where
+module _ (start : Start) (epoch : ℕ) (s : MasterState) (rests : PresidentRests start epoch s) where
   none_left : (asked : Asked)
       → list_any is_spent (begins (record s { asked = asked }) epoch (is_some s.front)).effects.marks ≡ true
       → list_any is_spent (asked_row s asked).effects.marks ≡ true

@@ -1,5 +1,5 @@
--- What is under way on a link, in a run that goes on from logs: what was sent since and not taken. A step takes the oldest
--- of it, and puts in front what it sends.
+-- What is under way on a link, in a run that goes on from logs: what was sent since and not taken. A step takes the
+-- oldest of it, and puts in front what it sends.
 use Rattle.std.proofs.Common.{◌≡◌, ◌≢◌, ◌⊎◌, inl, inr, ℕ, List, [], ◌∷◌, ◌++◌, Bool, true, false, refl, ap, ap₂, sym, ◌∙◌}
 use Rattle.std.proofs.Common.{subst, append_assoc, eq-eqb, eqb-true, map}
 use Rattle.std.specs.Prelude.{◌==◌, if◌then◌else◌}
@@ -56,7 +56,8 @@ put_append : (start : Start) (j : ℕ) (xs front back : List Addressed)
     → put (machine start) j xs (front ++ back) ≡ put (machine start) j xs front ++ back
 put_append start j [] front back = refl
 put_append start j (x ∷ xs) front back =
-    ap (put (machine start) j xs) (one (x.to == j)) ∙ put_append start j xs (if x.to == j then x ∷ front else front) back
+    ap (put (machine start) j xs) (one (x.to == j)) ∙ put_append start j xs (if x.to == j then x ∷ front else front)
+    back
   where
     one : (b : Bool) → (if b then x ∷ (front ++ back) else front ++ back) ≡ (if b then x ∷ front else front) ++ back
     one true = refl
@@ -216,7 +217,8 @@ module _ (start : Start) (base : ℕ → List HostStep) (es : List HostStep) (e 
     cases_in other (first ∷ front) (inl same) = inl (inl same)
     cases_in other (first ∷ front) (inr is) = go (cases_in other front is)
       where
-        go : IsIn other front ⊎ (other ≡ said (arriving h x)) → IsIn other (first ∷ front) ⊎ (other ≡ said (arriving h x))
+        go : IsIn other front ⊎ (other ≡ said (arriving h x))
+            → IsIn other (first ∷ front) ⊎ (other ≡ said (arriving h x))
         go (inl is) = inl (inr is)
         go (inr same) = inr same
 
@@ -234,7 +236,8 @@ module _ (start : Start) (base : ℕ → List HostStep) (es : List HostStep) (e 
             gone = arriving h x ∷ (links i h).gone;
             sent_is =
                 (links i h).sent_is
-                ∙ ap (λ (those : List Addressed). those ++ ((links i h).gone ++ sent (machine start) i h (base i))) oldest
+                ∙ ap (λ (those : List Addressed). those ++ ((links i h).gone ++ sent (machine start) i h (base i)))
+                oldest
                 ∙ append_assoc next.newer (arriving h x ∷ []) ((links i h).gone ++ sent (machine start) i h (base i));
             taken_is =
                 ap (taken (machine start) i) (log_of-own (machine start) e es h refl)

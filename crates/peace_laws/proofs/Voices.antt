@@ -149,7 +149,8 @@ member_in start place true low =
     let at : (place * 3 + 2) / 3 ≡ place = omega arith in
     member_first start (place * 3 + 2) (omega (arith, low)) ∙ ap (λ (i : ℕ). first_start (i + 1)) at
 
-in_first : (start : Start) (place : ℕ) → place < start.shape.nodes → is_in (first start) (first_start (place + 1)) ≡ true
+in_first : (start : Start) (place : ℕ) → place < start.shape.nodes
+    → is_in (first start) (first_start (place + 1)) ≡ true
 unfolding is_member
 in_first start place low =
     ap (is_in (first start)) (sym (member_in start place false low))
@@ -171,7 +172,8 @@ counts_or_heard start s place rows shape view low few none = go (is_heard s.voic
     go : (b : Bool) → is_heard s.voices (voice_of place rows) ≡ b → is_heard s.voices (voice_of place rows) ≡ true
     go true is = is
     go false unheard =
-        let room : length s.voices < 16 = few_room start.shape.nodes s.voices place rows shape.nodes_few low few unheard in
+        let room : length s.voices < 16 =
+        few_room start.shape.nodes s.voices place rows shape.nodes_few low few unheard in
         absurd
         (false≢true
         (sym none

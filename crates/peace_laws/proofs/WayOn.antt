@@ -118,7 +118,7 @@ module _ (start : Start) (c : Course) (before after : Moment) (w : IsUnderWay st
     pub client_stays : ShellHas (IsClient start) (after.parts 0)
     client_stays = subst (ShellHas (IsClient start)) (sym shell_stays) w.shell
 
-    pub untold_stays : IsUntold c before → IsUntold c after
+    untold_stays : IsUntold c before → IsUntold c after
     untold_stays is = (subst (ShellHas _) (sym shell_stays) is.0, replies_stay ∙ is.1)
 
     pub answered_stays : IsAnswered c before → IsAnswered c after

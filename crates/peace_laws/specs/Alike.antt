@@ -29,8 +29,8 @@ pub record AreEpochsNear (one : views.DihState) (other : plain_dih.DihState) : T
   pub counted : map tx_of one.counted ≡ other.counted
   pub held : one.held ≡ []
 
--- No member is asked how far it is, and no copying of rows waits for the end of a closing: of the one that is under way,
--- of the last one, and of the next.
+-- No member is asked how far it is, and no copying of rows waits for the end of a closing: of the one that is under
+-- way, of the last one, and of the next.
 abbrev pub IsPhaseNear : Phase → Type 0
 IsPhaseNear (Gathering known) = ⊥
 IsPhaseNear (Preparing run) = run.copy ≡ false

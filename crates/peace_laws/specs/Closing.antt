@@ -13,7 +13,6 @@ use Rattle.gcp_master.specs.State.{MasterState}
 use Rattle.node_views.specs.declared.parts.Parts.{Parts}
 use Rattle.node_views.specs.declared.parts.Parts.TheVariants.{Shell, Main, Tc, Ldm}
 use Rattle.run_theory.specs.Lists.{IsIn}
-use Rattle.peace_laws.specs.Rest.{GivesAlone}
 use Rattle.sig_core.specs.declared.outs.Outgoing.{Outgoing}
 use Rattle.sig_core.specs.declared.reply.ApiReply.{ApiReply}
 use Rattle.sig_core.specs.Place.{checkpoints}
@@ -21,6 +20,7 @@ use Rattle.sig_core.specs.Step.{to_place}
 use Rattle.world_core.specs.Start.{Start}
 use Rattle.calm_laws.specs.Alike.{first}
 use Rattle.peace_laws.specs.Moments.{GoesOn, IsStill, Moment, newest}
+use Rattle.peace_laws.specs.Rest.{GivesAlone, MasterRests}
 
 -- A closing: the epoch that it closes, the one that follows, what the client asked for, and what it was told before.
 pub record Course : Type 0 where
@@ -51,17 +51,12 @@ abbrev pub HasRows : Parts → Type 0
 HasRows (Ldm p) = Unit {0}
 HasRows parts = ⊥
 
--- the president's master, at rest in an epoch, and nothing is asked for
-pub record MasterRests (start : Start) (epoch : ℕ) (m : MasterState) : Type 0 where
-  pub member : m.member ≡ first_start 1
-  pub view : m.view ≡ first start
-  pub phase : m.phase ≡ Resting epoch
-  pub front : m.front ≡ None
-  pub asked : m.asked ≡ record { global = false; copy = false; micro = false }
-  pub owed : m.owed ≡ false
+-- the president's master, at rest in an epoch
+abbrev pub PresidentRests : Start → ℕ → MasterState → Type 0
+PresidentRests start epoch m = MasterRests start (first_start 1) (Resting epoch) m
 
 abbrev pub MainRests : Start → ℕ → Parts → Type 0
-MainRests start epoch (Main p) = MasterRests start epoch p.master
+MainRests start epoch (Main p) = PresidentRests start epoch p.master
 MainRests start epoch parts = ⊥
 
 -- the client's side, where this closing is under way, or none

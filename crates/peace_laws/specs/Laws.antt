@@ -57,8 +57,8 @@ pub record IsPeacefulLife (start : Start) (asked : List ApiReq) (logs : ℕ → 
   pub served : AreServedBy start asked logs
 
 -- They are peaceful. Their plain parts are logs of the plain machine, whose shell was replied the same, but for views,
--- ends of closings, and epochs. Both were asked for the same, each time when nothing was under way; and where nothing is
--- under way, nothing is in the plain machine.
+-- ends of closings, and epochs. Both were asked for the same, each time when nothing was under way; and where nothing
+-- is under way, nothing is in the plain machine.
 pub record ArePlain (start : Start) (logs : ℕ → List HostStep) : Type 0 where
   pub peaceful : ArePeaceful logs
   pub right : AreLogs (plain.machine start) (plain_parts start logs)
@@ -75,8 +75,8 @@ PeacefulLivesArePlain =
     (start : Start) (asked : List ApiReq) (logs : ℕ → List HostStep) → IsPeacefulLife start asked logs
     → ArePlain start logs
 
--- A closing of an epoch was answered since then: the client was told that an epoch is closed, or durable, and nothing else;
--- and that isn't below the epoch of any transaction that had been reported as committed.
+-- A closing of an epoch was answered since then: the client was told that an epoch is closed, or durable, and nothing
+-- else; and that isn't below the epoch of any transaction that had been reported as committed.
 abbrev pub IsTold : ApiReq → Start → (was now : ℕ → List HostStep) → ℕ → Type 0
 IsTold Gcp start was now epoch = replies_in start 0 (now 0) ≡ replies_in start 0 (was 0) ++ Durable epoch ∷ []
 IsTold Micro start was now epoch = replies_in start 0 (now 0) ≡ replies_in start 0 (was 0) ++ Closed epoch ∷ []

@@ -11,8 +11,8 @@ use Rattle.world_core.specs.Hosts.{host_for, member_at}
 use Rattle.world_core.specs.Start.{Start, made}
 use Rattle.calm_laws.specs.Alike.{first}
 
--- A moment: what the parts of each host know, what is under way from one host to another, the newest first, and what the
--- client was told, the oldest first.
+-- A moment: what the parts of each host know, what is under way from one host to another, the newest first, and what
+-- the client was told, the oldest first.
 pub record Moment : Type 0 where
   pub parts : ℕ → Parts
   pub under_way : ℕ → ℕ → List Outgoing

@@ -1,5 +1,6 @@
 -- The plain part of peaceful logs: what is left of them without the main parts of nodes and without closings, and with
--- all epochs made the one in which the life began. It is what a cluster does in which nothing can fail and no epoch ends.
+-- all epochs made the one in which the life began. It is what a cluster does in which nothing can fail and no epoch
+-- ends.
 use Rattle.std.specs.Prelude.{ℕ, if◌then◌else◌, Bool, true, false, not, List, [], filter, map}
 use Rattle.sig_core.specs.declared.reply.ApiReply.{ApiReply}
 use Rattle.sig_core.specs.declared.reply.ApiReply.TheVariants.{Closed, Durable, View}

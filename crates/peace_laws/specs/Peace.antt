@@ -1,5 +1,5 @@
--- Peaceful logs: what was taken is what a cluster sends in which nothing fails, with its rounds, heartbeats and closings
--- of epochs.
+-- Peaceful logs: what was taken is what a cluster sends in which nothing fails, with its rounds, heartbeats and
+-- closings of epochs.
 use Rattle.std.specs.Prelude.{◌≡◌, ℕ, zero, suc, ◌%◌, ◌&&◌, ◌||◌, Bool, true, false, List}
 use Rattle.run_theory.specs.Lists.{Each}
 use Rattle.sig_core.specs.declared.place.BlockId.{BlockId}
@@ -29,8 +29,8 @@ is_closing_request _ = false
 abbrev pub is_peaceful_request : ApiReq → Bool
 is_peaceful_request request = is_calm_request request || is_closing_request request
 
--- What each block takes of a closing: the client's side what it is told at its end, the master of checkpoints the request
--- and the confirmations, and the members its orders.
+-- What each block takes of a closing: the client's side what it is told at its end, the master of checkpoints the
+-- request and the confirmations, and the members its orders.
 abbrev pub is_order : BlockId → EpochSignal → Bool
 is_order Api (epoch.GcpRep closed) = true
 is_order Api (epoch.MicroRep closed) = true

@@ -62,8 +62,8 @@ ClosingsStepNear =
     → AreNear start given s other → ComesForClosing start h x
     → stops_by (step_by h s x).effects.marks ≡ false → StepsNear start h given s other x
 
--- The client's side of a cluster of some nodes is asked for a closing, where none is under way: it asks a master for it,
--- and the plain one takes the same request, and sends nothing.
+-- The client's side of a cluster of some nodes is asked for a closing, where none is under way: it asks a master for
+-- it, and the plain one takes the same request, and sends nothing.
 pub record RequestsNear (start : Start) (given : List ApiReply) (s : host.Host) (other : plain.Host) (x : Signal)
     : Type 0
   where
