@@ -3,8 +3,7 @@
 use Rattle.std.proofs.Common.{◌≡◌, ◌∙◌, ℕ, suc, zero, Bool, true, false, List, [], ◌∷◌, ◌++◌, refl, sym, ap, map, if◌then◌else◌}
 use Rattle.std.specs.List.{flat_map}
 use Rattle.std.specs.Map.{values_of}
-use Rattle.std.specs.Prelude.{drop, remove, take}
-use Rattle.std.proofs.lemmas.List.{drop-map, map-append, take-map}
+use Rattle.std.proofs.lemmas.List.{map-append}
 use Rattle.indexmap.specs.IndexMap.{insert_entry, set_value_at}
 
 -- where what each entry gives is made another, so is what all of them give
@@ -22,13 +21,6 @@ pub mapped_level : {A B : Type 0} (f : B → B) (g : A → B) → ((x : A) → g
     → (xs : List A) → map g xs ≡ map f (map g xs)
 mapped_level f g same [] = refl
 mapped_level f g same (x ∷ xs) = ap (λ y. y ∷ map g xs) (same x) ∙ ap (λ ys. f (g x) ∷ ys) (mapped_level f g same xs)
-
--- without the one at a place
-pub remove_level : {A B : Type 0} (f : A → B) (xs : List A) (at : ℕ) → remove (map f xs) at ≡ map f (remove xs at)
-remove_level f xs at =
-    ap (λ front. front ++ drop (suc at) (map f xs)) (take-map f at xs)
-    ∙ (ap (λ rest. map f (take at xs) ++ rest) (drop-map f (suc at) xs)
-    ∙ sym (map-append f (take at xs) (drop (suc at) xs)))
 
 -- entries, of which each keeps its key
 module _ {K V : Type 0} (f : V → V) where

@@ -26,7 +26,8 @@ use Rattle.tc_block.specs.declared.tc.TheConstants.{TRANSACTIONS}
 use Rattle.tc_block.specs.declared.transaction.Transaction.{Transaction}
 use Rattle.level_laws.specs.Laws.{CoordinatorsAreLevel}
 use Rattle.level_laws.specs.Levels.{body_at, effects_at, live_at, step_at, tc_at, transaction_at}
-use Rattle.level_laws.proofs.LevelLists.{insert_level, remove_level, set_level, values_level}
+use Rattle.level_laws.proofs.LevelLists.{insert_level, set_level, values_level}
+use Rattle.level_laws.proofs.MappedLists.{remove-map}
 use Rattle.level_laws.proofs.TcSends.{go_on_level}
 use Rattle.level_laws.proofs.TcTurns.{aborted_level, answer_level, commit_level, committed_level, completed_level, operate_level, refuse_level, rollback_level, taken_at, turn_at, verify_level, wait_level}
 
@@ -54,7 +55,7 @@ module _ (epoch : ℕ) (s : TcState) where
   unfolding without
   turned_if_level at turn true =
       ap (λ live. record { state = with_live s live; effects = effects_at epoch turn.step.effects })
-      (remove_level (live_at epoch) s.live at)
+      (remove-map (live_at epoch) s.live at)
   turned_if_level at turn false = stepped_level at turn.step
 
   module _ (levelled row : Transaction → Step Transaction)

@@ -52,10 +52,12 @@ pub record IsSafe (start : Start) (inside : ℕ → List HostStep) : Type 0 wher
   pub durable : (h epoch : ℕ) → h < hosts start → IsMarked (Durable epoch) (inside h) → WasClosed start inside epoch
 
 -- Of a closed cut and a larger one. Once an epoch is closed, or durable, whoever writes, and has that epoch or one before
--- it in the larger one's history, is in that of the smaller one. Of a transaction that is in the larger one's history, members have the same image of
--- a key in the smaller one, as far as they have a record of it on that key and no operation of it there is unanswered.
+-- it in the larger one's history, is in that of the smaller one. Of a transaction that is in the larger one's history,
+-- members have the same image of a key in the smaller one, as far as they have a record of it on that key and no
+-- operation of it there is unanswered.
 pub record AreSafe (start : Start) (small large : ℕ → List HostStep) : Type 0 where
-  pub closed : (h epoch : ℕ) → h < hosts start → (IsMarked (Closed epoch) (small h)) ⊎ (IsMarked (Durable epoch) (small h))
+  pub closed : (h epoch : ℕ) → h < hosts start
+      → (IsMarked (Closed epoch) (small h)) ⊎ (IsMarked (Durable epoch) (small h))
       → (entry : Entry) → IsIn entry (history (hosts start) large) → writes entry ≡ true → entry.epoch ≤ epoch
       → IsIn entry (history (hosts start) small)
   pub agreed : (tx : TxId) (key : List ℕ) → IsAnsweredOn start small tx key → (entry : Entry)
