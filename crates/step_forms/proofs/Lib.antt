@@ -1,0 +1,2 @@
+pub mod DoesLemmas
+pub mod PortionLemmas
