@@ -15,8 +15,9 @@ use Rattle.sig_core.specs.declared.request.ApiReq.{ApiReq}
 use Rattle.sig_core.specs.declared.signal.Body.{Body}
 use Rattle.sig_core.specs.declared.signal.Body.TheVariants.{Host, Client}
 use Rattle.sig_core.specs.declared.signal.Signal.{Signal}
-use Rattle.sig_core.specs.declared.signal.client.ClientSignal.TheVariants.{DumpReq, TcBeginConf, TcBeginReq, TcCommitAck}
-use Rattle.sig_core.specs.declared.signal.client.ClientSignal.TheVariants.{TcCommitConf, TcCommitReq, TcKeyReq}
+use Rattle.sig_core.specs.declared.signal.client.ClientSignal.TheVariants.{DumpReq, TcBeginConf, TcBeginReq}
+use Rattle.sig_core.specs.declared.signal.client.ClientSignal.TheVariants.{TcCommitAck, TcCommitConf, TcCommitReq}
+use Rattle.sig_core.specs.declared.signal.client.ClientSignal.TheVariants.{TcKeyReq}
 use Rattle.sig_core.specs.declared.signal.client.ClientSignal.TheVariants.{TcRollbackRep, TcRollbackReq, TcWaitReq}
 use Rattle.sig_core.specs.declared.signal.host.HostSignal.TheVariants.{Round}
 use Rattle.sig_core.specs.Place.{coordinator, coordinator_of, rows_of}

@@ -6,8 +6,9 @@ use Rattle.sig_core.specs.declared.outcome.Outcome.TheVariants.{Committed, Abort
 use Rattle.sig_core.specs.declared.signal.Body.{Body}
 use Rattle.sig_core.specs.declared.signal.Body.TheVariants.{Host, Client}
 use Rattle.sig_core.specs.declared.signal.Signal.{Signal}
-use Rattle.sig_core.specs.declared.signal.client.ClientSignal.TheVariants.{DumpReq, TcBeginReq, TcCommitAck, TcCommitReq}
-use Rattle.sig_core.specs.declared.signal.client.ClientSignal.TheVariants.{TcKeyReq, TcRollbackReq, TcWaitReq}
+use Rattle.sig_core.specs.declared.signal.client.ClientSignal.TheVariants.{DumpReq, TcBeginReq, TcCommitAck}
+use Rattle.sig_core.specs.declared.signal.client.ClientSignal.TheVariants.{TcCommitReq, TcKeyReq, TcRollbackReq}
+use Rattle.sig_core.specs.declared.signal.client.ClientSignal.TheVariants.{TcWaitReq}
 use Rattle.sig_core.specs.declared.signal.host.HostSignal.TheVariants.{Round}
 use Rattle.step_forms.specs.Does.{Speaks}
 use Rattle.api_block.specs.Api.{api_row}
