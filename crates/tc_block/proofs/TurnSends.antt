@@ -1,5 +1,5 @@
 -- What holds of each form of signal that a transaction sends at its coordinator holds of all that its turns send.
-use Rattle.std.proofs.Common.{◌≡◌, ℕ, Bool, true, false, List, [], ◌∷◌, map, refl, sym, subst, inl, inr}
+use Rattle.std.proofs.Common.{◌≡◌, ℕ, Bool, true, false, List, [], refl, sym, subst, nat_lt}
 use Rattle.std.specs.Prelude.{None, Some}
 use Rattle.std.specs.List.{flat_map}
 use Rattle.run_theory.specs.Lists.{Each, IsIn}
@@ -25,6 +25,7 @@ use Rattle.sig_core.specs.Op.{key_of}
 use Rattle.sig_core.specs.Place.{client, coordinator, epochs, rows_of}
 use Rattle.sig_core.specs.Portion.{go_on_at}
 use Rattle.sig_core.specs.Step.{sending, sends_only, to_place}
+use Rattle.step_forms.proofs.ListLemmas.{flat_in, mapped_in}
 use Rattle.step_forms.proofs.PortionLemmas.{portion_each}
 use Rattle.frag_map.specs.Layout.{Layout, chain_of}
 use Rattle.tc_block.specs.Abort.{abort_end, is_verifying, rolled_back}
@@ -41,17 +42,6 @@ use Rattle.tc_block.specs.Sends.{abort_of, commit_of, complete_if, complete_of, 
 use Rattle.tc_block.specs.Turn.{Turn, asking, ending, going}
 use Rattle.tc_block.proofs.EachResume.{ResumeForms}
 use Rattle.tc_block.proofs.EachTurn.{AbortForms, CommittedForms, IsAnswered, TurnFormsAt}
-
--- what is so of each entry of a list is so of what is made of each
-mapped_in : {A B : Type 0} (P : B → Type 0) (f : A → B) (xs : List A) → ((x : A) → IsIn x xs → P (f x)) → Each P (map f xs)
-mapped_in P f [] all = tt
-mapped_in P f (x ∷ xs) all = (all x (inl refl), mapped_in P f xs (λ y there. all y (inr there)))
-
-flat_in : {A B : Type 0} (P : B → Type 0) (f : A → List B) (xs : List A) → ((x : A) → IsIn x xs → Each P (f x))
-    → Each P (flat_map f xs)
-flat_in P f [] all = tt
-flat_in P f (x ∷ xs) all =
-    each_append P (f x) (flat_map f xs) (all x (inl refl)) (flat_in P f xs (λ y there. all y (inr there)))
 
 -- the transaction is in the phase as it takes a turn, or behind it
 pub data InPhase (t : Transaction) (turn : Turn) (phase : Phase) : Type 0 where
@@ -173,7 +163,7 @@ module _ (node : ℕ) (layout : Layout) (tx : TxId) (t : Transaction) (body : Bo
           (flat_in (P turn) (key_sends layout tx phase) turn.step.state.touched (key_each phase refl)))
 
     enters : (u : Transaction) (phase : Phase) → Comes phase → R (going (entering node layout tx u phase))
-    unfolding entering
+    unfolding entering part_effects
     enters u phase comes = record {
       sends = phase_each (going (entering node layout tx u phase)) phase (is_behind refl refl) comes 0;
       unmarked = refl;
@@ -220,6 +210,7 @@ module _ (node : ℕ) (layout : Layout) (tx : TxId) (t : Transaction) (body : Bo
 pub turn_sends : (node : ℕ) (layout : Layout) (tx : TxId) (t : Transaction) (body : Body)
     (P : Turn → Outgoing → Type 0) → TurnSends node layout tx t body P
     → TurnFormsAt node layout tx t body (λ turn. SendsOnly P turn)
+unfolding part_effects
 turn_sends node layout tx t body P own = record {
   stays = λ off missed. record { sends = tt; unmarked = refl };
   stops = λ at is high. record { sends = tt; unmarked = refl };
