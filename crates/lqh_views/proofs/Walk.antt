@@ -1,16 +1,21 @@
 -- What holds of each form of a step of a node's rows under views holds of each step; and so what holds of each form of
 -- signal and mark.
 use Rattle.std.proofs.Common.{◌≡◌, ◌⊎◌, inl, inr, ◌==◌, ℕ, List, [], ◌∷◌, Bool, true, false, not, map, refl, sym, ap, ◌∙◌, subst}
+use Rattle.std.proofs.lemmas.Bool.{true≢false}
 use Rattle.std.specs.Prelude.{IfSome, Option, None, Some}
 use Rattle.run_theory.specs.Lists.{Each}
+use Rattle.run_theory.proofs.Pasts.{each_from}
 use Rattle.sig_core.specs.declared.mark.Mark.{Mark}
 use Rattle.sig_core.specs.declared.member.Member.{Member}
 use Rattle.sig_core.specs.declared.member.TxId.{TxId}
 use Rattle.sig_core.specs.declared.outs.Outgoing.{Outgoing}
 use Rattle.sig_core.specs.declared.rows.PendingRecord.{PendingRecord}
 use Rattle.sig_core.specs.declared.signal.Body.{Body}
-use Rattle.sig_core.specs.declared.signal.Body.TheVariants.{Epoch, Host, Membership, Takeover}
+use Rattle.sig_core.specs.declared.signal.Body.TheVariants.{Chain, Client, Epoch, Host, Membership, Takeover}
 use Rattle.sig_core.specs.declared.signal.Signal.{Signal}
+use Rattle.sig_core.specs.declared.signal.chain.ChainSignal.TheVariants as chain
+use Rattle.sig_core.specs.declared.signal.chain.RowWork.TheVariants.{Store}
+use Rattle.sig_core.specs.declared.signal.client.ClientSignal.TheVariants.{DumpConf, LqhWaitConf}
 use Rattle.sig_core.specs.declared.signal.epoch.EpochSignal.{EpochSignal}
 use Rattle.sig_core.specs.declared.signal.epoch.EpochSignal.TheVariants.{GcpClosed, GcpClosedConf, GcpSaveConf, GcpSaveReq, GcpStateConf, GcpStateReq}
 use Rattle.sig_core.specs.declared.signal.host.HostSignal.TheVariants.{Continue}
@@ -22,11 +27,13 @@ use Rattle.sig_core.specs.declared.view.View.{View}
 use Rattle.sig_core.specs.Place.{checkpoints, membership, rows_of}
 use Rattle.sig_core.specs.Portion.{go_on_at}
 use Rattle.sig_core.specs.Step.{Step, stay, to_place}
-use Rattle.step_forms.specs.Does.{Does, IsAmong, IsWord}
+use Rattle.step_forms.specs.Does.{Does, IsAmong, IsWord, Speaks}
+use Rattle.step_forms.proofs.DoesLemmas.{speaks_do}
 use Rattle.lqh_block.specs.declared.request.Marker.{Marker}
 use Rattle.lqh_block.specs.declared.request.Request.{Request}
 use Rattle.lqh_block.specs.Lqh.{lqh_row}
-use Rattle.lqh_block.proofs.EachLqh.{RequestSends, RowsMark, RowsSend, lqh_each}
+use Rattle.lqh_block.specs.State.{LqhState}
+use Rattle.lqh_block.proofs.EachLqh.{RequestSends, RowsMark, RowsSend, lqh_each, lqh_marks_each, lqh_sends_each}
 use Rattle.lqh_views.specs.declared.report.Report.{Report}
 use Rattle.lqh_views.specs.Address.{addressed}
 use Rattle.lqh_views.specs.Epochs.{close_row, epoch_table, fence_row, save_row, state_row}
@@ -35,7 +42,7 @@ use Rattle.lqh_views.specs.Replica.{installed, is_stale, passed, replica_by, rep
 use Rattle.lqh_views.specs.Report.{ending, go_on_by, is_orphaned_marker, is_orphaned_record, last_before, marker_by, record_by, reporting, telling, told, told_marker, told_record, told_record_if}
 use Rattle.lqh_views.specs.State.{ReplicaState}
 use Rattle.lqh_views.specs.WholeReports.{the_end, whole}
-use Rattle.lqh_views.specs.Words.{ReplicaKeepsToItsWords, is_replica_mark, is_replica_word}
+use Rattle.lqh_views.specs.Words.{ReplicaKeepsToItsWords, is_replica_mark, is_replica_word, is_row_word}
 use Rattle.lqh_views.proofs.AddressLemmas.{same-body}
 use Rattle.lqh_views.proofs.LastLemmas.{IsThere, last-there}
 
@@ -173,12 +180,6 @@ pub record ReplicaForms (s : ReplicaState) (x : Signal) (P : Outgoing → Type 0
   pub marks : is_of_rows s x ≡ true → RowsMark M s.lqh x.body
   pub own : OwnSends s x P
 
--- the same of what is said, whoever it is for
-pub record ReplicaSays (s : ReplicaState) (x : Signal) (Q : Body → Type 0) (M : Mark → Type 0) : Type 0 where
-  pub rows : is_of_rows s x ≡ true → RowsSend (λ (send : Outgoing). Q send.body) s.lqh x.body
-  pub marks : is_of_rows s x ≡ true → RowsMark M s.lqh x.body
-  pub own : OwnSends s x (λ (send : Outgoing). Q send.body)
-
 -- what is so of each signal as it is addressed is so of those that are addressed
 addressed_each : (P : Outgoing → Type 0) (view : View) (sends : List Outgoing)
     → Each (λ send. P (addressed view send)) sends → Each P (map (addressed view) sends)
@@ -225,14 +226,39 @@ module _ (s : ReplicaState) (x : Signal) (P : Outgoing → Type 0) (M : Mark →
           (forms.marks is) in
           (addressed_each P s.lqh.layout.view (lqh_row s.lqh x).effects.sends own.sends, own.marks)
 
-pub replica_says_each : (s : ReplicaState) (x : Signal) (Q : Body → Type 0) (M : Mark → Type 0) → ReplicaSays s x Q M
-    → Does (λ (send : Outgoing). Q send.body) M (replica_row s x)
-replica_says_each s x Q M forms = own_each s x (λ (send : Outgoing). Q send.body) M rows forms.own
+-- anything that may be sent, or marked
+abbrev pub AnySend : Outgoing → Type 0
+AnySend send = Unit {0}
+
+abbrev pub AnyMark : Mark → Type 0
+AnyMark mark = Unit {0}
+
+-- what is sent, whatever is marked
+pub replica_sends_each : (s : ReplicaState) (x : Signal) (P : Outgoing → Type 0)
+    → (is_of_rows s x ≡ true → RowsSend (λ send. P (addressed s.lqh.layout.view send)) s.lqh x.body) → OwnSends s x P
+    → Each P (replica_row s x).effects.sends
+replica_sends_each s x P sends own = (own_each s x P AnyMark rows own).0
   where
-    rows : is_of_rows s x ≡ true → Does (λ (send : Outgoing). Q send.body) M (passed s x)
-    rows is =
-        let own = lqh_each (λ (send : Outgoing). Q send.body) M s.lqh x.body (forms.rows is) (forms.marks is) in
-        (same_each Q s.lqh.layout.view (lqh_row s.lqh x).effects.sends own.sends, own.marks)
+    rows : is_of_rows s x ≡ true → Does P AnyMark (passed s x)
+    rows is = (
+      addressed_each P s.lqh.layout.view (lqh_row s.lqh x).effects.sends
+          (lqh_sends_each (λ send. P (addressed s.lqh.layout.view send)) s.lqh x.body (sends is)),
+      each_from AnyMark (passed s x).effects.marks (λ mark there. tt),
+    )
+
+-- the same of what is said, whoever it is for
+pub replica_says_each : (s : ReplicaState) (x : Signal) (Q : Body → Type 0)
+    → (is_of_rows s x ≡ true → RowsSend (λ (send : Outgoing). Q send.body) s.lqh x.body)
+    → OwnSends s x (λ (send : Outgoing). Q send.body)
+    → Each (λ (send : Outgoing). Q send.body) (replica_row s x).effects.sends
+replica_says_each s x Q sends own = (own_each s x (λ (send : Outgoing). Q send.body) AnyMark rows own).0
+  where
+    rows : is_of_rows s x ≡ true → Does (λ (send : Outgoing). Q send.body) AnyMark (passed s x)
+    rows is = (
+      same_each Q s.lqh.layout.view (lqh_row s.lqh x).effects.sends
+          (lqh_sends_each (λ (send : Outgoing). Q send.body) s.lqh x.body (sends is)),
+      each_from AnyMark (passed s x).effects.marks (λ mark there. tt),
+    )
 
 -- where a view is installed they send nothing, and mark nothing
 pub replica_installed_each : (P : Outgoing → Type 0) (M : Mark → Type 0) (s : ReplicaState) (view : View)
@@ -240,7 +266,7 @@ pub replica_installed_each : (P : Outgoing → Type 0) (M : Mark → Type 0) (s 
 replica_installed_each P M s view = (tt, tt)
 
 -- what is said where a request is performed
-request_words : (r : Request) → RequestSends (IsWord is_replica_word) r
+request_words : (r : Request) → RequestSends (IsWord is_row_word) r
 request_words r = record {
   log_full = λ used reserved need. refl;
   table_full = λ rows. refl;
@@ -248,32 +274,93 @@ request_words r = record {
   passes = λ image next is. refl;
 }
 
+row_words : (s : LqhState) (body : Body) → RowsSend (IsWord is_row_word) s body
+row_words s body = record {
+  asked = λ r is. request_words r;
+  waited = λ at r is. request_words r;
+  grants_more = refl;
+  expires_more = refl;
+  commits_on = λ tx key epoch chain at is behind. refl;
+  committed = λ tx key epoch chain at is first. refl;
+  completes_on = λ tx key chain at is behind. refl;
+  completed = λ tx key chain at is first. refl;
+  aborted = λ tx key is. refl;
+  gives_up = λ tx key is. refl;
+  times_out = λ tx key. refl;
+  waits = λ tx key ahead is there. refl;
+  dumps = λ at rows next is. refl;
+}
+
+row_marks : (s : LqhState) (body : Body) → RowsMark (IsAmong is_replica_mark) s body
+row_marks s body = record {
+  prepared = λ tx key. refl;
+  applied = λ tx key epoch chain at committed is first there. refl;
+  completed = λ tx key chain at is. refl;
+  given_up = λ tx key is there. refl;
+  expired = λ tx key. refl;
+}
+
+-- where they take a signal they say their words alone
+pub passed_words : (s : ReplicaState) (x : Signal) → Speaks is_row_word is_replica_mark (passed s x)
+passed_words s x =
+    let own = lqh_each (IsWord is_row_word) (IsAmong is_replica_mark) s.lqh x.body (row_words s.lqh x.body)
+    (row_marks s.lqh x.body) in
+    (same_each (λ body. is_row_word body ≡ true) s.lqh.layout.view (lqh_row s.lqh x).effects.sends own.sends, own.marks)
+
+-- what is so of each of these words, and of each form of what they send of their own, is so of all that they send
+pub replica_tells_each : (s : ReplicaState) (x : Signal) (Q : Body → Type 0)
+    → ((body : Body) → is_row_word body ≡ true → Q body) → OwnSends s x (λ (send : Outgoing). Q send.body)
+    → Each (λ (send : Outgoing). Q send.body) (replica_row s x).effects.sends
+replica_tells_each s x Q words own =
+    (own_each s x (λ (send : Outgoing). Q send.body) AnyMark rows own).0
+  where
+    rows : is_of_rows s x ≡ true → Does (λ (send : Outgoing). Q send.body) AnyMark (passed s x)
+    rows of_rows =
+        speaks_do is_row_word is_replica_mark Q AnyMark (passed s x) words (λ mark is. tt) (passed_words s x)
+
+-- and what is so of each mark of theirs is so of all that they mark
+pub replica_marks_each : (s : ReplicaState) (x : Signal) (M : Mark → Type 0) → RowsMark M s.lqh x.body
+    → Each M (replica_row s x).effects.marks
+replica_marks_each s x M marks =
+    (own_each s x AnySend M rows any).1
+  where
+    rows : is_of_rows s x ≡ true → Does AnySend M (passed s x)
+    rows of_rows =
+        (each_from AnySend (passed s x).effects.sends (λ send there. tt), lqh_marks_each M s.lqh x.body marks)
+
+    any : OwnSends s x AnySend
+    any = record {
+      promises = λ proposal is. tt;
+      closes = λ epoch is. tt;
+      saves = λ epoch is. tt;
+      states = λ is. tt;
+      tells_committed = λ r under_way at one there is. tt;
+      tells_prepared = λ r under_way at one there is. tt;
+      tells_marker = λ r under_way at m there. tt;
+      reports_on = λ r under_way. tt;
+      ends = λ r under_way. tt;
+    }
+
+-- a word of the rows is a word of theirs under views
+is_word : (body : Body) → is_row_word body ≡ true → is_replica_word body ≡ true
+is_word (Chain (chain.LqhKeyReq tx (Store key image) members at)) is = refl
+is_word (Chain (chain.LqhKeyConf tx key answer)) is = refl
+is_word (Chain (chain.LqhKeyRef tx key cause)) is = refl
+is_word (Chain (chain.Commit tx key epoch members at)) is = refl
+is_word (Chain (chain.Committed tx key)) is = refl
+is_word (Chain (chain.Complete tx key members at)) is = refl
+is_word (Chain (chain.Completed tx key)) is = refl
+is_word (Chain (chain.Aborted tx key)) is = refl
+is_word (Client (LqhWaitConf tx ahead)) is = refl
+is_word (Client (DumpConf rows next)) is = refl
+is_word (Host (Continue work.Granted at)) is = refl
+is_word (Host (Continue work.Expired at)) is = refl
+is_word _ is = absurd (true≢false (sym is))
+
 pub replica_words : ReplicaKeepsToItsWords
 replica_words = record {
-  takes = λ s x. replica_says_each s x (λ body. is_replica_word body ≡ true) (IsAmong is_replica_mark) (record {
-    rows = λ of_rows. record {
-      asked = λ r is. request_words r;
-      waited = λ at r is. request_words r;
-      grants_more = refl;
-      expires_more = refl;
-      commits_on = λ tx key epoch chain at is behind. refl;
-      committed = λ tx key epoch chain at is first. refl;
-      completes_on = λ tx key chain at is behind. refl;
-      completed = λ tx key chain at is first. refl;
-      aborted = λ tx key is. refl;
-      gives_up = λ tx key is. refl;
-      times_out = λ tx key. refl;
-      waits = λ tx key ahead is there. refl;
-      dumps = λ at rows next is. refl;
-    };
-    marks = λ of_rows. record {
-      prepared = λ tx key. refl;
-      applied = λ tx key epoch chain at committed is first there. refl;
-      completed = λ tx key chain at is. refl;
-      given_up = λ tx key is there. refl;
-      expired = λ tx key. refl;
-    };
-    own = record {
+  takes = λ s x. (
+    replica_tells_each s x (λ body. is_replica_word body ≡ true) is_word (record {
       promises = λ proposal is. refl;
       closes = λ epoch is. refl;
       saves = λ epoch is. refl;
@@ -283,7 +370,8 @@ replica_words = record {
       tells_marker = λ r under_way at m there. refl;
       reports_on = λ r under_way. refl;
       ends = λ r under_way. refl;
-    };
-  });
+    }),
+    replica_marks_each s x (IsAmong is_replica_mark) (row_marks s.lqh x.body),
+  );
   installs = λ s view. (tt, tt);
 }

@@ -19,7 +19,23 @@ use Rattle.step_forms.specs.Does.{Speaks}
 use Rattle.lqh_views.specs.Replica.{installed, replica_row}
 use Rattle.lqh_views.specs.State.{ReplicaState}
 
--- images of writes go along chains, never operations; and no abort is sent
+-- what the rows send where they take a signal: images of writes go along chains, never operations; and no abort
+abbrev pub is_row_word : Body → Bool
+is_row_word (Chain (chain.LqhKeyReq tx (Store key image) members at)) = true
+is_row_word (Chain (chain.LqhKeyConf tx key answer)) = true
+is_row_word (Chain (chain.LqhKeyRef tx key cause)) = true
+is_row_word (Chain (chain.Commit tx key epoch members at)) = true
+is_row_word (Chain (chain.Committed tx key)) = true
+is_row_word (Chain (chain.Complete tx key members at)) = true
+is_row_word (Chain (chain.Completed tx key)) = true
+is_row_word (Chain (chain.Aborted tx key)) = true
+is_row_word (Client (LqhWaitConf tx ahead)) = true
+is_row_word (Client (DumpConf rows next)) = true
+is_row_word (Host (Continue Granted at)) = true
+is_row_word (Host (Continue Expired at)) = true
+is_row_word _ = false
+
+-- and all that they send under views
 abbrev pub is_replica_word : Body → Bool
 is_replica_word (Chain (chain.LqhKeyReq tx (Store key image) members at)) = true
 is_replica_word (Chain (chain.LqhKeyConf tx key answer)) = true

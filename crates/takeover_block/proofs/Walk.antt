@@ -1,8 +1,9 @@
 -- What holds of each form of signal that a takeover sends holds of all that a step of it sends.
-use Rattle.std.proofs.Common.{◌≡◌, ℕ, true, false, List, [], ◌∷◌, ◌++◌, length, map, nat_lt, refl, subst, sym}
+use Rattle.std.proofs.Common.{◌≡◌, ◌⊎◌, inl, inr, ◌∙◌, ℕ, true, false, List, [], ◌∷◌, ◌++◌, ap, length, map, nat_lt, refl, subst, sym}
 use Rattle.std.specs.List.{flat_map}
 use Rattle.std.specs.Prelude.{Option, None, Some, remove, slice_get}
 use Rattle.run_theory.specs.Lists.{Each, IsIn}
+use Rattle.run_theory.proofs.EachSent.{each_removed}
 use Rattle.run_theory.proofs.Pasts.{each_append}
 use Rattle.sig_core.specs.declared.mark.Mark.{Mark}
 use Rattle.sig_core.specs.declared.member.Member.{Member}
@@ -26,13 +27,13 @@ use Rattle.frag_map.specs.Layout.{chain_of}
 use Rattle.takeover_block.specs.declared.gathered.Gathered.{Gathered}
 use Rattle.takeover_block.specs.declared.stage.Stage.{Stage}
 use Rattle.takeover_block.specs.declared.stage.Stage.TheVariants.{Resting, Gathering, Committing, Completing, Aborting}
-use Rattle.takeover_block.specs.Rule.{after, entering, finishing, ruling, ruling_by, way_of}
+use Rattle.takeover_block.specs.Rule.{after, entering, finishing, ruling, ruling_by, way_by, way_of}
 use Rattle.takeover_block.specs.Sends.{abort_at, ask_effects, ask_of, asks_of, commit_along, complete_along, front_sends, key_sends, key_sends_along, stage_effects, stage_sends, told_aborted, told_committed}
 use Rattle.takeover_block.specs.State.{TakeoverState, in_view, with_gathered}
 use Rattle.takeover_block.specs.Takeover.{takeover_row}
 use Rattle.takeover_block.specs.Words.{TakeoverKeepsToItsWords, is_takeover_mark, is_takeover_word}
 use Rattle.takeover_block.proofs.EachTakeover.{takeover_each}
-use Rattle.takeover_block.proofs.LawLemmas.{IsFirst, first_found}
+use Rattle.takeover_block.proofs.LawLemmas.{IsFirst, each_first, first_found}
 
 -- a transaction is done with: its keys are completed, or aborted
 pub data IsDone (s : TakeoverState) (body : Body) (tx : TxId) : Type 0 where
@@ -59,6 +60,69 @@ pub data Drives (s : TakeoverState) (body : Body) (g : Gathered) (stage : Stage)
       → Drives s body g stage
   rules_on : (gathered : List Gathered) → Rules s body gathered → slice_get gathered 0 ≡ Some g
       → stage ≡ way_of s.layout g → Drives s body g stage
+
+-- it rules on the transaction
+pub record IsRuledOn (s : TakeoverState) (body : Body) (g : Gathered) : Type 0 where
+  pub gathered : List Gathered
+  pub rules : Rules s body gathered
+  pub first : slice_get gathered 0 ≡ Some g
+
+-- what is so of all that is gathered is so of whom it rules on
+pub ruled_is : (s : TakeoverState) (body : Body) (W : Gathered → Type 0) → Each W s.gathered → (g : Gathered)
+    → IsRuledOn s body g → W g
+ruled_is s body W all g ruled = each_first W ruled.gathered g ruled.first (by ruled.gathered ruled.rules)
+  where
+    by : (gathered : List Gathered) → Rules s body gathered → Each W gathered
+    by gathered (at_the_end n about at last) = all
+    by gathered (at_none about) = tt
+    by gathered (behind_one one first done) = each_removed W s.gathered 0 all
+
+-- it is at the transaction, and commits it in this epoch, or completes it
+pub data IsAtCommit (s : TakeoverState) (g : Gathered) (epoch : ℕ) : Type 0 where
+  commits_it : (n : ℕ) → slice_get s.gathered 0 ≡ Some g → s.stage ≡ Committing epoch n → IsAtCommit s g epoch
+  completing_it : (n : ℕ) → slice_get s.gathered 0 ≡ Some g → s.stage ≡ Completing epoch n → IsAtCommit s g epoch
+
+no_ruling : (s : TakeoverState) (g : Gathered) (epoch n : ℕ) → Completing epoch n ≡ way_of s.layout g → ⊥
+unfolding way_of
+no_ruling s g epoch n = by g.epoch
+  where
+    by : (o : Option ℕ) → Completing epoch n ≡ way_by s.layout g.keys o → ⊥
+    by None is = cc
+    by (Some other) is = cc
+
+-- who is completed was being committed, or completed, before
+pub drives_completion : (s : TakeoverState) (body : Body) (g : Gathered) (epoch n : ℕ)
+    → Drives s body g (Completing epoch n) → IsAtCommit s g epoch
+drives_completion s body g epoch n (goes_on first is) = completing_it n first (sym is)
+drives_completion s body g epoch n (completes_it key other m about first at last is) =
+    commits_it m first (at ∙ (let same : other ≡ epoch = cc in ap (λ k. Committing k m) same))
+drives_completion s body g epoch n (rules_on gathered rules first is) = absurd (no_ruling s g epoch n is)
+
+-- who is committed was so before, or is ruled on and has this epoch
+pub drives_commit : (s : TakeoverState) (body : Body) (g : Gathered) (epoch n : ℕ)
+    → Drives s body g (Committing epoch n) → IsAtCommit s g epoch ⊎ (IsRuledOn s body g × (g.epoch ≡ Some epoch))
+unfolding way_of
+drives_commit s body g epoch n (goes_on first is) = inl (commits_it n first (sym is))
+drives_commit s body g epoch n (completes_it key other m about first at last is) = absurd cc
+drives_commit s body g epoch n (rules_on gathered rules first is) =
+    inr (record { gathered = gathered; rules = rules; first = first }, by g.epoch is)
+  where
+    by : (o : Option ℕ) → Committing epoch n ≡ way_by s.layout g.keys o → o ≡ Some epoch
+    by None is = absurd cc
+    by (Some other) is = cc
+
+-- who is aborted was so before, or is ruled on and has no epoch
+pub drives_abort : (s : TakeoverState) (body : Body) (g : Gathered) (n : ℕ) → Drives s body g (Aborting n)
+    → ((slice_get s.gathered 0 ≡ Some g) × (s.stage ≡ Aborting n)) ⊎ (IsRuledOn s body g × (g.epoch ≡ None))
+unfolding way_of
+drives_abort s body g n (goes_on first is) = inl (first, sym is)
+drives_abort s body g n (completes_it key other m about first at last is) = absurd cc
+drives_abort s body g n (rules_on gathered rules first is) =
+    inr (record { gathered = gathered; rules = rules; first = first }, by g.epoch is)
+  where
+    by : (o : Option ℕ) → Aborting n ≡ way_by s.layout g.keys o → o ≡ None
+    by None is = refl
+    by (Some other) is = absurd cc
 
 -- each form of what it sends
 pub record TakeoverSends (s : TakeoverState) (body : Body) (P : Outgoing → Type 0) : Type 0 where

@@ -33,15 +33,17 @@ use Rattle.tc_block.specs.Commit.{verify_if}
 use Rattle.tc_block.specs.declared.phase.Asked.{Asked}
 use Rattle.tc_block.specs.declared.phase.Phase.{Phase}
 use Rattle.tc_block.specs.declared.phase.Phase.TheVariants.{Open, Verifying, Committing, Completing, Aborting}
+use Rattle.tc_block.specs.declared.task.Verdict.{Verdict}
 use Rattle.tc_block.specs.declared.touched.Touched.{Touched}
 use Rattle.tc_block.specs.declared.transaction.Transaction.{Transaction}
 use Rattle.tc_block.specs.Operate as operate
 use Rattle.tc_block.specs.Part.{part_effects}
-use Rattle.tc_block.specs.Resume.{anew_if}
+use Rattle.tc_block.specs.Resume.{anew_if, resume_row}
 use Rattle.tc_block.specs.Sends.{abort_of, commit_of, complete_if, complete_of, entering, front_sends, go_on_if, key_sends, phase_sends, reported, verify_end, wait_of}
 use Rattle.tc_block.specs.Turn.{Turn, asking, ending, going}
-use Rattle.tc_block.proofs.EachResume.{ResumeForms}
-use Rattle.tc_block.proofs.EachTurn.{AbortForms, CommittedForms, IsAnswered, TurnFormsAt}
+use Rattle.tc_block.proofs.EachResume.{ResumeForms, resumes}
+use Rattle.tc_block.proofs.EachTurn.{AbortForms, CommittedForms, IsAnswered, TurnFormsAt, rows_at}
+use Rattle.tc_block.proofs.TurnRows.{turn_for, turn_with, tx_in}
 
 -- the transaction is in the phase as it takes a turn, or behind it
 pub data InPhase (t : Transaction) (turn : Turn) (phase : Phase) : Type 0 where
@@ -256,3 +258,22 @@ turn_sends node layout tx t body P own = record {
         known (Committing epoch awaited) is = commits_in awaited is
         known (Completing epoch awaited) is = completes_in awaited is
         known (Aborting why verifying awaited) is = is_so why verifying awaited is
+
+-- so it is of the turn that a signal gives to a transaction
+pub turn_for_sends : (node : ℕ) (layout : Layout) (tx : TxId) (t : Transaction) (body : Body)
+    (P : Turn → Outgoing → Type 0) → TurnSends node layout tx t body P → tx_in body ≡ tx
+    → Each (P (turn_for node layout tx body t)) (turn_for node layout tx body t).step.effects.sends
+turn_for_sends node layout tx t body P own about =
+    (turn_with node layout tx body t (λ turn. SendsOnly P turn)
+    (rows_at node layout tx t body (λ turn. SendsOnly P turn) (turn_sends node layout tx t body P own)) about
+    (λ off. record { sends = tt; unmarked = refl })).sends
+
+-- and of one in which it does what an installation left to do
+pub resume_row_sends : (node : ℕ) (layout : Layout) (tx : TxId) (t : Transaction) (body : Body)
+    (P : Turn → Outgoing → Type 0) → DriveSends node layout tx t body P → (verdict : Verdict) (number : ℕ)
+    → Each (P (resume_row node layout tx t verdict number))
+    (resume_row node layout tx t verdict number).step.effects.sends
+unfolding resume_row
+resume_row_sends node layout tx t body P own verdict number =
+    (resumes node layout tx t (λ turn. SendsOnly P turn) (resume_sends node layout tx t body P own) number verdict
+    t.phase refl).sends
