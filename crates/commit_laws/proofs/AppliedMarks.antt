@@ -24,7 +24,7 @@ use Rattle.sig_core.specs.Rows.{record_state, state_by}
 use Rattle.lqh_block.specs.Commit.{applied_marks, commit_row}
 use Rattle.lqh_block.specs.declared.request.Marker.{Marker}
 use Rattle.lqh_block.specs.Lqh.{lqh_table}
-use Rattle.lqh_block.proofs.EachLqh.{RowsMark, lqh_marks_each}
+use Rattle.lqh_views.proofs.Walk.{replica_marks_each}
 use Rattle.lqh_views.specs.declared.report.Report as reports
 use Rattle.lqh_views.specs.Epochs.{epoch_table}
 use Rattle.lqh_views.specs.Replica.{is_stale, replica_by, replica_row, serve_if}
@@ -44,51 +44,6 @@ use Rattle.commit_laws.proofs.KeyGoes.{TakesNow}
 use Rattle.commit_laws.proofs.LdmGoes.{is_row_mark}
 use Rattle.commit_laws.proofs.RowsGo.{IsBetween, IsTakenAt, RowsGo, enter, rest, rows_go, take}
 
--- what is so of all that rows mark
-module _ (M : Mark → Type 0) (s : ReplicaState) (x : Signal) (marks : RowsMark M s.lqh x.body) where
-  passed_each : Each M (lqh_table s.lqh x.body).effects.marks
-  passed_each = lqh_marks_each M s.lqh x.body marks
-
-  serve_each : (b : Bool) → Each M (serve_if s x b).effects.marks
-  serve_each true = tt
-  serve_each false = passed_each
-
-  marker_each : (r : reports.Report) (o : Option (ℕ × Marker)) → Each M (marker_by s r o).effects.marks
-  marker_each r None = tt
-  marker_each r (Some (at, m)) = tt
-
-  record_each : (r : reports.Report) (o : Option (ℕ × PendingRecord)) → Each M (record_by s r o).effects.marks
-  record_each r None = marker_each r (last_before (is_orphaned_marker s.lqh.layout.view.full) s.lqh.markers r.markers)
-  record_each r (Some (at, one)) = tt
-
-  report_each : (r : reports.Report) → Each M (reporting s r).effects.marks
-  unfolding reporting
-  report_each r =
-      record_each r (last_before (is_orphaned_record s.lqh.layout.view.full) s.lqh.rows.pending r.records)
-
-  go_on_each : (b : Bool) (o : Option reports.Report) → Each M (go_on_by s b o).effects.marks
-  go_on_each true None = tt
-  go_on_each true (Some r) = report_each r
-  go_on_each false o = tt
-
-  epochs_each : (from : ℕ) (signal : EpochSignal) → Each M (epoch_table s from signal).effects.marks
-  epochs_each from (GcpClosed epoch) = tt
-  epochs_each from (GcpSaveReq epoch) = tt
-  epochs_each from GcpStateReq = tt
-  epochs_each from _ = tt
-
-  by_each : (body : Body) → Each M (replica_by s x body).effects.marks
-  by_each (Membership (FenceReq proposal)) = tt
-  by_each (Takeover LqhTransReq) = report_each _
-  by_each (Host (Continue Report at)) = go_on_each (x.view.number == s.lqh.layout.view.number) s.report
-  by_each (Host (Continue Granted at)) = serve_each (is_stale s x)
-  by_each (Host (Continue Expired at)) = serve_each (is_stale s x)
-  by_each (Epoch signal) = epochs_each x.member.node signal
-  by_each _ = passed_each
-
-  pub rows_mark_each : Each M (replica_row s x).effects.marks
-  rows_mark_each = by_each x.body
-
 -- a commit at the first place of a record that is there
 record Applies (s : ReplicaState) (x : Signal) (tx : TxId) (key : List ℕ) : Type 0 where
   epoch : ℕ
@@ -103,7 +58,7 @@ IsOf s x tx key mark = mark ≡ Applied tx key → Applies s x tx key
 rows_apply : (s : ReplicaState) (x : Signal) (tx : TxId) (key : List ℕ)
     → Each (IsOf s x tx key) (replica_row s x).effects.marks
 rows_apply s x tx key =
-    rows_mark_each (IsOf s x tx key) s x (record {
+    replica_marks_each s x (IsOf s x tx key) (record {
       prepared = λ u own is. absurd cc;
       applied = λ u own epoch chain at committed about first there is. applies u own epoch chain at committed about
           first there is;

@@ -20,14 +20,14 @@ use Rattle.lqh_block.specs.declared.request.Marker.{Marker}
 use Rattle.lqh_block.specs.declared.request.Request.{Request}
 use Rattle.lqh_block.specs.Lqh.{lqh_row, lqh_table}
 use Rattle.lqh_block.specs.State.{LqhState}
-use Rattle.lqh_block.proofs.EachLqh.{RequestSends, lqh_sends_each}
+use Rattle.lqh_block.proofs.EachLqh.{RequestSends}
 use Rattle.lqh_views.specs.Address.{addressed}
 use Rattle.lqh_views.specs.declared.report.Report as reports
 use Rattle.lqh_views.specs.Epochs.{epoch_table}
 use Rattle.lqh_views.specs.Replica.{is_stale, passed, replica_by, replica_row, serve_if}
 use Rattle.lqh_views.specs.Report.{go_on_by, is_orphaned_marker, is_orphaned_record, last_before, marker_by, record_by, reporting, told_record_if}
 use Rattle.lqh_views.specs.State.{ReplicaState}
-use Rattle.lqh_views.proofs.AddressLemmas.{same-body}
+use Rattle.lqh_views.proofs.Walk.{replica_says_each}
 use Rattle.lqh_views.proofs.LastLemmas.{IsThere, last-there}
 use Rattle.outcome_laws.specs.Known.{IsDecidedIf, RowsKnow}
 use Rattle.outcome_laws.proofs.RowsKnowledge.{rows_know}
@@ -38,9 +38,6 @@ module _ (F A : TxId → Type 0) where
   abbrev Fits : Outgoing → Type 0
   Fits sent = Speaks F A sent.body
 
-  abbrev SendsFit : {S : Type 0} → Step S → Type 0
-  SendsFit step = AreSpoken F A step.effects.sends
-
   -- a request that is performed
   request_speaks : (r : Request) → RequestSends Fits r
   request_speaks r = record {
@@ -50,9 +47,16 @@ module _ (F A : TxId → Type 0) where
     passes = λ image next is. tt;
   }
 
-  table_speaks : (s : LqhState) (body : Body) → Speaks F A body → SendsFit (lqh_table s body)
-  table_speaks s body spoken =
-      lqh_sends_each Fits s body (record {
+  -- of a record, as it is
+  record_speaks : (one : PendingRecord) (b : Bool) → one.committed ≡ b → IsKnownRecord (Of F) Anyone one
+      → IsDecidedIf (Of F) Anyone one b
+  record_speaks one b is known = subst (IsDecidedIf (Of F) Anyone one) is known
+
+  -- whatever they take
+  pub rows_speak : (s : ReplicaState) (x : Signal) → RowsKnow (Of F) Anyone s → Speaks F A x.body
+      → AreSpoken F A (replica_row s x).effects.sends
+  rows_speak s x known spoken =
+      replica_says_each s x (Speaks F A) (λ of_rows. record {
         asked = λ r is. request_speaks r;
         waited = λ at r is. request_speaks r;
         grants_more = tt;
@@ -66,83 +70,20 @@ module _ (F A : TxId → Type 0) where
         times_out = λ tx key. tt;
         waits = λ tx key ahead is there. tt;
         dumps = λ at rows next is. tt;
+      }) (record {
+        promises = λ proposal is. tt;
+        closes = λ epoch is. tt;
+        saves = λ epoch is. tt;
+        states = λ is. tt;
+        tells_committed = λ r under_way at one there is.
+            record_speaks one true is
+            (each_get (IsKnownRecord (Of F) Anyone) s.lqh.rows.pending at one known.records there.there);
+        tells_prepared = λ r under_way at one there is. tt;
+        tells_marker = λ r under_way at m there.
+            each_get (IsKnownMarker (Of F) Anyone) s.lqh.markers at m known.markers there.there;
+        reports_on = λ r under_way. tt;
+        ends = λ r under_way. tt;
       })
-
-  -- what is addressed elsewhere says the same
-  addressed_speak : (view : View) (sends : List Outgoing) → AreSpoken F A sends
-      → AreSpoken F A (map (addressed view) sends)
-  addressed_speak view [] all = tt
-  addressed_speak view (send ∷ sends) all =
-      (subst (Speaks F A) (sym (same-body view send)) all.0, addressed_speak view sends all.1)
-
-  -- of a record, as it is
-  record_speaks : (to : ℕ) (r : PendingRecord) (b : Bool) → IsDecidedIf (Of F) Anyone r b
-      → Speaks F A (told_record_if to r b).body
-  record_speaks to r true known = known
-  record_speaks to r false known = tt
-
-  module _ (s : ReplicaState) (known : RowsKnow (Of F) Anyone s) where
-    abbrev orphaned : PendingRecord → Bool
-    orphaned = is_orphaned_record s.lqh.layout.view.full
-
-    abbrev orphaned_marker : Marker → Bool
-    orphaned_marker = is_orphaned_marker s.lqh.layout.view.full
-
-    -- a report to a takeover
-    marker_speaks : (r : reports.Report) (found : Option (ℕ × Marker))
-        → IfSome found (IsThere orphaned_marker s.lqh.markers) → SendsFit (marker_by s r found)
-    marker_speaks r None is = (tt, tt)
-    marker_speaks r (Some (at, m)) is =
-        (each_get (IsKnownMarker (Of F) Anyone) s.lqh.markers at m known.markers is.there, (tt, tt))
-
-    report_by_speaks : (r : reports.Report) (found : Option (ℕ × PendingRecord))
-        → IfSome found (IsThere orphaned s.lqh.rows.pending) → SendsFit (record_by s r found)
-    report_by_speaks r None is =
-        marker_speaks r (last_before orphaned_marker s.lqh.markers r.markers)
-        (last-there orphaned_marker s.lqh.markers r.markers)
-    report_by_speaks r (Some (at, one)) is =
-        let own = each_get (IsKnownRecord (Of F) Anyone) s.lqh.rows.pending at one known.records is.there in
-        (record_speaks r.to one one.committed own, (tt, tt))
-
-    report_speaks : (r : reports.Report) → SendsFit (reporting s r)
-    unfolding reporting
-    report_speaks r =
-        report_by_speaks r (last_before orphaned s.lqh.rows.pending r.records)
-        (last-there orphaned s.lqh.rows.pending r.records)
-
-    goes_on_speaks : (b : Bool) (o : Option reports.Report) → SendsFit (go_on_by s b o)
-    goes_on_speaks true (Some r) = report_speaks r
-    goes_on_speaks true None = tt
-    goes_on_speaks false o = tt
-
-    epochs_speak : (from : ℕ) (signal : EpochSignal) → SendsFit (epoch_table s from signal)
-    epochs_speak from (GcpClosed epoch) = (tt, tt)
-    epochs_speak from (GcpSaveReq epoch) = (tt, tt)
-    epochs_speak from GcpStateReq = (tt, tt)
-    epochs_speak from _ = tt
-
-    module _ (x : Signal) (spoken : Speaks F A x.body) where
-      passed_speaks : SendsFit (passed s x)
-      passed_speaks =
-          addressed_speak s.lqh.layout.view (lqh_row s.lqh x).effects.sends (table_speaks s.lqh x.body spoken)
-
-      serve_speaks : (b : Bool) → SendsFit (serve_if s x b)
-      serve_speaks true = tt
-      serve_speaks false = passed_speaks
-
-      by_speaks : (body : Body) → SendsFit (replica_by s x body)
-      by_speaks (Membership (FenceReq proposal)) = (tt, tt)
-      by_speaks (Takeover LqhTransReq) = report_speaks _
-      by_speaks (Host (Continue Report at)) = goes_on_speaks (x.view.number == s.lqh.layout.view.number) s.report
-      by_speaks (Host (Continue Granted at)) = serve_speaks (is_stale s x)
-      by_speaks (Host (Continue Expired at)) = serve_speaks (is_stale s x)
-      by_speaks (Epoch signal) = epochs_speak x.member.node signal
-      by_speaks _ = passed_speaks
-
-  -- whatever they take
-  pub rows_speak : (s : ReplicaState) (x : Signal) → RowsKnow (Of F) Anyone s → Speaks F A x.body
-      → AreSpoken F A (replica_row s x).effects.sends
-  rows_speak s x known spoken = by_speaks s known x spoken x.body
 
   -- an epoch that is given is nothing to them
   pub rows_learn : (s : ReplicaState) (x : Signal) → RowsKnow (Of F) Anyone s → Speaks F A x.body

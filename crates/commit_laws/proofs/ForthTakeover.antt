@@ -1,5 +1,5 @@
 -- A takeover commits and completes those that it knows to be committed, and tells their clients.
-use Rattle.std.proofs.Common.{◌≡◌, ◌+◌, ℕ, Bool, true, false, List, drop, length, map, nat_lt, refl, subst, sym, take}
+use Rattle.std.proofs.Common.{◌≡◌, ◌⊎◌, inl, inr, ◌+◌, ℕ, Bool, true, false, List, drop, length, map, nat_lt, refl, subst, sym, take}
 use Rattle.std.specs.List.{flat_map}
 use Rattle.std.specs.Prelude.{Option, None, Some, remove, slice_get}
 use Rattle.run_theory.proofs.EachSent.{each_drop, each_flat, each_get, each_mapped, each_removed, each_take}
@@ -27,117 +27,48 @@ use Rattle.takeover_block.specs.Rule.{entering, finishing, ruling, ruling_by, wa
 use Rattle.takeover_block.specs.Sends.{abort_at, ask_effects, ask_of, asks_of, front_sends, key_sends, key_sends_along, stage_effects, stage_sends}
 use Rattle.takeover_block.specs.State.{TakeoverState, with_gathered}
 use Rattle.takeover_block.specs.Takeover.{takeover_row, takeover_table}
-use Rattle.takeover_block.proofs.EachTakeover.{takeover_each}
-use Rattle.takeover_block.proofs.LawLemmas.{first_found}
-use Rattle.outcome_laws.specs.Known.{IsDecidedAt, TakeoverKnows}
-use Rattle.outcome_laws.proofs.TakeoverKnows.{IsKnown, KnowsAll, is_completed, known_at, takeover_knows, way_known}
+use Rattle.sig_core.specs.declared.mark.Mark.{Mark}
+use Rattle.takeover_block.proofs.Walk.{IsAtCommit, IsRuledOn, commits_it, completing_it, drives_commit, drives_completion, ruled_is, takeover_does}
+use Rattle.outcome_laws.specs.Known.{IsDecidedAs, IsDecidedAt, TakeoverKnows}
+use Rattle.outcome_laws.proofs.TakeoverKnows.{IsKnown, known_at, takeover_knows}
 use Rattle.commit_laws.proofs.ForthSpeaks.{Anyone, AreSpoken, Of, Speaks, gives_epoch, hears}
 
 module _ (F A : TxId → Type 0) where
   abbrev Fits : Outgoing → Type 0
   Fits sent = Speaks F A sent.body
 
-  -- it knows so of the transaction that comes first
-  abbrev AtFirst : Stage → Option Gathered → Type 0
-  AtFirst stage first = IsDecidedAt (Of F) Anyone stage first
+  -- it knows so of the transaction that it is at, and of whom it rules on
+  knows_commit : (s : TakeoverState) (g : Gathered) (epoch : ℕ) → TakeoverKnows (Of F) Anyone s
+      → IsAtCommit s g epoch → F g.tx
+  knows_commit s g epoch known (commits_it n first at) =
+      subst (IsDecidedAt (Of F) Anyone (Committing epoch n)) first (known_at (Of F) Anyone s (Committing epoch n) known at)
+  knows_commit s g epoch known (completing_it n first at) =
+      subst (IsDecidedAt (Of F) Anyone (Completing epoch n)) first (known_at (Of F) Anyone s (Completing epoch n) known at)
 
-  rest_speaks : (by : Place) (w : Work) (at : ℕ) (b : Bool) → AreSpoken F A (rest_if by w at b)
-  rest_speaks by w at true = (tt, tt)
-  rest_speaks by w at false = tt
-
-  portion_speaks : (by : Place) (w : Work) (sends : List Outgoing) (at : ℕ) → AreSpoken F A sends
-      → AreSpoken F A (portion_effects by w sends at).sends
-  portion_speaks by w sends at all =
-      each_append Fits (take PORTION (drop at sends)) (rest_if by w at (nat_lt (at + PORTION) (length sends)))
-      (each_take Fits PORTION (drop at sends) (each_drop Fits at sends all))
-      (rest_speaks by w at (nat_lt (at + PORTION) (length sends)))
-
-  asks_speak : (node : ℕ) (view : View) (at : ℕ) → AreSpoken F A (ask_effects node view at).sends
-  unfolding ask_effects asks_of
-  asks_speak node view at =
-      portion_speaks (takeover node) work.Members (asks_of view) at
-      (each_append Fits (map ask_of view.full) (map ask_of view.starting)
-      (each_mapped Fits ask_of view.full (λ m. tt))
-      (each_mapped Fits ask_of view.starting (λ m. tt)))
-
-  -- all that is sent in a stage
-  along_speaks : (g : Gathered) (stage : Stage) (key : List ℕ) (chain : List Member) → AtFirst stage (Some g)
-      → AreSpoken F A (key_sends_along g.tx stage key chain)
-  along_speaks g Resting key chain known = tt
-  along_speaks g (Gathering n) key chain known = tt
-  along_speaks g (Committing epoch n) key chain known = (known, tt)
-  along_speaks g (Completing epoch n) key chain known = (known, tt)
-  along_speaks g (Aborting n) key chain known = each_mapped Fits (abort_at g.tx key) chain (λ m. tt)
-
-  front_speaks : (g : Gathered) (stage : Stage) → AtFirst stage (Some g) → AreSpoken F A (front_sends g.tx stage)
-  unfolding front_sends
-  front_speaks g Resting known = tt
-  front_speaks g (Gathering n) known = tt
-  front_speaks g (Committing epoch n) known = tt
-  front_speaks g (Completing epoch n) known = (known, tt)
-  front_speaks g (Aborting n) known = tt
-
-  stage_speaks : (node : ℕ) (layout : Layout) (stage : Stage) (g : Gathered) (at : ℕ) → AtFirst stage (Some g)
-      → AreSpoken F A (stage_effects node layout stage g at).sends
-  unfolding stage_effects stage_sends key_sends
-  stage_speaks node layout stage g at known =
-      portion_speaks (takeover node) (work.Transaction g.tx) (stage_sends layout stage g) at
-      (each_append Fits (front_sends g.tx stage) (flat_map (key_sends layout g.tx stage) g.keys)
-      (front_speaks g stage known)
-      (each_flat Fits (key_sends layout g.tx stage) g.keys
-      (λ key. along_speaks g stage key (chain_of layout key) known)))
-
-  -- a stage begins, and the first of the transactions is ruled on
-  enters : (s : TakeoverState) (g : Gathered) (stage : Stage) → AtFirst stage (Some g)
-      → AreSpoken F A (entering s g stage).effects.sends
-  unfolding entering
-  enters s g stage known = stage_speaks s.node s.layout stage g 0 known
-
-  rules : (s : TakeoverState) → KnowsAll (Of F) Anyone s.gathered → AreSpoken F A (ruling s).effects.sends
-  unfolding ruling
-  rules s all = by (slice_get s.gathered 0) refl
-    where
-      by : (first : Option Gathered) → slice_get s.gathered 0 ≡ first → AreSpoken F A (ruling_by s first).effects.sends
-      by None is = (tt, (tt, tt))
-      by (Some g) is =
-          enters s g (way_of s.layout g)
-          (way_known (Of F) Anyone s.layout g (each_get (IsKnown (Of F) Anyone) s.gathered 0 g all is))
-
-  finishes : (s : TakeoverState) → KnowsAll (Of F) Anyone s.gathered → AreSpoken F A (finishing s).effects.sends
-  unfolding finishing
-  finishes s all =
-      rules (with_gathered s (remove s.gathered 0)) (each_removed (IsKnown (Of F) Anyone) s.gathered 0 all)
-
-  first_known : (s : TakeoverState) (tx : TxId) (g : Gathered) (stage : Stage) → first_of s.gathered tx ≡ Some g
-      → AtFirst stage (slice_get s.gathered 0) → AtFirst stage (Some g)
-  first_known s tx g stage first known = subst (AtFirst stage) (first_found s.gathered tx g first).there known
+  knows_drive : (s : TakeoverState) (body : Body) (g : Gathered) (epoch : ℕ) → TakeoverKnows (Of F) Anyone s
+      → IsAtCommit s g epoch ⊎ (IsRuledOn s body g × (g.epoch ≡ Some epoch)) → F g.tx
+  knows_drive s body g epoch known (inl at) = knows_commit s g epoch known at
+  knows_drive s body g epoch known (inr ruled) =
+      subst (IsDecidedAs (Of F) Anyone g.tx) ruled.1
+      (ruled_is s body (IsKnown (Of F) Anyone) known.gathered g ruled.0)
 
   -- whatever it takes
   pub takeover_speaks : (s : TakeoverState) (x : Signal) → TakeoverKnows (Of F) Anyone s
       → AreSpoken F A (takeover_row s x).effects.sends
   takeover_speaks s x known =
-      takeover_each s (λ step. AreSpoken F A step.effects.sends) x.body (record {
-        stays = λ off. tt;
-        untold = λ tx key state epoch is off. tt;
-        unended = λ is off. tt;
-        orders = λ is some. asks_speak s.node s.layout.view 0;
-        orders_nobody = λ is none. rules _ tt;
-        asks = λ place n is due at. asks_speak s.node s.layout.view place;
-        tells = λ tx key state epoch n is at. tt;
-        ends = λ n is at more. tt;
-        all_end = λ n is at last. rules s known.gathered;
-        commits = λ tx key g e n is first at more. tt;
-        all_commit = λ tx key g e n is first at last.
-            enters s g (Completing e (length g.keys))
-            (is_completed (Of F) Anyone e n (length g.keys) (Some g)
-            (first_known s tx g (Committing e n) first (known_at (Of F) Anyone s (Committing e n) known at)));
-        completes = λ tx key g e n is first at more. tt;
-        all_complete = λ tx key g e n is first at last. finishes s known.gathered;
-        aborts = λ tx key g n is first at more. tt;
-        all_abort = λ tx key g n is first at last. (tt, finishes s known.gathered);
-        goes_on = λ tx place g is due at first.
-            stage_speaks s.node s.layout s.stage g place (first_known s tx g s.stage first known.first);
-      })
+      (takeover_does s x Fits (λ (mark : Mark). Unit {0}) (record {
+        asks = λ member. tt;
+        asks_on = λ left. tt;
+        commits = λ g epoch n drives key there.
+            knows_drive s x.body g epoch known (drives_commit s x.body g epoch n drives);
+        confirms = λ g epoch n drives. knows_commit s g epoch known (drives_completion s x.body g epoch n drives);
+        completes = λ g epoch n drives key there.
+            knows_commit s g epoch known (drives_completion s x.body g epoch n drives);
+        aborts = λ g n drives key there member among. tt;
+        drives_on = λ g left. tt;
+        gives_up = λ g key n is first at last. tt;
+        ends = λ gathered rules none. (tt, tt);
+      })).0
 
   -- an epoch that is given is nothing to it
   pub takeover_learns : (s : TakeoverState) (x : Signal) → TakeoverKnows (Of F) Anyone s → Speaks F A x.body

@@ -47,7 +47,7 @@ use Rattle.view_laws.proofs.SetLemmas.{in_front}
 use Rattle.view_laws.proofs.HeardRows.{Does, does_answer, does_hear, does_propose, does_rest, does_settle, is_settling, table_does}
 use Rattle.outcome_laws.proofs.ClientTurns.{client_turns}
 use Rattle.outcome_laws.proofs.StrictLists.{in_either}
-use Rattle.commit_laws.proofs.AppliedMarks.{rows_mark_each}
+use Rattle.lqh_views.proofs.Walk.{replica_marks_each}
 use Rattle.commit_laws.proofs.MarkReasons.{tc_marks_each}
 use Rattle.commit_laws.proofs.PlainMaster.{master_marks_each}
 
@@ -114,7 +114,7 @@ tc_installs p b x = tc_marks_each InstallsNone (λ tx epoch. refl) p b x
 ldm_installs : (p : LdmPart) (b : BlockId) (x : Signal) → Each InstallsNone (ldm_row p b x).effects.marks
 unfolding ldm_row
 ldm_installs p block.Lqh x =
-    rows_mark_each InstallsNone p.replica x (record {
+    replica_marks_each p.replica x InstallsNone (record {
       prepared = λ tx key. refl;
       applied = λ tx key epoch chain at committed is first there. refl;
       completed = λ tx key chain at is. refl;

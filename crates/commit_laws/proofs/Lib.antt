@@ -155,7 +155,6 @@ pub mod OrderRows
 pub mod OrderSent
 pub mod OrderSteps
 pub mod OrderTakeover
-pub mod OrderTurns
 pub mod OrderUnseen
 pub mod OrderWords
 pub mod OrdersFirst
@@ -167,7 +166,6 @@ pub mod OwnersCoordinator
 pub mod OwnersHosts
 pub mod OwnersSay
 pub mod OwnersTakeover
-pub mod OwnersTurns
 pub mod PartApart
 pub mod PartAside
 pub mod PartAsks

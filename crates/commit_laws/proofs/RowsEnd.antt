@@ -24,14 +24,14 @@ use Rattle.lqh_block.specs.declared.request.Marker.{Marker}
 use Rattle.lqh_block.specs.declared.request.Request.{Request}
 use Rattle.lqh_block.specs.Lqh.{lqh_table}
 use Rattle.lqh_block.specs.State.{LqhState}
-use Rattle.lqh_block.proofs.EachLqh.{RequestSends, lqh_sends_each}
+use Rattle.lqh_block.proofs.EachLqh.{RequestSends}
 use Rattle.lqh_views.specs.Address.{addressed}
 use Rattle.lqh_views.specs.declared.report.Report as reports
 use Rattle.lqh_views.specs.Epochs.{epoch_table}
 use Rattle.lqh_views.specs.Replica.{is_stale, passed, replica_by, replica_row, serve_if}
 use Rattle.lqh_views.specs.Report.{go_on_by, is_orphaned_marker, is_orphaned_record, last_before, marker_by, record_by, reporting, told_record_if}
 use Rattle.lqh_views.specs.State.{ReplicaState}
-use Rattle.lqh_views.proofs.AddressLemmas.{same-body}
+use Rattle.lqh_views.proofs.Walk.{replica_says_each}
 
 module _ (taken : Body) where
   -- the commit is passed on
@@ -75,49 +75,12 @@ module _ (taken : Body) where
     passes = λ image next is. tt;
   }
 
-  addressed_words : (view : View) (sends : List Outgoing) → AreRowsWords sends
-      → AreRowsWords (map (addressed view) sends)
-  addressed_words view [] all = tt
-  addressed_words view (send ∷ sends) all =
-      (subst IsRowsWord (sym (same-body view send)) all.0, addressed_words view sends all.1)
-
-  marker_words : (s : ReplicaState) (r : reports.Report) (o : Option (ℕ × Marker))
-      → AreRowsWords (marker_by s r o).effects.sends
-  marker_words s r None = (tt, tt)
-  marker_words s r (Some (at, m)) = (tt, (tt, tt))
-
-  told_words : (to : ℕ) (r : PendingRecord) (b : Bool) → IsRowsWord (told_record_if to r b).body
-  told_words to r true = tt
-  told_words to r false = tt
-
-  record_words : (s : ReplicaState) (r : reports.Report) (o : Option (ℕ × PendingRecord))
-      → AreRowsWords (record_by s r o).effects.sends
-  record_words s r None =
-      marker_words s r (last_before (is_orphaned_marker s.lqh.layout.view.full) s.lqh.markers r.markers)
-  record_words s r (Some (at, one)) = (told_words r.to one one.committed, (tt, tt))
-
-  report_words : (s : ReplicaState) (r : reports.Report) → AreRowsWords (reporting s r).effects.sends
-  unfolding reporting
-  report_words s r =
-      record_words s r (last_before (is_orphaned_record s.lqh.layout.view.full) s.lqh.rows.pending r.records)
-
-  go_on_words : (s : ReplicaState) (b : Bool) (o : Option reports.Report) → AreRowsWords (go_on_by s b o).effects.sends
-  go_on_words s true (Some r) = report_words s r
-  go_on_words s true None = tt
-  go_on_words s false o = tt
-
-  epochs_words : (s : ReplicaState) (from : ℕ) (signal : EpochSignal)
-      → AreRowsWords (epoch_table s from signal).effects.sends
-  epochs_words s from (GcpClosed epoch) = (tt, tt)
-  epochs_words s from (GcpSaveReq epoch) = (tt, tt)
-  epochs_words s from GcpStateReq = (tt, tt)
-  epochs_words s from _ = tt
-
-table_words : (s : LqhState) (body : Body) → AreRowsWords body (lqh_table s body).effects.sends
-table_words s body =
-    lqh_sends_each (λ (sent : Outgoing). IsRowsWord body sent.body) s body (record {
-      asked = λ r is. request_words body r;
-      waited = λ at r is. request_words body r;
+-- whatever they take
+pub rows_words : (s : ReplicaState) (x : Signal) → AreRowsWords x.body (replica_row s x).effects.sends
+rows_words s x =
+    replica_says_each s x (IsRowsWord x.body) (λ of_rows. record {
+      asked = λ r is. request_words x.body r;
+      waited = λ at r is. request_words x.body r;
       grants_more = tt;
       expires_more = tt;
       commits_on = λ tx key epoch chain at is behind. record
@@ -131,26 +94,14 @@ table_words s body =
       times_out = λ tx key. tt;
       waits = λ tx key ahead is there. tt;
       dumps = λ at rows next is. tt;
+    }) (record {
+      promises = λ proposal is. tt;
+      closes = λ epoch is. tt;
+      saves = λ epoch is. tt;
+      states = λ is. tt;
+      tells_committed = λ r under_way at one there is. tt;
+      tells_prepared = λ r under_way at one there is. tt;
+      tells_marker = λ r under_way at m there. tt;
+      reports_on = λ r under_way. tt;
+      ends = λ r under_way. tt;
     })
-
-module _ (s : ReplicaState) (x : Signal) where
-  passed_words : AreRowsWords x.body (passed s x).effects.sends
-  passed_words = addressed_words x.body s.lqh.layout.view (lqh_table s.lqh x.body).effects.sends
-      (table_words s.lqh x.body)
-
-  serve_words : (b : Bool) → AreRowsWords x.body (serve_if s x b).effects.sends
-  serve_words true = tt
-  serve_words false = passed_words
-
-  by_words : (body : Body) → AreRowsWords x.body (replica_by s x body).effects.sends
-  by_words (Membership (FenceReq proposal)) = (tt, tt)
-  by_words (Takeover LqhTransReq) = report_words x.body s _
-  by_words (Host (Continue Report at)) = go_on_words x.body s (x.view.number == s.lqh.layout.view.number) s.report
-  by_words (Host (Continue Granted at)) = serve_words (is_stale s x)
-  by_words (Host (Continue Expired at)) = serve_words (is_stale s x)
-  by_words (Epoch signal) = epochs_words x.body s x.member.node signal
-  by_words _ = passed_words
-
-  -- whatever they take
-  pub rows_words : AreRowsWords x.body (replica_row s x).effects.sends
-  rows_words = by_words x.body

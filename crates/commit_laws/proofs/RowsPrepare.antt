@@ -45,7 +45,7 @@ use Rattle.lqh_views.specs.Replica.{is_stale, passed, replica_by, replica_row, s
 use Rattle.lqh_views.specs.State.{ReplicaState}
 use Rattle.request_laws.proofs.ReplicaEvents.{signals_are_events}
 use Rattle.request_laws.specs.Replicas.{event_by, event_under}
-use Rattle.commit_laws.proofs.AppliedMarks.{rows_mark_each}
+use Rattle.lqh_views.proofs.Walk.{replica_marks_each}
 
 pub alone_so : (b : Bool) → b ≡ true → (b || false) ≡ true
 alone_so true is = refl
@@ -237,7 +237,7 @@ module _ (v : TxId) (key : List ℕ) (s : ReplicaState) (x : Signal) where
   pub done_ends : list_any (is_done_mark v key) (replica_row s x).effects.marks ≡ true → Ends
   done_ends is =
       of_marked (is_done_mark v key) (replica_row s x).effects.marks is
-      (rows_mark_each (λ m. is_done_mark v key m ≡ true → Ends) s x (record {
+      (replica_marks_each s x (λ m. is_done_mark v key m ≡ true → Ends) (record {
         prepared = λ tx own e. absurd (true≢false (sym e));
         applied = λ tx own epoch chain at committed taken first there e. absurd (true≢false (sym e));
         completed = completed;

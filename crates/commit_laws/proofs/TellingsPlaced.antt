@@ -18,7 +18,8 @@ use Rattle.lqh_block.specs.declared.request.Marker.{Marker}
 use Rattle.lqh_block.specs.declared.request.Request.{Request}
 use Rattle.lqh_block.specs.Lqh.{lqh_table}
 use Rattle.lqh_block.specs.State.{LqhState}
-use Rattle.lqh_block.proofs.EachLqh.{RequestSends, lqh_sends_each}
+use Rattle.lqh_views.proofs.Walk.{replica_sends_each}
+use Rattle.lqh_block.proofs.EachLqh.{RequestSends}
 use Rattle.lqh_views.specs.Address.{about, addressed, owned_by, owned_if, to_takeover}
 use Rattle.lqh_views.specs.declared.report.Report as reports
 use Rattle.lqh_views.specs.Epochs.{epoch_table}
@@ -83,88 +84,44 @@ moved_for view o placed = by (about o.body)
     by None = placed
     by (Some tx) = by_if view.full (is_coordinated view.full tx)
 
-request_placed : (r : Request) → RequestSends (λ (o : Outgoing). IsFor o.to o.body) r
-request_placed r = record {
-  log_full = λ used reserved need. tt;
-  table_full = λ rows. tt;
-  answers = λ a. tt;
-  passes = λ image next is. tt;
-}
-
-table_placed : (s : LqhState) (body : Body) → ArePlaced (lqh_table s body).effects.sends
-table_placed s body =
-    lqh_sends_each (λ (o : Outgoing). IsFor o.to o.body) s body (record {
+rows_placed : (s : ReplicaState) (x : Signal) → ArePlaced (replica_row s x).effects.sends
+rows_placed s x =
+    replica_sends_each s x IsPlaced (λ of_rows. record {
       asked = λ r is. request_placed r;
       waited = λ at r is. request_placed r;
-      grants_more = tt;
-      expires_more = tt;
-      commits_on = λ tx key epoch chain at is behind. tt;
-      committed = λ tx key epoch chain at is first. tt;
-      completes_on = λ tx key chain at is behind. tt;
-      completed = λ tx key chain at is first. tt;
-      aborted = λ tx key is. tt;
-      gives_up = λ tx key is. tt;
-      times_out = λ tx key. tt;
-      waits = λ tx key ahead is there. tt;
-      dumps = λ at rows next is. tt;
+      grants_more = moved _ tt;
+      expires_more = moved _ tt;
+      commits_on = λ tx key epoch chain at is behind. moved _ tt;
+      committed = λ tx key epoch chain at is first. moved _ tt;
+      completes_on = λ tx key chain at is behind. moved _ tt;
+      completed = λ tx key chain at is first. moved _ tt;
+      aborted = λ tx key is. moved _ tt;
+      gives_up = λ tx key is. moved _ tt;
+      times_out = λ tx key. moved _ tt;
+      waits = λ tx key ahead is there. moved _ tt;
+      dumps = λ at rows next is. moved _ tt;
+    }) (record {
+      promises = λ proposal is. tt;
+      closes = λ epoch is. tt;
+      saves = λ epoch is. tt;
+      states = λ is. tt;
+      tells_committed = λ r under_way at one there is. refl;
+      tells_prepared = λ r under_way at one there is. refl;
+      tells_marker = λ r under_way at m there. refl;
+      reports_on = λ r under_way. tt;
+      ends = λ r under_way. tt;
     })
+  where
+    moved : (o : Outgoing) → IsPlaced o → IsPlaced (addressed s.lqh.layout.view o)
+    moved o placed = moved_for s.lqh.layout.view o placed
 
-addressed_placed : (view : View) (sends : List Outgoing) → ArePlaced sends → ArePlaced (map (addressed view) sends)
-addressed_placed view [] all = tt
-addressed_placed view (o ∷ sends) all = (moved_for view o all.0, addressed_placed view sends all.1)
-
-marker_placed : (s : ReplicaState) (r : reports.Report) (o : Option (ℕ × Marker))
-    → ArePlaced (marker_by s r o).effects.sends
-marker_placed s r None = (tt, tt)
-marker_placed s r (Some (at, m)) = (refl, (tt, tt))
-
-told_placed : (to : ℕ) (r : PendingRecord) (b : Bool) → IsPlaced (told_record_if to r b)
-told_placed to r true = refl
-told_placed to r false = refl
-
-record_placed : (s : ReplicaState) (r : reports.Report) (o : Option (ℕ × PendingRecord))
-    → ArePlaced (record_by s r o).effects.sends
-record_placed s r None =
-    marker_placed s r (last_before (is_orphaned_marker s.lqh.layout.view.full) s.lqh.markers r.markers)
-record_placed s r (Some (at, one)) = (told_placed r.to one one.committed, (tt, tt))
-
-report_placed : (s : ReplicaState) (r : reports.Report) → ArePlaced (reporting s r).effects.sends
-unfolding reporting
-report_placed s r =
-    record_placed s r (last_before (is_orphaned_record s.lqh.layout.view.full) s.lqh.rows.pending r.records)
-
-go_on_placed : (s : ReplicaState) (b : Bool) (o : Option reports.Report) → ArePlaced (go_on_by s b o).effects.sends
-go_on_placed s true (Some r) = report_placed s r
-go_on_placed s true None = tt
-go_on_placed s false o = tt
-
-epochs_placed : (s : ReplicaState) (from : ℕ) (signal : EpochSignal)
-    → ArePlaced (epoch_table s from signal).effects.sends
-epochs_placed s from (GcpClosed epoch) = (tt, tt)
-epochs_placed s from (GcpSaveReq epoch) = (tt, tt)
-epochs_placed s from GcpStateReq = (tt, tt)
-epochs_placed s from _ = tt
-
-module _ (s : ReplicaState) (x : Signal) where
-  passed_placed : ArePlaced (passed s x).effects.sends
-  passed_placed =
-      addressed_placed s.lqh.layout.view (lqh_table s.lqh x.body).effects.sends (table_placed s.lqh x.body)
-
-  serve_placed : (b : Bool) → ArePlaced (serve_if s x b).effects.sends
-  serve_placed true = tt
-  serve_placed false = passed_placed
-
-  by_placed : (body : Body) → ArePlaced (replica_by s x body).effects.sends
-  by_placed (Membership (FenceReq proposal)) = (tt, tt)
-  by_placed (Takeover LqhTransReq) = report_placed s _
-  by_placed (Host (Continue Report at)) = go_on_placed s (x.view.number == s.lqh.layout.view.number) s.report
-  by_placed (Host (Continue Granted at)) = serve_placed (is_stale s x)
-  by_placed (Host (Continue Expired at)) = serve_placed (is_stale s x)
-  by_placed (Epoch signal) = epochs_placed s x.member.node signal
-  by_placed _ = passed_placed
-
-  rows_placed : ArePlaced (replica_row s x).effects.sends
-  rows_placed = by_placed x.body
+    request_placed : (r : Request) → RequestSends (λ o. IsPlaced (addressed s.lqh.layout.view o)) r
+    request_placed r = record {
+      log_full = λ used reserved need. moved _ tt;
+      table_full = λ rows. moved _ tt;
+      answers = λ a. moved _ tt;
+      passes = λ image next is. moved _ tt;
+    }
 
 -- other hosts tell nothing of transactions
 abbrev Nothing : TxId → Option ℕ → Type 0

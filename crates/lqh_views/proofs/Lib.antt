@@ -7,4 +7,5 @@ pub mod LastLemmas
 pub mod LawLemmas
 pub mod ReportSteps
 pub mod StraightLemmas
+pub mod Walk
 pub mod WholeLemmas

@@ -1,6 +1,7 @@
 //! What is true of the steps of a node's rows under views.
 ghost use Rattle.lqh_views.specs.Laws.{CalmSteps, InstallationsEndWaits, ReportsAreTrue};
 ghost use Rattle.lqh_views.specs.WholeReports.{ReportsLeaveNothingOut, ReportsTellEachOnce};
+ghost use Rattle.lqh_views.specs.Words.{ReplicaKeepsToItsWords};
 
 /// Where all whom a step of the rows tells of the end of a transaction's part are coordinators that
 /// are full members, a step at a signal of the rows is that of `Lqh`, and all else stays.
@@ -34,4 +35,10 @@ pub fn reports_leave_nothing_out()
 /// end: the first n + 1 of these in the step of the request and n steps behind it.
 pub fn reports_tell_each_once()
     ensures { ReportsTellEachOnce }
+{}
+
+/// Whatever the rows take, and whatever view is installed, they send and mark nothing but their own
+/// words and marks.
+pub fn replica_keeps_to_its_words()
+    ensures { ReplicaKeepsToItsWords }
 {}

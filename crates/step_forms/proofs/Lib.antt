@@ -1,2 +1,3 @@
 pub mod DoesLemmas
+pub mod ListLemmas
 pub mod PortionLemmas

@@ -10,3 +10,4 @@ pub mod SendLemmas
 pub mod SentEach
 pub mod SentLemmas
 pub mod SoundLemmas
+pub mod Walk

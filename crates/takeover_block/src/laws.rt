@@ -1,5 +1,6 @@
 //! What is true of all that a takeover sends, whatever signals come, in whatever order.
 ghost use Rattle.takeover_block.specs.Laws.{AbortsWhatNobodyCommitted, CommitsWhatWasTold, GatheredStandInOrder, RulesWhenAllHaveEnded, TellsWhenAllHaveAnswered};
+ghost use Rattle.takeover_block.specs.Words.{TakeoverKeepsToItsWords};
 
 /// A transaction is committed, and told to the client as committed, only in an epoch that a member
 /// told of it since the last order, before all members had ended.
@@ -29,4 +30,10 @@ pub fn gathered_stand_in_order()
 /// came as these keys have replicas in the view.
 pub fn tells_when_all_have_answered()
     ensures { TellsWhenAllHaveAnswered }
+{}
+
+/// Whatever a takeover takes, and whatever view is installed, it sends nothing but its own words, and
+/// marks nothing.
+pub fn takeover_keeps_to_its_words()
+    ensures { TakeoverKeepsToItsWords }
 {}

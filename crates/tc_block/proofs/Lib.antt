@@ -1,7 +1,9 @@
 pub mod CountLemmas
+pub mod EachResume
 pub mod EachTc
 pub mod EachTurn
 pub mod LiveKeeps
 pub mod LiveLemmas
 pub mod LiveSplit
 pub mod TurnRows
+pub mod TurnSends

@@ -1,3 +1,4 @@
 pub mod CalmLemmas
 pub mod DoomLemmas
 pub mod LeftLemmas
+pub mod Walk

@@ -1,5 +1,6 @@
 //! What is true of a coordinator under views, whatever comes.
 ghost use Rattle.tc_views.specs.Laws.{CalmSteps, DoomedAreNotDecided, FailedAreToldTheView, NoneIsLeftTwice};
+ghost use Rattle.tc_views.specs.Words.{CoordinatorKeepsToItsWords};
 
 /// Where nothing is doomed and nothing is left to do, a coordinator steps as it does within its
 /// view, but at the promise of a view and where it goes on with an installation or a list of an
@@ -21,4 +22,10 @@ pub fn none_is_left_twice()
 /// A transaction that an installation leaves to be aborted is aborted with the number of the view.
 pub fn failed_are_told_the_view()
     ensures { FailedAreToldTheView }
+{}
+
+/// Whatever a coordinator takes, and whatever view is installed, it sends nothing but its own words,
+/// and marks nothing.
+pub fn coordinator_keeps_to_its_words()
+    ensures { CoordinatorKeepsToItsWords }
 {}
