@@ -18,6 +18,3 @@ pub use api::Api;
 pub use opened::{
     Doing, OpenTransaction, is_beginning, is_unanswered, place_beginning_at, place_named,
 };
-
-#[cfg(test)]
-mod tests;

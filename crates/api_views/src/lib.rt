@@ -20,6 +20,3 @@ pub use laws::{calm_steps, dropped_changes_nothing, ends_are_told_once};
 pub use members::is_member;
 pub use reports::Verdict;
 pub use stops::HostStop;
-
-#[cfg(test)]
-mod tests;

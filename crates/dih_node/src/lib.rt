@@ -9,6 +9,3 @@ mod verify;
 
 pub use dih::{Counted, Dih, Report, TRANSACTIONS};
 pub use laws::{epochs_never_fall, none_is_given_while_prepared, reports_are_true};
-
-#[cfg(test)]
-mod tests;

@@ -25,6 +25,3 @@ pub use lqh::Lqh;
 pub use map_rows::MapRows;
 pub use request::{Marker, Request};
 pub use views::is_coordinated;
-
-#[cfg(test)]
-mod tests;

@@ -20,6 +20,3 @@ pub use laws::{
     starts_are_not_forgotten,
 };
 pub use qmgr::Qmgr;
-
-#[cfg(test)]
-mod tests;

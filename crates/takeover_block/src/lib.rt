@@ -17,6 +17,3 @@ pub use laws::{
     rules_when_all_have_ended, tells_when_all_have_answered,
 };
 pub use takeover::Takeover;
-
-#[cfg(test)]
-mod tests;

@@ -8,6 +8,3 @@ mod views;
 
 pub use coordinator::Coordinator;
 pub use laws::{calm_steps, doomed_are_not_decided, failed_are_told_the_view, none_is_left_twice};
-
-#[cfg(test)]
-mod tests;
