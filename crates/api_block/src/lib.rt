@@ -20,6 +20,3 @@ pub use laws::the_api_keeps_to_its_words;
 pub use opened::{
     Doing, OpenTransaction, is_beginning, is_unanswered, place_beginning_at, place_named,
 };
-
-#[cfg(test)]
-mod tests;

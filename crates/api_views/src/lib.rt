@@ -22,6 +22,3 @@ pub use laws::{
 pub use members::is_member;
 pub use reports::Verdict;
 pub use stops::HostStop;
-
-#[cfg(test)]
-mod tests;

@@ -10,6 +10,3 @@ pub use laws::{
     arbiter_keeps_to_its_words, asked_again_is_answered_alike, each_set_lies_in_the_one_before,
     last_grant_is_kept, one_set_for_each_number, zero_is_never_granted,
 };
-
-#[cfg(test)]
-mod tests;

@@ -11,6 +11,3 @@ pub use dih::{Counted, Dih, Report, TRANSACTIONS};
 pub use laws::{
     epochs_never_fall, keeps_to_its_words, none_is_given_while_prepared, reports_are_true,
 };
-
-#[cfg(test)]
-mod tests;

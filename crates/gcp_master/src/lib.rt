@@ -23,6 +23,3 @@ pub use numbers::{MICROS, next_global, next_micro};
 pub use orders::{Ended, Order};
 pub use phase::{Asked, Phase, Run};
 pub use voices::{VOICES, Voice, Voices};
-
-#[cfg(test)]
-mod tests;

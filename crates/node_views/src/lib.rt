@@ -24,6 +24,3 @@ pub use shell_part::ShellPart;
 pub use standing::Standing;
 pub use tc_part::TcPart;
 pub use well_formed::is_well_formed;
-
-#[cfg(test)]
-mod tests;

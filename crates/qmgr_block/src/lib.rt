@@ -20,6 +20,3 @@ pub use laws::{
     qmgr_keeps_to_its_words, starts_are_not_forgotten,
 };
 pub use qmgr::Qmgr;
-
-#[cfg(test)]
-mod tests;

@@ -17,6 +17,3 @@ pub use laws::{
     rules_when_all_have_ended, takeover_keeps_to_its_words, tells_when_all_have_answered,
 };
 pub use takeover::Takeover;
-
-#[cfg(test)]
-mod tests;

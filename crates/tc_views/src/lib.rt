@@ -11,6 +11,3 @@ pub use laws::{
     calm_steps, coordinator_keeps_to_its_words, doomed_are_not_decided, failed_are_told_the_view,
     none_is_left_twice,
 };
-
-#[cfg(test)]
-mod tests;
