@@ -1,4 +1,5 @@
--- What holds of each form of step of a node's epochs holds of what they do at each signal, and what holds of each form of
+-- What holds of each form of step of a node's epochs holds of what they do at each signal, and what holds of each form
+-- of
 -- signal and mark holds of all that they send and mark.
 use Rattle.std.proofs.Common.{◌≡◌, ◌==◌, ◌+◌, ◌≤◌, ◌<◌, ◌∙◌, ℕ, Bool, true, false, nat_le, nat_lt, List, ◌∷◌, [], ◌++◌, length, refl, ap, sym}
 use Rattle.std.proofs.lemmas.Bool.{leb-true, leb-false}

@@ -32,7 +32,8 @@ pub all_heard : (blocks : ℕ) (s : MasterState) → all_in blocks s ≡ true
     → Each (λ member. blocks ≤ voices_of s.voices member) s.view.full
 unfolding all_in
 all_heard blocks s is =
-    each_all s.view.full (and_parts (has_all blocks s.voices s.view.full) (has_all blocks s.voices s.view.starting) is).0
+    each_all s.view.full (and_parts (has_all blocks s.voices s.view.full) (has_all blocks s.voices s.view.starting)
+    is).0
   where
     each_all : (members : List Member) → has_all blocks s.voices members ≡ true
         → Each (λ member. blocks ≤ voices_of s.voices member) members
@@ -48,7 +49,8 @@ pub data IsClosing (s : MasterState) (x : Signal) (run : Run) : Type 0 where
       → all_in 1 (heard_one s x) ≡ true → IsClosing s x run
   is_over : x.body ≡ Takeover TakeoverEnd → all_in 1 (not_owing s) ≡ true → IsClosing s x run
 
--- R is of each kind of step that the master may take: it sends nothing, it stops, it sends of a list, or a run is closed
+-- R is of each kind of step that the master may take: it sends nothing, it stops, it sends of a list, or a run is
+-- closed
 -- or becomes durable beside that
 pub record MasterSteps (s : MasterState) (x : Signal) (R : Step MasterState → Type 0) : Type 0 where
   pub stays : (t : MasterState) → R (stay t)

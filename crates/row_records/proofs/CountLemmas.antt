@@ -51,7 +51,8 @@ found_on pending tx key at r found is =
     let there = get_or pending at r in
     let one : Some there ≡ Some r = sym (slice_get-get_or pending at r passes.0) ∙ is in
     let same_one : there ≡ r = cc in
-    ap (λ y. y.key) (sym same_one) ∙ same there.key key (and_parts (same_tx there.tx tx) (same_key there.key key) passes.1).1
+    ap (λ y. y.key) (sym same_one) ∙ same there.key key
+    (and_parts (same_tx there.tx tx) (same_key there.key key) passes.1).1
 
 -- another record of the same key takes its place
 pub count-set : (pending : List PendingRecord) (at : ℕ) (before after : PendingRecord) (q : List ℕ)

@@ -37,7 +37,8 @@ module _ {K V : Type 0} (test : K → Bool) where
       by (test entry.0) refl (entry_found entries at value)
     where
       by : (b : Bool) → test entry.0 ≡ b
-          → (position test (keys_of entries) ≡ Some at → slice_get (values_of entries) at ≡ Some value → HasEntry entries at value)
+          → (position test (keys_of entries) ≡ Some at → slice_get (values_of entries) at ≡ Some value → HasEntry
+          entries at value)
           → HasEntry (entry ∷ entries) (suc at) value
       by true passes further =
           let first : Some 0 ≡ Some (suc at) =

@@ -115,7 +115,8 @@ set_committed [] at epoch before after is of = cc
 set_committed (entry ∷ entries) zero epoch before after is of =
     let one : entry.1 ≡ before = cc in
     ap (λ v. record_in (entry.0, v) ∷ map record_in entries) of
-    ∙ ap (λ v. record { tx = entry.0.tx; key = entry.0.key; image = v.image; committed = true; epoch = epoch } ∷ map record_in entries)
+    ∙ ap (λ v. record { tx = entry.0.tx; key = entry.0.key; image = v.image; committed = true; epoch = epoch } ∷ map
+    record_in entries)
     (sym one)
 set_committed (entry ∷ entries) (suc at) epoch before after is of =
     ap (λ w. record_in entry ∷ w) (set_committed entries at epoch before after is of)

@@ -26,13 +26,15 @@ module _ (s : RowsState) (tx : TxId) (key : List ℕ) (at : ℕ) (version : Vers
   unfolding record_of
   found_record = ap (get_at s.pending) (sym place) ∙ is
 
-  commit_if_found : (epoch : ℕ) → commit_record s tx key epoch ≡ commit_if s at (record_by tx key version) epoch version.committed
+  commit_if_found : (epoch : ℕ)
+      → commit_record s tx key epoch ≡ commit_if s at (record_by tx key version) epoch version.committed
   unfolding commit_record
   commit_if_found epoch = ap (λ o. commit_by s epoch o (record_of s tx key)) (sym place)
       ∙ ap (commit_by s epoch (Some at)) found_record
 
   -- a record that is found is committed, or was so before
-  pub commit_found : (places : List (Option Slot)) (pending : List PendingRecord) (epoch : ℕ) → version.committed ≡ false
+  pub commit_found : (places : List (Option Slot)) (pending : List PendingRecord) (epoch : ℕ)
+      → version.committed ≡ false
       → places ≡ set_row s.places key version.image epoch
       → pending ≡ committed_at s.pending at epoch (slice_get s.pending at)
       → ◌≡◌ {A = RowsState} (record { places = places; pending = pending }) (commit_record s tx key epoch)

@@ -14,7 +14,13 @@ is_id tx key id = same_tx id.tx tx && same_key id.key key
 
 -- a transaction's record on a key
 abbrev pub record_by : TxId → List ℕ → Version → PendingRecord
-record_by tx key version = record { tx = tx; key = key; image = version.image; committed = version.committed; epoch = version.epoch }
+record_by tx key version = record {
+  tx = tx;
+  key = key;
+  image = version.image;
+  committed = version.committed;
+  epoch = version.epoch;
+}
 
 abbrev pub record_in : RecordId × Version → PendingRecord
 record_in entry = record_by entry.0.tx entry.0.key entry.1

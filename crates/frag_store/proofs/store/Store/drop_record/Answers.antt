@@ -23,7 +23,8 @@ pub returns-then-version-committed : goal.returns-then-version-committed
 returns-then-version-committed c =
     let tx = c.args.tx in
     let key = c.args.key.now in
-    let s : RowsState = record { places = c.self.inside.places.places.slots; pending = c.self.inside.records.pending } in
+    let s : RowsState =
+    record { places = c.self.inside.places.places.slots; pending = c.self.inside.records.pending } in
     let view : s ≡ c.args.self.now.rows = ap (λ m. m.rows) c.self.view_is in
     let less = count-remove c.self.inside.records.pending c.in-Some.at (record_by tx key c.in-Some.version.now) key
     c.in-Some.ensures.record in
@@ -45,7 +46,8 @@ pub returns-else-version-committed : goal.returns-else-version-committed
 returns-else-version-committed c =
     let tx = c.args.tx in
     let key = c.args.key.now in
-    let s : RowsState = record { places = c.self.inside.places.places.slots; pending = c.self.inside.records.pending } in
+    let s : RowsState =
+    record { places = c.self.inside.places.places.slots; pending = c.self.inside.records.pending } in
     let view : s ≡ c.args.self.now.rows = ap (λ m. m.rows) c.self.view_is in
     let P : RowsState → Type 0 = λ rows. rows ≡ drop_by rows c.args.committed (record_at rows.pending tx key)
     (record_of rows tx key) in
