@@ -173,7 +173,7 @@ impl Plain {
             epoch: 0,
         };
         match self.record_at(tx, key) {
-            Some(at) => self.records[at] = record,
+            Some(at) => self.set_record(at, record),
             None => self.records.push(record)?,
         }
         Ok(outcome)
@@ -190,32 +190,50 @@ impl Plain {
             epoch: 0,
         };
         match self.places.iter().position(|place| place.is_none()) {
-            Some(at) => self.places[at] = Some(slot),
+            Some(at) => self.set_place(at, Some(slot)),
             None => self.places.push(Some(slot))?,
         }
         Ok(())
     }
 
+    fn set_place(&mut self, at: usize, place: Option<Slot>) {
+        if at < self.places.len() {
+            self.places[at] = place;
+        }
+    }
+
+    fn set_record(&mut self, at: usize, record: PendingRecord) {
+        if at < self.records.len() {
+            self.records[at] = record;
+        }
+    }
+
     // This is the row of a key that has a place, of this epoch; of no row no epoch is kept.
     fn set_row(&mut self, key: &Key, row: &Option<Value>, epoch: u64) {
         if let Some(at) = self.place_of(key) {
-            self.places[at] = Some(Slot {
+            let slot = Slot {
                 key: *key,
                 row: *row,
                 epoch: if row.is_some() { epoch } else { 0 },
-            });
+            };
+            self.set_place(at, Some(slot));
         }
     }
 
     fn commit(&mut self, tx: TxId, key: &Key, epoch: u64) {
-        let Some(at) = self.record_at(tx, key) else {
+        let (Some(at), Some(record)) = (self.record_at(tx, key), self.record(tx, key)) else {
             return;
         };
-        let record = self.records[at];
         if !record.committed {
             self.set_row(key, &record.image, epoch);
-            self.records[at].committed = true;
-            self.records[at].epoch = epoch;
+            let done = PendingRecord {
+                tx,
+                key: *key,
+                image: record.image,
+                committed: true,
+                epoch,
+            };
+            self.set_record(at, done);
         }
     }
 
@@ -225,14 +243,14 @@ impl Plain {
         let Some(at) = self.record_at(tx, key) else {
             return;
         };
-        if self.records[at].committed != committed {
+        if at >= self.records.len() || self.records[at].committed != committed {
             return;
         }
         self.records.remove(at);
         let idle = !self.records.iter().any(|record| record.key == *key);
         if idle && self.row(key).is_none() {
             if let Some(at) = self.place_of(key) {
-                self.places[at] = None;
+                self.set_place(at, None);
             }
         }
     }
