@@ -7,8 +7,8 @@
 //! | line | what happens |
 //! |---|---|
 //! | `block CRATE SETTING ..` | the block is there, with nothing under way |
-//! | `from HOST SIGNAL` | it hears a signal of that host: `shell`, or `main`, `tc` or `ldm` with a member behind, as `tc2` |
-//! | `from HOST to BLOCK SIGNAL` | the same, for one block of a host (`node_views`) |
+//! | `from HOST SIGNAL` | it hears a signal of that host, which is `shell`, or `main2`, `tc2` or `ldm2` of member 2 |
+//! | `from HOST to BLOCK SIGNAL` | the same, for one of the blocks of hosts, as `dih1` |
 //! | `ask REQUEST` | the shell asks for it, as in a script; also `tick ROUND of ROUNDS`, `waits` and `pending` |
 //! | `install VIEW` | its host installs a view |
 //! | `stop HOST` | a host is killed |
