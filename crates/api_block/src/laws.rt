@@ -4,6 +4,6 @@ ghost use Rattle.api_block.specs.Words.{ApiKeepsToItsWords};
 /// It sends only requests of transactions, rounds of time, acknowledgements and requests for rows,
 /// and marks only reports.
 #[tactic(auto, using(crate::proofs::Walk::api_words))]
-pub fn the_api_keeps_to_its_words()
+pub fn keeps_to_its_words()
     ensures { ApiKeepsToItsWords }
 {}

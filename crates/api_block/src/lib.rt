@@ -16,7 +16,7 @@ mod views;
 mod wait;
 
 pub use api::Api;
-pub use laws::the_api_keeps_to_its_words;
+pub use laws::keeps_to_its_words;
 pub use opened::{
     Doing, OpenTransaction, is_beginning, is_unanswered, place_beginning_at, place_named,
 };

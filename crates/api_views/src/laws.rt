@@ -27,6 +27,6 @@ pub fn ends_are_told_once()
 /// It sends only requests of transactions, of rows and of closings, rounds of time, deaths and cuts,
 /// acknowledgements, and work of its own, and marks only reports.
 #[tactic(auto, using(crate::proofs::Walk::client_words))]
-pub fn the_client_keeps_to_its_words()
+pub fn keeps_to_its_words()
     ensures { ClientKeepsToItsWords }
 {}

@@ -35,6 +35,6 @@ pub fn asked_again_is_answered_alike()
 
 /// Whatever comes, the arbitrator sends only grants and refusals, and marks nothing.
 #[tactic(auto, using(crate::proofs::Walk::arbiter_words))]
-pub fn arbiter_keeps_to_its_words()
+pub fn keeps_to_its_words()
     ensures { ArbiterKeepsToItsWords }
 {}

@@ -45,6 +45,6 @@ pub fn reports_tell_each_once()
 /// Whatever the rows take, and whatever view is installed, they send and mark nothing but their own
 /// words and marks.
 #[tactic(auto, using(crate::proofs::Walk::replica_words))]
-pub fn replica_keeps_to_its_words()
+pub fn keeps_to_its_words()
     ensures { ReplicaKeepsToItsWords }
 {}

@@ -8,7 +8,7 @@ mod replica;
 mod report;
 
 pub use laws::{
-    calm_steps, installations_end_waits, replica_keeps_to_its_words, reports_are_true,
+    calm_steps, installations_end_waits, keeps_to_its_words, reports_are_true,
     reports_leave_nothing_out, reports_tell_each_once,
 };
 pub use replica::Replica;

@@ -31,6 +31,6 @@ pub fn last_promise_is_not_below_the_view()
 /// It sends and marks nothing but its words and marks, whatever it takes and whatever view is
 /// installed.
 #[tactic(auto, using(crate::proofs::Walk::qmgr_words))]
-pub fn qmgr_keeps_to_its_words()
+pub fn keeps_to_its_words()
     ensures { QmgrKeepsToItsWords }
 {}

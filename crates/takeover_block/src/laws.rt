@@ -40,6 +40,6 @@ pub fn tells_when_all_have_answered()
 /// Whatever a takeover takes, and whatever view is installed, it sends nothing but its own words, and
 /// marks nothing.
 #[tactic(auto, using(crate::proofs::Walk::takeover_words))]
-pub fn takeover_keeps_to_its_words()
+pub fn keeps_to_its_words()
     ensures { TakeoverKeepsToItsWords }
 {}

@@ -31,6 +31,6 @@ pub fn failed_are_told_the_view()
 /// Whatever a coordinator takes, and whatever view is installed, it sends nothing but its own words,
 /// and marks nothing.
 #[tactic(auto, using(crate::proofs::Walk::coordinator_words))]
-pub fn coordinator_keeps_to_its_words()
+pub fn keeps_to_its_words()
     ensures { CoordinatorKeepsToItsWords }
 {}

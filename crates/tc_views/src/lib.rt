@@ -8,6 +8,6 @@ mod views;
 
 pub use coordinator::Coordinator;
 pub use laws::{
-    calm_steps, coordinator_keeps_to_its_words, doomed_are_not_decided, failed_are_told_the_view,
+    calm_steps, doomed_are_not_decided, failed_are_told_the_view, keeps_to_its_words,
     none_is_left_twice,
 };
