@@ -13,7 +13,6 @@ pub fn game_logs_are_a_run()
 }
 
 /// In each closed cut a pong was taken only where its sender has the ping, and a ping only where it was served.
-#[tactic(auto, using(crate::proofs::Games::pongs_answer))]
 pub fn pongs_answer_pings()
     ensures { PongsAnswerPings }
 {}
