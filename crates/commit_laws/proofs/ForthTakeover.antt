@@ -28,7 +28,8 @@ use Rattle.takeover_block.specs.Sends.{abort_at, ask_effects, ask_of, asks_of, f
 use Rattle.takeover_block.specs.State.{TakeoverState, with_gathered}
 use Rattle.takeover_block.specs.Takeover.{takeover_row, takeover_table}
 use Rattle.sig_core.specs.declared.mark.Mark.{Mark}
-use Rattle.takeover_block.proofs.Walk.{IsAtCommit, IsRuledOn, commits_it, completing_it, drives_commit, drives_completion, ruled_is, takeover_does}
+use Rattle.takeover_block.proofs.Walk.{drives_commit, drives_completion, takeover_does}
+use Rattle.commit_laws.proofs.TakeoverDrives.{knows_commit, knows_drive}
 use Rattle.outcome_laws.specs.Known.{IsDecidedAs, IsDecidedAt, TakeoverKnows}
 use Rattle.outcome_laws.proofs.TakeoverKnows.{IsKnown, known_at, takeover_knows}
 use Rattle.commit_laws.proofs.ForthSpeaks.{Anyone, AreSpoken, Of, Speaks, gives_epoch, hears}
@@ -36,21 +37,6 @@ use Rattle.commit_laws.proofs.ForthSpeaks.{Anyone, AreSpoken, Of, Speaks, gives_
 module _ (F A : TxId → Type 0) where
   abbrev Fits : Outgoing → Type 0
   Fits sent = Speaks F A sent.body
-
-  -- it knows so of the transaction that it is at, and of whom it rules on
-  knows_commit : (s : TakeoverState) (g : Gathered) (epoch : ℕ) → TakeoverKnows (Of F) Anyone s
-      → IsAtCommit s g epoch → F g.tx
-  knows_commit s g epoch known (commits_it n first at) =
-      subst (IsDecidedAt (Of F) Anyone (Committing epoch n)) first (known_at (Of F) Anyone s (Committing epoch n) known at)
-  knows_commit s g epoch known (completing_it n first at) =
-      subst (IsDecidedAt (Of F) Anyone (Completing epoch n)) first (known_at (Of F) Anyone s (Completing epoch n) known at)
-
-  knows_drive : (s : TakeoverState) (body : Body) (g : Gathered) (epoch : ℕ) → TakeoverKnows (Of F) Anyone s
-      → IsAtCommit s g epoch ⊎ (IsRuledOn s body g × (g.epoch ≡ Some epoch)) → F g.tx
-  knows_drive s body g epoch known (inl at) = knows_commit s g epoch known at
-  knows_drive s body g epoch known (inr ruled) =
-      subst (IsDecidedAs (Of F) Anyone g.tx) ruled.1
-      (ruled_is s body (IsKnown (Of F) Anyone) known.gathered g ruled.0)
 
   -- whatever it takes
   pub takeover_speaks : (s : TakeoverState) (x : Signal) → TakeoverKnows (Of F) Anyone s
@@ -60,10 +46,11 @@ module _ (F A : TxId → Type 0) where
         asks = λ member. tt;
         asks_on = λ left. tt;
         commits = λ g epoch n drives key there.
-            knows_drive s x.body g epoch known (drives_commit s x.body g epoch n drives);
-        confirms = λ g epoch n drives. knows_commit s g epoch known (drives_completion s x.body g epoch n drives);
+            knows_drive (Of F) Anyone s known g epoch x.body (drives_commit s x.body g epoch n drives);
+        confirms = λ g epoch n drives.
+            knows_commit (Of F) Anyone s known g epoch (drives_completion s x.body g epoch n drives);
         completes = λ g epoch n drives key there.
-            knows_commit s g epoch known (drives_completion s x.body g epoch n drives);
+            knows_commit (Of F) Anyone s known g epoch (drives_completion s x.body g epoch n drives);
         aborts = λ g n drives key there member among. tt;
         drives_on = λ g left. tt;
         gives_up = λ g key n is first at last. tt;

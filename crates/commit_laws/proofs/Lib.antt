@@ -35,6 +35,7 @@ pub mod CompleteRows
 pub mod CompleteWords
 pub mod ConfirmedFenced
 pub mod CoordinatorAnswered
+pub mod CoordinatorSends
 pub mod CurrentFenced
 pub mod CutLaws
 pub mod CutsLegal
@@ -92,7 +93,6 @@ pub mod ForthRows
 pub mod ForthSpeaks
 pub mod ForthTakeover
 pub mod ForthTc
-pub mod ForthTurns
 pub mod GatheringAlone
 pub mod GatheringWhole
 pub mod GatheringsAll
@@ -238,11 +238,11 @@ pub mod SpokenOwn
 pub mod SpokenRows
 pub mod SpokenRuling
 pub mod SpokenTakeover
-pub mod SpokenTurns
 pub mod SpokenWords
 pub mod StandAlways
 pub mod TakenChains
 pub mod TakeoverCloses
+pub mod TakeoverDrives
 pub mod TakeoverEvents
 pub mod TakeoverGoing
 pub mod TakeoverHears

@@ -67,23 +67,13 @@ module _ (A C : TxId → Type 0) (W : Gathered → Type 0) where
         by (Aborting n) g is = is
 
     -- the way of a transaction
-    pub way_aborts : (layout : Layout) (g : Gathered) → W g → IsAbortingAt A (way_of layout g) (Some g)
+    way_aborts : (layout : Layout) (g : Gathered) → W g → IsAbortingAt A (way_of layout g) (Some g)
     unfolding way_of
     way_aborts layout g is = by g.epoch refl
       where
         by : (epoch : Option ℕ) → g.epoch ≡ epoch → IsAbortingAt A (way_by layout g.keys epoch) (Some g)
         by None none = rules g is none
         by (Some epoch) some = tt
-
-    pub way_commits : (layout : Layout) (g : Gathered) → IsDecidedAs (Of C) Anyone g.tx g.epoch
-        → IsDecidedAt (Of C) Anyone (way_of layout g) (Some g)
-    unfolding way_of
-    way_commits layout g right = by g.epoch right
-      where
-        by : (epoch : Option ℕ) → IsDecidedAs (Of C) Anyone g.tx epoch
-            → IsDecidedAt (Of C) Anyone (way_by layout g.keys epoch) (Some g)
-        by None right = tt
-        by (Some epoch) right = right
 
     -- what is so behind a step, beside what it knows
     pub record IsSo (s : TakeoverState) : Type 0 where
