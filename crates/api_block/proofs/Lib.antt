@@ -5,4 +5,5 @@ pub mod EachApi
 pub mod GatheredLemmas
 pub mod MemberLemmas
 pub mod Quiet
+pub mod Walk
 pub mod WhereFound

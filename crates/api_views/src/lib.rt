@@ -16,7 +16,9 @@ mod stops;
 pub use client::Client;
 pub use closings::Closing;
 pub use cuts::CutPair;
-pub use laws::{calm_steps, dropped_changes_nothing, ends_are_told_once};
+pub use laws::{
+    calm_steps, dropped_changes_nothing, ends_are_told_once, the_client_keeps_to_its_words,
+};
 pub use members::is_member;
 pub use reports::Verdict;
 pub use stops::HostStop;

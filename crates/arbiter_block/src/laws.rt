@@ -1,5 +1,6 @@
 //! What is true of all that the arbitrator grants, whatever signals come, in whatever order.
 ghost use Rattle.arbiter_block.specs.Laws.{AskedAgainIsAnsweredAlike, EachSetLiesInTheOneBefore, LastGrantIsKept, OneSetForEachNumber, ZeroIsNeverGranted};
+ghost use Rattle.arbiter_block.specs.Words.{ArbiterKeepsToItsWords};
 
 /// No number is granted with two sets. The first view counts as granted.
 pub fn one_set_for_each_number()
@@ -25,4 +26,9 @@ pub fn last_grant_is_kept()
 /// A request that comes once more at once gets the same answer, and changes nothing more.
 pub fn asked_again_is_answered_alike()
     ensures { AskedAgainIsAnsweredAlike }
+{}
+
+/// Whatever comes, the arbitrator sends only grants and refusals, and marks nothing.
+pub fn arbiter_keeps_to_its_words()
+    ensures { ArbiterKeepsToItsWords }
 {}

@@ -1,3 +1,4 @@
 mod EpochLemmas
 mod NoneLemmas
 mod ReportLemmas
+pub mod Walk

@@ -1,5 +1,6 @@
 //! What is true of the epochs that a node gives, whatever comes, in whatever order.
 ghost use Rattle.dih_node.specs.Laws.{EpochsNeverFall, NoneIsGivenWhilePrepared, ReportsAreTrue};
+ghost use Rattle.dih_node.specs.Words.{DihKeepsToItsWords};
 
 /// The epochs that a node gives never fall, where each order to commit names a greater one to
 /// follow.
@@ -16,4 +17,10 @@ pub fn none_is_given_while_prepared()
 /// that epoch or one before, where each order to commit names a greater one to follow.
 pub fn reports_are_true()
     ensures { ReportsAreTrue }
+{}
+
+/// Whatever signals come and whatever views are installed, the epochs of a node send their words
+/// alone, and mark that they decide transactions.
+pub fn keeps_to_its_words()
+    ensures { DihKeepsToItsWords }
 {}

@@ -39,7 +39,7 @@ use Rattle.epoch_laws.proofs.MarkNone.{DecidesNone, IsNoDecision}
 use Rattle.epoch_laws.proofs.MarkRows.{rows_decide_none}
 use Rattle.epoch_laws.proofs.MarkTakeover.{takeover_decides_none}
 use Rattle.moment_laws.proofs.MomentHosts.{HasNoTc}
-use Rattle.moment_laws.proofs.MarkWalk.{IsMarked, IsOfHost, step_marks}
+use Rattle.world_views.proofs.MarkWalk.{IsMarked, IsOfHost, step_marks}
 
 entered_none : (parts : Parts) (view : View) → DecidesNone (parts_entered parts view)
 unfolding dih.install_row

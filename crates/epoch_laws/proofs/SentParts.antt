@@ -27,7 +27,7 @@ use Rattle.epoch_laws.proofs.SentKinds.{client_none, coordinator_installs_none}
 use Rattle.epoch_laws.proofs.SentMembership.{membership_installs_none}
 use Rattle.epoch_laws.proofs.SentNone.{AreNoOrders, IsNoOrder, SendsNoOrder, is_order}
 use Rattle.epoch_laws.proofs.SentRows.{IsOfRows, SendsOfRows, replica_tell}
-use Rattle.moment_laws.proofs.SentWalk.{IsSent, step_sends}
+use Rattle.world_views.proofs.SentWalk.{IsSent, step_sends}
 
 -- what the epochs send themselves at an installation is none
 own_none : (send : Outgoing) → IsOwn send.body → IsNoOrder send

@@ -30,7 +30,7 @@ use Rattle.epoch_laws.proofs.DihSends.{TellsOf, dih_tells}
 use Rattle.epoch_laws.proofs.SentKinds.{coordinator_none, takeover_none}
 use Rattle.epoch_laws.proofs.SentNone.{AreNoOrders, IsNoOrder, is_order}
 use Rattle.epoch_laws.proofs.SentParts.{entered_none}
-use Rattle.moment_laws.proofs.StepWalk.{IsTaken, IsWalked, Saying, next_comes}
+use Rattle.world_views.proofs.StepWalk.{IsTaken, IsWalked, Saying, next_comes}
 
 -- The blocks of a host take the signal, where it stands in this view behind it: the signal's own, which is greater, or the
 -- one before, where the signal isn't below their fence.

@@ -1,5 +1,6 @@
-//! What is true of confirmations and requests, in any state of a master.
+//! What is true of confirmations, requests and words, in any state of a master.
 ghost use Rattle.gcp_master.specs.Laws.{OutsidersConfirmNothing, RequestsAreKept, TwiceConfirmedCountsOnce};
+ghost use Rattle.gcp_master.specs.Words.{MasterKeepsToItsWords};
 
 /// A confirmation of who isn't in the view changes nothing, sends nothing and marks nothing.
 pub fn outsiders_confirm_nothing()
@@ -15,4 +16,10 @@ pub fn twice_confirmed_counts_once()
 /// begins.
 pub fn requests_are_kept()
     ensures { RequestsAreKept }
+{}
+
+/// Whatever signals come, the master sends its words alone, and marks that epochs are closed or
+/// durable, or that it stops.
+pub fn keeps_to_its_words()
+    ensures { MasterKeepsToItsWords }
 {}

@@ -1,3 +1,4 @@
+pub mod HostWalk
 mod NodeLemmas
 pub mod CutLemmas
 pub mod InstallLemmas

@@ -1,6 +1,7 @@
 //! What is true of the membership of a node, whatever signals come and whatever views are
 //! installed.
 ghost use Rattle.qmgr_block.specs.Laws.{LastPromiseIsNotBelowTheView, NumbersNeverFall, ProposalsAreNew, StartsAreNotForgotten};
+ghost use Rattle.qmgr_block.specs.Words.{QmgrKeepsToItsWords};
 
 /// The number of the last promise, and the greatest number proposed, never fall.
 pub fn numbers_never_fall()
@@ -21,4 +22,10 @@ pub fn starts_are_not_forgotten()
 /// The last promise never has a lesser number than the installed view.
 pub fn last_promise_is_not_below_the_view()
     ensures { LastPromiseIsNotBelowTheView }
+{}
+
+/// It sends and marks nothing but its words and marks, whatever it takes and whatever view is
+/// installed.
+pub fn qmgr_keeps_to_its_words()
+    ensures { QmgrKeepsToItsWords }
 {}

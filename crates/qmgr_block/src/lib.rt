@@ -17,7 +17,7 @@ mod suspects;
 
 pub use laws::{
     last_promise_is_not_below_the_view, numbers_never_fall, proposals_are_new,
-    starts_are_not_forgotten,
+    qmgr_keeps_to_its_words, starts_are_not_forgotten,
 };
 pub use qmgr::Qmgr;
 

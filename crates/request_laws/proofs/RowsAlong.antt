@@ -29,7 +29,7 @@ use Rattle.world_views.specs.Hosts.{epoch_before}
 use Rattle.world_views.specs.Machine.{after, step_by, told}
 use Rattle.moment_laws.specs.Places.{ldm_of}
 use Rattle.moment_laws.proofs.MomentHosts.{ldm_started}
-use Rattle.moment_laws.proofs.StepWalk.{IsTaken, Saying, next_comes}
+use Rattle.world_views.proofs.StepWalk.{IsTaken, Saying, next_comes}
 use Rattle.key_laws.specs.Placed.{AreApart, IsPlaced, has_place}
 use Rattle.key_laws.proofs.PlacesAt.{apart-set_row, apart-with_place}
 use Rattle.host_laws.specs.ReplicaLaws.{IsWell}

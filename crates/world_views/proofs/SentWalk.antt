@@ -12,7 +12,7 @@ use Rattle.node_views.specs.declared.host.Host as hosts
 use Rattle.node_views.specs.declared.parts.Parts.{Parts}
 use Rattle.node_views.specs.Row.{entered, is_barred, is_excluded}
 use Rattle.world_views.specs.Machine.{step_by}
-use Rattle.moment_laws.proofs.StepWalk.{IsTaken, Saying, step_comes}
+use Rattle.world_views.proofs.StepWalk.{IsTaken, Saying, step_comes}
 
 module _ (P : Outgoing → Type 0) where
   -- by these blocks at the signal, also where they settle on a view at it
