@@ -3,7 +3,7 @@ use Rattle.std.proofs.Common.{◌≡◌, ◌⊎◌, ◌||◌, ◌++◌, ℕ, zer
 use Rattle.std.proofs.lemmas.Bool.{true≢false}
 use Rattle.std.specs.Prelude.{if◌then◌else◌, not, Option, None, Some}
 use Rattle.run_theory.specs.Lists.{Each, IsIn}
-use Rattle.run_theory.proofs.Pasts.{each_in, in_append}
+use Rattle.run_theory.proofs.Pasts.{each_in, in_append, each_map}
 use Rattle.sig_core.specs.declared.mark.Mark.{Mark}
 use Rattle.sig_core.specs.declared.mark.Mark.TheVariants.{Installed}
 use Rattle.sig_core.specs.declared.member.HostId.{HostId}
@@ -49,7 +49,9 @@ use Rattle.outcome_laws.proofs.ClientTurns.{client_turns}
 use Rattle.outcome_laws.proofs.StrictLists.{in_either}
 use Rattle.lqh_views.proofs.Walk.{replica_marks_each}
 use Rattle.commit_laws.proofs.MarkReasons.{tc_marks_each}
-use Rattle.commit_laws.proofs.PlainMaster.{master_marks_each}
+use Rattle.gcp_master.specs.Words.{is_master_mark}
+use Rattle.gcp_master.proofs.Walk.{master_words}
+use Rattle.step_forms.specs.Does.{IsAmong}
 
 abbrev is_installation : Mark → Bool
 is_installation (Installed view) = true
@@ -125,8 +127,11 @@ ldm_installs p _ x = tt
 
 master_installs : (p : MainPart) (x : Signal) → Each InstallsNone (master_row p.master x).effects.marks
 master_installs p x =
-    master_marks_each InstallsNone
-    (record { stops = λ cause. refl; closes = λ epoch. refl; lasts = λ epoch. refl }) p.master x
+    each_map (IsAmong is_master_mark) InstallsNone (master_row p.master x).effects.marks none (master_words p.master x).1
+  where
+    none : (mark : Mark) → is_master_mark mark ≡ true → is_installation mark ≡ false
+    none (Installed view) is = absurd (true≢false (sym is))
+    none mark is = refl
 
 -- a membership installs what it settles on
 module _ (q : QmgrState) (x : Signal) where

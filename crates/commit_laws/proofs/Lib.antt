@@ -139,9 +139,7 @@ pub mod MarkerRows
 pub mod MarkerSteps
 pub mod MemberKeeps
 pub mod OrderAll
-pub mod OrderApi
 pub mod OrderAside
-pub mod OrderClient
 pub mod OrderCoordinator
 pub mod OrderCounts
 pub mod OrderHosts
@@ -191,8 +189,6 @@ pub mod PartsRaised
 pub mod PartsSent
 pub mod Passing
 pub mod PlainMarks
-pub mod PlainMaster
-pub mod PlainMembership
 pub mod PreparedTold
 pub mod RaisedChains
 pub mod RaisedHale

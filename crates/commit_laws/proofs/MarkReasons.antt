@@ -52,8 +52,7 @@ use Rattle.outcome_laws.proofs.TakeoverMarks.{takeover_marks_nothing}
 use Rattle.outcome_laws.proofs.TcMarks.{coordinator_installs_mark, coordinator_marks}
 use Rattle.commit_laws.proofs.ForthClient.{IsToldOf, by_coordinator, by_takeover}
 use Rattle.commit_laws.proofs.PlainMarks.{IsPlainMark, MarksPlainly}
-use Rattle.commit_laws.proofs.PlainMaster.{master_is_plain}
-use Rattle.commit_laws.proofs.PlainMembership.{membership_installs_plainly, membership_is_plain}
+use Rattle.commit_laws.proofs.PlainMarks.{master_is_plain, membership_installs_plainly, membership_is_plain}
 
 -- an arbitrator marks nothing
 arbiter_is_plain : (s : ArbiterState) (x : Signal) → MarksPlainly (arbiter_row s x)

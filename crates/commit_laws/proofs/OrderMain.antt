@@ -125,7 +125,7 @@ module _ (q : QmgrState) (x : Signal) where
       none : (body : Body) → x.body ≡ body → is_going_on body ≡ false → Counts body
       none body is off =
           let quiet = quiet_none (last_of q.known) (qmgr_row q x).effects.sends
-          (still_quiet (qmgr_row q x).effects.sends (membership_orders_none q x (ap is_going_on is ∙ off)).0) in
+          (still_quiet (qmgr_row q x).effects.sends (membership_orders_none q x (ap is_going_on is ∙ off))) in
           omega (arith, quiet)
 
       going : (at : ℕ) (b c d : Bool)
@@ -148,7 +148,7 @@ module _ (q : QmgrState) (x : Signal) where
 
 -- a master orders none
 master_quiet : (p : MainPart) (x : Signal) → AreQuiet (master_row p.master x).effects.sends
-master_quiet p x = still_quiet (master_row p.master x).effects.sends (master_orders_none p.master x).0
+master_quiet p x = still_quiet (master_row p.master x).effects.sends (master_orders_none p.master x)
 
 -- a membership beside a master
 module _ (p : MainPart) (x : Signal) where
@@ -171,7 +171,7 @@ module _ (p : MainPart) (x : Signal) where
       quiet : is_going_on x.body ≡ false → count_orders last (qmgr_row p.qmgr x).effects.sends ≡ 0
       quiet off =
           quiet_none last (qmgr_row p.qmgr x).effects.sends
-          (still_quiet (qmgr_row p.qmgr x).effects.sends (membership_orders_none p.qmgr x off).0)
+          (still_quiet (qmgr_row p.qmgr x).effects.sends (membership_orders_none p.qmgr x off))
 
       off : (body : Body) → may_settle body ≡ true → is_going_on body ≡ false
       off (Host signal) may = absurd cc
@@ -237,7 +237,7 @@ module _ (p : MainPart) (x : Signal) (last : ℕ) (younger : is_oldest p.qmgr.kn
       none : (body : Body) → x.body ≡ body → is_going_on body ≡ false → None (qmgr_row p.qmgr x)
       none body is off =
           quiet_none last (qmgr_row p.qmgr x).effects.sends
-          (still_quiet (qmgr_row p.qmgr x).effects.sends (membership_orders_none p.qmgr x (ap is_going_on is ∙ off)).0)
+          (still_quiet (qmgr_row p.qmgr x).effects.sends (membership_orders_none p.qmgr x (ap is_going_on is ∙ off)))
 
       by : (body : Body) → x.body ≡ body → None (qmgr_row p.qmgr x)
       by (Host (Continue Members at)) is =

@@ -55,34 +55,6 @@ still_one b body is = is
 pub still_quiet : (sends : List Outgoing) → AreStill sends → AreQuiet sends
 still_quiet sends all = each_map IsStill IsQuiet sends (λ sent is. still_one sent.to.block sent.body is) all
 
-abbrev pub OrdersNone : {S : Type 0} → Step S → Type 0
-OrdersNone step = AreStill step.effects.sends × MarksNone step
-
--- what is so of a list, and of the signal to go on with it, is so of a part of the list
-pub portion_each : (P : Outgoing → Type 0) (by : Place) (work : Work) (sends : List Outgoing) (at : ℕ)
-    → ((left : ℕ) → P (go_on_at by work left)) → Each P sends → Each P (portion_effects by work sends at).sends
-portion_each P by work sends at goes_on all =
-    each_append P (take PORTION (drop at sends)) (rest_if by work at more)
-    (each_take P PORTION (drop at sends) (each_drop P at sends all)) (rest more)
-  where
-    more : Bool
-    more = nat_lt (at + PORTION) (length sends)
-
-    rest : (b : Bool) → Each P (rest_if by work at b)
-    rest true = (goes_on (at + PORTION), tt)
-    rest false = tt
-
--- so a part of a quiet list is quiet
-pub portion_quiet : (by : Place) (work : Work) (sends : List Outgoing) (at : ℕ)
-    → ((left : ℕ) → is_ordering by.block (Host (Continue work left)) ≡ false) → AreQuiet sends
-    → AreQuiet (portion_effects by work sends at).sends
-portion_quiet by work sends at goes_on all = portion_each IsQuiet by work sends at goes_on all
-
-pub portion_still : (by : Place) (work : Work) (sends : List Outgoing) (at : ℕ)
-    → ((left : ℕ) → is_leading by.block (Host (Continue work left)) ≡ false) → AreStill sends
-    → AreStill (portion_effects by work sends at).sends
-portion_still by work sends at goes_on all = portion_each IsStill by work sends at goes_on all
-
 abbrev pub SendsQuiet : {S : Type 0} → Step S → Type 0
 SendsQuiet step = AreQuiet step.effects.sends
 

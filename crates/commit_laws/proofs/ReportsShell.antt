@@ -42,8 +42,7 @@ use Rattle.outcome_laws.proofs.TcMarks.{coordinator_installs_mark}
 use Rattle.commit_laws.proofs.FateViews.{some_of}
 use Rattle.commit_laws.proofs.MarkReasons.{tc_marks_each}
 use Rattle.commit_laws.proofs.PlainMarks.{IsPlainMark, MarksPlainly}
-use Rattle.commit_laws.proofs.PlainMaster.{master_is_plain}
-use Rattle.commit_laws.proofs.PlainMembership.{membership_installs_plainly, membership_is_plain}
+use Rattle.commit_laws.proofs.PlainMarks.{master_is_plain, membership_installs_plainly, membership_is_plain}
 
 abbrev IsNoReport : Mark → Type 0
 IsNoReport (Reported tx outcome) = ⊥

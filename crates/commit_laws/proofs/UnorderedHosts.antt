@@ -132,7 +132,7 @@ membership_unasked s x = by x.body refl
     none : (body : Body) → x.body ≡ body → is_going_on body ≡ false → AreUnasked (qmgr_row s x).effects.sends
     none body is off =
         still_unasked (qmgr_row s x).effects.sends
-        (membership_orders_none s x (subst (λ body. is_going_on body ≡ false) (sym is) off)).0
+        (membership_orders_none s x (subst (λ body. is_going_on body ≡ false) (sym is) off))
 
     by : (body : Body) → x.body ≡ body → AreUnasked (qmgr_row s x).effects.sends
     by (Host (Continue Members at)) is =
@@ -160,7 +160,7 @@ module _ (x : Signal) where
   unfolding main_row
   main_unasked p block.Qmgr = membership_unasked p.qmgr x
   main_unasked p block.GcpMaster =
-      still_unasked (master_row p.master x).effects.sends (master_orders_none p.master x).0
+      still_unasked (master_row p.master x).effects.sends (master_orders_none p.master x)
   main_unasked p _ = tt
 
 abbrev SendsUnasked : Effects → Type 0
