@@ -33,7 +33,8 @@ use Rattle.request_laws.proofs.PhaseWalk.{is_about, left_of}
 use Rattle.step_forms.specs.Does.{IsWord}
 use Rattle.frag_map.specs.Layout.{Layout}
 use Rattle.tc_block.specs.declared.phase.Phase.TheVariants.{Committing, Completing}
-use Rattle.tc_block.proofs.TurnSends.{DriveSends, IsConfirmed, TurnSends, at_completion, at_end}
+use Rattle.tc_block.proofs.TurnSends.{InPhase, IsConfirmed, TurnSends, at_completion, at_end, is_before, is_behind}
+use Rattle.tc_block.specs.declared.phase.Phase.{Phase}
 use Rattle.tc_views.specs.Words.{is_coordinator_word}
 use Rattle.tc_views.proofs.Walk.{coordinator_installed_each, coordinator_words}
 use Rattle.sig_core.specs.declared.mark.Mark.{Mark}
@@ -58,14 +59,18 @@ module _ (node : ℕ) (layout : Layout) (tx : TxId) (t : Transaction) (body : Bo
   abbrev DrivesIf : Turn → Outgoing → Type 0
   DrivesIf turn o = IsIn o turn.step.effects.sends → drives_forth tx o.body ≡ true → DecidedBy tx t turn
 
+  phased : (turn : Turn) (phase : Phase) → InPhase t turn phase → is_decided phase ≡ true → DecidedBy tx t turn
+  phased turn phase (is_before at) decided = before (ap is_decided at ∙ decided)
+  phased turn phase (is_behind on at) decided = behind on (ap is_decided at ∙ decided)
+
   turn_drives : TurnSends node layout tx t body DrivesIf
   turn_drives = record {
     drives = record {
       goes_on = λ turn left inside is. absurd (true≢false (sym is));
-      commits = λ turn epoch awaited has in_phase u there inside is. behind in_phase.on (ap is_decided in_phase.is);
+      commits = λ turn epoch awaited has in_phase u there inside is. phased turn (Committing epoch awaited) in_phase refl;
       confirms = λ turn epoch has how inside is. confirmed turn epoch how inside;
       completes = λ turn epoch awaited has in_phase u there written inside is.
-          behind in_phase.on (ap is_decided in_phase.is);
+          phased turn (Completing epoch awaited) in_phase refl;
       aborts = λ turn why verifying awaited given in_phase key r there inside is. absurd (true≢false (sym is));
       leaves = λ turn over inside is. absurd (true≢false (sym is));
       rolls_back = λ turn why given over inside is. absurd (true≢false (sym is));
@@ -76,9 +81,10 @@ module _ (node : ℕ) (layout : Layout) (tx : TxId) (t : Transaction) (body : Bo
     decides = λ is ready inside drives. absurd (true≢false (sym drives));
   }
     where
-      confirmed : (turn : Turn) (epoch : ℕ) → IsConfirmed turn epoch → IsIn (reported tx epoch) turn.step.effects.sends
+      confirmed : (turn : Turn) (epoch : ℕ) → IsConfirmed t turn epoch → IsIn (reported tx epoch) turn.step.effects.sends
           → DecidedBy tx t turn
-      confirmed turn epoch (at_completion awaited in_phase) inside = behind in_phase.on (ap is_decided in_phase.is)
+      confirmed turn epoch (at_completion awaited in_phase) inside =
+          phased turn (Completing epoch awaited) in_phase refl
       confirmed turn epoch (at_end over) inside =
           telling (passed (λ (o : Outgoing). tells_commit tx o.body) (reported tx epoch) turn.step.effects.sends inside
           (same_tx-self tx))

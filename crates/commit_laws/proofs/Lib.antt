@@ -19,6 +19,7 @@ pub mod AskedMoments
 pub mod AskedStands
 pub mod AskedTakeover
 pub mod BegunNone
+pub mod BesideHosts
 pub mod Calm
 pub mod ClientReports
 pub mod ClientViews

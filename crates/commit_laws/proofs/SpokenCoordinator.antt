@@ -32,7 +32,8 @@ use Rattle.request_laws.proofs.PhaseWalk.{is_about, left_of}
 use Rattle.step_forms.specs.Does.{IsWord}
 use Rattle.frag_map.specs.Layout.{Layout}
 use Rattle.tc_block.specs.Abort.{rolled_back}
-use Rattle.tc_block.proofs.TurnSends.{TurnSends}
+use Rattle.tc_block.proofs.TurnSends.{InPhase, TurnSends, is_before, is_behind}
+use Rattle.tc_block.specs.declared.phase.Phase.TheVariants.{Aborting, Committing, Completing}
 use Rattle.tc_views.specs.Words.{is_coordinator_word}
 use Rattle.tc_views.proofs.Walk.{coordinator_installed_each, coordinator_words}
 use Rattle.sig_core.specs.declared.mark.Mark.{Mark}
@@ -66,16 +67,21 @@ module _ (node : ℕ) (layout : Layout) (tx : TxId) (t : Transaction) (body : Bo
   abbrev OwnsBy : Turn → Outgoing → Type 0
   OwnsBy turn o = IsIn o turn.step.effects.sends → Owns (BackBy tx t turn) (ForthBy tx t turn) tx o.body
 
+  phased : (p : Phase → Bool) (told : TxId → Body → Bool) (turn : Turn) (phase : Phase) → InPhase t turn phase
+      → p phase ≡ true → ByTurn p told tx t turn
+  phased p told turn phase (is_before at) is = before (ap p at ∙ is)
+  phased p told turn phase (is_behind on at) is = behind on (ap p at ∙ is)
+
   turn_owns : TurnSends node layout tx t body OwnsBy
   turn_owns = record {
     drives = record {
       goes_on = λ turn left inside. tt;
-      commits = λ turn epoch awaited has in_phase u there inside is. behind in_phase.on (ap is_decided in_phase.is);
+      commits = λ turn epoch awaited has in_phase u there inside is. phased is_decided tells_commit turn (Committing epoch awaited) in_phase refl;
       confirms = λ turn epoch has how inside. tt;
       completes = λ turn epoch awaited has in_phase u there written inside is.
-          behind in_phase.on (ap is_decided in_phase.is);
+          phased is_decided tells_commit turn (Completing epoch awaited) in_phase refl;
       aborts = λ turn why verifying awaited given in_phase key r there inside is.
-          behind in_phase.on (ap is_aborting in_phase.is);
+          phased is_aborting tells_abort turn (Aborting why verifying awaited) in_phase refl;
       leaves = λ turn over inside. tt;
       rolls_back = λ turn why given over inside is.
           telling (passed (λ (o : Outgoing). tells_abort tx o.body) (rolled_back tx why) turn.step.effects.sends inside

@@ -45,10 +45,10 @@ use Rattle.tc_block.proofs.EachResume.{ResumeForms, resumes}
 use Rattle.tc_block.proofs.EachTurn.{AbortForms, CommittedForms, IsAnswered, TurnFormsAt, rows_at}
 use Rattle.tc_block.proofs.TurnRows.{turn_for, turn_with, tx_in}
 
--- behind the turn the transaction is in this phase
-pub record InPhase (turn : Turn) (phase : Phase) : Type 0 where
-  pub on : turn.over ≡ false
-  pub is : turn.step.state.phase ≡ phase
+-- the transaction is in the phase as it takes a turn, or behind it
+pub data InPhase (t : Transaction) (turn : Turn) (phase : Phase) : Type 0 where
+  is_before : t.phase ≡ phase → InPhase t turn phase
+  is_behind : turn.over ≡ false → turn.step.state.phase ≡ phase → InPhase t turn phase
 
 -- it knows its epoch, or is given it by the signal
 pub data HasEpoch (tx : TxId) (t : Transaction) (body : Body) (epoch : ℕ) : Type 0 where
@@ -65,9 +65,9 @@ pub data IsGivenUp (tx : TxId) (t : Transaction) (body : Body) : AbortCause → 
   is_failed : (number : ℕ) → IsGivenUp tx t body (cause.NodeFail number)
 
 -- its client is told of the commit as it comes to complete its keys, or where it ends
-pub data IsConfirmed (turn : Turn) (epoch : ℕ) : Type 0 where
-  at_completion : (awaited : ℕ) → InPhase turn (Completing epoch awaited) → IsConfirmed turn epoch
-  at_end : turn.over ≡ true → IsConfirmed turn epoch
+pub data IsConfirmed (t : Transaction) (turn : Turn) (epoch : ℕ) : Type 0 where
+  at_completion : (awaited : ℕ) → InPhase t turn (Completing epoch awaited) → IsConfirmed t turn epoch
+  at_end : turn.over ≡ true → IsConfirmed t turn epoch
 
 -- What a transaction sends along its keys in its phase, and as it ends, whether by a signal or by what an installation
 -- left to do: P is of the turn and of the signal that it sends.
@@ -75,15 +75,15 @@ pub record DriveSends (node : ℕ) (layout : Layout) (tx : TxId) (t : Transactio
     (P : Turn → Outgoing → Type 0) : Type 0 where
   pub goes_on : (turn : Turn) (left : ℕ) → P turn (go_on_at (coordinator node) (work.Transaction tx) left)
   pub commits : (turn : Turn) (epoch awaited : ℕ) → HasEpoch tx t body epoch
-      → InPhase turn (Committing epoch awaited) → (u : Touched) → IsIn u turn.step.state.touched
+      → InPhase t turn (Committing epoch awaited) → (u : Touched) → IsIn u turn.step.state.touched
       → P turn (commit_of tx epoch u)
-  pub confirms : (turn : Turn) (epoch : ℕ) → HasEpoch tx t body epoch → IsConfirmed turn epoch
+  pub confirms : (turn : Turn) (epoch : ℕ) → HasEpoch tx t body epoch → IsConfirmed t turn epoch
       → P turn (reported tx epoch)
   pub completes : (turn : Turn) (epoch awaited : ℕ) → HasEpoch tx t body epoch
-      → InPhase turn (Completing epoch awaited) → (u : Touched) → IsIn u turn.step.state.touched
+      → InPhase t turn (Completing epoch awaited) → (u : Touched) → IsIn u turn.step.state.touched
       → u.written ≡ true → P turn (complete_of tx u)
   pub aborts : (turn : Turn) (why : AbortCause) (verifying : Bool) (awaited : ℕ) → IsGivenUp tx t body why
-      → InPhase turn (Aborting why verifying awaited) → (key : List ℕ) (r : Member) → IsIn r (chain_of layout key)
+      → InPhase t turn (Aborting why verifying awaited) → (key : List ℕ) (r : Member) → IsIn r (chain_of layout key)
       → P turn (abort_of tx key r)
   pub leaves : (turn : Turn) → turn.over ≡ true → P turn (verify_end node tx)
   pub rolls_back : (turn : Turn) (why : AbortCause) → IsGivenUp tx t body why → turn.over ≡ true
@@ -125,7 +125,7 @@ module _ (node : ℕ) (layout : Layout) (tx : TxId) (t : Transaction) (body : Bo
     Comes _ = Unit {0}
 
     -- what is sent of a list in a phase
-    module _ (turn : Turn) (phase : Phase) (in_phase : InPhase turn phase) (comes : Comes phase) where
+    module _ (turn : Turn) (phase : Phase) (in_phase : InPhase t turn phase) (comes : Comes phase) where
       front_each : (p : Phase) → phase ≡ p → Each (P turn) (front_sends tx p)
       unfolding front_sends
       front_each Open is = tt
@@ -133,7 +133,7 @@ module _ (node : ℕ) (layout : Layout) (tx : TxId) (t : Transaction) (body : Bo
       front_each (Committing epoch awaited) is = tt
       front_each (Completing epoch awaited) is =
           (drives.confirms turn epoch (subst Comes is comes)
-          (at_completion awaited (subst (InPhase turn) is in_phase)), tt)
+          (at_completion awaited (subst (InPhase t turn) is in_phase)), tt)
       front_each (Aborting why verifying awaited) is = tt
 
       key_each : (p : Phase) → phase ≡ p → (u : Touched) → IsIn u turn.step.state.touched
@@ -142,17 +142,17 @@ module _ (node : ℕ) (layout : Layout) (tx : TxId) (t : Transaction) (body : Bo
       key_each Open is u there = tt
       key_each Verifying is u there = tt
       key_each (Committing epoch awaited) is u there =
-          (drives.commits turn epoch awaited (subst Comes is comes) (subst (InPhase turn) is in_phase) u there, tt)
+          (drives.commits turn epoch awaited (subst Comes is comes) (subst (InPhase t turn) is in_phase) u there, tt)
       key_each (Completing epoch awaited) is u there = by u.written refl
         where
           by : (b : Bool) → u.written ≡ b → Each (P turn) (complete_if tx u b)
           by true written =
-              (drives.completes turn epoch awaited (subst Comes is comes) (subst (InPhase turn) is in_phase) u there
+              (drives.completes turn epoch awaited (subst Comes is comes) (subst (InPhase t turn) is in_phase) u there
               written, tt)
           by false unwritten = tt
       key_each (Aborting why verifying awaited) is u there =
           mapped_in (P turn) (abort_of tx u.key) (chain_of layout u.key)
-          (drives.aborts turn why verifying awaited (subst Comes is comes) (subst (InPhase turn) is in_phase) u.key)
+          (drives.aborts turn why verifying awaited (subst Comes is comes) (subst (InPhase t turn) is in_phase) u.key)
 
       phase_each : (at : ℕ) → Each (P turn)
           (part_effects node tx (phase_sends layout tx phase turn.step.state.touched) at).sends
@@ -167,7 +167,7 @@ module _ (node : ℕ) (layout : Layout) (tx : TxId) (t : Transaction) (body : Bo
     enters : (u : Transaction) (phase : Phase) → Comes phase → R (going (entering node layout tx u phase))
     unfolding entering part_effects
     enters u phase comes = record {
-      sends = phase_each (going (entering node layout tx u phase)) phase (record { on = refl; is = refl }) comes 0;
+      sends = phase_each (going (entering node layout tx u phase)) phase (is_behind refl refl) comes 0;
       unmarked = refl;
     }
 
@@ -222,7 +222,7 @@ turn_sends node layout tx t body P own = record {
       record { sends = (own.answers key answer asked is answers at, tt); unmarked = refl };
   late = λ key asked why verifying awaited is answers at. record {
     sends = mapped_in _ (abort_of tx key) (chain_of layout key)
-        (own.drives.aborts _ why verifying awaited (is_so why verifying awaited at) (record { on = refl; is = at }) key);
+        (own.drives.aborts _ why verifying awaited (is_so why verifying awaited at) (is_before at) key);
     unmarked = refl;
   };
   waits = λ asked is on. record {
@@ -250,7 +250,7 @@ turn_sends node layout tx t body P own = record {
         → Each (P (going (go_on_if node layout tx t at true))) (go_on_if node layout tx t at true).effects.sends
     more at phase is =
         phase_each node layout tx t body P own.drives (going (go_on_if node layout tx t at true)) t.phase
-        (record { on = refl; is = refl }) (subst (Comes node layout tx t body P own.drives) (sym is) (known phase is)) at
+        (is_before refl) (subst (Comes node layout tx t body P own.drives) (sym is) (known phase is)) at
       where
         known : (phase : Phase) → t.phase ≡ phase → Comes node layout tx t body P own.drives phase
         known Open is = tt
