@@ -19,7 +19,6 @@ pub mod AskedMoments
 pub mod AskedStands
 pub mod AskedTakeover
 pub mod BegunNone
-pub mod BesideHosts
 pub mod Calm
 pub mod ClientReports
 pub mod ClientViews
@@ -30,9 +29,7 @@ pub mod CommitsKept
 pub mod CommitsNow
 pub mod CommitsRemain
 pub mod CommitsStep
-pub mod CompleteEpochs
 pub mod CompleteOthers
-pub mod CompleteRows
 pub mod CompleteWords
 pub mod ConfirmedFenced
 pub mod CoordinatorAnswered
@@ -103,6 +100,7 @@ pub mod HaleOthers
 pub mod HeadersLow
 pub mod HostGoes
 pub mod HostMarks
+pub mod HostWords
 pub mod ImagesLeft
 pub mod InstallMarks
 pub mod KeptNow

@@ -22,7 +22,7 @@ use Rattle.world_core.specs.Steps.{HostStep}
 use Rattle.world_views.specs.Hosts.{started}
 use Rattle.world_views.specs.Machine.{step_after}
 use Rattle.request_laws.proofs.RouteHosts.{IsBeside}
-use Rattle.commit_laws.proofs.BesideHosts.{beside_each}
+use Rattle.commit_laws.proofs.HostWords.{Beside, host_each, of_beside}
 use Rattle.commit_laws.proofs.SpokenWords.{AreSpoken, IsSpoken, Speaks}
 
 module _ (A C : TxId → Type 0) where
@@ -42,7 +42,7 @@ module _ (A C : TxId → Type 0) where
   epochs_install_speak s number = words_speak (dih.install_row s number).effects.sends (dih_words.1 s number).0
 
   -- hosts beside those of coordinators and rows
-  beside_words : (parts : Parts) → IsBeside parts → (body : Body) → parts_words parts body ≡ true → Speaks A C body
+  beside_words : (parts : Parts) → Beside parts → (body : Body) → parts_words parts body ≡ true → Speaks A C body
   beside_words (Tc p) beside body is = absurd beside
   beside_words (Ldm p) beside body is = absurd beside
   beside_words (Shell p) beside (Chain signal) is = absurd cc
@@ -55,4 +55,5 @@ module _ (A C : TxId → Type 0) where
 
   pub beside_speaks : (start : Start) (h : ℕ) → IsBeside (started start h).parts → (log : List HostStep) (e : HostStep)
       → AreSpoken A C (step_after start h log e).effects.sends
-  beside_speaks start h first log e = beside_each (Speaks A C) beside_words start h first log e
+  beside_speaks start h first log e =
+      host_each (Unit {0}) (Unit {0}) ⊥ ⊥ (Speaks A C) beside_words start h (of_beside (started start h).parts first) log e

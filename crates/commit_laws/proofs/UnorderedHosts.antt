@@ -29,7 +29,7 @@ use Rattle.world_core.specs.Steps.{HostStep}
 use Rattle.world_views.specs.Hosts.{started}
 use Rattle.world_views.specs.Machine.{step_after}
 use Rattle.request_laws.proofs.RouteHosts.{IsBeside}
-use Rattle.commit_laws.proofs.BesideHosts.{beside_each}
+use Rattle.commit_laws.proofs.HostWords.{Beside, host_each, of_beside}
 
 -- rows are asked for what they have, or tell a takeover of it
 abbrev pub is_of_reports : Body → Bool
@@ -44,7 +44,7 @@ abbrev pub AreNoReports : List Outgoing → Type 0
 AreNoReports sends = Each IsNoReport sends
 
 -- a host beside those that coordinate or run rows
-beside_words : (parts : Parts) → IsBeside parts → (body : Body) → parts_words parts body ≡ true
+beside_words : (parts : Parts) → Beside parts → (body : Body) → parts_words parts body ≡ true
     → is_of_reports body ≡ false
 beside_words (Tc p) beside body is = absurd beside
 beside_words (Ldm p) beside body is = absurd beside
@@ -56,7 +56,9 @@ beside_words parts beside body is = refl
 
 pub beside_no_reports : (start : Start) (h : ℕ) → IsBeside (started start h).parts → (log : List HostStep)
     (e : HostStep) → AreNoReports (step_after start h log e).effects.sends
-beside_no_reports start h first log e = beside_each (λ body. is_of_reports body ≡ false) beside_words start h first log e
+beside_no_reports start h first log e =
+    host_each (Unit {0}) (Unit {0}) ⊥ ⊥ (λ body. is_of_reports body ≡ false) beside_words start h
+    (of_beside (started start h).parts first) log e
 
 -- a coordinator and the epochs beside it
 of_coordinator : (sends : List Outgoing) → Each (IsWord is_coordinator_word) sends → AreNoReports sends

@@ -1,0 +1,124 @@
+-- What hosts of a kind send: the words of their blocks, since they stay of that kind.
+use Rattle.std.proofs.Common.{◌≡◌, ℕ, true, List, [], ◌∷◌}
+use Rattle.run_theory.specs.Lists.{Each}
+use Rattle.sig_core.specs.declared.mark.Mark.{Mark}
+use Rattle.sig_core.specs.declared.outs.Outgoing.{Outgoing}
+use Rattle.sig_core.specs.declared.signal.Body.{Body}
+use Rattle.sig_core.specs.declared.signal.Signal.{Signal}
+use Rattle.sig_core.specs.declared.view.View.{View}
+use Rattle.sig_core.specs.Step.{Step}
+use Rattle.step_forms.specs.Does.{Does, Speaks}
+use Rattle.step_forms.proofs.DoesLemmas.{speaks_do}
+use Rattle.node_views.specs.Blocks.{parts_entered, parts_row}
+use Rattle.node_views.specs.declared.parts.Parts.{Parts}
+use Rattle.node_views.specs.declared.parts.Parts.TheVariants.{Ldm, Main, Shell, Tc}
+use Rattle.node_views.specs.Replies.{giving}
+use Rattle.node_views.specs.Words.{parts_marks, parts_words}
+use Rattle.node_views.proofs.WordWalk.{parts_speak, parts_speak_installed}
+use Rattle.world_core.specs.Start.{Start}
+use Rattle.world_core.specs.Steps.{HostStep}
+use Rattle.world_views.specs.Hosts.{started}
+use Rattle.world_views.specs.Machine.{after, step_after}
+use Rattle.request_laws.proofs.RouteHosts.{IsBeside}
+use Rattle.world_views.proofs.StepEach.{step_keeps_each}
+use Rattle.world_views.proofs.StepWalk.{IsTaken, next_comes}
+
+-- the kind of a part is the kind of what it runs
+abbrev pub OfKind : Type 0 → Type 0 → Type 0 → Type 0 → Parts → Type 0
+OfKind shell main tc ldm (Shell p) = shell
+OfKind shell main tc ldm (Main p) = main
+OfKind shell main tc ldm (Tc p) = tc
+OfKind shell main tc ldm (Ldm p) = ldm
+
+-- the client's side, or a membership with the master of checkpoints; and those with hosts of rows
+abbrev pub Beside : Parts → Type 0
+Beside parts = OfKind (Unit {0}) (Unit {0}) ⊥ ⊥ parts
+
+abbrev pub Apart : Parts → Type 0
+Apart parts = OfKind (Unit {0}) (Unit {0}) ⊥ (Unit {0}) parts
+
+pub of_beside : (parts : Parts) → IsBeside parts → Beside parts
+of_beside (Shell p) beside = tt
+of_beside (Main p) beside = tt
+of_beside (Tc p) beside = absurd beside
+of_beside (Ldm p) beside = absurd beside
+
+pub to_beside : (parts : Parts) → Beside parts → IsBeside parts
+to_beside (Shell p) beside = tt
+to_beside (Main p) beside = tt
+to_beside (Tc p) beside = absurd beside
+to_beside (Ldm p) beside = absurd beside
+
+module _ (shell main tc ldm : Type 0) where
+  abbrev Is : Parts → Type 0
+  Is parts = OfKind shell main tc ldm parts
+
+  row_stays : (x : Signal) (parts : Parts) → Is parts → Is (parts_row parts x).state
+  row_stays x (Shell p) is = is
+  row_stays x (Main p) is = is
+  row_stays x (Tc p) is = is
+  row_stays x (Ldm p) is = is
+
+  entered_stays : (parts : Parts) (view : View) → Is parts → Is (parts_entered parts view).state
+  entered_stays (Shell p) view is = is
+  entered_stays (Main p) view is = is
+  entered_stays (Tc p) view is = is
+  entered_stays (Ldm p) view is = is
+
+  given_stays : (parts : Parts) → Is parts → Is (giving parts [])
+  given_stays (Shell p) is = is
+  given_stays (Main p) is = is
+  given_stays (Tc p) is = is
+  given_stays (Ldm p) is = is
+
+  -- a host stays of its kind
+  pub kind_stays : (start : Start) (h : ℕ) → OfKind shell main tc ldm (started start h).parts → (log : List HostStep)
+      → OfKind shell main tc ldm (after start h log).parts
+  kind_stays start h first [] = first
+  kind_stays start h first (e ∷ log) =
+      next_comes (λ view parts sends. Is parts) e.step.taken h (after start h log) (record {
+        stays = is;
+        hushed = λ view parts sends same. same;
+        goes = λ old barred. taken (after start h log).parts is;
+        enters = λ newer among. entered_stays (after start h log).parts e.step.taken.view is;
+        behind = λ newer among barred. taken _ (entered_stays (after start h log).parts e.step.taken.view is);
+      }) (λ view parts sends same. given_stays parts same)
+    where
+      is : Is (after start h log).parts
+      is = kind_stays start h first log
+
+      taken : {stood : View} {before : List Outgoing} (parts : Parts) → Is parts
+          → IsTaken (λ view parts sends. Is parts) e.step.taken stood parts before
+      taken parts same = record {
+        row = λ none. row_stays e.step.taken parts same;
+        settles = λ view at.
+            entered_stays (parts_row parts e.step.taken).state view (row_stays e.step.taken parts same);
+      }
+
+  -- what is so of each word of such a host is so of all that it sends
+  module _ (Q : Body → Type 0)
+      (of_words : (parts : Parts) → OfKind shell main tc ldm parts → (body : Body) → parts_words parts body ≡ true → Q body)
+    where
+      abbrev Sends : Outgoing → Type 0
+      Sends sent = Q sent.body
+
+      abbrev Marks : Mark → Type 0
+      Marks mark = Unit {0}
+
+      of_speech : {S : Type 0} (parts : Parts) → Is parts → (step : Step S)
+          → Speaks (parts_words parts) (parts_marks parts) step → Does Sends Marks step
+      of_speech parts is step =
+          speaks_do (parts_words parts) (parts_marks parts) Q Marks step (of_words parts is) (λ mark among. tt)
+
+      pub host_each : (start : Start) (h : ℕ) → OfKind shell main tc ldm (started start h).parts
+          → (log : List HostStep) (e : HostStep)
+          → Each (λ (sent : Outgoing). Q sent.body) (step_after start h log e).effects.sends
+      host_each start h first log e =
+          (step_keeps_each Sends Marks (record { cuts = λ host. tt; installs = λ view. tt; stops = λ cause. tt })
+          e.step.taken Is (record {
+            row = λ parts is. of_speech parts is (parts_row parts e.step.taken) (parts_speak parts e.step.taken);
+            enters = λ parts view is.
+                of_speech parts is (parts_entered parts view) (parts_speak_installed parts view);
+            stays = row_stays e.step.taken;
+            stays_entered = entered_stays;
+          }) h (after start h log) (kind_stays start h first log)).0
