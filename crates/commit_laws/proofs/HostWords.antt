@@ -1,4 +1,4 @@
--- What hosts of a kind send: the words of their blocks, since they stay of that kind.
+-- What hosts of a kind send and mark: the words and marks of their blocks, since they stay of that kind.
 use Rattle.std.proofs.Common.{◌≡◌, ℕ, true, List, [], ◌∷◌}
 use Rattle.run_theory.specs.Lists.{Each}
 use Rattle.sig_core.specs.declared.mark.Mark.{Mark}
@@ -7,8 +7,8 @@ use Rattle.sig_core.specs.declared.signal.Body.{Body}
 use Rattle.sig_core.specs.declared.signal.Signal.{Signal}
 use Rattle.sig_core.specs.declared.view.View.{View}
 use Rattle.sig_core.specs.Step.{Step}
-use Rattle.step_forms.specs.Does.{Does, Speaks}
-use Rattle.step_forms.proofs.DoesLemmas.{speaks_do}
+use Rattle.step_forms.specs.Does.{Does, IsAmong, IsWord, Speaks}
+use Rattle.step_forms.proofs.DoesLemmas.{does_map, speaks_do}
 use Rattle.node_views.specs.Blocks.{parts_entered, parts_row}
 use Rattle.node_views.specs.declared.parts.Parts.{Parts}
 use Rattle.node_views.specs.declared.parts.Parts.TheVariants.{Ldm, Main, Shell, Tc}
@@ -20,6 +20,7 @@ use Rattle.world_core.specs.Steps.{HostStep}
 use Rattle.world_views.specs.Hosts.{started}
 use Rattle.world_views.specs.Machine.{after, step_after}
 use Rattle.request_laws.proofs.RouteHosts.{IsBeside}
+use Rattle.world_views.proofs.MarkWalk.{IsOfHost}
 use Rattle.world_views.proofs.StepEach.{step_keeps_each}
 use Rattle.world_views.proofs.StepWalk.{IsTaken, next_comes}
 
@@ -53,13 +54,13 @@ module _ (shell main tc ldm : Type 0) where
   abbrev Is : Parts → Type 0
   Is parts = OfKind shell main tc ldm parts
 
-  row_stays : (x : Signal) (parts : Parts) → Is parts → Is (parts_row parts x).state
+  pub row_stays : (x : Signal) (parts : Parts) → Is parts → Is (parts_row parts x).state
   row_stays x (Shell p) is = is
   row_stays x (Main p) is = is
   row_stays x (Tc p) is = is
   row_stays x (Ldm p) is = is
 
-  entered_stays : (parts : Parts) (view : View) → Is parts → Is (parts_entered parts view).state
+  pub entered_stays : (parts : Parts) (view : View) → Is parts → Is (parts_entered parts view).state
   entered_stays (Shell p) view is = is
   entered_stays (Main p) view is = is
   entered_stays (Tc p) view is = is
@@ -122,3 +123,27 @@ module _ (shell main tc ldm : Type 0) where
             stays = row_stays e.step.taken;
             stays_entered = entered_stays;
           }) h (after start h log) (kind_stays start h first log)).0
+
+  -- and so it is of its marks, and those that any host makes
+  module _ (M : Mark → Type 0) (own : IsOfHost M)
+      (of_marks : (parts : Parts) → OfKind shell main tc ldm parts → (mark : Mark) → parts_marks parts mark ≡ true → M mark)
+    where
+      abbrev AnySend : Outgoing → Type 0
+      AnySend sent = Unit {0}
+
+      marked : {S : Type 0} (parts : Parts) → Is parts → (step : Step S)
+          → Speaks (parts_words parts) (parts_marks parts) step → Does AnySend M step
+      marked parts is step =
+          does_map (IsWord (parts_words parts)) AnySend (IsAmong (parts_marks parts)) M step (λ sent word. tt)
+          (of_marks parts is)
+
+      pub host_marks_each : (start : Start) (h : ℕ) → OfKind shell main tc ldm (started start h).parts
+          → (log : List HostStep) (e : HostStep) → Each M (step_after start h log e).effects.marks
+      host_marks_each start h first log e =
+          (step_keeps_each AnySend M own e.step.taken Is (record {
+            row = λ parts is. marked parts is (parts_row parts e.step.taken) (parts_speak parts e.step.taken);
+            enters = λ parts view is.
+                marked parts is (parts_entered parts view) (parts_speak_installed parts view);
+            stays = row_stays e.step.taken;
+            stays_entered = entered_stays;
+          }) h (after start h log) (kind_stays start h first log)).1
