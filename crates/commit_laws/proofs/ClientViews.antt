@@ -1,26 +1,12 @@
 -- The view of the client's side is the greatest that it has seen: it notes the view of a signal, and none else.
-use Rattle.std.proofs.Common.{◌≡◌, ◌==◌, ◌&&◌, ◌||◌, ◌∙◌, ℕ, Bool, true, false, List, refl}
-use Rattle.std.specs.Prelude.{Option, None, Some, is_some, not, slice_get}
-use Rattle.sig_core.specs.declared.member.HostId.{HostId}
-use Rattle.sig_core.specs.declared.member.Member.{Member}
-use Rattle.sig_core.specs.declared.member.TxId.{TxId}
-use Rattle.sig_core.specs.declared.op.Op.{Op}
-use Rattle.sig_core.specs.declared.outcome.AbortCause.TheVariants.{NodeFail}
+use Rattle.std.proofs.Common.{◌≡◌, ◌==◌, ℕ, Bool, true, false, refl}
+use Rattle.std.specs.Prelude.{Some}
 use Rattle.sig_core.specs.declared.outcome.StopCause.{StopCause}
-use Rattle.sig_core.specs.declared.reply.Waiting.{Waiting}
 use Rattle.sig_core.specs.declared.request.ApiReq.{ApiReq}
 use Rattle.sig_core.specs.declared.request.ApiReq.TheVariants as request
 use Rattle.sig_core.specs.declared.signal.Body.{Body}
-use Rattle.sig_core.specs.declared.signal.Body.TheVariants.{Client, Epoch, Host}
 use Rattle.sig_core.specs.declared.signal.Signal.{Signal}
-use Rattle.sig_core.specs.declared.signal.client.ClientSignal.TheVariants.{TcBeginConf, TcCommitConf, TcRollbackRep, TcKeyFailConf, TcKeyFailRef, NfCompleteRep, ViewRep}
-use Rattle.sig_core.specs.declared.signal.epoch.EpochSignal.TheVariants.{GcpRep, MicroRep}
-use Rattle.sig_core.specs.declared.signal.host.HostSignal.TheVariants.{Closed, Continue}
-use Rattle.sig_core.specs.declared.signal.host.Work.{Work}
-use Rattle.sig_core.specs.declared.signal.host.Work.TheVariants.{Request, Report}
-use Rattle.sig_core.specs.declared.view.View.{View}
-use Rattle.sig_core.specs.Step.{Step, stay}
-use Rattle.api_block.specs.declared.opened.OpenTransaction.{OpenTransaction}
+use Rattle.sig_core.specs.Step.{Step}
 use Rattle.api_block.specs.Commands.{ticked_if}
 use Rattle.api_block.specs.State.{ApiState}
 use Rattle.api_block.proofs.ApiTurns.{ApiRequestForms, ApiSignalForms}

@@ -1,7 +1,6 @@
 -- Signals other than the word that a takeover is complete.
 use Rattle.std.proofs.Common.{◌≡◌, Bool, true, false, List}
 use Rattle.run_theory.specs.Lists.{Each}
-use Rattle.run_theory.proofs.Pasts.{each_map}
 use Rattle.sig_core.specs.declared.outs.Outgoing.{Outgoing}
 use Rattle.sig_core.specs.declared.signal.Body.{Body}
 use Rattle.sig_core.specs.declared.signal.Body.TheVariants.{Client}

@@ -1,10 +1,12 @@
--- What holds of each form of signal that a transaction sends at its coordinator, turn by turn, holds of each signal about
--- it that a step of the coordinator sends; and what the coordinator has of it behind the step is what the turn left.
-use Rattle.std.proofs.Common.{◌≡◌, ◌⊎◌, ◌∙◌, ◌++◌, ℕ, Bool, true, false, List, [], ◌∷◌, nat_lt, length, refl, sym, ap, subst, inl, inr}
+-- What holds of each form of signal that a transaction sends at its coordinator, turn by turn, holds of each signal
+-- about it that a step of the coordinator sends; and what the coordinator has of it behind the step is what the turn
+-- left.
+use Rattle.std.proofs.Common.{◌≡◌, ◌⊎◌, ◌∙◌, ◌++◌, ℕ, Bool, true, false, List, [], ◌∷◌, nat_lt, length, refl, sym, ap}
+use Rattle.std.proofs.Common.{subst, inl, inr}
 use Rattle.std.proofs.lemmas.Bool.{true≢false}
 use Rattle.std.proofs.lemmas.List.{append-nil}
 use Rattle.std.specs.Prelude.{Some}
-use Rattle.run_theory.specs.Lists.{Each, IsIn}
+use Rattle.run_theory.specs.Lists.{IsIn}
 use Rattle.run_theory.proofs.Pasts.{each_in}
 use Rattle.sig_core.specs.declared.member.Member.{Member}
 use Rattle.sig_core.specs.declared.member.TxId.{TxId}
@@ -24,7 +26,8 @@ use Rattle.tc_views.specs.State.{CoordinatorState, go_on_if, go_on_with}
 use Rattle.outcome_laws.specs.Counts.{IsCoordinatorOf}
 use Rattle.request_laws.specs.Ways.{entry_of}
 use Rattle.request_laws.proofs.PhaseEvents.{in_either}
-use Rattle.request_laws.proofs.PhaseWalk.{Walks, begins, coordinator_walks, is_about, left_of, passes, resumes, stays, turns}
+use Rattle.request_laws.proofs.PhaseWalk.{Walks, begins, coordinator_walks, is_about, left_of, passes, resumes, stays}
+use Rattle.request_laws.proofs.PhaseWalk.{turns}
 
 -- a coordinator sends it beside the turns of its transactions
 abbrev pub is_beside : Body → Bool
@@ -67,7 +70,7 @@ module _ (member : Member) (s : CoordinatorState) (of : IsCoordinatorOf member s
           absurd (true≢false (sym about ∙ each_in (λ (y : Outgoing). is_about tx y.body ≡ false) o step.effects.sends
           away there))
       walked (passes ahead is same next out) there = absurd (no_other _ refl (subst (IsIn o) out there))
-      walked (begins name is room none some next out) there = absurd (no_other _ refl (subst (IsIn o) out there))
+      walked (begins name is room own_tx none some next out) there = absurd (no_other _ refl (subst (IsIn o) out there))
       walked (turns t found takes same free left next out) there =
           let turn : Turn = turn_for s.tc.node s.tc.layout tx x.body t in
           let inside : IsIn o turn.step.effects.sends = subst (IsIn o) out there in

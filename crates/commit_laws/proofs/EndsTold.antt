@@ -14,7 +14,7 @@ use Rattle.sig_core.specs.declared.signal.Signal.{Signal}
 use Rattle.sig_core.specs.declared.signal.client.ClientSignal.TheVariants.{TcCommitAck, TcCommitConf, TcKeyFailConf}
 use Rattle.sig_core.specs.declared.view.View.{View}
 use Rattle.sig_core.specs.Step.{Step}
-use Rattle.step_forms.specs.Does.{Does, IsAmong, IsWord, Speaks}
+use Rattle.step_forms.specs.Does.{Does, IsWord, Speaks}
 use Rattle.step_forms.proofs.DoesLemmas.{speaks_do}
 use Rattle.api_views.specs.Client.{client_row}
 use Rattle.api_views.specs.State.{ClientState}
@@ -106,7 +106,8 @@ module _ (D : TxId → Type 0) where
 
     shell_ends : (p : ShellPart) (b : BlockId) → Does Sends Marks (shell_row p b x)
     unfolding shell_row
-    shell_ends p block.Api = (client_ends p.client, each_from Marks (client_row p.client x).effects.marks (λ mark there. tt))
+    shell_ends p block.Api =
+        (client_ends p.client, each_from Marks (client_row p.client x).effects.marks (λ mark there. tt))
     shell_ends p block.Arbiter =
         speaks_do is_arbiter_word is_arbiter_mark IsEnd Marks (arbiter_row p.arbiter x) grant_words (λ mark among. tt)
         (arbiter_words p.arbiter x)

@@ -1,5 +1,5 @@
 -- What the client's side acknowledges: the commits that it is told of.
-use Rattle.std.proofs.Common.{◌≡◌, ℕ, true}
+use Rattle.std.proofs.Common.{◌≡◌, ℕ}
 use Rattle.run_theory.specs.Lists.{Each}
 use Rattle.sig_core.specs.declared.mark.Mark.{Mark}
 use Rattle.sig_core.specs.declared.member.TxId.{TxId}

@@ -1,9 +1,9 @@
 -- What a step of a member's coordinator says of commits: it is of its own transactions, each of which it shows to have
 -- gone forth.
-use Rattle.std.proofs.Common.{◌≡◌, ◌⊎◌, ◌∙◌, ◌++◌, ℕ, Bool, true, false, List, [], ◌∷◌, nat_lt, length, refl, sym, ap, subst, inl, inr, ⊎_elim}
+use Rattle.std.proofs.Common.{◌≡◌, ◌∙◌, ◌++◌, ℕ, Bool, true, false, List, refl, sym, ap}
 use Rattle.std.proofs.lemmas.Bool.{true≢false}
 use Rattle.std.specs.Prelude.{if◌then◌else◌, None, Some}
-use Rattle.run_theory.specs.Lists.{Each, IsIn}
+use Rattle.run_theory.specs.Lists.{IsIn}
 use Rattle.run_theory.proofs.Pasts.{each_from, each_in}
 use Rattle.sig_core.specs.declared.member.Member.{Member}
 use Rattle.sig_core.specs.declared.member.TxId.{TxId}
@@ -16,6 +16,7 @@ use Rattle.sig_core.specs.declared.signal.client.ClientSignal.TheVariants.{TcCom
 use Rattle.sig_core.specs.declared.signal.takeover.TakeoverSignal.TheVariants.{LqhTransConf}
 use Rattle.sig_core.specs.declared.view.View.{View}
 use Rattle.sig_core.specs.Step.{Step}
+use Rattle.sig_core.specs.Same.{same_tx}
 use Rattle.sig_core.proofs.Keys.{same_tx-self}
 use Rattle.host_laws.proofs.OfLive.{each_found}
 use Rattle.tc_block.specs.Phases.{is_decided}
@@ -23,7 +24,7 @@ use Rattle.tc_block.specs.Sends.{reported}
 use Rattle.tc_block.specs.Turn.{Turn}
 use Rattle.tc_block.specs.declared.transaction.Transaction.{Transaction}
 use Rattle.tc_views.specs.Coordinator.{coordinator_row}
-use Rattle.tc_views.specs.State.{CoordinatorState, go_on_if, go_on_with}
+use Rattle.tc_views.specs.State.{CoordinatorState}
 use Rattle.tc_views.specs.Views.{install_row}
 use Rattle.outcome_laws.specs.Counts.{IsCoordinatorOf, coordinator_member}
 use Rattle.request_laws.specs.Ways.{entry_of, is_at, is_sent, tells_commit}
@@ -38,7 +39,7 @@ use Rattle.tc_block.specs.declared.phase.Phase.{Phase}
 use Rattle.tc_views.specs.Words.{is_coordinator_word}
 use Rattle.tc_views.proofs.Walk.{coordinator_installed_each, coordinator_words}
 use Rattle.sig_core.specs.declared.mark.Mark.{Mark}
-use Rattle.commit_laws.proofs.CoordinatorSends.{SentBy, is_beside, sent_by}
+use Rattle.commit_laws.proofs.CoordinatorSends.{is_beside, sent_by}
 use Rattle.commit_laws.proofs.Passing.{passed}
 
 -- the signal commits the transaction, completes it, or tells its client of the commit
@@ -67,7 +68,8 @@ module _ (node : ℕ) (layout : Layout) (tx : TxId) (t : Transaction) (body : Bo
   turn_drives = record {
     drives = record {
       goes_on = λ turn left inside is. absurd (true≢false (sym is));
-      commits = λ turn epoch awaited has in_phase u there inside is. phased turn (Committing epoch awaited) in_phase refl;
+      commits = λ turn epoch awaited has in_phase u there inside is.
+          phased turn (Committing epoch awaited) in_phase refl;
       confirms = λ turn epoch has how inside is. confirmed turn epoch how inside;
       completes = λ turn epoch awaited has in_phase u there written inside is.
           phased turn (Completing epoch awaited) in_phase refl;
@@ -81,8 +83,8 @@ module _ (node : ℕ) (layout : Layout) (tx : TxId) (t : Transaction) (body : Bo
     decides = λ is ready inside drives. absurd (true≢false (sym drives));
   }
     where
-      confirmed : (turn : Turn) (epoch : ℕ) → IsConfirmed t turn epoch → IsIn (reported tx epoch) turn.step.effects.sends
-          → DecidedBy tx t turn
+      confirmed : (turn : Turn) (epoch : ℕ) → IsConfirmed t turn epoch
+          → IsIn (reported tx epoch) turn.step.effects.sends → DecidedBy tx t turn
       confirmed turn epoch (at_completion awaited in_phase) inside =
           phased turn (Completing epoch awaited) in_phase refl
       confirmed turn epoch (at_end over) inside =

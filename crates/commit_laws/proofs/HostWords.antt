@@ -10,6 +10,7 @@ use Rattle.sig_core.specs.Step.{Step}
 use Rattle.step_forms.specs.Does.{Does, IsAmong, IsWord, Speaks}
 use Rattle.step_forms.proofs.DoesLemmas.{does_map, speaks_do}
 use Rattle.node_views.specs.Blocks.{parts_entered, parts_row}
+use Rattle.node_views.specs.declared.host.Host as hosts
 use Rattle.node_views.specs.declared.parts.Parts.{Parts}
 use Rattle.node_views.specs.declared.parts.Parts.TheVariants.{Ldm, Main, Shell, Tc}
 use Rattle.node_views.specs.Replies.{giving}
@@ -18,7 +19,7 @@ use Rattle.node_views.proofs.WordWalk.{parts_speak, parts_speak_installed}
 use Rattle.world_core.specs.Start.{Start}
 use Rattle.world_core.specs.Steps.{HostStep}
 use Rattle.world_views.specs.Hosts.{started}
-use Rattle.world_views.specs.Machine.{after, step_after}
+use Rattle.world_views.specs.Machine.{after, step_after, step_by, told}
 use Rattle.request_laws.proofs.RouteHosts.{IsBeside}
 use Rattle.world_views.proofs.MarkWalk.{IsOfHost}
 use Rattle.world_views.proofs.StepEach.{step_keeps_each}
@@ -72,33 +73,34 @@ module _ (shell main tc ldm : Type 0) where
   given_stays (Tc p) is = is
   given_stays (Ldm p) is = is
 
+  takes_stay : (x : Signal) (stood : View) (parts : Parts) (before : List Outgoing) → Is parts
+      → IsTaken (λ view parts sends. Is parts) x stood parts before
+  takes_stay x stood parts before is = record {
+    row = λ none. row_stays x parts is;
+    settles = λ view at. entered_stays (parts_row parts x).state view (row_stays x parts is);
+  }
+
+  step_stays : (h : ℕ) (s : hosts.Host) (x : Signal) → Is s.parts → Is (told h (step_by h s x)).parts
+  step_stays h s x is =
+      next_comes (λ view parts sends. Is parts) x h s (record {
+        stays = is;
+        hushed = λ view parts sends same. same;
+        goes = λ old barred. takes_stay x s.standing.view s.parts [] is;
+        enters = λ newer among. entered_stays s.parts x.view is;
+        behind = λ newer among barred. takes_stay x x.view _ _ (entered_stays s.parts x.view is);
+      }) (λ view parts sends same. given_stays parts same)
+
   -- a host stays of its kind
   pub kind_stays : (start : Start) (h : ℕ) → OfKind shell main tc ldm (started start h).parts → (log : List HostStep)
       → OfKind shell main tc ldm (after start h log).parts
   kind_stays start h first [] = first
   kind_stays start h first (e ∷ log) =
-      next_comes (λ view parts sends. Is parts) e.step.taken h (after start h log) (record {
-        stays = is;
-        hushed = λ view parts sends same. same;
-        goes = λ old barred. taken (after start h log).parts is;
-        enters = λ newer among. entered_stays (after start h log).parts e.step.taken.view is;
-        behind = λ newer among barred. taken _ (entered_stays (after start h log).parts e.step.taken.view is);
-      }) (λ view parts sends same. given_stays parts same)
-    where
-      is : Is (after start h log).parts
-      is = kind_stays start h first log
-
-      taken : {stood : View} {before : List Outgoing} (parts : Parts) → Is parts
-          → IsTaken (λ view parts sends. Is parts) e.step.taken stood parts before
-      taken parts same = record {
-        row = λ none. row_stays e.step.taken parts same;
-        settles = λ view at.
-            entered_stays (parts_row parts e.step.taken).state view (row_stays e.step.taken parts same);
-      }
+      step_stays h (after start h log) e.step.taken (kind_stays start h first log)
 
   -- what is so of each word of such a host is so of all that it sends
   module _ (Q : Body → Type 0)
-      (of_words : (parts : Parts) → OfKind shell main tc ldm parts → (body : Body) → parts_words parts body ≡ true → Q body)
+      (of_words : (parts : Parts) → OfKind shell main tc ldm parts → (body : Body) → parts_words parts body ≡ true
+      → Q body)
     where
       abbrev Sends : Outgoing → Type 0
       Sends sent = Q sent.body
@@ -126,7 +128,8 @@ module _ (shell main tc ldm : Type 0) where
 
   -- and so it is of its marks, and those that any host makes
   module _ (M : Mark → Type 0) (own : IsOfHost M)
-      (of_marks : (parts : Parts) → OfKind shell main tc ldm parts → (mark : Mark) → parts_marks parts mark ≡ true → M mark)
+      (of_marks : (parts : Parts) → OfKind shell main tc ldm parts → (mark : Mark) → parts_marks parts mark ≡ true
+      → M mark)
     where
       abbrev AnySend : Outgoing → Type 0
       AnySend sent = Unit {0}

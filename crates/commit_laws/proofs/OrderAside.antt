@@ -70,7 +70,8 @@ epochs_install_order_none s number =
 -- a host that coordinates
 pub tc_orders_none : (p : TcPart) (x : Signal) (b : BlockId) → AreQuiet (tc_row p b x).effects.sends
 unfolding tc_row
-tc_orders_none p x block.Tc = none_quiet (coordinator_row p.coordinator x).effects.sends (coordinator_quiet p.coordinator x)
+tc_orders_none p x block.Tc =
+    none_quiet (coordinator_row p.coordinator x).effects.sends (coordinator_quiet p.coordinator x)
 tc_orders_none p x block.Takeover = takeover_quiet p.takeover x
 tc_orders_none p x block.Dih = none_quiet (dih_row p.dih x).effects.sends (epochs_order_none p.dih x)
 tc_orders_none p x _ = tt

@@ -39,10 +39,9 @@ use Rattle.request_laws.proofs.RouteSteps.{TcStep, own_tc, takeover_is}
 use Rattle.commit_laws.specs.Takeovers.{takeover_at}
 use Rattle.commit_laws.proofs.ForthEpochs.{dih_installs_speak, dih_speaks}
 use Rattle.commit_laws.proofs.ForthSpeaks.{AreSpoken, Speaks}
-use Rattle.commit_laws.proofs.OwnersCoordinator.{coordinator_installs_words, coordinator_words}
+use Rattle.commit_laws.proofs.OwnersCoordinator.{coordinator_installs_words, coordinator_words, AreWords, IsWord}
 use Rattle.commit_laws.proofs.OwnersSay.{IsAtCommit, IsOwnersWord, OwnersSayCommits}
 use Rattle.commit_laws.proofs.OwnersTakeover.{IsBusy, IsTold, takeover_told}
-use Rattle.commit_laws.proofs.OwnersCoordinator.{AreWords, IsWord}
 
 module _ (start : Start) (all : ℕ → List HostStep) (e : HostStep) (es : List HostStep)
     (moment : IsMoment start all (e ∷ es)) (member : Member) (there : IsIn member (made start))

@@ -52,4 +52,5 @@ pub membership_is_plain : (s : QmgrState) (x : Signal) → MarksPlainly (qmgr_ro
 membership_is_plain s x = qmgr_plain (qmgr_row s x).effects.marks (qmgr_words.at_signals s x).1
 
 pub membership_installs_plainly : (s : QmgrState) (view : View) → MarksPlainly (qmgr_installed s view)
-membership_installs_plainly s view = qmgr_plain (qmgr_installed s view).effects.marks (qmgr_words.at_installations s view).1
+membership_installs_plainly s view =
+    qmgr_plain (qmgr_installed s view).effects.marks (qmgr_words.at_installations s view).1

@@ -1,6 +1,6 @@
--- Why the client's side reports an abort: it is told of it, or a takeover is complete in a view without the transaction's
--- coordinator. It notes that a takeover is complete where a member of the view that it sees says so.
-use Rattle.std.proofs.Common.{◌≡◌, ◌++◌, ◌∷◌, ℕ, Bool, true, false, List, refl, subst, sym, inl}
+-- Why the client's side reports an abort: it is told of it, or a takeover is complete in a view without the
+-- transaction's coordinator. It notes that a takeover is complete where a member of the view that it sees says so.
+use Rattle.std.proofs.Common.{◌≡◌, ◌∷◌, ℕ, Bool, true, false, List, refl, subst, sym, inl}
 use Rattle.std.specs.Prelude.{Option, Some}
 use Rattle.run_theory.specs.Lists.{Each, IsIn}
 use Rattle.run_theory.proofs.Focus.{IsFocus}

@@ -4,47 +4,26 @@ use Rattle.std.proofs.lemmas.Bool.{true≢false}
 use Rattle.std.specs.List.{list_any}
 use Rattle.run_theory.specs.Lists.{Each}
 use Rattle.run_theory.specs.Logs.{IsLog}
-use Rattle.run_theory.proofs.Pasts.{each_append, each_in, each_map}
+use Rattle.run_theory.proofs.Pasts.{each_in}
 use Rattle.sig_core.specs.declared.mark.Mark.{Mark}
 use Rattle.sig_core.specs.declared.mark.Mark.TheVariants.{Reported}
 use Rattle.sig_core.specs.declared.member.Member.{Member}
 use Rattle.sig_core.specs.declared.member.TxId.{TxId}
-use Rattle.sig_core.specs.declared.place.BlockId.{BlockId}
-use Rattle.sig_core.specs.declared.place.BlockId.TheVariants as block
 use Rattle.sig_core.specs.declared.place.Part.{Part}
 use Rattle.sig_core.specs.declared.place.Part.TheVariants as kind
-use Rattle.sig_core.specs.declared.signal.Signal.{Signal}
-use Rattle.sig_core.specs.declared.view.View.{View}
-use Rattle.sig_core.specs.Step.{Effects, Step}
-use Rattle.dih_node.specs.Orders as dih
-use Rattle.gcp_master.specs.Master.{master_row}
-use Rattle.lqh_views.specs.Replica.{replica_row}
-use Rattle.qmgr_block.specs.Qmgr.{qmgr_installed, qmgr_row}
-use Rattle.tc_views.specs.Views as coordinator
-use Rattle.node_views.specs.Blocks.{parts_entered, parts_row}
-use Rattle.node_views.specs.declared.ldm_part.LdmPart.{LdmPart}
-use Rattle.node_views.specs.declared.main_part.MainPart.{MainPart}
+use Rattle.sig_core.specs.Step.{Effects}
 use Rattle.node_views.specs.Words.{parts_marks}
 use Rattle.commit_laws.proofs.HostWords.{OfKind, host_marks_each}
 use Rattle.node_views.specs.declared.parts.Parts.{Parts}
 use Rattle.node_views.specs.declared.parts.Parts.TheVariants.{Ldm, Main, Shell, Tc}
-use Rattle.node_views.specs.Parts.{ldm_row, main_row}
 use Rattle.world_core.specs.Hosts.{member_at, part_by}
 use Rattle.world_core.specs.History.{is_reported}
 use Rattle.world_core.specs.Marks.{has_mark}
 use Rattle.world_core.specs.Start.{Start, made}
 use Rattle.world_core.specs.Steps.{HostStep}
 use Rattle.world_views.specs.Hosts.{part_started, started}
-use Rattle.world_views.specs.Machine.{after, machine, step_after}
-use Rattle.outcome_laws.proofs.DihWalk.{dih_installs_quiet}
-use Rattle.outcome_laws.proofs.KnowWalk.{AreKept, IsOfEffects, step_keeps}
-use Rattle.outcome_laws.proofs.RowsMarks.{rows_mark_none}
-use Rattle.outcome_laws.proofs.RowsNone.{IsNoOutcome}
-use Rattle.outcome_laws.proofs.TcMarks.{coordinator_installs_mark}
+use Rattle.world_views.specs.Machine.{machine, step_after}
 use Rattle.commit_laws.proofs.FateViews.{some_of}
-use Rattle.commit_laws.proofs.MarkReasons.{tc_marks_each}
-use Rattle.commit_laws.proofs.PlainMarks.{IsPlainMark, MarksPlainly}
-use Rattle.commit_laws.proofs.PlainMarks.{master_is_plain, membership_installs_plainly, membership_is_plain}
 
 abbrev IsNoReport : Mark → Type 0
 IsNoReport (Reported tx outcome) = ⊥

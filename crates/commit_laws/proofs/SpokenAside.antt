@@ -56,4 +56,5 @@ module _ (A C : TxId → Type 0) where
   pub beside_speaks : (start : Start) (h : ℕ) → IsBeside (started start h).parts → (log : List HostStep) (e : HostStep)
       → AreSpoken A C (step_after start h log e).effects.sends
   beside_speaks start h first log e =
-      host_each (Unit {0}) (Unit {0}) ⊥ ⊥ (Speaks A C) beside_words start h (of_beside (started start h).parts first) log e
+      host_each (Unit {0}) (Unit {0}) ⊥ ⊥ (Speaks A C) beside_words start h
+      (of_beside (started start h).parts first) log e

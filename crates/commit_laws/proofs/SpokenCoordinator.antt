@@ -1,9 +1,8 @@
--- A step of a member's coordinator speaks of its own transactions: of the commit of one that is decided, and of the abort
--- of one that is given up.
-use Rattle.std.proofs.Common.{◌≡◌, ◌⊎◌, ◌∙◌, ◌++◌, ℕ, Bool, true, false, List, [], nat_lt, length, refl, sym, ap, subst, inl, inr, ⊎_elim}
-use Rattle.std.proofs.lemmas.Bool.{true≢false}
+-- A step of a member's coordinator speaks of its own transactions: of the commit of one that is decided, and of the
+-- abort of one that is given up.
+use Rattle.std.proofs.Common.{◌≡◌, ◌∙◌, ◌++◌, ℕ, Bool, true, false, List, refl, ap, subst}
 use Rattle.std.specs.Prelude.{if◌then◌else◌, None, Some}
-use Rattle.run_theory.specs.Lists.{Each, IsIn}
+use Rattle.run_theory.specs.Lists.{IsIn}
 use Rattle.run_theory.proofs.Pasts.{each_from, each_in}
 use Rattle.sig_core.specs.declared.member.Member.{Member}
 use Rattle.sig_core.specs.declared.member.TxId.{TxId}
@@ -11,10 +10,12 @@ use Rattle.sig_core.specs.declared.outs.Outgoing.{Outgoing}
 use Rattle.sig_core.specs.declared.signal.Body.{Body}
 use Rattle.sig_core.specs.declared.signal.Body.TheVariants.{Chain, Client}
 use Rattle.sig_core.specs.declared.signal.Signal.{Signal}
-use Rattle.sig_core.specs.declared.signal.chain.ChainSignal.TheVariants.{Abort, Aborted, Commit, Committed, Complete, Completed}
+use Rattle.sig_core.specs.declared.signal.chain.ChainSignal.TheVariants.{Abort, Aborted, Commit, Committed, Complete}
+use Rattle.sig_core.specs.declared.signal.chain.ChainSignal.TheVariants.{Completed}
 use Rattle.sig_core.specs.declared.signal.client.ClientSignal.TheVariants.{TcKeyFailRef, TcRollbackRep}
 use Rattle.sig_core.specs.declared.view.View.{View}
 use Rattle.sig_core.specs.Step.{Step}
+use Rattle.sig_core.specs.Same.{same_tx}
 use Rattle.sig_core.proofs.Keys.{same_tx-self}
 use Rattle.host_laws.proofs.OfLive.{each_found}
 use Rattle.tc_block.specs.Phases.{is_aborting, is_decided}
@@ -22,7 +23,7 @@ use Rattle.tc_block.specs.Turn.{Turn}
 use Rattle.tc_block.specs.declared.phase.Phase.{Phase}
 use Rattle.tc_block.specs.declared.transaction.Transaction.{Transaction}
 use Rattle.tc_views.specs.Coordinator.{coordinator_row}
-use Rattle.tc_views.specs.State.{CoordinatorState, go_on_if, go_on_with}
+use Rattle.tc_views.specs.State.{CoordinatorState}
 use Rattle.tc_views.specs.Views.{install_row}
 use Rattle.outcome_laws.specs.Counts.{IsCoordinatorOf, coordinator_member}
 use Rattle.request_laws.specs.Ways.{entry_of, is_at, is_sent, tells_abort, tells_commit}
@@ -37,12 +38,12 @@ use Rattle.tc_block.specs.declared.phase.Phase.TheVariants.{Aborting, Committing
 use Rattle.tc_views.specs.Words.{is_coordinator_word}
 use Rattle.tc_views.proofs.Walk.{coordinator_installed_each, coordinator_words}
 use Rattle.sig_core.specs.declared.mark.Mark.{Mark}
-use Rattle.sig_core.specs.declared.outcome.AbortCause.{AbortCause}
-use Rattle.commit_laws.proofs.CoordinatorSends.{SentBy, is_beside, sent_by}
+use Rattle.commit_laws.proofs.CoordinatorSends.{is_beside, sent_by}
 use Rattle.commit_laws.proofs.Passing.{passed}
 
 -- it is in such a phase before a turn, or behind it, or its client is told as it ends
-pub data ByTurn (p : Phase → Bool) (told : TxId → Body → Bool) (tx : TxId) (t : Transaction) (turn : Turn) : Type 0 where
+pub data ByTurn (p : Phase → Bool) (told : TxId → Body → Bool) (tx : TxId) (t : Transaction) (turn : Turn) : Type 0
+  where
   before : p t.phase ≡ true → ByTurn p told tx t turn
   behind : turn.over ≡ false → p turn.step.state.phase ≡ true → ByTurn p told tx t turn
   telling : is_sent (told tx) turn.step.effects.sends ≡ true → ByTurn p told tx t turn
@@ -53,7 +54,8 @@ BackBy tx t turn = ByTurn is_aborting tells_abort tx t turn
 abbrev pub ForthBy : TxId → Transaction → Turn → Type 0
 ForthBy tx t turn = ByTurn is_decided tells_commit tx t turn
 
--- what is sent speaks of the abort of the transaction only where the one is so, and of its commit only where the other is
+-- what is sent speaks of the abort of the transaction only where the one is so, and of its commit only where the other
+-- is so
 module _ (A C : Type 0) (tx : TxId) where
   abbrev pub Owns : Body → Type 0
   Owns (Chain (Abort other key)) = same_tx other tx ≡ true → A
@@ -76,7 +78,8 @@ module _ (node : ℕ) (layout : Layout) (tx : TxId) (t : Transaction) (body : Bo
   turn_owns = record {
     drives = record {
       goes_on = λ turn left inside. tt;
-      commits = λ turn epoch awaited has in_phase u there inside is. phased is_decided tells_commit turn (Committing epoch awaited) in_phase refl;
+      commits = λ turn epoch awaited has in_phase u there inside is.
+          phased is_decided tells_commit turn (Committing epoch awaited) in_phase refl;
       confirms = λ turn epoch has how inside. tt;
       completes = λ turn epoch awaited has in_phase u there written inside is.
           phased is_decided tells_commit turn (Completing epoch awaited) in_phase refl;
@@ -100,8 +103,8 @@ pub data Shows (p : Phase → Bool) (told : TxId → Body → Bool) (s now : Coo
   behind_it : is_at p (entry_of now tx) ≡ true → Shows p told s now tx sends
   tells_it : is_sent (told tx) sends ≡ true → Shows p told s now tx sends
 
-pub record IsShown (p : Phase → Bool) (told : TxId → Body → Bool) (member : Member) (s now : CoordinatorState) (tx : TxId)
-    (sends : List Outgoing) : Type 0 where
+pub record IsShown (p : Phase → Bool) (told : TxId → Body → Bool) (member : Member) (s now : CoordinatorState)
+    (tx : TxId) (sends : List Outgoing) : Type 0 where
   pub own : coordinator_member tx ≡ member
   pub shows : Shows p told s now tx sends
 

@@ -1,37 +1,20 @@
 -- A takeover speaks of the abort of those that it is at work to abort, and of the commit of those that it commits.
-use Rattle.std.proofs.Common.{◌≡◌, ◌+◌, ℕ, Bool, true, false, List, drop, length, map, nat_lt, refl, subst, take}
-use Rattle.std.specs.List.{flat_map}
-use Rattle.std.specs.Prelude.{Option, None, Some, remove, slice_get}
+use Rattle.std.proofs.Common.{◌≡◌, ◌⊎◌, inl, inr, ℕ, List, subst}
+use Rattle.std.specs.Prelude.{None, Some, slice_get}
 use Rattle.run_theory.specs.Lists.{Each}
-use Rattle.run_theory.proofs.EachSent.{each_drop, each_flat, each_get, each_mapped, each_removed, each_take}
-use Rattle.run_theory.proofs.Pasts.{each_append}
+use Rattle.run_theory.proofs.EachSent.{each_get, each_removed}
 use Rattle.sig_core.specs.declared.member.TxId.{TxId}
-use Rattle.sig_core.specs.declared.outs.Outgoing.{Outgoing}
-use Rattle.sig_core.specs.declared.place.Place.{Place}
-use Rattle.sig_core.specs.declared.portion.TheConstants.{PORTION}
 use Rattle.sig_core.specs.declared.signal.Signal.{Signal}
-use Rattle.sig_core.specs.declared.signal.host.Work.{Work}
-use Rattle.sig_core.specs.declared.signal.host.Work.TheVariants as work
-use Rattle.sig_core.specs.declared.view.View.{View}
-use Rattle.sig_core.specs.Place.{takeover}
-use Rattle.sig_core.specs.Portion.{portion_effects, rest_if}
-use Rattle.frag_map.specs.Layout.{Layout, chain_of}
 use Rattle.takeover_block.specs.declared.gathered.Gathered.{Gathered}
-use Rattle.takeover_block.specs.declared.stage.Stage.{Stage}
-use Rattle.takeover_block.specs.declared.stage.Stage.TheVariants.{Aborting, Committing, Completing, Gathering, Resting}
-use Rattle.takeover_block.specs.Gathered.{first_of}
-use Rattle.takeover_block.specs.Rule.{entering, finishing, ruling, ruling_by, way_of}
-use Rattle.takeover_block.specs.Sends.{abort_at, ask_effects, ask_of, asks_of, front_sends, key_sends, key_sends_along, stage_effects, stage_sends}
-use Rattle.takeover_block.specs.State.{TakeoverState, with_gathered}
+use Rattle.takeover_block.specs.declared.stage.Stage.TheVariants.{Aborting, Completing}
+use Rattle.takeover_block.specs.State.{TakeoverState}
 use Rattle.takeover_block.specs.Takeover.{takeover_row}
 use Rattle.sig_core.specs.declared.mark.Mark.{Mark}
-use Rattle.takeover_block.proofs.Walk.{IsRuledOn, Rules, at_none, at_the_end, behind_one, drives_abort, drives_commit, drives_completion, is_aborted, is_completed, takeover_does}
+use Rattle.takeover_block.proofs.Walk.{IsRuledOn, Rules, at_none, at_the_end, behind_one, drives_abort, drives_commit}
+use Rattle.takeover_block.proofs.Walk.{drives_completion, is_aborted, is_completed, takeover_does}
 use Rattle.commit_laws.proofs.TakeoverDrives.{knows_commit, knows_drive}
-use Rattle.takeover_block.proofs.LawLemmas.{first_found}
-use Rattle.outcome_laws.specs.Known.{IsDecidedAt}
-use Rattle.outcome_laws.proofs.TakeoverKnows.{IsKnown, KnowsAll}
 use Rattle.commit_laws.proofs.ForthSpeaks.{Anyone, Of}
-use Rattle.commit_laws.proofs.SpokenTakeover.{ClosesBy, IsAbortingAt, TakeoverIs, closed_at, way_aborts, way_commits}
+use Rattle.commit_laws.proofs.SpokenTakeover.{ClosesBy, IsAbortingAt, TakeoverIs, closed_at}
 use Rattle.commit_laws.proofs.SpokenWords.{AreSpoken, IsSpoken}
 
 module _ (A C : TxId → Type 0) (W : Gathered → Type 0) (rules : (g : Gathered) → W g → g.epoch ≡ None → A g.tx)

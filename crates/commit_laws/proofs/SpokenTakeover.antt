@@ -19,7 +19,7 @@ use Rattle.takeover_block.specs.Rule.{entering, finishing, ruling, ruling_by, wa
 use Rattle.takeover_block.specs.State.{TakeoverState, in_view, with_gathered}
 use Rattle.takeover_block.specs.Takeover.{takeover_row, takeover_table}
 use Rattle.takeover_block.proofs.EachTakeover.{takeover_each}
-use Rattle.outcome_laws.specs.Known.{IsDecidedAs, IsDecidedAt, TakeoverKnows}
+use Rattle.outcome_laws.specs.Known.{TakeoverKnows}
 use Rattle.outcome_laws.specs.Tells.{TellsOfRecord}
 use Rattle.outcome_laws.proofs.TakeoverKnows.{takeover_install_knows, takeover_knows}
 use Rattle.commit_laws.proofs.ForthSpeaks.{Anyone, Of}
@@ -160,7 +160,8 @@ module _ (A C : TxId → Type 0) (W : Gathered → Type 0) where
           where
             by : (body : Body) → Hears body → TakeoverKnows (Of C) Anyone (takeover_table s body).state
             by (Takeover (LqhTransConf tx key told epoch)) heard =
-                takeover_knows (Of C) Anyone s (record x { body = Takeover (LqhTransConf tx key told epoch) }) own.knows heard
+                takeover_knows (Of C) Anyone s (record x { body = Takeover (LqhTransConf tx key told epoch) })
+                own.knows heard
             by (Client signal) heard = own.knows
             by (Epoch signal) heard = own.knows
             by (Chain (Commit tx key epoch chain at)) heard = own.knows

@@ -21,7 +21,8 @@ module _ (D : TxId → ℕ → Type 0) (B : TxId → Type 0) (s : TakeoverState)
         subst (IsDecidedAt D B (Completing epoch n)) first (known_at D B s (Completing epoch n) known at)
 
     -- and of one that it rules on
-    pub knows_drive : (body : Body) → IsAtCommit s g epoch ⊎ (IsRuledOn s body g × (g.epoch ≡ Some epoch)) → D g.tx epoch
+    pub knows_drive : (body : Body) → IsAtCommit s g epoch ⊎ (IsRuledOn s body g × (g.epoch ≡ Some epoch))
+        → D g.tx epoch
     knows_drive body (inl at) = knows_commit at
     knows_drive body (inr ruled) =
         subst (IsDecidedAs D B g.tx) ruled.1 (ruled_is s body (IsKnown D B) known.gathered g ruled.0)

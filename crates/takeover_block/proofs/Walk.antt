@@ -244,8 +244,8 @@ takeover_does s x P M sends =
     aborted tx key g n is found at last =
         let rest = done tx g found (is_aborted key n is at last) in (
           (subst (λ one. P (told_aborted one)) found.own
-              (sends.gives_up g key n (subst (λ one. x.body ≡ Chain (Aborted one key)) (sym found.own) is) found.there at
-              last), rest.0),
+              (sends.gives_up g key n (subst (λ one. x.body ≡ Chain (Aborted one key)) (sym found.own) is)
+              found.there at last), rest.0),
           rest.1,
         )
 

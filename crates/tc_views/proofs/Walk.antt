@@ -1,5 +1,5 @@
--- What holds of each turn of a coordinator's transactions, those among them that an installation left to do, and of what
--- it does beside them, holds of each of its steps under views; and so what holds of each form of signal.
+-- What holds of each turn of a coordinator's transactions, those among them that an installation left to do, and of
+-- what it does beside them, holds of each of its steps under views; and so what holds of each form of signal.
 use Rattle.std.proofs.Common.{◌≡◌, ◌==◌, ℕ, Bool, true, false, List, [], ◌∷◌, ◌++◌, length, nat_lt, refl, ap, subst, sym, ◌∙◌}
 use Rattle.std.specs.Prelude.{Option, None, Some, slice_get}
 use Rattle.std.specs.Map.{values_of}
@@ -193,7 +193,8 @@ coordinator_words = record {
     promises = refl;
     goes_on = λ node. refl;
   });
-  installs = λ s view. coordinator_installed_each s view (IsWord is_coordinator_word) (IsAmong is_coordinator_mark) refl;
+  installs = λ s view.
+      coordinator_installed_each s view (IsWord is_coordinator_word) (IsAmong is_coordinator_mark) refl;
 }
   where
     drives : (node : ℕ) (layout : Layout) (tx : TxId) (t : Transaction) (body : Body)
