@@ -1,5 +1,6 @@
 -- What holds of each form of signal that a takeover sends holds of all that a step of it sends.
-use Rattle.std.proofs.Common.{◌≡◌, ◌⊎◌, inl, inr, ◌∙◌, ℕ, true, false, List, [], ◌∷◌, ◌++◌, ap, length, map, nat_lt, refl, subst, sym}
+use Rattle.std.proofs.Common.{◌≡◌, ◌⊎◌, inl, inr, ◌∙◌, ℕ, false, List, [], ◌∷◌, ap, length, map, nat_lt, refl, subst}
+use Rattle.std.proofs.Common.{sym}
 use Rattle.std.specs.List.{flat_map}
 use Rattle.std.specs.Prelude.{Option, None, Some, remove, slice_get}
 use Rattle.run_theory.specs.Lists.{Each, IsIn}
@@ -28,7 +29,9 @@ use Rattle.takeover_block.specs.declared.gathered.Gathered.{Gathered}
 use Rattle.takeover_block.specs.declared.stage.Stage.{Stage}
 use Rattle.takeover_block.specs.declared.stage.Stage.TheVariants.{Resting, Gathering, Committing, Completing, Aborting}
 use Rattle.takeover_block.specs.Rule.{after, entering, finishing, ruling, ruling_by, way_by, way_of}
-use Rattle.takeover_block.specs.Sends.{abort_at, ask_effects, ask_of, asks_of, commit_along, complete_along, front_sends, key_sends, key_sends_along, stage_effects, stage_sends, told_aborted, told_committed}
+use Rattle.takeover_block.specs.Sends.{abort_at, ask_effects, ask_of, asks_of, commit_along, complete_along}
+use Rattle.takeover_block.specs.Sends.{front_sends, key_sends, key_sends_along, stage_effects, stage_sends}
+use Rattle.takeover_block.specs.Sends.{told_aborted, told_committed}
 use Rattle.takeover_block.specs.State.{TakeoverState, in_view, with_gathered}
 use Rattle.takeover_block.specs.Takeover.{takeover_row}
 use Rattle.takeover_block.specs.Words.{TakeoverKeepsToItsWords, is_takeover_mark, is_takeover_word}
