@@ -167,6 +167,7 @@ pub mod PartApart
 pub mod PartAside
 pub mod PartAsks
 pub mod PartDoes
+pub mod PartEach
 pub mod PartEvents
 pub mod PartHome
 pub mod PartHosts
