@@ -1,6 +1,7 @@
 -- Rows mark a key to be applied where they take the commit of a record at the first place of its chain, and nowhere
 -- else.
-use Rattle.std.proofs.Common.{◌≡◌, ◌⊎◌, ◌==◌, ◌++◌, ◌∙◌, ℕ, Bool, true, false, List, [], ◌∷◌, refl, sym, ap, subst, inl, inr}
+use Rattle.std.proofs.Common.{◌≡◌, ◌⊎◌, ◌==◌, ◌++◌, ◌∙◌, ℕ, Bool, true, false, List, [], ◌∷◌, refl, sym, ap, subst}
+use Rattle.std.proofs.Common.{inl, inr}
 use Rattle.std.proofs.lemmas.Bool.{eqb-true, true≢false}
 use Rattle.std.specs.Prelude.{Option, None, Some}
 use Rattle.run_theory.specs.Lists.{Each, IsIn}
@@ -10,25 +11,14 @@ use Rattle.sig_core.specs.declared.mark.Mark.TheVariants.{Applied}
 use Rattle.sig_core.specs.declared.member.Member.{Member}
 use Rattle.sig_core.specs.declared.member.TxId.{TxId}
 use Rattle.sig_core.specs.declared.rows.PendingRecord.{PendingRecord}
-use Rattle.sig_core.specs.declared.signal.Body.{Body}
-use Rattle.sig_core.specs.declared.signal.Body.TheVariants.{Chain, Epoch, Host, Membership, Takeover}
+use Rattle.sig_core.specs.declared.signal.Body.TheVariants.{Chain}
 use Rattle.sig_core.specs.declared.signal.Signal.{Signal}
 use Rattle.sig_core.specs.declared.signal.chain.ChainSignal.TheVariants.{Commit}
-use Rattle.sig_core.specs.declared.signal.epoch.EpochSignal.{EpochSignal}
-use Rattle.sig_core.specs.declared.signal.epoch.EpochSignal.TheVariants.{GcpClosed, GcpSaveReq, GcpStateReq}
-use Rattle.sig_core.specs.declared.signal.host.HostSignal.TheVariants.{Continue}
-use Rattle.sig_core.specs.declared.signal.host.Work.TheVariants.{Expired, Granted, Report}
-use Rattle.sig_core.specs.declared.signal.membership.MembershipSignal.TheVariants.{FenceReq}
-use Rattle.sig_core.specs.declared.signal.takeover.TakeoverSignal.TheVariants.{LqhTransReq}
 use Rattle.sig_core.specs.Rows.{record_state, state_by}
 use Rattle.lqh_block.specs.Commit.{applied_marks, commit_row}
-use Rattle.lqh_block.specs.declared.request.Marker.{Marker}
 use Rattle.lqh_block.specs.Lqh.{lqh_table}
 use Rattle.lqh_views.proofs.Walk.{replica_marks_each}
-use Rattle.lqh_views.specs.declared.report.Report as reports
-use Rattle.lqh_views.specs.Epochs.{epoch_table}
-use Rattle.lqh_views.specs.Replica.{is_stale, replica_by, replica_row, serve_if}
-use Rattle.lqh_views.specs.Report.{go_on_by, is_orphaned_marker, is_orphaned_record, last_before, marker_by, record_by, reporting}
+use Rattle.lqh_views.specs.Replica.{replica_by, replica_row}
 use Rattle.lqh_views.specs.State.{ReplicaState}
 use Rattle.key_laws.specs.Records.{found}
 use Rattle.key_laws.specs.Replica.{Cell}

@@ -1,7 +1,6 @@
 -- Signals other than the word that a takeover is complete.
 use Rattle.std.proofs.Common.{◌≡◌, Bool, true, false, List}
 use Rattle.run_theory.specs.Lists.{Each}
-use Rattle.run_theory.proofs.Pasts.{each_map}
 use Rattle.sig_core.specs.declared.outs.Outgoing.{Outgoing}
 use Rattle.sig_core.specs.declared.signal.Body.{Body}
 use Rattle.sig_core.specs.declared.signal.Body.TheVariants.{Client}
@@ -16,8 +15,3 @@ IsNoWord sent = is_no_word sent.body ≡ true
 
 abbrev pub AreNoWords : List Outgoing → Type 0
 AreNoWords sends = Each (λ (sent : Outgoing). is_no_word sent.body ≡ true) sends
-
--- so it is of signals of kinds among which that isn't
-pub of_kinds : (P : Outgoing → Type 0) → ((sent : Outgoing) → P sent → is_no_word sent.body ≡ true)
-    → (sends : List Outgoing) → Each P sends → AreNoWords sends
-of_kinds P so sends all = each_map P IsNoWord sends so all

@@ -1,10 +1,9 @@
 -- What a step of a member's coordinator says of commits: it is of its own transactions, each of which it shows to have
 -- gone forth.
-use Rattle.std.proofs.Common.{◌≡◌, ◌⊎◌, ◌∙◌, ◌++◌, ℕ, Bool, true, false, List, [], ◌∷◌, nat_lt, length, refl, sym, ap, subst, inl, inr, ⊎_elim}
+use Rattle.std.proofs.Common.{◌≡◌, ◌∙◌, ◌++◌, ℕ, Bool, true, false, List, refl, sym, ap}
 use Rattle.std.proofs.lemmas.Bool.{true≢false}
-use Rattle.std.proofs.lemmas.List.{append-nil}
 use Rattle.std.specs.Prelude.{if◌then◌else◌, None, Some}
-use Rattle.run_theory.specs.Lists.{Each, IsIn}
+use Rattle.run_theory.specs.Lists.{IsIn}
 use Rattle.run_theory.proofs.Pasts.{each_from, each_in}
 use Rattle.sig_core.specs.declared.member.Member.{Member}
 use Rattle.sig_core.specs.declared.member.TxId.{TxId}
@@ -17,28 +16,80 @@ use Rattle.sig_core.specs.declared.signal.client.ClientSignal.TheVariants.{TcCom
 use Rattle.sig_core.specs.declared.signal.takeover.TakeoverSignal.TheVariants.{LqhTransConf}
 use Rattle.sig_core.specs.declared.view.View.{View}
 use Rattle.sig_core.specs.Step.{Step}
+use Rattle.sig_core.specs.Same.{same_tx}
 use Rattle.sig_core.proofs.Keys.{same_tx-self}
 use Rattle.host_laws.proofs.OfLive.{each_found}
 use Rattle.tc_block.specs.Phases.{is_decided}
-use Rattle.tc_block.specs.Resume.{resume_row}
+use Rattle.tc_block.specs.Sends.{reported}
 use Rattle.tc_block.specs.Turn.{Turn}
 use Rattle.tc_block.specs.declared.transaction.Transaction.{Transaction}
-use Rattle.tc_block.proofs.EachTurn.{rows_of}
-use Rattle.tc_block.proofs.TurnRows.{turn_for, turn_with}
 use Rattle.tc_views.specs.Coordinator.{coordinator_row}
-use Rattle.tc_views.specs.State.{CoordinatorState, go_on_if, go_on_with}
+use Rattle.tc_views.specs.State.{CoordinatorState}
 use Rattle.tc_views.specs.Views.{install_row}
-use Rattle.view_laws.proofs.KindsCoordinator.{coordinator_kinds}
-use Rattle.view_laws.proofs.KindsSent.{IsOf}
-use Rattle.view_laws.proofs.KindsTurns.{is_of_coordinator}
 use Rattle.outcome_laws.specs.Counts.{IsCoordinatorOf, coordinator_member}
-use Rattle.outcome_laws.proofs.TcWalk as walk
 use Rattle.request_laws.specs.Ways.{entry_of, is_at, is_sent, tells_commit}
-use Rattle.request_laws.proofs.PhaseEvents.{in_either}
-use Rattle.request_laws.proofs.PhaseWalk.{Walks, begins, coordinator_walks, is_about, left_of, passes, resumes, stays, turns}
 use Rattle.request_laws.proofs.PhaseWays.{sent_before}
 use Rattle.commit_laws.proofs.ForthSpeaks.{AreSpoken, Speaks}
-use Rattle.commit_laws.proofs.ForthTurns.{DecidedBy, DrivesIf, Goes, before, behind, drives_forth, resume_goes, telling, turn_goes}
+use Rattle.request_laws.proofs.PhaseWalk.{is_about, left_of}
+use Rattle.step_forms.specs.Does.{IsWord}
+use Rattle.frag_map.specs.Layout.{Layout}
+use Rattle.tc_block.specs.declared.phase.Phase.TheVariants.{Committing, Completing}
+use Rattle.tc_block.proofs.TurnSends.{InPhase, IsConfirmed, TurnSends, at_completion, at_end, is_before, is_behind}
+use Rattle.tc_block.specs.declared.phase.Phase.{Phase}
+use Rattle.tc_views.specs.Words.{is_coordinator_word}
+use Rattle.tc_views.proofs.Walk.{coordinator_installed_each, coordinator_words}
+use Rattle.sig_core.specs.declared.mark.Mark.{Mark}
+use Rattle.commit_laws.proofs.CoordinatorSends.{is_beside, sent_by}
+use Rattle.commit_laws.proofs.Passing.{passed}
+
+-- the signal commits the transaction, completes it, or tells its client of the commit
+abbrev pub drives_forth : TxId → Body → Bool
+drives_forth tx (Chain (Commit other key epoch chain at)) = same_tx other tx
+drives_forth tx (Chain (Complete other key chain at)) = same_tx other tx
+drives_forth tx (Client (TcCommitConf other epoch)) = same_tx other tx
+drives_forth tx body = false
+
+-- it is decided before a turn, or behind it, or its client is told as it ends
+pub data DecidedBy (tx : TxId) (t : Transaction) (turn : Turn) : Type 0 where
+  before : is_decided t.phase ≡ true → DecidedBy tx t turn
+  behind : turn.over ≡ false → is_decided turn.step.state.phase ≡ true → DecidedBy tx t turn
+  telling : is_sent (tells_commit tx) turn.step.effects.sends ≡ true → DecidedBy tx t turn
+
+-- what a transaction sends in a turn drives it forth only where it is decided
+module _ (node : ℕ) (layout : Layout) (tx : TxId) (t : Transaction) (body : Body) where
+  abbrev DrivesIf : Turn → Outgoing → Type 0
+  DrivesIf turn o = IsIn o turn.step.effects.sends → drives_forth tx o.body ≡ true → DecidedBy tx t turn
+
+  phased : (turn : Turn) (phase : Phase) → InPhase t turn phase → is_decided phase ≡ true → DecidedBy tx t turn
+  phased turn phase (is_before at) decided = before (ap is_decided at ∙ decided)
+  phased turn phase (is_behind on at) decided = behind on (ap is_decided at ∙ decided)
+
+  turn_drives : TurnSends node layout tx t body DrivesIf
+  turn_drives = record {
+    drives = record {
+      goes_on = λ turn left inside is. absurd (true≢false (sym is));
+      commits = λ turn epoch awaited has in_phase u there inside is.
+          phased turn (Committing epoch awaited) in_phase refl;
+      confirms = λ turn epoch has how inside is. confirmed turn epoch how inside;
+      completes = λ turn epoch awaited has in_phase u there written inside is.
+          phased turn (Completing epoch awaited) in_phase refl;
+      aborts = λ turn why verifying awaited given in_phase key r there inside is. absurd (true≢false (sym is));
+      leaves = λ turn over inside is. absurd (true≢false (sym is));
+      rolls_back = λ turn why given over inside is. absurd (true≢false (sym is));
+    };
+    operates = λ op is can inside drives. absurd (true≢false (sym drives));
+    answers = λ key answer asked is own at inside drives. absurd (true≢false (sym drives));
+    waits = λ asked is on r inside drives. absurd (true≢false (sym drives));
+    decides = λ is ready inside drives. absurd (true≢false (sym drives));
+  }
+    where
+      confirmed : (turn : Turn) (epoch : ℕ) → IsConfirmed t turn epoch
+          → IsIn (reported tx epoch) turn.step.effects.sends → DecidedBy tx t turn
+      confirmed turn epoch (at_completion awaited in_phase) inside =
+          phased turn (Completing epoch awaited) in_phase refl
+      confirmed turn epoch (at_end over) inside =
+          telling (passed (λ (o : Outgoing). tells_commit tx o.body) (reported tx epoch) turn.step.effects.sends inside
+          (same_tx-self tx))
 
 -- it is decided before a step, or behind it, or its client is told
 pub data ShowsForth (s now : CoordinatorState) (tx : TxId) (sends : List Outgoing) : Type 0 where
@@ -50,13 +101,6 @@ pub data ShowsForth (s now : CoordinatorState) (tx : TxId) (sends : List Outgoin
 pub record GoesForth (member : Member) (s now : CoordinatorState) (tx : TxId) (sends : List Outgoing) : Type 0 where
   pub own : coordinator_member tx ≡ member
   pub shows : ShowsForth s now tx sends
-
--- what names no such transaction drives none forth
-away_drives : (tx : TxId) (body : Body) → is_about tx body ≡ false → drives_forth tx body ≡ false
-away_drives tx (Chain (Commit other key epoch chain at)) is = is
-away_drives tx (Chain (Complete other key chain at)) is = is
-away_drives tx (Client (TcCommitConf other epoch)) is = is
-away_drives tx body is = refl
 
 module _ (member : Member) (s : CoordinatorState) (of : IsCoordinatorOf member s) (x : Signal) (tx : TxId) where
   abbrev step : Step CoordinatorState
@@ -87,101 +131,48 @@ module _ (member : Member) (s : CoordinatorState) (of : IsCoordinatorOf member s
             ∙ sent_before (tells_commit tx) turn.step.effects.sends more is);
       }
 
-  -- what is sent that drives it forth
-  Drives : List Outgoing → Type 0
-  Drives sends = (o : Outgoing) → IsIn o sends → drives_forth tx o.body ≡ true → Forth
-
-  -- nothing of a list about others does, nor what goes on
-  never : (o : Outgoing) (G : Type 0) → drives_forth tx o.body ≡ false → drives_forth tx o.body ≡ true → G
-  never o G off is = absurd (true≢false (sym is ∙ off))
-
-  only : (one : Outgoing) → drives_forth tx one.body ≡ false → step.effects.sends ≡ one ∷ []
-      → (o : Outgoing) → IsIn o step.effects.sends → drives_forth tx o.body ≡ true → Forth
-  only one off sends o there is = by (subst (IsIn o) sends there)
-    where
-      by : IsIn o (one ∷ []) → Forth
-      by (inl same) = never o Forth (ap (λ (y : Outgoing). drives_forth tx y.body) same ∙ off) is
-      by (inr none) = absurd none
-
-  goes_on_off : (node : ℕ) (b : Bool) → Each (λ (o : Outgoing). drives_forth tx o.body ≡ false) (go_on_if node b)
-  goes_on_off node true = (refl, tt)
-  goes_on_off node false = tt
-
-  driven : Walks member s x.view.number x.body tx step → (o : Outgoing) → IsIn o step.effects.sends
+  drives : (o : Outgoing) → IsIn o step.effects.sends → is_about tx o.body ≡ true → is_beside o.body ≡ false
       → drives_forth tx o.body ≡ true → Forth
-  unfolding resume_row
-  driven (stays same unborn away) o there is =
-      let off = each_in (λ (y : Outgoing). is_about tx y.body ≡ false) o step.effects.sends away there in
-      never o Forth (away_drives tx o.body off) is
-  driven (passes ahead about same next sends) o there is = only _ refl sends o there is
-  driven (begins name about room one none some next sends) o there is = only _ refl sends o there is
-  driven (turns t found takes about free left next sends) o there is =
-      turned t found turn left [] (sends ∙ sym (append-nil turn.step.effects.sends))
-      (each_in (DrivesIf (DecidedBy tx t turn) tx) o turn.step.effects.sends goes (subst (IsIn o) sends there) is)
-    where
-      turn : Turn
-      turn = turn_for s.tc.node s.tc.layout tx x.body t
-
-      goes : Goes s.tc.node s.tc.layout tx t turn
-      goes =
-          turn_with s.tc.node s.tc.layout tx x.body t (Goes s.tc.node s.tc.layout tx t)
-          (rows_of s.tc.node s.tc.layout tx t x.body (Goes s.tc.node s.tc.layout tx t)
-          (turn_goes s.tc.node s.tc.layout tx t x.body))
-          about (λ off. absurd (true≢false (sym takes ∙ off)))
-  driven (resumes t verdict rest at node found about newer is_left left next sends) o there is =
-      by (in_either o turn.step.effects.sends (go_on_with node rest) (subst (IsIn o) sends there))
-    where
-      turn : Turn
-      turn = resume_row s.tc.node s.tc.layout tx t verdict s.number
-
-      goes : Goes s.tc.node s.tc.layout tx t turn
-      goes =
-          walk.resumes s.tc.node s.tc.layout tx t (Goes s.tc.node s.tc.layout tx t)
-          (resume_goes s.tc.node s.tc.layout tx t) s.number verdict t.phase refl
-
-      by : IsIn o turn.step.effects.sends ⊎ IsIn o (go_on_with node rest) → Forth
-      by (inl own) =
-          turned t found turn left (go_on_with node rest) sends
-          (each_in (DrivesIf (DecidedBy tx t turn) tx) o turn.step.effects.sends goes own is)
-      by (inr more) =
-          never o Forth (each_in (λ (y : Outgoing). drives_forth tx y.body ≡ false) o (go_on_with node rest)
-          (goes_on_off node (nat_lt 0 (length rest))) more) is
-
-  pub drives : (o : Outgoing) → IsIn o step.effects.sends → drives_forth tx o.body ≡ true → Forth
-  drives o there is = driven (coordinator_walks member s of tx x) o there is
+  drives o there about apart is =
+      let by = sent_by member s of x tx (λ t. DrivesIf s.tc.node s.tc.layout tx t x.body)
+      (λ t. turn_drives s.tc.node s.tc.layout tx t x.body) o about apart there in
+      turned by.t by.found by.turn by.left by.more by.sends (by.said by.inside is)
 
 -- so it says this of commits, where whoever goes forth by the step is so
 module _ (F A : TxId → Type 0) where
-  kinds_speak : (body : Body) → is_of_coordinator body ≡ true → ((tx : TxId) → drives_forth tx body ≡ true → F tx)
-      → Speaks F A body
-  kinds_speak (Chain (Commit tx key epoch chain at)) is so = so tx (same_tx-self tx)
-  kinds_speak (Chain (Complete tx key chain at)) is so = so tx (same_tx-self tx)
-  kinds_speak (Client (TcCommitConf tx epoch)) is so = so tx (same_tx-self tx)
-  kinds_speak (Chain (Committed tx key)) is so = absurd cc
-  kinds_speak (Chain (Completed tx key)) is so = absurd cc
-  kinds_speak (Client (TcKeyFailConf tx epoch)) is so = absurd cc
-  kinds_speak (Client (TcCommitAck tx)) is so = absurd cc
-  kinds_speak (Takeover (LqhTransConf tx key told epoch)) is so = absurd cc
-  kinds_speak body is so = tt
-
   pub coordinator_speaks : (member : Member) (s : CoordinatorState) (of : IsCoordinatorOf member s) (x : Signal)
       → ((tx : TxId) → GoesForth member s (coordinator_row s x).state tx (coordinator_row s x).effects.sends → F tx)
       → AreSpoken F A (coordinator_row s x).effects.sends
   coordinator_speaks member s of x so =
-      ⊎_elim
-      (λ kinds. each_from _ sends (λ o there.
-      kinds_speak o.body (each_in (IsOf is_of_coordinator) o sends kinds there)
-      (λ tx is. so tx (drives member s of x tx o there is))))
-      (λ confirms. subst (AreSpoken F A) (sym confirms.1) (tt, tt)) (coordinator_kinds s x)
+      each_from _ sends (λ o there.
+      by o there o.body refl (each_in (IsWord is_coordinator_word) o sends (coordinator_words.takes s x).0 there))
     where
       sends : List Outgoing
       sends = (coordinator_row s x).effects.sends
 
-  go_on_speaks : (node : ℕ) (b : Bool) → AreSpoken F A (go_on_if node b)
-  go_on_speaks node true = (tt, tt)
-  go_on_speaks node false = tt
+      goes : (o : Outgoing) → IsIn o sends → (tx : TxId) → is_about tx o.body ≡ true → is_beside o.body ≡ false
+          → drives_forth tx o.body ≡ true → F tx
+      goes o there tx about apart is = so tx (drives member s of x tx o there about apart is)
+
+      by : (o : Outgoing) → IsIn o sends → (body : Body) → o.body ≡ body → is_coordinator_word body ≡ true
+          → Speaks F A body
+      by o there (Chain (Commit tx key epoch chain at)) is word =
+          goes o there tx (ap (is_about tx) is ∙ same_tx-self tx) (ap is_beside is)
+          (ap (drives_forth tx) is ∙ same_tx-self tx)
+      by o there (Chain (Complete tx key chain at)) is word =
+          goes o there tx (ap (is_about tx) is ∙ same_tx-self tx) (ap is_beside is)
+          (ap (drives_forth tx) is ∙ same_tx-self tx)
+      by o there (Client (TcCommitConf tx epoch)) is word =
+          goes o there tx (ap (is_about tx) is ∙ same_tx-self tx) (ap is_beside is)
+          (ap (drives_forth tx) is ∙ same_tx-self tx)
+      by o there (Chain (Committed tx key)) is word = absurd cc
+      by o there (Chain (Completed tx key)) is word = absurd cc
+      by o there (Client (TcKeyFailConf tx epoch)) is word = absurd cc
+      by o there (Client (TcCommitAck tx)) is word = absurd cc
+      by o there (Takeover (LqhTransConf tx key told epoch)) is word = absurd cc
+      by o there body is word = tt
 
   pub coordinator_installs_speak : (s : CoordinatorState) (view : View)
       → AreSpoken F A (install_row s view).effects.sends
-  unfolding install_row
-  coordinator_installs_speak s view = go_on_speaks s.tc.node _
+  coordinator_installs_speak s view =
+      (coordinator_installed_each s view (λ (o : Outgoing). Speaks F A o.body) (λ (mark : Mark). Unit {0}) tt).0

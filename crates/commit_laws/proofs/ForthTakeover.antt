@@ -1,56 +1,23 @@
 -- A takeover commits and completes those that it knows to be committed, and tells their clients.
-use Rattle.std.proofs.Common.{◌≡◌, ◌⊎◌, inl, inr, ◌+◌, ℕ, Bool, true, false, List, drop, length, map, nat_lt, refl, subst, sym, take}
-use Rattle.std.specs.List.{flat_map}
-use Rattle.std.specs.Prelude.{Option, None, Some, remove, slice_get}
-use Rattle.run_theory.proofs.EachSent.{each_drop, each_flat, each_get, each_mapped, each_removed, each_take}
-use Rattle.run_theory.proofs.Pasts.{each_append}
-use Rattle.sig_core.specs.declared.member.Member.{Member}
+use Rattle.std.proofs.Common.{◌≡◌, Bool, true, false, refl, subst, sym}
 use Rattle.sig_core.specs.declared.member.TxId.{TxId}
 use Rattle.sig_core.specs.declared.outs.Outgoing.{Outgoing}
-use Rattle.sig_core.specs.declared.place.Place.{Place}
-use Rattle.sig_core.specs.declared.portion.TheConstants.{PORTION}
 use Rattle.sig_core.specs.declared.signal.Body.{Body}
 use Rattle.sig_core.specs.declared.signal.Body.TheVariants.{Epoch}
 use Rattle.sig_core.specs.declared.signal.epoch.EpochSignal.TheVariants.{DiVerifyConf}
 use Rattle.sig_core.specs.declared.signal.Signal.{Signal}
-use Rattle.sig_core.specs.declared.signal.host.Work.{Work}
-use Rattle.sig_core.specs.declared.signal.host.Work.TheVariants as work
-use Rattle.sig_core.specs.declared.view.View.{View}
-use Rattle.sig_core.specs.Place.{takeover}
-use Rattle.sig_core.specs.Portion.{portion_effects, rest_if}
-use Rattle.frag_map.specs.Layout.{Layout, chain_of}
-use Rattle.takeover_block.specs.declared.gathered.Gathered.{Gathered}
-use Rattle.takeover_block.specs.declared.stage.Stage.{Stage}
-use Rattle.takeover_block.specs.declared.stage.Stage.TheVariants.{Resting, Gathering, Committing, Completing, Aborting}
-use Rattle.takeover_block.specs.Gathered.{first_of}
-use Rattle.takeover_block.specs.Rule.{entering, finishing, ruling, ruling_by, way_of}
-use Rattle.takeover_block.specs.Sends.{abort_at, ask_effects, ask_of, asks_of, front_sends, key_sends, key_sends_along, stage_effects, stage_sends}
-use Rattle.takeover_block.specs.State.{TakeoverState, with_gathered}
+use Rattle.takeover_block.specs.State.{TakeoverState}
 use Rattle.takeover_block.specs.Takeover.{takeover_row, takeover_table}
 use Rattle.sig_core.specs.declared.mark.Mark.{Mark}
-use Rattle.takeover_block.proofs.Walk.{IsAtCommit, IsRuledOn, commits_it, completing_it, drives_commit, drives_completion, ruled_is, takeover_does}
-use Rattle.outcome_laws.specs.Known.{IsDecidedAs, IsDecidedAt, TakeoverKnows}
-use Rattle.outcome_laws.proofs.TakeoverKnows.{IsKnown, known_at, takeover_knows}
+use Rattle.takeover_block.proofs.Walk.{drives_commit, drives_completion, takeover_does}
+use Rattle.commit_laws.proofs.TakeoverDrives.{knows_commit, knows_drive}
+use Rattle.outcome_laws.specs.Known.{TakeoverKnows}
+use Rattle.outcome_laws.proofs.TakeoverKnows.{takeover_knows}
 use Rattle.commit_laws.proofs.ForthSpeaks.{Anyone, AreSpoken, Of, Speaks, gives_epoch, hears}
 
 module _ (F A : TxId → Type 0) where
   abbrev Fits : Outgoing → Type 0
   Fits sent = Speaks F A sent.body
-
-  -- it knows so of the transaction that it is at, and of whom it rules on
-  knows_commit : (s : TakeoverState) (g : Gathered) (epoch : ℕ) → TakeoverKnows (Of F) Anyone s
-      → IsAtCommit s g epoch → F g.tx
-  knows_commit s g epoch known (commits_it n first at) =
-      subst (IsDecidedAt (Of F) Anyone (Committing epoch n)) first (known_at (Of F) Anyone s (Committing epoch n) known at)
-  knows_commit s g epoch known (completing_it n first at) =
-      subst (IsDecidedAt (Of F) Anyone (Completing epoch n)) first (known_at (Of F) Anyone s (Completing epoch n) known at)
-
-  knows_drive : (s : TakeoverState) (body : Body) (g : Gathered) (epoch : ℕ) → TakeoverKnows (Of F) Anyone s
-      → IsAtCommit s g epoch ⊎ (IsRuledOn s body g × (g.epoch ≡ Some epoch)) → F g.tx
-  knows_drive s body g epoch known (inl at) = knows_commit s g epoch known at
-  knows_drive s body g epoch known (inr ruled) =
-      subst (IsDecidedAs (Of F) Anyone g.tx) ruled.1
-      (ruled_is s body (IsKnown (Of F) Anyone) known.gathered g ruled.0)
 
   -- whatever it takes
   pub takeover_speaks : (s : TakeoverState) (x : Signal) → TakeoverKnows (Of F) Anyone s
@@ -60,10 +27,11 @@ module _ (F A : TxId → Type 0) where
         asks = λ member. tt;
         asks_on = λ left. tt;
         commits = λ g epoch n drives key there.
-            knows_drive s x.body g epoch known (drives_commit s x.body g epoch n drives);
-        confirms = λ g epoch n drives. knows_commit s g epoch known (drives_completion s x.body g epoch n drives);
+            knows_drive (Of F) Anyone s known g epoch x.body (drives_commit s x.body g epoch n drives);
+        confirms = λ g epoch n drives.
+            knows_commit (Of F) Anyone s known g epoch (drives_completion s x.body g epoch n drives);
         completes = λ g epoch n drives key there.
-            knows_commit s g epoch known (drives_completion s x.body g epoch n drives);
+            knows_commit (Of F) Anyone s known g epoch (drives_completion s x.body g epoch n drives);
         aborts = λ g n drives key there member among. tt;
         drives_on = λ g left. tt;
         gives_up = λ g key n is first at last. tt;

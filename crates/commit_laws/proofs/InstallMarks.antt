@@ -1,9 +1,10 @@
 -- A step of a host marks the views that it installs, and no others.
-use Rattle.std.proofs.Common.{◌≡◌, ◌⊎◌, ◌||◌, ◌++◌, ℕ, zero, suc, Bool, true, false, nat_lt, List, [], ◌∷◌, refl, ap, sym, subst, ◌∙◌, inl, inr}
+use Rattle.std.proofs.Common.{◌≡◌, ◌⊎◌, ◌||◌, ◌++◌, ℕ, zero, suc, Bool, true, false, nat_lt, List, [], ◌∷◌, refl, ap}
+use Rattle.std.proofs.Common.{sym, subst, ◌∙◌, inl, inr}
 use Rattle.std.proofs.lemmas.Bool.{true≢false}
 use Rattle.std.specs.Prelude.{if◌then◌else◌, not, Option, None, Some}
 use Rattle.run_theory.specs.Lists.{Each, IsIn}
-use Rattle.run_theory.proofs.Pasts.{each_in, in_append}
+use Rattle.run_theory.proofs.Pasts.{each_in, in_append, each_map}
 use Rattle.sig_core.specs.declared.mark.Mark.{Mark}
 use Rattle.sig_core.specs.declared.mark.Mark.TheVariants.{Installed}
 use Rattle.sig_core.specs.declared.member.HostId.{HostId}
@@ -31,8 +32,11 @@ use Rattle.node_views.specs.declared.parts.Parts.{Parts}
 use Rattle.node_views.specs.declared.parts.Parts.TheVariants.{Ldm, Main, Shell, Tc}
 use Rattle.node_views.specs.declared.shell_part.ShellPart.{ShellPart}
 use Rattle.node_views.specs.declared.tc_part.TcPart.{TcPart}
-use Rattle.node_views.specs.Parts.{ldm_row, main_row, main_settled, may_settle, qmgr_settled, settled, settled_if, shell_row, tc_row}
-use Rattle.node_views.specs.Row.{blocks_row, closed_if, counted_row, cut_if, entered, entering_if, headed_if, headed_row, host_row, host_table, is_barred, is_cut, is_excluded, killed_after, passed_if, passed_row, settle, standing_at, taken_if, with_parts}
+use Rattle.node_views.specs.Parts.{ldm_row, main_row, main_settled, may_settle, qmgr_settled, settled, settled_if}
+use Rattle.node_views.specs.Parts.{shell_row, tc_row}
+use Rattle.node_views.specs.Row.{blocks_row, closed_if, counted_row, cut_if, entered, entering_if, headed_if}
+use Rattle.node_views.specs.Row.{headed_row, host_row, host_table, is_barred, is_cut, is_excluded, killed_after}
+use Rattle.node_views.specs.Row.{passed_if, passed_row, settle, standing_at, taken_if, with_parts}
 use Rattle.node_views.specs.WellFormed.{is_first, is_well_formed}
 use Rattle.qmgr_block.specs.declared.known.Proposal.{Proposal}
 use Rattle.qmgr_block.specs.Decide.{confirmed_all, confirmed_one, heard, needs_no_grant}
@@ -40,16 +44,20 @@ use Rattle.qmgr_block.specs.Laws.{Event, installs}
 use Rattle.qmgr_block.specs.Qmgr.{qmgr_row}
 use Rattle.qmgr_block.specs.State.{QmgrState}
 use Rattle.world_views.specs.Machine.{own_stop, step_by, step_if}
-use Rattle.view_laws.specs.HostEvents.{block_events, counted_events, entering_events, events_at, events_by, headed_events, installing, is_handled, passed_events, sound_events, taking}
+use Rattle.view_laws.specs.HostEvents.{block_events, counted_events, entering_events, events_at, events_by}
+use Rattle.view_laws.specs.HostEvents.{headed_events, installing, is_handled, passed_events, sound_events, taking}
 use Rattle.view_laws.proofs.EraParts.{entered_bare}
 use Rattle.view_laws.proofs.FollowMemberships.{settles_on}
 use Rattle.view_laws.proofs.SetLemmas.{in_front}
-use Rattle.view_laws.proofs.HeardRows.{Does, does_answer, does_hear, does_propose, does_rest, does_settle, is_settling, table_does}
+use Rattle.view_laws.proofs.HeardRows.{Does, does_answer, does_hear, does_propose, does_rest, does_settle}
+use Rattle.view_laws.proofs.HeardRows.{is_settling, table_does}
 use Rattle.outcome_laws.proofs.ClientTurns.{client_turns}
 use Rattle.outcome_laws.proofs.StrictLists.{in_either}
 use Rattle.lqh_views.proofs.Walk.{replica_marks_each}
 use Rattle.commit_laws.proofs.MarkReasons.{tc_marks_each}
-use Rattle.commit_laws.proofs.PlainMaster.{master_marks_each}
+use Rattle.gcp_master.specs.Words.{is_master_mark}
+use Rattle.gcp_master.proofs.Walk.{master_words}
+use Rattle.step_forms.specs.Does.{IsAmong}
 
 abbrev is_installation : Mark → Bool
 is_installation (Installed view) = true
@@ -125,8 +133,12 @@ ldm_installs p _ x = tt
 
 master_installs : (p : MainPart) (x : Signal) → Each InstallsNone (master_row p.master x).effects.marks
 master_installs p x =
-    master_marks_each InstallsNone
-    (record { stops = λ cause. refl; closes = λ epoch. refl; lasts = λ epoch. refl }) p.master x
+    each_map (IsAmong is_master_mark) InstallsNone (master_row p.master x).effects.marks none
+    (master_words p.master x).1
+  where
+    none : (mark : Mark) → is_master_mark mark ≡ true → is_installation mark ≡ false
+    none (Installed view) is = absurd (true≢false (sym is))
+    none mark is = refl
 
 -- a membership installs what it settles on
 module _ (q : QmgrState) (x : Signal) where
@@ -326,7 +338,8 @@ module _ (mine : BlockId → Bool) (x : Signal) where
       forth : (view : View) → IsIn (Installed view) (Installed x.view ∷ (own ++ later))
           → IsIn (installs view) (passed_events mine inside x ++ installs x.view ∷ [])
       forth view (inl same) =
-          in_append (installs view) (passed_events mine inside x) (installs x.view ∷ []) (inl (ap installs (one_mark x.view view same)))
+          in_append (installs view) (passed_events mine inside x) (installs x.view ∷ [])
+          (inl (ap installs (one_mark x.view view same)))
       forth view (inr there) =
           in_front (installs view) (passed_events mine inside x) (installs x.view ∷ [])
           (behind.forth view (subst (λ marks. IsIn (Installed view) (marks ++ later)) bare there))

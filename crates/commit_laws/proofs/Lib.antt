@@ -29,12 +29,11 @@ pub mod CommitsKept
 pub mod CommitsNow
 pub mod CommitsRemain
 pub mod CommitsStep
-pub mod CompleteEpochs
 pub mod CompleteOthers
-pub mod CompleteRows
 pub mod CompleteWords
 pub mod ConfirmedFenced
 pub mod CoordinatorAnswered
+pub mod CoordinatorSends
 pub mod CurrentFenced
 pub mod CutLaws
 pub mod CutsLegal
@@ -92,7 +91,6 @@ pub mod ForthRows
 pub mod ForthSpeaks
 pub mod ForthTakeover
 pub mod ForthTc
-pub mod ForthTurns
 pub mod GatheringAlone
 pub mod GatheringWhole
 pub mod GatheringsAll
@@ -102,6 +100,7 @@ pub mod HaleOthers
 pub mod HeadersLow
 pub mod HostGoes
 pub mod HostMarks
+pub mod HostWords
 pub mod ImagesLeft
 pub mod InstallMarks
 pub mod KeptNow
@@ -139,9 +138,7 @@ pub mod MarkerRows
 pub mod MarkerSteps
 pub mod MemberKeeps
 pub mod OrderAll
-pub mod OrderApi
 pub mod OrderAside
-pub mod OrderClient
 pub mod OrderCoordinator
 pub mod OrderCounts
 pub mod OrderHosts
@@ -170,6 +167,7 @@ pub mod PartApart
 pub mod PartAside
 pub mod PartAsks
 pub mod PartDoes
+pub mod PartEach
 pub mod PartEvents
 pub mod PartHome
 pub mod PartHosts
@@ -191,8 +189,6 @@ pub mod PartsRaised
 pub mod PartsSent
 pub mod Passing
 pub mod PlainMarks
-pub mod PlainMaster
-pub mod PlainMembership
 pub mod PreparedTold
 pub mod RaisedChains
 pub mod RaisedHale
@@ -238,11 +234,11 @@ pub mod SpokenOwn
 pub mod SpokenRows
 pub mod SpokenRuling
 pub mod SpokenTakeover
-pub mod SpokenTurns
 pub mod SpokenWords
 pub mod StandAlways
 pub mod TakenChains
 pub mod TakeoverCloses
+pub mod TakeoverDrives
 pub mod TakeoverEvents
 pub mod TakeoverGoing
 pub mod TakeoverHears

@@ -1,5 +1,6 @@
 -- What a membership and the master beside it send of orders at an event of their host.
-use Rattle.std.proofs.Common.{◌≡◌, ◌≤◌, ◌+◌, ◌++◌, ◌&&◌, ◌∙◌, ◌==◌, ℕ, Bool, true, false, List, [], ◌∷◌, append_assoc, drop, length, map, nat_le, nat_lt, refl, sym, ap, subst, take, arith}
+use Rattle.std.proofs.Common.{◌≡◌, ◌≤◌, ◌+◌, ◌++◌, ◌&&◌, ◌∙◌, ◌==◌, ℕ, Bool, true, false, List, [], ◌∷◌, append_assoc}
+use Rattle.std.proofs.Common.{drop, length, map, nat_le, nat_lt, refl, sym, ap, subst, take, arith}
 use Rattle.std.proofs.lemmas.Bool.{true≢false}
 use Rattle.std.proofs.lemmas.List.{length-map}
 use Rattle.std.specs.List.{count_by}
@@ -20,11 +21,12 @@ use Rattle.sig_core.specs.declared.signal.takeover.TakeoverSignal.TheVariants.{T
 use Rattle.sig_core.specs.declared.view.View.{View}
 use Rattle.sig_core.specs.Place.{membership, takeover}
 use Rattle.sig_core.specs.Portion.{rest_if}
-use Rattle.sig_core.specs.Step.{to_place}
+use Rattle.sig_core.specs.Step.{to_place, Step}
 use Rattle.gcp_master.specs.Master.{master_row}
 use Rattle.qmgr_block.specs.declared.install.TheConstants.{ORDERS}
 use Rattle.qmgr_block.specs.declared.known.Known.{Known}
-use Rattle.qmgr_block.specs.Install.{commit_of, copy_of, installed_row, installing, is_of_view, is_oldest, is_some_suspect, left_by, order_if, order_row, orders, own_orders, work_if}
+use Rattle.qmgr_block.specs.Install.{commit_of, copy_of, installed_row, installing, is_of_view, is_oldest}
+use Rattle.qmgr_block.specs.Install.{is_some_suspect, left_by, order_if, order_row, orders, own_orders, work_if}
 use Rattle.qmgr_block.specs.Qmgr.{qmgr_row, qmgr_table}
 use Rattle.qmgr_block.specs.Sets.{members_of}
 use Rattle.qmgr_block.specs.State.{QmgrState}
@@ -34,7 +36,6 @@ use Rattle.outcome_laws.specs.Counts.{one_if}
 use Rattle.view_laws.proofs.EventLemmas.{steps}
 use Rattle.view_laws.proofs.StepLemmas.{row_installs}
 use Rattle.frag_map.specs.Layout.{Layout}
-use Rattle.sig_core.specs.Step.{Step}
 use Rattle.commit_laws.proofs.OrderCounts.{count_orders, portion_counts, quiet_none}
 use Rattle.commit_laws.proofs.OrderMaster.{master_orders_none}
 use Rattle.commit_laws.proofs.OrderMembership.{is_going_on, membership_orders_none}
@@ -66,7 +67,9 @@ module _ (k : Known) where
 
   orders_are : orders k ≡ front ++ order ∷ back
   unfolding orders
-  orders_are = append_assoc (front ++ own_orders k.me.node) copies works ∙ append_assoc front (own_orders k.me.node) (copies ++ works)
+  orders_are =
+      append_assoc (front ++ own_orders k.me.node) copies works
+      ∙ append_assoc front (own_orders k.me.node) (copies ++ works)
 
   front_quiet : AreQuiet front
   front_quiet = each_mapped IsQuiet commit_of (members_of k.layout.view) (λ member. refl)
@@ -89,11 +92,13 @@ module _ (k : Known) where
   front_length = length-map (members_of k.layout.view) commit_of
 
   -- where it goes on from a place
-  order_counts : (at : ℕ) (b : Bool) → count_orders (last_of k) (order_if k at b).effects.sends ≤ one_if (nat_le at (last_of k))
+  order_counts : (at : ℕ) (b : Bool)
+      → count_orders (last_of k) (order_if k at b).effects.sends ≤ one_if (nat_le at (last_of k))
   order_counts at true =
       subst (λ (xs : List Outgoing).
       count_orders (last_of k) (take PORTION (drop at xs)
-      ++ rest_if (membership k.me.node) Members at (nat_lt (at + PORTION) (length xs))) ≤ one_if (nat_le at (last_of k)))
+      ++ rest_if (membership k.me.node) Members at (nat_lt (at + PORTION) (length xs)))
+      ≤ one_if (nat_le at (last_of k)))
       (sym orders_are)
       (subst (λ (last : ℕ).
       count_orders last (take PORTION (drop at (front ++ order ∷ back))
@@ -125,7 +130,7 @@ module _ (q : QmgrState) (x : Signal) where
       none : (body : Body) → x.body ≡ body → is_going_on body ≡ false → Counts body
       none body is off =
           let quiet = quiet_none (last_of q.known) (qmgr_row q x).effects.sends
-          (still_quiet (qmgr_row q x).effects.sends (membership_orders_none q x (ap is_going_on is ∙ off)).0) in
+          (still_quiet (qmgr_row q x).effects.sends (membership_orders_none q x (ap is_going_on is ∙ off))) in
           omega (arith, quiet)
 
       going : (at : ℕ) (b c d : Bool)
@@ -141,14 +146,15 @@ module _ (q : QmgrState) (x : Signal) where
 
       by : (body : Body) → x.body ≡ body → Counts body
       by (Host (Continue Members at)) is =
-          subst (λ body. count_orders (last_of q.known) (qmgr_table q x.from.0 x.member x.view.number body).effects.sends
+          subst (λ body.
+          count_orders (last_of q.known) (qmgr_table q x.from.0 x.member x.view.number body).effects.sends
           ≤ one_if (nat_le at (last_of q.known) && (q.known.layout.view.number == x.view.number))) (sym is)
           (going at (is_of_view q.known x.view.number) (is_oldest q.known) (nat_lt at ORDERS))
       by body is = none body is refl
 
 -- a master orders none
 master_quiet : (p : MainPart) (x : Signal) → AreQuiet (master_row p.master x).effects.sends
-master_quiet p x = still_quiet (master_row p.master x).effects.sends (master_orders_none p.master x).0
+master_quiet p x = still_quiet (master_row p.master x).effects.sends (master_orders_none p.master x)
 
 -- a membership beside a master
 module _ (p : MainPart) (x : Signal) where
@@ -171,7 +177,7 @@ module _ (p : MainPart) (x : Signal) where
       quiet : is_going_on x.body ≡ false → count_orders last (qmgr_row p.qmgr x).effects.sends ≡ 0
       quiet off =
           quiet_none last (qmgr_row p.qmgr x).effects.sends
-          (still_quiet (qmgr_row p.qmgr x).effects.sends (membership_orders_none p.qmgr x off).0)
+          (still_quiet (qmgr_row p.qmgr x).effects.sends (membership_orders_none p.qmgr x off))
 
       off : (body : Body) → may_settle body ≡ true → is_going_on body ≡ false
       off (Host signal) may = absurd cc
@@ -215,7 +221,8 @@ module _ (p : MainPart) (x : Signal) where
       by me false false is = refl
 
 -- a membership that installs a view is of the member that it was, in that view
-pub installing_is : (k : Known) (view : View) → ((installing k view).me ≡ k.me) × ((installing k view).layout.view ≡ view)
+pub installing_is : (k : Known) (view : View)
+    → ((installing k view).me ≡ k.me) × ((installing k view).layout.view ≡ view)
 unfolding installed_row
 installing_is k view = ((row_installs k view).me, ap (λ (y : Layout). y.view) (row_installs k view).layout)
 
@@ -237,7 +244,7 @@ module _ (p : MainPart) (x : Signal) (last : ℕ) (younger : is_oldest p.qmgr.kn
       none : (body : Body) → x.body ≡ body → is_going_on body ≡ false → None (qmgr_row p.qmgr x)
       none body is off =
           quiet_none last (qmgr_row p.qmgr x).effects.sends
-          (still_quiet (qmgr_row p.qmgr x).effects.sends (membership_orders_none p.qmgr x (ap is_going_on is ∙ off)).0)
+          (still_quiet (qmgr_row p.qmgr x).effects.sends (membership_orders_none p.qmgr x (ap is_going_on is ∙ off)))
 
       by : (body : Body) → x.body ≡ body → None (qmgr_row p.qmgr x)
       by (Host (Continue Members at)) is =

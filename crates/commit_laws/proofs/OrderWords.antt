@@ -1,23 +1,17 @@
 -- Orders to takeovers, and the signals by which a membership goes on with its orders.
-use Rattle.std.proofs.Common.{◌≡◌, ◌+◌, ℕ, Bool, true, false, List, drop, length, nat_lt, refl, sym, take}
+use Rattle.std.proofs.Common.{◌≡◌, Bool, true, false, List, refl, sym}
 use Rattle.run_theory.specs.Lists.{Each}
-use Rattle.run_theory.proofs.EachSent.{each_drop, each_take}
-use Rattle.run_theory.proofs.Pasts.{each_append, each_map}
+use Rattle.run_theory.proofs.Pasts.{each_map}
 use Rattle.std.proofs.lemmas.Bool.{true≢false}
 use Rattle.sig_core.specs.declared.outs.Outgoing.{Outgoing}
 use Rattle.sig_core.specs.declared.place.BlockId.{BlockId}
 use Rattle.sig_core.specs.declared.place.BlockId.TheVariants as block
-use Rattle.sig_core.specs.declared.place.Place.{Place}
-use Rattle.sig_core.specs.declared.portion.TheConstants.{PORTION}
 use Rattle.sig_core.specs.declared.signal.Body.{Body}
 use Rattle.sig_core.specs.declared.signal.Body.TheVariants.{Host, Takeover}
 use Rattle.sig_core.specs.declared.signal.host.HostSignal.TheVariants.{Continue}
-use Rattle.sig_core.specs.declared.signal.host.Work.{Work}
 use Rattle.sig_core.specs.declared.signal.host.Work.TheVariants.{Members}
 use Rattle.sig_core.specs.declared.signal.takeover.TakeoverSignal.TheVariants.{LqhTransReq, TakeoverOrd}
-use Rattle.sig_core.specs.Portion.{go_on_at, portion_effects, rest_if}
 use Rattle.sig_core.specs.Step.{Step}
-use Rattle.outcome_laws.proofs.RowsNone.{MarksNone}
 
 abbrev pub is_membership : BlockId → Bool
 is_membership block.Qmgr = true
@@ -54,34 +48,6 @@ still_one b body is = is
 
 pub still_quiet : (sends : List Outgoing) → AreStill sends → AreQuiet sends
 still_quiet sends all = each_map IsStill IsQuiet sends (λ sent is. still_one sent.to.block sent.body is) all
-
-abbrev pub OrdersNone : {S : Type 0} → Step S → Type 0
-OrdersNone step = AreStill step.effects.sends × MarksNone step
-
--- what is so of a list, and of the signal to go on with it, is so of a part of the list
-pub portion_each : (P : Outgoing → Type 0) (by : Place) (work : Work) (sends : List Outgoing) (at : ℕ)
-    → ((left : ℕ) → P (go_on_at by work left)) → Each P sends → Each P (portion_effects by work sends at).sends
-portion_each P by work sends at goes_on all =
-    each_append P (take PORTION (drop at sends)) (rest_if by work at more)
-    (each_take P PORTION (drop at sends) (each_drop P at sends all)) (rest more)
-  where
-    more : Bool
-    more = nat_lt (at + PORTION) (length sends)
-
-    rest : (b : Bool) → Each P (rest_if by work at b)
-    rest true = (goes_on (at + PORTION), tt)
-    rest false = tt
-
--- so a part of a quiet list is quiet
-pub portion_quiet : (by : Place) (work : Work) (sends : List Outgoing) (at : ℕ)
-    → ((left : ℕ) → is_ordering by.block (Host (Continue work left)) ≡ false) → AreQuiet sends
-    → AreQuiet (portion_effects by work sends at).sends
-portion_quiet by work sends at goes_on all = portion_each IsQuiet by work sends at goes_on all
-
-pub portion_still : (by : Place) (work : Work) (sends : List Outgoing) (at : ℕ)
-    → ((left : ℕ) → is_leading by.block (Host (Continue work left)) ≡ false) → AreStill sends
-    → AreStill (portion_effects by work sends at).sends
-portion_still by work sends at goes_on all = portion_each IsStill by work sends at goes_on all
 
 abbrev pub SendsQuiet : {S : Type 0} → Step S → Type 0
 SendsQuiet step = AreQuiet step.effects.sends

@@ -1,5 +1,5 @@
 -- The client's side is told of the commit of a transaction by the member whose coordinator began it.
-use Rattle.std.proofs.Common.{◌≡◌, ◌⊎◌, ◌++◌, ℕ, true, List, [], ◌∷◌, sym, subst, inl, inr}
+use Rattle.std.proofs.Common.{◌≡◌, ◌⊎◌, ℕ, true, List, [], ◌∷◌, sym, subst, inl, inr}
 use Rattle.run_theory.specs.Lists.{Each, IsIn}
 use Rattle.run_theory.proofs.Pasts.{each_append, each_in, each_map}
 use Rattle.sig_core.specs.declared.member.Member.{Member}
@@ -29,7 +29,7 @@ use Rattle.view_laws.proofs.FollowSends.{IsSentBy, each_sent}
 use Rattle.view_laws.proofs.KindsSent.{each_of_kinds}
 use Rattle.view_laws.proofs.KindsTakeover.{is_of_takeover, takeover_kinds}
 use Rattle.moment_laws.specs.Moments.{IsMoment, logs_of}
-use Rattle.moment_laws.specs.PartSteps.{PartEnters, PartTakes, TcDoes, handles, ignores, installs, remains, tc_kind}
+use Rattle.moment_laws.specs.PartSteps.{PartEnters, TcDoes, installs, remains, tc_kind}
 use Rattle.moment_laws.specs.Places.{ldm_of, tc_of}
 use Rattle.moment_laws.proofs.MomentHosts.{part_some, tc_member}
 use Rattle.moment_laws.proofs.MomentSignals.{EachSent, sent_next}
@@ -45,6 +45,7 @@ use Rattle.commit_laws.proofs.ForthCoordinator.{coordinator_installs_speak, coor
 use Rattle.commit_laws.proofs.ForthEpochs.{dih_installs_speak, dih_speaks}
 use Rattle.commit_laws.proofs.ForthSpeaks.{AreSpoken, Speaks}
 use Rattle.commit_laws.proofs.RowsEnd.{IsRowsWord, rows_words}
+use Rattle.commit_laws.proofs.PartEach.{part_each}
 use Rattle.commit_laws.proofs.RowsGo.{RowsGo, enter, rest, rows_go, take}
 
 -- the word of a commit is of a transaction of the member's own
@@ -100,15 +101,13 @@ module _ (start : Start) (member : Member) (there : IsIn member (made start)) (l
       subst (λ (q : TcPart). IsCoordinatorOf member q.coordinator) (sym same)
       (coordinator_of_installed member run.own.coordinator x.view run.fits)
 
-  front_own : Enters → AreOfOwn member did.front
-  front_own (remains same stands none) = subst (AreOfOwn member) (sym none) tt
-  front_own (installs above same stands is) =
-      subst (AreOfOwn member) (sym is)
-      (each_append (λ (o : Outgoing). IsOfOwn member o.body)
+  enters_own : AreOfOwn member (tc_entered run.own x.view).effects.sends
+  enters_own =
+      each_append (λ (o : Outgoing). IsOfOwn member o.body)
       (coordinators.install_row run.own.coordinator x.view).effects.sends
       (epochs.install_row run.own.dih x.view.number).effects.sends
       (spoken _ (coordinator_installs_speak Own Any run.own.coordinator x.view))
-      (spoken _ (dih_installs_speak Own Any run.own.dih x.view.number)))
+      (spoken _ (dih_installs_speak Own Any run.own.dih x.view.number))
 
   row_own : (b : BlockId) → AreOfOwn member (tc_row did.between b x).effects.sends
   unfolding tc_row
@@ -121,20 +120,11 @@ module _ (start : Start) (member : Member) (there : IsIn member (made start)) (l
   row_own block.Dih = spoken _ (dih_speaks Own Any did.between.dih x)
   row_own _ = tt
 
-  rest_own : PartTakes tc_kind start.shape did.between (view_after start (tc_of start member) (e ∷ log)) x did.own
-      did.rest → AreOfOwn member did.rest
-  rest_own (ignores same none) = subst (AreOfOwn member) (sym none) tt
-  rest_own (handles passed same is) = subst (AreOfOwn member) (sym is) (row_own x.to.block)
-
   tc_own : AreOfOwn member (step_after start (tc_of start member) log e).effects.sends
-  tc_own = by did.sent
-    where
-      by : (sends ≡ did.front ++ did.rest) ⊎ (sends ≡ []) → AreOfOwn member sends
-      by (inl whole) =
-          subst (AreOfOwn member) (sym whole)
-          (each_append (λ (o : Outgoing). IsOfOwn member o.body) did.front did.rest (front_own did.enters)
-          (rest_own did.takes))
-      by (inr nothing) = subst (AreOfOwn member) (sym nothing) tt
+  tc_own =
+      part_each tc_kind (λ (o : Outgoing). IsOfOwn member o.body) start.shape run.own
+      (view_after start (tc_of start member) log) e.step.taken (after start (tc_of start member) (e ∷ log)).parts
+      (view_after start (tc_of start member) (e ∷ log)) sends did (λ above. enters_own) (λ passed. row_own x.to.block)
 
 -- others tell of none
 module _ (member : Member) where

@@ -1,5 +1,5 @@
 -- At an event of the host of a coordinator and a takeover, what it sends of commits is as it should be.
-use Rattle.std.proofs.Common.{◌≡◌, ◌⊎◌, ◌++◌, ◌∙◌, ℕ, List, [], ◌∷◌, refl, sym, ap, subst, arith, inl, inr}
+use Rattle.std.proofs.Common.{◌≡◌, ◌∙◌, ℕ, List, ◌∷◌, refl, sym, ap, subst, arith}
 use Rattle.std.specs.Prelude.{Some}
 use Rattle.std.specs.List.{slice_get}
 use Rattle.run_theory.specs.Lists.{Each, IsIn}
@@ -21,14 +21,14 @@ use Rattle.takeover_block.specs.declared.gathered.Gathered.{Gathered}
 use Rattle.takeover_block.specs.State.{TakeoverState}
 use Rattle.node_views.specs.declared.parts.Parts.TheVariants as part
 use Rattle.node_views.specs.declared.tc_part.TcPart.{TcPart}
-use Rattle.node_views.specs.Parts.{tc_row}
+use Rattle.node_views.specs.Parts.{tc_row, tc_entered}
 use Rattle.world_core.specs.Start.{Start, made}
 use Rattle.world_core.specs.Steps.{HostStep}
 use Rattle.world_views.specs.Machine.{after, step_after}
 use Rattle.view_laws.specs.Runs.{view_after}
 use Rattle.moment_laws.specs.Moments.{IsMoment, logs_of}
 use Rattle.moment_laws.specs.Parts.{IsPassed}
-use Rattle.moment_laws.specs.PartSteps.{PartEnters, PartTakes, handles, ignores, installs, remains, tc_kind}
+use Rattle.moment_laws.specs.PartSteps.{PartEnters, installs, remains, tc_kind}
 use Rattle.moment_laws.specs.Places.{tc_of}
 use Rattle.moment_laws.proofs.MomentHosts.{tc_low}
 use Rattle.moment_laws.proofs.MomentTurns.{current_rises}
@@ -39,10 +39,10 @@ use Rattle.request_laws.proofs.RouteSteps.{TcStep, own_tc, takeover_is}
 use Rattle.commit_laws.specs.Takeovers.{takeover_at}
 use Rattle.commit_laws.proofs.ForthEpochs.{dih_installs_speak, dih_speaks}
 use Rattle.commit_laws.proofs.ForthSpeaks.{AreSpoken, Speaks}
-use Rattle.commit_laws.proofs.OwnersCoordinator.{coordinator_installs_words, coordinator_words}
+use Rattle.commit_laws.proofs.OwnersCoordinator.{coordinator_installs_words, coordinator_words, AreWords, IsWord}
 use Rattle.commit_laws.proofs.OwnersSay.{IsAtCommit, IsOwnersWord, OwnersSayCommits}
+use Rattle.commit_laws.proofs.PartEach.{part_each}
 use Rattle.commit_laws.proofs.OwnersTakeover.{IsBusy, IsTold, takeover_told}
-use Rattle.commit_laws.proofs.OwnersCoordinator.{AreWords, IsWord}
 
 module _ (start : Start) (all : ℕ → List HostStep) (e : HostStep) (es : List HostStep)
     (moment : IsMoment start all (e ∷ es)) (member : Member) (there : IsIn member (made start))
@@ -125,15 +125,13 @@ module _ (start : Start) (all : ℕ → List HostStep) (e : HostStep) (es : List
         (λ (o : Outgoing). IsOwnersWord start old member o.body) os (λ o is. of_spoken o.body is) are
 
     -- an installation
-    front_owners : Entering → AreOwners step.does.front
-    front_owners (remains same stands none) = subst AreOwners (sym none) tt
-    front_owners (installs above same stands is) =
-        subst AreOwners (sym is)
-        (each_append (λ (o : Outgoing). IsOwnersWord start old member o.body)
+    enters_owners : AreOwners (tc_entered p x.view).effects.sends
+    enters_owners =
+        each_append (λ (o : Outgoing). IsOwnersWord start old member o.body)
         (install_row p.coordinator x.view).effects.sends (dih.install_row p.dih x.view.number).effects.sends
         (words (install_row p.coordinator x.view).effects.sends (coordinator_installs_words p.coordinator x.view))
         (spoken (dih.install_row p.dih x.view.number).effects.sends
-        (dih_installs_speak (λ tx. ⊥) (λ tx. ⊥) p.dih x.view.number)))
+        (dih_installs_speak (λ tx. ⊥) (λ tx. ⊥) p.dih x.view.number))
 
     -- where the takeover is at work, it stood in the current view before
     module _ (passed : IsPassed start.shape (part.Tc between) view x) (entering : Entering) where
@@ -181,21 +179,10 @@ module _ (start : Start) (all : ℕ → List HostStep) (e : HostStep) (es : List
       row_owners block.Dih to = spoken _ (dih_speaks (λ tx. ⊥) (λ tx. ⊥) between.dih x)
       row_owners _ to = tt
 
-    rest_owners : PartTakes tc_kind start.shape between view x step.does.own step.does.rest → Entering
-        → AreOwners step.does.rest
-    rest_owners (ignores same none) entering = subst AreOwners (sym none) tt
-    rest_owners (handles passed same is) entering =
-        subst AreOwners (sym is) (row_owners passed entering x.to.block refl)
-
-    all_owners : (sends ≡ step.does.front ++ step.does.rest) ⊎ (sends ≡ []) → AreOwners sends
-    all_owners (inl whole) =
-        subst AreOwners (sym whole)
-        (each_append (λ (o : Outgoing). IsOwnersWord start old member o.body) step.does.front step.does.rest
-        (front_owners step.does.enters) (rest_owners step.does.takes step.does.enters))
-    all_owners (inr nothing) = subst AreOwners (sym nothing) tt
-
     owners_send : AreOwners sends
-    owners_send = all_owners step.does.sent
+    owners_send =
+        part_each tc_kind (λ (o : Outgoing). IsOwnersWord start old member o.body) start.shape p stood x _ view sends
+        step.does (λ above. enters_owners) (λ passed. row_owners passed step.does.enters x.to.block refl)
 
 pub owners_say_commits : OwnersSayCommits
 owners_say_commits start all e es moment member there at = owners_send start all e es moment member there at

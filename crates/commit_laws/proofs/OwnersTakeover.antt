@@ -1,39 +1,23 @@
 -- What a takeover sends of commits: a commit goes to the last place of its chain, and the client's side is told of whom
 -- it commits.
-use Rattle.std.proofs.Common.{ℕ, Bool, true, false, List, map, ◌≡◌, ◌≤◌, ◌+◌, take, drop, length, nat_lt, sym, subst, arith}
-use Rattle.std.specs.Prelude.{Option, None, Some, remove, slice_get}
-use Rattle.std.specs.List.{flat_map}
-use Rattle.run_theory.proofs.EachSent.{each_flat, each_mapped, each_drop, each_take}
-use Rattle.run_theory.proofs.Pasts.{each_append}
-use Rattle.sig_core.specs.declared.member.Member.{Member}
+use Rattle.std.proofs.Common.{ℕ, List, ◌≡◌, ◌≤◌, ◌+◌, length, sym, subst, arith}
+use Rattle.std.specs.Prelude.{Some, slice_get}
 use Rattle.sig_core.specs.declared.member.TxId.{TxId}
 use Rattle.sig_core.specs.declared.signal.Body.{Body}
 use Rattle.sig_core.specs.declared.signal.Signal.{Signal}
-use Rattle.sig_core.specs.declared.signal.host.Work.TheVariants as work
-use Rattle.sig_core.specs.declared.view.View.{View}
-use Rattle.sig_core.specs.Place.{takeover}
-use Rattle.frag_map.specs.Layout.{Layout, chain_of}
 use Rattle.takeover_block.specs.declared.gathered.Gathered.{Gathered}
 use Rattle.takeover_block.specs.declared.stage.Stage.{Stage}
-use Rattle.takeover_block.specs.declared.stage.Stage.TheVariants.{Resting, Gathering, Committing, Completing, Aborting}
-use Rattle.takeover_block.specs.Rule.{entering, finishing, ruling, ruling_by, way_of, way_by}
-use Rattle.takeover_block.specs.Sends.{abort_at, ask_effects, ask_of, asks_of, front_sends, key_sends, key_sends_along, stage_effects, stage_sends}
-use Rattle.takeover_block.specs.State.{TakeoverState, with_gathered}
+use Rattle.takeover_block.specs.declared.stage.Stage.TheVariants.{Committing, Completing}
+use Rattle.takeover_block.specs.State.{TakeoverState}
 use Rattle.takeover_block.specs.Takeover.{takeover_row}
 use Rattle.sig_core.specs.declared.mark.Mark.{Mark}
 use Rattle.takeover_block.proofs.Walk.{IsAtCommit, commits_it, completing_it, drives_completion, takeover_does}
 use Rattle.run_theory.specs.Lists.{Each}
 use Rattle.sig_core.specs.declared.outs.Outgoing.{Outgoing}
-use Rattle.sig_core.specs.declared.place.Place.{Place}
-use Rattle.sig_core.specs.declared.portion.TheConstants.{PORTION}
 use Rattle.sig_core.specs.declared.signal.Body.TheVariants.{Chain, Client}
 use Rattle.sig_core.specs.declared.signal.chain.ChainSignal.TheVariants.{Commit, Committed, Completed}
 use Rattle.sig_core.specs.declared.signal.client.ClientSignal.TheVariants.{TcCommitAck, TcKeyFailConf}
-use Rattle.sig_core.specs.declared.signal.host.Work.{Work}
-use Rattle.sig_core.specs.Portion.{portion_effects, rest_if}
-use Rattle.sig_core.specs.Same.{same_tx}
 use Rattle.sig_core.specs.Step.{Step}
-use Rattle.takeover_block.specs.Gathered.{first_of, only, only_of}
 
 -- it is at a commit, or at the completion behind it
 abbrev pub IsBusy : Stage → Type 0

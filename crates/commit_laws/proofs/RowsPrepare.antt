@@ -28,7 +28,8 @@ use Rattle.lqh_block.specs.Storage.{StorageState}
 use Rattle.lqh_block.proofs.LqhForms.{granted_forms, perform_forms, request_forms}
 use Rattle.world_core.specs.Rest.{is_prepared, is_done_mark}
 use Rattle.key_laws.specs.Records.{as_committed, found, if_committed, unless_committed}
-use Rattle.key_laws.specs.Replica.{Event, Replica, aborts, ages, at_key, cell_at, commits, completes, event_at, expired_by, expires, expires_if, if_on, key_after, rests, storing}
+use Rattle.key_laws.specs.Replica.{Event, Replica, aborts, ages, at_key, cell_at, commits, completes, event_at}
+use Rattle.key_laws.specs.Replica.{expired_by, expires, expires_if, if_on, key_after, rests, storing}
 use Rattle.host_laws.specs.ReplicaLaws.{IsWell}
 use Rattle.key_laws.proofs.CellsAt.{cell-storing}
 use Rattle.key_laws.proofs.RecordLemmas.{committed_keeps, found-stored, if_keeps, none-edited, unless_keeps}
@@ -164,7 +165,8 @@ module _ (v : TxId) (key : List ℕ) where
   event_new s body well makes is none =
       none_there (found v (at_key key (lqh_table s body).state).cell.pending)
       (found v (key_after (event_at key s body) (at_key key s)).cell.pending)
-      (ap (λ (r : Replica). found v r.cell.pending) (within.signals_are_events s body key well)) (makes (at_key key s) none) is
+      (ap (λ (r : Replica). found v r.cell.pending) (within.signals_are_events s body key well))
+      (makes (at_key key s) none) is
 
   pub new_marked : (s : LqhState) (body : Body) → IsWell s
       → RowMarksNew s (lqh_table s body).state (lqh_table s body).effects.marks

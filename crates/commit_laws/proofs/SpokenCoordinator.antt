@@ -1,10 +1,8 @@
--- A step of a member's coordinator speaks of its own transactions: of the commit of one that is decided, and of the abort
--- of one that is given up.
-use Rattle.std.proofs.Common.{◌≡◌, ◌⊎◌, ◌∙◌, ◌++◌, ℕ, Bool, true, false, List, [], nat_lt, length, refl, sym, ap, subst, inl, inr, ⊎_elim}
-use Rattle.std.proofs.lemmas.Bool.{true≢false}
-use Rattle.std.proofs.lemmas.List.{append-nil}
+-- A step of a member's coordinator speaks of its own transactions: of the commit of one that is decided, and of the
+-- abort of one that is given up.
+use Rattle.std.proofs.Common.{◌≡◌, ◌∙◌, ◌++◌, ℕ, Bool, true, false, List, refl, ap, subst}
 use Rattle.std.specs.Prelude.{if◌then◌else◌, None, Some}
-use Rattle.run_theory.specs.Lists.{Each, IsIn}
+use Rattle.run_theory.specs.Lists.{IsIn}
 use Rattle.run_theory.proofs.Pasts.{each_from, each_in}
 use Rattle.sig_core.specs.declared.member.Member.{Member}
 use Rattle.sig_core.specs.declared.member.TxId.{TxId}
@@ -12,33 +10,91 @@ use Rattle.sig_core.specs.declared.outs.Outgoing.{Outgoing}
 use Rattle.sig_core.specs.declared.signal.Body.{Body}
 use Rattle.sig_core.specs.declared.signal.Body.TheVariants.{Chain, Client}
 use Rattle.sig_core.specs.declared.signal.Signal.{Signal}
-use Rattle.sig_core.specs.declared.signal.chain.ChainSignal.TheVariants.{Abort, Aborted, Commit, Committed, Complete, Completed}
+use Rattle.sig_core.specs.declared.signal.chain.ChainSignal.TheVariants.{Abort, Aborted, Commit, Committed, Complete}
+use Rattle.sig_core.specs.declared.signal.chain.ChainSignal.TheVariants.{Completed}
 use Rattle.sig_core.specs.declared.signal.client.ClientSignal.TheVariants.{TcKeyFailRef, TcRollbackRep}
 use Rattle.sig_core.specs.declared.view.View.{View}
 use Rattle.sig_core.specs.Step.{Step}
+use Rattle.sig_core.specs.Same.{same_tx}
 use Rattle.sig_core.proofs.Keys.{same_tx-self}
 use Rattle.host_laws.proofs.OfLive.{each_found}
 use Rattle.tc_block.specs.Phases.{is_aborting, is_decided}
-use Rattle.tc_block.specs.Resume.{resume_row}
 use Rattle.tc_block.specs.Turn.{Turn}
 use Rattle.tc_block.specs.declared.phase.Phase.{Phase}
 use Rattle.tc_block.specs.declared.transaction.Transaction.{Transaction}
-use Rattle.tc_block.proofs.EachTurn.{rows_of}
-use Rattle.tc_block.proofs.TurnRows.{turn_for, turn_with}
 use Rattle.tc_views.specs.Coordinator.{coordinator_row}
-use Rattle.tc_views.specs.State.{CoordinatorState, go_on_if, go_on_with}
+use Rattle.tc_views.specs.State.{CoordinatorState}
 use Rattle.tc_views.specs.Views.{install_row}
-use Rattle.view_laws.proofs.KindsCoordinator.{coordinator_kinds}
-use Rattle.view_laws.proofs.KindsSent.{IsOf}
-use Rattle.view_laws.proofs.KindsTurns.{is_of_coordinator}
 use Rattle.outcome_laws.specs.Counts.{IsCoordinatorOf, coordinator_member}
-use Rattle.outcome_laws.proofs.TcWalk as walk
 use Rattle.request_laws.specs.Ways.{entry_of, is_at, is_sent, tells_abort, tells_commit}
-use Rattle.request_laws.proofs.PhaseEvents.{in_either}
-use Rattle.request_laws.proofs.PhaseWalk.{Walks, begins, coordinator_walks, is_about, left_of, passes, resumes, stays, turns}
 use Rattle.request_laws.proofs.PhaseWays.{sent_before}
-use Rattle.commit_laws.proofs.SpokenTurns.{BackBy, ByTurn, ForthBy, Goes, Owns, before, behind, resume_goes, telling, turn_goes}
 use Rattle.commit_laws.proofs.SpokenWords.{AreSpoken, IsSpoken, Speaks}
+use Rattle.request_laws.proofs.PhaseWalk.{is_about, left_of}
+use Rattle.step_forms.specs.Does.{IsWord}
+use Rattle.frag_map.specs.Layout.{Layout}
+use Rattle.tc_block.specs.Abort.{rolled_back}
+use Rattle.tc_block.proofs.TurnSends.{InPhase, TurnSends, is_before, is_behind}
+use Rattle.tc_block.specs.declared.phase.Phase.TheVariants.{Aborting, Committing, Completing}
+use Rattle.tc_views.specs.Words.{is_coordinator_word}
+use Rattle.tc_views.proofs.Walk.{coordinator_installed_each, coordinator_words}
+use Rattle.sig_core.specs.declared.mark.Mark.{Mark}
+use Rattle.commit_laws.proofs.CoordinatorSends.{is_beside, sent_by}
+use Rattle.commit_laws.proofs.Passing.{passed}
+
+-- it is in such a phase before a turn, or behind it, or its client is told as it ends
+pub data ByTurn (p : Phase → Bool) (told : TxId → Body → Bool) (tx : TxId) (t : Transaction) (turn : Turn) : Type 0
+  where
+  before : p t.phase ≡ true → ByTurn p told tx t turn
+  behind : turn.over ≡ false → p turn.step.state.phase ≡ true → ByTurn p told tx t turn
+  telling : is_sent (told tx) turn.step.effects.sends ≡ true → ByTurn p told tx t turn
+
+abbrev pub BackBy : TxId → Transaction → Turn → Type 0
+BackBy tx t turn = ByTurn is_aborting tells_abort tx t turn
+
+abbrev pub ForthBy : TxId → Transaction → Turn → Type 0
+ForthBy tx t turn = ByTurn is_decided tells_commit tx t turn
+
+-- what is sent speaks of the abort of the transaction only where the one is so, and of its commit only where the other
+-- is so
+module _ (A C : Type 0) (tx : TxId) where
+  abbrev pub Owns : Body → Type 0
+  Owns (Chain (Abort other key)) = same_tx other tx ≡ true → A
+  Owns (Client (TcRollbackRep other cause)) = same_tx other tx ≡ true → A
+  Owns (Chain (Commit other key epoch chain at)) = same_tx other tx ≡ true → C
+  Owns (Chain (Complete other key chain at)) = same_tx other tx ≡ true → C
+  Owns body = Unit {0}
+
+-- a turn of the transaction speaks of it so
+module _ (node : ℕ) (layout : Layout) (tx : TxId) (t : Transaction) (body : Body) where
+  abbrev OwnsBy : Turn → Outgoing → Type 0
+  OwnsBy turn o = IsIn o turn.step.effects.sends → Owns (BackBy tx t turn) (ForthBy tx t turn) tx o.body
+
+  phased : (p : Phase → Bool) (told : TxId → Body → Bool) (turn : Turn) (phase : Phase) → InPhase t turn phase
+      → p phase ≡ true → ByTurn p told tx t turn
+  phased p told turn phase (is_before at) is = before (ap p at ∙ is)
+  phased p told turn phase (is_behind on at) is = behind on (ap p at ∙ is)
+
+  turn_owns : TurnSends node layout tx t body OwnsBy
+  turn_owns = record {
+    drives = record {
+      goes_on = λ turn left inside. tt;
+      commits = λ turn epoch awaited has in_phase u there inside is.
+          phased is_decided tells_commit turn (Committing epoch awaited) in_phase refl;
+      confirms = λ turn epoch has how inside. tt;
+      completes = λ turn epoch awaited has in_phase u there written inside is.
+          phased is_decided tells_commit turn (Completing epoch awaited) in_phase refl;
+      aborts = λ turn why verifying awaited given in_phase key r there inside is.
+          phased is_aborting tells_abort turn (Aborting why verifying awaited) in_phase refl;
+      leaves = λ turn over inside. tt;
+      rolls_back = λ turn why given over inside is.
+          telling (passed (λ (o : Outgoing). tells_abort tx o.body) (rolled_back tx why) turn.step.effects.sends inside
+          (same_tx-self tx));
+    };
+    operates = λ op is can inside. tt;
+    answers = λ key answer asked is own at inside. tt;
+    waits = λ asked is on r inside. tt;
+    decides = λ is ready inside. tt;
+  }
 
 -- the member's own transaction is in such a phase before a step, or behind it, or its client is told
 pub data Shows (p : Phase → Bool) (told : TxId → Body → Bool) (s now : CoordinatorState) (tx : TxId)
@@ -47,18 +103,10 @@ pub data Shows (p : Phase → Bool) (told : TxId → Body → Bool) (s now : Coo
   behind_it : is_at p (entry_of now tx) ≡ true → Shows p told s now tx sends
   tells_it : is_sent (told tx) sends ≡ true → Shows p told s now tx sends
 
-pub record IsShown (p : Phase → Bool) (told : TxId → Body → Bool) (member : Member) (s now : CoordinatorState) (tx : TxId)
-    (sends : List Outgoing) : Type 0 where
+pub record IsShown (p : Phase → Bool) (told : TxId → Body → Bool) (member : Member) (s now : CoordinatorState)
+    (tx : TxId) (sends : List Outgoing) : Type 0 where
   pub own : coordinator_member tx ≡ member
   pub shows : Shows p told s now tx sends
-
--- what names no such transaction owns nothing of it
-away_owned : (A C : Type 0) (tx : TxId) (body : Body) → is_about tx body ≡ false → Owns A C tx body
-away_owned A C tx (Chain (Abort other key)) off = λ is. absurd (true≢false (sym is ∙ off))
-away_owned A C tx (Client (TcRollbackRep other cause)) off = λ is. absurd (true≢false (sym is ∙ off))
-away_owned A C tx (Chain (Commit other key epoch chain at)) off = λ is. absurd (true≢false (sym is ∙ off))
-away_owned A C tx (Chain (Complete other key chain at)) off = λ is. absurd (true≢false (sym is ∙ off))
-away_owned A C tx body off = tt
 
 owned_so : (A C B D : Type 0) (tx : TxId) → (A → B) → (C → D) → (body : Body) → Owns A C tx body → Owns B D tx body
 owned_so A C B D tx one other (Chain (Abort by key)) owned = λ is. one (owned is)
@@ -101,101 +149,52 @@ module _ (member : Member) (s : CoordinatorState) (of : IsCoordinatorOf member s
             ∙ sent_before (told tx) turn.step.effects.sends more is);
       }
 
-  abbrev IsOwn : Outgoing → Type 0
-  IsOwn o = Owns Back Forth tx o.body
-
-  abbrev AreOwn : List Outgoing → Type 0
-  AreOwn sends = Each (λ (o : Outgoing). Owns Back Forth tx o.body) sends
-
-  goes_on_owned : (node : ℕ) (b : Bool) → AreOwn (go_on_if node b)
-  goes_on_owned node true = (tt, tt)
-  goes_on_owned node false = tt
-
-  of_turn : (t : Transaction) → entry_of s tx ≡ Some t → (turn : Turn) → entry_of step.state tx ≡ left_of turn
-      → (more : List Outgoing) → step.effects.sends ≡ turn.step.effects.sends ++ more
-      → Goes s.tc.node s.tc.layout tx t turn → (o : Outgoing) → IsIn o turn.step.effects.sends → IsOwn o
-  of_turn t found turn left more sends goes o there =
-      owned_so (BackBy tx t turn) (ForthBy tx t turn) Back Forth tx
-      (turned is_aborting tells_abort t found turn left more sends)
-      (turned is_decided tells_commit t found turn left more sends) o.body
-      (each_in (λ (y : Outgoing). Owns (BackBy tx t turn) (ForthBy tx t turn) tx y.body) o turn.step.effects.sends goes
-      there)
-
-  walked : Walks member s x.view.number x.body tx step → (o : Outgoing) → IsIn o step.effects.sends → IsOwn o
-  unfolding resume_row
-  walked (stays same unborn away) o there =
-      away_owned Back Forth tx o.body
-      (each_in (λ (y : Outgoing). is_about tx y.body ≡ false) o step.effects.sends away there)
-  walked (passes ahead about same next sends) o there =
-      each_in IsOwn o step.effects.sends (subst AreOwn (sym sends) (tt, tt)) there
-  walked (begins name about room one none some next sends) o there =
-      each_in IsOwn o step.effects.sends (subst AreOwn (sym sends) (tt, tt)) there
-  walked (turns t found takes about free left next sends) o there =
-      of_turn t found turn left [] (sends ∙ sym (append-nil turn.step.effects.sends)) goes o (subst (IsIn o) sends there)
-    where
-      turn : Turn
-      turn = turn_for s.tc.node s.tc.layout tx x.body t
-
-      goes : Goes s.tc.node s.tc.layout tx t turn
-      goes =
-          turn_with s.tc.node s.tc.layout tx x.body t (Goes s.tc.node s.tc.layout tx t)
-          (rows_of s.tc.node s.tc.layout tx t x.body (Goes s.tc.node s.tc.layout tx t)
-          (turn_goes s.tc.node s.tc.layout tx t x.body))
-          about (λ off. absurd (true≢false (sym takes ∙ off)))
-  walked (resumes t verdict rest at node found about newer is_left left next sends) o there =
-      by (in_either o turn.step.effects.sends (go_on_with node rest) (subst (IsIn o) sends there))
-    where
-      turn : Turn
-      turn = resume_row s.tc.node s.tc.layout tx t verdict s.number
-
-      goes : Goes s.tc.node s.tc.layout tx t turn
-      goes =
-          walk.resumes s.tc.node s.tc.layout tx t (Goes s.tc.node s.tc.layout tx t)
-          (resume_goes s.tc.node s.tc.layout tx t) s.number verdict t.phase refl
-
-      by : IsIn o turn.step.effects.sends ⊎ IsIn o (go_on_with node rest) → IsOwn o
-      by (inl own) = of_turn t found turn left (go_on_with node rest) sends goes o own
-      by (inr more) =
-          each_in IsOwn o (go_on_with node rest) (goes_on_owned node (nat_lt 0 (length rest))) more
-
-  owned : (o : Outgoing) → IsIn o step.effects.sends → IsOwn o
-  owned o there = walked (coordinator_walks member s of tx x) o there
+  owned : (o : Outgoing) → IsIn o step.effects.sends → is_about tx o.body ≡ true → is_beside o.body ≡ false
+      → Owns Back Forth tx o.body
+  owned o there about apart =
+      let by = sent_by member s of x tx (λ t. OwnsBy s.tc.node s.tc.layout tx t x.body)
+      (λ t. turn_owns s.tc.node s.tc.layout tx t x.body) o about apart there in
+      owned_so (BackBy tx by.t by.turn) (ForthBy tx by.t by.turn) Back Forth tx
+      (turned is_aborting tells_abort by.t by.found by.turn by.left by.more by.sends)
+      (turned is_decided tells_commit by.t by.found by.turn by.left by.more by.sends) o.body (by.said by.inside)
 
 module _ (A C : TxId → Type 0) (member : Member) (s : CoordinatorState) (of : IsCoordinatorOf member s) (x : Signal)
     (back : (tx : TxId) → Back member s of x tx → A tx) (forth : (tx : TxId) → Forth member s of x tx → C tx)
   where
-    abbrev All : Body → Type 0
-    All body = (tx : TxId) → Owns (Back member s of x tx) (Forth member s of x tx) tx body
-
-    kinds_speak : (body : Body) → is_of_coordinator body ≡ true → All body → Speaks A C body
-    kinds_speak (Chain (Abort tx key)) is own = back tx (own tx (same_tx-self tx))
-    kinds_speak (Client (TcRollbackRep tx cause)) is own = back tx (own tx (same_tx-self tx))
-    kinds_speak (Chain (Commit tx key epoch chain at)) is own = forth tx (own tx (same_tx-self tx))
-    kinds_speak (Chain (Complete tx key chain at)) is own = forth tx (own tx (same_tx-self tx))
-    kinds_speak (Chain (Aborted tx key)) is own = absurd cc
-    kinds_speak (Chain (Committed tx key)) is own = absurd cc
-    kinds_speak (Chain (Completed tx key)) is own = absurd cc
-    kinds_speak (Client (TcKeyFailRef tx)) is own = absurd cc
-    kinds_speak body is own = tt
-
     abbrev sends : List Outgoing
     sends = (coordinator_row s x).effects.sends
+
+    owns : (o : Outgoing) → IsIn o sends → (tx : TxId) (body : Body) → o.body ≡ body → is_about tx body ≡ true
+        → is_beside body ≡ false → Owns (Back member s of x tx) (Forth member s of x tx) tx body
+    owns o there tx body is about apart =
+        subst (Owns (Back member s of x tx) (Forth member s of x tx) tx) is
+        (owned member s of x tx o there (ap (is_about tx) is ∙ about) (ap is_beside is ∙ apart))
+
+    speaks : (o : Outgoing) → IsIn o sends → (body : Body) → o.body ≡ body → is_coordinator_word body ≡ true
+        → Speaks A C body
+    speaks o there (Chain (Abort tx key)) is word =
+        back tx (owns o there tx (Chain (Abort tx key)) is (same_tx-self tx) refl (same_tx-self tx))
+    speaks o there (Client (TcRollbackRep tx cause)) is word =
+        back tx (owns o there tx (Client (TcRollbackRep tx cause)) is (same_tx-self tx) refl (same_tx-self tx))
+    speaks o there (Chain (Commit tx key epoch chain at)) is word =
+        forth tx (owns o there tx (Chain (Commit tx key epoch chain at)) is (same_tx-self tx) refl (same_tx-self tx))
+    speaks o there (Chain (Complete tx key chain at)) is word =
+        forth tx (owns o there tx (Chain (Complete tx key chain at)) is (same_tx-self tx) refl (same_tx-self tx))
+    speaks o there (Chain (Aborted tx key)) is word = absurd cc
+    speaks o there (Chain (Committed tx key)) is word = absurd cc
+    speaks o there (Chain (Completed tx key)) is word = absurd cc
+    speaks o there (Client (TcKeyFailRef tx)) is word = absurd cc
+    speaks o there body is word = tt
 
     -- so it speaks of those, whatever it takes
     pub coordinator_speaks : AreSpoken A C (coordinator_row s x).effects.sends
     coordinator_speaks =
-        ⊎_elim
-        (λ kinds. each_from (IsSpoken A C) sends (λ o there.
-        kinds_speak o.body (each_in (IsOf is_of_coordinator) o sends kinds there)
-        (λ tx. owned member s of x tx o there)))
-        (λ confirms. subst (AreSpoken A C) (sym confirms.1) (tt, tt)) (coordinator_kinds s x)
+        each_from (IsSpoken A C) sends (λ o there.
+        speaks o there o.body refl
+        (each_in (IsWord is_coordinator_word) o sends (coordinator_words.takes s x).0 there))
 
-module _ (A C : TxId → Type 0) where
-  go_on_speaks : (node : ℕ) (b : Bool) → AreSpoken A C (go_on_if node b)
-  go_on_speaks node true = (tt, tt)
-  go_on_speaks node false = tt
-
-  -- and of none where a view is installed
-  pub coordinator_installs_speak : (s : CoordinatorState) (view : View) → AreSpoken A C (install_row s view).effects.sends
-  unfolding install_row
-  coordinator_installs_speak s view = go_on_speaks s.tc.node _
+-- and of none where a view is installed
+pub coordinator_installs_speak : (A C : TxId → Type 0) (s : CoordinatorState) (view : View)
+    → AreSpoken A C (install_row s view).effects.sends
+coordinator_installs_speak A C s view =
+    (coordinator_installed_each s view (IsSpoken A C) (λ (mark : Mark). Unit {0}) tt).0

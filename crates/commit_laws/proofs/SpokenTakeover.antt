@@ -19,7 +19,7 @@ use Rattle.takeover_block.specs.Rule.{entering, finishing, ruling, ruling_by, wa
 use Rattle.takeover_block.specs.State.{TakeoverState, in_view, with_gathered}
 use Rattle.takeover_block.specs.Takeover.{takeover_row, takeover_table}
 use Rattle.takeover_block.proofs.EachTakeover.{takeover_each}
-use Rattle.outcome_laws.specs.Known.{IsDecidedAs, IsDecidedAt, TakeoverKnows}
+use Rattle.outcome_laws.specs.Known.{TakeoverKnows}
 use Rattle.outcome_laws.specs.Tells.{TellsOfRecord}
 use Rattle.outcome_laws.proofs.TakeoverKnows.{takeover_install_knows, takeover_knows}
 use Rattle.commit_laws.proofs.ForthSpeaks.{Anyone, Of}
@@ -67,23 +67,13 @@ module _ (A C : TxId → Type 0) (W : Gathered → Type 0) where
         by (Aborting n) g is = is
 
     -- the way of a transaction
-    pub way_aborts : (layout : Layout) (g : Gathered) → W g → IsAbortingAt A (way_of layout g) (Some g)
+    way_aborts : (layout : Layout) (g : Gathered) → W g → IsAbortingAt A (way_of layout g) (Some g)
     unfolding way_of
     way_aborts layout g is = by g.epoch refl
       where
         by : (epoch : Option ℕ) → g.epoch ≡ epoch → IsAbortingAt A (way_by layout g.keys epoch) (Some g)
         by None none = rules g is none
         by (Some epoch) some = tt
-
-    pub way_commits : (layout : Layout) (g : Gathered) → IsDecidedAs (Of C) Anyone g.tx g.epoch
-        → IsDecidedAt (Of C) Anyone (way_of layout g) (Some g)
-    unfolding way_of
-    way_commits layout g right = by g.epoch right
-      where
-        by : (epoch : Option ℕ) → IsDecidedAs (Of C) Anyone g.tx epoch
-            → IsDecidedAt (Of C) Anyone (way_by layout g.keys epoch) (Some g)
-        by None right = tt
-        by (Some epoch) right = right
 
     -- what is so behind a step, beside what it knows
     pub record IsSo (s : TakeoverState) : Type 0 where
@@ -170,7 +160,8 @@ module _ (A C : TxId → Type 0) (W : Gathered → Type 0) where
           where
             by : (body : Body) → Hears body → TakeoverKnows (Of C) Anyone (takeover_table s body).state
             by (Takeover (LqhTransConf tx key told epoch)) heard =
-                takeover_knows (Of C) Anyone s (record x { body = Takeover (LqhTransConf tx key told epoch) }) own.knows heard
+                takeover_knows (Of C) Anyone s (record x { body = Takeover (LqhTransConf tx key told epoch) })
+                own.knows heard
             by (Client signal) heard = own.knows
             by (Epoch signal) heard = own.knows
             by (Chain (Commit tx key epoch chain at)) heard = own.knows

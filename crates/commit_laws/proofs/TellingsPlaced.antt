@@ -1,37 +1,25 @@
 -- What is told takeovers of transactions is for takeovers.
-use Rattle.std.proofs.Common.{◌≡◌, ◌⊎◌, ◌++◌, ◌==◌, ◌∙◌, ℕ, Bool, true, false, List, [], ◌∷◌, map, inl, inr, refl, sym, ap, subst}
+use Rattle.std.proofs.Common.{◌≡◌, ◌⊎◌, ◌∙◌, ℕ, Bool, true, false, List, [], ◌∷◌, inl, inr, refl, sym, ap, subst}
 use Rattle.std.specs.Prelude.{Option, None, Some}
-use Rattle.run_theory.specs.Lists.{Each}
+use Rattle.run_theory.specs.Lists.{Each, IsIn}
 use Rattle.sig_core.specs.declared.outs.Outgoing.{Outgoing}
-use Rattle.sig_core.specs.declared.rows.PendingRecord.{PendingRecord}
 use Rattle.sig_core.specs.declared.signal.Body.{Body}
-use Rattle.sig_core.specs.declared.signal.Body.TheVariants.{Epoch, Host, Membership, Takeover}
+use Rattle.sig_core.specs.declared.signal.Body.TheVariants.{Host, Takeover}
 use Rattle.sig_core.specs.declared.signal.Signal.{Signal}
-use Rattle.sig_core.specs.declared.signal.epoch.EpochSignal.{EpochSignal}
-use Rattle.sig_core.specs.declared.signal.epoch.EpochSignal.TheVariants.{GcpClosed, GcpSaveReq, GcpStateReq}
-use Rattle.sig_core.specs.declared.signal.host.HostSignal.TheVariants.{Closed, Continue}
-use Rattle.sig_core.specs.declared.signal.host.Work.TheVariants.{Expired, Granted, Report}
-use Rattle.sig_core.specs.declared.signal.membership.MembershipSignal.TheVariants.{FenceReq}
-use Rattle.sig_core.specs.declared.signal.takeover.TakeoverSignal.TheVariants.{LqhTransConf, LqhTransReq}
+use Rattle.sig_core.specs.declared.signal.host.HostSignal.TheVariants.{Closed}
+use Rattle.sig_core.specs.declared.signal.takeover.TakeoverSignal.TheVariants.{LqhTransConf}
 use Rattle.sig_core.specs.declared.view.View.{View}
-use Rattle.lqh_block.specs.declared.request.Marker.{Marker}
 use Rattle.lqh_block.specs.declared.request.Request.{Request}
-use Rattle.lqh_block.specs.Lqh.{lqh_table}
-use Rattle.lqh_block.specs.State.{LqhState}
 use Rattle.lqh_views.proofs.Walk.{replica_sends_each}
 use Rattle.lqh_block.proofs.EachLqh.{RequestSends}
 use Rattle.lqh_views.specs.Address.{about, addressed, owned_by, owned_if, to_takeover}
-use Rattle.lqh_views.specs.declared.report.Report as reports
-use Rattle.lqh_views.specs.Epochs.{epoch_table}
-use Rattle.lqh_views.specs.Replica.{is_stale, passed, replica_by, replica_row, serve_if}
-use Rattle.lqh_views.specs.Report.{go_on_by, is_orphaned_marker, is_orphaned_record, last_before, marker_by, record_by, reporting, told_record_if}
+use Rattle.lqh_views.specs.Replica.{passed, replica_row}
 use Rattle.lqh_views.specs.State.{ReplicaState}
-use Rattle.run_theory.proofs.Pasts.{each_append, each_map}
+use Rattle.run_theory.proofs.Pasts.{each_map}
 use Rattle.sig_core.specs.declared.member.Member.{Member}
 use Rattle.sig_core.specs.declared.member.TxId.{TxId}
 use Rattle.sig_core.specs.declared.place.BlockId.TheVariants as block
 use Rattle.sig_core.specs.declared.place.Place.{Place}
-use Rattle.run_theory.specs.Lists.{IsIn}
 use Rattle.sig_core.specs.Place.{takeover}
 use Rattle.lqh_block.specs.Views.{is_coordinated}
 use Rattle.world_core.specs.Start.{Start, made}
@@ -39,7 +27,7 @@ use Rattle.world_core.specs.Steps.{Addressed, HostStep}
 use Rattle.world_views.specs.Machine.{IsOwnWork, step_after}
 use Rattle.view_laws.specs.Runs.{view_after}
 use Rattle.moment_laws.specs.Moments.{IsMoment, logs_of}
-use Rattle.moment_laws.specs.PartSteps.{PartEnters, PartTakes, handles, ignores, installs, remains, tc_kind}
+use Rattle.moment_laws.specs.PartSteps.{tc_kind}
 use Rattle.moment_laws.specs.Places.{ldm_of}
 use Rattle.moment_laws.proofs.MomentSignals.{EachSent, sent_next, taken_told}
 use Rattle.moment_laws.proofs.MomentTurns.{host_low}
@@ -48,6 +36,8 @@ use Rattle.request_laws.proofs.RouteHeaders.{sent_so}
 use Rattle.request_laws.proofs.RouteHosts.{PartHost, beside_sends, coordinates, is_beside, keeps_rows, part_host}
 use Rattle.request_laws.proofs.RouteSteps.{TcStep, tc_step}
 use Rattle.commit_laws.specs.Telling.{TellingsAreForTakeovers}
+use Rattle.node_views.specs.Parts.{tc_entered, tc_row}
+use Rattle.commit_laws.proofs.PartEach.{part_each}
 use Rattle.commit_laws.proofs.RowsGo.{RowsGo, enter, rest, rows_go, take}
 use Rattle.commit_laws.proofs.TakeoverReports.{Fated, AreFated, IsFated, all_aside_fated, tc_enters_fated, tc_fated}
 
@@ -154,26 +144,13 @@ module _ (start : Start) (all : ℕ → List HostStep) (e : HostStep) (es : List
     sends = (step_after start e.host (old e.host) e).effects.sends
 
     tc_placed : TcStep start e.host (old e.host) e → ArePlaced sends
-    tc_placed step = by step.does.sent
-      where
-        front : PartEnters tc_kind step.own (view_after start e.host (old e.host)) x step.does.between view step.does.front
-            → AreFated Nothing step.does.front
-        front (remains same stands none) = subst (AreFated Nothing) (sym none) tt
-        front (installs above same stands is) =
-            subst (AreFated Nothing) (sym is) (tc_enters_fated Nothing step.own x.view)
-
-        others : PartTakes tc_kind start.shape step.does.between view x step.does.own step.does.rest
-            → AreFated Nothing step.does.rest
-        others (ignores same none) = subst (AreFated Nothing) (sym none) tt
-        others (handles passed same is) =
-            subst (AreFated Nothing) (sym is) (tc_fated Nothing step.does.between x x.to.block)
-
-        by : (sends ≡ step.does.front ++ step.does.rest) ⊎ (sends ≡ []) → ArePlaced sends
-        by (inl is) =
-            subst ArePlaced (sym is)
-            (all_of_fated (step.does.front ++ step.does.rest)
-            (each_append (IsFated Nothing) step.does.front step.does.rest (front step.does.enters) (others step.does.takes)))
-        by (inr is) = subst ArePlaced (sym is) tt
+    tc_placed step =
+        part_each tc_kind IsPlaced start.shape step.own (view_after start e.host (old e.host)) x _ view sends step.does
+        (λ above.
+        all_of_fated (tc_entered step.own x.view).effects.sends (tc_enters_fated Nothing step.own x.view))
+        (λ passed.
+        all_of_fated (tc_row step.does.between x.to.block x).effects.sends
+        (tc_fated Nothing step.does.between x x.to.block))
 
     own_placed : (member : Member) → IsIn member (made start) → e.host ≡ ldm_of start member → ArePlaced sends
     own_placed member there at = by (rows_go start all e es moment member there)
@@ -205,7 +182,8 @@ module _ (start : Start) (all : ℕ → List HostStep) (e : HostStep) (es : List
     placed_next : EachSent start IsForOne (logs_of start es) → EachSent start IsForOne (logs_of start (e ∷ es))
     placed_next before =
         sent_next start IsForOne all e es moment before
-        (λ goes. sent_so start e.host (old e.host) e (λ (v : View) (to : Place) (body : Body). IsFor to body) sends_placed)
+        (λ goes.
+        sent_so start e.host (old e.host) e (λ (v : View) (to : Place) (body : Body). IsFor to body) sends_placed)
 
 all_placed : (start : Start) (all : ℕ → List HostStep) (es : List HostStep) → IsMoment start all es
     → EachSent start IsForOne (logs_of start es)
@@ -218,5 +196,6 @@ tellings_are_for_takeovers start all e es moment sound tx key told epoch is =
     subst (IsFor e.step.taken.to) is
     (taken_told start IsForOne all e es moment (all_placed start all es (moment_less start all e es moment)) sound
     (λ work. subst (IsOwnWork start e.host) is work)
-    (λ closes. let differ : Takeover (LqhTransConf tx key told epoch) ≡ Host (Closed closes.cause) = sym is ∙ closes.is in
+    (λ closes.
+    let differ : Takeover (LqhTransConf tx key told epoch) ≡ Host (Closed closes.cause) = sym is ∙ closes.is in
     absurd cc))

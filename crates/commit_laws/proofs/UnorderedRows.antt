@@ -1,33 +1,18 @@
 -- Rows that aren't asked for what they have, and have no report under way, begin none and tell a takeover nothing.
-use Rattle.std.proofs.Common.{◌≡◌, ◌==◌, ℕ, Bool, true, false, List, [], ◌∷◌, map, refl, sym, subst, ◌∙◌}
-use Rattle.std.specs.Prelude.{Option, None, Some}
-use Rattle.sig_core.specs.declared.outs.Outgoing.{Outgoing}
+use Rattle.std.proofs.Common.{◌≡◌, ◌∙◌, true, false, refl, sym}
+use Rattle.std.specs.Prelude.{None, Some}
 use Rattle.sig_core.specs.declared.signal.Body.{Body}
-use Rattle.sig_core.specs.declared.signal.Body.TheVariants.{Epoch, Host, Membership, Takeover}
+use Rattle.sig_core.specs.declared.signal.Body.TheVariants.{Takeover}
 use Rattle.sig_core.specs.declared.signal.Signal.{Signal}
-use Rattle.sig_core.specs.declared.signal.epoch.EpochSignal.{EpochSignal}
-use Rattle.sig_core.specs.declared.signal.epoch.EpochSignal.TheVariants.{GcpClosed, GcpSaveReq, GcpStateReq}
-use Rattle.sig_core.specs.declared.signal.host.HostSignal.TheVariants.{Continue}
-use Rattle.sig_core.specs.declared.signal.host.Work.TheVariants.{Expired, Granted, Report}
-use Rattle.sig_core.specs.declared.signal.membership.MembershipSignal.TheVariants.{FenceReq}
 use Rattle.sig_core.specs.declared.signal.takeover.TakeoverSignal.TheVariants.{LqhTransReq}
-use Rattle.sig_core.specs.declared.view.View.{View}
-use Rattle.sig_core.specs.Step.{Step, stay}
-use Rattle.lqh_block.specs.declared.request.Request.{Request}
-use Rattle.lqh_block.specs.Lqh.{lqh_table}
-use Rattle.lqh_block.specs.State.{LqhState}
-use Rattle.lqh_block.proofs.EachLqh.{RequestSends, lqh_sends_each}
-use Rattle.lqh_views.specs.Address.{addressed}
-use Rattle.lqh_views.specs.declared.report.Report as reports
-use Rattle.lqh_views.specs.Epochs.{epoch_table}
-use Rattle.lqh_views.specs.Replica.{is_stale, passed, replica_by, replica_row, serve_if}
-use Rattle.lqh_views.specs.Report.{go_on_by}
+use Rattle.sig_core.specs.Step.{Step}
+use Rattle.lqh_views.specs.Replica.{replica_row}
 use Rattle.lqh_views.specs.State.{ReplicaState}
 use Rattle.lqh_views.specs.declared.report.Report.{Report}
 use Rattle.lqh_views.specs.Words.{is_row_word}
 use Rattle.lqh_views.proofs.Walk.{IsReporting, goes_on, is_asked, replica_outcomes, replica_tells_each}
 use Rattle.std.proofs.lemmas.Bool.{true≢false}
-use Rattle.commit_laws.proofs.UnorderedHosts.{AreNoReports, IsNoReport, is_of_reports}
+use Rattle.commit_laws.proofs.UnorderedHosts.{AreNoReports, is_of_reports}
 
 -- no report is under way behind the step, and it tells nothing
 pub record TellsNothing (step : Step ReplicaState) : Type 0 where

@@ -1,13 +1,12 @@
 -- What holds of each form of a step of a node's rows under views holds of each step; and so what holds of each form of
 -- signal and mark.
-use Rattle.std.proofs.Common.{◌≡◌, ◌⊎◌, inl, inr, ◌==◌, ℕ, List, [], ◌∷◌, Bool, true, false, not, map, refl, sym, ap, ◌∙◌, subst}
+use Rattle.std.proofs.Common.{◌≡◌, ◌⊎◌, inl, inr, ◌==◌, ℕ, List, [], ◌∷◌, Bool, true, false, not, map, refl, sym, ap}
+use Rattle.std.proofs.Common.{◌∙◌, subst}
 use Rattle.std.proofs.lemmas.Bool.{true≢false}
 use Rattle.std.specs.Prelude.{IfSome, Option, None, Some}
 use Rattle.run_theory.specs.Lists.{Each}
 use Rattle.run_theory.proofs.Pasts.{each_from}
 use Rattle.sig_core.specs.declared.mark.Mark.{Mark}
-use Rattle.sig_core.specs.declared.member.Member.{Member}
-use Rattle.sig_core.specs.declared.member.TxId.{TxId}
 use Rattle.sig_core.specs.declared.outs.Outgoing.{Outgoing}
 use Rattle.sig_core.specs.declared.rows.PendingRecord.{PendingRecord}
 use Rattle.sig_core.specs.declared.signal.Body.{Body}
@@ -17,7 +16,8 @@ use Rattle.sig_core.specs.declared.signal.chain.ChainSignal.TheVariants as chain
 use Rattle.sig_core.specs.declared.signal.chain.RowWork.TheVariants.{Store}
 use Rattle.sig_core.specs.declared.signal.client.ClientSignal.TheVariants.{DumpConf, LqhWaitConf}
 use Rattle.sig_core.specs.declared.signal.epoch.EpochSignal.{EpochSignal}
-use Rattle.sig_core.specs.declared.signal.epoch.EpochSignal.TheVariants.{GcpClosed, GcpClosedConf, GcpSaveConf, GcpSaveReq, GcpStateConf, GcpStateReq}
+use Rattle.sig_core.specs.declared.signal.epoch.EpochSignal.TheVariants.{GcpClosed, GcpClosedConf, GcpSaveConf}
+use Rattle.sig_core.specs.declared.signal.epoch.EpochSignal.TheVariants.{GcpSaveReq, GcpStateConf, GcpStateReq}
 use Rattle.sig_core.specs.declared.signal.host.HostSignal.TheVariants.{Continue}
 use Rattle.sig_core.specs.declared.signal.host.Work.TheVariants as work
 use Rattle.sig_core.specs.declared.signal.membership.MembershipSignal.TheVariants.{FenceConf, FenceReq}
@@ -39,7 +39,8 @@ use Rattle.lqh_views.specs.Address.{addressed}
 use Rattle.lqh_views.specs.Epochs.{close_row, epoch_table, fence_row, save_row, state_row}
 use Rattle.lqh_views.specs.Laws.{is_of_rows, is_of_rows_by}
 use Rattle.lqh_views.specs.Replica.{installed, is_stale, passed, replica_by, replica_row, serve_if}
-use Rattle.lqh_views.specs.Report.{ending, go_on_by, is_orphaned_marker, is_orphaned_record, last_before, marker_by, record_by, reporting, telling, told, told_marker, told_record, told_record_if}
+use Rattle.lqh_views.specs.Report.{ending, go_on_by, is_orphaned_marker, is_orphaned_record, last_before, marker_by}
+use Rattle.lqh_views.specs.Report.{record_by, reporting, telling, told, told_marker, told_record, told_record_if}
 use Rattle.lqh_views.specs.State.{ReplicaState}
 use Rattle.lqh_views.specs.WholeReports.{the_end, whole}
 use Rattle.lqh_views.specs.Words.{ReplicaKeepsToItsWords, is_replica_mark, is_replica_word, is_row_word}

@@ -5,3 +5,5 @@ pub mod InstallLemmas
 pub mod LawLemmas
 pub mod RoomLemmas
 pub mod SettleLemmas
+pub mod Walk
+pub mod WordWalk

@@ -1,7 +1,6 @@
 -- What holds of each turn of a coordinator's transactions, those among them that an installation left to do, and of
--- what
--- it does beside them, holds of each of its steps under views; and so what holds of each form of signal.
-use Rattle.std.proofs.Common.{◌≡◌, ◌==◌, ℕ, Bool, true, false, List, [], ◌∷◌, ◌++◌, length, nat_lt, refl, ap, subst, sym, ◌∙◌}
+-- what it does beside them, holds of each of its steps under views; and so what holds of each form of signal.
+use Rattle.std.proofs.Common.{◌≡◌, ◌==◌, ℕ, Bool, true, false, List, [], ◌∷◌, length, nat_lt, refl, subst, sym}
 use Rattle.std.specs.Prelude.{Option, None, Some, slice_get}
 use Rattle.std.specs.Map.{values_of}
 use Rattle.run_theory.specs.Lists.{Each}
@@ -12,7 +11,8 @@ use Rattle.sig_core.specs.declared.outs.Outgoing.{Outgoing}
 use Rattle.sig_core.specs.declared.signal.Body.{Body}
 use Rattle.sig_core.specs.declared.signal.Body.TheVariants.{Client, Epoch, Host, Membership}
 use Rattle.sig_core.specs.declared.signal.Signal.{Signal}
-use Rattle.sig_core.specs.declared.signal.client.ClientSignal.TheVariants.{TcBeginConf, TcBeginRef, TcKeyReq, TcRollbackReq, TcWaitConf}
+use Rattle.sig_core.specs.declared.signal.client.ClientSignal.TheVariants.{TcBeginConf, TcBeginRef, TcKeyReq}
+use Rattle.sig_core.specs.declared.signal.client.ClientSignal.TheVariants.{TcRollbackReq, TcWaitConf}
 use Rattle.sig_core.specs.declared.signal.epoch.EpochSignal.TheVariants.{DiVerifyConf}
 use Rattle.sig_core.specs.declared.signal.host.HostSignal.TheVariants.{Continue}
 use Rattle.sig_core.specs.declared.signal.host.Work.TheVariants as work
@@ -37,8 +37,9 @@ use Rattle.tc_block.proofs.EachTurn.{rows_at}
 use Rattle.tc_block.proofs.LiveSplit.{Split, split_at}
 use Rattle.tc_block.proofs.TurnSends.{DriveSends, SendsOnly, TurnSends, resume_sends, turn_sends}
 use Rattle.tc_views.specs.Coordinator.{calm_row, calm_unless, coordinator_row, coordinator_table, is_to_fail}
-use Rattle.tc_views.specs.State.{CoordinatorState, go_on_if, go_on_with, within}
-use Rattle.tc_views.specs.Views.{fence_row, install_row, resume_by as tasks_by, resume_first, resume_if, resume_row as tasks_row, tasks_at}
+use Rattle.tc_views.specs.State.{CoordinatorState, go_on_if, within}
+use Rattle.tc_views.specs.Views.{fence_row, install_row, resume_by as tasks_by, resume_first, resume_if}
+use Rattle.tc_views.specs.Views.{resume_row as tasks_row, tasks_at}
 use Rattle.tc_views.specs.Words.{CoordinatorKeepsToItsWords, is_coordinator_mark, is_coordinator_word}
 
 -- R is of each turn that a transaction of the coordinator may take at the signal, and S of the step that it makes; and
@@ -194,8 +195,8 @@ coordinator_words = record {
     promises = refl;
     goes_on = λ node. refl;
   });
-  installs =
-      λ s view. coordinator_installed_each s view (IsWord is_coordinator_word) (IsAmong is_coordinator_mark) refl;
+  installs = λ s view.
+      coordinator_installed_each s view (IsWord is_coordinator_word) (IsAmong is_coordinator_mark) refl;
 }
   where
     drives : (node : ℕ) (layout : Layout) (tx : TxId) (t : Transaction) (body : Body)
