@@ -9,8 +9,7 @@ use Rattle.sig_core.specs.declared.signal.epoch.EpochSignal.TheVariants.{GcpPrep
 use Rattle.dih_node.specs.Dih.{dih_row}
 use Rattle.dih_node.specs.Orders.{committed, install_row}
 use Rattle.dih_node.specs.State.{DihState}
-use Rattle.dih_node.specs.Verify.{ended}
-use Rattle.dih_node.proofs.Walk.{IsEnded, ReportOutcomes, dih_outcomes, ended_is, ordered, was_counted, was_held, was_unknown}
+use Rattle.dih_node.proofs.Walk.{IsEnded, ReportOutcomes, dih_outcomes, ordered, was_counted, was_held, was_unknown}
 use Rattle.epoch_laws.specs.Alike.{IsPast, IsSound}
 use Rattle.epoch_laws.proofs.DihMoves.{IsAt, Moves, Stays, dih_installs_stay, dih_moves}
 
@@ -29,9 +28,6 @@ pub still_past : (s : DihState) (tx : TxId) (now : DihState) → IsEnded s tx no
 still_past s tx _ (was_counted at is) past = past
 still_past s tx _ (was_held at none is) past = past
 still_past s tx _ (was_unknown none is) past = past
-
-pub ended_past : (s : DihState) (tx : TxId) → IsOrderPast s → IsOrderPast (ended s tx)
-ended_past s tx past = still_past s tx (ended s tx) (ended_is s tx) past
 
 reports_past : (now : DihState) → IsOrderPast now → ReportOutcomes now (λ step. IsOrderPast step.state)
 reports_past now past =
