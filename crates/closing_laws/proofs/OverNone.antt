@@ -122,4 +122,5 @@ pub coordinator_ends_none : (s : CoordinatorState) (x : Signal) → AreUnended (
 coordinator_ends_none s x = of_words is_coordinator_word of_coordinator _ (coordinator_words.takes s x).0
 
 pub coordinator_installs_end_none : (s : CoordinatorState) (view : View) → AreUnended (install_row s view).effects.sends
-coordinator_installs_end_none s view = of_words is_coordinator_word of_coordinator _ (coordinator_words.installs s view).0
+coordinator_installs_end_none s view =
+    of_words is_coordinator_word of_coordinator _ (coordinator_words.installs s view).0

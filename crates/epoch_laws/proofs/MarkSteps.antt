@@ -88,7 +88,8 @@ ldm_none p block.Lqh x = unmarked is_replica_word is_replica_mark _ of_rows (rep
 ldm_none p _ x = tt
 
 other_none : (parts : Parts) (x : Signal) → HasNoTc parts → IsMarked IsNoDecision x parts
-other_none parts x other = record { row = by parts other; settles = λ view is. entered_none (parts_row parts x).state view }
+other_none parts x other =
+    record { row = by parts other; settles = λ view is. entered_none (parts_row parts x).state view }
   where
     by : (parts : Parts) → HasNoTc parts → DecidesNone (parts_row parts x)
     by (Shell p) other = shell_none p x.to.block x
@@ -130,11 +131,11 @@ module _ (x : Signal) (s : DihState) where
   tc_gives : (p : TcPart) → Stays s p.dih → (b : BlockId) → Each (IsGivenBy s) (tc_row p b x).effects.marks
   unfolding tc_row
   tc_gives p same block.Tc =
-      each_map IsNoDecision (IsGivenBy s) _ (none_gives s) 
+      each_map IsNoDecision (IsGivenBy s) _ (none_gives s)
       (unmarked is_coordinator_word is_coordinator_mark _ (λ mark is. absurd cc)
       (coordinator_words.takes p.coordinator x))
   tc_gives p same block.Takeover =
-      each_map IsNoDecision (IsGivenBy s) _ (none_gives s) 
+      each_map IsNoDecision (IsGivenBy s) _ (none_gives s)
       (unmarked is_takeover_word is_takeover_mark _ (λ mark is. absurd cc) (takeover_words.takes p.takeover x))
   tc_gives p same block.Dih =
       each_map (IsGivenBy p.dih) (IsGivenBy s) (dih_row p.dih x).effects.marks (gives_from s p.dih same)
@@ -148,7 +149,8 @@ module _ (x : Signal) (s : DihState) where
 pub tc_steps_give : (h : ℕ) (s : hosts.Host) (x : Signal) (p : TcPart) → s.parts ≡ Tc p
     → Each (IsGivenBy p.dih) (step_by h s x).effects.marks
 tc_steps_give h s x p is =
-    step_marks (IsGivenBy p.dih) (record { stops = λ cause. tt; installs = λ view. tt; cuts = λ host. tt }) x h s (record {
+    step_marks (IsGivenBy p.dih) (record { stops = λ cause. tt; installs = λ view. tt; cuts = λ host. tt }) x h s
+    (record {
       goes = λ newer barred. by s.parts is;
       enters =
           each_map IsNoDecision (IsGivenBy p.dih) (parts_entered s.parts x.view).effects.marks (none_gives p.dih)
@@ -168,7 +170,8 @@ tc_steps_give h s x p is =
     behind (Tc q) is =
         let same : q ≡ p = cc in
         tc_marked x p.dih (tc_entered q x.view).state
-        (subst (λ (r : TcPart). Stays r.dih (tc_entered q x.view).state.dih) same (dih_installs_stay q.dih x.view.number))
+        (subst (λ (r : TcPart). Stays r.dih (tc_entered q x.view).state.dih) same
+        (dih_installs_stay q.dih x.view.number))
     behind (Main q) is = absurd cc
     behind (Ldm q) is = absurd cc
     behind (Shell q) is = absurd cc

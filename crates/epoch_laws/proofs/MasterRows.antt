@@ -152,7 +152,8 @@ module _ (s : MasterState) (x : Signal) where
             enters (heard_one s x) (Copying run) refl refl (goes_late run (is_late run (Saving run) at refl) refl);
         copies = λ run is at on some. late run (Copying run) at refl;
         ends_global = λ run is at on all.
-            ended run (Copying run) at refl (at_end (heard_one s x) run (Global run.epoch run.copy)) refl refl refl refl;
+            ended run (Copying run) at refl (at_end (heard_one s x) run (Global run.epoch run.copy)) refl refl refl
+            refl;
       })
     where
       late : (run : Run) (phase : Phase) → s.phase ≡ phase → IsLate run phase

@@ -63,4 +63,5 @@ pub client_none : (s : ClientState) (x : Signal) → SendsNoOrder (client_row s 
 client_none s x = each_map (IsWord is_client_word) IsNoOrder _ (λ send is. clients send.body is) (client_words s x).0
 
 pub arbiter_none : (s : ArbiterState) (x : Signal) → SendsNoOrder (arbiter_row s x)
-arbiter_none s x = each_map (IsWord is_arbiter_word) IsNoOrder _ (λ send is. arbiters send.body is) (arbiter_words s x).0
+arbiter_none s x =
+    each_map (IsWord is_arbiter_word) IsNoOrder _ (λ send is. arbiters send.body is) (arbiter_words s x).0
