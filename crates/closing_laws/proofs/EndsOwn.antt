@@ -8,17 +8,10 @@ use Rattle.sig_core.specs.declared.outs.Outgoing.{Outgoing}
 use Rattle.sig_core.specs.declared.place.BlockId.{BlockId}
 use Rattle.sig_core.specs.declared.place.BlockId.TheVariants as block
 use Rattle.sig_core.specs.declared.place.Part.TheVariants as parts
-use Rattle.sig_core.specs.declared.signal.Body.{Body}
-use Rattle.sig_core.specs.declared.signal.Body.TheVariants.{Host, Membership, Takeover}
 use Rattle.sig_core.specs.declared.signal.Signal.{Signal}
-use Rattle.sig_core.specs.declared.signal.membership.MembershipSignal.TheVariants.{ArbitReq}
 use Rattle.sig_core.specs.declared.view.View.{View}
 use Rattle.sig_core.specs.Place.{checkpoints}
 use Rattle.sig_core.specs.Step.{Effects}
-use Rattle.api_views.specs.Client.{client_row}
-use Rattle.api_views.specs.State.{ClientState}
-use Rattle.arbiter_block.specs.Arbiter.{ArbiterState, arbit_if, arbit_row, arbiter_row, arbiter_table, is_granted}
-use Rattle.dih_node.specs.Dih.{dih_row, fresh_dih}
 use Rattle.dih_node.specs.Orders as dih
 use Rattle.node_views.specs.Blocks.{parts_entered, parts_row}
 use Rattle.node_views.specs.declared.host.Host as hosts
@@ -30,7 +23,6 @@ use Rattle.node_views.specs.declared.shell_part.ShellPart.{ShellPart}
 use Rattle.node_views.specs.declared.tc_part.TcPart.{TcPart}
 use Rattle.node_views.specs.Parts.{ldm_row, main_row, shell_row, tc_entered, tc_row}
 use Rattle.tc_views.specs.Coordinator.{coordinator_row}
-use Rattle.tc_views.specs.State.{CoordinatorState}
 use Rattle.tc_views.specs.Views as coordinator
 use Rattle.world_core.specs.Hosts.{member_at}
 use Rattle.world_core.specs.Start.{Start, made}
@@ -43,11 +35,6 @@ use Rattle.view_laws.specs.Votes.{main_of}
 use Rattle.view_laws.proofs.EraSound.{each_filter}
 use Rattle.view_laws.proofs.FenceHosts.{own_reaches}
 use Rattle.view_laws.proofs.FollowSends.{IsSentBy, each_sent}
-use Rattle.view_laws.proofs.KindsApi.{is_of_client}
-use Rattle.view_laws.proofs.KindsClient.{client_kinds}
-use Rattle.view_laws.proofs.KindsCoordinator.{coordinator_installs_kinds, coordinator_kinds}
-use Rattle.view_laws.proofs.KindsSent.{each_of_kinds}
-use Rattle.view_laws.proofs.KindsTurns.{is_of_coordinator}
 use Rattle.moment_laws.specs.Moments.{IsMoment, logs_of}
 use Rattle.moment_laws.specs.Parts.{IsPassed}
 use Rattle.moment_laws.specs.PartSteps.{PartEnters, PartTakes, TcDoes, handles, ignores, installs, remains, tc_kind}
@@ -56,60 +43,14 @@ use Rattle.moment_laws.proofs.MomentHosts.{HasNoTc, part_some, tc_member, tc_sta
 use Rattle.moment_laws.proofs.MomentSignals.{EachSent, sent_next}
 use Rattle.moment_laws.proofs.MomentTurns.{host_low}
 use Rattle.moment_laws.proofs.MomentViews.{moment_less}
-use Rattle.moment_laws.proofs.PartKinds.{tc_after, tc_is}
-use Rattle.moment_laws.proofs.PartTaken.{handled_now}
 use Rattle.outcome_laws.proofs.KnowWalk.{AreKept, IsOfEffects, step_keeps}
-use Rattle.epoch_laws.specs.Alike.{IsSound}
-use Rattle.epoch_laws.specs.Members.{dih_in}
-use Rattle.epoch_laws.specs.Stand.{AllStand}
-use Rattle.epoch_laws.proofs.DihRows.{dih_installs_sound}
-use Rattle.epoch_laws.proofs.DihSends.{IsOwn, dih_installs_own}
-use Rattle.epoch_laws.proofs.StandAll.{epochs_stand}
 use Rattle.epoch_laws.proofs.StandKinds.{Whose, of_main, of_rows, of_shell, of_tc, runs_main, runs_rows, runs_shell, whose}
-use Rattle.epoch_laws.proofs.StandTakes.{taken_rises}
-use Rattle.closing_laws.proofs.EndedKeeps.{dih_ends_none}
-use Rattle.closing_laws.proofs.OverMaster.{master_ends_nothing}
 use Rattle.closing_laws.proofs.OverMasters.{IsOverTrue}
-use Rattle.closing_laws.proofs.OverMembership.{membership_ends_nothing, membership_installs_nothing}
-use Rattle.closing_laws.proofs.OverNone.{AreUnended, IsUnended, is_over}
-use Rattle.closing_laws.proofs.OverRows.{rows_end_none}
 use Rattle.closing_laws.proofs.OverTakeover.{IsForOwn, takeover_own, unended_own}
-
--- blocks that tell no master so
-of_client : (body : Body) → is_of_client body ≡ true → is_over body ≡ false
-of_client (Takeover signal) is = absurd cc
-of_client body is = refl
-
-of_coordinator : (body : Body) → is_of_coordinator body ≡ true → is_over body ≡ false
-of_coordinator (Takeover signal) is = absurd cc
-of_coordinator body is = refl
-
-own_none : (body : Body) → IsOwn body → is_over body ≡ false
-own_none (Host signal) own = refl
-own_none _ own = absurd own
-
-client_none : (s : ClientState) (x : Signal) → AreUnended (client_row s x).effects.sends
-client_none s x =
-    each_of_kinds is_of_client (λ body. is_over body ≡ false) (client_row s x).effects.sends of_client
-    (client_kinds s x)
-
-coordinator_none : (s : CoordinatorState) (x : Signal) → AreUnended (coordinator_row s x).effects.sends
-coordinator_none s x =
-    ⊎_elim (λ kinds. each_of_kinds is_of_coordinator (λ body. is_over body ≡ false) _ of_coordinator kinds)
-    (λ confirms. subst (λ sends. AreUnended sends) (sym confirms.1) (refl, tt)) (coordinator_kinds s x)
-
-arbiter_none : (s : ArbiterState) (x : Signal) → AreUnended (arbiter_row s x).effects.sends
-unfolding arbit_row
-arbiter_none s x = by x.body
-  where
-    asked : (number : ℕ) (members : List Member) (b : Bool)
-        → AreUnended (arbit_if s x.member.node number members b).effects.sends
-    asked number members true = (refl, tt)
-    asked number members false = (refl, tt)
-
-    by : (body : Body) → AreUnended (arbiter_table s x.member.node body).effects.sends
-    by (Membership (ArbitReq number members joining)) = asked number members (is_granted s number members joining)
-    by _ = tt
+use Rattle.closing_laws.proofs.OverNone.{AreUnended, IsUnended, arbiter_ends_none, client_ends_none, coordinator_ends_none, coordinator_installs_end_none, dih_ends_none, dih_installs_end_none, is_over, master_ends_none, membership_ends_none, membership_installs_end_none, rows_end_none}
+use Rattle.dih_node.specs.Dih.{dih_row}
+use Rattle.moment_laws.proofs.PartKinds.{tc_after}
+use Rattle.sig_core.specs.declared.signal.Body.TheVariants.{Takeover}
 
 abbrev EndNone : Effects → Type 0
 EndNone effects = AreUnended effects.sends
@@ -128,14 +69,14 @@ of_effects = record {
 module _ (x : Signal) where
   shell_none : (p : ShellPart) (b : BlockId) → AreUnended (shell_row p b x).effects.sends
   unfolding shell_row
-  shell_none p block.Api = client_none p.client x
-  shell_none p block.Arbiter = arbiter_none p.arbiter x
+  shell_none p block.Api = client_ends_none p.client x
+  shell_none p block.Arbiter = arbiter_ends_none p.arbiter x
   shell_none p _ = tt
 
   main_none : (p : MainPart) (b : BlockId) → AreUnended (main_row p b x).effects.sends
   unfolding main_row
-  main_none p block.Qmgr = (membership_ends_nothing p.qmgr x).0
-  main_none p block.GcpMaster = (master_ends_nothing p.master x).0
+  main_none p block.Qmgr = membership_ends_none p.qmgr x
+  main_none p block.GcpMaster = master_ends_none p.master x
   main_none p _ = tt
 
   ldm_none : (p : LdmPart) (b : BlockId) → AreUnended (ldm_row p b x).effects.sends
@@ -152,7 +93,7 @@ module _ (x : Signal) where
   entered_none : (ps : Parts) (view : View) → HasNoTc ps
       → HasNoTc (parts_entered ps view).state × EndNone (parts_entered ps view).effects
   entered_none (part.Shell p) view none = (tt, tt)
-  entered_none (part.Main p) view none = (tt, (membership_installs_nothing p.qmgr view).0)
+  entered_none (part.Main p) view none = (tt, membership_installs_end_none p.qmgr view)
   entered_none (part.Ldm p) view none = (tt, tt)
   entered_none (part.Tc p) view none = absurd none
 
@@ -216,44 +157,37 @@ module _ (start : Start) (h : ℕ) (some : 1 ≤ h) (log : List HostStep) (e : H
         each_map IsUnended (λ (o : Outgoing). IsForOwn node o.to o.body) os
         (λ o is. unended_own node o.to o.body is) none
 
-    module _ (epochs : IsPassed start.shape (part.Tc did.between) seen x → x.to.block ≡ block.Dih
-        → AreUnended (dih_row did.between.dih x).effects.sends)
+    front_own : Enters → AreForOwn did.front
+    front_own (remains same stands none) = subst AreForOwn (sym none) tt
+    front_own (installs above same stands is) =
+        subst AreForOwn (sym is)
+        (none_own (tc_entered p x.view).effects.sends
+        (each_append IsUnended (coordinator.install_row p.coordinator x.view).effects.sends
+        (dih.install_row p.dih x.view.number).effects.sends (coordinator_installs_end_none p.coordinator x.view)
+        (dih_installs_end_none p.dih x.view.number)))
+
+    row_own : (b : BlockId) → AreForOwn (tc_row did.between b x).effects.sends
+    unfolding tc_row
+    row_own block.Tc =
+        none_own (coordinator_row did.between.coordinator x).effects.sends
+        (coordinator_ends_none did.between.coordinator x)
+    row_own block.Takeover = (takeover_own node did.between.takeover x (node_between did.enters)).sends
+    row_own block.Dih = none_own (dih_row did.between.dih x).effects.sends (dih_ends_none did.between.dih x)
+    row_own _ = tt
+
+    rest_own : PartTakes tc_kind start.shape did.between seen x did.own did.rest → AreForOwn did.rest
+    rest_own (ignores same none) = subst AreForOwn (sym none) tt
+    rest_own (handles passed same is) = subst AreForOwn (sym is) (row_own x.to.block)
+
+    sends_own : AreForOwn (step_after start h log e).effects.sends
+    sends_own = by did.sent
       where
-        front_own : Enters → AreForOwn did.front
-        front_own (remains same stands none) = subst AreForOwn (sym none) tt
-        front_own (installs above same stands is) =
-            subst AreForOwn (sym is)
-            (none_own (tc_entered p x.view).effects.sends
-            (each_append IsUnended (coordinator.install_row p.coordinator x.view).effects.sends
-            (dih.install_row p.dih x.view.number).effects.sends
-            (each_of_kinds is_of_coordinator (λ body. is_over body ≡ false) _ of_coordinator
-            (coordinator_installs_kinds p.coordinator x.view))
-            (each_map (λ (o : Outgoing). IsOwn o.body) IsUnended (dih.install_row p.dih x.view.number).effects.sends
-            (λ o is. own_none o.body is) (dih_installs_own p.dih x.view.number))))
-
-        row_own : (b : BlockId) → (b ≡ block.Dih → AreUnended (dih_row did.between.dih x).effects.sends)
-            → AreForOwn (tc_row did.between b x).effects.sends
-        unfolding tc_row
-        row_own block.Tc of_dih =
-            none_own (coordinator_row did.between.coordinator x).effects.sends
-            (coordinator_none did.between.coordinator x)
-        row_own block.Takeover of_dih = (takeover_own node did.between.takeover x (node_between did.enters)).sends
-        row_own block.Dih of_dih = none_own (dih_row did.between.dih x).effects.sends (of_dih refl)
-        row_own _ of_dih = tt
-
-        rest_own : PartTakes tc_kind start.shape did.between seen x did.own did.rest → AreForOwn did.rest
-        rest_own (ignores same none) = subst AreForOwn (sym none) tt
-        rest_own (handles passed same is) = subst AreForOwn (sym is) (row_own x.to.block (epochs passed))
-
-        sends_own : AreForOwn (step_after start h log e).effects.sends
-        sends_own = by did.sent
-          where
-            by : (sends ≡ did.front ++ did.rest) ⊎ (sends ≡ []) → AreForOwn sends
-            by (inl whole) =
-                subst AreForOwn (sym whole)
-                (each_append (λ (o : Outgoing). IsForOwn node o.to o.body) did.front did.rest
-                (front_own did.enters) (rest_own did.takes))
-            by (inr nothing) = subst AreForOwn (sym nothing) tt
+        by : (sends ≡ did.front ++ did.rest) ⊎ (sends ≡ []) → AreForOwn sends
+        by (inl whole) =
+            subst AreForOwn (sym whole)
+            (each_append (λ (o : Outgoing). IsForOwn node o.to o.body) did.front did.rest
+            (front_own did.enters) (rest_own did.takes))
+        by (inr nothing) = subst AreForOwn (sym nothing) tt
 
 -- the takeover of a member has its node, whatever has come
 record RunsTakeover (start : Start) (h : ℕ) (node : ℕ) (log : List HostStep) : Type 0 where
@@ -276,7 +210,7 @@ runs_takeover start me there (e ∷ log) =
     }
 
 module _ (start : Start) (all : ℕ → List HostStep) (e : HostStep) (es : List HostStep)
-    (moment : IsMoment start all (e ∷ es)) (stand : AllStand start (logs_of start es))
+    (moment : IsMoment start all (e ∷ es))
   where
     abbrev old : ℕ → List HostStep
     old = logs_of start es
@@ -295,38 +229,9 @@ module _ (start : Start) (all : ℕ → List HostStep) (e : HostStep) (es : List
       above : 1 ≤ e.host
       above = subst (λ h. 1 ≤ h) (sym at) (part_some start parts.Tc me)
 
-      steps : TcDoes start.shape run.own (view_after start e.host (old e.host)) e.step.taken
-          (after start e.host (e ∷ old e.host)).parts stood (step_after start e.host (old e.host) e).effects.sends
-      steps = did start e.host above (old e.host) e run.own run.is me.node run.of_node
-
-      sound_old : IsSound run.own.dih
-      sound_old =
-          subst IsSound
-          (ap (λ h. dih_in (fresh_dih 0 0 0 0) (after start h (old h)).parts) (sym at)
-          ∙ ap (dih_in (fresh_dih 0 0 0 0)) run.is)
-          (stand.sound me there)
-
-      sound_between : PartEnters tc_kind run.own (view_after start e.host (old e.host)) e.step.taken steps.between stood
-          steps.front → IsSound steps.between.dih
-      sound_between (remains same stands none) = subst (λ (q : TcPart). IsSound q.dih) (sym same) sound_old
-      sound_between (installs newer same stands is) =
-          subst (λ (q : TcPart). IsSound q.dih) (sym same)
-          (dih_installs_sound run.own.dih e.step.taken.view.number sound_old)
-
-      epochs_none : IsPassed start.shape (part.Tc steps.between) stood e.step.taken
-          → e.step.taken.to.block ≡ block.Dih
-          → AreUnended (dih_row steps.between.dih e.step.taken).effects.sends
-      epochs_none passed to =
-          dih_ends_none steps.between.dih e.step.taken
-          (taken_rises start all e es moment stand block.Dih
-          (handled_now start all e es moment tc_kind tc_is run.own run.is steps.between steps.front steps.enters passed
-          block.Dih to))
-          (sound_between steps.enters)
-
       tc_sends : Each (λ (o : Outgoing). IsForOwn me.node o.to o.body)
           (step_after start e.host (old e.host) e).effects.sends
-      unfolding steps did
-      tc_sends = sends_own start e.host above (old e.host) e run.own run.is me.node run.of_node epochs_none
+      tc_sends = sends_own start e.host above (old e.host) e run.own run.is me.node run.of_node
 
       tc_own : (y : Addressed)
           → IsSentBy (made start) e.host stood (step_after start e.host (old e.host) e).effects.sends y
@@ -391,4 +296,4 @@ pub ends_own : (start : Start) (all : ℕ → List HostStep) (es : List HostStep
 ends_own start all [] some moment = λ i j. tt
 ends_own start all (e ∷ es) some moment =
     let less = moment_less start all e es moment in
-    own_next start all e es moment (epochs_stand start all es some less) (ends_own start all es some less)
+    own_next start all e es moment (ends_own start all es some less)

@@ -1,7 +1,4 @@
-pub mod CloseClient
-pub mod CloseMembership
 pub mod CloseNone
-pub mod CloseRows
 pub mod ClosersHear
 pub mod ClosersOthers
 pub mod Closings
@@ -23,7 +20,6 @@ pub mod DurableTells
 pub mod DurableWords
 pub mod EndedKeeps
 pub mod EndsOwn
-pub mod EpochsSay
 pub mod Forgotten
 pub mod HeardMasters
 pub mod HeardMembers
@@ -33,11 +29,8 @@ pub mod MasterLates
 pub mod MasterOwes
 pub mod OverAll
 pub mod OverDone
-pub mod OverMaster
 pub mod OverMasters
-pub mod OverMembership
 pub mod OverNone
-pub mod OverRows
 pub mod OverSeen
 pub mod OverSends
 pub mod OverStands

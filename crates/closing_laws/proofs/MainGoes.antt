@@ -38,8 +38,7 @@ use Rattle.view_laws.proofs.EraShapes.{shape_stays}
 use Rattle.view_laws.specs.Runs.{view_after}
 use Rattle.moment_laws.specs.Parts.{IsPassed}
 use Rattle.moment_laws.proofs.PartSteps.{not_barred}
-use Rattle.closing_laws.proofs.CloseMembership.{membership_closes_none, membership_installs_close_none}
-use Rattle.closing_laws.proofs.CloseNone.{IsNoClosing}
+use Rattle.closing_laws.proofs.CloseNone.{IsNoClosing, membership_closes_none, membership_installs_close_none}
 
 abbrev pub AreNoClosings : List Mark → Type 0
 AreNoClosings marks = Each IsNoClosing marks

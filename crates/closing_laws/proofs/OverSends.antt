@@ -1,18 +1,16 @@
 -- What a host that coordinates sends of the end of a takeover comes from its takeover.
-use Rattle.std.proofs.Common.{◌≡◌, ◌⊎◌, ◌++◌, ◌∙◌, ℕ, List, [], ◌∷◌, inl, inr, refl, sym, ap, subst}
+use Rattle.std.proofs.Common.{◌≡◌, ◌⊎◌, ◌++◌, ◌∙◌, ℕ, Bool, false, List, [], ◌∷◌, inl, inr, refl, sym, ap, subst}
 use Rattle.std.proofs.lemmas.Bool.{true≢false}
 use Rattle.run_theory.specs.Lists.{Each}
 use Rattle.run_theory.proofs.Pasts.{each_append, each_map}
 use Rattle.sig_core.specs.declared.outs.Outgoing.{Outgoing}
 use Rattle.sig_core.specs.declared.place.BlockId.{BlockId}
 use Rattle.sig_core.specs.declared.place.BlockId.TheVariants as block
-use Rattle.sig_core.specs.declared.signal.Body.TheVariants.{Membership, Takeover}
+use Rattle.sig_core.specs.declared.signal.Body.TheVariants.{Takeover}
 use Rattle.sig_core.specs.declared.signal.Signal.{Signal}
-use Rattle.sig_core.specs.declared.signal.membership.MembershipSignal.TheVariants.{FenceConf}
 use Rattle.sig_core.specs.declared.signal.takeover.TakeoverSignal.TheVariants.{TakeoverEnd}
 use Rattle.sig_core.specs.declared.view.View.{View}
 use Rattle.dih_node.specs.Orders as epochs
-use Rattle.tc_views.specs.Coordinator.{coordinator_row}
 use Rattle.tc_views.specs.Views as coordinators
 use Rattle.takeover_block.specs.Takeover.{takeover_row}
 use Rattle.node_views.specs.declared.parts.Parts.TheVariants as part
@@ -22,13 +20,15 @@ use Rattle.world_core.specs.Start.{Start}
 use Rattle.world_core.specs.Steps.{HostStep}
 use Rattle.world_views.specs.Machine.{step_after}
 use Rattle.view_laws.specs.Runs.{view_after}
-use Rattle.view_laws.proofs.KindsCoordinator.{AreOfCoordinator, coordinator_installs_kinds, coordinator_kinds}
-use Rattle.view_laws.proofs.KindsSent.{AreOf, each_of_kinds}
-use Rattle.view_laws.proofs.KindsTurns.{is_of_coordinator}
 use Rattle.moment_laws.specs.Parts.{IsPassed}
 use Rattle.moment_laws.specs.PartSteps.{PartEnters, PartTakes, handles, ignores, installs, remains, tc_kind}
 use Rattle.request_laws.proofs.RouteSteps.{TcStep}
-use Rattle.closing_laws.proofs.EpochsSay.{IsOfEpochs, epochs_install_send, epochs_send, is_of_epochs}
+use Rattle.dih_node.specs.Words.{is_dih_word}
+use Rattle.dih_node.proofs.Walk.{dih_words}
+use Rattle.sig_core.specs.declared.signal.Body.{Body}
+use Rattle.step_forms.specs.Does.{IsWord}
+use Rattle.tc_views.specs.Words.{is_coordinator_word}
+use Rattle.tc_views.proofs.Walk.{coordinator_words}
 
 module _ (start : Start) (h : ℕ) (log : List HostStep) (e : HostStep) (step : TcStep start h log e) (P : Type 0) where
   abbrev x : Signal
@@ -49,30 +49,18 @@ module _ (start : Start) (h : ℕ) (log : List HostStep) (e : HostStep) (step : 
       → Each (λ (o : Outgoing). o.body ≡ Takeover TakeoverEnd → P)
       (takeover_row step.does.between.takeover e.step.taken).effects.sends)
     where
-      of_coordinator : (sends : List Outgoing) → AreOf is_of_coordinator sends → Each Over sends
-      of_coordinator sends all =
-          each_of_kinds is_of_coordinator (λ body. body ≡ Takeover TakeoverEnd → P) sends
-          (λ body kind is. absurd (true≢false (sym kind ∙ ap is_of_coordinator is))) all
-
-      of_epochs : (sends : List Outgoing) → Each IsOfEpochs sends → Each Over sends
-      of_epochs sends all =
-          each_map IsOfEpochs Over sends (λ o kind is. absurd (true≢false (sym kind ∙ ap is_of_epochs is))) all
+      of_words : (words : Body → Bool) → words (Takeover TakeoverEnd) ≡ false → (sends : List Outgoing)
+          → Each (IsWord words) sends → Each Over sends
+      of_words words none sends all =
+          each_map (IsWord words) Over sends (λ o word is. absurd (true≢false (sym word ∙ ap words is ∙ none))) all
 
       row_over : IsPassed start.shape (part.Tc between) view x → (b : BlockId) → x.to.block ≡ b
           → Each Over (tc_row between b x).effects.sends
       unfolding tc_row
       row_over passed block.Takeover to = takeover passed to
-      row_over passed block.Tc to = either (coordinator_kinds between.coordinator x)
-        where
-          sends : List Outgoing
-          sends = (coordinator_row between.coordinator x).effects.sends
-
-          either : AreOfCoordinator between.coordinator.tc.node x.body sends → Each Over sends
-          either (inl kinds) = of_coordinator sends kinds
-          either (inr confirms) =
-              subst (Each Over) (sym confirms.1)
-              ((λ is. absurd (let differ : Membership FenceConf ≡ Takeover TakeoverEnd = is in cc (differ))), tt)
-      row_over passed block.Dih to = of_epochs _ (epochs_send between.dih x)
+      row_over passed block.Tc to =
+          of_words is_coordinator_word refl _ (coordinator_words.takes between.coordinator x).0
+      row_over passed block.Dih to = of_words is_dih_word refl _ (dih_words.0 between.dih x).0
       row_over passed _ to = tt
 
       front_over : PartEnters tc_kind step.own (view_after start h log) x between view step.does.front
@@ -82,8 +70,8 @@ module _ (start : Start) (h : ℕ) (log : List HostStep) (e : HostStep) (step : 
           subst (Each Over) (sym is)
           (each_append Over (coordinators.install_row step.own.coordinator x.view).effects.sends
           (epochs.install_row step.own.dih x.view.number).effects.sends
-          (of_coordinator _ (coordinator_installs_kinds step.own.coordinator x.view))
-          (of_epochs _ (epochs_install_send step.own.dih x.view.number)))
+          (of_words is_coordinator_word refl _ (coordinator_words.installs step.own.coordinator x.view).0)
+          (of_words is_dih_word refl _ (dih_words.1 step.own.dih x.view.number).0))
 
       rest_over : PartTakes tc_kind start.shape between view x step.does.own step.does.rest
           → Each Over step.does.rest

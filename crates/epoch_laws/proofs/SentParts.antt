@@ -22,8 +22,7 @@ use Rattle.node_views.specs.declared.shell_part.ShellPart.{ShellPart}
 use Rattle.tc_views.specs.Views as coordinator
 use Rattle.world_views.specs.Machine.{step_by}
 use Rattle.epoch_laws.proofs.DihSends.{IsOwn, dih_installs_own}
-use Rattle.epoch_laws.proofs.SentArbiter.{arbiter_none}
-use Rattle.epoch_laws.proofs.SentKinds.{client_none, coordinator_installs_none}
+use Rattle.epoch_laws.proofs.SentKinds.{arbiter_none, client_none, coordinator_installs_none}
 use Rattle.epoch_laws.proofs.SentMembership.{membership_installs_none}
 use Rattle.epoch_laws.proofs.SentNone.{AreNoOrders, IsNoOrder, SendsNoOrder, is_order}
 use Rattle.epoch_laws.proofs.SentRows.{IsOfRows, SendsOfRows, replica_tell}
