@@ -61,7 +61,8 @@ use Rattle.outcome_laws.proofs.OnceTakeover.{takeover_none}
 use Rattle.outcome_laws.proofs.RowsMarks.{rows_mark_none}
 use Rattle.outcome_laws.proofs.RowsNone.{IsNoOutcome}
 use Rattle.outcome_laws.proofs.TakeoverMarks.{takeover_marks_nothing}
-use Rattle.outcome_laws.proofs.TcCounts.{coordinator_installs_own, coordinator_of_installed, coordinator_of_stays, coordinator_own}
+use Rattle.outcome_laws.proofs.TcCounts.{coordinator_installs_own, coordinator_of_installed, coordinator_of_stays}
+use Rattle.outcome_laws.proofs.TcCounts.{coordinator_own}
 use Rattle.outcome_laws.proofs.TcMarks.{coordinator_installs_mark, coordinator_marks}
 
 -- whoever is asked for is so, at the place that is asked; and whoever is decided is so
