@@ -1,5 +1,6 @@
 -- How often the client's side reports a transaction, and asks for its commit.
-use Rattle.std.proofs.Common.{◌≡◌, ◌⊎◌, ◌+◌, ◌≤◌, ◌++◌, ◌&&◌, ℕ, Bool, true, false, cond, not, List, [], ◌∷◌, refl, ap, ◌∙◌, inl, inr, arith}
+use Rattle.std.proofs.Common.{◌≡◌, ◌⊎◌, ◌+◌, ◌≤◌, ◌++◌, ◌&&◌, ℕ, Bool, true, false, cond, not, List, [], ◌∷◌, refl, ap}
+use Rattle.std.proofs.Common.{◌∙◌, inl, inr, arith}
 use Rattle.std.specs.Prelude.{Some, remove, slice_set}
 use Rattle.std.specs.List.{count_by}
 use Rattle.std.proofs.lemmas.List.Sums.{sum_by-append, sum_by-cons}
@@ -16,8 +17,10 @@ use Rattle.sig_core.specs.declared.outs.Outgoing.{Outgoing}
 use Rattle.sig_core.specs.declared.signal.Body.{Body}
 use Rattle.sig_core.specs.declared.signal.Body.TheVariants.{Host, Client, Epoch}
 use Rattle.sig_core.specs.declared.signal.Signal.{Signal}
-use Rattle.sig_core.specs.declared.signal.client.ClientSignal.TheVariants.{TcBeginReq, TcKeyReq, TcCommitReq, TcCommitAck}
-use Rattle.sig_core.specs.declared.signal.client.ClientSignal.TheVariants.{TcRollbackReq, TcRollbackRep, TcWaitReq, DumpReq}
+use Rattle.sig_core.specs.declared.signal.client.ClientSignal.TheVariants.{TcBeginReq, TcKeyReq, TcCommitReq}
+use Rattle.sig_core.specs.declared.signal.client.ClientSignal.TheVariants.{TcCommitAck}
+use Rattle.sig_core.specs.declared.signal.client.ClientSignal.TheVariants.{TcRollbackReq, TcRollbackRep, TcWaitReq}
+use Rattle.sig_core.specs.declared.signal.client.ClientSignal.TheVariants.{DumpReq}
 use Rattle.sig_core.specs.declared.signal.epoch.EpochSignal.TheVariants.{GcpReq, MicroReq}
 use Rattle.sig_core.specs.declared.view.View.{View}
 use Rattle.sig_core.specs.Place.{coordinator_of}
@@ -29,7 +32,8 @@ use Rattle.api_block.specs.Opened.{asked_for, has_tx, is_tx}
 use Rattle.api_views.specs.Client.{client_row}
 use Rattle.api_views.specs.Members.{noted}
 use Rattle.api_views.specs.State.{ClientState}
-use Rattle.outcome_laws.specs.Counts.{count_open, count_sent, count_unwished, is_begin, is_committing, is_report, is_unwished, is_wish, one_if}
+use Rattle.outcome_laws.specs.Counts.{count_open, count_sent, count_unwished, is_begin, is_committing, is_report}
+use Rattle.outcome_laws.specs.Counts.{is_unwished, is_wish, one_if}
 use Rattle.outcome_laws.proofs.ClientTurns.{ArePlain, ClientForms, client_turns, is_plain}
 
 -- the mark reports the transaction aborted since the cluster is down

@@ -1,15 +1,12 @@
 -- What the client's side does to the transactions that it has opened, with what it sends and marks: what is so of each
 -- form of that is so of each of its steps.
-use Rattle.std.proofs.Common.{◌≡◌, ◌==◌, ◌&&◌, ◌||◌, ◌+◌, ◌++◌, ℕ, Bool, true, false, List, [], ◌∷◌, refl, ap, subst, sym, ◌∙◌}
-use Rattle.std.specs.Prelude.{Option, None, Some, if◌then◌else◌, is_some, not, remove, slice_set}
+use Rattle.std.proofs.Common.{◌≡◌, ◌==◌, ◌++◌, ℕ, Bool, true, false, List, [], ◌∷◌, refl, ap, sym}
+use Rattle.std.specs.Prelude.{Option, None, Some, remove, slice_set}
 use Rattle.run_theory.specs.Lists.{Each}
 use Rattle.run_theory.proofs.EachSent.{each_mapped}
 use Rattle.run_theory.proofs.Focus.{IsFocus}
-use Rattle.run_theory.proofs.Pasts.{each_append}
 use Rattle.sig_core.specs.declared.mark.Mark.{Mark}
 use Rattle.sig_core.specs.declared.mark.Mark.TheVariants.{Reported}
-use Rattle.sig_core.specs.declared.member.HostId.{HostId}
-use Rattle.sig_core.specs.declared.member.Member.{Member}
 use Rattle.sig_core.specs.declared.member.TxId.{TxId}
 use Rattle.sig_core.specs.declared.op.Op.{Op}
 use Rattle.sig_core.specs.declared.outcome.AbortCause.{AbortCause}
@@ -17,54 +14,44 @@ use Rattle.sig_core.specs.declared.outcome.AbortCause.TheVariants.{Down, NodeFai
 use Rattle.sig_core.specs.declared.outcome.Outcome.TheVariants as outcome
 use Rattle.sig_core.specs.declared.outcome.StopCause.{StopCause}
 use Rattle.sig_core.specs.declared.outs.Outgoing.{Outgoing}
-use Rattle.sig_core.specs.declared.place.BlockId.{BlockId}
 use Rattle.sig_core.specs.declared.place.BlockId.TheVariants.{Lqh, Qmgr}
-use Rattle.sig_core.specs.declared.place.Place.{Place}
-use Rattle.sig_core.specs.declared.reply.Waiting.{Waiting}
 use Rattle.sig_core.specs.declared.request.ApiReq.{ApiReq}
-use Rattle.sig_core.specs.declared.request.ApiReq.TheVariants as request
 use Rattle.sig_core.specs.declared.signal.Body.{Body}
 use Rattle.sig_core.specs.declared.signal.Body.TheVariants.{Host, Client, Epoch}
 use Rattle.sig_core.specs.declared.signal.Signal.{Signal}
-use Rattle.sig_core.specs.declared.signal.client.ClientSignal.TheVariants.{TcBeginReq, TcBeginConf, TcKeyReq, TcCommitReq, TcCommitConf, TcCommitAck}
-use Rattle.sig_core.specs.declared.signal.client.ClientSignal.TheVariants.{TcRollbackReq, TcRollbackRep, TcKeyFailConf, TcKeyFailRef, TcWaitReq}
-use Rattle.sig_core.specs.declared.signal.client.ClientSignal.TheVariants.{DumpReq, NfCompleteRep, ViewRep}
-use Rattle.sig_core.specs.declared.signal.epoch.EpochSignal.TheVariants.{GcpReq, GcpRep, MicroReq, MicroRep}
-use Rattle.sig_core.specs.declared.signal.host.HostSignal.TheVariants.{Closed, Continue}
-use Rattle.sig_core.specs.declared.signal.host.Work.{Work}
-use Rattle.sig_core.specs.declared.signal.host.Work.TheVariants.{Report, Request, Transaction}
+use Rattle.sig_core.specs.declared.signal.client.ClientSignal.TheVariants.{TcBeginReq, TcBeginConf, TcKeyReq}
+use Rattle.sig_core.specs.declared.signal.client.ClientSignal.TheVariants.{TcCommitReq, TcCommitConf, TcCommitAck}
+use Rattle.sig_core.specs.declared.signal.client.ClientSignal.TheVariants.{TcRollbackReq, TcRollbackRep, TcKeyFailConf}
+use Rattle.sig_core.specs.declared.signal.client.ClientSignal.TheVariants.{TcWaitReq, DumpReq}
+use Rattle.sig_core.specs.declared.signal.epoch.EpochSignal.TheVariants.{GcpReq, MicroReq}
+use Rattle.sig_core.specs.declared.signal.host.HostSignal.TheVariants.{Continue}
+use Rattle.sig_core.specs.declared.signal.host.Work.TheVariants.{Transaction}
 use Rattle.sig_core.specs.declared.view.View.{View}
-use Rattle.sig_core.specs.Place.{coordinator_of}
+use Rattle.sig_core.specs.Place.{checkpoints, coordinator_of}
 use Rattle.sig_core.specs.Step.{Step, stay, to_place}
-use Rattle.sig_core.proofs.TxLemmas.{same_tx-is}
 use Rattle.api_block.specs.declared.members.News.{News}
 use Rattle.api_block.specs.declared.members.News.TheVariants as news
 use Rattle.api_block.specs.declared.opened.Doing.{Doing}
 use Rattle.api_block.specs.declared.opened.Doing.TheVariants as doing
 use Rattle.api_block.specs.declared.opened.OpenTransaction.{OpenTransaction}
-use Rattle.api_block.specs.Api.{api_table, request_row}
 use Rattle.api_block.specs.Commands.{ticked_if}
 use Rattle.api_block.specs.Members.{everyone, news_body, telling, telling_all}
-use Rattle.api_block.specs.Opened.{answered, asked_for, begins, begins_at, begun, begun_operating, behind, committing, has_tx, is_beginning}
-use Rattle.api_block.specs.Opened.{is_named, is_tx, is_unanswered, operating, place_named}
-use Rattle.api_block.specs.Outcome.{abort_report_row, commit_report_row}
+use Rattle.api_block.specs.Opened.{answered, asked_for, begins, begins_at, begun, begun_operating, behind, committing}
+use Rattle.api_block.specs.Opened.{has_tx}
+use Rattle.api_block.specs.Opened.{is_named, operating}
 use Rattle.api_block.specs.State.{ApiState}
-use Rattle.api_block.specs.Views.{dump_node}
-use Rattle.api_block.proofs.ApiTurns.{ApiRequestForms, ApiSignalForms, api_turns, request_turns}
-use Rattle.api_block.proofs.WhereFound.{where_found, where_own}
+use Rattle.api_block.proofs.ApiTurns.{ApiRequestForms, ApiSignalForms}
+use Rattle.api_block.proofs.Walk.{own_is}
 use Rattle.api_views.specs.declared.closings.Closing.{Closing}
 use Rattle.api_views.specs.declared.closings.Closing.TheVariants.{Gcp, Micro}
-use Rattle.api_views.specs.declared.reports.Verdict.TheVariants.{NeverBegins, Ends}
-use Rattle.api_views.specs.Client.{asked_row, client_row, client_table, command_if, command_row, gone_row, is_known, up_row, vouched_table, work_table}
-use Rattle.api_views.specs.Closings.{anew, ask_at, asked_if, closed_if, closed_row, closing_row, is_asked, view_row}
-use Rattle.api_views.specs.Commands.{begin_if, begin_row, cut_by, cut_row, kill_if, kill_row, lone_by, lone_row, lowest, node_for, on_api, rows_if, rows_row, serves, show_row}
-use Rattle.api_views.specs.Members.{first_start, is_member, noted, president}
-use Rattle.api_views.specs.Pending.{client_pending_row, closing_left, obstacle, obstructed, obstructed_by, waits_by, waits_if}
-use Rattle.api_views.specs.Reports.{begun_verdict, broken_by, complete_row, coordinator_member, down_outcome, dump_breaks, ended_by, failed_by, failed_if, going_on, has_more, is_due}
-use Rattle.api_views.specs.Reports.{more_if, report_row, stop_row, stop_told_if, told_if, unasked, unasked_if, unbegun_if, verdict, verdict_by, with_stop}
-use Rattle.api_views.specs.Rounds.{all_rounds, four_rounds, is_live, round_effects, rounds_if, rounds_of, tick_row, ticked_if as last_ticked_if}
+use Rattle.api_views.specs.Client.{client_row}
+use Rattle.api_views.specs.Closings.{ask_of}
+use Rattle.api_views.specs.Members.{noted, president}
+use Rattle.api_views.specs.Reports.{down_outcome, going_on, more_if, unasked_if}
+use Rattle.api_views.specs.Rounds.{all_rounds, ticked_if as last_ticked_if}
 use Rattle.api_views.specs.State.{ClientState}
-use Rattle.api_views.specs.Stops.{is_down, is_sibling, is_told, runs, tc_stopped}
+use Rattle.api_views.proofs.Outcomes.{ClientOutcomes, client_outcomes, stopped_as}
+use Rattle.api_views.proofs.Walk.{anew_each, asking_each, more_each, rounds_each}
 use Rattle.outcome_laws.specs.Counts.{is_committing}
 
 -- a signal of the client's side that tells nothing of a transaction: all are that but the wish to commit
@@ -128,11 +115,6 @@ pub record ClientForms (opened : List OpenTransaction) (body : Body)
   pub loses : (p : OpenTransaction → Bool) (at : ℕ) (f : IsFocus p opened at) (tx : TxId) (sends : List Outgoing)
       → f.item.tx ≡ Some tx → ArePlain sends
       → R (remove opened at) sends (Reported tx outcome.Unknown ∷ [])
-
--- a transaction that is found by its number has it
-own_is : (tx : TxId) (own : Option TxId) → is_tx tx own ≡ true → own ≡ Some tx
-own_is tx None is = cc
-own_is tx (Some begun) is = ap (λ (u : TxId). Some u) (same_tx-is begun tx is)
 
 -- what the API tells all rows
 all_told : (told : News) (view : View) → ArePlain (telling_all told (everyone view))
@@ -199,325 +181,82 @@ module _ (a : ApiState) (body : Body) (R : List OpenTransaction → List Outgoin
     rests = λ void stray. api_rests;
   }
 
-  api_asked : (r : ApiReq) → ApiGoes (request_row a r)
-  api_asked r = request_turns a r ApiGoes (asked_forms r)
-
-  api_goes : ApiGoes (api_table a body)
-  api_goes = api_turns a (λ _. ApiGoes) body (λ r at. asked_forms r) told_forms
-
-  -- a takeover tells how a transaction ended
-  committed_late : (tx : TxId) (epoch : ℕ) → body ≡ Client (TcKeyFailConf tx epoch)
-      → ApiGoes (commit_report_row a tx epoch)
-  unfolding commit_report_row
-  committed_late tx epoch is =
-      where_found (has_tx tx) a.opened _ _ ApiGoes (λ none. forms.keeps _ (all_told (news.Committed tx) a.view))
-      (λ at f. forms.commits_late (has_tx tx) at f tx epoch _ (own_is tx f.item.tx f.passes) is
-      (all_told (news.Committed tx) a.view))
-
-  failed_late : (tx : TxId) (number : ℕ) → ApiGoes (abort_report_row a tx (NodeFail number))
-  unfolding abort_report_row
-  failed_late tx number =
-      where_found (has_tx tx) a.opened _ _ ApiGoes (λ none. api_rests)
-      (λ at f. forms.fails (has_tx tx) at f tx number [] (own_is tx f.item.tx f.passes) tt)
-
--- rounds of time
-rounds_plain : (s : ClientState) (block : BlockId) (node : ℕ) → ArePlain (rounds_of s block node)
-unfolding rounds_of
-rounds_plain s block node = by (record { node = node; block = block }) (is_live s node)
-  where
-    by : (to : Place) (b : Bool) → ArePlain (rounds_if to b)
-    by to true = (refl, tt)
-    by to false = tt
-
-four_plain : (s : ClientState) (block : BlockId) (node : ℕ) → ArePlain (four_rounds s block node)
-unfolding four_rounds
-four_plain s block node =
-    each_append IsPlain
-    ((rounds_of s block (node + 1) ++ rounds_of s block (node + 2)) ++ rounds_of s block (node + 3))
-    (rounds_of s block (node + 4))
-    (each_append IsPlain (rounds_of s block (node + 1) ++ rounds_of s block (node + 2)) (rounds_of s block (node + 3))
-    (each_append IsPlain (rounds_of s block (node + 1)) (rounds_of s block (node + 2)) (rounds_plain s block (node + 1))
-    (rounds_plain s block (node + 2))) (rounds_plain s block (node + 3)))
-    (rounds_plain s block (node + 4))
-
-all_plain : (s : ClientState) (block : BlockId) → ArePlain (all_rounds s block)
-all_plain s block =
-    each_append IsPlain (four_rounds s block 0) (four_rounds s block 4) (four_plain s block 0) (four_plain s block 4)
-
-ask_plain : (closing : Closing) (node : Option ℕ) → ArePlain (ask_at closing node)
-ask_plain closing None = tt
-ask_plain Gcp (Some node) = (refl, tt)
-ask_plain Micro (Some node) = (refl, tt)
-
-anew_plain : (o : Option Closing) (view : View) → ArePlain (anew o view)
-anew_plain None view = tt
-anew_plain (Some closing) view = ask_plain closing (president view)
+-- what the client's side sends beside that
+asks_plain : (closing : Closing) (node : ℕ) → IsPlain (to_place (checkpoints node) (ask_of closing))
+asks_plain Gcp node = refl
+asks_plain Micro node = refl
 
 more_plain : (b : Bool) → ArePlain (more_if b)
-more_plain true = (refl, tt)
-more_plain false = tt
+more_plain b = more_each IsPlain refl b
 
--- a stop opens and ends nothing
-stop_opened : (a : ApiState) (node : ℕ) (cause : StopCause) (b : Bool) → (stop_told_if a node cause b).opened ≡ a.opened
-stop_opened a node cause true = refl
-stop_opened a node cause false = refl
-
-unasked_opened : (s : ClientState) (b : Bool) → (unasked_if s b).api.opened ≡ s.api.opened
-unasked_opened s true = refl
-unasked_opened s false = refl
-
--- the client's side, at what it is asked and told
-module _ (s : ClientState) (body : Body) (R : List OpenTransaction → List Outgoing → List Mark → Type 0)
-    (forms : ClientForms s.api.opened body R) where
+module _ (s : ClientState) (x : Signal) (R : List OpenTransaction → List Outgoing → List Mark → Type 0)
+    (forms : ClientForms s.api.opened x.body R) where
   abbrev Goes : Step ClientState → Type 0
   Goes step = R step.state.api.opened step.effects.sends step.effects.marks
 
-  rests : Goes (stay s)
+  rests : R s.api.opened [] []
   rests = forms.keeps [] tt
 
-  -- commands
-  api_takes : (r : ApiReq) → Goes (on_api s r)
-  api_takes r = api_asked s.api body R forms r
+  goes_on : (b : Bool) → R s.api.opened (more_if b) []
+  goes_on b = forms.keeps (more_if b) (more_plain b)
 
-  begins_goes : (name : ℕ) (node : Option ℕ) → Goes (begin_row s name node)
-  unfolding begin_row
-  begins_goes name node = by (node_for s node) (is_some (place_named s.api (Some name)) || serves s (node_for s node))
+  turns : ClientOutcomes s x Goes
+  turns = record {
+    takes = λ r is. asked_forms s.api x.body R forms r;
+    begins = λ name node at is fits. asked_forms s.api x.body R forms _;
+    begins_alone = λ op node is least. forms.opens None node (Some op) _ (refl, tt);
+    looks = λ r is. asked_forms s.api x.body R forms r;
+    hears = λ known. told_forms s.api x.body R forms;
+    turns_down = λ r name why is. rests;
+    kills = λ node is live. forms.keeps _ (refl, tt);
+    cuts = λ one other is. forms.keeps _ (refl, (refl, (refl, tt)));
+    ticks = λ round of last is e. ticks of last;
+    shows = λ is. rests;
+    obstructs = λ name on is e. rests;
+    closes = λ closing none. forms.keeps _ (asking_each IsPlain asks_plain closing (president s.api.view));
+    closed = λ closing epoch is. rests;
+    asks_anew = λ is. forms.keeps _ (anew_each IsPlain asks_plain s.closing x.view);
+    breaks = λ node is. goes_on _;
+    never_begins = λ at f none. forms.drops _ at f _ (more_plain _);
+    goes_down = λ at f tx own down. fallen at _ f tx own _ f.item.doing refl (more_plain _);
+    fails = λ at f tx view own over out. forms.fails _ at f tx view.number _ own (more_plain _);
+    rests_on = goes_on _;
+    stops = λ cause told down is. stops cause told down;
+    completes = λ is known. goes_on _;
+    commits_late = λ tx epoch at f is known.
+        forms.commits_late _ at f tx epoch _ (own_is tx f.item.tx f.passes) is
+        (all_told (news.Committed tx) s.api.view);
+    acknowledges_late = λ tx epoch is known none. forms.keeps _ (all_told (news.Committed tx) s.api.view);
+    fails_late = λ tx at f is known. forms.fails _ at f tx x.view.number [] (own_is tx f.item.tx f.passes) tt;
+    drops = λ name tx at f is gone. forms.drops _ at f [] tt;
+    rests = rests;
+  }
     where
-      by : (at : ℕ) (b : Bool) → Goes (begin_if s name at b)
-      by at true = api_takes (request.Begin name (Some at))
-      by at false = rests
-
-  lone_goes : (op : Op) → Goes (lone_row s op)
-  unfolding lone_row
-  lone_goes op = by (lowest s)
-    where
-      by : (o : Option ℕ) → Goes (lone_by s op o)
-      by None = rests
-      by (Some node) = forms.opens None node (Some op) _ (refl, tt)
-
-  rows_goes : (r : ApiReq) (node : ℕ) → Goes (rows_row s r node)
-  unfolding rows_row
-  rows_goes r node = by (serves s node)
-    where
-      by : (b : Bool) → Goes (rows_if s r node b)
-      by true = api_takes r
-      by false = rests
-
-  kill_goes : (node : ℕ) → Goes (kill_row s node)
-  unfolding kill_row
-  kill_goes node = by (runs s node)
-    where
-      by : (b : Bool) → Goes (kill_if s node b)
-      by true = forms.keeps _ (refl, tt)
-      by false = rests
-
-  cut_goes : (one other : ℕ) → Goes (cut_row s one other)
-  unfolding cut_row
-  cut_goes one other = by (runs s one) (runs s other && not (one == other))
-    where
-      by : (b c : Bool) → Goes (cut_by s one other b c)
-      by false c = rests
-      by true false = rests
-      by true true = forms.keeps _ (refl, (refl, (refl, tt)))
-
-  tick_goes : (round of : ℕ) → Goes (tick_row s round of)
-  unfolding tick_row round_effects
-  tick_goes round of = by (round == of)
-    where
-      rounds : (t : ClientState) → ArePlain (all_rounds t Lqh ++ all_rounds t Qmgr)
-      rounds t = each_append IsPlain (all_rounds t Lqh) (all_rounds t Qmgr) (all_plain t Lqh) (all_plain t Qmgr)
-
-      by : (last : Bool) → R (last_ticked_if s of last).api.opened
+      ticks : (of : ℕ) (last : Bool) → R (last_ticked_if s of last).api.opened
           (all_rounds (last_ticked_if s of last) Lqh ++ all_rounds (last_ticked_if s of last) Qmgr) []
-      by true = forms.keeps _ (rounds (last_ticked_if s of true))
-      by false = forms.keeps _ (rounds (last_ticked_if s of false))
+      ticks of true = forms.keeps _ (rounds_each IsPlain _ (λ node. refl) (λ node. refl))
+      ticks of false = forms.keeps _ (rounds_each IsPlain _ (λ node. refl) (λ node. refl))
 
-  -- closings of epochs
-  closing_goes : (closing : Closing) → Goes (closing_row s closing)
-  unfolding closing_row
-  closing_goes closing = by (is_some s.closing)
-    where
-      by : (b : Bool) → Goes (asked_if s closing b)
-      by true = rests
-      by false = forms.keeps _ (ask_plain closing (president s.api.view))
+      fallen : (at : ℕ) (p : OpenTransaction → Bool) (f : IsFocus p s.api.opened at) (tx : TxId) → f.item.tx ≡ Some tx
+          → (sends : List Outgoing) (now : Doing) → f.item.doing ≡ now → ArePlain sends
+          → R (remove s.api.opened at) sends (Reported tx (down_outcome now) ∷ [])
+      fallen at p f tx own sends doing.Committing e plain = forms.loses p at f tx sends own plain
+      fallen at p f tx own sends doing.Ready e plain = forms.goes_down p at f tx sends own (ap is_committing e) plain
+      fallen at p f tx own sends doing.Operating e plain =
+          forms.goes_down p at f tx sends own (ap is_committing e) plain
+      fallen at p f tx own sends (doing.Beginning op) e plain =
+          forms.goes_down p at f tx sends own (ap is_committing e) plain
 
-  closed_goes : (closing : Closing) (epoch : ℕ) → Goes (closed_row s closing epoch)
-  unfolding closed_row
-  closed_goes closing epoch = by (is_asked closing s.closing)
-    where
-      by : (b : Bool) → Goes (stay (closed_if s closing epoch b))
-      by true = rests
-      by false = rests
-
-  view_goes : (view : View) → Goes (view_row s view)
-  unfolding view_row
-  view_goes view = forms.keeps _ (anew_plain s.closing view)
-
-  -- whatever command it is
-  up_goes : (r : ApiReq) → Goes (up_row s r)
-  unfolding show_row
-  up_goes (request.Begin name node) = begins_goes name node
-  up_goes (request.Operate None op) = lone_goes op
-  up_goes (request.Tick round of) = tick_goes round of
-  up_goes (request.Rows node) = rows_goes (request.Rows node) node
-  up_goes (request.Digest node) = rows_goes (request.Digest node) node
-  up_goes (request.Kill node) = kill_goes node
-  up_goes (request.Cut one other) = cut_goes one other
-  up_goes request.Gcp = closing_goes Gcp
-  up_goes request.Micro = closing_goes Micro
-  up_goes request.View = rests
-  up_goes r = api_takes r
-
-  command_goes : (r : ApiReq) → Goes (command_row s r)
-  unfolding command_row
-  command_goes r = by (is_down s)
-    where
-      by : (b : Bool) → Goes (command_if s r b)
-      by true = rests
-      by false = up_goes r
-
-  -- what it waits for
-  obstructed_goes : (name : Option ℕ) → Goes (obstructed s name)
-  obstructed_goes name = by (obstacle s)
-    where
-      by : (o : Option Waiting) → Goes (obstructed_by s name o)
-      by None = rests
-      by (Some on) = rests
-
-  waits_goes : (name : Option ℕ) (b : Bool) (ahead : Option TxId) → Goes (waits_by s name b ahead)
-  waits_goes name true None = obstructed_goes name
-  waits_goes name true (Some ahead) = api_asked s.api body R forms request.Pending
-  waits_goes name false ahead = api_asked s.api body R forms request.Pending
-
-  pending_goes : Goes (client_pending_row s)
-  unfolding client_pending_row
-  pending_goes = by (closing_left s)
-    where
-      by : (b : Bool) → Goes (waits_if s b)
-      by true = obstructed_goes None
-      by false =
-          where_own s.api.opened (stay s) (λ at t. waits_by s t.name (is_unanswered t.doing) t.ahead) s.api.own Goes
-          rests (λ p at f. waits_goes f.item.name (is_unanswered f.item.doing) f.item.ahead)
-
-  asked_goes : (r : ApiReq) → Goes (asked_row s r)
-  unfolding asked_row
-  asked_goes request.Waits = api_asked s.api body R forms request.Waits
-  asked_goes request.Pending = pending_goes
-  asked_goes (request.Batch lines) = api_takes (request.Batch lines)
-  asked_goes request.Lcp = api_takes request.Lcp
-  asked_goes (request.Start node) = api_takes (request.Start node)
-  asked_goes request.Crash = api_takes request.Crash
-  asked_goes request.Restart = api_takes request.Restart
-  asked_goes r = command_goes r
-
-  -- what gets no answer any more
-  more : (t : ClientState) → ArePlain (more_if (has_more t))
-  more t = more_plain (has_more t)
-
-  rests_on : Goes (going_on (stay s))
-  rests_on = forms.keeps _ (more s)
-
-  ended_goes : (p : OpenTransaction → Bool) (at : ℕ) (f : IsFocus p s.api.opened at) (does : Doing) (tx : Option TxId)
-      → f.item.doing ≡ does → f.item.tx ≡ tx
-      → Goes (going_on (ended_by s at f.item.name f.item.node (verdict_by s f.item.node does tx)))
-  ended_goes p at f does None d own = by (is_beginning does)
-    where
-      on : (b : Bool) → Goes (going_on (ended_by s at f.item.name f.item.node (if b then Some NeverBegins else None)))
-      on true = forms.drops p at f _ (more_plain _)
-      on false = rests_on
-
-      by : (b : Bool) → Goes (going_on (ended_by s at f.item.name f.item.node (unbegun_if s f.item.node b)))
-      by true = on (tc_stopped s.stops (first_start f.item.node))
-      by false = rests_on
-  ended_goes p at f does (Some tx) d own = by (is_down s)
-    where
-      down : (now : Doing) → f.item.doing ≡ now
-          → Goes (going_on (ended_by s at f.item.name f.item.node (Some (Ends tx (down_outcome now)))))
-      down doing.Committing e = forms.loses p at f tx _ own (more_plain _)
-      down doing.Ready e = forms.goes_down p at f tx _ own (ap is_committing e) (more_plain _)
-      down doing.Operating e = forms.goes_down p at f tx _ own (ap is_committing e) (more_plain _)
-      down (doing.Beginning op) e = forms.goes_down p at f tx _ own (ap is_committing e) (more_plain _)
-
-      member : (view : View) (b : Bool)
-          → Goes (going_on (ended_by s at f.item.name f.item.node (failed_if tx view b)))
-      member view true = rests_on
-      member view false = forms.fails p at f tx view.number _ own (more_plain _)
-
-      over : (o : Option View) → Goes (going_on (ended_by s at f.item.name f.item.node (failed_by tx o)))
-      over None = rests_on
-      over (Some view) = member view (is_member view (coordinator_member tx))
-
-      by : (b : Bool) → Goes (going_on (ended_by s at f.item.name f.item.node (begun_verdict s tx does b)))
-      by true = down does d
-      by false = over s.taken_over
-
-  reports_go : Goes (report_row s)
-  unfolding report_row verdict
-  reports_go = by (dump_breaks s)
-    where
-      broken : (o : Option ℕ) → Goes (going_on (stay (broken_by s o)))
-      broken None = rests_on
-      broken (Some node) = forms.keeps _ (more_plain _)
-
-      by : (b : Bool) → Goes (going_on (told_if s b))
-      by true = broken (dump_node s.api)
-      by false =
-          where_found (is_due s) s.api.opened (stay s) (λ at t. ended_by s at t.name t.node (verdict s t))
-          (λ step. Goes (going_on step)) (λ none. rests_on)
-          (λ at f. ended_goes (is_due s) at f f.item.doing f.item.tx refl refl)
-
-  -- signals of who may be gone
-  gone_goes : (name : Option ℕ) (tx : TxId) → Goes (stay (gone_row s name tx))
-  unfolding gone_row
-  gone_goes name tx =
-      where_found (begins_at name tx.tc) s.api.opened s _ (λ after. Goes (stay after)) (λ none. rests)
-      (λ at f. forms.drops (begins_at name tx.tc) at f [] tt)
-
-  complete_goes : (view : View) → Goes (complete_row s view)
-  unfolding complete_row
-  complete_goes view = forms.keeps _ (more_plain _)
-
-  stop_goes : (member : Member) (host : HostId) (cause : StopCause) → Goes (stop_row s member host cause)
-  unfolding stop_row
-  stop_goes member host cause =
-      let same = unasked_opened (with_stop s member host cause) (is_down (with_stop s member host cause))
-      ∙ stop_opened s.api member.node cause (is_sibling cause || is_told s.stops member) in
-      subst (λ opened. R opened (more_if (has_more (unasked (with_stop s member host cause)))) []) (sym same)
-      (forms.keeps _ (more_plain _))
-
--- at any signal
-module _ (s : ClientState) (x : Signal) (R : List OpenTransaction → List Outgoing → List Mark → Type 0)
-    (forms : ClientForms s.api.opened x.body R) where
-  vouched_goes : (body : Body) (b : Bool) → x.body ≡ body → Goes s x.body R forms (vouched_table s x body b)
-  vouched_goes (Client (TcBeginConf name tx)) false is = gone_goes s x.body R forms name tx
-  vouched_goes (Client (TcKeyFailConf tx epoch)) true is = committed_late s.api x.body R forms tx epoch is
-  vouched_goes (Client (TcKeyFailRef tx)) true is = failed_late s.api x.body R forms tx x.view.number
-  vouched_goes (Client NfCompleteRep) true is = complete_goes s x.body R forms x.view
-  vouched_goes body true is = api_goes s.api x.body R forms
-  vouched_goes body false is = rests s x.body R forms
-
-  work_goes : (work : Work) (at : ℕ) → Goes s x.body R forms (work_table s x work at)
-  work_goes (Request r) at = asked_goes s x.body R forms r
-  work_goes Report at = reports_go s x.body R forms
-  work_goes work at = api_goes s.api x.body R forms
-
-  table_goes : (body : Body) → Goes s x.body R forms (client_table s x body)
-  table_goes (Host (Continue work at)) = work_goes work at
-  table_goes (Host (Closed cause)) = stop_goes s x.body R forms x.member x.from cause
-  table_goes (Client ViewRep) = view_goes s x.body R forms x.view
-  table_goes (Epoch (GcpRep epoch)) = closed_goes s x.body R forms Gcp epoch
-  table_goes (Epoch (MicroRep epoch)) = closed_goes s x.body R forms Micro epoch
-  table_goes (Client (TcBeginConf name tx)) = vouched_goes x.body (is_known s x) refl
-  table_goes (Client (TcCommitConf tx epoch)) = vouched_goes x.body (is_known s x) refl
-  table_goes (Client (TcRollbackRep tx cause)) = vouched_goes x.body (is_known s x) refl
-  table_goes (Client (TcKeyFailConf tx epoch)) = vouched_goes x.body (is_known s x) refl
-  table_goes (Client (TcKeyFailRef tx)) = vouched_goes x.body (is_known s x) refl
-  table_goes (Client NfCompleteRep) = vouched_goes x.body (is_known s x) refl
-  table_goes body = api_goes s.api x.body R forms
+      stops : (cause : StopCause) (told down : Bool)
+          → Goes (going_on (stay (unasked_if (stopped_as s x cause told) down)))
+      stops cause true true = goes_on _
+      stops cause true false = goes_on _
+      stops cause false true = goes_on _
+      stops cause false false = goes_on _
 
 -- whatever the client's side takes
 pub client_turns : (s : ClientState) (x : Signal) (R : List OpenTransaction → List Outgoing → List Mark → Type 0)
     → ClientForms s.api.opened x.body R
     → R (client_row s x).state.api.opened (client_row s x).effects.sends (client_row s x).effects.marks
 unfolding noted
-client_turns s x R forms = table_goes (noted s x.view) x R forms x.body
+client_turns s x R forms = client_outcomes s x _ (turns (noted s x.view) x R forms)

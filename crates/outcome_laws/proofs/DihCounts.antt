@@ -1,5 +1,6 @@
 -- The epochs of a node decide a transaction for each request: one that they hold, or that comes.
-use Rattle.std.proofs.Common.{◌≡◌, ◌∙◌, ◌∷◌, ◌++◌, ◌≤◌, ◌+◌, ℕ, zero, suc, Bool, true, false, cond, List, [], ap, arith, inl, inr, refl, sym}
+use Rattle.std.proofs.Common.{◌≡◌, ◌∙◌, ◌∷◌, ◌++◌, ◌≤◌, ◌+◌, ℕ, zero, suc, Bool, true, false, cond, List, [], ap, arith}
+use Rattle.std.proofs.Common.{inl, inr, refl, sym}
 use Rattle.std.proofs.lemmas.List.Sums.{sum_by-cons, sum_by_push}
 use Rattle.std.specs.List.{count_by}
 use Rattle.std.specs.Prelude.{Some, remove, slice_get}

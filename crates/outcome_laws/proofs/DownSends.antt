@@ -1,5 +1,5 @@
 -- Signals that don't tell that a transaction was aborted since the cluster is down.
-use Rattle.std.proofs.Common.{◌≡◌, true, false, List}
+use Rattle.std.proofs.Common.{◌≡◌, false, List}
 use Rattle.run_theory.specs.Lists.{Each}
 use Rattle.run_theory.proofs.Pasts.{each_map}
 use Rattle.sig_core.specs.declared.outs.Outgoing.{Outgoing}
@@ -9,7 +9,6 @@ use Rattle.sig_core.specs.declared.signal.chain.ChainSignal.TheVariants.{LqhKeyR
 use Rattle.sig_core.specs.declared.signal.client.ClientSignal.TheVariants.{TcRollbackRep}
 use Rattle.sig_core.specs.Step.{Step}
 use Rattle.outcome_laws.specs.Down.{TellsNoDown}
-use Rattle.outcome_laws.proofs.ClientTurns.{ArePlain, IsPlain, is_plain}
 use Rattle.outcome_laws.proofs.DihSilent.{AreSilent, IsSilent, is_telling}
 
 abbrev pub IsNoDown : Outgoing → Type 0
@@ -30,12 +29,3 @@ silent_none body silent = tt
 
 pub silent_none_all : (sends : List Outgoing) → AreSilent sends → AreNoDown sends
 silent_none_all sends silent = each_map IsSilent IsNoDown sends (λ sent is. silent_none sent.body is) silent
-
--- nor does what the client's side sends beside its wishes to commit
-plain_none : (body : Body) → is_plain body ≡ true → TellsNoDown body
-plain_none (Client (TcRollbackRep tx cause)) plain = absurd cc
-plain_none (Chain (LqhKeyRef tx key cause)) plain = absurd cc
-plain_none body plain = tt
-
-pub plain_none_all : (sends : List Outgoing) → ArePlain sends → AreNoDown sends
-plain_none_all sends plain = each_map IsPlain IsNoDown sends (λ sent is. plain_none sent.body is) plain

@@ -22,9 +22,11 @@ use Rattle.sig_core.specs.declared.signal.epoch.EpochSignal.TheVariants.{DiVerif
 use Rattle.sig_core.specs.declared.view.View.{View}
 use Rattle.sig_core.specs.Place.{epochs}
 use Rattle.sig_core.specs.Step.{Effects, Step}
-use Rattle.api_block.specs.declared.opened.OpenTransaction.{OpenTransaction}
+use Rattle.step_forms.specs.Does.{IsAmong, IsWord}
 use Rattle.api_views.specs.Client.{client_row}
 use Rattle.api_views.specs.State.{ClientState}
+use Rattle.api_views.specs.Words.{is_client_mark, is_client_word}
+use Rattle.api_views.proofs.Walk.{client_words}
 use Rattle.arbiter_block.specs.Arbiter.{arbiter_row}
 use Rattle.dih_node.specs.Dih.{dih_row}
 use Rattle.dih_node.specs.Orders as dih
@@ -47,7 +49,6 @@ use Rattle.node_views.specs.Parts.{ldm_row, main_row, shell_row, tc_row}
 use Rattle.moment_laws.proofs.MomentHosts.{HasNoTc}
 use Rattle.outcome_laws.specs.Counts.{IsCoordinatorOf, coordinator_member}
 use Rattle.outcome_laws.specs.Own.{IsOwnAt, IsOwnSend}
-use Rattle.outcome_laws.proofs.ClientTurns.{ArePlain, IsPlain, client_turns, is_plain}
 use Rattle.outcome_laws.proofs.DihSilent.{AreSilent, IsSilent, is_telling}
 use Rattle.outcome_laws.proofs.DihWalk.{HoldsNoMore, dih_each, dih_installs_hold, dih_installs_quiet, goes_on_silent}
 use Rattle.outcome_laws.proofs.KnowMaster.{master_tells_nothing}
@@ -61,7 +62,8 @@ use Rattle.outcome_laws.proofs.OnceTakeover.{takeover_none}
 use Rattle.outcome_laws.proofs.RowsMarks.{rows_mark_none}
 use Rattle.outcome_laws.proofs.RowsNone.{IsNoOutcome}
 use Rattle.outcome_laws.proofs.TakeoverMarks.{takeover_marks_nothing}
-use Rattle.outcome_laws.proofs.TcCounts.{coordinator_installs_own, coordinator_of_installed, coordinator_of_stays, coordinator_own}
+use Rattle.outcome_laws.proofs.TcCounts.{coordinator_installs_own, coordinator_of_installed, coordinator_of_stays}
+use Rattle.outcome_laws.proofs.TcCounts.{coordinator_own}
 use Rattle.outcome_laws.proofs.TcMarks.{coordinator_installs_mark, coordinator_marks}
 
 -- whoever is asked for is so, at the place that is asked; and whoever is decided is so
@@ -127,39 +129,21 @@ module _ (P : TxId → Place → Type 0) (Q : TxId → Type 0) where
   }
 
   -- a client's side asks for none and decides none
-  plain_so : (sends : List Outgoing) → ArePlain sends → AskSo sends
-  plain_so sends plain =
-      each_map IsPlain (λ (sent : Outgoing). IsAskedSo sent.to sent.body) sends
-      (λ sent is. by sent.to sent.body is) plain
-    where
-      by : (to : Place) (body : Body) → is_plain body ≡ true → IsAskedSo to body
-      by to (Epoch (DiVerifyReq tx ops)) plain = absurd cc
-      by to body plain = tt
-
-  record IsSo (opened : List OpenTransaction) (sends : List Outgoing) (marks : List Mark) : Type 0 where
-    ask : AskSo sends
-    decide : Each IsDecidedSo marks
-
-  client_is_so : (s : ClientState) (x : Signal)
-      → IsSo (client_row s x).state.api.opened (client_row s x).effects.sends (client_row s x).effects.marks
-  client_is_so s x =
-      client_turns s x IsSo (record {
-        keeps = λ sends plain. record { ask = plain_so sends plain; decide = tt };
-        opens = λ name node op sends plain. record { ask = plain_so sends plain; decide = tt };
-        begins = λ p at f u name tx sends is has plain. record { ask = plain_so sends plain; decide = tt };
-        changes = λ p at f u sends same doing plain. record { ask = plain_so sends plain; decide = tt };
-        wishes = λ p at f u tx is same was now. record { ask = (tt, tt); decide = tt };
-        drops = λ p at f sends plain. record { ask = plain_so sends plain; decide = tt };
-        commits = λ p at f tx epoch sends is told plain. record { ask = plain_so sends plain; decide = (tt, tt) };
-        commits_late = λ p at f tx epoch sends is told plain. record { ask = plain_so sends plain; decide = (tt, tt) };
-        aborts = λ p at f tx why sends is told plain. record { ask = plain_so sends plain; decide = (tt, tt) };
-        fails = λ p at f tx number sends is plain. record { ask = plain_so sends plain; decide = (tt, tt) };
-        goes_down = λ p at f tx sends is was plain. record { ask = plain_so sends plain; decide = (tt, tt) };
-        loses = λ p at f tx sends is plain. record { ask = plain_so sends plain; decide = (tt, tt) };
-      })
-
   client_so : (s : ClientState) (x : Signal) → AreSo (client_row s x).effects
-  client_so s x = let is = client_is_so s x in record { ask = is.ask; decide = is.decide }
+  client_so s x =
+      let own = client_words s x in record {
+        ask = each_map (IsWord is_client_word) (λ (sent : Outgoing). IsAskedSo sent.to sent.body)
+            (client_row s x).effects.sends (λ sent is. word sent.to sent.body is) own.0;
+        decide = each_map (IsAmong is_client_mark) IsDecidedSo (client_row s x).effects.marks mark own.1;
+      }
+    where
+      word : (to : Place) (body : Body) → is_client_word body ≡ true → IsAskedSo to body
+      word to (Epoch (DiVerifyReq tx ops)) is = absurd cc
+      word to body is = tt
+
+      mark : (made : Mark) → is_client_mark made ≡ true → IsDecidedSo made
+      mark (Decided tx epoch) is = absurd cc
+      mark made is = tt
 
   -- hosts without a coordinator ask for none and decide none
   shell_so : (p : ShellPart) (b : BlockId) (x : Signal) → AreSo (shell_row p b x).effects

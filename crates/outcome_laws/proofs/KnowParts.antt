@@ -31,7 +31,8 @@ use Rattle.node_views.specs.Parts.{ldm_row, main_row, shell_row, tc_row}
 use Rattle.outcome_laws.specs.Known.{PartsKnow}
 use Rattle.outcome_laws.specs.Tells.{Decides, IsRightMark, Teaches, Tells}
 use Rattle.outcome_laws.proofs.ClientKnows.{client_knows, client_marks, client_tells, noted_knows}
-use Rattle.outcome_laws.proofs.DihKnows.{epochs_install_know, epochs_install_tell, epochs_know, epochs_mark, epochs_tell}
+use Rattle.outcome_laws.proofs.DihKnows.{epochs_install_know, epochs_install_tell, epochs_know, epochs_mark}
+use Rattle.outcome_laws.proofs.DihKnows.{epochs_tell}
 use Rattle.outcome_laws.proofs.DihSilent.{silent_tell}
 use Rattle.outcome_laws.proofs.DihWalk.{dih_installs_quiet}
 use Rattle.outcome_laws.proofs.KnowMaster.{master_tells_nothing}
@@ -46,7 +47,8 @@ use Rattle.outcome_laws.proofs.TakeoverKnows.{takeover_install_knows, takeover_k
 use Rattle.outcome_laws.proofs.TakeoverMarks.{takeover_marks_nothing}
 use Rattle.outcome_laws.proofs.TakeoverTells.{takeover_tells}
 use Rattle.outcome_laws.proofs.TcMarks.{coordinator_installs_mark, coordinator_marks}
-use Rattle.outcome_laws.proofs.TcTells.{coordinator_installs_know, coordinator_installs_tell, coordinator_knows, coordinator_tells}
+use Rattle.outcome_laws.proofs.TcTells.{coordinator_installs_know, coordinator_installs_tell, coordinator_knows}
+use Rattle.outcome_laws.proofs.TcTells.{coordinator_tells}
 
 -- the arbitrator tells nothing
 pub arbiter_tells_nothing : (s : ArbiterState) (x : Signal) → TellsNothing (arbiter_row s x)

@@ -1,5 +1,6 @@
 -- At each moment a transaction was decided only at the host of its coordinator's member, if anywhere.
-use Rattle.std.proofs.Common.{◌≡◌, ◌≢◌, ◌⊎◌, ◌∙◌, ◌+◌, ◌-◌, ◌*◌, ℕ, zero, suc, true, List, [], ◌∷◌, sym, ap, subst, inl, inr}
+use Rattle.std.proofs.Common.{◌≡◌, ◌≢◌, ◌⊎◌, ◌∙◌, ◌+◌, ◌-◌, ◌*◌, ℕ, zero, suc, true, List, [], ◌∷◌, sym, ap, subst, inl}
+use Rattle.std.proofs.Common.{inr}
 use Rattle.std.proofs.lemmas.Bool.{cases_eq}
 use Rattle.run_theory.proofs.Pasts.{each_in, each_map}
 use Rattle.run_theory.proofs.Runs.{log_of-other, log_of-own}
@@ -43,7 +44,8 @@ use Rattle.moment_laws.proofs.MomentSignals.{EachSent, epoch_told, sent_next}
 use Rattle.moment_laws.proofs.MomentTurns.{host_low}
 use Rattle.moment_laws.proofs.MomentViews.{moment_less}
 use Rattle.outcome_laws.specs.Counts.{coordinator_member}
-use Rattle.outcome_laws.proofs.KnowOwn.{AreOwn, AreSo, IsAskedSo, IsDecidedSo, IsOf, IsOfOwn, OwnParts, others_so, own_kept, so_effects}
+use Rattle.outcome_laws.proofs.KnowOwn.{AreOwn, AreSo, IsAskedSo, IsDecidedSo, IsOf, IsOfOwn, OwnParts, others_so}
+use Rattle.outcome_laws.proofs.KnowOwn.{own_kept, so_effects}
 use Rattle.outcome_laws.proofs.KnowWalk.{step_keeps}
 use Rattle.outcome_laws.proofs.TcCounts.{coordinator_of_fresh}
 

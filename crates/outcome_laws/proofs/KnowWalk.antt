@@ -16,7 +16,10 @@ use Rattle.api_views.specs.Members.{same_member}
 use Rattle.node_views.specs.Blocks.{parts_entered, parts_row, settled_at}
 use Rattle.node_views.specs.declared.host.Host as hosts
 use Rattle.node_views.specs.declared.parts.Parts.{Parts}
-use Rattle.node_views.specs.Row.{blocks_row, closed_if, counted_row, cut_if, cut_marks, entered, entering_if, headed_if, headed_row, host_row, host_table, hushed, is_barred, is_cut, is_excluded, is_stop, killed_after, marks_only, passed_if, passed_row, settle, standing_at, taken_if, unless_stopped, with_parts}
+use Rattle.node_views.specs.Row.{blocks_row, closed_if, counted_row, cut_if, cut_marks, entered, entering_if, headed_if}
+use Rattle.node_views.specs.Row.{headed_row, host_row, host_table, hushed, is_barred, is_cut, is_excluded, is_stop}
+use Rattle.node_views.specs.Row.{killed_after, marks_only, passed_if, passed_row, settle, standing_at, taken_if}
+use Rattle.node_views.specs.Row.{unless_stopped, with_parts}
 use Rattle.node_views.specs.WellFormed.{is_first, is_well_formed}
 use Rattle.world_views.specs.Machine.{own_stop, step_by, step_if}
 

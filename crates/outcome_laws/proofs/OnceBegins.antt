@@ -1,6 +1,7 @@
 -- The host of a transaction's coordinator tells of its begin once, and asks for its epoch once, and no other host does:
 -- so each host is told of it, and asked, once at most.
-use Rattle.std.proofs.Common.{◌≡◌, ◌≢◌, ◌≤◌, ◌<◌, ◌⊎◌, ◌∙◌, ℕ, Bool, true, false, List, [], ◌∷◌, ap, arith, inl, inr, refl, subst, sym}
+use Rattle.std.proofs.Common.{◌≡◌, ◌≢◌, ◌≤◌, ◌<◌, ◌⊎◌, ◌∙◌, ℕ, Bool, true, false, List, [], ◌∷◌, ap, arith, inl, inr}
+use Rattle.std.proofs.Common.{refl, subst, sym}
 use Rattle.std.proofs.lemmas.Bool.{cases_lt}
 use Rattle.run_theory.specs.Lists.{IsIn}
 use Rattle.sig_core.specs.declared.member.Member.{Member}
@@ -26,12 +27,14 @@ use Rattle.outcome_laws.specs.Once.{takes_in}
 use Rattle.outcome_laws.specs.Own.{IsOwnAt}
 use Rattle.outcome_laws.proofs.OnceLinks.{AreSentOnly, takes_few}
 use Rattle.outcome_laws.proofs.OnceLogs.{link_count, log_light, sends_in}
-use Rattle.outcome_laws.proofs.OnceNobody.{apart_light, asking_coordinators, asks_apart, begin_coordinators, begins_apart, no_tc_light, nothing, of_nobody}
+use Rattle.outcome_laws.proofs.OnceNobody.{apart_light, asking_coordinators, asks_apart, begin_coordinators}
+use Rattle.outcome_laws.proofs.OnceNobody.{begins_apart, no_tc_light, nothing, of_nobody}
 use Rattle.outcome_laws.proofs.OnceNone.{is_counted, uncounted_asking, uncounted_begin}
 use Rattle.outcome_laws.proofs.OnceClient.{is_coordinators}
 use Rattle.outcome_laws.proofs.OnceWalk.{AreLight}
 use Rattle.outcome_laws.proofs.OnceParts.{IsTcOf, coordinator_light, no_body, of_coordinator}
-use Rattle.outcome_laws.proofs.TcCounts.{asks_once, asks_once_installed, begins_once, begins_once_installed, coordinator_of_fresh}
+use Rattle.outcome_laws.proofs.TcCounts.{asks_once, asks_once_installed, begins_once, begins_once_installed}
+use Rattle.outcome_laws.proofs.TcCounts.{coordinator_of_fresh}
 
 -- no signal adds to what may be sent
 pub none_taken : (log : List HostStep) → takes_in no_body log ≡ 0

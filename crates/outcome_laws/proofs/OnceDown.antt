@@ -1,6 +1,7 @@
 -- Whoever is reported aborted since the cluster is down is never decided: no commit of it is asked for, so no epoch
 -- either.
-use Rattle.std.proofs.Common.{◌≡◌, ◌≢◌, ◌≤◌, ◌<◌, ◌+◌, ◌⊎◌, ◌||◌, ◌%◌, ℕ, zero, suc, Bool, true, false, List, [], ◌∷◌, ap, arith, inl, inr, refl, subst, sym}
+use Rattle.std.proofs.Common.{◌≡◌, ◌≢◌, ◌≤◌, ◌<◌, ◌+◌, ◌⊎◌, ◌||◌, ◌%◌, ℕ, zero, suc, Bool, true, false, List, [], ◌∷◌}
+use Rattle.std.proofs.Common.{ap, arith, inl, inr, refl, subst, sym}
 use Rattle.std.proofs.lemmas.Bool.{cases_lt}
 use Rattle.std.specs.List.{count_by}
 use Rattle.run_theory.specs.Lists.{Each, IsIn}
@@ -30,7 +31,8 @@ use Rattle.outcome_laws.specs.Down.{TakesNoDown, TellsNoDown}
 use Rattle.outcome_laws.specs.Once.{marks_in, takes_in}
 use Rattle.outcome_laws.specs.Outcomes.{NoneThatWasDownWasDecided}
 use Rattle.outcome_laws.proofs.ClientCounts.{is_down_answer, is_down_report}
-use Rattle.outcome_laws.proofs.OnceBegins.{apart_sends, asks_elsewhere, begin_once, no_tc_sends, nowhere_sends, none_taken, only_asks}
+use Rattle.outcome_laws.proofs.OnceBegins.{apart_sends, asks_elsewhere, begin_once, no_tc_sends, nowhere_sends}
+use Rattle.outcome_laws.proofs.OnceBegins.{none_taken, only_asks}
 use Rattle.outcome_laws.proofs.OnceDecided.{decides_asked, entries_are, none_has}
 use Rattle.outcome_laws.proofs.DownAll.{no_down_is_told}
 use Rattle.outcome_laws.proofs.OnceLinks.{AreSentOnly, takes_few}

@@ -39,8 +39,10 @@ use Rattle.node_views.specs.declared.tc_part.TcPart.{TcPart}
 use Rattle.takeover_block.specs.Takeover.{takeover_row}
 use Rattle.tc_views.specs.Coordinator.{coordinator_row}
 use Rattle.tc_views.specs.Views as coordinator
-use Rattle.outcome_laws.specs.Counts.{count_held, count_open, count_sent, count_unwished, is_asking, is_begin, is_decision, is_report, is_wish, one_if}
-use Rattle.outcome_laws.proofs.ClientCounts.{is_down_answer, is_down_report, noted_open, noted_unwished, reports_few, wishes_or_downs_few}
+use Rattle.outcome_laws.specs.Counts.{count_held, count_open, count_sent, count_unwished, is_asking, is_begin}
+use Rattle.outcome_laws.specs.Counts.{is_decision, is_report, is_wish, one_if}
+use Rattle.outcome_laws.proofs.ClientCounts.{is_down_answer, is_down_report, noted_open, noted_unwished, reports_few}
+use Rattle.outcome_laws.proofs.ClientCounts.{wishes_or_downs_few}
 use Rattle.outcome_laws.proofs.DihCounts.{decides_few, installs_count_held}
 use Rattle.outcome_laws.proofs.KnowMaster.{master_tells_nothing}
 use Rattle.outcome_laws.proofs.KnowMembership.{membership_installs_nothing, membership_tells_nothing}

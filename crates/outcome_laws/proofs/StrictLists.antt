@@ -1,5 +1,6 @@
 -- Lists in which one thing stands before another.
-use Rattle.std.proofs.Common.{◌≡◌, ◌⊎◌, ◌∙◌, ◌++◌, Bool, true, false, filter, cond, List, [], ◌∷◌, append_assoc, refl, sym, ap, inl, inr}
+use Rattle.std.proofs.Common.{◌≡◌, ◌⊎◌, ◌∙◌, ◌++◌, Bool, true, false, filter, cond, List, [], ◌∷◌, append_assoc, refl}
+use Rattle.std.proofs.Common.{sym, ap, inl, inr}
 use Rattle.std.proofs.lemmas.List.Elements.{filter-append}
 use Rattle.run_theory.specs.Lists.{IsIn}
 use Rattle.sig_core.specs.declared.entry.Entry.{Entry}

@@ -1,6 +1,7 @@
 -- A coordinator tells of each of its transactions once that it has begun, and asks once for its epoch: of the epochs of
 -- its own node.
-use Rattle.std.proofs.Common.{◌≡◌, ◌∙◌, ◌+◌, ◌≤◌, ◌<◌, ◌&&◌, ℕ, Bool, true, false, List, [], ◌∷◌, ◌++◌, arith, length, nat_lt, refl, sym, ap, subst}
+use Rattle.std.proofs.Common.{◌≡◌, ◌∙◌, ◌+◌, ◌≤◌, ◌<◌, ◌&&◌, ℕ, Bool, true, false, List, [], ◌∷◌, ◌++◌, arith, length}
+use Rattle.std.proofs.Common.{nat_lt, refl, sym, ap, subst}
 use Rattle.std.specs.Prelude.{nat_le, Option}
 use Rattle.std.specs.List.{count_by}
 use Rattle.run_theory.specs.Lists.{Each}
@@ -33,10 +34,13 @@ use Rattle.tc_views.specs.Coordinator.{coordinator_row, fresh_coordinator}
 use Rattle.tc_views.specs.Laws.{AreOnce}
 use Rattle.tc_views.specs.State.{CoordinatorState, go_on_if}
 use Rattle.tc_views.specs.Views.{install_row, tasks_at}
-use Rattle.outcome_laws.specs.Counts.{IsCoordinatorOf, coordinator_member, count_sent, is_asking, is_begin, is_open_of, is_unborn, may_ask, one_if}
+use Rattle.outcome_laws.specs.Counts.{IsCoordinatorOf, coordinator_member, count_sent, is_asking, is_begin, is_open_of}
+use Rattle.outcome_laws.specs.Counts.{is_unborn, may_ask, one_if}
 use Rattle.outcome_laws.specs.Own.{IsOwnAt, IsOwnSend}
-use Rattle.outcome_laws.proofs.TcClaims.{AreQuiet, Claims, IsQuiet, asks, is_claim, more_quiet, quiet, resume_claims, turn_claims}
-use Rattle.outcome_laws.proofs.TcLists.{are_once, come_to, comes_to, count_between, count_both, count_more, keys_once, next_is_other, none_counted, put_last}
+use Rattle.outcome_laws.proofs.TcClaims.{AreQuiet, Claims, IsQuiet, asks, is_claim, more_quiet, quiet, resume_claims}
+use Rattle.outcome_laws.proofs.TcClaims.{turn_claims}
+use Rattle.outcome_laws.proofs.TcLists.{are_once, come_to, comes_to, count_between, count_both, count_more, keys_once}
+use Rattle.outcome_laws.proofs.TcLists.{next_is_other, none_counted, put_last}
 use Rattle.outcome_laws.proofs.TcWalk.{coordinator_each, inner}
 
 -- the same of the coordinator within its view as of the one under views

@@ -23,10 +23,11 @@ use Rattle.api_block.specs.declared.opened.Doing.TheVariants as doing
 use Rattle.api_block.specs.declared.opened.OpenTransaction.{OpenTransaction}
 use Rattle.api_block.specs.Opened.{answered, asked_for, begins_at, begun as has_begun, begun_operating, behind, committing, has_tx}
 use Rattle.api_block.specs.Opened.{is_named, is_tx, operating}
+use Rattle.api_block.proofs.Walk.{own_is}
 use Rattle.report_laws.specs.Answered.{answers_among, is_answered}
 use Rattle.outcome_laws.specs.Counts.{count_sent, is_begin, is_committing, is_unwished, is_wish, one_if}
 use Rattle.outcome_laws.proofs.TcLists.{count_between, count_more, none_counted}
-use Rattle.talk_laws.proofs.ClientTalks.{ArePlain, IsPlain, Talk, TalkForms, is_plain, own_is}
+use Rattle.talk_laws.proofs.ClientTalks.{ArePlain, IsPlain, Talk, TalkForms, is_plain}
 use Rattle.talk_laws.proofs.ShellTalks.{HostForms}
 
 -- it asks for an operation of the transaction
