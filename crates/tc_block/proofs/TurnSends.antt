@@ -1,5 +1,5 @@
 -- What holds of each form of signal that a transaction sends at its coordinator holds of all that its turns send.
-use Rattle.std.proofs.Common.{◌≡◌, ℕ, Bool, true, false, List, [], refl, sym, subst}
+use Rattle.std.proofs.Common.{◌≡◌, ℕ, Bool, true, false, List, [], refl, sym, subst, nat_lt}
 use Rattle.std.specs.Prelude.{None, Some}
 use Rattle.std.specs.List.{flat_map}
 use Rattle.run_theory.specs.Lists.{Each, IsIn}
@@ -13,11 +13,12 @@ use Rattle.sig_core.specs.declared.outcome.AbortCause.{AbortCause}
 use Rattle.sig_core.specs.declared.outcome.AbortCause.TheVariants as cause
 use Rattle.sig_core.specs.declared.outs.Outgoing.{Outgoing}
 use Rattle.sig_core.specs.declared.signal.Body.{Body}
-use Rattle.sig_core.specs.declared.signal.Body.TheVariants.{Client, Chain, Epoch}
+use Rattle.sig_core.specs.declared.signal.Body.TheVariants.{Host, Client, Chain, Epoch}
 use Rattle.sig_core.specs.declared.signal.chain.ChainSignal.TheVariants.{LqhKeyConf, LqhKeyRef, LqhKeyReq}
 use Rattle.sig_core.specs.declared.signal.chain.RowWork.TheVariants.{Operate}
 use Rattle.sig_core.specs.declared.signal.client.ClientSignal.TheVariants.{TcKeyReq, TcKeyConf, TcCommitReq, TcWaitReq}
 use Rattle.sig_core.specs.declared.signal.epoch.EpochSignal.TheVariants.{DiVerifyConf, DiVerifyReq}
+use Rattle.sig_core.specs.declared.signal.host.HostSignal.TheVariants.{Continue}
 use Rattle.sig_core.specs.declared.signal.host.Work.TheVariants as work
 use Rattle.sig_core.specs.Chain.{node_at}
 use Rattle.sig_core.specs.Op.{key_of}
@@ -38,8 +39,7 @@ use Rattle.tc_block.specs.declared.transaction.Transaction.{Transaction}
 use Rattle.tc_block.specs.Operate as operate
 use Rattle.tc_block.specs.Part.{part_effects}
 use Rattle.tc_block.specs.Resume.{anew_if, resume_row}
-use Rattle.tc_block.specs.Sends.{abort_of, commit_of, complete_if, complete_of, entering, front_sends, go_on_if}
-use Rattle.tc_block.specs.Sends.{key_sends, phase_sends, reported, verify_end, wait_of}
+use Rattle.tc_block.specs.Sends.{abort_of, commit_of, complete_if, complete_of, entering, front_sends, go_on_if, key_sends, phase_sends, reported, verify_end, wait_of}
 use Rattle.tc_block.specs.Turn.{Turn, asking, ending, going}
 use Rattle.tc_block.proofs.EachResume.{ResumeForms, resumes}
 use Rattle.tc_block.proofs.EachTurn.{AbortForms, CommittedForms, IsAnswered, TurnFormsAt, rows_at}
