@@ -146,61 +146,64 @@ pub record TakeoverSends (s : TakeoverState) (body : Body) (P : Outgoing → Typ
 
 module _ (s : TakeoverState) (body : Body) (P : Outgoing → Type 0) (M : Mark → Type 0) (sends : TakeoverSends s body P)
   where
-  asks_each : (at : ℕ) → Each P (ask_effects s.node s.layout.view at).sends
-  unfolding ask_effects asks_of
-  asks_each at =
-      portion_each P (takeover s.node) work.Members (asks_of s.layout.view) at sends.asks_on
-      (each_append P (map ask_of s.layout.view.full) (map ask_of s.layout.view.starting)
-      (mapped_in P ask_of s.layout.view.full (λ m there. sends.asks m))
-      (mapped_in P ask_of s.layout.view.starting (λ m there. sends.asks m)))
+    asks_each : (at : ℕ) → Each P (ask_effects s.node s.layout.view at).sends
+    unfolding ask_effects asks_of
+    asks_each at =
+        portion_each P (takeover s.node) work.Members (asks_of s.layout.view) at sends.asks_on
+        (each_append P (map ask_of s.layout.view.full) (map ask_of s.layout.view.starting)
+        (mapped_in P ask_of s.layout.view.full (λ m there. sends.asks m))
+        (mapped_in P ask_of s.layout.view.starting (λ m there. sends.asks m)))
 
-  front_each : (g : Gathered) (stage : Stage) → Drives s body g stage → Each P (front_sends g.tx stage)
-  unfolding front_sends
-  front_each g Resting drives = tt
-  front_each g (Gathering n) drives = tt
-  front_each g (Committing epoch n) drives = tt
-  front_each g (Completing epoch n) drives = (sends.confirms g epoch n drives, tt)
-  front_each g (Aborting n) drives = tt
+    front_each : (g : Gathered) (stage : Stage) → Drives s body g stage → Each P (front_sends g.tx stage)
+    unfolding front_sends
+    front_each g Resting drives = tt
+    front_each g (Gathering n) drives = tt
+    front_each g (Committing epoch n) drives = tt
+    front_each g (Completing epoch n) drives = (sends.confirms g epoch n drives, tt)
+    front_each g (Aborting n) drives = tt
 
-  key_each : (g : Gathered) (stage : Stage) → Drives s body g stage → (key : List ℕ) → IsIn key g.keys
-      → Each P (key_sends_along g.tx stage key (chain_of s.layout key))
-  key_each g Resting drives key there = tt
-  key_each g (Gathering n) drives key there = tt
-  key_each g (Committing epoch n) drives key there = (sends.commits g epoch n drives key there, tt)
-  key_each g (Completing epoch n) drives key there = (sends.completes g epoch n drives key there, tt)
-  key_each g (Aborting n) drives key there =
-      mapped_in P (abort_at g.tx key) (chain_of s.layout key) (sends.aborts g n drives key there)
+    key_each : (g : Gathered) (stage : Stage) → Drives s body g stage → (key : List ℕ) → IsIn key g.keys
+        → Each P (key_sends_along g.tx stage key (chain_of s.layout key))
+    key_each g Resting drives key there = tt
+    key_each g (Gathering n) drives key there = tt
+    key_each g (Committing epoch n) drives key there = (sends.commits g epoch n drives key there, tt)
+    key_each g (Completing epoch n) drives key there = (sends.completes g epoch n drives key there, tt)
+    key_each g (Aborting n) drives key there =
+        mapped_in P (abort_at g.tx key) (chain_of s.layout key) (sends.aborts g n drives key there)
 
-  stage_each : (g : Gathered) (stage : Stage) (at : ℕ) → Drives s body g stage
-      → Each P (stage_effects s.node s.layout stage g at).sends
-  unfolding stage_effects stage_sends key_sends
-  stage_each g stage at drives =
-      portion_each P (takeover s.node) (work.Transaction g.tx) (stage_sends s.layout stage g) at (sends.drives_on g)
-      (each_append P (front_sends g.tx stage) (flat_map (key_sends s.layout g.tx stage) g.keys)
-      (front_each g stage drives) (flat_in P (key_sends s.layout g.tx stage) g.keys (key_each g stage drives)))
+    stage_each : (g : Gathered) (stage : Stage) (at : ℕ) → Drives s body g stage
+        → Each P (stage_effects s.node s.layout stage g at).sends
+    unfolding stage_effects stage_sends key_sends
+    stage_each g stage at drives =
+        portion_each P (takeover s.node) (work.Transaction g.tx) (stage_sends s.layout stage g) at (sends.drives_on g)
+        (each_append P (front_sends g.tx stage) (flat_map (key_sends s.layout g.tx stage) g.keys)
+        (front_each g stage drives) (flat_in P (key_sends s.layout g.tx stage) g.keys (key_each g stage drives)))
 
-  -- whatever is gathered then
-  ruled_each : (t : TakeoverState) → t.node ≡ s.node → t.layout ≡ s.layout → Rules s body t.gathered
-      → Does P M (ruling t)
-  unfolding ruling entering stage_effects
-  ruled_each t node_is layout_is rules = by (slice_get t.gathered 0) refl
-    where
-      by : (o : Option Gathered) → slice_get t.gathered 0 ≡ o → Does P M (ruling_by t o)
-      by None none =
-          let over = sends.ends t.gathered rules none in (
-            (over.0, (subst (λ node. P (to_place (checkpoints node) (Takeover TakeoverEnd))) (sym node_is) over.1, tt)),
-            tt,
-          )
-      by (Some g) first = (
-        subst (λ node. Each P (stage_effects node t.layout (way_of t.layout g) g 0).sends) (sym node_is)
-            (subst (λ layout. Each P (stage_effects s.node layout (way_of layout g) g 0).sends) (sym layout_is)
-            (stage_each g (way_of s.layout g) 0 (rules_on t.gathered rules first refl))),
-        tt,
-      )
+    -- whatever is gathered then
+    ruled_each : (t : TakeoverState) → t.node ≡ s.node → t.layout ≡ s.layout → Rules s body t.gathered
+        → Does P M (ruling t)
+    unfolding ruling entering stage_effects
+    ruled_each t node_is layout_is rules = by (slice_get t.gathered 0) refl
+      where
+        by : (o : Option Gathered) → slice_get t.gathered 0 ≡ o → Does P M (ruling_by t o)
+        by None none =
+            let over = sends.ends t.gathered rules none in (
+              (
+                over.0,
+                (subst (λ node. P (to_place (checkpoints node) (Takeover TakeoverEnd))) (sym node_is) over.1, tt),
+              ),
+              tt,
+            )
+        by (Some g) first = (
+          subst (λ node. Each P (stage_effects node t.layout (way_of t.layout g) g 0).sends) (sym node_is)
+              (subst (λ layout. Each P (stage_effects s.node layout (way_of layout g) g 0).sends) (sym layout_is)
+              (stage_each g (way_of s.layout g) 0 (rules_on t.gathered rules first refl))),
+          tt,
+        )
 
-  finished_each : (g : Gathered) → slice_get s.gathered 0 ≡ Some g → IsDone s body g.tx → Does P M (finishing s)
-  unfolding finishing
-  finished_each g first done = ruled_each (with_gathered s (remove s.gathered 0)) refl refl (behind_one g first done)
+    finished_each : (g : Gathered) → slice_get s.gathered 0 ≡ Some g → IsDone s body g.tx → Does P M (finishing s)
+    unfolding finishing
+    finished_each g first done = ruled_each (with_gathered s (remove s.gathered 0)) refl refl (behind_one g first done)
 
 -- whatever it takes; and it marks nothing
 pub takeover_does : (s : TakeoverState) (x : Signal) (P : Outgoing → Type 0) (M : Mark → Type 0)
@@ -246,9 +249,12 @@ takeover_does s x P M sends =
         → Does P M (after (sends_only (told_aborted tx ∷ [])) (finishing s))
     aborted tx key g n is found at last =
         let rest = done tx g found (is_aborted key n is at last) in (
-          (subst (λ one. P (told_aborted one)) found.own
-              (sends.gives_up g key n (subst (λ one. x.body ≡ Chain (Aborted one key)) (sym found.own) is)
-              found.there at last), rest.0),
+          (
+            subst (λ one. P (told_aborted one)) found.own
+                (sends.gives_up g key n (subst (λ one. x.body ≡ Chain (Aborted one key)) (sym found.own) is)
+                found.there at last),
+            rest.0,
+          ),
           rest.1,
         )
 

@@ -131,9 +131,11 @@ module _ (node : ℕ) (layout : Layout) (tx : TxId) (t : Transaction) (body : Bo
       front_each Open is = tt
       front_each Verifying is = tt
       front_each (Committing epoch awaited) is = tt
-      front_each (Completing epoch awaited) is =
-          (drives.confirms turn epoch (subst Comes is comes)
-          (at_completion awaited (subst (InPhase t turn) is in_phase)), tt)
+      front_each (Completing epoch awaited) is = (
+        drives.confirms turn epoch (subst Comes is comes)
+            (at_completion awaited (subst (InPhase t turn) is in_phase)),
+        tt,
+      )
       front_each (Aborting why verifying awaited) is = tt
 
       key_each : (p : Phase) → phase ≡ p → (u : Touched) → IsIn u turn.step.state.touched
@@ -146,9 +148,11 @@ module _ (node : ℕ) (layout : Layout) (tx : TxId) (t : Transaction) (body : Bo
       key_each (Completing epoch awaited) is u there = by u.written refl
         where
           by : (b : Bool) → u.written ≡ b → Each (P turn) (complete_if tx u b)
-          by true written =
-              (drives.completes turn epoch awaited (subst Comes is comes) (subst (InPhase t turn) is in_phase) u there
-              written, tt)
+          by true written = (
+            drives.completes turn epoch awaited (subst Comes is comes) (subst (InPhase t turn) is in_phase) u there
+                written,
+            tt,
+          )
           by false unwritten = tt
       key_each (Aborting why verifying awaited) is u there =
           mapped_in (P turn) (abort_of tx u.key) (chain_of layout u.key)
