@@ -1,3 +1,4 @@
+pub mod HostEach
 pub mod HostWalk
 mod NodeLemmas
 pub mod CutLemmas

@@ -1,5 +1,5 @@
 -- The blocks of a host keep to their words, and so does the host.
-use Rattle.std.proofs.Common.{◌≡◌, ◌||◌, Bool, refl, subst, sym}
+use Rattle.std.proofs.Common.{◌≡◌, ◌||◌, ◌∙◌, Bool, refl, subst, sym}
 use Rattle.std.proofs.lemmas.Bool.{or_left, or_right}
 use Rattle.sig_core.specs.declared.mark.Mark.{Mark}
 use Rattle.sig_core.specs.declared.place.BlockId.{BlockId}
@@ -36,9 +36,12 @@ use Rattle.tc_views.specs.Views as coordinator
 use Rattle.tc_views.proofs.Walk.{coordinator_words}
 use Rattle.tc_views.specs.Words.{is_coordinator_mark, is_coordinator_word}
 use Rattle.node_views.specs.Blocks.{parts_entered, parts_row}
+use Rattle.node_views.specs.declared.host.Host as hosts
 use Rattle.node_views.specs.declared.parts.Parts.{Parts}
 use Rattle.node_views.specs.declared.parts.Parts.TheVariants.{Shell, Main, Tc, Ldm}
-use Rattle.node_views.specs.Words.{block_marks, block_words, parts_marks, parts_words}
+use Rattle.node_views.specs.Row.{host_row}
+use Rattle.node_views.specs.Words.{HostsKeepToTheirWords, block_marks, block_words, host_marks, is_host_mark, parts_marks, parts_words}
+use Rattle.node_views.proofs.HostEach.{each_kept, row_each}
 use Rattle.node_views.proofs.Walk.{parts_each, parts_installed_each}
 
 -- of two vocabularies, one block says the words of the first, and one those of the second
@@ -181,3 +184,40 @@ module _ (parts : Parts) where
       by (Main p) = (λ body. refl, λ mark. refl)
       by (Tc p) = (λ body. refl, λ mark. refl)
       by (Ldm p) = (λ body. refl, λ mark. refl)
+
+-- a host keeps to the words of its part, beside the marks that it makes itself
+module _ (s : hosts.Host) (x : Signal) where
+  abbrev Hosts : {S : Type 0} → Step S → Type 0
+  Hosts step = Speaks (parts_words s.parts) (host_marks s.parts) step
+
+  of_host : {S : Type 0} (now : Parts) → HasWordsOf s.parts now → (step : Step S)
+      → Speaks (parts_words now) (parts_marks now) step → Hosts step
+  of_host now same step =
+      does_map (IsWord (parts_words now)) (IsWord (parts_words s.parts)) (IsAmong (parts_marks now))
+      (IsAmong (host_marks s.parts)) step (λ sent is. sym (same.0 sent.body) ∙ is)
+      (λ mark is. or_right (is_host_mark mark) (parts_marks s.parts mark) (sym (same.1 mark) ∙ is))
+
+  pub host_speaks : Speaks (parts_words s.parts) (host_marks s.parts) (host_row s x)
+  host_speaks =
+      row_each (IsWord (parts_words s.parts)) (IsAmong (host_marks s.parts))
+      (record { stops = λ cause. refl; installs = λ view. refl; cuts = λ host. refl }) x s
+      (each_kept (IsWord (parts_words s.parts)) (IsAmong (host_marks s.parts)) (HasWordsOf s.parts) x
+      (record {
+        row = λ parts same. of_host parts same (parts_row parts x) (parts_speak parts x);
+        enters = λ parts view same. of_host parts same (parts_entered parts view) (parts_speak_installed parts view);
+        stays = λ parts same.
+            (λ body. (words_stay parts x).0 body ∙ same.0 body, λ mark. (words_stay parts x).1 mark ∙ same.1 mark);
+        stays_entered = λ parts view same. (
+          λ body. (words_stay_installed parts view).0 body ∙ same.0 body,
+          λ mark. (words_stay_installed parts view).1 mark ∙ same.1 mark,
+        );
+      })
+      s (λ body. refl, λ mark. refl))
+
+pub hosts_law : HostsKeepToTheirWords
+hosts_law = record {
+  at_blocks = block_speaks;
+  at_signals = parts_speak;
+  at_installations = parts_speak_installed;
+  of_hosts = host_speaks;
+}
