@@ -17,7 +17,7 @@ use Rattle.takeover_block.specs.Takeover.{takeover_row}
 use Rattle.dih_node.specs.Orders as epochs
 use Rattle.tc_views.specs.Views as coordinators
 use Rattle.node_views.specs.declared.tc_part.TcPart.{TcPart}
-use Rattle.node_views.specs.Parts.{tc_row}
+use Rattle.node_views.specs.Parts.{tc_entered, tc_row}
 use Rattle.world_core.specs.Hosts.{member_at}
 use Rattle.world_core.specs.Start.{Start, made}
 use Rattle.world_core.specs.Steps.{Addressed, HostStep}

@@ -44,9 +44,9 @@ use Rattle.commit_laws.proofs.Passing.{passed}
 -- it is in such a phase before a turn, or behind it, or its client is told as it ends
 pub data ByTurn (p : Phase → Bool) (told : TxId → Body → Bool) (tx : TxId) (t : Transaction) (turn : Turn) : Type 0
   where
-  before : p t.phase ≡ true → ByTurn p told tx t turn
-  behind : turn.over ≡ false → p turn.step.state.phase ≡ true → ByTurn p told tx t turn
-  telling : is_sent (told tx) turn.step.effects.sends ≡ true → ByTurn p told tx t turn
+    before : p t.phase ≡ true → ByTurn p told tx t turn
+    behind : turn.over ≡ false → p turn.step.state.phase ≡ true → ByTurn p told tx t turn
+    telling : is_sent (told tx) turn.step.effects.sends ≡ true → ByTurn p told tx t turn
 
 abbrev pub BackBy : TxId → Transaction → Turn → Type 0
 BackBy tx t turn = ByTurn is_aborting tells_abort tx t turn

@@ -114,7 +114,8 @@ module _ (P : Outgoing → Type 0) (M : Mark → Type 0) where
     pub coordinator : (p : TcPart) → parts ≡ Tc p → Does P M (coordinator.install_row p.coordinator view)
     pub dih : (p : TcPart) → parts ≡ Tc p → Does P M (dih.install_row p.dih view.number)
 
-  pub parts_installed_each : (parts : Parts) (view : View) → InstallForms parts view → Does P M (parts_entered parts view)
+  pub parts_installed_each : (parts : Parts) (view : View) → InstallForms parts view
+      → Does P M (parts_entered parts view)
   parts_installed_each parts view forms = by parts refl
     where
       by : (q : Parts) → parts ≡ q → Does P M (parts_entered q view)

@@ -73,7 +73,8 @@ module _ {S : Type 0} (step : Step S) where
       first is_coordinator_word (λ body. is_takeover_word body || is_dih_word body) is_coordinator_mark
       (λ mark. is_takeover_mark mark || is_dih_mark mark) step
 
-  behind_coordinator : Speaks (λ body. is_takeover_word body || is_dih_word body) (λ mark. is_takeover_mark mark || is_dih_mark mark) step → OfTc
+  behind_coordinator : Speaks (λ body. is_takeover_word body || is_dih_word body)
+      (λ mark. is_takeover_mark mark || is_dih_mark mark) step → OfTc
   behind_coordinator =
       second is_coordinator_word (λ body. is_takeover_word body || is_dih_word body) is_coordinator_mark
       (λ mark. is_takeover_mark mark || is_dih_mark mark) step

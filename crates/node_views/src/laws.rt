@@ -29,6 +29,7 @@ pub fn cut_hosts_stay_cut()
 
 /// Whatever comes, a host sends and marks only what the blocks of its part may, beside the marks that
 /// it makes itself.
+#[tactic(auto, using(crate::proofs::WordWalk::hosts_law))]
 pub fn hosts_keep_to_their_words()
     ensures { HostsKeepToTheirWords }
 {}
