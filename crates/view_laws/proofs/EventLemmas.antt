@@ -15,11 +15,11 @@ use Rattle.qmgr_block.specs.State.{QmgrState}
 use Rattle.view_laws.specs.Ballots.{Promised}
 use Rattle.view_laws.specs.Kept.{AreOfPromises, AreRising, HaveRisen, IsInstalled, IsLast, IsNumberAsked, PromisesRise, WhatIsConfirmedWasPromised}
 use Rattle.view_laws.specs.Members.{confirmed_by, confirmed_of, effects_at, installed_of, is_adopted, promised_at, promises_of, state_of}
-use Rattle.view_laws.proofs.StepLemmas.{Asks, HasNumber, Stays, Steps, higher, row_installs, table_steps}
+use Rattle.view_laws.proofs.StepLemmas.{Asks, HasNumber, Stays, Steps, higher, row_installs, row_steps}
 
 -- what a signal does
 pub steps : (s : QmgrState) (x : Signal) → Steps s x.body (qmgr_row s x)
-steps s x = table_steps s x.from.0 x.member x.view.number x.body
+steps s x = row_steps s x
 
 -- the last promise is as before, or has a greater number
 abbrev pub Rises : View → View → Type 0

@@ -1,5 +1,5 @@
 -- A number is confirmed once each part has confirmed as many fences as were asked for up to its promise.
-use Rattle.std.proofs.Common.{◌≡◌, ◌⊎◌, ◌≤◌, ◌<◌, ◌+◌, ℕ, suc, Bool, true, false, List, [], ◌∷◌, ◌++◌, length, refl, ap, sym, subst, arith, inl, inr}
+use Rattle.std.proofs.Common.{◌≡◌, ◌⊎◌, ◌≤◌, ◌<◌, ◌+◌, ℕ, suc, Bool, true, false, List, [], ◌∷◌, ◌++◌, length, refl, ap, sym, subst, arith, inl, inr, ◌∙◌}
 use Rattle.std.specs.Prelude.{if◌then◌else◌}
 use Rattle.frag_map.specs.Layout.{Layout}
 use Rattle.run_theory.specs.Lists.{IsIn, IsPast}
@@ -7,9 +7,8 @@ use Rattle.run_theory.proofs.Pasts.{past_more, past_self}
 use Rattle.sig_core.specs.declared.mark.Mark.{Mark}
 use Rattle.sig_core.specs.declared.member.Member.{Member}
 use Rattle.sig_core.specs.declared.signal.Body.{Body}
-use Rattle.sig_core.specs.declared.signal.Body.TheVariants.{Host, Joining, Membership}
-use Rattle.sig_core.specs.declared.signal.membership.MembershipSignal.{MembershipSignal}
-use Rattle.sig_core.specs.declared.signal.membership.MembershipSignal.TheVariants.{ArbitConf, ArbitRef, FailRep, FenceConf, Heartbeat, PrepFailConf, PrepFailRef, PrepFailReq, StopSet}
+use Rattle.sig_core.specs.declared.signal.Body.TheVariants.{Membership}
+use Rattle.sig_core.specs.declared.signal.membership.MembershipSignal.TheVariants.{FenceConf, PrepFailReq}
 use Rattle.sig_core.specs.declared.signal.Signal.{Signal}
 use Rattle.sig_core.specs.declared.view.View.{View}
 use Rattle.sig_core.specs.Step.{Step}
@@ -18,16 +17,16 @@ use Rattle.qmgr_block.specs.declared.promise.Promise.{Promise}
 use Rattle.qmgr_block.specs.Install.{installed_row}
 use Rattle.qmgr_block.specs.Laws.{Event, installs, takes}
 use Rattle.qmgr_block.specs.Promise.{is_ldm, may_promise, promise_by, promise_row, promising, waiting_promise, waits_for, with_absent}
-use Rattle.qmgr_block.specs.Qmgr.{membership_table, qmgr_installed, qmgr_row, qmgr_table}
+use Rattle.qmgr_block.specs.Qmgr.{qmgr_installed, qmgr_row, qmgr_table}
 use Rattle.qmgr_block.specs.State.{QmgrState}
 use Rattle.qmgr_block.specs.Suspects.{has_more}
-use Rattle.view_laws.specs.Events.{IsSound}
 use Rattle.view_laws.specs.Members.{confirmed_by, confirmed_of, known_of, state_of}
 use Rattle.view_laws.proofs.FenceOrder.{InOrder, behind, drop_few, drop_left, drop_order, full, left, left_all, same, set_left, set_order, snoc_left, snoc_order, times, times_more, waits_some}
 use Rattle.view_laws.proofs.FenceWaits.{AreRanked, Confirms, HasRank, confirms, drop_ranked, first_rank, lessens, row_confirms, set_ranked, stays}
-use Rattle.view_laws.proofs.RowLemmas.{absent_like, confirm_goes, granted_goes, heartbeat_goes, host_goes, joining_goes, promised_like, refused_goes, report_goes, stop_goes, unpromised_goes}
+use Rattle.qmgr_block.proofs.Outcomes.{is_of_promises}
+use Rattle.view_laws.proofs.RowLemmas.{absent_like, promised_like}
 use Rattle.view_laws.proofs.SetLemmas.{in_either}
-use Rattle.view_laws.proofs.StepLemmas.{higher}
+use Rattle.view_laws.proofs.StepLemmas.{higher, row_steps}
 use Rattle.view_laws.proofs.WalkLemmas.{moves_told_if}
 use Rattle.sig_core.proofs.Firsts.{first_passes}
 
@@ -85,33 +84,30 @@ module _ (s : QmgrState) (host : ℕ) where
   unfolding promise_row
   promise_does to set = promise_by_does to set (may_promise s.known set) refl
 
-  membership_does : (member : Member) (signal : MembershipSignal)
-      → Does s host (Membership signal) (membership_table s host member signal)
-  membership_does member Heartbeat = rests refl (heartbeat_goes ⊥ s.known member).silent refl (λ c. refl)
-  membership_does member (FailRep suspects) = rests refl (report_goes ⊥ s.known suspects).silent refl (λ c. refl)
-  membership_does member (PrepFailReq proposal) = promise_does member.node proposal
-  membership_does member FenceConf = hears refl (λ c. refl) (row_confirms s host)
-  membership_does member (PrepFailConf number) =
-      rests refl (confirm_goes ⊥ s.known number member).silent refl (λ c. refl)
-  membership_does member (PrepFailRef promised) =
-      rests refl (unpromised_goes ⊥ s.known promised).silent refl (λ c. refl)
-  membership_does member (ArbitConf number) = rests refl (granted_goes ⊥ s.known number).silent refl (λ c. refl)
-  membership_does member (ArbitRef number members) =
-      rests refl (refused_goes ⊥ s.known number members).silent refl (λ c. refl)
-  membership_does member (StopSet cause) = rests refl (stop_goes ⊥ s.known cause).silent refl (λ c. refl)
-  membership_does member _ = rests refl refl refl (λ c. refl)
-
-  table_does : (member : Member) (number : ℕ) (body : Body) → Does s host body (qmgr_table s host member number body)
-  table_does member number (Host signal) =
-      rests refl (host_goes ⊥ s.known member number signal).silent refl (λ c. refl)
-  table_does member number (Membership signal) = membership_does member signal
-  table_does member number (Joining signal) =
-      rests refl (joining_goes (IsSound s.known.me (Joining signal)) s.known signal (λ sound. sound)).silent refl
-      (λ c. refl)
-  table_does member number _ = rests refl refl refl (λ c. refl)
-
+-- whatever it takes
 pub row_does : (s : QmgrState) (x : Signal) → Does s x.from.0 x.body (qmgr_row s x)
-row_does s x = table_does s x.from.0 x.member x.view.number x.body
+row_does s x = by x.body refl
+  where
+    -- the row of the signal is that of its body
+    at_body : (body : Body) → x.body ≡ body
+        → Does s x.from.0 body (qmgr_table s x.from.0 x.member x.view.number body)
+        → Does s x.from.0 x.body (qmgr_row s x)
+    at_body body is =
+        subst (λ body. Does s x.from.0 body (qmgr_table s x.from.0 x.member x.view.number body)) (sym is)
+
+    by : (body : Body) → x.body ≡ body → Does s x.from.0 x.body (qmgr_row s x)
+    by (Membership (PrepFailReq set)) is =
+        at_body (Membership (PrepFailReq set)) is (promise_does s x.from.0 x.member.node set)
+    by (Membership FenceConf) is =
+        at_body (Membership FenceConf) is (hears refl (λ c. refl) (row_confirms s x.from.0))
+    by body is = other (row_steps s x).quiet
+      where
+        other : (is_of_promises x.body ≡ true)
+            ⊎ (((qmgr_row s x).state.promises ≡ s.promises) × (confirmed_by (qmgr_row s x).effects.marks ≡ []))
+            → Does s x.from.0 x.body (qmgr_row s x)
+        other (inl of) = let of_body : is_of_promises body ≡ true = sym (ap is_of_promises is) ∙ of in absurd cc
+        other (inr (same, silent)) =
+            rests same silent (ap (asked_by s.known) is) (λ c. ap (confs_by c x.from.0) is)
 
 times_rises : (c : Bool) (one two all : ℕ) → one + two ≤ all → times c one + times c two ≤ times c all
 times_rises true one two all low = omega (arith, low)

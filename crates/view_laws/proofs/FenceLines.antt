@@ -37,7 +37,7 @@ use Rattle.view_laws.proofs.FenceSent.{untold_fence}
 use Rattle.view_laws.proofs.FollowHosts.{hosts_follow}
 use Rattle.view_laws.proofs.VotesLists.{IsSaidOf, SayingAll, all_said, behind_all}
 use Rattle.view_laws.proofs.VotesMain.{entered_in}
-use Rattle.view_laws.proofs.VotesMaster.{master_none}
+use Rattle.view_laws.proofs.VotesKinds.{master_none}
 use Rattle.view_laws.proofs.VotesNone.{AreNoVotes, IsNoVote, is_fencing}
 
 -- requests among other sends

@@ -1,4 +1,4 @@
--- A number is confirmed once each part has confirmed as many fences as were asked for up to its promise.
+-- What a confirmation of a fence does to the promises that wait, and how many were asked for up to each of them.
 use Rattle.std.proofs.Common.{◌≡◌, ◌≤◌, ◌+◌, ◌∙◌, ℕ, suc, Bool, true, false, List, [], ◌∷◌, length, refl, ap, sym, subst, arith}
 use Rattle.std.specs.Prelude.{if◌then◌else◌, Option, None, Some, position, slice_get}
 use Rattle.sig_core.proofs.Firsts.{first-drop, first-get, first-set, drop_by, get_by, set_by, set_first}

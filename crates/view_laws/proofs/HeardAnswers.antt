@@ -27,7 +27,7 @@ use Rattle.view_laws.specs.Members.{confirmed_by, confirmed_of, proposed_of, sta
 use Rattle.view_laws.specs.Sets.{all_of}
 use Rattle.view_laws.specs.Votes.{is_vote}
 use Rattle.view_laws.proofs.EntryLemmas.{entry_of, new_there}
-use Rattle.view_laws.proofs.HeardRows.{Answers, Does, IsPlain, Proposes, Waits, does_answer, does_hear, does_propose, does_rest, does_settle, table_does}
+use Rattle.view_laws.proofs.HeardRows.{Answers, Does, IsPlain, Proposes, Waits, does_answer, does_hear, does_propose, does_rest, does_settle, row_does}
 use Rattle.view_laws.proofs.HeardWaiting.{IsPending, pending, pending_more}
 use Rattle.view_laws.proofs.SetRows.{take_in}
 
@@ -153,4 +153,4 @@ module _ (me : Member) (layout : Layout) (events : List Event) (x : Signal) wher
 pub answer_rightly : MembershipsAnswerRightly
 answer_rightly me layout events x orderly =
     right_by me layout events x
-    (table_does (state_of me layout events) x.member x.from.0 x.view.number x.body)
+    (row_does (state_of me layout events) x)

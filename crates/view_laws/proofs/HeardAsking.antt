@@ -36,7 +36,7 @@ use Rattle.view_laws.specs.Sets.{Change, all_of, joining, joins, promotes, shrin
 use Rattle.view_laws.specs.Votes.{is_vote}
 use Rattle.view_laws.proofs.ApartLemmas.{all_members}
 use Rattle.view_laws.proofs.EntryLemmas.{change_joins, entry_of, new_there}
-use Rattle.view_laws.proofs.HeardRows.{Does, Hears, IsPlain, Settles, does_answer, does_hear, does_propose, does_rest, does_settle, is_settling, table_does}
+use Rattle.view_laws.proofs.HeardRows.{Does, Hears, IsPlain, Settles, does_answer, does_hear, does_propose, does_rest, does_settle, is_settling, row_does}
 use Rattle.view_laws.proofs.ProposalLemmas.{each_right, shape_is}
 use Rattle.view_laws.proofs.SetRows.{among_is}
 use Rattle.view_laws.proofs.WalkLemmas.{closed_like}
@@ -249,7 +249,7 @@ module _ (me : Member) (layout : Layout) (events : List Event) (x : Signal) wher
   Done = Does s x.member x.body l effects
 
   done : Done
-  done = table_does s x.member x.from.0 x.view.number x.body
+  done = row_does s x
 
   heard_of : Stands → (h : Hears s.known l x.member x.body effects)
       → (h.p.lost ≡ None) × IsHeardOf older (x ∷ taken) (heard h.p x.member).awaited h.p.view h.p.joining

@@ -1,9 +1,8 @@
 -- What each row of the membership does to the outstanding proposal, which votes it sends, and where it settles.
-use Rattle.std.proofs.Common.{◌≡◌, ◌≤◌, ◌<◌, ◌&&◌, ◌||◌, ◌==◌, ◌⊎◌, ℕ, zero, suc, Bool, true, false, nat_lt, not, List, [], ◌∷◌, ◌++◌, map, take, drop, refl, arith, inl, inr}
-use Rattle.std.specs.Prelude.{if◌then◌else◌, is_some, Option, None, Some, position, slice_get}
-use Rattle.frag_map.specs.Groups.{lost_group}
+use Rattle.std.proofs.Common.{◌≡◌, ◌≤◌, ◌<◌, ◌&&◌, ◌==◌, ◌⊎◌, ℕ, zero, suc, Bool, true, false, nat_lt, not, List, [], ◌∷◌, ◌++◌, map, refl, arith, inl, inr, ap, sym, subst, ◌∙◌}
+use Rattle.std.specs.Prelude.{is_some, Option, None, Some, slice_get}
 use Rattle.run_theory.specs.Lists.{Each, IsIn}
-use Rattle.run_theory.proofs.EachSent.{each_drop, each_mapped, each_take}
+use Rattle.run_theory.proofs.EachSent.{each_mapped}
 use Rattle.run_theory.proofs.Pasts.{each_append, each_from, each_map}
 use Rattle.sig_core.specs.declared.mark.Mark.{Mark}
 use Rattle.sig_core.specs.declared.mark.Mark.TheVariants.{Decided, Installed, Promised}
@@ -11,36 +10,35 @@ use Rattle.sig_core.specs.declared.member.Member.{Member}
 use Rattle.sig_core.specs.declared.outcome.StopCause.{StopCause}
 use Rattle.sig_core.specs.declared.outcome.StopCause.TheVariants.{Clock, Disk, Excluded, Killed, Memory, NoGroup, Sibling}
 use Rattle.sig_core.specs.declared.outs.Outgoing.{Outgoing}
-use Rattle.sig_core.specs.declared.place.Place.{Place}
 use Rattle.sig_core.specs.declared.signal.Body.{Body}
-use Rattle.sig_core.specs.declared.signal.Body.TheVariants.{Host, Joining, Membership}
-use Rattle.sig_core.specs.declared.signal.host.HostSignal.{HostSignal}
-use Rattle.sig_core.specs.declared.signal.host.HostSignal.TheVariants.{Closed, Continue, Round}
-use Rattle.sig_core.specs.declared.signal.host.Work.TheVariants.{Installation, Members}
-use Rattle.sig_core.specs.declared.signal.joining.JoiningSignal.{JoiningSignal}
-use Rattle.sig_core.specs.declared.signal.joining.JoiningSignal.TheVariants.{PromoteReq, StartGone, StartReq}
-use Rattle.sig_core.specs.declared.signal.membership.MembershipSignal.{MembershipSignal}
-use Rattle.sig_core.specs.declared.signal.membership.MembershipSignal.TheVariants.{ArbitConf, ArbitRef, FailRep, FenceConf, Heartbeat, PrepFailConf, PrepFailRef, PrepFailReq, StopSet}
+use Rattle.sig_core.specs.declared.signal.Body.TheVariants.{Membership}
+use Rattle.sig_core.specs.declared.signal.host.Work.TheVariants.{Members}
+use Rattle.sig_core.specs.declared.signal.membership.MembershipSignal.TheVariants.{ArbitConf, PrepFailConf}
 use Rattle.sig_core.specs.declared.view.View.{View}
-use Rattle.sig_core.specs.Place.{membership}
-use Rattle.sig_core.specs.Portion.{rest_if}
-use Rattle.sig_core.specs.Step.{Effects, Step, nothing, stay, to_place}
+use Rattle.sig_core.specs.Place.{client, membership}
+use Rattle.sig_core.specs.Step.{Effects, Step, stay, to_place}
 use Rattle.qmgr_block.specs.declared.known.Known.{Known}
 use Rattle.qmgr_block.specs.declared.known.Proposal.{Proposal}
 use Rattle.qmgr_block.specs.declared.promise.Promise.{Promise}
-use Rattle.qmgr_block.specs.Decide.{awaits, confirm_by, confirm_if, confirm_row, confirmed_all, confirmed_one, granted_by, granted_if, granted_row, heard, is_asked, needs_no_grant, refused_by, refused_if, refused_row, stop_row, stopping, unpromised_by, unpromised_if, unpromised_row, with_unlike}
-use Rattle.qmgr_block.specs.Install.{commit_of, copy_of, is_some_suspect, order_if, order_row, orders, own_orders, work_by, work_if, work_row}
-use Rattle.qmgr_block.specs.Join.{has_node, is_settled, join, promote_row, start_by, start_row}
-use Rattle.qmgr_block.specs.Promise.{confirmed_at, confirmed_if, confirmed_place, fence_row, fences, is_fenced, is_ldm, less, may_promise, promise_by, promise_row, promising, refusal_of, waits_for, with_absent}
-use Rattle.qmgr_block.specs.Propose.{greatest_number, has_number, next_number, proposal_by, proposal_sends, propose, proposed_if, proposed_view, remaining_view, stop_of, stop_sends}
-use Rattle.qmgr_block.specs.Qmgr.{host_table, joining_table, membership_table, qmgr_table}
-use Rattle.qmgr_block.specs.Ring.{heartbeat_row, heartbeat_to, round_by, round_row, sides, with_missing, with_round}
-use Rattle.qmgr_block.specs.Sets.{is_among, is_in, joined_view, members_of, promoted_view, without}
-use Rattle.qmgr_block.specs.Starts.{covers}
+use Rattle.qmgr_block.specs.Decide.{awaits, confirmed_all, confirmed_one, heard, is_asked, stopping, with_unlike}
+use Rattle.qmgr_block.specs.Install.{commit_of, copy_of, is_some_suspect, orders, own_orders, work_if}
+use Rattle.qmgr_block.specs.Promise.{confirmed_if, fences, is_ldm, less, promising, refusal_of, with_absent}
+use Rattle.qmgr_block.specs.Propose.{greatest_number, next_number, proposal_by, proposal_sends, remaining_view, stop_of, stop_sends}
+use Rattle.qmgr_block.specs.Qmgr.{qmgr_table}
+use Rattle.qmgr_block.specs.Ring.{heartbeat_to, with_missing, with_round}
+use Rattle.qmgr_block.specs.Sets.{is_among, joined_view, members_of, promoted_view, without}
 use Rattle.qmgr_block.specs.State.{QmgrState, sent_before}
-use Rattle.qmgr_block.specs.Suspects.{close_row, has_more, is_kept_suspect, president, presides, report_row, told, told_by, told_if, with_closing, with_suspects}
+use Rattle.qmgr_block.specs.Suspects.{with_closing, with_suspects}
+use Rattle.step_forms.proofs.PortionLemmas.{portion_each}
+use Rattle.sig_core.specs.declared.signal.Signal.{Signal}
+use Rattle.qmgr_block.specs.Decide.{refused_cause, stop_by}
+use Rattle.qmgr_block.specs.Promise.{waiting_promise}
+use Rattle.qmgr_block.specs.Propose.{proposed_by}
+use Rattle.qmgr_block.specs.Qmgr.{qmgr_row}
+use Rattle.qmgr_block.specs.State.{beside, proposing}
+use Rattle.qmgr_block.proofs.Outcomes.{ToldForms, qmgr_outcomes}
 use Rattle.view_laws.specs.Votes.{is_vote}
-use Rattle.view_laws.proofs.RowLemmas.{absent_like, closing_like, heartbeat_by_like, missed_like, promised_like, unlike_like}
+use Rattle.view_laws.proofs.RowLemmas.{absent_like, closing_like, missed_like, promised_like, unlike_like}
 use Rattle.view_laws.proofs.WalkLemmas.{Like, greatest_if, like_self, suspects_like}
 
 -- the mark of a view that is settled on, or of a decision, which no membership makes
@@ -106,9 +104,6 @@ pub record Answers (s : QmgrState) (l : Known) (effects : Effects) : Type 0 wher
         marks = Promised number ∷ [];
       }
 
-abbrev pub Turns : Known → Step Known → Type 0
-Turns k step = Rests k step.state step.effects ⊎ Proposes k step.state step.effects
-
 -- what a signal does
 pub data Does (s : QmgrState) (member : Member) (body : Body) (l : Known) (effects : Effects) : Type 0 where
   does_rest : Rests s.known l effects → Does s member body l effects
@@ -117,180 +112,13 @@ pub data Does (s : QmgrState) (member : Member) (body : Body) (l : Known) (effec
   does_settle : Settles s.known l body effects → Does s member body l effects
   does_answer : Answers s l effects → Does s member body l effects
 
--- steps that propose nothing
-rests_like : (k l : Known) (last : View) (sends : List Outgoing) → Like k l last → Each IsPlain sends
-    → Rests k l (record { sends = sends; marks = [] })
-rests_like k l last sends like plain = record { outstanding = like.outstanding; sends = plain; marks = tt }
-
-rests_stay : (k : Known) → Rests k k nothing
-rests_stay k = rests_like k k k.promised [] (like_self k) tt
-
--- signals before a step
-turns_sent : (k : Known) (front : List Outgoing) (step : Step Known) → Each IsPlain front → Turns k step
-    → Turns k (sent_before front step)
-turns_sent k front step plain (inl rests) = inl (record {
-  outstanding = rests.outstanding;
-  sends = each_append IsPlain front step.effects.sends plain rests.sends;
-  marks = rests.marks;
-})
-turns_sent k front step plain (inr one) = inr (record {
-  set = one.set;
-  joining = one.joining;
-  lost = one.lost;
-  outstanding = one.outstanding;
-  above = one.above;
-  sends = each_append _ front step.effects.sends (each_map _ _ front (λ sent is. inl is) plain) one.sends;
-  marks = one.marks;
-})
-
--- proposals
-turns_proposed : (k l : Known) (last : View) → Like k l last → (set : View) (joining : Option Member)
-    → set.number ≡ next_number l → Turns k (proposed_view l set joining)
-unfolding proposed_view
-turns_proposed k l last like set joining next =
+-- each number to come is above the last one that was proposed
+above_last : (k l : Known) (last : View) → Like k l last → k.proposed < next_number l
+above_last k l last like =
     let great = greatest_if l.promised.number l.proposed (nat_lt l.promised.number l.proposed) refl in
     let low : l.proposed ≤ greatest_number l = great.1 in
     let before : l.proposed ≡ k.proposed = like.proposed in
-    let lost = lost_group l.layout.shape set in
-    inr (record {
-      set = set;
-      joining = joining;
-      lost = lost;
-      outstanding = refl;
-      above = omega arith;
-      sends = each_from _ (proposal_sends set lost) (λ sent is. inr is);
-      marks = tt;
-    })
-
-turns_proposed_if : (k l : Known) (last : View) → Like k l last → (set : View) (joining : Option Member) (may : Bool)
-    → set.number ≡ next_number l → Turns k (proposed_if l set joining may)
-turns_proposed_if k l last like set joining true next = turns_proposed k l last like set joining next
-turns_proposed_if k l last like set joining false next = inl (rests_like k l last [] like tt)
-
-turns_told_by : (k l : Known) (last : View) → Like k l last → (joined own : Bool) (president : Option Member)
-    → Turns k (told_by l joined own president)
-unfolding propose
-turns_told_by k l last like false own president = inl (rests_like k l last [] like tt)
-turns_told_by k l last like true true president =
-    turns_proposed_if k l last like (remaining_view l) None (has_number l) refl
-turns_told_by k l last like true false None = inl (rests_like k l last [] like tt)
-turns_told_by k l last like true false (Some member) = inl (rests_like k l last _ like (refl, tt))
-
-turns_told_if : (k l : Known) (last : View) → Like k l last → (changed : Bool) → Turns k (told_if l changed)
-unfolding told
-turns_told_if k l last like true = turns_told_by k l last like l.has_joined (presides l) (president l)
-turns_told_if k l last like false = inl (rests_like k l last [] like tt)
-
--- heartbeats
-round_by_turns : (k : Known) (next before : Option Member) → Turns k (round_by k next before)
-round_by_turns k (Some next) (Some before) =
-    let missing = with_missing (with_round k) before in
-    turns_sent k (heartbeat_to next ∷ []) (told_if missing (has_more k missing)) (refl, tt)
-    (turns_told_if k missing k.promised (missed_like k before) (has_more k missing))
-round_by_turns k (Some next) None = inl (rests_stay k)
-round_by_turns k None before = inl (rests_stay k)
-
-round_turns : (k : Known) → Turns k (round_row k)
-unfolding round_row
-round_turns k = round_by_turns k (sides k).next (sides k).before
-
-heartbeat_turns : (k : Known) (member : Member) → Turns k (heartbeat_row k member)
-unfolding heartbeat_row
-heartbeat_turns k member = inl (rests_like k _ k.promised [] (heartbeat_by_like k member (sides k).before) tt)
-
--- suspects
-report_turns : (k : Known) (suspects : List Member) → Turns k (report_row k suspects)
-unfolding report_row
-report_turns k suspects =
-    let l = with_suspects k suspects in
-    turns_told_if k l k.promised (suspects_like k suspects) (has_more k l)
-
-close_if_turns : (k : Known) (member : Member) (own changed : Bool)
-    → Turns k (if own then stay k else told_if (with_closing k member) changed)
-close_if_turns k member true changed = inl (rests_stay k)
-close_if_turns k member false changed =
-    turns_told_if k (with_closing k member) k.promised (closing_like k member) changed
-
-close_turns : (k : Known) (member : Member) → Turns k (close_row k member)
-unfolding close_row
-close_turns k member =
-    close_if_turns k member (member.node == k.me.node) (is_kept_suspect k member || has_more k (with_closing k member))
-
--- orders to stop
-stopping_turns : (k : Known) (p : Proposal) (cause : StopCause) → Turns k (stopping k p cause)
-unfolding stop_sends
-stopping_turns k p cause =
-    inl (rests_like k k k.promised _ (like_self k)
-    (each_append IsPlain (map (stop_of cause) (without (members_of p.view) (k.me ∷ []))) (stop_of cause k.me ∷ [])
-    (each_mapped IsPlain (stop_of cause) _ (λ member. refl)) (refl, tt)))
-
-refused_if_turns : (k : Known) (p : Proposal) (cause : StopCause) (may : Bool) → Turns k (refused_if k p cause may)
-refused_if_turns k p cause true = stopping_turns k p cause
-refused_if_turns k p cause false = inl (rests_stay k)
-
-refused_by_turns : (k : Known) (outstanding : Option Proposal) (number : ℕ) (members : List Member)
-    → Turns k (refused_by k outstanding number members)
-refused_by_turns k None number members = inl (rests_stay k)
-refused_by_turns k (Some p) number members = refused_if_turns k p _ (is_asked p)
-
-refused_turns : (k : Known) (number : ℕ) (members : List Member) → Turns k (refused_row k number members)
-unfolding refused_row
-refused_turns k number members = refused_by_turns k k.outstanding number members
-
-unpromised_if_turns : (k : Known) (p : Proposal) (promised : View) (among : Bool)
-    → Turns k (unpromised_if k p promised among)
-unpromised_if_turns k p promised true =
-    turns_told_if k (with_unlike k p.view promised) k.promised (unlike_like k p.view promised) true
-unpromised_if_turns k p promised false = stopping_turns k p (Excluded promised.number)
-
-unpromised_by_turns : (k : Known) (outstanding : Option Proposal) (promised : View)
-    → Turns k (unpromised_by k outstanding promised)
-unpromised_by_turns k None promised = inl (rests_stay k)
-unpromised_by_turns k (Some p) promised = unpromised_if_turns k p promised (is_in promised k.me)
-
-unpromised_turns : (k : Known) (promised : View) → Turns k (unpromised_row k promised)
-unfolding unpromised_row
-unpromised_turns k promised = unpromised_by_turns k k.outstanding promised
-
-rests_marks : (k : Known) (marks : List Mark) → Each (λ mark. is_settling mark ≡ false) marks
-    → Rests k k (record { sends = []; marks = marks })
-rests_marks k marks none = record { outstanding = refl; sends = tt; marks = none }
-
-stop_turns : (k : Known) (cause : StopCause) → Turns k (stop_row k cause)
-unfolding stop_row
-stop_turns k (NoGroup group) = inl (rests_marks k _ (refl, (refl, tt)))
-stop_turns k (Excluded number) = inl (rests_marks k _ (refl, tt))
-stop_turns k Killed = inl (rests_marks k _ (refl, tt))
-stop_turns k Memory = inl (rests_marks k _ (refl, tt))
-stop_turns k Clock = inl (rests_marks k _ (refl, tt))
-stop_turns k (Disk count) = inl (rests_marks k _ (refl, tt))
-stop_turns k (Sibling host) = inl (rests_marks k _ (refl, tt))
-
--- joins and promotions
-join_turns : (k : Known) (member : Member) → Turns k (join k member)
-unfolding joined_view
-join_turns k member =
-    turns_proposed_if k k k.promised (like_self k) (joined_view k.layout.view (next_number k) member) (Some member)
-    (presides k && has_number k) refl
-
-start_by_turns : (k : Known) (member : Member) (full in_view settled seen : Bool)
-    → Turns k (start_by k member full in_view settled seen)
-start_by_turns k member true in_view settled seen = inl (rests_like k k k.promised _ (like_self k) (refl, tt))
-start_by_turns k member false true settled seen = inl (rests_stay k)
-start_by_turns k member false false false seen = inl (rests_stay k)
-start_by_turns k member false false true true = inl (rests_like k k k.promised _ (like_self k) (refl, tt))
-start_by_turns k member false false true false = join_turns k member
-
-start_turns : (k : Known) (member : Member) → Turns k (start_row k member)
-unfolding start_row
-start_turns k member =
-    start_by_turns k member (is_among k.layout.view.full member) (has_node (members_of k.layout.view) member)
-    (is_settled k) (covers k.seen member)
-
-promote_turns : (k : Known) (member : Member) → Turns k (promote_row k member)
-unfolding promote_row promoted_view
-promote_turns k member =
-    turns_proposed_if k k k.promised (like_self k) (promoted_view k.layout.view (next_number k) member) None _ refl
+    omega (arith, low, before)
 
 -- orders of an installation
 work_plain : (me : Member) (left : Bool) → Each IsPlain (work_if me left)
@@ -312,133 +140,83 @@ orders_plain k =
     (each_mapped IsPlain (copy_of k.me.node) k.layout.view.starting (λ member. refl)) in
     each_append IsPlain (commits ++ own ++ copies) work copied (work_plain k.me (is_some_suspect k.suspects))
 
-rest_plain : (by : Place) (at : ℕ) (more : Bool) → Each IsPlain (rest_if by Members at more)
-rest_plain by at true = (refl, tt)
-rest_plain by at false = tt
+module _ (s : QmgrState) (x : Signal) where
+  abbrev k : Known
+  k = s.known
 
-order_if_turns : (k : Known) (at : ℕ) (may : Bool) → Turns k (order_if k at may)
-order_if_turns k at true =
-    inl (rests_like k k k.promised _ (like_self k)
-    (each_append IsPlain (take 8 (drop at (orders k))) _
-    (each_take IsPlain 8 (drop at (orders k)) (each_drop IsPlain at (orders k) (orders_plain k)))
-    (rest_plain _ at _)))
-order_if_turns k at false = inl (rests_stay k)
+  abbrev DoesAt : Step QmgrState → Type 0
+  DoesAt step = Does s x.member x.body step.state.known step.effects
 
-order_turns : (k : Known) (number at : ℕ) → Turns k (order_row k number at)
-unfolding order_row
-order_turns k number at = order_if_turns k at _
+  does_stay : DoesAt (stay s)
+  does_stay = does_rest (record { outstanding = refl; sends = tt; marks = tt })
 
-work_by_turns : (k : Known) (may : Bool) → Turns k (work_by k may)
-work_by_turns k true = turns_told_if k k k.promised (like_self k) true
-work_by_turns k false = inl (rests_stay k)
+  -- it sends no vote, and makes no such mark
+  sends_plain : (l : Known) (last : View) (sends : List Outgoing) → Like k l last → Each IsPlain sends
+      → Does s x.member x.body l (record { sends = sends; marks = [] })
+  sends_plain l last sends like plain = does_rest (record { outstanding = like.outstanding; sends = plain; marks = tt })
 
-work_turns : (k : Known) (number : ℕ) → Turns k (work_row k number)
-unfolding work_row
-work_turns k number = work_by_turns k _
-
-host_turns : (k : Known) (member : Member) (number : ℕ) (signal : HostSignal)
-    → Turns k (host_table k member number signal)
-host_turns k member number Round = round_turns k
-host_turns k member number (Closed cause) = close_turns k member
-host_turns k member number (Continue Members at) = order_turns k number at
-host_turns k member number (Continue Installation at) = work_turns k number
-host_turns k member number _ = inl (rests_stay k)
-
-joining_turns : (k : Known) (signal : JoiningSignal) → Turns k (joining_table k signal)
-joining_turns k (StartReq member) = start_turns k member
-joining_turns k (PromoteReq member) = promote_turns k member
-joining_turns k (StartGone member) = close_turns k member
-joining_turns k _ = inl (rests_stay k)
-
--- promises
-promise_by_turns : (s : QmgrState) (to : ℕ) (set : View) (may : Bool)
-    → Rests s.known (promise_by s to set may).state.known (promise_by s to set may).effects
-    ⊎ Proposes s.known (promise_by s to set may).state.known (promise_by s to set may).effects
-promise_by_turns s to set true =
-    let k = s.known in
-    let l = promising (with_absent k set) set in
-    turns_sent k (fences k.me.node set) (told_if l (has_more k l)) (refl, (refl, (refl, tt)))
-    (turns_told_if k l set (promised_like k set) (has_more k l))
-promise_by_turns s to set false =
-    let k = s.known in
-    let l = with_absent k set in
-    turns_sent k (refusal_of k to ∷ []) (told_if l (has_more k l)) (refl, tt)
-    (turns_told_if k l k.promised (absent_like k set) (has_more k l))
-
-promise_turns : (s : QmgrState) (to : ℕ) (set : View)
-    → Rests s.known (promise_row s to set).state.known (promise_row s to set).effects
-    ⊎ Proposes s.known (promise_row s to set).state.known (promise_row s to set).effects
-unfolding promise_row
-promise_turns s to set = promise_by_turns s to set (may_promise s.known set)
-
--- what becomes of a proposal
-module _ (s : QmgrState) (member : Member) where
-  does_turn : (body : Body) (l : Known) (effects : Effects) → Rests s.known l effects ⊎ Proposes s.known l effects
-      → Does s member body l effects
-  does_turn body l effects (inl rests) = does_rest rests
-  does_turn body l effects (inr one) = does_propose one
-
-  does_stay : (body : Body) → Does s member body s.known nothing
-  does_stay body = does_rest (rests_stay s.known)
-
-  abbrev DoesBy : Body → Step Known → Type 0
-  DoesBy body step = Does s member body step.state step.effects
-
-  confirmed_open : (k : Known) (p : Proposal) (awaited : List Member)
-      → (confirmed_one k p awaited).state.outstanding ≡ Some p
-  confirmed_open k p [] = by (needs_no_grant k p)
-    where
-      by : (free : Bool) → (confirmed_all k p free).state.outstanding ≡ Some p
-      by true = refl
-      by false = refl
-  confirmed_open k p (next ∷ members) = refl
-
-  confirm_if_does : (p : Proposal) (number : ℕ) (may : Bool) → s.known.outstanding ≡ Some p
-      → awaits p number member ≡ may → DoesBy (Membership (PrepFailConf number)) (confirm_if s.known p member may)
-  confirm_if_does p number true is e = does_hear (record {
-    p = p;
-    is = is;
-    number = number;
-    says = refl;
-    awaited = e;
-    outstanding = confirmed_open s.known (heard p member) (heard p member).awaited;
-    effects_are = refl;
-  })
-  confirm_if_does p number false is e = does_stay _
-
-  confirm_by_does : (outstanding : Option Proposal) (number : ℕ) → s.known.outstanding ≡ outstanding
-      → DoesBy (Membership (PrepFailConf number)) (confirm_by s.known outstanding number member)
-  confirm_by_does None number is = does_stay _
-  confirm_by_does (Some p) number is = confirm_if_does p number (awaits p number member) is refl
-
-  confirm_does : (number : ℕ) → DoesBy (Membership (PrepFailConf number)) (confirm_row s.known number member)
-  unfolding confirm_row
-  confirm_does number = confirm_by_does s.known.outstanding number refl
-
-  granted_if_does : (p : Proposal) (number : ℕ) (may : Bool) → s.known.outstanding ≡ Some p
-      → ((p.view.number == number) && is_asked p && not (is_some p.lost)) ≡ may
-      → DoesBy (Membership (ArbitConf number)) (granted_if s.known p may)
-  granted_if_does p number true is e = does_settle (record {
-    p = p;
-    is = is;
-    number = number;
-    says = refl;
-    may = e;
+  proposes : (l : Known) (set : View) (joining : Option Member) (lost : Option ℕ) (front : List Outgoing)
+      → k.proposed < set.number → Each IsPlain front
+      → DoesAt (beside s.promises (sent_before front (proposed_by l set joining lost)))
+  proposes l set joining lost front above plain = does_propose (record {
+    set = set;
+    joining = joining;
+    lost = lost;
     outstanding = refl;
-    effects_are = refl;
+    above = above;
+    sends =
+        each_append _ front (proposal_sends set lost) (each_map _ _ front (λ sent is. inl is) plain)
+        (each_from _ (proposal_sends set lost) (λ sent is. inr is));
+    marks = tt;
   })
-  granted_if_does p number false is e = does_stay _
 
-  granted_by_does : (outstanding : Option Proposal) (number : ℕ) → s.known.outstanding ≡ outstanding
-      → DoesBy (Membership (ArbitConf number)) (granted_by s.known outstanding number)
-  granted_by_does None number is = does_stay _
-  granted_by_does (Some p) number is = granted_if_does p number _ is refl
+  -- what comes of suspects, behind these signals
+  told_does : (l : Known) (last : View) → Like k l last → (promises : List Promise) (front : List Outgoing)
+      → Each IsPlain front → ToldForms l (λ step. DoesAt (beside promises (sent_before front step)))
+  told_does l last like promises front plain = record {
+    rests = sends_plain l last (front ++ []) like (each_append IsPlain front [] plain tt);
+    proposes = λ lost joined own room is.
+        proposes l (remaining_view l) None lost front (above_last k l last like) plain;
+    tells = λ member joined other is.
+        sends_plain l last _ like (each_append IsPlain front _ plain (refl, tt));
+  }
 
-  granted_does : (number : ℕ) → DoesBy (Membership (ArbitConf number)) (granted_row s.known number)
-  unfolding granted_row
-  granted_does number = granted_by_does s.known.outstanding number refl
+  told_only : (l : Known) → Like k l k.promised → ToldForms l (λ step. DoesAt (beside s.promises step))
+  told_only l like = told_does l k.promised like s.promises [] tt
 
-  -- fences
+  stops_plain : (p : Proposal) (cause : StopCause) → DoesAt (beside s.promises (stopping k p cause))
+  unfolding stop_sends
+  stops_plain p cause =
+      sends_plain k k.promised _ (like_self k)
+      (each_append IsPlain (map (stop_of cause) (without (members_of p.view) (k.me ∷ []))) (stop_of cause k.me ∷ [])
+      (each_mapped IsPlain (stop_of cause) _ (λ member. refl)) (refl, tt))
+
+  stop_rests : (cause : StopCause) → DoesAt (beside s.promises (stop_by k cause))
+  stop_rests (NoGroup group) = does_rest (record { outstanding = refl; sends = tt; marks = (refl, (refl, tt)) })
+  stop_rests (Excluded number) = does_rest (record { outstanding = refl; sends = tt; marks = (refl, tt) })
+  stop_rests Killed = does_rest (record { outstanding = refl; sends = tt; marks = (refl, tt) })
+  stop_rests Memory = does_rest (record { outstanding = refl; sends = tt; marks = (refl, tt) })
+  stop_rests Clock = does_rest (record { outstanding = refl; sends = tt; marks = (refl, tt) })
+  stop_rests (Disk count) = does_rest (record { outstanding = refl; sends = tt; marks = (refl, tt) })
+  stop_rests (Sibling host) = does_rest (record { outstanding = refl; sends = tt; marks = (refl, tt) })
+
+  -- a proposal is confirmed by one more
+  heard_does : (p : Proposal) (number : ℕ) → x.body ≡ Membership (PrepFailConf number) → k.outstanding ≡ Some p
+      → awaits p number x.member ≡ true → (step : Step Known)
+      → step.state.outstanding ≡ Some (heard p x.member)
+      → step.effects ≡ (confirmed_one k (heard p x.member) (heard p x.member).awaited).effects
+      → DoesAt (beside s.promises step)
+  heard_does p number is stands awaited step outstanding effects = does_hear (record {
+    p = p;
+    is = stands;
+    number = number;
+    says = is;
+    awaited = awaited;
+    outstanding = outstanding;
+    effects_are = effects;
+  })
+
+  -- a promise waits
   abbrev WaitsIn : List Promise → Option Promise → Type 0
   WaitsIn promises None = Unit {0}
   WaitsIn promises (Some promise) = Waits promises promise.number promise.to
@@ -453,56 +231,102 @@ module _ (s : QmgrState) (member : Member) where
   waits_get (promise ∷ promises) zero = inl (refl, refl)
   waits_get (promise ∷ promises) (suc at) = waits_more promise promises (slice_get promises at) (waits_get promises at)
 
-  abbrev DoesAt : Body → Step QmgrState → Type 0
-  DoesAt body step = Does s member body step.state.known step.effects
-
-  fence_if_does : (body : Body) (at : ℕ) (promise : Promise) (all : Bool) → Waits s.promises promise.number promise.to
-      → DoesAt body (confirmed_if s at promise all)
-  fence_if_does body at promise true waits = does_answer (record {
+  fence_does : (at : ℕ) (promise : Promise) (ldm all : Bool) → Waits s.promises promise.number promise.to
+      → DoesAt (confirmed_if s at (less ldm promise) all)
+  fence_does at promise ldm false waits = does_stay
+  fence_does at promise true true waits = does_answer (record {
     number = promise.number;
     to = promise.to;
     waited = waits;
     outstanding = refl;
     effects_are = refl;
   })
-  fence_if_does body at promise false waits = does_stay body
+  fence_does at promise false true waits = does_answer (record {
+    number = promise.number;
+    to = promise.to;
+    waited = waits;
+    outstanding = refl;
+    effects_are = refl;
+  })
 
-  less_waits : (ldm : Bool) (promise : Promise) → Waits s.promises promise.number promise.to
-      → Waits s.promises (less ldm promise).number (less ldm promise).to
-  less_waits true promise waits = waits
-  less_waits false promise waits = waits
+  pub row_does : Does s x.member x.body (qmgr_row s x).state.known (qmgr_row s x).effects
+  unfolding joined_view promoted_view
+  row_does =
+      qmgr_outcomes s x DoesAt (record {
+        rests = λ off. does_stay;
+        rounds = λ next before is behind front.
+            told_does (with_missing (with_round k) before) k.promised (missed_like k before) s.promises
+            (heartbeat_to next ∷ []) (refl, tt);
+        beats = λ before is front same.
+            does_rest (record { outstanding = refl; sends = tt; marks = tt });
+        reports = λ suspects is. told_only (with_suspects k suspects) (suspects_like k suspects);
+        closes = λ cause is other. told_only (with_closing k x.member) (closing_like k x.member);
+        gone = λ member is other. told_only (with_closing k member) (closing_like k member);
+        works = λ at is own some. told_only k (like_self k);
+        promises = λ set is may.
+            told_does (promising (with_absent k set) set) set (promised_like k set)
+            (s.promises ++ waiting_promise set x.member.node ∷ []) (fences k.me.node set) (refl, (refl, (refl, tt)));
+        refuses = λ set is may.
+            told_does (with_absent k set) k.promised (absent_like k set) s.promises
+            (refusal_of k x.member.node ∷ []) (refl, tt);
+        unfenced = λ is. does_stay;
+        fenced = λ at promise all is place there up.
+            fence_does at promise (is_ldm x.from.0) all
+            (subst (WaitsIn s.promises) there (waits_get s.promises at));
+        hears = λ p number is stands awaited.
+            let q = heard p x.member in
+            record {
+              awaits = λ member members some.
+                  heard_does p number is stands awaited (stay (proposing k (Some q))) refl
+                  (sym (ap (λ awaited. (confirmed_one k q awaited).effects) some));
+              settles = λ none free.
+                  heard_does p number is stands awaited (confirmed_all k q true) refl
+                  (sym (ap (λ awaited. (confirmed_one k q awaited).effects) none
+                  ∙ ap (λ b. (confirmed_all k q b).effects) free));
+              asks = λ none free.
+                  heard_does p number is stands awaited (confirmed_all k q false) refl
+                  (sym (ap (λ awaited. (confirmed_one k q awaited).effects) none
+                  ∙ ap (λ b. (confirmed_all k q b).effects) free));
+            };
+        granted = λ p number is stands may. does_settle (record {
+          p = p;
+          is = stands;
+          number = number;
+          says = is;
+          may = may;
+          outstanding = refl;
+          effects_are = refl;
+        });
+        refused = λ p number members is stands asked.
+            stops_plain p (refused_cause (is_among members k.me) p.lost number);
+        unlike = λ p promised is stands among.
+            told_only (with_unlike k p.view promised) (unlike_like k p.view promised);
+        excluded = λ p promised is stands among. stops_plain p (Excluded promised.number);
+        stops = λ cause is. stop_rests cause;
+        is_full = λ member is full. sends_plain k k.promised _ (like_self k) (refl, tt);
+        has_been = λ member is outside settled seen. sends_plain k k.promised _ (like_self k) (refl, tt);
+        joins = λ member lost is no_full outside settled unseen may lacks.
+            proposes k (joined_view k.layout.view (next_number k) member) (Some member) lost []
+            (above_last k k k.promised (like_self k)) tt;
+        promotes = λ member lost is may lacks.
+            proposes k (promoted_view k.layout.view (next_number k) member) None lost []
+            (above_last k k k.promised (like_self k)) tt;
+        orders = λ at is own oldest low.
+            sends_plain k k.promised _ (like_self k)
+            (portion_each IsPlain (membership k.me.node) Members (orders k) at (λ left. refl) (orders_plain k));
+      })
 
-  fence_at_does : (body : Body) (ldm : Bool) (at : ℕ) (promise : Option Promise) → WaitsIn s.promises promise
-      → DoesAt body (confirmed_at s ldm at promise)
-  fence_at_does body ldm at None waits = does_stay body
-  fence_at_does body ldm at (Some promise) waits =
-      fence_if_does body at (less ldm promise) (is_fenced (less ldm promise)) (less_waits ldm promise waits)
-
-  fence_place_does : (body : Body) (ldm : Bool) (at : Option ℕ) → DoesAt body (confirmed_place s ldm at)
-  fence_place_does body ldm None = does_stay body
-  fence_place_does body ldm (Some at) =
-      fence_at_does body ldm at (slice_get s.promises at) (waits_get s.promises at)
-
-  fence_does : (body : Body) (host : ℕ) → DoesAt body (fence_row s host)
-  unfolding fence_row
-  fence_does body host = fence_place_does body (is_ldm host) (position (waits_for (is_ldm host)) s.promises)
-
-  -- the tables
-  membership_does : (host : ℕ) (signal : MembershipSignal)
-      → DoesAt (Membership signal) (membership_table s host member signal)
-  membership_does host Heartbeat = does_turn _ _ _ (heartbeat_turns s.known member)
-  membership_does host (FailRep suspects) = does_turn _ _ _ (report_turns s.known suspects)
-  membership_does host (PrepFailReq proposal) = does_turn _ _ _ (promise_turns s member.node proposal)
-  membership_does host FenceConf = fence_does _ host
-  membership_does host (PrepFailConf number) = confirm_does number
-  membership_does host (PrepFailRef promised) = does_turn _ _ _ (unpromised_turns s.known promised)
-  membership_does host (ArbitConf number) = granted_does number
-  membership_does host (ArbitRef number members) = does_turn _ _ _ (refused_turns s.known number members)
-  membership_does host (StopSet cause) = does_turn _ _ _ (stop_turns s.known cause)
-  membership_does host _ = does_stay _
-
-  pub table_does : (host number : ℕ) (body : Body) → DoesAt body (qmgr_table s host member number body)
-  table_does host number (Host signal) = does_turn _ _ _ (host_turns s.known member number signal)
-  table_does host number (Membership signal) = membership_does host signal
-  table_does host number (Joining signal) = does_turn _ _ _ (joining_turns s.known signal)
-  table_does host number _ = does_stay _
+-- the same by what a membership sees of a signal
+pub table_does : (s : QmgrState) (member : Member) (host number : ℕ) (body : Body)
+    → Does s member body (qmgr_table s host member number body).state.known
+    (qmgr_table s host member number body).effects
+table_does s member host number body =
+    row_does s (record {
+      from = record { 0 = host };
+      member = member;
+      to = client;
+      seq = 0;
+      stamp = 0;
+      view = record { number = number; full = []; starting = [] };
+      body = body;
+    })

@@ -101,7 +101,7 @@ promise_sets : (s : QmgrState) (to : ℕ) (set : View) → may_promise s.known s
 unfolding promise_row
 promise_sets s to set allowed = promise_by_sets s to set (may_promise s.known set) allowed allowed
 
-row_sets : (s : QmgrState) (x : Signal) (set : View) → x.body ≡ Membership (PrepFailReq set)
+pub row_sets : (s : QmgrState) (x : Signal) (set : View) → x.body ≡ Membership (PrepFailReq set)
     → may_promise s.known set ≡ true → (qmgr_row s x).state.known.promised ≡ set
 row_sets s x set asks allowed =
     subst (λ (body : Body). (qmgr_table s x.from.0 x.member x.view.number body).state.known.promised ≡ set) (sym asks)

@@ -1,17 +1,16 @@
 -- Signals of some kinds, as a block sends no others, and lists of them, of which one event sends a part.
-use Rattle.std.proofs.Common.{◌≡◌, ◌+◌, ℕ, Bool, true, false, List, take, drop, length, nat_lt}
+use Rattle.std.proofs.Common.{◌≡◌, ℕ, Bool, true, List}
 use Rattle.run_theory.specs.Lists.{Each}
-use Rattle.run_theory.proofs.EachSent.{each_drop, each_take}
-use Rattle.run_theory.proofs.Pasts.{each_append, each_map}
+use Rattle.run_theory.proofs.Pasts.{each_map}
 use Rattle.sig_core.specs.declared.outs.Outgoing.{Outgoing}
 use Rattle.sig_core.specs.declared.place.Place.{Place}
-use Rattle.sig_core.specs.declared.portion.TheConstants.{PORTION}
 use Rattle.sig_core.specs.declared.signal.Body.{Body}
 use Rattle.sig_core.specs.declared.signal.Body.TheVariants.{Host}
 use Rattle.sig_core.specs.declared.signal.host.HostSignal.TheVariants.{Continue}
 use Rattle.sig_core.specs.declared.signal.host.Work.{Work}
-use Rattle.sig_core.specs.Portion.{portion_effects, rest_if}
+use Rattle.sig_core.specs.Portion.{portion_effects}
 use Rattle.sig_core.specs.Step.{Step}
+use Rattle.step_forms.proofs.PortionLemmas.{portion_each}
 
 -- what is sent is of these kinds
 abbrev pub IsOf : (Body → Bool) → Outgoing → Type 0
@@ -28,16 +27,7 @@ SendsOf kinds step = AreOf kinds step.effects.sends
 pub portion_kinds : (kinds : Body → Bool) (by : Place) (work : Work) (sends : List Outgoing) (at : ℕ)
     → ((left : ℕ) → kinds (Host (Continue work left)) ≡ true) → AreOf kinds sends
     → AreOf kinds (portion_effects by work sends at).sends
-portion_kinds kinds by work sends at goes_on all =
-    each_append (IsOf kinds) (take PORTION (drop at sends)) (rest_if by work at more)
-    (each_take (IsOf kinds) PORTION (drop at sends) (each_drop (IsOf kinds) at sends all)) (rest more)
-  where
-    more : Bool
-    more = nat_lt (at + PORTION) (length sends)
-
-    rest : (b : Bool) → AreOf kinds (rest_if by work at b)
-    rest true = (goes_on (at + PORTION), tt)
-    rest false = tt
+portion_kinds kinds by work sends at goes_on all = portion_each (IsOf kinds) by work sends at goes_on all
 
 -- what holds of signals of these kinds holds of them all
 pub each_of_kinds : (kinds : Body → Bool) (Q : Body → Type 0) (sends : List Outgoing)

@@ -1,11 +1,5 @@
 -- What a takeover sends, whatever it takes.
-use Rattle.std.proofs.Common.{ℕ, Bool, true, false, List, map, refl}
-use Rattle.std.specs.Prelude.{Option, None, Some, remove, slice_get}
-use Rattle.std.specs.List.{flat_map}
-use Rattle.run_theory.proofs.EachSent.{each_flat, each_mapped}
-use Rattle.run_theory.proofs.Pasts.{each_append}
-use Rattle.sig_core.specs.declared.member.Member.{Member}
-use Rattle.sig_core.specs.declared.member.TxId.{TxId}
+use Rattle.std.proofs.Common.{Bool, true, false, refl, ◌≡◌}
 use Rattle.sig_core.specs.declared.signal.Body.{Body}
 use Rattle.sig_core.specs.declared.signal.Body.TheVariants.{Chain, Client, Host, Takeover}
 use Rattle.sig_core.specs.declared.signal.Signal.{Signal}
@@ -13,19 +7,13 @@ use Rattle.sig_core.specs.declared.signal.chain.ChainSignal.TheVariants.{Abort, 
 use Rattle.sig_core.specs.declared.signal.client.ClientSignal.TheVariants.{NfCompleteRep, TcKeyFailConf, TcKeyFailRef}
 use Rattle.sig_core.specs.declared.signal.host.HostSignal.TheVariants.{Continue}
 use Rattle.sig_core.specs.declared.signal.takeover.TakeoverSignal.TheVariants.{LqhTransReq, TakeoverEnd}
-use Rattle.sig_core.specs.declared.signal.host.Work.TheVariants as work
-use Rattle.sig_core.specs.declared.view.View.{View}
-use Rattle.sig_core.specs.Place.{takeover}
-use Rattle.frag_map.specs.Layout.{Layout, chain_of}
-use Rattle.takeover_block.specs.declared.gathered.Gathered.{Gathered}
-use Rattle.takeover_block.specs.declared.stage.Stage.{Stage}
-use Rattle.takeover_block.specs.declared.stage.Stage.TheVariants.{Resting, Gathering, Committing, Completing, Aborting}
-use Rattle.takeover_block.specs.Rule.{entering, finishing, ruling, ruling_by, way_of}
-use Rattle.takeover_block.specs.Sends.{abort_at, ask_effects, ask_of, asks_of, front_sends, key_sends, key_sends_along, stage_effects, stage_sends}
-use Rattle.takeover_block.specs.State.{TakeoverState, with_gathered}
+use Rattle.takeover_block.specs.State.{TakeoverState}
 use Rattle.takeover_block.specs.Takeover.{takeover_row}
-use Rattle.takeover_block.proofs.EachTakeover.{takeover_each}
-use Rattle.view_laws.proofs.KindsSent.{AreOf, IsOf, SendsOf, portion_kinds}
+use Rattle.view_laws.proofs.KindsSent.{IsOf, SendsOf}
+use Rattle.run_theory.proofs.Pasts.{each_map}
+use Rattle.step_forms.specs.Does.{IsWord}
+use Rattle.takeover_block.specs.Words.{is_takeover_word}
+use Rattle.takeover_block.proofs.Walk.{takeover_words}
 
 -- it asks replicas for what they hold, ends it, tells the client how and that it is over, and goes on
 abbrev pub is_of_takeover : Body → Bool
@@ -40,77 +28,14 @@ is_of_takeover (Client NfCompleteRep) = true
 is_of_takeover (Host (Continue doing at)) = true
 is_of_takeover body = false
 
-asks_kinds : (node : ℕ) (view : View) (at : ℕ) → AreOf is_of_takeover (ask_effects node view at).sends
-unfolding ask_effects asks_of
-asks_kinds node view at =
-    portion_kinds is_of_takeover (takeover node) work.Members (asks_of view) at (λ left. refl)
-    (each_append (IsOf is_of_takeover) (map ask_of view.full) (map ask_of view.starting)
-    (each_mapped (IsOf is_of_takeover) ask_of view.full (λ m. refl))
-    (each_mapped (IsOf is_of_takeover) ask_of view.starting (λ m. refl)))
-
-along_kinds : (tx : TxId) (stage : Stage) (key : List ℕ) (chain : List Member)
-    → AreOf is_of_takeover (key_sends_along tx stage key chain)
-along_kinds tx Resting key chain = tt
-along_kinds tx (Gathering n) key chain = tt
-along_kinds tx (Committing epoch n) key chain = (refl, tt)
-along_kinds tx (Completing epoch n) key chain = (refl, tt)
-along_kinds tx (Aborting n) key chain = each_mapped (IsOf is_of_takeover) (abort_at tx key) chain (λ m. refl)
-
-key_kinds : (layout : Layout) (tx : TxId) (stage : Stage) (key : List ℕ)
-    → AreOf is_of_takeover (key_sends layout tx stage key)
-unfolding key_sends
-key_kinds layout tx stage key = along_kinds tx stage key (chain_of layout key)
-
-front_kinds : (tx : TxId) (stage : Stage) → AreOf is_of_takeover (front_sends tx stage)
-unfolding front_sends
-front_kinds tx Resting = tt
-front_kinds tx (Gathering n) = tt
-front_kinds tx (Committing epoch n) = tt
-front_kinds tx (Completing epoch n) = (refl, tt)
-front_kinds tx (Aborting n) = tt
-
-stage_kinds : (node : ℕ) (layout : Layout) (stage : Stage) (g : Gathered) (at : ℕ)
-    → AreOf is_of_takeover (stage_effects node layout stage g at).sends
-unfolding stage_effects stage_sends
-stage_kinds node layout stage g at =
-    portion_kinds is_of_takeover (takeover node) (work.Transaction g.tx) (stage_sends layout stage g) at (λ left. refl)
-    (each_append (IsOf is_of_takeover) (front_sends g.tx stage) (flat_map (key_sends layout g.tx stage) g.keys)
-    (front_kinds g.tx stage)
-    (each_flat (IsOf is_of_takeover) (key_sends layout g.tx stage) g.keys (key_kinds layout g.tx stage)))
-
-enters : (s : TakeoverState) (g : Gathered) (stage : Stage) → SendsOf is_of_takeover (entering s g stage)
-unfolding entering
-enters s g stage = stage_kinds s.node s.layout stage g 0
-
-rules_by : (s : TakeoverState) (g : Option Gathered) → SendsOf is_of_takeover (ruling_by s g)
-rules_by s None = (refl, (refl, tt))
-rules_by s (Some g) = enters s g (way_of s.layout g)
-
-rules : (s : TakeoverState) → SendsOf is_of_takeover (ruling s)
-unfolding ruling
-rules s = rules_by s (slice_get s.gathered 0)
-
-finishes : (s : TakeoverState) → SendsOf is_of_takeover (finishing s)
-unfolding finishing
-finishes s = rules (with_gathered s (remove s.gathered 0))
+of_words : (body : Body) → is_takeover_word body ≡ true → is_of_takeover body ≡ true
+of_words (Host (Continue doing at)) is = refl
+of_words (Takeover LqhTransReq) is = is
+of_words (Chain (Abort tx key)) is = is
+of_words (Client NfCompleteRep) is = is
+of_words body is = is
 
 pub takeover_kinds : (s : TakeoverState) (x : Signal) → SendsOf is_of_takeover (takeover_row s x)
 takeover_kinds s x =
-    takeover_each s (λ step. SendsOf is_of_takeover step) x.body (record {
-      stays = λ off. tt;
-      untold = λ tx key state epoch is off. tt;
-      unended = λ is off. tt;
-      orders = λ is some. asks_kinds s.node s.layout.view 0;
-      orders_nobody = λ is none. rules _;
-      asks = λ place n is due at. asks_kinds s.node s.layout.view place;
-      tells = λ tx key state epoch n is at. tt;
-      ends = λ n is at more. tt;
-      all_end = λ n is at last. rules s;
-      commits = λ tx key g e n is first at more. tt;
-      all_commit = λ tx key g e n is first at last. enters s g _;
-      completes = λ tx key g e n is first at more. tt;
-      all_complete = λ tx key g e n is first at last. finishes s;
-      aborts = λ tx key g n is first at more. tt;
-      all_abort = λ tx key g n is first at last. (refl, finishes s);
-      goes_on = λ tx place g is due at first. stage_kinds s.node s.layout s.stage g place;
-    })
+    each_map (IsWord is_takeover_word) (IsOf is_of_takeover) (takeover_row s x).effects.sends
+    (λ sent is. of_words sent.body is) (takeover_words.takes s x).0

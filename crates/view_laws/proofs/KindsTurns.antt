@@ -1,41 +1,27 @@
 -- What a coordinator's transaction sends, whatever turn it takes.
-use Rattle.std.proofs.Common.{◌==◌, ℕ, Bool, true, false, List, refl}
-use Rattle.std.specs.Prelude.{Option, None, Some, slice_get}
-use Rattle.std.specs.List.{flat_map}
+use Rattle.std.proofs.Common.{ℕ, Bool, true, false, refl}
 use Rattle.std.specs.Map.{values_of}
-use Rattle.run_theory.proofs.EachSent.{each_flat, each_mapped}
-use Rattle.run_theory.proofs.Pasts.{each_append}
+use Rattle.std.specs.Prelude.{Option, None, Some, slice_get}
 use Rattle.sig_core.specs.declared.member.TxId.{TxId}
-use Rattle.sig_core.specs.declared.outcome.AbortCause.{AbortCause}
 use Rattle.sig_core.specs.declared.outs.Outgoing.{Outgoing}
 use Rattle.sig_core.specs.declared.signal.Body.{Body}
 use Rattle.sig_core.specs.declared.signal.Body.TheVariants.{Chain, Client, Epoch, Host}
 use Rattle.sig_core.specs.declared.signal.chain.ChainSignal.TheVariants.{Abort, Commit, Complete, LqhKeyReq}
 use Rattle.sig_core.specs.declared.signal.client.ClientSignal.TheVariants.{LqhWaitReq, TcBeginConf, TcBeginRef, TcCommitConf, TcKeyConf, TcRollbackRep, TcWaitConf}
 use Rattle.sig_core.specs.declared.signal.epoch.EpochSignal.TheVariants.{DiVerifyEnd, DiVerifyReq}
-use Rattle.sig_core.specs.declared.signal.host.HostSignal.TheVariants.{Continue}
-use Rattle.sig_core.specs.declared.signal.host.Work.TheVariants as work
-use Rattle.sig_core.specs.Op.{key_of}
-use Rattle.sig_core.specs.Place.{coordinator}
-use Rattle.frag_map.specs.Layout.{Layout, chain_of}
-use Rattle.tc_block.specs.Abort.{abort_end, abort_if, aborted_for, aborts_awaited, is_verifying, replica_count}
+use Rattle.sig_core.specs.declared.signal.host.HostSignal.TheVariants.{Continue, Round}
+use Rattle.frag_map.specs.Layout.{Layout}
+use Rattle.tc_block.specs.declared.task.Task.{Task}
+use Rattle.tc_block.specs.declared.transaction.Transaction.{Transaction}
 use Rattle.tc_block.specs.Live.{place_in, turn_place, turn_value, turned_if}
-use Rattle.tc_block.specs.Part.{part_effects}
-use Rattle.tc_block.specs.Resume.{anew_if, aborted_anew, resume_by, resume_row, resume_step}
-use Rattle.tc_block.specs.Sends.{abort_of, complete_if, entering, front_sends, key_sends, phase_sends, wait_of}
+use Rattle.tc_block.specs.Resume.{resume_row, resume_step}
 use Rattle.tc_block.specs.State.{TcState}
 use Rattle.tc_block.specs.Tc.{tc_table}
-use Rattle.tc_block.specs.Turn.{Turn, asking}
-use Rattle.tc_block.specs.declared.phase.Phase.{Phase}
-use Rattle.tc_block.specs.declared.phase.Phase.TheVariants.{Open, Verifying, Committing, Completing, Aborting}
-use Rattle.tc_block.specs.declared.task.Task.{Task}
-use Rattle.tc_block.specs.declared.task.Verdict.{Verdict}
-use Rattle.tc_block.specs.declared.task.Verdict.TheVariants.{AbortAnew, Fail, Redrive}
-use Rattle.tc_block.specs.declared.touched.Touched.{Touched}
-use Rattle.tc_block.specs.declared.transaction.Transaction.{Transaction}
+use Rattle.tc_block.specs.Turn.{Turn}
 use Rattle.tc_block.proofs.EachTc.{tc_each}
-use Rattle.tc_block.proofs.EachTurn.{AbortForms, CommittedForms, TurnForms, rows_of}
-use Rattle.view_laws.proofs.KindsSent.{AreOf, IsOf, SendsOf, portion_kinds}
+use Rattle.tc_block.proofs.EachTurn.{rows_at}
+use Rattle.tc_block.proofs.TurnSends.{DriveSends, SendsOnly, resume_row_sends, turn_sends}
+use Rattle.view_laws.proofs.KindsSent.{AreOf, IsOf, SendsOf}
 
 -- it answers a client, tells replicas what to do and to wait for, asks the epochs of its node for one, and goes on
 abbrev pub is_of_coordinator : Body → Bool
@@ -55,120 +41,43 @@ is_of_coordinator (Epoch (DiVerifyEnd tx)) = true
 is_of_coordinator (Host (Continue doing at)) = true
 is_of_coordinator body = false
 
--- a turn that sends these
-abbrev IsTurnOf : Turn → Type 0
-IsTurnOf turn = SendsOf is_of_coordinator turn.step
+-- signals of these, whatever turn sends them
+abbrev OfTurn : Turn → Outgoing → Type 0
+OfTurn turn sent = IsOf is_of_coordinator sent
 
-module _ (node : ℕ) (layout : Layout) (tx : TxId) where
-  part_kinds : (sends : List Outgoing) (at : ℕ) → AreOf is_of_coordinator sends
-      → AreOf is_of_coordinator (part_effects node tx sends at).sends
-  unfolding part_effects
-  part_kinds sends at all =
-      portion_kinds is_of_coordinator (coordinator node) (work.Transaction tx) sends at (λ left. refl) all
-
-  front_kinds : (phase : Phase) → AreOf is_of_coordinator (front_sends tx phase)
-  unfolding front_sends
-  front_kinds Open = tt
-  front_kinds Verifying = tt
-  front_kinds (Committing epoch awaited) = tt
-  front_kinds (Completing epoch awaited) = (refl, tt)
-  front_kinds (Aborting why verifying awaited) = tt
-
-  complete_kinds : (t : Touched) (b : Bool) → AreOf is_of_coordinator (complete_if tx t b)
-  complete_kinds t true = (refl, tt)
-  complete_kinds t false = tt
-
-  key_kinds : (phase : Phase) (t : Touched) → AreOf is_of_coordinator (key_sends layout tx phase t)
-  unfolding key_sends
-  key_kinds Open t = tt
-  key_kinds Verifying t = tt
-  key_kinds (Committing epoch awaited) t = (refl, tt)
-  key_kinds (Completing epoch awaited) t = complete_kinds t t.written
-  key_kinds (Aborting why verifying awaited) t =
-      each_mapped (IsOf is_of_coordinator) (abort_of tx t.key) (chain_of layout t.key) (λ r. refl)
-
-  phase_kinds : (phase : Phase) (touched : List Touched) → AreOf is_of_coordinator (phase_sends layout tx phase touched)
-  unfolding phase_sends
-  phase_kinds phase touched =
-      each_append (IsOf is_of_coordinator) (front_sends tx phase) (flat_map (key_sends layout tx phase) touched)
-      (front_kinds phase) (each_flat (IsOf is_of_coordinator) (key_sends layout tx phase) touched (key_kinds phase))
-
-  enters : (t : Transaction) (phase : Phase) → SendsOf is_of_coordinator (entering node layout tx t phase)
-  unfolding entering
-  enters t phase = part_kinds (phase_sends layout tx phase t.touched) 0 (phase_kinds phase t.touched)
-
-  committed_kinds : (t : Transaction) (epoch : ℕ) → CommittedForms node layout tx t epoch IsTurnOf
-  committed_kinds t epoch = record { enters = λ some. enters t _; ends = λ none. (refl, (refl, tt)) }
-
-  abort_end_kinds : (why : AbortCause) (b : Bool) → AreOf is_of_coordinator (abort_end node tx why b)
-  abort_end_kinds why true = (refl, (refl, tt))
-  abort_end_kinds why false = (refl, tt)
-
-  abort_kinds : (t : Transaction) (why : AbortCause) → AbortForms node layout tx t why IsTurnOf
-  abort_kinds t why =
-      record { enters = λ some. enters t _; ends = λ none. abort_end_kinds why (is_verifying t.phase) }
-
-  turn_kinds : (t : Transaction) (body : Body) → TurnForms node layout tx t body IsTurnOf
-  turn_kinds t body = record {
-    stays = tt;
-    goes_on = λ at. part_kinds (phase_sends layout tx t.phase t.touched) at (phase_kinds t.phase t.touched);
-    operates = λ op is can. (refl, tt);
-    answers = λ key answer asked is on at. (refl, tt);
-    late = λ key asked why verifying awaited on at.
-        each_mapped (IsOf is_of_coordinator) (abort_of tx key) (chain_of layout key) (λ r. refl);
-    waits = λ asked on. each_mapped (IsOf is_of_coordinator) (wait_of tx (key_of asked.op)) asked.chain (λ r. refl);
-    decides = λ is ready. (refl, tt);
-    commits = λ epoch is at some. enters t _;
-    commits_none = λ epoch is at. committed_kinds t epoch;
-    committed = λ epoch awaited at more. tt;
-    committed_all = λ epoch awaited at. committed_kinds t epoch;
-    completed = λ epoch awaited at more. tt;
-    completed_all = λ epoch awaited at last. (refl, tt);
-    rolls_back = λ is undecided unaborted. abort_kinds t _;
-    refuses = λ key why asked is on at. abort_kinds _ why;
-    aborted = λ why verifying awaited at more. tt;
-    aborted_all = λ why verifying awaited at last. abort_end_kinds why verifying;
-  }
-
-  -- what an installation left to do
-  gives_up : (t : Transaction) (why : AbortCause) → IsTurnOf (aborted_for node layout tx t why)
-  unfolding aborted_for
-  gives_up t why = by (aborts_awaited layout t == 0)
-    where
-      by : (b : Bool) → IsTurnOf (abort_if node layout tx t why b)
-      by true = abort_end_kinds why (is_verifying t.phase)
-      by false = enters t _
-
-  aborts_anew : (t : Transaction) (why : AbortCause) (verifying : Bool)
-      → IsTurnOf (aborted_anew node layout tx t why verifying)
-  unfolding aborted_anew
-  aborts_anew t why verifying = by (replica_count layout t.touched == 0)
-    where
-      by : (b : Bool) → IsTurnOf (anew_if node layout tx t why verifying b)
-      by true = abort_end_kinds why verifying
-      by false = enters t _
-
-  resumed_by : (t : Transaction) (number : ℕ) (verdict : Verdict) (phase : Phase)
-      → IsTurnOf (resume_by node layout tx t number verdict phase)
-  resumed_by t number Fail Open = gives_up (asking t None) _
-  resumed_by t number Fail Verifying = gives_up (asking t None) _
-  resumed_by t number AbortAnew (Aborting why verifying awaited) = aborts_anew (asking t None) why verifying
-  resumed_by t number Redrive (Committing epoch awaited) = enters _ _
-  resumed_by t number Redrive (Completing epoch awaited) = enters _ _
-  resumed_by t number _ _ = tt
+drives : (node : ℕ) (layout : Layout) (tx : TxId) (t : Transaction) (body : Body)
+    → DriveSends node layout tx t body (λ turn sent. OfTurn turn sent)
+drives node layout tx t body = record {
+  goes_on = λ turn left. refl;
+  commits = λ turn epoch awaited has in_phase u there. refl;
+  confirms = λ turn epoch has how. refl;
+  completes = λ turn epoch awaited has in_phase u there written. refl;
+  aborts = λ turn why verifying awaited is in_phase key r there. refl;
+  leaves = λ turn over. refl;
+  rolls_back = λ turn why is over. refl;
+}
 
 -- the transaction at a place takes it
-turned_kinds : (s : TcState) (at : ℕ) (turn : Turn) → IsTurnOf turn → (b : Bool)
+turned_kinds : (s : TcState) (at : ℕ) (turn : Turn) → AreOf is_of_coordinator turn.step.effects.sends → (b : Bool)
     → SendsOf is_of_coordinator (turned_if s at turn b)
-turned_kinds s at turn none true = none
-turned_kinds s at turn none false = none
+turned_kinds s at turn own true = own
+turned_kinds s at turn own false = own
 
 -- whatever the coordinator takes
 pub tc_kinds : (s : TcState) (body : Body) → SendsOf is_of_coordinator (tc_table s body)
 tc_kinds s body =
-    tc_each (λ tx t turn. IsTurnOf turn) (λ step. SendsOf is_of_coordinator step) s body (record {
-      turns = λ tx t at split. rows_of s.node s.layout tx t body IsTurnOf (turn_kinds s.node s.layout tx t body);
-      turned = λ tx t at split turn none. turned_kinds s at turn none turn.over;
+    tc_each (λ tx t turn. SendsOnly (λ turn sent. OfTurn turn sent) turn) (λ step. SendsOf is_of_coordinator step) s body
+    (record {
+      turns = λ tx t at split.
+          rows_at s.node s.layout tx t body (λ turn. SendsOnly (λ turn sent. OfTurn turn sent) turn)
+          (turn_sends s.node s.layout tx t body (λ turn sent. OfTurn turn sent) (record {
+            drives = drives s.node s.layout tx t body;
+            operates = λ op is can. refl;
+            answers = λ key answer asked is answers at. refl;
+            waits = λ asked is on r. refl;
+            decides = λ is ready. refl;
+          }));
+      turned = λ tx t at split turn own. turned_kinds s at turn own.sends turn.over;
       stays = tt;
       full = λ name. (refl, tt);
       begins = λ name. (refl, tt);
@@ -176,7 +85,7 @@ tc_kinds s body =
     })
 
 pub resume_kinds : (s : TcState) (task : Task) (number : ℕ) → SendsOf is_of_coordinator (resume_step s task number)
-unfolding resume_step resume_row
+unfolding resume_step
 resume_kinds s task number = at_place (place_in s task.tx)
   where
     row : Transaction → Turn
@@ -185,7 +94,10 @@ resume_kinds s task number = at_place (place_in s task.tx)
     at_value : (at : ℕ) (t : Option Transaction) → SendsOf is_of_coordinator (turn_value s row at t)
     at_value at None = tt
     at_value at (Some t) =
-        turned_kinds s at (row t) (resumed_by s.node s.layout task.tx t number task.verdict t.phase) (row t).over
+        turned_kinds s at (row t)
+        (resume_row_sends s.node s.layout task.tx t (Host Round) (λ turn sent. OfTurn turn sent)
+        (drives s.node s.layout task.tx t (Host Round)) task.verdict number)
+        (row t).over
 
     at_place : (o : Option ℕ) → SendsOf is_of_coordinator (turn_place s row o)
     at_place None = tt

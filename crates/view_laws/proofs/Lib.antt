@@ -96,15 +96,12 @@ mod StandingNumbers
 pub mod StandingOldest
 pub mod StandingSettled
 pub mod StepLemmas
-mod VotesEpochs
 mod VotesKinds
 mod VotesLists
 mod VotesMain
-mod VotesMaster
 pub mod VotesNone
 mod VotesOthers
 mod VotesParts
-mod VotesRows
 mod VotesShell
 mod VotesWalk
 mod Walk

@@ -23,7 +23,7 @@ use Rattle.view_laws.specs.Events.{IsSound}
 use Rattle.view_laws.specs.Members.{known_of, state_of}
 use Rattle.view_laws.proofs.EventLemmas.{have_risen, steps}
 use Rattle.view_laws.proofs.HeardAsking.{left_outstanding}
-use Rattle.view_laws.proofs.HeardRows.{Does, Proposes, does_answer, does_hear, does_propose, does_rest, does_settle, is_settling, table_does}
+use Rattle.view_laws.proofs.HeardRows.{Does, Proposes, does_answer, does_hear, does_propose, does_rest, does_settle, is_settling, row_does}
 use Rattle.view_laws.proofs.ProposalLemmas.{are_low}
 use Rattle.view_laws.proofs.StepLemmas.{row_installs}
 use Rattle.view_laws.proofs.WalkLemmas.{Brings, IsNotAbove, Keeps}
@@ -66,7 +66,7 @@ module _ (me : Member) (layout : Layout) (events : List Event) (x : Signal) wher
   Done = Does s x.member x.body l effects
 
   done : Done
-  done = table_does s x.member x.from.0 x.view.number x.body
+  done = row_does s x
 
   abbrev Above : Option Proposal → Type 0
   Above outstanding = IsAbove k.layout.view.number outstanding

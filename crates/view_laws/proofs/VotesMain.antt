@@ -25,7 +25,7 @@ use Rattle.world_views.specs.Machine.{after, step_after}
 use Rattle.view_laws.specs.HostEvents.{events_at, events_of, is_membership, taking}
 use Rattle.view_laws.specs.Members.{state_of}
 use Rattle.view_laws.specs.Votes.{HostsFollowTheirEvents, IsSentAmong, MembershipsVote, main_of, membership_in}
-use Rattle.view_laws.proofs.VotesMaster.{master_none}
+use Rattle.view_laws.proofs.VotesKinds.{master_none}
 use Rattle.view_laws.proofs.VotesNone.{IsNoVote, is_told, vote_told}
 use Rattle.view_laws.proofs.VotesWalk.{IsSaid, Saying, behind_view, step_said}
 

@@ -1,17 +1,11 @@
--- What is neither a vote nor of a fence, and lists of sends, of which one event sends a part.
-use Rattle.std.proofs.Common.{◌≡◌, ◌⊎◌, ◌+◌, ℕ, Bool, true, false, List, [], ◌∷◌, take, drop, length, nat_lt, refl, ap, ◌||◌}
+-- What is neither a vote nor of a fence.
+use Rattle.std.proofs.Common.{◌≡◌, ◌⊎◌, ℕ, Bool, true, false, List, [], ◌∷◌, refl, ap, ◌||◌}
 use Rattle.run_theory.specs.Lists.{Each}
-use Rattle.run_theory.proofs.EachSent.{each_drop, each_take}
-use Rattle.run_theory.proofs.Pasts.{each_append}
 use Rattle.sig_core.specs.declared.outs.Outgoing.{Outgoing}
-use Rattle.sig_core.specs.declared.place.Place.{Place}
-use Rattle.sig_core.specs.declared.portion.TheConstants.{PORTION}
 use Rattle.sig_core.specs.declared.signal.Body.{Body}
 use Rattle.sig_core.specs.declared.signal.Body.TheVariants.{Membership}
-use Rattle.sig_core.specs.declared.signal.host.Work.{Work}
 use Rattle.sig_core.specs.declared.signal.membership.MembershipSignal.TheVariants.{FenceConf, FenceReq}
 use Rattle.sig_core.specs.Place.{membership}
-use Rattle.sig_core.specs.Portion.{portion_effects, rest_if}
 use Rattle.sig_core.specs.Step.{Step, to_place}
 use Rattle.view_laws.specs.Votes.{is_vote}
 
@@ -61,15 +55,3 @@ confirmation node = to_place (membership node) (Membership FenceConf)
 -- what a block sends at a signal that is no membership of a node, nor the arbitrator: no vote, or it confirms a fence
 abbrev pub AreQuiet : ℕ → Body → List Outgoing → Type 0
 AreQuiet node body sends = AreNoVotes sends ⊎ ((is_fencing body ≡ true) × (sends ≡ confirmation node ∷ []))
-
-rest_none : (by : Place) (work : Work) (at : ℕ) (b : Bool) → AreNoVotes (rest_if by work at b)
-rest_none by work at true = (refl, tt)
-rest_none by work at false = tt
-
--- of a list without votes no event sends one
-pub portion_none : (by : Place) (work : Work) (sends : List Outgoing) (at : ℕ) → AreNoVotes sends
-    → AreNoVotes (portion_effects by work sends at).sends
-portion_none by work sends at all =
-    each_append IsNoVote (take PORTION (drop at sends)) (rest_if by work at (nat_lt (at + PORTION) (length sends)))
-    (each_take IsNoVote PORTION (drop at sends) (each_drop IsNoVote at sends all))
-    (rest_none by work at (nat_lt (at + PORTION) (length sends)))

@@ -20,10 +20,8 @@ use Rattle.qmgr_block.specs.Qmgr.{qmgr_installed}
 use Rattle.qmgr_block.specs.State.{QmgrState}
 use Rattle.tc_views.specs.Views as coordinator
 use Rattle.view_laws.specs.Votes.{arbiter_in, membership_in}
-use Rattle.view_laws.proofs.VotesEpochs.{dih_installs_none, dih_quiet}
-use Rattle.view_laws.proofs.VotesKinds.{coordinator_installs_none, coordinator_quiet, takeover_none}
+use Rattle.view_laws.proofs.VotesKinds.{coordinator_installs_none, coordinator_quiet, dih_installs_none, dih_quiet, replica_quiet, takeover_none}
 use Rattle.view_laws.proofs.VotesNone.{AreNoVotes, AreQuiet, IsNoVote, SendsNoVote}
-use Rattle.view_laws.proofs.VotesRows.{replica_quiet}
 
 left_none : (me : Member) (b c : Bool) → AreNoVotes (left_by me b c)
 left_none me true c = (refl, tt)
