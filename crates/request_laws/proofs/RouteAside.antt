@@ -13,20 +13,22 @@ use Rattle.sig_core.specs.declared.signal.host.Work.TheVariants.{Transaction as 
 use Rattle.sig_core.specs.declared.signal.takeover.TakeoverSignal.TheVariants.{LqhTransConf, LqhTransEnd, LqhTransReq}
 use Rattle.sig_core.specs.declared.view.View.{View}
 use Rattle.frag_map.specs.Layout.{Layout}
+use Rattle.step_forms.specs.Does.{IsWord}
 use Rattle.api_views.specs.Client.{client_row}
 use Rattle.api_views.specs.State.{ClientState}
+use Rattle.api_views.specs.Words.{is_client_word}
+use Rattle.api_views.proofs.Walk.{client_words}
 use Rattle.arbiter_block.specs.Arbiter.{ArbiterState, arbiter_row}
 use Rattle.dih_node.specs.Dih.{dih_row}
 use Rattle.dih_node.specs.Orders as dih
-use Rattle.dih_node.specs.State.{DihState, go_on_if}
-use Rattle.dih_node.specs.Verify.{given}
+use Rattle.dih_node.specs.State.{DihState}
+use Rattle.dih_node.specs.Words.{is_dih_word}
+use Rattle.dih_node.proofs.Walk.{dih_words}
 use Rattle.gcp_master.specs.Master.{master_row}
 use Rattle.gcp_master.specs.State.{MasterState}
 use Rattle.qmgr_block.specs.Qmgr.{qmgr_installed, qmgr_row}
 use Rattle.qmgr_block.specs.State.{QmgrState}
-use Rattle.outcome_laws.proofs.ClientTurns.{ArePlain, IsPlain, client_turns, is_plain}
 use Rattle.outcome_laws.proofs.DihSilent.{AreSilent, IsSilent, is_telling}
-use Rattle.outcome_laws.proofs.DihWalk.{dih_each, dih_installs_quiet, goes_on_silent}
 use Rattle.outcome_laws.proofs.KnowMaster.{master_tells_nothing}
 use Rattle.outcome_laws.proofs.KnowMembership.{membership_installs_nothing, membership_tells_nothing}
 use Rattle.outcome_laws.proofs.KnowNothing.{AreUntold, untold_silent}
@@ -81,33 +83,16 @@ pub untold_aside : (sends : List Outgoing) → AreUntold sends → AreAside send
 untold_aside sends none = silent_aside sends (untold_silent sends none)
 
 -- a client's side sends none
-plain_one : (body : Body) → is_plain body ≡ true → is_of_rows body ≡ false
-plain_one (Chain signal) plain = absurd cc
-plain_one (Host (Continue (Sends tx) at)) plain = absurd cc
-plain_one (Takeover (LqhTransConf tx key told epoch)) plain = absurd cc
-plain_one (Takeover LqhTransReq) plain = absurd cc
-plain_one (Takeover LqhTransEnd) plain = absurd cc
-plain_one body plain = refl
-
-plain_aside : (sends : List Outgoing) → ArePlain sends → AreAside sends
-plain_aside sends all = each_map IsPlain IsAside sends (λ sent plain. plain_one sent.body plain) all
+client_one : (body : Body) → is_client_word body ≡ true → is_of_rows body ≡ false
+client_one (Chain signal) is = absurd cc
+client_one (Host (Continue (Sends tx) at)) is = absurd cc
+client_one (Takeover signal) is = absurd cc
+client_one body is = refl
 
 pub client_aside : (s : ClientState) (x : Signal) → AreAside (client_row s x).effects.sends
 client_aside s x =
-    client_turns s x (λ opened sends marks. AreAside sends) (record {
-      keeps = λ sends plain. plain_aside sends plain;
-      opens = λ name node op sends plain. plain_aside sends plain;
-      begins = λ p at f u name tx sends is own plain. plain_aside sends plain;
-      changes = λ p at f u sends own same plain. plain_aside sends plain;
-      wishes = λ p at f u tx own same before behind. (refl, tt);
-      drops = λ p at f sends plain. plain_aside sends plain;
-      commits = λ p at f tx epoch sends own is plain. plain_aside sends plain;
-      commits_late = λ p at f tx epoch sends own is plain. plain_aside sends plain;
-      aborts = λ p at f tx cause sends own is plain. plain_aside sends plain;
-      fails = λ p at f tx number sends own plain. plain_aside sends plain;
-      goes_down = λ p at f tx sends own wishes plain. plain_aside sends plain;
-      loses = λ p at f tx sends own plain. plain_aside sends plain;
-    })
+    each_map (IsWord is_client_word) IsAside (client_row s x).effects.sends (λ sent is. client_one sent.body is)
+    (client_words s x).0
 
 -- nor does the arbitrator, a membership, a master of checkpoints, or the epochs of a node
 pub arbiter_aside : (s : ArbiterState) (x : Signal) → AreAside (arbiter_row s x).effects.sends
@@ -123,16 +108,18 @@ membership_installs_aside s view =
 pub master_aside : (s : MasterState) (x : Signal) → AreAside (master_row s x).effects.sends
 master_aside s x = untold_aside (master_row s x).effects.sends (master_tells_nothing s x).0
 
+epochs_one : (body : Body) → is_dih_word body ≡ true → is_of_rows body ≡ false
+epochs_one (Chain signal) is = absurd cc
+epochs_one (Host (Continue (Sends tx) at)) is = absurd cc
+epochs_one (Takeover signal) is = absurd cc
+epochs_one body is = refl
+
 pub epochs_aside : (s : DihState) (x : Signal) → AreAside (dih_row s x).effects.sends
-unfolding given
 epochs_aside s x =
-    dih_each s (λ step. AreAside step.effects.sends) x (record {
-      quiet = λ step is. silent_aside step.effects.sends is.sends;
-      gives_it = λ tx ops is. (refl, tt);
-      holds_it = λ tx ops is. tt;
-      serves_it = λ tx first. (refl, silent_aside (go_on_if _ _) (goes_on_silent _ _));
-    })
+    each_map (IsWord is_dih_word) IsAside (dih_row s x).effects.sends (λ sent is. epochs_one sent.body is)
+    (dih_words.0 s x).0
 
 pub epochs_install_aside : (s : DihState) (number : ℕ) → AreAside (dih.install_row s number).effects.sends
 epochs_install_aside s number =
-    silent_aside (dih.install_row s number).effects.sends (dih_installs_quiet s number).sends
+    each_map (IsWord is_dih_word) IsAside (dih.install_row s number).effects.sends
+    (λ sent is. epochs_one sent.body is) (dih_words.1 s number).0
