@@ -1,8 +1,8 @@
 -- A step of a host with a coordinator gives the current epoch of its member, while that prepares for none; a step of
 -- another host gives none.
-use Rattle.std.proofs.Common.{◌≡◌, ◌∙◌, ◌≤◌, ℕ, Bool, true, false, refl, subst, sym}
+use Rattle.std.proofs.Common.{◌≡◌, ◌∙◌, ◌≤◌, ℕ, Bool, true, false, List, refl, subst, sym}
 use Rattle.run_theory.specs.Lists.{Each}
-use Rattle.run_theory.proofs.Pasts.{each_append, each_map}
+use Rattle.run_theory.proofs.Pasts.{each_map}
 use Rattle.sig_core.specs.declared.mark.Mark.{Mark}
 use Rattle.sig_core.specs.declared.mark.Mark.TheVariants.{Decided}
 use Rattle.sig_core.specs.declared.place.BlockId.{BlockId}
@@ -27,28 +27,27 @@ use Rattle.epoch_laws.proofs.DihSends.{IsGivenBy, dih_gives}
 use Rattle.epoch_laws.proofs.MarkNone.{DecidesNone, IsNoDecision}
 use Rattle.moment_laws.proofs.MomentHosts.{HasNoTc}
 use Rattle.world_views.proofs.MarkWalk.{IsMarked, IsOfHost, step_marks}
-use Rattle.sig_core.specs.Step.{Step}
-use Rattle.step_forms.specs.Does.{IsAmong, Speaks}
-use Rattle.api_views.specs.Words.{is_client_mark, is_client_word}
+use Rattle.step_forms.specs.Does.{IsAmong}
+use Rattle.api_views.specs.Words.{is_client_mark}
 use Rattle.api_views.proofs.Walk.{client_words}
-use Rattle.arbiter_block.specs.Words.{is_arbiter_mark, is_arbiter_word}
+use Rattle.arbiter_block.specs.Words.{is_arbiter_mark}
 use Rattle.arbiter_block.proofs.Walk.{arbiter_words}
-use Rattle.gcp_master.specs.Words.{is_master_mark, is_master_word}
+use Rattle.gcp_master.specs.Words.{is_master_mark}
 use Rattle.gcp_master.proofs.Walk.{master_words}
-use Rattle.lqh_views.specs.Words.{is_replica_mark, is_replica_word}
+use Rattle.lqh_views.specs.Words.{is_replica_mark}
 use Rattle.lqh_views.proofs.Walk.{replica_words}
-use Rattle.qmgr_block.specs.Words.{is_qmgr_mark, is_qmgr_word}
+use Rattle.qmgr_block.specs.Words.{is_qmgr_mark}
 use Rattle.qmgr_block.proofs.Walk.{qmgr_words}
-use Rattle.takeover_block.specs.Words.{is_takeover_mark, is_takeover_word}
+use Rattle.takeover_block.specs.Words.{is_takeover_mark}
 use Rattle.takeover_block.proofs.Walk.{takeover_words}
-use Rattle.tc_views.specs.Words.{is_coordinator_mark, is_coordinator_word}
+use Rattle.tc_views.specs.Words.{is_coordinator_mark}
 use Rattle.tc_views.proofs.Walk.{coordinator_words}
 use Rattle.view_laws.proofs.EraParts.{entered_bare}
 
--- what its words don't say of decisions, a block doesn't
-unmarked : {S : Type 0} (words : Body → Bool) (marks : Mark → Bool) (step : Step S)
-    → ((mark : Mark) → marks mark ≡ true → IsNoDecision mark) → Speaks words marks step → DecidesNone step
-unmarked words marks step none speaks = each_map (IsAmong marks) IsNoDecision step.effects.marks none speaks.1
+-- what the marks of a block don't tell of decisions, none of its steps does
+unmarked : (marks : Mark → Bool) → ((mark : Mark) → marks mark ≡ true → IsNoDecision mark) → (made : List Mark)
+    → Each (IsAmong marks) made → Each IsNoDecision made
+unmarked marks none made all = each_map (IsAmong marks) IsNoDecision made none all
 
 of_client : (mark : Mark) → is_client_mark mark ≡ true → IsNoDecision mark
 of_client (Decided tx epoch) is = absurd cc
@@ -71,20 +70,19 @@ entered_none parts view = subst (Each IsNoDecision) (sym (entered_bare parts vie
 
 shell_none : (p : ShellPart) (b : BlockId) (x : Signal) → DecidesNone (shell_row p b x)
 unfolding shell_row
-shell_none p block.Api x = unmarked is_client_word is_client_mark _ of_client (client_words p.client x)
-shell_none p block.Arbiter x =
-    unmarked is_arbiter_word is_arbiter_mark _ (λ mark is. absurd cc) (arbiter_words p.arbiter x)
+shell_none p block.Api x = unmarked is_client_mark of_client _ (client_words p.client x).1
+shell_none p block.Arbiter x = unmarked is_arbiter_mark (λ mark is. absurd cc) _ (arbiter_words p.arbiter x).1
 shell_none p _ x = tt
 
 main_none : (p : MainPart) (b : BlockId) (x : Signal) → DecidesNone (main_row p b x)
 unfolding main_row
-main_none p block.Qmgr x = unmarked is_qmgr_word is_qmgr_mark _ of_qmgr (qmgr_words.at_signals p.qmgr x)
-main_none p block.GcpMaster x = unmarked is_master_word is_master_mark _ of_master (master_words p.master x)
+main_none p block.Qmgr x = unmarked is_qmgr_mark of_qmgr _ (qmgr_words.at_signals p.qmgr x).1
+main_none p block.GcpMaster x = unmarked is_master_mark of_master _ (master_words p.master x).1
 main_none p _ x = tt
 
 ldm_none : (p : LdmPart) (b : BlockId) (x : Signal) → DecidesNone (ldm_row p b x)
 unfolding ldm_row
-ldm_none p block.Lqh x = unmarked is_replica_word is_replica_mark _ of_rows (replica_words.takes p.replica x)
+ldm_none p block.Lqh x = unmarked is_replica_mark of_rows _ (replica_words.takes p.replica x).1
 ldm_none p _ x = tt
 
 other_none : (parts : Parts) (x : Signal) → HasNoTc parts → IsMarked IsNoDecision x parts
@@ -132,11 +130,10 @@ module _ (x : Signal) (s : DihState) where
   unfolding tc_row
   tc_gives p same block.Tc =
       each_map IsNoDecision (IsGivenBy s) _ (none_gives s)
-      (unmarked is_coordinator_word is_coordinator_mark _ (λ mark is. absurd cc)
-      (coordinator_words.takes p.coordinator x))
+      (unmarked is_coordinator_mark (λ mark is. absurd cc) _ (coordinator_words.takes p.coordinator x).1)
   tc_gives p same block.Takeover =
       each_map IsNoDecision (IsGivenBy s) _ (none_gives s)
-      (unmarked is_takeover_word is_takeover_mark _ (λ mark is. absurd cc) (takeover_words.takes p.takeover x))
+      (unmarked is_takeover_mark (λ mark is. absurd cc) _ (takeover_words.takes p.takeover x).1)
   tc_gives p same block.Dih =
       each_map (IsGivenBy p.dih) (IsGivenBy s) (dih_row p.dih x).effects.marks (gives_from s p.dih same)
       (dih_gives p.dih x)
