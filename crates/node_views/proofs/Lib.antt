@@ -1,3 +1,4 @@
+pub mod HostEach
 pub mod HostWalk
 mod NodeLemmas
 pub mod CutLemmas
@@ -5,3 +6,5 @@ pub mod InstallLemmas
 pub mod LawLemmas
 pub mod RoomLemmas
 pub mod SettleLemmas
+pub mod Walk
+pub mod WordWalk

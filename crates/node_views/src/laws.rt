@@ -1,5 +1,6 @@
 //! What is true of the steps of a host, whatever comes.
 ghost use Rattle.node_views.specs.Laws.{CalmHostsLeaveItToBlocks, CutHostsStayCut, MalformedSignalsChangeNothing, StoppingHostsAreSilent};
+ghost use Rattle.node_views.specs.Words.{HostsKeepToTheirWords};
 
 /// Where a host isn't to be killed, a signal from no greater view, which no fence stops and which isn't
 /// the host's own, is the blocks' alone.
@@ -20,4 +21,10 @@ pub fn malformed_signals_change_nothing()
 /// A host that was cut off stays so.
 pub fn cut_hosts_stay_cut()
     ensures { CutHostsStayCut }
+{}
+
+/// Whatever comes, a host sends and marks only what the blocks of its part may, beside the marks that
+/// it makes itself.
+pub fn hosts_keep_to_their_words()
+    ensures { HostsKeepToTheirWords }
 {}

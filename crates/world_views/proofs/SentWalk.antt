@@ -1,18 +1,22 @@
 -- What is so of each signal that the blocks of a host send, where they take a signal and where views are installed, is
 -- so of each that a step of the host sends.
-use Rattle.std.proofs.Common.{ℕ, ◌≡◌, ◌++◌, true, false, nat_lt, List, []}
+use Rattle.std.proofs.Common.{◌≡◌, ℕ, true, false, nat_lt}
 use Rattle.std.specs.Prelude.{Some}
 use Rattle.run_theory.specs.Lists.{Each}
-use Rattle.run_theory.proofs.Pasts.{each_append}
+use Rattle.run_theory.proofs.Pasts.{each_from}
+use Rattle.sig_core.specs.declared.mark.Mark.{Mark}
 use Rattle.sig_core.specs.declared.outs.Outgoing.{Outgoing}
 use Rattle.sig_core.specs.declared.signal.Signal.{Signal}
 use Rattle.sig_core.specs.declared.view.View.{View}
+use Rattle.sig_core.specs.Step.{Step}
+use Rattle.step_forms.specs.Does.{Does}
 use Rattle.node_views.specs.Blocks.{parts_entered, parts_row, settled_at}
 use Rattle.node_views.specs.declared.host.Host as hosts
 use Rattle.node_views.specs.declared.parts.Parts.{Parts}
 use Rattle.node_views.specs.Row.{entered, is_barred, is_excluded}
+use Rattle.node_views.proofs.HostEach.{TakesEach}
 use Rattle.world_views.specs.Machine.{step_by}
-use Rattle.world_views.proofs.StepWalk.{IsTaken, Saying, step_comes}
+use Rattle.world_views.proofs.StepEach.{step_each}
 
 module _ (P : Outgoing → Type 0) where
   -- by these blocks at the signal, also where they settle on a view at it
@@ -29,28 +33,24 @@ module _ (P : Outgoing → Type 0) where
         → is_barred (entered s x.view).state x ≡ false
         → IsSent x (parts_entered s.parts x.view).state
 
-  abbrev SaysEach : Saying
-  SaysEach view parts sends = Each P sends
+  -- whatever is marked
+  AnyMark : Mark → Type 0
+  AnyMark mark = Unit {0}
 
-  taken : (x : Signal) (stood : View) (parts : Parts) (before : List Outgoing) → Each P before → IsSent x parts
-      → IsTaken SaysEach x stood parts before
-  taken x stood parts before front sent = record {
-    row = λ none. each_append P before (parts_row parts x).effects.sends front sent.row;
-    settles = λ view is.
-        each_append P before
-        ((parts_row parts x).effects.sends ++ (parts_entered (parts_row parts x).state view).effects.sends) front
-        (each_append P (parts_row parts x).effects.sends (parts_entered (parts_row parts x).state view).effects.sends
-        sent.row (sent.settles view is));
+  sending : {S : Type 0} (step : Step S) → Each P step.effects.sends → Does P AnyMark step
+  sending step all = (all, each_from AnyMark step.effects.marks (λ mark there. tt))
+
+  takes : (x : Signal) (parts : Parts) → IsSent x parts → TakesEach P AnyMark x parts
+  takes x parts is = record {
+    row = sending (parts_row parts x) is.row;
+    settles = λ view at. sending (parts_entered (parts_row parts x).state view) (is.settles view at);
   }
 
   pub step_sends : (h : ℕ) (s : hosts.Host) (x : Signal) → IsSentBy s x → Each P (step_by h s x).effects.sends
   step_sends h s x by =
-      step_comes SaysEach x h s (record {
-        stays = tt;
-        hushed = λ view parts sends all. tt;
-        goes = λ newer barred. taken x s.standing.view s.parts [] tt (by.goes newer barred);
-        enters = λ newer excluded. by.enters;
-        behind = λ newer excluded barred.
-            taken x x.view (parts_entered s.parts x.view).state (parts_entered s.parts x.view).effects.sends by.enters
-            (by.behind newer excluded barred);
-      })
+      (step_each P AnyMark (record { stops = λ cause. tt; installs = λ view. tt; cuts = λ host. tt }) x h s (record {
+        goes = λ sound old barred. takes x s.parts (by.goes old barred);
+        enters = λ sound newer among. sending (parts_entered s.parts x.view) by.enters;
+        behind = λ sound newer among barred.
+            takes x (parts_entered s.parts x.view).state (by.behind newer among barred);
+      })).0

@@ -1,102 +1,49 @@
 -- What a step of a host sends and marks: what is so of each signal and mark of its blocks, at the signal and where views
--- are installed before and behind, is so of each of the step.
-use Rattle.std.proofs.Common.{◌≡◌, ◌++◌, ℕ, true, false, nat_lt, List, []}
-use Rattle.std.specs.Prelude.{Some}
-use Rattle.run_theory.specs.Lists.{Each}
-use Rattle.run_theory.proofs.Pasts.{each_append}
+-- are installed before and behind, is so of each of the step, also where it stops by a signal to itself.
+use Rattle.std.proofs.Common.{◌≡◌, ◌||◌, ◌∙◌, ℕ, zero, suc, Bool, true, refl, sym, List, [], ◌∷◌}
+use Rattle.std.proofs.lemmas.Bool.{or_right}
+use Rattle.std.specs.Prelude.{Option, None, Some}
 use Rattle.sig_core.specs.declared.mark.Mark.{Mark}
+use Rattle.sig_core.specs.declared.outcome.StopCause.{StopCause}
 use Rattle.sig_core.specs.declared.outs.Outgoing.{Outgoing}
+use Rattle.sig_core.specs.declared.signal.Body.{Body}
 use Rattle.sig_core.specs.declared.signal.Signal.{Signal}
-use Rattle.sig_core.specs.declared.view.View.{View}
-use Rattle.step_forms.specs.Does.{Does}
-use Rattle.node_views.specs.Blocks.{parts_entered, parts_row, settled_at}
+use Rattle.sig_core.specs.Step.{Step}
+use Rattle.step_forms.specs.Does.{Does, IsAmong, IsWord, Speaks}
+use Rattle.step_forms.proofs.DoesLemmas.{does_map, speaks_do}
+use Rattle.node_views.specs.Blocks.{parts_entered, parts_row}
 use Rattle.node_views.specs.declared.host.Host as hosts
 use Rattle.node_views.specs.declared.parts.Parts.{Parts}
-use Rattle.node_views.specs.declared.standing.Standing.{Standing}
-use Rattle.node_views.specs.Row.{cut_marks, entered, is_barred, is_excluded}
-use Rattle.node_views.specs.WellFormed.{is_well_formed}
-use Rattle.node_views.proofs.HostWalk.{Saying, TakesSo}
-use Rattle.world_views.specs.Machine.{step_by}
-use Rattle.world_views.proofs.MarkWalk.{IsOfHost}
-use Rattle.world_views.proofs.StepWalk.{step_so}
+use Rattle.node_views.specs.Words.{host_marks, is_host_mark, parts_marks, parts_words}
+use Rattle.node_views.proofs.HostEach.{HostEach, IsOfHost, KeepsEach, each_kept, row_each}
+use Rattle.node_views.proofs.WordWalk.{host_speaks}
+use Rattle.world_views.specs.Machine.{own_stop, step_by, step_if}
 
-module _ (P : Outgoing → Type 0) (M : Mark → Type 0) where
-  -- of what these blocks do at the signal, also where they settle on a view at it
-  pub record TakesEach (x : Signal) (parts : Parts) : Type 0 where
-    pub row : Does P M (parts_row parts x)
-    pub settles : (view : View) → settled_at parts x ≡ Some view
-        → Does P M (parts_entered (parts_row parts x).state view)
+module _ (P : Outgoing → Type 0) (M : Mark → Type 0) (own : IsOfHost M) (x : Signal) (h : ℕ) (s : hosts.Host) where
+  pub step_each : HostEach P M s x → Does P M (step_by h s x)
+  step_each each = by (own_stop h x)
+    where
+      by : (o : Option StopCause) → Does P M (step_if s x o)
+      by (Some cause) = (tt, (own.stops cause, tt))
+      by None = row_each P M own x s each
 
-  -- of what those of the host do, at the signal or where its view is installed before
-  pub record HostEach (s : hosts.Host) (x : Signal) : Type 0 where
-    pub goes : is_well_formed s.standing.shape x ≡ true → nat_lt s.standing.view.number x.view.number ≡ false
-        → is_barred s x ≡ false → TakesEach x s.parts
-    pub enters : is_well_formed s.standing.shape x ≡ true → nat_lt s.standing.view.number x.view.number ≡ true
-        → is_excluded s.standing x.view ≡ false → Does P M (parts_entered s.parts x.view)
-    pub behind : is_well_formed s.standing.shape x ≡ true → nat_lt s.standing.view.number x.view.number ≡ true
-        → is_excluded s.standing x.view ≡ false → is_barred (entered s x.view).state x ≡ false
-        → TakesEach x (parts_entered s.parts x.view).state
+  -- where it is so of the blocks whatever they do, as long as they are Q
+  pub step_keeps_each : (Q : Parts → Type 0) → KeepsEach P M Q x → Q s.parts → Does P M (step_by h s x)
+  step_keeps_each Q keeps so = step_each (each_kept P M Q x keeps s so)
 
-  abbrev DoesEach : Saying
-  DoesEach standing parts sends marks = Each P sends × Each M marks
+-- a host keeps to the words of its part
+pub step_speaks : (h : ℕ) (s : hosts.Host) (x : Signal)
+    → Speaks (parts_words s.parts) (host_marks s.parts) (step_by h s x)
+step_speaks h s x = by (own_stop h x)
+  where
+    by : (o : Option StopCause) → Speaks (parts_words s.parts) (host_marks s.parts) (step_if s x o)
+    by (Some cause) = (tt, (refl, tt))
+    by None = host_speaks s x
 
-  module _ (own : IsOfHost M) (x : Signal) where
-    more : (standing : Standing) (parts : Parts) (sends : List Outgoing) (marks : List Mark)
-        → Each P sends × Each M marks → TakesEach x parts → TakesSo DoesEach x standing parts sends marks
-    more standing parts sends marks before is = record {
-      row = λ none. (
-        each_append P sends (parts_row parts x).effects.sends before.0 is.row.0,
-        each_append M marks (parts_row parts x).effects.marks before.1 is.row.1,
-      );
-      settles = λ view at.
-          let row = (parts_row parts x).effects in
-          let later = (parts_entered (parts_row parts x).state view).effects in
-          let did = is.settles view at in (
-            each_append P sends (row.sends ++ later.sends) before.0
-                (each_append P row.sends later.sends is.row.0 did.0),
-            each_append M marks (row.marks ++ later.marks) before.1
-                (each_append M row.marks later.marks is.row.1 did.1),
-          );
-    }
-
-    pub step_each : (h : ℕ) (s : hosts.Host) → HostEach s x → Does P M (step_by h s x)
-    step_each h s each =
-        step_so DoesEach x h s (record {
-          own = record {
-            counts = λ standing parts sends marks left so. so;
-            cuts = λ standing parts sends marks first so.
-                (so.0, each_append M marks (cut_marks first) so.1 (own.cuts _, (own.cuts _, (own.cuts _, tt))));
-            stops = λ standing parts sends marks cause so. (so.0, each_append M marks _ so.1 (own.stops cause, tt));
-            hushes = λ standing parts sends marks stops so. (tt, so.1);
-          };
-          stays = (tt, tt);
-          goes = λ sound old barred left. more _ s.parts [] [] (tt, tt) (each.goes sound old barred);
-          enters = λ sound newer among left.
-              let did = each.enters sound newer among in (did.0, (own.installs x.view, did.1));
-          behind = λ sound newer among barred left.
-              let did = each.enters sound newer among in
-              more _ _ _ _ (did.0, (own.installs x.view, did.1)) (each.behind sound newer among barred);
-        })
-
-    -- so it is where it is of whatever these blocks do: Q is so of them, and stays so
-    pub record KeepsEach (Q : Parts → Type 0) : Type 0 where
-      pub row : (parts : Parts) → Q parts → Does P M (parts_row parts x)
-      pub enters : (parts : Parts) (view : View) → Q parts → Does P M (parts_entered parts view)
-      pub stays : (parts : Parts) → Q parts → Q (parts_row parts x).state
-      pub stays_entered : (parts : Parts) (view : View) → Q parts → Q (parts_entered parts view).state
-
-    pub step_keeps_each : (Q : Parts → Type 0) → KeepsEach Q → (h : ℕ) (s : hosts.Host) → Q s.parts
-        → Does P M (step_by h s x)
-    step_keeps_each Q keeps h s so =
-        step_each h s (record {
-          goes = λ sound old barred. taken s.parts so;
-          enters = λ sound newer among. keeps.enters s.parts x.view so;
-          behind = λ sound newer among barred.
-              taken (parts_entered s.parts x.view).state (keeps.stays_entered s.parts x.view so);
-        })
-      where
-        taken : (parts : Parts) → Q parts → TakesEach x parts
-        taken parts is = record {
-          row = keeps.row parts is;
-          settles = λ view at. keeps.enters (parts_row parts x).state view (keeps.stays parts is);
-        }
+-- so what is so of each of these words and marks is so of all that it sends and marks
+pub step_words : (Q : Body → Type 0) (N : Mark → Type 0) (h : ℕ) (s : hosts.Host) (x : Signal)
+    → ((body : Body) → parts_words s.parts body ≡ true → Q body)
+    → ((mark : Mark) → host_marks s.parts mark ≡ true → N mark)
+    → Does (λ (sent : Outgoing). Q sent.body) N (step_by h s x)
+step_words Q N h s x of_words of_marks =
+    speaks_do (parts_words s.parts) (host_marks s.parts) Q N (step_by h s x) of_words of_marks (step_speaks h s x)
