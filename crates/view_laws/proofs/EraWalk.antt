@@ -2,12 +2,13 @@
 use Rattle.std.proofs.Common.{◌≡◌, ◌⊎◌, ◌||◌, ◌++◌, ℕ, zero, suc, Bool, true, false, nat_lt, List, [], ◌∷◌, refl, ap, sym, subst, ◌∙◌, inl, inr}
 use Rattle.std.specs.List.{list_any}
 use Rattle.std.specs.Prelude.{not, Option, None, Some}
-use Rattle.run_theory.proofs.Pasts.{each_append}
+use Rattle.run_theory.proofs.Pasts.{each_from}
 use Rattle.run_theory.specs.Lists.{Each}
 use Rattle.sig_core.specs.declared.mark.Mark.{Mark}
 use Rattle.sig_core.specs.declared.mark.Mark.TheVariants.{Installed}
 use Rattle.sig_core.specs.declared.member.HostId.{HostId}
 use Rattle.sig_core.specs.declared.outcome.StopCause.{StopCause}
+use Rattle.sig_core.specs.declared.outs.Outgoing.{Outgoing}
 use Rattle.sig_core.specs.declared.signal.Body.{Body}
 use Rattle.sig_core.specs.declared.signal.Body.TheVariants.{Host}
 use Rattle.sig_core.specs.declared.signal.Signal.{Signal}
@@ -15,14 +16,15 @@ use Rattle.sig_core.specs.declared.signal.host.HostSignal.TheVariants.{Closed, C
 use Rattle.sig_core.specs.declared.view.View.{View}
 use Rattle.sig_core.specs.Step.{Step}
 use Rattle.api_views.specs.Members.{same_member}
-use Rattle.node_views.specs.Blocks.{parts_row, settled_at}
+use Rattle.node_views.specs.Blocks.{parts_entered, parts_row}
 use Rattle.node_views.specs.declared.host.Host as hosts
 use Rattle.node_views.specs.Row.{blocks_row, closed_if, counted_row, cut_if, entered, entering_if, headed_if, headed_row, host_row, host_table, is_barred, is_cut, is_excluded, is_stop, killed_after, passed_if, passed_row, settle, standing_at, taken_if, with_parts}
 use Rattle.node_views.specs.WellFormed.{is_first, is_well_formed}
 use Rattle.world_core.specs.Entries.{installed_in}
 use Rattle.world_views.specs.Machine.{own_stop, step_by, step_if}
+use Rattle.world_views.proofs.StepEach.{step_keeps_each}
 use Rattle.view_laws.proofs.EraMarks.{DecidesNone, DecidesOnly, IsUndecided, decisions_go, decisions_install}
-use Rattle.view_laws.proofs.EraParts.{coordinating, entered_bare, entered_has, has_coordinator, none_settled, others_none}
+use Rattle.view_laws.proofs.EraParts.{coordinating, entered_bare, entered_has, has_coordinator, none_settled, others_none, still_has}
 
 entered_marks : (s : hosts.Host) (view : View) → (entered s view).effects.marks ≡ []
 unfolding entered
@@ -37,83 +39,25 @@ unfolding entered
 entered_view s view = refl
 
 -- a host without a coordinator decides nothing
-abbrev Lacks : hosts.Host → Type 0
-Lacks s = has_coordinator s.parts ≡ false
-
-settle_none : (t : Step hosts.Host) (view : Option View) → DecidesNone t → DecidesNone (settle t view)
-settle_none t None none = none
-settle_none t (Some view) none =
-    each_append IsUndecided t.effects.marks (entered t.state view).effects.marks none
-    (subst (Each IsUndecided) (sym (entered_marks t.state view)) tt)
-
-blocks_none : (s : hosts.Host) (x : Signal) → Lacks s → DecidesNone (blocks_row s x)
-unfolding blocks_row
-blocks_none s x lacks =
-    settle_none (with_parts s (parts_row s.parts x)) (settled_at s.parts x) (others_none s.parts x lacks)
-
-cut_none : (s : hosts.Host) (first : HostId) (cut : Bool) → DecidesNone (cut_if s first cut)
-cut_none s first true = tt
-cut_none s first false = (refl, (refl, (refl, tt)))
-
-closed_none : (s : hosts.Host) (x : Signal) (own : Bool) → Lacks s → DecidesNone (closed_if s x own)
-closed_none s x true lacks = (refl, tt)
-closed_none s x false lacks = blocks_none s x lacks
-
-table_none : (s : hosts.Host) (x : Signal) (body : Body) → Lacks s → DecidesNone (host_table s x body)
-table_none s x (Host (Kill zero)) lacks = (refl, tt)
-table_none s x (Host (Kill (suc left))) lacks = tt
-table_none s x (Host (Cut node first)) lacks = cut_none s first (is_cut s.standing first || not (is_first first))
-table_none s x (Host (Closed cause)) lacks = closed_none s x (same_member s.standing.member x.member) lacks
-table_none s x _ lacks = blocks_none s x lacks
-
-passed_if_none : (s : hosts.Host) (x : Signal) (barred : Bool) → Lacks s → DecidesNone (passed_if s x barred)
-passed_if_none s x true lacks = tt
-passed_if_none s x false lacks = table_none s x x.body lacks
-
-passed_none : (s : hosts.Host) (x : Signal) → Lacks s → DecidesNone (passed_row s x)
-unfolding passed_row
-passed_none s x lacks = passed_if_none s x (is_barred s x) lacks
-
-entering_none : (s : hosts.Host) (x : Signal) (excluded : Bool) → Lacks s → DecidesNone (entering_if s x excluded)
-entering_none s x true lacks = (refl, tt)
-entering_none s x false lacks =
-    let inside = (entered s x.view).state in
-    let behind : Each IsUndecided (passed_row inside x).effects.marks =
-    passed_none inside x (entered_keeps s x.view ∙ lacks) in (
-      refl,
-      subst (λ marks. Each IsUndecided (marks ++ (passed_row inside x).effects.marks)) (sym (entered_marks s x.view))
-          behind,
-    )
-
-headed_if_none : (s : hosts.Host) (x : Signal) (newer : Bool) → Lacks s → DecidesNone (headed_if s x newer)
-headed_if_none s x true lacks = entering_none s x (is_excluded s.standing x.view) lacks
-headed_if_none s x false lacks = passed_none s x lacks
-
-headed_none : (s : hosts.Host) (x : Signal) → Lacks s → DecidesNone (headed_row s x)
-unfolding headed_row
-headed_none s x lacks = headed_if_none s x (nat_lt s.standing.view.number x.view.number) lacks
-
-counted_none : (s : hosts.Host) (x : Signal) (left : Option ℕ) → Lacks s → DecidesNone (counted_row s x left)
-counted_none s x None lacks = headed_none s x lacks
-counted_none s x (Some zero) lacks = (refl, tt)
-counted_none s x (Some (suc zero)) lacks = (refl, tt)
-counted_none s x (Some (suc (suc left))) lacks =
-    headed_none (standing_at s (killed_after s.standing (Some (suc left)))) x lacks
-
-taken_none : (s : hosts.Host) (x : Signal) (sound : Bool) → Lacks s → DecidesNone (taken_if s x sound)
-taken_none s x true lacks = counted_none s x s.standing.left lacks
-taken_none s x false lacks = tt
-
-row_none : (s : hosts.Host) (x : Signal) → Lacks s → DecidesNone (host_row s x)
-unfolding host_row
-row_none s x lacks = taken_none s x (is_well_formed s.standing.shape x) lacks
-
-by_none : (s : hosts.Host) (x : Signal) (cause : Option StopCause) → Lacks s → DecidesNone (step_if s x cause)
-by_none s x (Some cause) lacks = (refl, tt)
-by_none s x None lacks = row_none s x lacks
-
 pub step_none : (h : ℕ) (s : hosts.Host) (x : Signal) → has_coordinator s.parts ≡ false → DecidesNone (step_by h s x)
-step_none h s x lacks = by_none s x (own_stop h x) lacks
+step_none h s x lacks =
+    (step_keeps_each Anything IsUndecided (record {
+      stops = λ cause. refl;
+      installs = λ view. refl;
+      cuts = λ host. refl;
+    }) x (λ parts. has_coordinator parts ≡ false) (record {
+      row = λ parts off. (anything (parts_row parts x).effects.sends, others_none parts x off);
+      enters = λ parts view off.
+          (anything (parts_entered parts view).effects.sends, subst (Each IsUndecided) (sym (entered_bare parts view)) tt);
+      stays = λ parts off. still_has parts x ∙ off;
+      stays_entered = λ parts view off. entered_has parts view ∙ off;
+    }) h s lacks).1
+  where
+    Anything : Outgoing → Type 0
+    Anything sent = Unit {0}
+
+    anything : (sends : List Outgoing) → Each Anything sends
+    anything sends = each_from Anything sends (λ sent there. tt)
 
 -- One with a coordinator stands behind a step in the view that it marked last, and a step by which it stops decides
 -- nothing.

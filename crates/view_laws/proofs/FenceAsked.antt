@@ -170,4 +170,5 @@ module _ (s : QmgrState) where
         where
           off : (sent : Outgoing) → IsOff sent ⊎ IsFenceOf s x.body (qmgr_row s x).state sent → IsOff sent
           off sent (inl is_off) = is_off
-          off sent (inr asked) = let differ : body ≡ Membership (PrepFailReq asked.set) = sym is ∙ asked.asks in absurd cc
+          off sent (inr asked) =
+              let differ : body ≡ Membership (PrepFailReq asked.set) = sym is ∙ asked.asks in absurd cc

@@ -55,6 +55,9 @@ use Rattle.world_core.specs.Start.{Start, made}
 use Rattle.world_core.specs.Steps.{HostStep}
 use Rattle.world_views.specs.Hosts.{part_started, started}
 use Rattle.world_views.specs.Machine.{after}
+use Rattle.sig_core.specs.declared.member.TxId.{TxId}
+use Rattle.lqh_views.proofs.Walk.{replica_outcomes}
+use Rattle.tc_views.proofs.Walk.{coordinator_outcomes}
 use Rattle.view_laws.specs.HostEvents.{events_of}
 use Rattle.view_laws.proofs.FenceRows.{dih_node}
 use Rattle.view_laws.proofs.FollowHosts.{started_behind}
@@ -67,69 +70,43 @@ turned_node : (s : TcState) (at : ℕ) (turn : Turn) (b : Bool) → (turned_if s
 turned_node s at turn true = refl
 turned_node s at turn false = refl
 
-transactions_node : (s : TcState) (body : Body) → (tc_table s body).state.node ≡ s.node
-transactions_node s body = by (tc_table s body) (placed_step s body)
-  where
-    IsOwn : Step TcState → Type 0
-    IsOwn step = step.state.node ≡ s.node
+-- whatever turn is taken
+abbrev AnyTurn : TxId → Transaction → Turn → Type 0
+AnyTurn tx t turn = Unit {0}
 
-    by : (step : Step TcState) → PlacedStep s body step → IsOwn step
-    by step (idles off is) = subst IsOwn (sym is) refl
-    by step (lacks name about is) = subst IsOwn (sym is) refl
-    by step (opens name about room is) = subst IsOwn (sym is) refl
-    by step (tells tx ahead about is) = subst IsOwn (sym is) refl
-    by step (lost turn none is) = subst IsOwn (sym is) refl
-    by step (goes turn t at split is) =
-        subst IsOwn (sym is) (turned_node s at (turn_row s body t) (turn_row s body t).over)
-
-resume_node : (s : TcState) (task : Task) (number : ℕ) → (resume_step s task number).state.node ≡ s.node
-unfolding resume_step
-resume_node s task number = at_place (place_in s task.tx)
-  where
-    row : Transaction → Turn
-    row t = resume_row s.node s.layout task.tx t task.verdict number
-
-    at_value : (at : ℕ) (t : Option Transaction) → (turn_value s row at t).state.node ≡ s.node
-    at_value at None = refl
-    at_value at (Some t) = turned_node s at (row t) (row t).over
-
-    at_place : (o : Option ℕ) → (turn_place s row o).state.node ≡ s.node
-    at_place None = refl
-    at_place (Some at) = at_value at (slice_get (values_of s.live) at)
-
-module _ (s : CoordinatorState) where
-  unless_node : (body : Body) (b : Bool) → (calm_unless s body b).state.tc.node ≡ s.tc.node
-  unfolding within
-  unless_node body true = refl
-  unless_node body false = transactions_node s.tc body
-
-  resumes_by : (left : List Task) → (coordinator.resume_by s left).state.tc.node ≡ s.tc.node
-  unfolding within
-  resumes_by [] = refl
-  resumes_by (task ∷ left) = resume_node s.tc task s.number
-
-  resumes_if : (b : Bool) → (coordinator.resume_if s b).state.tc.node ≡ s.tc.node
-  resumes_if true = resumes_by s.left
-  resumes_if false = refl
-
-  resumes_node : (number : ℕ) → (coordinator.resume_row s number).state.tc.node ≡ s.tc.node
-  unfolding coordinator.resume_row
-  resumes_node number = resumes_if (number == s.number)
-
-  coordinator_by : (number : ℕ) (body : Body) → (coordinator_table s number body).state.tc.node ≡ s.tc.node
-  unfolding coordinator.fence_row within
-  coordinator_by number (Membership (FenceReq proposal)) = refl
-  coordinator_by number (Host (Continue work.Installation at)) = resumes_node number
-  coordinator_by number (Host (Continue (work.Transaction tx) at)) =
-      unless_node (Host (Continue (work.Transaction tx) at)) (nat_lt number s.number)
-  coordinator_by number (Epoch (DiVerifyConf tx epoch)) =
-      unless_node (Epoch (DiVerifyConf tx epoch)) (is_among s.doomed tx)
-  coordinator_by number (Client (TcKeyReq tx op)) = unless_node (Client (TcKeyReq tx op)) (is_to_fail s.left tx)
-  coordinator_by number (Client (TcRollbackReq tx)) = unless_node (Client (TcRollbackReq tx)) (is_to_fail s.left tx)
-  coordinator_by number body = transactions_node s.tc body
-
-  coordinator_node : (x : Signal) → (coordinator_row s x).state.tc.node ≡ s.tc.node
-  coordinator_node x = coordinator_by x.view.number x.body
+coordinator_node : (s : CoordinatorState) (x : Signal) → (coordinator_row s x).state.tc.node ≡ s.tc.node
+coordinator_node s x =
+    coordinator_outcomes AnyTurn (λ step. step.state.node ≡ s.tc.node) s x (record {
+      calm = record {
+        turns = λ tx t at split. record {
+          goes_on = λ at is. tt;
+          operates = λ op is. tt;
+          decides = λ is. tt;
+          rolls_back = λ is. tt;
+          waits = λ is. tt;
+          answers = λ key answer is. tt;
+          refuses = λ key why is. tt;
+          committed = λ key is. tt;
+          completed = λ key is. tt;
+          aborted = λ key is. tt;
+          commits = λ epoch is. tt;
+        };
+        turned = λ tx t at split turn own. turned_node s.tc at turn turn.over;
+        stays = refl;
+        full = λ name. refl;
+        begins = λ name. refl;
+        passes = λ tx ahead. refl;
+      };
+      resumes = λ tx t at split. record {
+        stays = tt;
+        fails = λ number is. record { enters = λ some. tt; ends = λ none. tt };
+        anew = λ why verifying awaited at b. tt;
+        recommits = λ epoch awaited at. tt;
+        recompletes = λ epoch awaited at. tt;
+      };
+      promises = refl;
+      goes_on = λ step node b same. same;
+    })
 
 -- that of the rows
 rows_node : (s : LqhState) (body : Body) → (lqh_table s body).state.node ≡ s.node
@@ -162,47 +139,21 @@ rows_node s body =
       rests = λ body is. refl;
     }) body
 
-module _ (s : ReplicaState) where
-  serve_node : (x : Signal) (b : Bool) → (serve_if s x b).state.lqh.node ≡ s.lqh.node
-  serve_node x true = refl
-  serve_node x false = rows_node s.lqh x.body
-
-  marker_node : (r : reports.Report) (o : Option (ℕ × Marker)) → (marker_by s r o).state.lqh.node ≡ s.lqh.node
-  marker_node r None = refl
-  marker_node r (Some (at, m)) = refl
-
-  record_node : (r : reports.Report) (o : Option (ℕ × PendingRecord)) → (record_by s r o).state.lqh.node ≡ s.lqh.node
-  record_node r None = marker_node r (last_before (is_orphaned_marker s.lqh.layout.view.full) s.lqh.markers r.markers)
-  record_node r (Some (at, one)) = refl
-
-  reports_node : (r : reports.Report) → (reporting s r).state.lqh.node ≡ s.lqh.node
-  unfolding reporting
-  reports_node r =
-      record_node r (last_before (is_orphaned_record s.lqh.layout.view.full) s.lqh.rows.pending r.records)
-
-  goes_on_node : (b : Bool) (o : Option reports.Report) → (go_on_by s b o).state.lqh.node ≡ s.lqh.node
-  goes_on_node true (Some r) = reports_node r
-  goes_on_node true None = refl
-  goes_on_node false o = refl
-
-  epochs_node : (from : ℕ) (signal : EpochSignal) → (epoch_table s from signal).state.lqh.node ≡ s.lqh.node
-  epochs_node from (GcpClosed epoch) = refl
-  epochs_node from (GcpSaveReq epoch) = refl
-  epochs_node from GcpStateReq = refl
-  epochs_node from _ = refl
-
-  replica_by_node : (x : Signal) (body : Body) → (replica_by s x body).state.lqh.node ≡ s.lqh.node
-  replica_by_node x (Membership (FenceReq proposal)) = refl
-  replica_by_node x (Takeover LqhTransReq) = reports_node _
-  replica_by_node x (Host (Continue work.Report at)) =
-      goes_on_node (x.view.number == s.lqh.layout.view.number) s.report
-  replica_by_node x (Host (Continue work.Granted at)) = serve_node x (is_stale s x)
-  replica_by_node x (Host (Continue work.Expired at)) = serve_node x (is_stale s x)
-  replica_by_node x (Epoch signal) = epochs_node x.member.node signal
-  replica_by_node x _ = rows_node s.lqh x.body
-
-  replica_node : (x : Signal) → (replica_row s x).state.lqh.node ≡ s.lqh.node
-  replica_node x = replica_by_node x x.body
+replica_node : (s : ReplicaState) (x : Signal) → (replica_row s x).state.lqh.node ≡ s.lqh.node
+replica_node s x =
+    replica_outcomes s x (λ step. step.state.lqh.node ≡ s.lqh.node) (record {
+      passes = λ of_rows. rows_node s.lqh x.body;
+      stales = λ of_waits stale. refl;
+      unasked = λ at is none. refl;
+      ignores = λ signal is. refl;
+      promises = λ proposal is. refl;
+      closes = λ epoch is. refl;
+      saves = λ epoch is. refl;
+      states = λ is. refl;
+      tells_record = λ r is at one last left. refl;
+      tells_marker = λ r is at m none last left. refl;
+      ends = λ r is none no_marker. refl;
+    })
 
 -- that of each block
 tc_takes : (p : TcPart) (to b : BlockId) (x : Signal) → own_node (Tc (tc_row p to x).state) b ≡ own_node (Tc p) b

@@ -66,8 +66,8 @@ turned_kinds s at turn own false = own
 -- whatever the coordinator takes
 pub tc_kinds : (s : TcState) (body : Body) → SendsOf is_of_coordinator (tc_table s body)
 tc_kinds s body =
-    tc_each (λ tx t turn. SendsOnly (λ turn sent. OfTurn turn sent) turn) (λ step. SendsOf is_of_coordinator step) s body
-    (record {
+    tc_each (λ tx t turn. SendsOnly (λ turn sent. OfTurn turn sent) turn)
+    (λ step. SendsOf is_of_coordinator step) s body (record {
       turns = λ tx t at split.
           rows_at s.node s.layout tx t body (λ turn. SendsOnly (λ turn sent. OfTurn turn sent) turn)
           (turn_sends s.node s.layout tx t body (λ turn sent. OfTurn turn sent) (record {

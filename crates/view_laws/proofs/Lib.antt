@@ -3,19 +3,15 @@ mod Deciding
 mod EntryLemmas
 mod EraArrives
 pub mod EraCausal
-mod EraClient
-mod EraCoordinator
 mod EraDecided
 pub mod EraEntries
 mod EraMarks
-mod EraMaster
 pub mod EraOrder
 pub mod EraParts
 pub mod EraRises
 pub mod EraShapes
 pub mod EraSorted
 pub mod EraSound
-mod EraTurns
 mod EraWalk
 pub mod EventLemmas
 pub mod FenceAnswers

@@ -54,7 +54,7 @@ pub arbiter_answers : (s : ArbiterState) (x : Signal) → Each (IsAnswer s x) (a
 arbiter_answers s x =
     arbiter_outcomes s x (λ step. Each (IsAnswer s x) step.effects.sends) (record {
       stays = tt;
-      grants = λ number group joins asks granted.
-          (inr (record { number = number; group = group; joins = joins; asks = asks; granted = granted; is = refl }), tt);
+      grants = λ number group joins asks may.
+          (inr (record { number = number; group = group; joins = joins; asks = asks; granted = may; is = refl }), tt);
       refuses = λ number group joins asks refused. (inl refl, tt);
     })

@@ -34,6 +34,13 @@ use Rattle.world_core.specs.Start.{Start, made}
 use Rattle.world_core.specs.Steps.{HostStep}
 use Rattle.world_views.specs.Hosts.{part_started, started}
 use Rattle.world_views.specs.Machine.{after, own_stop, step_by, step_if, told}
+use Rattle.sig_core.specs.declared.mark.Mark.{Mark}
+use Rattle.sig_core.specs.declared.outs.Outgoing.{Outgoing}
+use Rattle.node_views.specs.declared.parts.Parts.{Parts}
+use Rattle.node_views.specs.declared.standing.Standing.{Standing}
+use Rattle.node_views.specs.Row.{in_view}
+use Rattle.node_views.proofs.HostWalk.{Saying, TakesSo}
+use Rattle.world_views.proofs.StepWalk.{step_so}
 use Rattle.view_laws.specs.HostEvents.{counted_events, entering_events, events_at, events_by, headed_events, passed_events, sound_events}
 use Rattle.view_laws.specs.Sets.{all_of}
 use Rattle.view_laws.proofs.FollowHosts.{started_behind}
@@ -48,98 +55,56 @@ pub record IsHome (me : Member) (shape : Shape) (s : hosts.Host) : Type 0 where
   pub shape_is : s.standing.shape ≡ shape
 
 module _ (me : Member) (shape : Shape) where
+  -- so it is of where a host stands, whatever its blocks come to
+  abbrev StandsHome : Saying
+  StandsHome standing parts sends marks =
+      (standing.member ≡ me) × ((standing.has_joined ≡ true) × (standing.shape ≡ shape))
+
+  -- also where a view is installed
+  joins_still : (standing : Standing) (view : View) → standing.has_joined ≡ true
+      → (in_view standing view).has_joined ≡ true
+  joins_still standing view joined = ap (λ (b : Bool). b || is_member view standing.member) joined
+
   -- no step changes that
-  entered_home : (s : hosts.Host) (view : View) → IsHome me shape s → IsHome me shape (entered s view).state
-  unfolding entered
-  entered_home s view home = record {
-    is = home.is;
-    joined = ap (λ (b : Bool). b || is_member view s.standing.member) home.joined;
-    shape_is = home.shape_is;
-  }
+  step_home : (h : ℕ) (s : hosts.Host) (x : Signal) → IsHome me shape s
+      → StandsHome (step_by h s x).state.standing (step_by h s x).state.parts (step_by h s x).effects.sends
+      (step_by h s x).effects.marks
+  step_home h s x home =
+      step_so StandsHome x h s (record {
+        own = record {
+          counts = λ standing parts sends marks left so. so;
+          cuts = λ standing parts sends marks first so. so;
+          stops = λ standing parts sends marks cause so. so;
+          hushes = λ standing parts sends marks stops so. so;
+        };
+        stays = here;
+        goes = λ sound old barred left. taken _ _ _ _ here;
+        enters = λ sound newer among left. inside;
+        behind = λ sound newer among barred left. taken _ _ _ _ inside;
+      })
+    where
+      here : (s.standing.member ≡ me) × ((s.standing.has_joined ≡ true) × (s.standing.shape ≡ shape))
+      here = (home.is, (home.joined, home.shape_is))
 
-  settle_home : (t : Step hosts.Host) (view : Option View) → IsHome me shape t.state
-      → IsHome me shape (settle t view).state
-  settle_home t None home = home
-  settle_home t (Some view) home = entered_home t.state view home
+      inside : (s.standing.member ≡ me)
+          × (((in_view s.standing x.view).has_joined ≡ true) × (s.standing.shape ≡ shape))
+      inside = (home.is, (joins_still s.standing x.view home.joined, home.shape_is))
 
-  blocks_home : (s : hosts.Host) (x : Signal) → IsHome me shape s → IsHome me shape (blocks_row s x).state
-  unfolding blocks_row
-  blocks_home s x home =
-      settle_home (with_parts s (parts_row s.parts x)) (settled_at s.parts x)
-      (record { is = home.is; joined = home.joined; shape_is = home.shape_is })
-
-  cut_home : (s : hosts.Host) (first : HostId) (cut : Bool) → IsHome me shape s
-      → IsHome me shape (cut_if s first cut).state
-  cut_home s first true home = home
-  cut_home s first false home = record { is = home.is; joined = home.joined; shape_is = home.shape_is }
-
-  closed_home : (s : hosts.Host) (x : Signal) (own : Bool) → IsHome me shape s
-      → IsHome me shape (closed_if s x own).state
-  closed_home s x true home = home
-  closed_home s x false home = blocks_home s x home
-
-  table_home : (s : hosts.Host) (x : Signal) (body : Body) → IsHome me shape s
-      → IsHome me shape (host_table s x body).state
-  table_home s x (Host (Kill zero)) home = home
-  table_home s x (Host (Kill (suc left))) home =
-      record { is = home.is; joined = home.joined; shape_is = home.shape_is }
-  table_home s x (Host (Cut node first)) home =
-      cut_home s first (is_cut s.standing first || not (is_first first)) home
-  table_home s x (Host (Closed cause)) home = closed_home s x (same_member s.standing.member x.member) home
-  table_home s x _ home = blocks_home s x home
-
-  passed_if_home : (s : hosts.Host) (x : Signal) (barred : Bool) → IsHome me shape s
-      → IsHome me shape (passed_if s x barred).state
-  passed_if_home s x true home = home
-  passed_if_home s x false home = table_home s x x.body home
-
-  passed_home : (s : hosts.Host) (x : Signal) → IsHome me shape s → IsHome me shape (passed_row s x).state
-  unfolding passed_row
-  passed_home s x home = passed_if_home s x (is_barred s x) home
-
-  entering_home : (s : hosts.Host) (x : Signal) (excluded : Bool) → IsHome me shape s
-      → IsHome me shape (entering_if s x excluded).state
-  entering_home s x true home = home
-  entering_home s x false home = passed_home (entered s x.view).state x (entered_home s x.view home)
-
-  headed_if_home : (s : hosts.Host) (x : Signal) (newer : Bool) → IsHome me shape s
-      → IsHome me shape (headed_if s x newer).state
-  headed_if_home s x true home = entering_home s x (is_excluded s.standing x.view) home
-  headed_if_home s x false home = passed_home s x home
-
-  headed_home : (s : hosts.Host) (x : Signal) → IsHome me shape s → IsHome me shape (headed_row s x).state
-  unfolding headed_row
-  headed_home s x home = headed_if_home s x (nat_lt s.standing.view.number x.view.number) home
-
-  counted_home : (s : hosts.Host) (x : Signal) (left : Option ℕ) → IsHome me shape s
-      → IsHome me shape (counted_row s x left).state
-  counted_home s x None home = headed_home s x home
-  counted_home s x (Some zero) home = home
-  counted_home s x (Some (suc zero)) home = home
-  counted_home s x (Some (suc (suc left))) home =
-      headed_home (standing_at s (killed_after s.standing (Some (suc left)))) x
-      (record { is = home.is; joined = home.joined; shape_is = home.shape_is })
-
-  taken_home : (s : hosts.Host) (x : Signal) (sound : Bool) → IsHome me shape s
-      → IsHome me shape (taken_if s x sound).state
-  taken_home s x true home = counted_home s x s.standing.left home
-  taken_home s x false home = home
-
-  row_home : (s : hosts.Host) (x : Signal) → IsHome me shape s → IsHome me shape (host_row s x).state
-  unfolding host_row
-  row_home s x home = taken_home s x (is_well_formed s.standing.shape x) home
-
-  by_home : (s : hosts.Host) (x : Signal) (cause : Option StopCause) → IsHome me shape s
-      → IsHome me shape (step_if s x cause).state
-  by_home s x (Some cause) home = home
-  by_home s x None home = row_home s x home
+      taken : (standing : Standing) (parts : Parts) (sends : List Outgoing) (marks : List Mark)
+          → StandsHome standing parts sends marks → TakesSo StandsHome x standing parts sends marks
+      taken standing parts sends marks so = record {
+        row = λ none. so;
+        settles = λ view at. (so.0, (joins_still standing view so.1.0, so.1.1));
+      }
 
   told_home : (h : ℕ) (t : Step hosts.Host) → IsHome me shape t.state → IsHome me shape (told h t)
   told_home zero t home = record { is = home.is; joined = home.joined; shape_is = home.shape_is }
   told_home (suc h) t home = home
 
   next_home : (h : ℕ) (s : hosts.Host) (x : Signal) → IsHome me shape s → IsHome me shape (told h (step_by h s x))
-  next_home h s x home = told_home h (step_by h s x) (by_home s x (own_stop h x) home)
+  next_home h s x home =
+      let so = step_home h s x home in
+      told_home h (step_by h s x) (record { is = so.0; joined = so.1.0; shape_is = so.1.1 })
 
   -- who is a member of a view is among all of it
   member_there : (view : View) → is_member view me ≡ true → IsIn me (all_of view)

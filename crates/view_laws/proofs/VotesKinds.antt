@@ -1,5 +1,5 @@
--- Takeovers, coordinators, epochs, rows, masters of checkpoints and the client's side send no vote; coordinators, epochs
--- and rows confirm their fence where they are asked to.
+-- Takeovers, coordinators, epochs, rows, masters of checkpoints and the client's side send no vote; coordinators,
+-- epochs and rows confirm their fence where they are asked to.
 use Rattle.std.proofs.Common.{◌≡◌, ℕ, true, false, refl, ap, inl, inr, ⊎_elim, Bool}
 use Rattle.run_theory.proofs.Pasts.{each_map}
 use Rattle.sig_core.specs.declared.mark.Mark.{Mark}
