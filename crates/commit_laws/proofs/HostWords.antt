@@ -42,12 +42,6 @@ of_beside (Main p) beside = tt
 of_beside (Tc p) beside = absurd beside
 of_beside (Ldm p) beside = absurd beside
 
-pub to_beside : (parts : Parts) → Beside parts → IsBeside parts
-to_beside (Shell p) beside = tt
-to_beside (Main p) beside = tt
-to_beside (Tc p) beside = absurd beside
-to_beside (Ldm p) beside = absurd beside
-
 module _ (shell main tc ldm : Type 0) where
   abbrev Is : Parts → Type 0
   Is parts = OfKind shell main tc ldm parts
