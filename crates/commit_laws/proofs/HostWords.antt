@@ -6,23 +6,20 @@ use Rattle.sig_core.specs.declared.outs.Outgoing.{Outgoing}
 use Rattle.sig_core.specs.declared.signal.Body.{Body}
 use Rattle.sig_core.specs.declared.signal.Signal.{Signal}
 use Rattle.sig_core.specs.declared.view.View.{View}
-use Rattle.sig_core.specs.Step.{Step}
-use Rattle.step_forms.specs.Does.{Does, IsAmong, IsWord, Speaks}
-use Rattle.step_forms.proofs.DoesLemmas.{does_map, speaks_do}
 use Rattle.node_views.specs.Blocks.{parts_entered, parts_row}
 use Rattle.node_views.specs.declared.host.Host as hosts
 use Rattle.node_views.specs.declared.parts.Parts.{Parts}
 use Rattle.node_views.specs.declared.parts.Parts.TheVariants.{Ldm, Main, Shell, Tc}
 use Rattle.node_views.specs.Replies.{giving}
-use Rattle.node_views.specs.Words.{parts_marks, parts_words}
-use Rattle.node_views.proofs.WordWalk.{parts_speak, parts_speak_installed}
 use Rattle.world_core.specs.Start.{Start}
 use Rattle.world_core.specs.Steps.{HostStep}
 use Rattle.world_views.specs.Hosts.{started}
 use Rattle.world_views.specs.Machine.{after, step_after, step_by, told}
 use Rattle.request_laws.proofs.RouteHosts.{IsBeside}
-use Rattle.world_views.proofs.MarkWalk.{IsOfHost}
-use Rattle.world_views.proofs.StepEach.{step_keeps_each}
+use Rattle.node_views.specs.Words.{host_marks, parts_marks, parts_words}
+use Rattle.node_views.proofs.HostEach.{IsOfHost}
+use Rattle.sig_core.specs.declared.mark.Mark.TheVariants.{CutOff, Installed, Stopped}
+use Rattle.world_views.proofs.StepEach.{step_words}
 use Rattle.world_views.proofs.StepWalk.{IsTaken, next_comes}
 
 -- the kind of a part is the kind of what it runs
@@ -44,12 +41,6 @@ of_beside (Shell p) beside = tt
 of_beside (Main p) beside = tt
 of_beside (Tc p) beside = absurd beside
 of_beside (Ldm p) beside = absurd beside
-
-pub to_beside : (parts : Parts) → Beside parts → IsBeside parts
-to_beside (Shell p) beside = tt
-to_beside (Main p) beside = tt
-to_beside (Tc p) beside = absurd beside
-to_beside (Ldm p) beside = absurd beside
 
 module _ (shell main tc ldm : Type 0) where
   abbrev Is : Parts → Type 0
@@ -98,55 +89,25 @@ module _ (shell main tc ldm : Type 0) where
       step_stays h (after start h log) e.step.taken (kind_stays start h first log)
 
   -- what is so of each word of such a host is so of all that it sends
-  module _ (Q : Body → Type 0)
-      (of_words : (parts : Parts) → OfKind shell main tc ldm parts → (body : Body) → parts_words parts body ≡ true
-      → Q body)
-    where
-      abbrev Sends : Outgoing → Type 0
-      Sends sent = Q sent.body
-
-      abbrev Marks : Mark → Type 0
-      Marks mark = Unit {0}
-
-      of_speech : {S : Type 0} (parts : Parts) → Is parts → (step : Step S)
-          → Speaks (parts_words parts) (parts_marks parts) step → Does Sends Marks step
-      of_speech parts is step =
-          speaks_do (parts_words parts) (parts_marks parts) Q Marks step (of_words parts is) (λ mark among. tt)
-
-      pub host_each : (start : Start) (h : ℕ) → OfKind shell main tc ldm (started start h).parts
-          → (log : List HostStep) (e : HostStep)
-          → Each (λ (sent : Outgoing). Q sent.body) (step_after start h log e).effects.sends
-      host_each start h first log e =
-          (step_keeps_each Sends Marks (record { cuts = λ host. tt; installs = λ view. tt; stops = λ cause. tt })
-          e.step.taken Is (record {
-            row = λ parts is. of_speech parts is (parts_row parts e.step.taken) (parts_speak parts e.step.taken);
-            enters = λ parts view is.
-                of_speech parts is (parts_entered parts view) (parts_speak_installed parts view);
-            stays = row_stays e.step.taken;
-            stays_entered = entered_stays;
-          }) h (after start h log) (kind_stays start h first log)).0
+  pub host_each : (Q : Body → Type 0)
+      → ((parts : Parts) → OfKind shell main tc ldm parts → (body : Body) → parts_words parts body ≡ true → Q body)
+      → (start : Start) (h : ℕ) → OfKind shell main tc ldm (started start h).parts → (log : List HostStep) (e : HostStep)
+      → Each (λ (sent : Outgoing). Q sent.body) (step_after start h log e).effects.sends
+  host_each Q of_words start h first log e =
+      (step_words Q (λ (mark : Mark). Unit {0}) h (after start h log) e.step.taken
+      (of_words (after start h log).parts (kind_stays start h first log)) (λ mark among. tt)).0
 
   -- and so it is of its marks, and those that any host makes
-  module _ (M : Mark → Type 0) (own : IsOfHost M)
-      (of_marks : (parts : Parts) → OfKind shell main tc ldm parts → (mark : Mark) → parts_marks parts mark ≡ true
-      → M mark)
+  pub host_marks_each : (M : Mark → Type 0) → IsOfHost M
+      → ((parts : Parts) → OfKind shell main tc ldm parts → (mark : Mark) → parts_marks parts mark ≡ true → M mark)
+      → (start : Start) (h : ℕ) → OfKind shell main tc ldm (started start h).parts → (log : List HostStep) (e : HostStep)
+      → Each M (step_after start h log e).effects.marks
+  host_marks_each M own of_marks start h first log e =
+      (step_words (λ (body : Body). Unit {0}) M h (after start h log) e.step.taken (λ body word. tt)
+      (by (after start h log).parts (kind_stays start h first log))).1
     where
-      abbrev AnySend : Outgoing → Type 0
-      AnySend sent = Unit {0}
-
-      marked : {S : Type 0} (parts : Parts) → Is parts → (step : Step S)
-          → Speaks (parts_words parts) (parts_marks parts) step → Does AnySend M step
-      marked parts is step =
-          does_map (IsWord (parts_words parts)) AnySend (IsAmong (parts_marks parts)) M step (λ sent word. tt)
-          (of_marks parts is)
-
-      pub host_marks_each : (start : Start) (h : ℕ) → OfKind shell main tc ldm (started start h).parts
-          → (log : List HostStep) (e : HostStep) → Each M (step_after start h log e).effects.marks
-      host_marks_each start h first log e =
-          (step_keeps_each AnySend M own e.step.taken Is (record {
-            row = λ parts is. marked parts is (parts_row parts e.step.taken) (parts_speak parts e.step.taken);
-            enters = λ parts view is.
-                marked parts is (parts_entered parts view) (parts_speak_installed parts view);
-            stays = row_stays e.step.taken;
-            stays_entered = entered_stays;
-          }) h (after start h log) (kind_stays start h first log)).1
+      by : (parts : Parts) → Is parts → (mark : Mark) → host_marks parts mark ≡ true → M mark
+      by parts is (Stopped cause) among = own.stops cause
+      by parts is (Installed view) among = own.installs view
+      by parts is (CutOff host) among = own.cuts host
+      by parts is mark among = of_marks parts is mark among

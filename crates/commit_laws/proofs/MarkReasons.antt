@@ -47,7 +47,8 @@ use Rattle.world_core.specs.Start.{Start}
 use Rattle.world_core.specs.Steps.{HostStep}
 use Rattle.world_views.specs.Hosts.{started}
 use Rattle.world_views.specs.Machine.{after, step_after}
-use Rattle.world_views.proofs.StepEach.{TakesEach, step_each}
+use Rattle.node_views.proofs.HostEach.{TakesEach}
+use Rattle.world_views.proofs.StepEach.{step_each}
 use Rattle.view_laws.proofs.EraShapes.{shape_stays}
 use Rattle.commit_laws.proofs.ForthClient.{IsToldOf, by_coordinator, by_takeover}
 use Rattle.commit_laws.proofs.HostWords.{OfKind, entered_stays, kind_stays, row_stays}
