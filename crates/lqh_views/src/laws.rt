@@ -13,7 +13,6 @@ pub fn calm_steps()
 /// After an installation nobody waits, and no report is under way. Of each key those hold the lock,
 /// in the same order, who held it before and have a record on the key or a coordinator that is a
 /// full member.
-#[tactic(auto, using(crate::proofs::LawLemmas::installations_end_waits))]
 pub fn installations_end_waits()
     ensures { InstallationsEndWaits }
 {}
