@@ -12,11 +12,11 @@ use Rattle.dih_node.specs.Orders as dih
 use Rattle.node_views.specs.Blocks.{parts_entered, parts_row, settled_at}
 use Rattle.node_views.specs.declared.parts.Parts.{Parts}
 use Rattle.node_views.specs.declared.parts.Parts.TheVariants.{Ldm, Main, Shell, Tc}
-use Rattle.node_views.specs.Words.{parts_marks}
+use Rattle.node_views.specs.Words.{host_marks, parts_marks}
 use Rattle.node_views.proofs.WordWalk.{parts_speak}
 use Rattle.qmgr_block.specs.Install.{installed_row}
 use Rattle.tc_views.specs.Views as coordinator
-use Rattle.view_laws.proofs.EraMarks.{DecidesNone, DecidesOnly, IsDecision, IsUndecided}
+use Rattle.view_laws.proofs.EraMarks.{DecidesOnly, IsDecision, IsUndecided}
 
 -- the part with the coordinator
 abbrev pub has_coordinator : Parts → Bool
@@ -37,10 +37,11 @@ decided (Tc p) has (Decided tx epoch) is = refl
 decided (Tc p) has mark is = absurd cc
 decided parts has mark is = absurd cc
 
-pub others_none : (parts : Parts) (x : Signal) → has_coordinator parts ≡ false → DecidesNone (parts_row parts x)
-others_none parts x off =
-    each_map (IsAmong (parts_marks parts)) IsUndecided (parts_row parts x).effects.marks (undecided parts off)
-    (parts_speak parts x).1
+-- nor does the host of such a part mark a decision of its own
+pub host_undecided : (parts : Parts) → has_coordinator parts ≡ false → (mark : Mark) → host_marks parts mark ≡ true
+    → IsUndecided mark
+host_undecided parts off (Decided tx epoch) is = undecided parts off (Decided tx epoch) is
+host_undecided parts off mark is = refl
 
 pub coordinating : (parts : Parts) (x : Signal) → has_coordinator parts ≡ true → DecidesOnly (parts_row parts x)
 coordinating parts x has =

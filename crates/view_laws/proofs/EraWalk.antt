@@ -2,13 +2,11 @@
 use Rattle.std.proofs.Common.{◌≡◌, ◌⊎◌, ◌||◌, ◌++◌, ℕ, zero, suc, Bool, true, false, nat_lt, List, [], ◌∷◌, refl, ap, sym, subst, ◌∙◌, inl, inr}
 use Rattle.std.specs.List.{list_any}
 use Rattle.std.specs.Prelude.{not, Option, None, Some}
-use Rattle.run_theory.proofs.Pasts.{each_from}
 use Rattle.run_theory.specs.Lists.{Each}
 use Rattle.sig_core.specs.declared.mark.Mark.{Mark}
 use Rattle.sig_core.specs.declared.mark.Mark.TheVariants.{Installed}
 use Rattle.sig_core.specs.declared.member.HostId.{HostId}
 use Rattle.sig_core.specs.declared.outcome.StopCause.{StopCause}
-use Rattle.sig_core.specs.declared.outs.Outgoing.{Outgoing}
 use Rattle.sig_core.specs.declared.signal.Body.{Body}
 use Rattle.sig_core.specs.declared.signal.Body.TheVariants.{Host}
 use Rattle.sig_core.specs.declared.signal.Signal.{Signal}
@@ -16,15 +14,15 @@ use Rattle.sig_core.specs.declared.signal.host.HostSignal.TheVariants.{Closed, C
 use Rattle.sig_core.specs.declared.view.View.{View}
 use Rattle.sig_core.specs.Step.{Step}
 use Rattle.api_views.specs.Members.{same_member}
-use Rattle.node_views.specs.Blocks.{parts_entered, parts_row}
+use Rattle.node_views.specs.Blocks.{parts_row}
 use Rattle.node_views.specs.declared.host.Host as hosts
 use Rattle.node_views.specs.Row.{blocks_row, closed_if, counted_row, cut_if, entered, entering_if, headed_if, headed_row, host_row, host_table, is_barred, is_cut, is_excluded, is_stop, killed_after, passed_if, passed_row, settle, standing_at, taken_if, with_parts}
 use Rattle.node_views.specs.WellFormed.{is_first, is_well_formed}
 use Rattle.world_core.specs.Entries.{installed_in}
 use Rattle.world_views.specs.Machine.{own_stop, step_by, step_if}
-use Rattle.world_views.proofs.StepEach.{step_keeps_each}
+use Rattle.world_views.proofs.StepEach.{step_words}
 use Rattle.view_laws.proofs.EraMarks.{DecidesNone, DecidesOnly, IsUndecided, decisions_go, decisions_install}
-use Rattle.view_laws.proofs.EraParts.{coordinating, entered_bare, entered_has, has_coordinator, none_settled, others_none, still_has}
+use Rattle.view_laws.proofs.EraParts.{coordinating, entered_bare, entered_has, has_coordinator, none_settled, host_undecided}
 
 entered_marks : (s : hosts.Host) (view : View) → (entered s view).effects.marks ≡ []
 unfolding entered
@@ -41,23 +39,7 @@ entered_view s view = refl
 -- a host without a coordinator decides nothing
 pub step_none : (h : ℕ) (s : hosts.Host) (x : Signal) → has_coordinator s.parts ≡ false → DecidesNone (step_by h s x)
 step_none h s x lacks =
-    (step_keeps_each Anything IsUndecided (record {
-      stops = λ cause. refl;
-      installs = λ view. refl;
-      cuts = λ host. refl;
-    }) x (λ parts. has_coordinator parts ≡ false) (record {
-      row = λ parts off. (anything (parts_row parts x).effects.sends, others_none parts x off);
-      enters = λ parts view off.
-          (anything (parts_entered parts view).effects.sends, subst (Each IsUndecided) (sym (entered_bare parts view)) tt);
-      stays = λ parts off. still_has parts x ∙ off;
-      stays_entered = λ parts view off. entered_has parts view ∙ off;
-    }) h s lacks).1
-  where
-    Anything : Outgoing → Type 0
-    Anything sent = Unit {0}
-
-    anything : (sends : List Outgoing) → Each Anything sends
-    anything sends = each_from Anything sends (λ sent there. tt)
+    (step_words (λ body. Unit {0}) IsUndecided h s x (λ body is. tt) (host_undecided s.parts lacks)).1
 
 -- One with a coordinator stands behind a step in the view that it marked last, and a step by which it stops decides
 -- nothing.

@@ -1,41 +1,21 @@
 -- The blocks of a host that runs no membership know its member's node, and stay of it.
-use Rattle.std.proofs.Common.{◌≡◌, ◌==◌, ◌%◌, ℕ, zero, suc, Bool, true, false, nat_lt, List, [], ◌∷◌, refl, ap, sym, subst, ◌∙◌}
-use Rattle.std.specs.Map.{values_of}
-use Rattle.std.specs.Prelude.{Option, None, Some, slice_get}
+use Rattle.std.proofs.Common.{◌≡◌, ◌%◌, ℕ, zero, suc, Bool, true, false, List, [], ◌∷◌, refl, ap, ◌∙◌}
 use Rattle.sig_core.specs.declared.member.Member.{Member}
 use Rattle.sig_core.specs.declared.place.BlockId.{BlockId}
 use Rattle.sig_core.specs.declared.place.BlockId.TheVariants as block
 use Rattle.sig_core.specs.declared.reply.ApiReply.{ApiReply}
-use Rattle.sig_core.specs.declared.rows.PendingRecord.{PendingRecord}
 use Rattle.sig_core.specs.declared.signal.Body.{Body}
-use Rattle.sig_core.specs.declared.signal.Body.TheVariants.{Client, Epoch, Host, Membership, Takeover}
-use Rattle.sig_core.specs.declared.signal.client.ClientSignal.TheVariants.{TcKeyReq, TcRollbackReq}
-use Rattle.sig_core.specs.declared.signal.epoch.EpochSignal.{EpochSignal}
-use Rattle.sig_core.specs.declared.signal.epoch.EpochSignal.TheVariants.{DiVerifyConf, GcpClosed, GcpSaveReq, GcpStateReq}
-use Rattle.sig_core.specs.declared.signal.host.HostSignal.TheVariants.{Continue}
-use Rattle.sig_core.specs.declared.signal.host.Work.TheVariants as work
-use Rattle.sig_core.specs.declared.signal.membership.MembershipSignal.TheVariants.{FenceReq}
 use Rattle.sig_core.specs.declared.signal.Signal.{Signal}
-use Rattle.sig_core.specs.declared.signal.takeover.TakeoverSignal.TheVariants.{LqhTransReq}
 use Rattle.sig_core.specs.declared.view.View.{View}
-use Rattle.sig_core.specs.Step.{Step}
-use Rattle.tc_block.proofs.TurnRows.{PlacedStep, goes, idles, lacks, lost, opens, placed_step, tells, turn_row}
-use Rattle.tc_block.specs.declared.task.Task.{Task}
+use Rattle.tc_block.proofs.TurnRows.{tells}
 use Rattle.tc_block.specs.declared.transaction.Transaction.{Transaction}
-use Rattle.tc_block.specs.Doom.{is_among}
-use Rattle.tc_block.specs.Live.{place_in, turn_place, turn_value, turned_if}
-use Rattle.tc_block.specs.Resume.{resume_row, resume_step}
+use Rattle.tc_block.specs.Live.{turned_if}
 use Rattle.tc_block.specs.State.{TcState}
-use Rattle.tc_block.specs.Tc.{tc_table}
 use Rattle.tc_block.specs.Turn.{Turn}
 use Rattle.lqh_block.proofs.LqhForms.{lqh_forms}
-use Rattle.lqh_block.specs.declared.request.Marker.{Marker}
 use Rattle.lqh_block.specs.Lqh.{lqh_table}
 use Rattle.lqh_block.specs.State.{LqhState}
-use Rattle.lqh_views.specs.declared.report.Report as reports
-use Rattle.lqh_views.specs.Epochs.{epoch_table}
-use Rattle.lqh_views.specs.Replica.{is_stale, replica_by, replica_row, serve_if}
-use Rattle.lqh_views.specs.Report.{go_on_by, is_orphaned_marker, is_orphaned_record, last_before, marker_by, record_by, reporting}
+use Rattle.lqh_views.specs.Replica.{replica_row}
 use Rattle.lqh_views.specs.State.{ReplicaState}
 use Rattle.node_views.specs.Blocks.{parts_row}
 use Rattle.node_views.specs.declared.host.Host as hosts
@@ -47,9 +27,8 @@ use Rattle.node_views.specs.Parts.{ldm_row, tc_row}
 use Rattle.node_views.specs.Replies.{giving}
 use Rattle.node_views.specs.Row.{entered}
 use Rattle.qmgr_block.specs.Laws.{Event}
-use Rattle.tc_views.specs.Coordinator.{calm_unless, coordinator_row, coordinator_table, is_to_fail}
-use Rattle.tc_views.specs.State.{CoordinatorState, within}
-use Rattle.tc_views.specs.Views as coordinator
+use Rattle.tc_views.specs.Coordinator.{coordinator_row}
+use Rattle.tc_views.specs.State.{CoordinatorState}
 use Rattle.world_core.specs.Hosts.{member_at, part_by}
 use Rattle.world_core.specs.Start.{Start, made}
 use Rattle.world_core.specs.Steps.{HostStep}

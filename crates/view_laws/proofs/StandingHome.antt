@@ -1,31 +1,26 @@
 -- Whose host one is, that it has joined, and the shape of its cluster don't change; so it enters no view without its
 -- member.
-use Rattle.std.proofs.Common.{◌≡◌, ◌≤◌, ◌<◌, ◌⊎◌, ◌||◌, ◌&&◌, ◌%◌, ◌/◌, ◌+◌, ℕ, zero, suc, Bool, true, false, nat_lt, List, [], ◌∷◌, refl, ap, sym, subst, arith, inl, inr}
+use Rattle.std.proofs.Common.{◌≡◌, ◌≤◌, ◌<◌, ◌⊎◌, ◌||◌, ◌&&◌, ◌%◌, ◌/◌, ◌+◌, ℕ, zero, suc, Bool, true, false, List, [], ◌∷◌, refl, ap, sym, subst, arith, inl, inr}
 use Rattle.std.proofs.lemmas.Bool.{lt-ltb, or_cases}
 use Rattle.std.specs.List.{list_any}
 use Rattle.std.specs.Prelude.{if◌then◌else◌, not, Option, None, Some}
 use Rattle.frag_map.specs.Layout.{first_view, members}
 use Rattle.run_theory.specs.Lists.{IsIn}
 use Rattle.run_theory.proofs.Pasts.{in_append}
-use Rattle.sig_core.specs.declared.member.HostId.{HostId}
 use Rattle.sig_core.specs.declared.member.Member.{Member}
 use Rattle.sig_core.specs.declared.outcome.StopCause.{StopCause}
 use Rattle.sig_core.specs.declared.place.BlockId.{BlockId}
 use Rattle.sig_core.specs.declared.place.Part.{Part}
 use Rattle.sig_core.specs.declared.place.Part.TheVariants.{Ldm, Main, Tc}
-use Rattle.sig_core.specs.declared.signal.Body.{Body}
-use Rattle.sig_core.specs.declared.signal.Body.TheVariants.{Host}
 use Rattle.sig_core.specs.declared.signal.Signal.{Signal}
-use Rattle.sig_core.specs.declared.signal.host.HostSignal.TheVariants.{Closed, Cut, Kill}
 use Rattle.sig_core.specs.declared.view.Shape.{Shape}
 use Rattle.sig_core.specs.declared.view.View.{View}
 use Rattle.sig_core.specs.Members.{nobody}
 use Rattle.sig_core.specs.Step.{Step}
 use Rattle.api_views.specs.Members.{is_member, same_member}
-use Rattle.node_views.specs.Blocks.{parts_row, settled_at}
 use Rattle.node_views.specs.declared.host.Host as hosts
-use Rattle.node_views.specs.Row.{blocks_row, closed_if, counted_row, cut_if, entered, entering_if, headed_if, headed_row, host_row, host_table, is_barred, is_cut, is_excluded, killed_after, passed_if, passed_row, settle, standing_at, taken_if, with_parts}
-use Rattle.node_views.specs.WellFormed.{is_first, is_well_formed}
+use Rattle.node_views.specs.Row.{is_excluded, killed_after, standing_at}
+use Rattle.node_views.specs.WellFormed.{is_well_formed}
 use Rattle.qmgr_block.specs.Laws.{Event}
 use Rattle.world_core.proofs.HostNumbers.{members_at}
 use Rattle.world_core.specs.Hosts.{member_at, part_by}
@@ -33,7 +28,7 @@ use Rattle.world_core.specs.Hosts as world
 use Rattle.world_core.specs.Start.{Start, made}
 use Rattle.world_core.specs.Steps.{HostStep}
 use Rattle.world_views.specs.Hosts.{part_started, started}
-use Rattle.world_views.specs.Machine.{after, own_stop, step_by, step_if, told}
+use Rattle.world_views.specs.Machine.{after, own_stop, step_by, told}
 use Rattle.sig_core.specs.declared.mark.Mark.{Mark}
 use Rattle.sig_core.specs.declared.outs.Outgoing.{Outgoing}
 use Rattle.node_views.specs.declared.parts.Parts.{Parts}
