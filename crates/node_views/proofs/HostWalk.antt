@@ -20,7 +20,10 @@ use Rattle.node_views.specs.Blocks.{parts_entered, parts_row, settled_at}
 use Rattle.node_views.specs.declared.host.Host as hosts
 use Rattle.node_views.specs.declared.parts.Parts.{Parts}
 use Rattle.node_views.specs.declared.standing.Standing.{Standing}
-use Rattle.node_views.specs.Row.{blocks_row, closed_if, counted_row, cut_if, cut_marks, entered, entering_if, headed_if, headed_row, host_row, host_table, in_view, is_barred, is_cut, is_excluded, is_stop, kill_row, killed_after, passed_if, passed_row, settle, standing_at, stopping, taken_if, unless_stopped, with_parts}
+use Rattle.node_views.specs.Row.{blocks_row, closed_if, counted_row, cut_if, cut_marks, entered, entering_if, headed_if}
+use Rattle.node_views.specs.Row.{headed_row, host_row, host_table, in_view, is_barred, is_cut, is_excluded, is_stop}
+use Rattle.node_views.specs.Row.{kill_row, killed_after, passed_if, passed_row, settle, standing_at, stopping, taken_if}
+use Rattle.node_views.specs.Row.{unless_stopped, with_parts}
 use Rattle.node_views.specs.WellFormed.{is_first, is_well_formed}
 
 -- of where the host stands, where its blocks come to, and what has been sent and marked
@@ -74,56 +77,58 @@ module _ (Says : Saying) (x : Signal) (own : StaysSo Says) where
   -- where the signal is passed to the blocks, or is the host's own
   module _ (s : hosts.Host) (sends : List Outgoing) (marks : List Mark) (so : Says s.standing s.parts sends marks)
     where
-    -- that nothing is sent changes nothing
-    sends_none : (standing : Standing) (more : List Mark) → Says standing s.parts sends more
-        → Says standing s.parts (sends ++ []) more
-    sends_none standing more = subst (λ all. Says standing s.parts all more) (sym (append-nil sends))
+      -- that nothing is sent changes nothing
+      sends_none : (standing : Standing) (more : List Mark) → Says standing s.parts sends more
+          → Says standing s.parts (sends ++ []) more
+      sends_none standing more = subst (λ all. Says standing s.parts all more) (sym (append-nil sends))
 
-    quiet : (standing : Standing) → Says standing s.parts sends marks → Says standing s.parts (sends ++ []) (marks ++ [])
-    quiet standing is =
-        subst (λ all. Says standing s.parts (sends ++ []) all) (sym (append-nil marks)) (sends_none standing marks is)
+      quiet : (standing : Standing) → Says standing s.parts sends marks
+          → Says standing s.parts (sends ++ []) (marks ++ [])
+      quiet standing is =
+          subst (λ all. Says standing s.parts (sends ++ []) all) (sym (append-nil marks)) (sends_none standing marks is)
 
-    stopped : (cause : StopCause) → Comes sends marks (stopping s cause)
-    stopped cause = sends_none s.standing (marks ++ Stopped cause ∷ []) (own.stops s.standing s.parts sends marks cause so)
+      stopped : (cause : StopCause) → Comes sends marks (stopping s cause)
+      stopped cause =
+          sends_none s.standing (marks ++ Stopped cause ∷ []) (own.stops s.standing s.parts sends marks cause so)
 
-    killed_comes : (after : ℕ) → Comes sends marks (kill_row s after)
-    killed_comes zero = stopped _
-    killed_comes (suc after) =
-        quiet (killed_after s.standing (Some (suc after)))
-        (own.counts s.standing s.parts sends marks (Some (suc after)) so)
+      killed_comes : (after : ℕ) → Comes sends marks (kill_row s after)
+      killed_comes zero = stopped _
+      killed_comes (suc after) =
+          quiet (killed_after s.standing (Some (suc after)))
+          (own.counts s.standing s.parts sends marks (Some (suc after)) so)
 
-    cut_comes : (first : HostId) (b : Bool) → Comes sends marks (cut_if s first b)
-    cut_comes first true = quiet s.standing so
-    cut_comes first false = sends_none _ (marks ++ cut_marks first) (own.cuts s.standing s.parts sends marks first so)
+      cut_comes : (first : HostId) (b : Bool) → Comes sends marks (cut_if s first b)
+      cut_comes first true = quiet s.standing so
+      cut_comes first false = sends_none _ (marks ++ cut_marks first) (own.cuts s.standing s.parts sends marks first so)
 
-    module _ (taken : TakesSo Says x s.standing s.parts sends marks) where
-      blocks_come : Comes sends marks (blocks_row s x)
-      unfolding blocks_row entered
-      blocks_come = by (settled_at s.parts x) refl
+      module _ (taken : TakesSo Says x s.standing s.parts sends marks) where
+        blocks_come : Comes sends marks (blocks_row s x)
+        unfolding blocks_row entered
+        blocks_come = by (settled_at s.parts x) refl
+          where
+            by : (o : Option View) → settled_at s.parts x ≡ o
+                → Comes sends marks (settle (with_parts s (parts_row s.parts x)) o)
+            by None is = taken.row is
+            by (Some view) is = taken.settles view is
+
+        closed_comes : (b : Bool) → Comes sends marks (closed_if s x b)
+        closed_comes true = stopped _
+        closed_comes false = blocks_come
+
+        table_comes : (body : Body) → Comes sends marks (host_table s x body)
+        table_comes (Host (Kill after)) = killed_comes after
+        table_comes (Host (Cut node first)) = cut_comes first (is_cut s.standing first || not (is_first first))
+        table_comes (Host (Closed cause)) = closed_comes (same_member s.standing.member x.member)
+        table_comes body = blocks_come
+
+      passed_comes : (is_barred s x ≡ false → TakesSo Says x s.standing s.parts sends marks)
+          → Comes sends marks (passed_row s x)
+      unfolding passed_row
+      passed_comes taken = by (is_barred s x) refl
         where
-          by : (o : Option View) → settled_at s.parts x ≡ o
-              → Comes sends marks (settle (with_parts s (parts_row s.parts x)) o)
-          by None is = taken.row is
-          by (Some view) is = taken.settles view is
-
-      closed_comes : (b : Bool) → Comes sends marks (closed_if s x b)
-      closed_comes true = stopped _
-      closed_comes false = blocks_come
-
-      table_comes : (body : Body) → Comes sends marks (host_table s x body)
-      table_comes (Host (Kill after)) = killed_comes after
-      table_comes (Host (Cut node first)) = cut_comes first (is_cut s.standing first || not (is_first first))
-      table_comes (Host (Closed cause)) = closed_comes (same_member s.standing.member x.member)
-      table_comes body = blocks_come
-
-    passed_comes : (is_barred s x ≡ false → TakesSo Says x s.standing s.parts sends marks)
-        → Comes sends marks (passed_row s x)
-    unfolding passed_row
-    passed_comes taken = by (is_barred s x) refl
-      where
-        by : (b : Bool) → is_barred s x ≡ b → Comes sends marks (passed_if s x b)
-        by true is = quiet s.standing so
-        by false is = table_comes (taken is) x.body
+          by : (b : Bool) → is_barred s x ≡ b → Comes sends marks (passed_if s x b)
+          by true is = quiet s.standing so
+          by false is = table_comes (taken is) x.body
 
   -- where its view may be installed, for a host that still takes so many signals
   module _ (s : hosts.Host) (walked : HostSo Says s x) (sound : is_well_formed s.standing.shape x ≡ true) where

@@ -27,7 +27,8 @@ use Rattle.node_views.specs.declared.parts.Parts.{Parts}
 use Rattle.node_views.specs.declared.parts.Parts.TheVariants.{Shell, Main, Tc, Ldm}
 use Rattle.node_views.specs.declared.shell_part.ShellPart.{ShellPart}
 use Rattle.node_views.specs.declared.tc_part.TcPart.{TcPart}
-use Rattle.node_views.specs.Parts.{in_arbiter, in_client, in_coordinator, in_dih, in_master, in_qmgr, in_replica, in_takeover, ldm_row, main_row, shell_row, tc_row}
+use Rattle.node_views.specs.Parts.{in_arbiter, in_client, in_coordinator, in_dih, in_master, in_qmgr, in_replica}
+use Rattle.node_views.specs.Parts.{in_takeover, ldm_row, main_row, shell_row, tc_row}
 
 -- R is of each step that the blocks may take at the signal: none, or that of the block that it is for
 pub record PartsOutcomes (parts : Parts) (x : Signal) (R : Step Parts → Type 0) : Type 0 where
@@ -114,7 +115,8 @@ module _ (P : Outgoing → Type 0) (M : Mark → Type 0) where
     pub coordinator : (p : TcPart) → parts ≡ Tc p → Does P M (coordinator.install_row p.coordinator view)
     pub dih : (p : TcPart) → parts ≡ Tc p → Does P M (dih.install_row p.dih view.number)
 
-  pub parts_installed_each : (parts : Parts) (view : View) → InstallForms parts view → Does P M (parts_entered parts view)
+  pub parts_installed_each : (parts : Parts) (view : View) → InstallForms parts view
+      → Does P M (parts_entered parts view)
   parts_installed_each parts view forms = by parts refl
     where
       by : (q : Parts) → parts ≡ q → Does P M (parts_entered q view)

@@ -40,7 +40,8 @@ use Rattle.node_views.specs.declared.host.Host as hosts
 use Rattle.node_views.specs.declared.parts.Parts.{Parts}
 use Rattle.node_views.specs.declared.parts.Parts.TheVariants.{Shell, Main, Tc, Ldm}
 use Rattle.node_views.specs.Row.{host_row}
-use Rattle.node_views.specs.Words.{HostsKeepToTheirWords, block_marks, block_words, host_marks, is_host_mark, parts_marks, parts_words}
+use Rattle.node_views.specs.Words.{HostsKeepToTheirWords, block_marks, block_words, host_marks, is_host_mark}
+use Rattle.node_views.specs.Words.{parts_marks, parts_words}
 use Rattle.node_views.proofs.HostEach.{each_kept, row_each}
 use Rattle.node_views.proofs.Walk.{parts_each, parts_installed_each}
 
@@ -73,7 +74,8 @@ module _ {S : Type 0} (step : Step S) where
       first is_coordinator_word (λ body. is_takeover_word body || is_dih_word body) is_coordinator_mark
       (λ mark. is_takeover_mark mark || is_dih_mark mark) step
 
-  behind_coordinator : Speaks (λ body. is_takeover_word body || is_dih_word body) (λ mark. is_takeover_mark mark || is_dih_mark mark) step → OfTc
+  behind_coordinator : Speaks (λ body. is_takeover_word body || is_dih_word body)
+      (λ mark. is_takeover_mark mark || is_dih_mark mark) step → OfTc
   behind_coordinator =
       second is_coordinator_word (λ body. is_takeover_word body || is_dih_word body) is_coordinator_mark
       (λ mark. is_takeover_mark mark || is_dih_mark mark) step

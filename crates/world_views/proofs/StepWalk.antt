@@ -1,5 +1,5 @@
--- What a step of a host comes to: what is so wherever its blocks may take a signal, and where views are installed, is so
--- of the step; also of where the blocks come to and what they send alone.
+-- What a step of a host comes to: what is so wherever its blocks may take a signal, and where views are installed, is
+-- so of the step; also of where the blocks come to and what they send alone.
 use Rattle.std.proofs.Common.{◌≡◌, ◌++◌, ℕ, zero, suc, false, true, nat_lt, List, []}
 use Rattle.std.specs.Prelude.{Option, None, Some}
 use Rattle.sig_core.specs.declared.mark.Mark.{Mark}
@@ -18,7 +18,8 @@ use Rattle.node_views.proofs.HostWalk as host
 use Rattle.node_views.proofs.HostWalk.{HostSo, row_comes}
 use Rattle.world_views.specs.Machine.{own_stop, step_by, step_if, told}
 
--- of where the host stands and its blocks come to, and what it sends and marks, also where it stops by a signal to itself
+-- of where the host stands and its blocks come to, and what it sends and marks, also where it stops by a signal to
+-- itself
 pub step_so : (Says : host.Saying) (x : Signal) (h : ℕ) (s : hosts.Host) → HostSo Says s x
     → Says (step_by h s x).state.standing (step_by h s x).state.parts (step_by h s x).effects.sends
     (step_by h s x).effects.marks
