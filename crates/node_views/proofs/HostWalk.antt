@@ -20,7 +20,10 @@ use Rattle.node_views.specs.Blocks.{parts_entered, parts_row, settled_at}
 use Rattle.node_views.specs.declared.host.Host as hosts
 use Rattle.node_views.specs.declared.parts.Parts.{Parts}
 use Rattle.node_views.specs.declared.standing.Standing.{Standing}
-use Rattle.node_views.specs.Row.{blocks_row, closed_if, counted_row, cut_if, cut_marks, entered, entering_if, headed_if, headed_row, host_row, host_table, in_view, is_barred, is_cut, is_excluded, is_stop, kill_row, killed_after, passed_if, passed_row, settle, standing_at, stopping, taken_if, unless_stopped, with_parts}
+use Rattle.node_views.specs.Row.{blocks_row, closed_if, counted_row, cut_if, cut_marks, entered, entering_if, headed_if}
+use Rattle.node_views.specs.Row.{headed_row, host_row, host_table, in_view, is_barred, is_cut, is_excluded, is_stop}
+use Rattle.node_views.specs.Row.{kill_row, killed_after, passed_if, passed_row, settle, standing_at, stopping, taken_if}
+use Rattle.node_views.specs.Row.{unless_stopped, with_parts}
 use Rattle.node_views.specs.WellFormed.{is_first, is_well_formed}
 
 -- of where the host stands, where its blocks come to, and what has been sent and marked

@@ -27,7 +27,8 @@ use Rattle.node_views.specs.declared.parts.Parts.{Parts}
 use Rattle.node_views.specs.declared.parts.Parts.TheVariants.{Shell, Main, Tc, Ldm}
 use Rattle.node_views.specs.declared.shell_part.ShellPart.{ShellPart}
 use Rattle.node_views.specs.declared.tc_part.TcPart.{TcPart}
-use Rattle.node_views.specs.Parts.{in_arbiter, in_client, in_coordinator, in_dih, in_master, in_qmgr, in_replica, in_takeover, ldm_row, main_row, shell_row, tc_row}
+use Rattle.node_views.specs.Parts.{in_arbiter, in_client, in_coordinator, in_dih, in_master, in_qmgr, in_replica}
+use Rattle.node_views.specs.Parts.{in_takeover, ldm_row, main_row, shell_row, tc_row}
 
 -- R is of each step that the blocks may take at the signal: none, or that of the block that it is for
 pub record PartsOutcomes (parts : Parts) (x : Signal) (R : Step Parts → Type 0) : Type 0 where

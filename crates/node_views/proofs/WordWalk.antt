@@ -40,7 +40,8 @@ use Rattle.node_views.specs.declared.host.Host as hosts
 use Rattle.node_views.specs.declared.parts.Parts.{Parts}
 use Rattle.node_views.specs.declared.parts.Parts.TheVariants.{Shell, Main, Tc, Ldm}
 use Rattle.node_views.specs.Row.{host_row}
-use Rattle.node_views.specs.Words.{HostsKeepToTheirWords, block_marks, block_words, host_marks, is_host_mark, parts_marks, parts_words}
+use Rattle.node_views.specs.Words.{HostsKeepToTheirWords, block_marks, block_words, host_marks, is_host_mark}
+use Rattle.node_views.specs.Words.{parts_marks, parts_words}
 use Rattle.node_views.proofs.HostEach.{each_kept, row_each}
 use Rattle.node_views.proofs.Walk.{parts_each, parts_installed_each}
 

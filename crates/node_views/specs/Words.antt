@@ -69,8 +69,7 @@ abbrev pub host_marks : Parts → Mark → Bool
 host_marks parts mark = is_host_mark mark || parts_marks parts mark
 
 -- A host sends and marks what the blocks of its part may, whatever it takes and whatever view is installed. What is
--- sent
--- at a signal the block may say that the signal is for.
+-- sent at a signal the block may say that the signal is for.
 pub record HostsKeepToTheirWords : Type 0 where
   pub at_blocks : (parts : Parts) (x : Signal)
       → Speaks (block_words x.to.block) (block_marks x.to.block) (parts_row parts x)

@@ -1,6 +1,5 @@
 -- What a step of a host sends and marks: what is so of each signal and mark of its blocks, at the signal and where
--- views
--- are installed before and behind, is so of each of the step, also where it stops by a signal to itself.
+-- views are installed before and behind, is so of each of the step, also where it stops by a signal to itself.
 use Rattle.std.proofs.Common.{◌≡◌, ◌||◌, ◌∙◌, ℕ, zero, suc, Bool, true, refl, sym, List, [], ◌∷◌}
 use Rattle.std.proofs.lemmas.Bool.{or_right}
 use Rattle.std.specs.Prelude.{Option, None, Some}

@@ -1,6 +1,5 @@
 -- What a step of a host comes to: what is so wherever its blocks may take a signal, and where views are installed, is
--- so
--- of the step; also of where the blocks come to and what they send alone.
+-- so of the step; also of where the blocks come to and what they send alone.
 use Rattle.std.proofs.Common.{◌≡◌, ◌++◌, ℕ, zero, suc, false, true, nat_lt, List, []}
 use Rattle.std.specs.Prelude.{Option, None, Some}
 use Rattle.sig_core.specs.declared.mark.Mark.{Mark}
