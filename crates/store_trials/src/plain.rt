@@ -52,18 +52,11 @@ impl Plain {
     /// The row at the least place at or above this one that has one.
     pub fn row_from(&self, from: u64) -> Option<RowAt> {
         for (at, place) in self.places.iter().enumerate() {
-            if (at as u64) < from {
-                continue;
-            }
-            if let Some(slot) = place
-                && let Some(value) = slot.row
-            {
-                return Some(RowAt {
-                    at: at as u64,
-                    key: slot.key,
-                    value,
-                    epoch: Some(slot.epoch),
-                });
+            if at as u64 >= from {
+                let row = row_at(at as u64, place);
+                if row.is_some() {
+                    return row;
+                }
             }
         }
         None
@@ -131,10 +124,10 @@ impl Plain {
     fn prepare(&mut self, tx: TxId, op: &Op) -> Result<Outcome, NoMemory> {
         let seen = seen_by(&self.slot(op.key()), &self.record(tx, op.key()));
         let answer = op.answer_to(&seen);
-        let outcome = Outcome::Answered(answer);
-        match answer {
-            Answer::Done => self.write(tx, op.key(), &op.image(), outcome),
-            _ => Ok(outcome),
+        if answer == Answer::Done {
+            self.write(tx, op.key(), &op.image(), Outcome::Answered(Answer::Done))
+        } else {
+            Ok(Outcome::Answered(answer))
         }
     }
 
@@ -210,19 +203,19 @@ impl Plain {
         let Some(at) = self.record_at(tx, key) else {
             return;
         };
-        if let Some(record) = self.records.get(at).copied()
-            && !record.committed
-        {
-            self.set_row(key, &record.image, epoch);
-            let done = PendingRecord {
-                tx,
-                key: *key,
-                image: record.image,
-                committed: true,
-                epoch,
-            };
-            self.set_record(at, done);
+        if at >= self.records.len() || self.records[at].committed {
+            return;
         }
+        let image = self.records[at].image;
+        self.set_row(key, &image, epoch);
+        let done = PendingRecord {
+            tx,
+            key: *key,
+            image,
+            committed: true,
+            epoch,
+        };
+        self.set_record(at, done);
     }
 
     // A record that is committed, or isn't, as is asked, is dropped. A place whose key then has no row and
@@ -248,6 +241,22 @@ fn is_at(place: &Option<Slot>, key: &Key) -> bool {
     match place {
         Some(slot) => slot.key == *key,
         None => false,
+    }
+}
+
+// The row of a place, if it has one.
+fn row_at(at: u64, place: &Option<Slot>) -> Option<RowAt> {
+    match place {
+        Some(slot) => match slot.row {
+            Some(value) => Some(RowAt {
+                at,
+                key: slot.key,
+                value,
+                epoch: Some(slot.epoch),
+            }),
+            None => None,
+        },
+        None => None,
     }
 }
 
