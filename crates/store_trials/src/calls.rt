@@ -7,7 +7,7 @@ use sig_core::{Answer, Key, NoMemory, Op, PLACES, PendingRecord, Rows, RowsFault
 use std::test::Fail;
 
 /// How many keys and transactions there are.
-const KEYS: u64 = 900;
+const KEYS: u64 = 300;
 
 const TRANSACTIONS: u64 = 5;
 

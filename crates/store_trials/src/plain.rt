@@ -32,12 +32,14 @@ impl Plain {
         epoch: u64,
     ) -> Result<Told, NoMemory> {
         let outcome = self.make(tx, key, call, value, epoch)?;
+        let slot = self.slot(key);
+        let record = self.record(tx, key);
         Ok(Told {
             outcome,
-            row: self.row(key),
-            epoch: self.row_epoch(key),
-            seen: self.seen(tx, key),
-            state: self.record(tx, key).map(|record| record.committed),
+            row: row_in(&slot),
+            epoch: epoch_in(&slot),
+            seen: seen_by(&slot, &record),
+            state: state_by(&record),
             records: self.records.len(),
         })
     }
@@ -50,21 +52,10 @@ impl Plain {
     /// The row at the least place at or above this one that has one.
     pub fn row_from(&self, from: u64) -> Option<RowAt> {
         for (at, place) in self.places.iter().enumerate() {
-            if let Some(
-                Slot {
-                    key,
-                    row: Some(value),
-                    epoch,
-                },
-            ) = place
-            {
-                if at as u64 >= from {
-                    return Some(RowAt {
-                        at: at as u64,
-                        key: *key,
-                        value: *value,
-                        epoch: Some(*epoch),
-                    });
+            if at as u64 >= from {
+                let row = row_at(at as u64, place);
+                if row.is_some() {
+                    return row;
                 }
             }
         }
@@ -88,7 +79,9 @@ impl Plain {
             Call::Write => self.write(tx, key, &Some(*value), Outcome::Done),
             Call::Erase => self.write(tx, key, &None, Outcome::Done),
             Call::Put => {
-                self.give_place(key)?;
+                if self.place_of(key).is_none() {
+                    self.take_place(key)?;
+                }
                 self.set_row(key, &Some(*value), epoch);
                 Ok(Outcome::Done)
             }
@@ -111,17 +104,10 @@ impl Plain {
         self.places.iter().position(|place| is_at(place, key))
     }
 
-    fn row(&self, key: &Key) -> Option<Value> {
+    fn slot(&self, key: &Key) -> Option<Slot> {
         match self.places.get(self.place_of(key)?) {
-            Some(Some(slot)) => slot.row,
-            _ => None,
-        }
-    }
-
-    fn row_epoch(&self, key: &Key) -> Option<u64> {
-        match self.places.get(self.place_of(key)?) {
-            Some(Some(slot)) if slot.row.is_some() => Some(slot.epoch),
-            _ => None,
+            Some(place) => *place,
+            None => None,
         }
     }
 
@@ -135,19 +121,13 @@ impl Plain {
         self.records.get(self.record_at(tx, key)?).copied()
     }
 
-    fn seen(&self, tx: TxId, key: &Key) -> Option<Value> {
-        match self.record(tx, key) {
-            Some(record) => record.image,
-            None => self.row(key),
-        }
-    }
-
     fn prepare(&mut self, tx: TxId, op: &Op) -> Result<Outcome, NoMemory> {
-        let answer = op.answer_to(&self.seen(tx, op.key()));
-        let outcome = Outcome::Answered(answer);
-        match answer {
-            Answer::Done => self.write(tx, op.key(), &op.image(), outcome),
-            _ => Ok(outcome),
+        let seen = seen_by(&self.slot(op.key()), &self.record(tx, op.key()));
+        let answer = op.answer_to(&seen);
+        if answer == Answer::Done {
+            self.write(tx, op.key(), &op.image(), Outcome::Answered(Answer::Done))
+        } else {
+            Ok(Outcome::Answered(answer))
         }
     }
 
@@ -160,11 +140,13 @@ impl Plain {
         image: &Option<Value>,
         outcome: Outcome,
     ) -> Result<Outcome, NoMemory> {
-        let taken = self.places.iter().filter(|place| place.is_some()).count();
-        if self.place_of(key).is_none() && taken >= PLACES {
-            return Ok(Outcome::Refused(RowsFault::Full { rows: taken as u64 }));
+        if self.place_of(key).is_none() {
+            let taken = self.places.iter().filter(|place| place.is_some()).count();
+            if taken >= PLACES {
+                return Ok(Outcome::Refused(RowsFault::Full { rows: taken as u64 }));
+            }
+            self.take_place(key)?;
         }
-        self.give_place(key)?;
         let record = PendingRecord {
             tx,
             key: *key,
@@ -179,11 +161,8 @@ impl Plain {
         Ok(outcome)
     }
 
-    // The key has a place: if it had none, the least free one.
-    fn give_place(&mut self, key: &Key) -> Result<(), NoMemory> {
-        if self.place_of(key).is_some() {
-            return Ok(());
-        }
+    // A key that has no place gets the least free one.
+    fn take_place(&mut self, key: &Key) -> Result<(), NoMemory> {
         let slot = Slot {
             key: *key,
             row: None,
@@ -221,20 +200,22 @@ impl Plain {
     }
 
     fn commit(&mut self, tx: TxId, key: &Key, epoch: u64) {
-        let (Some(at), Some(record)) = (self.record_at(tx, key), self.record(tx, key)) else {
+        let Some(at) = self.record_at(tx, key) else {
             return;
         };
-        if !record.committed {
-            self.set_row(key, &record.image, epoch);
-            let done = PendingRecord {
-                tx,
-                key: *key,
-                image: record.image,
-                committed: true,
-                epoch,
-            };
-            self.set_record(at, done);
+        if at >= self.records.len() || self.records[at].committed {
+            return;
         }
+        let image = self.records[at].image;
+        self.set_row(key, &image, epoch);
+        let done = PendingRecord {
+            tx,
+            key: *key,
+            image,
+            committed: true,
+            epoch,
+        };
+        self.set_record(at, done);
     }
 
     // A record that is committed, or isn't, as is asked, is dropped. A place whose key then has no row and
@@ -248,7 +229,7 @@ impl Plain {
         }
         self.records.remove(at);
         let idle = !self.records.iter().any(|record| record.key == *key);
-        if idle && self.row(key).is_none() {
+        if idle && row_in(&self.slot(key)).is_none() {
             if let Some(at) = self.place_of(key) {
                 self.set_place(at, None);
             }
@@ -260,5 +241,51 @@ fn is_at(place: &Option<Slot>, key: &Key) -> bool {
     match place {
         Some(slot) => slot.key == *key,
         None => false,
+    }
+}
+
+// The row of a place, if it has one.
+fn row_at(at: u64, place: &Option<Slot>) -> Option<RowAt> {
+    match place {
+        Some(slot) => match slot.row {
+            Some(value) => Some(RowAt {
+                at,
+                key: slot.key,
+                value,
+                epoch: Some(slot.epoch),
+            }),
+            None => None,
+        },
+        None => None,
+    }
+}
+
+fn row_in(slot: &Option<Slot>) -> Option<Value> {
+    match slot {
+        Some(slot) => slot.row,
+        None => None,
+    }
+}
+
+// Of no row no epoch is told.
+fn epoch_in(slot: &Option<Slot>) -> Option<u64> {
+    match slot {
+        Some(slot) if slot.row.is_some() => Some(slot.epoch),
+        _ => None,
+    }
+}
+
+// The transaction's own image of the row, else the row.
+fn seen_by(slot: &Option<Slot>, record: &Option<PendingRecord>) -> Option<Value> {
+    match record {
+        Some(record) => record.image,
+        None => row_in(slot),
+    }
+}
+
+fn state_by(record: &Option<PendingRecord>) -> Option<bool> {
+    match record {
+        Some(record) => Some(record.committed),
+        None => None,
     }
 }

@@ -130,3 +130,22 @@ fn a_record_tells_the_epoch_of_its_first_commit(rt: HostRuntime) -> Result<(), F
     assert_eq!(rt; record_told(&rows, 2), None);
     Ok(())
 }
+
+#[test]
+fn a_row_has_the_epoch_of_its_last_commit(rt: HostRuntime) -> Result<(), Fail> {
+    let mut rows = Store::new(rt.alloc())?;
+    let lines = [
+        (Call::Room(b'a'), (None, 0, None)),
+        (Call::Put(b'a', 3), (Some(0), 0, Some(3))),
+        (Call::Prepare(b'a'), (Some(0), 1, Some(3))),
+        (Call::Commit(b'a', 5), (Some(0), 1, Some(5))),
+        (Call::Complete(b'a'), (Some(0), 0, Some(5))),
+        (Call::Delete(b'a'), (Some(0), 1, Some(5))),
+        (Call::Commit(b'a', 6), (None, 1, None)),
+        (Call::Complete(b'a'), (None, 0, None)),
+        (Call::Prepare(b'a'), (None, 1, None)),
+        (Call::Commit(b'a', 8), (Some(0), 1, Some(8))),
+    ];
+    assert_eq!(rt; first_wrong(&mut rows, &lines)?, None);
+    Ok(())
+}
