@@ -35,15 +35,15 @@ use Rattle.world_core.specs.Hosts.{hosts, tc_host}
 use Rattle.world_core.specs.Machine.{after, machine, step_after}
 use Rattle.world_core.specs.Start.{Start}
 use Rattle.world_core.specs.Steps.{Addressed, HostStep}
-use Rattle.run_laws.proofs.AlongSteps.{Goes, along, few_taken}
-use Rattle.host_laws.proofs.LqhOps.{left_of, right_of}
-use Rattle.host_laws.proofs.ApiBegins.{IsDue, IsGood, same_name-self}
-use Rattle.host_laws.proofs.ShellHost.{TellsHome, host_replies, host_wishes, opened_first, opened_next, shell_after, shell_count, shell_sends, told}
-use Rattle.host_laws.proofs.BlocksAlong.{at_tc_host, no_api, sent_to_tc}
-use Rattle.host_laws.proofs.LinkCounts.{few_sends, sent_signals, shell_signals, signals, steps, steps_from, taken_signals, taken_steps}
+use Rattle.run_laws.proofs.hosts.AlongSteps.{Goes, along, few_taken}
+use Rattle.host_laws.proofs.rows.Operations.{left_of, right_of}
+use Rattle.host_laws.proofs.api.Begins.{IsDue, IsGood, same_name-self}
+use Rattle.host_laws.proofs.hosts.ShellHost.{TellsHome, host_replies, host_wishes, opened_first, opened_next, shell_after, shell_count, shell_sends, told}
+use Rattle.host_laws.proofs.hosts.BlocksAlong.{at_tc_host, no_api, sent_to_tc}
+use Rattle.host_laws.proofs.hosts.LinkCounts.{few_sends, sent_signals, shell_signals, signals, steps, steps_from, taken_signals, taken_steps}
 use Rattle.run_theory.proofs.Tally.{tally_in, tally_past}
 use Rattle.run_theory.specs.Counts.{one_if, tally}
-use Rattle.host_laws.proofs.Wishes.{is_api, is_reply, is_tc, is_wish, reply_of, sends_of, to_node, wish_of}
+use Rattle.host_laws.proofs.api.Wishes.{is_api, is_reply, is_tc, is_wish, reply_of, sends_of, to_node, wish_of}
 use Rattle.answer_laws.specs.Answered.{AreQuiet, NoBeginIsLost}
 use Rattle.host_laws.specs.OpenedAfter.{opened_after, opened_in}
 

@@ -9,7 +9,7 @@ use Rattle.frag_map.proofs.FirstReplicas.{first_length, first_nodes}
 use Rattle.frag_map.specs.Laws.{first_chain}
 use Rattle.frag_map.specs.Layout.{chain_of, first_layout}
 use Rattle.frag_map.specs.Shape.{IsShape}
-use Rattle.host_laws.proofs.LqhOps.{is_good, is_node, true_and}
+use Rattle.host_laws.proofs.rows.Operations.{is_good, is_node, true_and}
 
 pub node_in : (n node : ℕ) → 1 ≤ node → node < n → is_node n node ≡ true
 node_in n node some low = true_and (nat_lt 0 node) (nat_lt node n) (grind (arith, nat_tests, some)) (grind (arith, nat_tests, low))

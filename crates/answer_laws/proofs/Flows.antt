@@ -13,14 +13,14 @@ use Rattle.world_core.proofs.HostNumbers.{given_past}
 use Rattle.world_core.specs.Hosts.{hosts}
 use Rattle.world_core.specs.Machine.{machine, step_after}
 use Rattle.world_core.specs.Start.{Start}
-use Rattle.run_laws.proofs.AlongSteps.{Goes, few_taken}
-use Rattle.host_laws.proofs.LinkCounts.{all_three, signals, taken_signals}
-use Rattle.host_laws.proofs.LqhOps.{right_of, true_and}
+use Rattle.run_laws.proofs.hosts.AlongSteps.{Goes, few_taken}
+use Rattle.host_laws.proofs.hosts.LinkCounts.{all_three, signals, taken_signals}
+use Rattle.host_laws.proofs.rows.Operations.{right_of, true_and}
 use Rattle.run_theory.proofs.Tally.{tally_past}
 use Rattle.run_theory.specs.Counts.{one_if}
 use Rattle.answer_laws.proofs.Totals.{Grown, sent_all, sent_few, taken_all, taken_exact}
-use Rattle.host_laws.proofs.Sums.{total_at, total_le, total_less}
-use Rattle.host_laws.proofs.Wishes.{sends_of}
+use Rattle.host_laws.proofs.hosts.Sums.{total_at, total_le, total_less}
+use Rattle.host_laws.proofs.api.Wishes.{sends_of}
 
 module _ (start : Start) (test : Place → Body → Bool) (logs now : ℕ → List HostStep) (h : ℕ) (e : HostStep) (g : Goes start logs now h e) where
   grown : Grown start (hosts start) test logs now h e

@@ -17,15 +17,15 @@ use Rattle.world_core.specs.Hosts.{home, hosts}
 use Rattle.world_core.specs.Machine.{after}
 use Rattle.world_core.specs.Start.{Start}
 use Rattle.sig_core.proofs.Keys.{same_tx-self}
-use Rattle.run_laws.proofs.AlongSteps.{at_home, at_tc, live_tx, tx_at}
+use Rattle.run_laws.proofs.hosts.AlongSteps.{at_home, at_tc, live_tx, tx_at}
 use Rattle.answer_laws.proofs.ApiEntries.{IsEntryRight, is_commit_req, opened_at}
-use Rattle.host_laws.proofs.BlocksAlong.{IsHome}
-use Rattle.host_laws.proofs.LinkCounts.{signals, taken_steps}
+use Rattle.host_laws.proofs.hosts.BlocksAlong.{IsHome}
+use Rattle.host_laws.proofs.hosts.LinkCounts.{signals, taken_steps}
 use Rattle.answer_laws.proofs.Lives.{live_low}
 use Rattle.answer_laws.proofs.Strangers.{starts_once}
 use Rattle.run_theory.specs.Counts.{one_if}
-use Rattle.host_laws.proofs.TcKeys.{is_answer, is_key}
-use Rattle.host_laws.proofs.TcSteps.{live_in}
+use Rattle.host_laws.proofs.coordinator.Keys.{is_answer, is_key}
+use Rattle.host_laws.proofs.coordinator.Steps.{live_in}
 use Rattle.answer_laws.proofs.Wants.{IsHeld, all_right, held_few}
 use Rattle.answer_laws.specs.Answered.{AreQuiet, EachAskedWhereOperating, EachClosedWhereCommitting, EachIsNumbered, IsLiveAs}
 use Rattle.host_laws.specs.OpenedAfter.{opened_after, opened_in}

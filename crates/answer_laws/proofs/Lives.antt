@@ -18,20 +18,20 @@ use Rattle.world_core.specs.Machine.{after, machine}
 use Rattle.world_core.specs.Start.{Start}
 use Rattle.world_core.specs.Steps.{HostStep}
 use Rattle.sig_core.proofs.Keys.{same_tx-self}
-use Rattle.host_laws.proofs.LqhOps.{right_of, left_of}
-use Rattle.run_laws.proofs.AlongSteps.{few_taken, link, none_else}
-use Rattle.host_laws.proofs.ApiHolds.{AreHeld, IsOrdered, log_holds}
-use Rattle.host_laws.proofs.BlocksAlong.{first_live}
-use Rattle.host_laws.proofs.LinkCounts.{all_three, signals, steps, steps_from, taken_signals, taken_steps}
+use Rattle.host_laws.proofs.rows.Operations.{right_of, left_of}
+use Rattle.run_laws.proofs.hosts.AlongSteps.{few_taken, link, none_else}
+use Rattle.host_laws.proofs.api.Holds.{AreHeld, IsOrdered, log_holds}
+use Rattle.host_laws.proofs.hosts.BlocksAlong.{first_live}
+use Rattle.host_laws.proofs.hosts.LinkCounts.{all_three, signals, steps, steps_from, taken_signals, taken_steps}
 use Rattle.run_theory.proofs.Tally.{Counted, counted, tally_in}
 use Rattle.run_theory.specs.Counts.{one_if, tally}
-use Rattle.host_laws.proofs.TcLives.{is_over, is_keyed, is_start, start_of}
-use Rattle.host_laws.proofs.TcMoves.{end_of, is_end, same_tx-is}
-use Rattle.host_laws.proofs.Wishes.{is_api}
+use Rattle.host_laws.proofs.coordinator.Lives.{is_over, is_keyed, is_start, start_of}
+use Rattle.host_laws.proofs.coordinator.Moves.{end_of, is_end, same_tx-is}
+use Rattle.host_laws.proofs.api.Wishes.{is_api}
 use Rattle.answer_laws.specs.Answered.{AreQuiet, EachHasCoordinator, IsLiveAs, IsLiveAt}
 use Rattle.host_laws.specs.OpenedAfter.{opened_after, opened_in}
 use Rattle.tc_block.specs.Phases.{is_completing}
-use Rattle.run_laws.proofs.Begun.{AreOrdered, HostKeeps, keeps, ordered_past, plain_end, plain_start, silent_end, silent_start}
+use Rattle.run_laws.proofs.causes.Begun.{AreOrdered, HostKeeps, keeps, ordered_past, plain_end, plain_start, silent_end, silent_start}
 
 module _ (start : Start) (tx : TxId) where
   -- a log of the shell's host that has taken signals in order

@@ -31,21 +31,21 @@ use Rattle.world_core.specs.Hosts.{home, hosts, started}
 use Rattle.world_core.specs.Machine.{after, machine, step_after}
 use Rattle.world_core.specs.Start.{Start}
 use Rattle.world_core.specs.Steps.{HostStep}
-use Rattle.host_laws.proofs.Sums.{total_at, total_one, total_zero}
+use Rattle.host_laws.proofs.hosts.Sums.{total_at, total_one, total_zero}
 use Rattle.run_theory.specs.Counts.{one_if, total}
-use Rattle.run_laws.proofs.AlongSteps.{Goes, along, at_tc, first_none, no_transaction, other_turn, the_transaction, turn_at, tx_at}
+use Rattle.run_laws.proofs.hosts.AlongSteps.{Goes, along, at_tc, first_none, no_transaction, other_turn, the_transaction, turn_at, tx_at}
 use Rattle.answer_laws.proofs.Flows.{flow_few, flow_sent, flow_taken, flow_took}
-use Rattle.host_laws.proofs.HostTurns.{HostTurn, IsAside, aside, in_rows, is_aside, starting, turning}
-use Rattle.host_laws.proofs.LqhLeaves.{lqh_waits}
-use Rattle.host_laws.proofs.LqhOps.{is_lqh}
-use Rattle.host_laws.proofs.LqhWaits.{came_to, hops, is_hop, queued, waiting}
-use Rattle.host_laws.proofs.SendKinds.{are_of, none_of}
+use Rattle.host_laws.proofs.coordinator.HostTurns.{HostTurn, IsAside, aside, in_rows, is_aside, starting, turning}
+use Rattle.host_laws.proofs.rows.Leaves.{lqh_waits}
+use Rattle.host_laws.proofs.rows.Operations.{is_lqh}
+use Rattle.host_laws.proofs.rows.Waits.{came_to, hops, is_hop, queued, waiting}
+use Rattle.host_laws.proofs.hosts.SendKinds.{are_of, none_of}
 use Rattle.answer_laws.proofs.TcForth.{HopTurn, answer_came, hop_turn}
-use Rattle.host_laws.proofs.TcOps.{asks_key}
+use Rattle.host_laws.proofs.coordinator.Operations.{asks_key}
 use Rattle.host_laws.specs.Live.{of_live}
-use Rattle.host_laws.proofs.TcSteps.{live_early}
+use Rattle.host_laws.proofs.coordinator.Steps.{live_early}
 use Rattle.answer_laws.proofs.Totals.{sent_all, taken_all}
-use Rattle.host_laws.proofs.Wishes.{is_tc}
+use Rattle.host_laws.proofs.api.Wishes.{is_tc}
 
 plain_hop : (tx : TxId) (key : List ℕ) (to : Place) (body : Body) → is_hop tx key to body ≡ true → is_request body ≡ false
 plain_hop tx key to (Chain (LqhKeyReq other what chain at)) e = refl

@@ -19,12 +19,12 @@ use Rattle.tc_block.specs.Complete.{written_count}
 use Rattle.tc_block.specs.State.{TcState}
 use Rattle.tc_block.specs.Turn.{Turn}
 use Rattle.sig_core.proofs.Keys.{same_tx-self}
-use Rattle.host_laws.proofs.PartKinds.{IsPartKind, parts_of}
-use Rattle.host_laws.proofs.SendKinds.{is_keyless, of_kind}
+use Rattle.host_laws.proofs.hosts.PartKinds.{IsPartKind, parts_of}
+use Rattle.host_laws.proofs.hosts.SendKinds.{is_keyless, of_kind}
 use Rattle.run_theory.specs.Counts.{one_if}
-use Rattle.host_laws.proofs.TcKeys.{answers_in, key_of_tx, no_answers}
+use Rattle.host_laws.proofs.coordinator.Keys.{answers_in, key_of_tx, no_answers}
 use Rattle.tc_block.proofs.EachTurn.{IsMissed}
-use Rattle.host_laws.proofs.TcTurns.{abort_ends, aborted, aborts, all_completed, answers, asks, commits, committed, completed, completes, decides, ends, entered_phase, gives_up, goes_on, is_wait_kind, keeps, late, over_not, TurnMove}
+use Rattle.host_laws.proofs.coordinator.Turns.{abort_ends, aborted, aborts, all_completed, answers, asks, commits, committed, completed, completes, decides, ends, entered_phase, gives_up, goes_on, is_wait_kind, keeps, late, over_not, TurnMove}
 use Rattle.tc_block.specs.Phases.{is_aborting}
 
 abbrev pub commit_body : TxId → Body → Bool

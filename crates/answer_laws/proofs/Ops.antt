@@ -34,22 +34,22 @@ use Rattle.world_core.specs.Machine.{after, machine, step_after}
 use Rattle.world_core.specs.Start.{Start}
 use Rattle.world_core.specs.Steps.{HostStep}
 use Rattle.sig_core.proofs.Keys.{same_tx-self, same_key-self}
-use Rattle.run_laws.proofs.AlongSteps.{Goes, addressed, along, at_home, at_tc, heard_rows, home_place, live_tx}
+use Rattle.run_laws.proofs.hosts.AlongSteps.{Goes, addressed, along, at_home, at_tc, heard_rows, home_place, live_tx}
 use Rattle.answer_laws.proofs.FirstChains.{first_node, good_chain}
 use Rattle.answer_laws.proofs.Flows.{flow_few}
-use Rattle.host_laws.proofs.BlocksAlong.{first_live, no_waiting, reaches, tc_layout}
-use Rattle.host_laws.proofs.HostTurns.{idle_unheard}
-use Rattle.host_laws.proofs.LinkCounts.{signals}
-use Rattle.host_laws.proofs.LqhOps.{came_of, is_good, is_lqh, is_mine, is_node, is_op, left_of, lqh_ops, ops, right_of, true_and}
-use Rattle.host_laws.proofs.NodeOps.{AreRight, StepAsks, is_asking, tc_steps}
+use Rattle.host_laws.proofs.hosts.BlocksAlong.{first_live, no_waiting, reaches, tc_layout}
+use Rattle.host_laws.proofs.coordinator.HostTurns.{idle_unheard}
+use Rattle.host_laws.proofs.hosts.LinkCounts.{signals}
+use Rattle.host_laws.proofs.rows.Operations.{came_of, is_good, is_lqh, is_mine, is_node, is_op, left_of, lqh_ops, ops, right_of, true_and}
+use Rattle.host_laws.proofs.coordinator.NodeOps.{AreRight, StepAsks, is_asking, tc_steps}
 use Rattle.run_theory.proofs.Tally.{Counted, and_few, counted, tally_in}
 use Rattle.run_theory.specs.Counts.{one_if, tally}
-use Rattle.host_laws.proofs.TcMoves.{same_tx-is}
-use Rattle.host_laws.proofs.TcOps.{answers_of, asks_key, IsGoodLayout}
+use Rattle.host_laws.proofs.coordinator.Moves.{same_tx-is}
+use Rattle.host_laws.proofs.coordinator.Operations.{answers_of, asks_key, IsGoodLayout}
 use Rattle.answer_laws.proofs.Totals.{Grown, sent_all, sent_more, taken_all, taken_more}
-use Rattle.host_laws.proofs.Sums.{IsSome, total_one, total_same, total_some}
+use Rattle.host_laws.proofs.hosts.Sums.{IsSome, total_one, total_same, total_some}
 use Rattle.run_theory.specs.Counts.{total}
-use Rattle.host_laws.proofs.Wishes.{is_tc}
+use Rattle.host_laws.proofs.api.Wishes.{is_tc}
 use Rattle.answer_laws.specs.Answered.{AreQuiet, EachOperationWaits, IsLiveAs, IsWaitingAt, Waits}
 
 -- a host that has nothing of a coordinator's signals runs none

@@ -30,20 +30,20 @@ use Rattle.world_core.specs.Steps.{HostStep}
 use Rattle.sig_core.proofs.Keys.{same_key-self, same_tx-self}
 use Rattle.run_theory.proofs.Tally.{tally_in}
 use Rattle.run_theory.specs.Counts.{one_if}
-use Rattle.run_laws.proofs.AlongSteps.{Goes, along, at_home, few_taken, live_tx, rows_place, tx_at}
+use Rattle.run_laws.proofs.hosts.AlongSteps.{Goes, along, at_home, few_taken, live_tx, rows_place, tx_at}
 use Rattle.answer_laws.proofs.Flows.{flow_grows}
-use Rattle.host_laws.proofs.HostTurns.{rows_turn}
-use Rattle.host_laws.proofs.LinkCounts.{sent_signals, signals, taken_signals, to_host}
+use Rattle.host_laws.proofs.coordinator.HostTurns.{rows_turn}
+use Rattle.host_laws.proofs.hosts.LinkCounts.{sent_signals, signals, taken_signals, to_host}
 use Rattle.answer_laws.proofs.Lone.{IsLone, first_lone, lone_step, one_waits}
-use Rattle.host_laws.proofs.LqhLeaves.{lqh_waits}
-use Rattle.host_laws.proofs.LqhNode.{lqh_node}
-use Rattle.host_laws.proofs.LqhOps.{is_lqh, left_of, right_of, true_and}
-use Rattle.host_laws.proofs.LqhWaits.{goes_on, granted_is, is_more, is_more_body, queued, waiting}
+use Rattle.host_laws.proofs.rows.Leaves.{lqh_waits}
+use Rattle.host_laws.proofs.rows.Node.{lqh_node}
+use Rattle.host_laws.proofs.rows.Operations.{is_lqh, left_of, right_of, true_and}
+use Rattle.host_laws.proofs.rows.Waits.{goes_on, granted_is, is_more, is_more_body, queued, waiting}
 use Rattle.answer_laws.proofs.Ops.{operations_wait}
 use Rattle.answer_laws.proofs.Rights.{asked_undecided}
 use Rattle.answer_laws.proofs.Totals.{sent_least}
 use Rattle.answer_laws.proofs.Undecided.{F, forth_at, is_undecided, none_came}
-use Rattle.host_laws.proofs.Wishes.{sends_of}
+use Rattle.host_laws.proofs.api.Wishes.{sends_of}
 use Rattle.answer_laws.specs.Answered.{AreQuiet, EachOperationIsQueued, IsQueuedAt, IsWaitingAt, Waits, WaitsForLock}
 
 more_at : (node : ℕ) (to : Place) (body : Body) → is_more node to body ≡ true → is_more_body body ≡ true

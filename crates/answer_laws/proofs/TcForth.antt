@@ -28,13 +28,13 @@ use Rattle.tc_block.specs.Turn.{Turn}
 use Rattle.tc_block.specs.Phases.{is_decided}
 use Rattle.sig_core.proofs.Keys.{same_tx-self}
 use Rattle.answer_laws.proofs.LqhForth.{is_back}
-use Rattle.host_laws.proofs.LqhWaits.{hops, is_hop}
-use Rattle.host_laws.proofs.PartKinds.{IsPartKind, entering_of, parts_of}
-use Rattle.host_laws.proofs.PhaseSends.{part_of}
-use Rattle.host_laws.proofs.SendKinds.{are_of, none_of, of_append, of_flat, of_kind, of_map}
+use Rattle.host_laws.proofs.rows.Waits.{hops, is_hop}
+use Rattle.host_laws.proofs.hosts.PartKinds.{IsPartKind, entering_of, parts_of}
+use Rattle.host_laws.proofs.coordinator.PhaseSends.{part_of}
+use Rattle.host_laws.proofs.hosts.SendKinds.{are_of, none_of, of_append, of_flat, of_kind, of_map}
 use Rattle.run_theory.specs.Counts.{one_if}
-use Rattle.host_laws.proofs.TcOps.{asks_key}
-use Rattle.host_laws.proofs.TcTurns.{abort_ends, aborted, aborts, all_completed, answers, asked_to, asks, commits, committed, completed, completes, decides, ends, entered_phase, gives_up, GivesUp, goes_on, is_wait_kind, keeps, late, over_not, refused, TurnMove}
+use Rattle.host_laws.proofs.coordinator.Operations.{asks_key}
+use Rattle.host_laws.proofs.coordinator.Turns.{abort_ends, aborted, aborts, all_completed, answers, asked_to, asks, commits, committed, completed, completes, decides, ends, entered_phase, gives_up, GivesUp, goes_on, is_wait_kind, keeps, late, over_not, refused, TurnMove}
 use Rattle.tc_block.specs.Phases.{is_aborting}
 
 -- neither a request for an operation nor an answer to one

@@ -9,11 +9,11 @@ use Rattle.sig_core.specs.declared.signal.Body.{Body}
 use Rattle.world_core.specs.Hosts.{host_for}
 use Rattle.world_core.specs.Machine.{machine, step_after}
 use Rattle.world_core.specs.Start.{Start}
-use Rattle.host_laws.proofs.LinkCounts.{sent_signals, signals, taken_signals, to_host}
+use Rattle.host_laws.proofs.hosts.LinkCounts.{sent_signals, signals, taken_signals, to_host}
 use Rattle.run_theory.specs.Counts.{one_if}
-use Rattle.host_laws.proofs.Wishes.{sends_of}
+use Rattle.host_laws.proofs.api.Wishes.{sends_of}
 use Rattle.run_theory.specs.Counts.{total}
-use Rattle.host_laws.proofs.Sums.{total_add, total_le, total_one, total_same, unit_below, unit_few}
+use Rattle.host_laws.proofs.hosts.Sums.{total_add, total_le, total_one, total_same, unit_below, unit_few}
 
 -- signals for the hosts below n are no more than all
 pub spread_few : (start : Start) (n : ℕ) (test : Place → Body → Bool) (xs : List Outgoing) → total n (λ j. sends_of (to_host start j test) xs) ≤ sends_of test xs

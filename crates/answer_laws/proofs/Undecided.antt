@@ -20,18 +20,18 @@ use Rattle.world_core.specs.Hosts.{home, hosts}
 use Rattle.world_core.specs.Machine.{after, machine, step_after}
 use Rattle.world_core.specs.Start.{Start}
 use Rattle.world_core.specs.Steps.{HostStep}
-use Rattle.host_laws.proofs.Sums.{total_zero}
-use Rattle.run_laws.proofs.AlongSteps.{Goes, along, at_tc, no_transaction, other_turn, the_transaction, turn_at, tx_at}
+use Rattle.host_laws.proofs.hosts.Sums.{total_zero}
+use Rattle.run_laws.proofs.hosts.AlongSteps.{Goes, along, at_tc, no_transaction, other_turn, the_transaction, turn_at, tx_at}
 use Rattle.answer_laws.proofs.Flows.{flow_came, flow_sent}
-use Rattle.host_laws.proofs.HostTurns.{HostTurn, IsAside, aside, in_rows, is_aside, starting, turning}
+use Rattle.host_laws.proofs.coordinator.HostTurns.{HostTurn, IsAside, aside, in_rows, is_aside, starting, turning}
 use Rattle.answer_laws.proofs.LqhForth.{is_back, lqh_back}
-use Rattle.host_laws.proofs.LqhWaits.{is_forth}
-use Rattle.host_laws.proofs.SendKinds.{are_of, none_of, of_kind}
+use Rattle.host_laws.proofs.rows.Waits.{is_forth}
+use Rattle.host_laws.proofs.hosts.SendKinds.{are_of, none_of, of_kind}
 use Rattle.answer_laws.proofs.TcForth.{BackTurn, back_turn}
 use Rattle.host_laws.specs.Live.{of_live}
-use Rattle.host_laws.proofs.TcSteps.{live_early}
+use Rattle.host_laws.proofs.coordinator.Steps.{live_early}
 use Rattle.answer_laws.proofs.Totals.{sent_all}
-use Rattle.host_laws.proofs.Wishes.{sends_of}
+use Rattle.host_laws.proofs.api.Wishes.{sends_of}
 
 abbrev pub forth_at : TxId → Place → Body → Bool
 forth_at tx to body = is_forth tx body

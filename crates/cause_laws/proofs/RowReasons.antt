@@ -53,7 +53,7 @@ use Rattle.lqh_block.specs.Operate as operate
 use Rattle.lqh_block.specs.State.{LqhState, freed_lock, go_on_if, serve_granted, storage_of, with_lock, with_waiting}
 use Rattle.lqh_block.specs.Storage as storage
 use Rattle.lqh_block.specs.Wait as wait
-use Rattle.host_laws.proofs.QueueWaits.{R, below_none, first_T, second_T}
+use Rattle.host_laws.proofs.rows.QueueWaits.{R, below_none, first_T, second_T}
 use Rattle.cause_laws.specs.Reasons.{HasStood, IsLongWait, IsReason, OnlyLongWaitsExpire, locks_with}
 
 -- the first wait that is over stands in the queue, and has stood there for eight rounds

@@ -24,7 +24,7 @@ use Rattle.world_views.specs.Machine.{after, machine, step_after, told}
 use Rattle.view_laws.specs.Order.{EntriesStandInOrder, by_views, decisions}
 use Rattle.run_theory.specs.Ranks.{in_order}
 use Rattle.view_laws.specs.Runs.{view_after}
-use Rattle.view_laws.proofs.EraSound.{each_filter}
+use Rattle.view_laws.proofs.eras.SoundLogs.{each_filter}
 use Rattle.epoch_laws.specs.Alike.{AreTogether, AreUpTo, GivesUpTo, IsAcross, Waits}
 use Rattle.epoch_laws.specs.Falls.{EpochsNeverFall, EpochsOfHistoriesNeverFall}
 use Rattle.epoch_laws.specs.Members.{dih_in, epochs_of}

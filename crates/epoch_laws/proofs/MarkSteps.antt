@@ -42,7 +42,7 @@ use Rattle.takeover_block.specs.Words.{is_takeover_mark}
 use Rattle.takeover_block.proofs.Walk.{takeover_words}
 use Rattle.tc_views.specs.Words.{is_coordinator_mark}
 use Rattle.tc_views.proofs.Walk.{coordinator_words}
-use Rattle.view_laws.proofs.EraParts.{entered_bare}
+use Rattle.view_laws.proofs.eras.Parts.{entered_bare}
 
 -- what the marks of a block don't tell of decisions, none of its steps does
 unmarked : (marks : Mark → Bool) → ((mark : Mark) → marks mark ≡ true → IsNoDecision mark) → (made : List Mark)

@@ -22,8 +22,8 @@ use Rattle.world_core.specs.Steps.{Addressed, HostStep}
 use Rattle.world_views.specs.Machine.{after}
 use Rattle.view_laws.specs.Runs.{view_after}
 use Rattle.view_laws.specs.Votes.{main_of}
-use Rattle.view_laws.proofs.EraRises.{host_follows}
-use Rattle.view_laws.proofs.FenceViews.{fences_are_not_below}
+use Rattle.view_laws.proofs.eras.Rises.{host_follows}
+use Rattle.view_laws.proofs.fences.AboveViews.{fences_are_not_below}
 use Rattle.epoch_laws.specs.Alike.{IsSound}
 use Rattle.epoch_laws.specs.Members.{dih_in, epochs_of, master_in, master_of}
 use Rattle.moment_laws.specs.Places.{tc_of}

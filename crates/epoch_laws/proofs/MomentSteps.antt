@@ -21,7 +21,7 @@ use Rattle.node_views.specs.declared.parts.Parts.TheVariants as part
 use Rattle.node_views.specs.declared.tc_part.TcPart.{TcPart}
 use Rattle.node_views.specs.Fence.{is_fenced}
 use Rattle.node_views.specs.Parts.{main_row, main_settled, tc_row}
-use Rattle.view_laws.proofs.EraRises.{Follows, entered_follows, settled_above}
+use Rattle.view_laws.proofs.eras.Rises.{Follows, entered_follows, settled_above}
 use Rattle.epoch_laws.specs.Members.{dih_in, master_in}
 use Rattle.moment_laws.proofs.MomentWalk.{Moves, Passes, entering, leaves, plainly, settles, takes}
 use Rattle.moment_laws.proofs.PartTaken.{IsTaken, passed_taken}

@@ -23,8 +23,8 @@ use Rattle.world_core.specs.Steps.{HostStep}
 use Rattle.world_views.specs.Hosts.{started}
 use Rattle.world_views.specs.Machine.{after, step_by, told}
 use Rattle.view_laws.specs.Votes.{main_of}
-use Rattle.view_laws.proofs.FollowHosts.{main_started}
-use Rattle.view_laws.proofs.RunMade.{first_in}
+use Rattle.view_laws.proofs.follow.Hosts.{main_started}
+use Rattle.view_laws.proofs.runs.FirstMembers.{first_in}
 use Rattle.moment_laws.specs.Places.{ldm_of, tc_of}
 use Rattle.moment_laws.proofs.MomentHosts.{ldm_number, ldm_started, main_number, tc_number}
 use Rattle.moment_laws.proofs.MomentWalk.{Moves, Passes, entering, leaves, plainly, settles, step_moves, takes}

@@ -32,8 +32,8 @@ use Rattle.world_core.specs.Steps.{Addressed, HostStep}
 use Rattle.world_views.specs.Machine.{after}
 use Rattle.view_laws.specs.Runs.{view_after}
 use Rattle.view_laws.specs.Votes.{main_of}
-use Rattle.view_laws.proofs.FollowHosts.{main_started}
-use Rattle.view_laws.proofs.RunMade.{main_same}
+use Rattle.view_laws.proofs.follow.Hosts.{main_started}
+use Rattle.view_laws.proofs.runs.FirstMembers.{main_same}
 use Rattle.epoch_laws.specs.Masters.{IsRight, IsRightIn, IsSilent}
 use Rattle.epoch_laws.specs.Members.{IsFirst, IsPresident, IsStanding, epochs_of, master_in, master_of}
 use Rattle.moment_laws.specs.Places.{tc_of}

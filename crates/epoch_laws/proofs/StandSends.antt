@@ -42,14 +42,14 @@ use Rattle.view_laws.specs.HostEvents.{events_of, is_membership}
 use Rattle.view_laws.specs.Order.{is_sound}
 use Rattle.view_laws.specs.Runs.{view_after}
 use Rattle.view_laws.specs.Votes.{main_of, membership_in, membership_of}
-use Rattle.view_laws.proofs.EraShapes.{shape_stays}
-use Rattle.view_laws.proofs.EraSound.{each_filter}
-use Rattle.view_laws.proofs.FenceViews.{fences_are_not_below}
-use Rattle.view_laws.proofs.FollowHosts.{hosts_follow}
-use Rattle.view_laws.proofs.FollowSends.{IsSentBy, each_sent}
-use Rattle.view_laws.proofs.ProposalLemmas.{me_is}
-use Rattle.view_laws.proofs.RunMade.{member_main, node_some}
-use Rattle.view_laws.proofs.SetRows.{same_is}
+use Rattle.view_laws.proofs.eras.Shapes.{shape_stays}
+use Rattle.view_laws.proofs.eras.SoundLogs.{each_filter}
+use Rattle.view_laws.proofs.fences.AboveViews.{fences_are_not_below}
+use Rattle.view_laws.proofs.follow.Hosts.{hosts_follow}
+use Rattle.view_laws.proofs.follow.Senders.{IsSentBy, each_sent}
+use Rattle.view_laws.proofs.memberships.Proposals.{me_is}
+use Rattle.view_laws.proofs.runs.FirstMembers.{member_main, node_some}
+use Rattle.view_laws.proofs.memberships.SetTests.{same_is}
 use Rattle.epoch_laws.specs.Alike.{IsSound}
 use Rattle.epoch_laws.specs.Masters.{HasPrepared}
 use Rattle.epoch_laws.specs.Members.{IsFirst, IsPresident, IsStanding, dih_in, epochs_of, master_in, master_of}

@@ -16,8 +16,8 @@ use Rattle.world_core.specs.Hosts as world
 use Rattle.world_core.specs.Start.{Start, made}
 use Rattle.world_core.specs.Steps.{HostStep}
 use Rattle.world_views.specs.Hosts.{epoch_before}
-use Rattle.view_laws.proofs.FollowHosts.{main_started}
-use Rattle.view_laws.proofs.RunStep.{started_view}
+use Rattle.view_laws.proofs.follow.Hosts.{main_started}
+use Rattle.view_laws.proofs.runs.Step.{started_view}
 use Rattle.epoch_laws.specs.Alike.{AreAlike, IsSound, Rests, Waits}
 use Rattle.epoch_laws.specs.Masters.{IsRight, IsRightIn}
 use Rattle.epoch_laws.specs.Members.{IsFirst, IsPresident, dih_in, epochs_of, master_in, master_of}

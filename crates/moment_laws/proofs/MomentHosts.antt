@@ -16,9 +16,9 @@ use Rattle.world_core.specs.Hosts.{host_at, host_of, hosts, member_at, part_by}
 use Rattle.world_core.specs.Start.{Start, made}
 use Rattle.world_views.specs.Hosts.{part_started, started}
 use Rattle.view_laws.specs.Votes.{main_of}
-use Rattle.view_laws.proofs.FenceHosts.{any_found, block_host, number_some}
-use Rattle.view_laws.proofs.FollowHosts.{first_of, started_behind}
-use Rattle.view_laws.proofs.RunMade.{first_in, made_tested, node_low, node_some}
+use Rattle.view_laws.proofs.fences.Hosts.{any_found, block_host, number_some}
+use Rattle.view_laws.proofs.follow.Hosts.{first_of, started_behind}
+use Rattle.view_laws.proofs.runs.FirstMembers.{first_in, made_tested, node_low, node_some}
 use Rattle.moment_laws.specs.Places.{ldm_of, tc_of}
 
 -- none is the shell's

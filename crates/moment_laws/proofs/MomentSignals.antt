@@ -25,9 +25,9 @@ use Rattle.world_views.specs.Machine.{IsOwn, IsOwnWork, cause_in, comes_rightly,
 use Rattle.world_views.specs.Sending.{is_asked}
 use Rattle.view_laws.specs.Order.{is_sound, sound_machine}
 use Rattle.view_laws.specs.Runs.{view_after}
-use Rattle.view_laws.proofs.EraRises.{view_rises}
-use Rattle.view_laws.proofs.EraSound.{each_filter}
-use Rattle.view_laws.proofs.FollowSends.{each_sent}
+use Rattle.view_laws.proofs.eras.Rises.{view_rises}
+use Rattle.view_laws.proofs.eras.SoundLogs.{each_filter}
+use Rattle.view_laws.proofs.follow.Senders.{each_sent}
 use Rattle.moment_laws.specs.Moments.{IsMoment, logs_of}
 use Rattle.moment_laws.proofs.MomentViews.{current_above, current_number, moment_within}
 

@@ -11,11 +11,11 @@ use Rattle.world_core.specs.Steps.{HostStep}
 use Rattle.world_views.specs.Machine.{closing_view, machine, stops_by}
 use Rattle.view_laws.specs.Order.{era}
 use Rattle.view_laws.specs.Runs.{view_after}
-use Rattle.view_laws.proofs.EraCausal.{era_going}
-use Rattle.view_laws.proofs.EraRises.{view_rises}
-use Rattle.view_laws.proofs.RunKept.{have_orderly}
-use Rattle.view_laws.proofs.RunStep.{host_there}
-use Rattle.view_laws.proofs.RunViews.{of_greater, one_view}
+use Rattle.view_laws.proofs.eras.Causal.{era_going}
+use Rattle.view_laws.proofs.eras.Rises.{view_rises}
+use Rattle.view_laws.proofs.runs.AllSound.{have_orderly}
+use Rattle.view_laws.proofs.runs.Step.{host_there}
+use Rattle.view_laws.proofs.runs.ChosenViews.{of_greater, one_view}
 use Rattle.moment_laws.specs.Moments.{IsMoment, current, logs_of}
 use Rattle.moment_laws.proofs.MomentViews.{IsSome, current_above, current_is, current_number, first_below, moment_installed, moment_less, moment_within, number_in, stands_in_current}
 

@@ -14,10 +14,10 @@ use Rattle.world_core.specs.Steps.{HostStep}
 use Rattle.world_views.proofs.SentFacts.{is_stamped}
 use Rattle.world_views.specs.Machine.{machine}
 use Rattle.view_laws.specs.Runs.{WasInstalled, view_after}
-use Rattle.view_laws.proofs.EraCausal.{greater_own, greater_taken}
-use Rattle.view_laws.proofs.RunKept.{have_orderly}
-use Rattle.view_laws.proofs.RunStep.{started_view}
-use Rattle.view_laws.proofs.RunViews.{of_greater, one_view}
+use Rattle.view_laws.proofs.eras.Causal.{greater_own, greater_taken}
+use Rattle.view_laws.proofs.runs.AllSound.{have_orderly}
+use Rattle.view_laws.proofs.runs.Step.{started_view}
+use Rattle.view_laws.proofs.runs.ChosenViews.{of_greater, one_view}
 use Rattle.moment_laws.specs.Moments.{IsMoment, current, greatest_of, logs_of}
 
 module _ (start : Start) where

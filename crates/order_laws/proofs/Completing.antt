@@ -47,13 +47,13 @@ use Rattle.world_core.specs.Hosts.{home, host_for, hosts, rows_host, tc_host}
 use Rattle.world_core.specs.Machine.{after, signals_of, step_after}
 use Rattle.world_core.specs.Start.{Start}
 use Rattle.world_core.specs.Steps.{Addressed, HostStep}
-use Rattle.host_laws.proofs.BlocksAlong.{tc_layout}
-use Rattle.host_laws.proofs.LqhOps.{is_lqh}
-use Rattle.host_laws.proofs.OfLive.{each_found}
-use Rattle.host_laws.proofs.OneWay.{back_aborting, forth_decided}
-use Rattle.host_laws.proofs.TcLives.{IsOwn}
-use Rattle.host_laws.proofs.TcSteps.{left_of_turn}
-use Rattle.host_laws.proofs.Wishes.{is_tc}
+use Rattle.host_laws.proofs.hosts.BlocksAlong.{tc_layout}
+use Rattle.host_laws.proofs.rows.Operations.{is_lqh}
+use Rattle.host_laws.proofs.coordinator.OfLive.{each_found}
+use Rattle.host_laws.proofs.coordinator.OneWay.{back_aborting, forth_decided}
+use Rattle.host_laws.proofs.coordinator.Lives.{IsOwn}
+use Rattle.host_laws.proofs.coordinator.Steps.{left_of_turn}
+use Rattle.host_laws.proofs.api.Wishes.{is_tc}
 use Rattle.host_laws.specs.Live.{of_live}
 use Rattle.host_laws.specs.Ways.{back_by, forth_by, sent_ways}
 use Rattle.run_laws.specs.GivenUp.{is_carried_out, is_given_up}
@@ -61,21 +61,21 @@ use Rattle.run_laws.specs.Live.{live_at, of_host}
 use Rattle.run_laws.specs.Routes.{IsCompletionRouted, IsForBlock, IsRouted, replica_host, replicas}
 use Rattle.run_laws.specs.Tokens.{is_token}
 use Rattle.run_laws.specs.Transit.{AreInTransit, Comes, IsRun, Takes, joined, logs_of}
-use Rattle.run_laws.proofs.Addressed.{rows_addressed, tc_addressed}
-use Rattle.run_laws.proofs.Always.{few_touched}
-use Rattle.run_laws.proofs.CarryBegins.{carried_silent, said_silent}
-use Rattle.run_laws.proofs.HomeSteps.{IsHome, all_home, away, here_now, here_was, own_home, unborn_absent}
-use Rattle.run_laws.proofs.LiveOf.{of_each}
-use Rattle.run_laws.proofs.RoutedEvents.{coming_are_routed, placed, placed_runs}
-use Rattle.run_laws.proofs.TcOwn.{AreSilent}
-use Rattle.run_laws.proofs.TcSaid.{tc_silent}
-use Rattle.run_laws.proofs.Transit.{along_transit}
-use Rattle.run_laws.proofs.TxSignals.{is_next}
-use Rattle.run_laws.proofs.TxSteps as step
-use Rattle.run_laws.proofs.TxSteps.{IsMissed, TxStep, aside, rows, turns, tx_step}
-use Rattle.run_laws.proofs.TxTurns.{is_for}
-use Rattle.run_laws.proofs.Undecided.{carried_out_have_none}
-use Rattle.run_laws.proofs.Weighing.{each_taken, in_sends, in_transit, joins_weigh, takes_weigh}
+use Rattle.run_laws.proofs.routes.Addressed.{rows_addressed, tc_addressed}
+use Rattle.run_laws.proofs.hosts.Always.{few_touched}
+use Rattle.run_laws.proofs.carried.Begins.{carried_silent, said_silent}
+use Rattle.run_laws.proofs.hosts.HomeSteps.{IsHome, all_home, away, here_now, here_was, own_home, unborn_absent}
+use Rattle.run_laws.proofs.hosts.LiveOf.{of_each}
+use Rattle.run_laws.proofs.routes.Events.{coming_are_routed, placed, placed_runs}
+use Rattle.run_laws.proofs.hosts.TcOwn.{AreSilent}
+use Rattle.run_laws.proofs.hosts.TcSaid.{tc_silent}
+use Rattle.run_laws.proofs.transit.Transit.{along_transit}
+use Rattle.run_laws.proofs.fades.Signals.{is_next}
+use Rattle.run_laws.proofs.hosts.TxSteps as step
+use Rattle.run_laws.proofs.hosts.TxSteps.{IsMissed, TxStep, aside, rows, turns, tx_step}
+use Rattle.run_laws.proofs.hosts.TxTurns.{is_for}
+use Rattle.run_laws.proofs.causes.Undecided.{carried_out_have_none}
+use Rattle.run_laws.proofs.transit.Weighing.{each_taken, in_sends, in_transit, joins_weigh, takes_weigh}
 use Rattle.order_laws.specs.Awaited.{IsAwaited, awaited_in, due, due_in, list_length}
 use Rattle.order_laws.specs.Completing.{CompletedLetGo}
 use Rattle.order_laws.specs.LetGo.{has_let_go, lock_at_place}

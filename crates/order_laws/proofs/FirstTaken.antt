@@ -29,14 +29,14 @@ use Rattle.key_laws.specs.Replica.{aborts, event_at, rests}
 use Rattle.host_laws.specs.ReplicaLaws.{event_in}
 use Rattle.run_laws.specs.Routes.{IsForBlock, IsRequestRouted, IsRouted, replica_host, replicas}
 use Rattle.run_laws.specs.Transit.{Comes, IsRun, logs_of}
-use Rattle.run_laws.proofs.Addressed.{rows_addressed}
-use Rattle.run_laws.proofs.KeyTokens.{is_rows}
-use Rattle.run_laws.proofs.RoutedEvents.{coming_are_routed, placed, placed_runs}
-use Rattle.run_laws.proofs.RoutesChain.{hosts_are_apart, replicas_some}
-use Rattle.run_laws.proofs.RowsEvents.{event_off, event_rows}
-use Rattle.run_laws.proofs.Transit.{comes, earlier}
-use Rattle.run_laws.proofs.TransitRuns.{taking}
-use Rattle.run_laws.proofs.Weighing.{each_taken}
+use Rattle.run_laws.proofs.routes.Addressed.{rows_addressed}
+use Rattle.run_laws.proofs.tokens.Signals.{is_rows}
+use Rattle.run_laws.proofs.routes.Events.{coming_are_routed, placed, placed_runs}
+use Rattle.run_laws.proofs.routes.Chain.{hosts_are_apart, replicas_some}
+use Rattle.run_laws.proofs.circle.RowsEvents.{event_off, event_rows}
+use Rattle.run_laws.proofs.transit.Transit.{comes, earlier}
+use Rattle.run_laws.proofs.transit.Runs.{taking}
+use Rattle.run_laws.proofs.transit.Weighing.{each_taken}
 use Rattle.order_laws.specs.Gone.{gone_by}
 use Rattle.order_laws.specs.Standing.{is_away}
 use Rattle.order_laws.specs.Unanswered.{is_part_on}

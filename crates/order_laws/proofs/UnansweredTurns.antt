@@ -40,12 +40,12 @@ use Rattle.tc_block.specs.Turn.{Turn, asking}
 use Rattle.tc_block.proofs.EachTurn.{CommittedForms, IsAnswered, IsRowAnswer, TurnFormsAt, by_conf, by_ref, may_ask}
 use Rattle.tc_block.proofs.EachTurn.{ready_is, rows_at}
 use Rattle.tc_block.proofs.TurnRows.{turn_for}
-use Rattle.host_laws.proofs.PhaseSends.{HasChains, aborts_of_kind, entering_of_kind, rest_of_kind}
-use Rattle.host_laws.proofs.RequestCounts.{CountStep, asked_by, count_step, ends, is_work, performs, refuses, rests}
-use Rattle.host_laws.proofs.SendKinds.{are_of, each_of, of_map}
-use Rattle.host_laws.proofs.TcOps.{is_right}
-use Rattle.run_laws.proofs.LqhWaits.{WaitersAsk}
-use Rattle.run_laws.proofs.TxTurns.{is_for as is_for_tx, turn_each}
+use Rattle.host_laws.proofs.coordinator.PhaseSends.{HasChains, aborts_of_kind, entering_of_kind, rest_of_kind}
+use Rattle.host_laws.proofs.rows.RequestCounts.{CountStep, asked_by, count_step, ends, is_work, performs, refuses, rests}
+use Rattle.host_laws.proofs.hosts.SendKinds.{are_of, each_of, of_map}
+use Rattle.host_laws.proofs.coordinator.Operations.{is_right}
+use Rattle.run_laws.proofs.tokens.Waiting.{WaitersAsk}
+use Rattle.run_laws.proofs.hosts.TxTurns.{is_for as is_for_tx, turn_each}
 use Rattle.order_laws.specs.Awaited.{awaited_in, due, list_length}
 use Rattle.order_laws.specs.Unanswered.{is_on_key, is_part_on}
 use Rattle.order_laws.proofs.AwaitedTurns.{last_is}

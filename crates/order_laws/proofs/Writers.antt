@@ -33,15 +33,15 @@ use Rattle.key_laws.specs.BackupEvents.{IsOfImage}
 use Rattle.key_laws.specs.Replica as replica
 use Rattle.key_laws.specs.Replica.{Event, Replica, aborts, ages, asks, commits, completes, expires, is_let_in, key_after}
 use Rattle.key_laws.specs.Replica.{rests, served_by, serves}
-use Rattle.host_laws.proofs.Replicas.{logs_follow}
+use Rattle.host_laws.proofs.rows.Replicas.{logs_follow}
 use Rattle.host_laws.specs.ReplicaLaws.{event_in, key_in}
 use Rattle.run_laws.specs.Circle.{at_host}
 use Rattle.run_laws.specs.Owed.{IsOwed}
 use Rattle.run_laws.specs.Routes.{primary_host, replica_host, replicas}
 use Rattle.run_laws.specs.Transit.{Comes, IsRun, logs_of}
-use Rattle.run_laws.proofs.Owing.{events_owed}
-use Rattle.run_laws.proofs.RoutesChain.{hosts_are_apart, replicas_some}
-use Rattle.run_laws.proofs.Transit.{comes, earlier}
+use Rattle.run_laws.proofs.tokens.Owing.{events_owed}
+use Rattle.run_laws.proofs.routes.Chain.{hosts_are_apart, replicas_some}
+use Rattle.run_laws.proofs.transit.Transit.{comes, earlier}
 use Rattle.order_laws.specs.LetGo.{lock_at_place}
 use Rattle.order_laws.specs.Writers.{HoldersBehindDontWait}
 use Rattle.order_laws.proofs.Attended.{first_idle, serving_along}

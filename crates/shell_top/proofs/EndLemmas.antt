@@ -31,7 +31,7 @@ use Rattle.shell_top.specs.Served.{AreInPeace, IsServed}
 use Rattle.shell_top.specs.Session.{AreLinesDone, IsSession, IsUnderWay}
 use Rattle.shell_top.specs.Text.{down_line, fault_line}
 use Rattle.shell_top.specs.Told.{text_of}
-use Rattle.peace_laws.proofs.Peaceful.{closings_answered, lives_plain}
+use Rattle.peace_laws.proofs.lives.Peaceful.{closings_answered, lives_plain}
 use Rattle.shell_top.proofs.PeacefulLemmas.{peacefully_served}
 use Rattle.shell_top.proofs.PrintedLemmas.{prints_both}
 use Rattle.shell_top.proofs.SafeLemmas.{between_cuts, cuts_are_safe}

@@ -21,12 +21,12 @@ use Rattle.node_views.specs.declared.parts.Parts.{Parts}
 use Rattle.node_views.specs.declared.parts.Parts.TheVariants as part
 use Rattle.outcome_laws.specs.Counts.{count_open, count_sent, count_unwished, is_begin, is_report, is_unwished, is_wish, one_if}
 use Rattle.outcome_laws.specs.Once.{takes_in}
-use Rattle.outcome_laws.proofs.ClientCounts.{noted_unwished, wishes_few}
-use Rattle.outcome_laws.proofs.OnceMarks.{IsOfClient, IsShell, client_light, in_client, of_client, reports_client}
-use Rattle.outcome_laws.proofs.OnceNone.{is_counted, uncounted_wish}
-use Rattle.outcome_laws.proofs.OnceParts.{no_body, no_mark, no_marks}
-use Rattle.outcome_laws.proofs.OnceWalk.{step_light}
-use Rattle.outcome_laws.proofs.TcLists.{count_more}
+use Rattle.outcome_laws.proofs.client.ReportsAndWishes.{noted_unwished, wishes_few}
+use Rattle.outcome_laws.proofs.once.DecidesAndReports.{IsOfClient, IsShell, client_light, in_client, of_client, reports_client}
+use Rattle.outcome_laws.proofs.once.Counted.{is_counted, uncounted_wish}
+use Rattle.outcome_laws.proofs.once.CoordinatorScale.{no_body, no_mark, no_marks}
+use Rattle.outcome_laws.proofs.once.Scales.{step_light}
+use Rattle.outcome_laws.proofs.coordinators.Lists.{count_more}
 use Rattle.report_laws.specs.Answered.{answers_among, is_answered}
 use Rattle.report_laws.specs.Asked.{asked_by, asked_in}
 use Rattle.report_laws.specs.Told.{answer_in}

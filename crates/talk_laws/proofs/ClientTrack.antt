@@ -26,7 +26,7 @@ use Rattle.api_block.specs.Opened.{is_named, is_tx, operating}
 use Rattle.api_block.proofs.Walk.{own_is}
 use Rattle.report_laws.specs.Answered.{answers_among, is_answered}
 use Rattle.outcome_laws.specs.Counts.{count_sent, is_begin, is_committing, is_unwished, is_wish, one_if}
-use Rattle.outcome_laws.proofs.TcLists.{count_between, count_more, none_counted}
+use Rattle.outcome_laws.proofs.coordinators.Lists.{count_between, count_more, none_counted}
 use Rattle.talk_laws.proofs.ClientTalks.{ArePlain, IsPlain, Talk, TalkForms, is_plain}
 use Rattle.talk_laws.proofs.ShellTalks.{HostForms}
 

@@ -21,7 +21,7 @@ use Rattle.api_block.specs.declared.opened.OpenTransaction.{OpenTransaction}
 use Rattle.api_block.specs.Opened.{answered, asked_for, begins_at, begun, begun_operating, behind, committing, has_tx, is_named, is_tx, operating}
 use Rattle.api_block.proofs.Walk.{own_is}
 use Rattle.outcome_laws.specs.Counts.{count_sent, one_if}
-use Rattle.outcome_laws.proofs.TcLists.{count_between, count_both, count_more}
+use Rattle.outcome_laws.proofs.coordinators.Lists.{count_between, count_both, count_more}
 use Rattle.report_laws.specs.Answered.{answers_among, is_answered}
 use Rattle.world_core.specs.Start.{Start}
 use Rattle.world_core.specs.Steps.{HostStep}

@@ -42,11 +42,11 @@ use Rattle.moment_laws.specs.Places.{tc_of}
 use Rattle.moment_laws.proofs.MomentHosts.{tc_started}
 use Rattle.moment_laws.proofs.PartKinds.{tc_after}
 use Rattle.outcome_laws.specs.Counts.{IsCoordinatorOf, is_unborn, one_if}
-use Rattle.outcome_laws.proofs.OnceBegins.{tc_begins}
-use Rattle.outcome_laws.proofs.OnceNone.{AreUncounted, IsUncounted, is_counted}
-use Rattle.outcome_laws.proofs.OnceParts.{IsTcOf, dih_installs_none, dih_none}
-use Rattle.outcome_laws.proofs.OnceTakeover.{takeover_none}
-use Rattle.outcome_laws.proofs.TcCounts.{coordinator_of_installed, coordinator_of_stays}
+use Rattle.outcome_laws.proofs.once.Begins.{tc_begins}
+use Rattle.outcome_laws.proofs.once.Counted.{AreUncounted, IsUncounted, is_counted}
+use Rattle.outcome_laws.proofs.once.CoordinatorScale.{IsTcOf, dih_installs_none, dih_none}
+use Rattle.outcome_laws.proofs.takeovers.SendUncounted.{takeover_none}
+use Rattle.outcome_laws.proofs.coordinators.BeginsAndAsks.{coordinator_of_installed, coordinator_of_stays}
 use Rattle.talk_laws.proofs.Among.{AreAmong, among_none, among_same, among_trans}
 use Rattle.talk_laws.proofs.Picks.{pick_sends, picked_both, picked_more, picked_none, sent_of, taken_of}
 use Rattle.talk_laws.proofs.TcSteps.{gave_count, installs_talked, row_talked}

@@ -23,9 +23,9 @@ use Rattle.tc_views.specs.State.{CoordinatorState, go_on_if}
 use Rattle.tc_views.specs.Views.{install_row}
 use Rattle.world_core.specs.Entries.{verified_by}
 use Rattle.outcome_laws.specs.Counts.{IsCoordinatorOf, count_sent, is_asking, one_if}
-use Rattle.outcome_laws.proofs.TcCounts.{asks_once}
-use Rattle.outcome_laws.proofs.TcLists.{count_more, keys_once}
-use Rattle.outcome_laws.proofs.TcWalk.{coordinator_each, inner}
+use Rattle.outcome_laws.proofs.coordinators.BeginsAndAsks.{asks_once}
+use Rattle.outcome_laws.proofs.coordinators.Lists.{count_more, keys_once}
+use Rattle.outcome_laws.proofs.coordinators.Steps.{coordinator_each, inner}
 use Rattle.talk_laws.proofs.Picks.{pick_sends, picked_both}
 use Rattle.talk_laws.proofs.TcTalks.{AreMute, Talks, more_mute, resume_talks, turn_talks}
 use Rattle.talk_laws.proofs.TcTrack.{Gives, IsFit, Says, SaysBy, Talked, begins_says, mute_picks, mute_told, mute_verified, quiet_says, told_by, turned_says}

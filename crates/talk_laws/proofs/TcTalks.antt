@@ -33,7 +33,7 @@ use Rattle.tc_block.specs.declared.touched.Touched.{Touched}
 use Rattle.tc_block.specs.declared.transaction.Transaction.{Transaction}
 use Rattle.tc_block.proofs.EachTurn.{AbortForms, CommittedForms, TurnForms, ready_is}
 use Rattle.tc_views.specs.State.{go_on_if}
-use Rattle.outcome_laws.proofs.TcWalk.{ResumeForms}
+use Rattle.outcome_laws.proofs.coordinators.Steps.{ResumeForms}
 
 -- the signal asks for an operation or answers one, or asks for an epoch with them all
 abbrev pub is_talk : Body → Bool

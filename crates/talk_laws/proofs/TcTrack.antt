@@ -32,7 +32,7 @@ use Rattle.tc_block.proofs.LiveSplit.{KeysOnce, Live, Split, once_back, once_fro
 use Rattle.tc_views.specs.State.{CoordinatorState}
 use Rattle.world_core.specs.Entries.{verified_by}
 use Rattle.outcome_laws.specs.Counts.{is_open_of, is_unborn, may_ask, one_if}
-use Rattle.outcome_laws.proofs.TcLists.{count_between, next_is_other, put_last}
+use Rattle.outcome_laws.proofs.coordinators.Lists.{count_between, next_is_other, put_last}
 use Rattle.talk_laws.proofs.Among.{AreAmong, among_more, among_same, among_trans}
 use Rattle.talk_laws.proofs.Picks.{cons_more, pick_sends, picked_none}
 use Rattle.talk_laws.proofs.TcTalks.{AreMute, IsMute, Rests, Talks, answers, asks, is_talk, operates, rests}

@@ -34,16 +34,16 @@ use Rattle.moment_laws.specs.Places.{tc_of}
 use Rattle.moment_laws.proofs.MomentHosts.{TcHost, of_none, of_tc, tc_host_is}
 use Rattle.outcome_laws.specs.Counts.{coordinator_member, is_asking, is_decision, is_wish, one_if}
 use Rattle.outcome_laws.specs.Once.{takes_in}
-use Rattle.outcome_laws.proofs.OnceBegins.{asks_elsewhere, begin_once, no_tc_sends, nowhere_sends, only_asks, tc_begins}
-use Rattle.outcome_laws.proofs.OnceDecided.{decides_asked}
-use Rattle.outcome_laws.proofs.OnceDown.{nodes_wish}
-use Rattle.outcome_laws.proofs.OnceNobody.{asking_coordinators}
-use Rattle.outcome_laws.proofs.OnceNone.{uncounted_asking}
-use Rattle.outcome_laws.proofs.OnceParts.{IsTcOf}
-use Rattle.outcome_laws.proofs.OnceWished.{asks_wished}
-use Rattle.outcome_laws.proofs.TcLists.{count_more}
-use Rattle.outcome_laws.proofs.OnceLinks.{takes_few}
-use Rattle.outcome_laws.proofs.OnceLogs.{link_count, sends_in}
+use Rattle.outcome_laws.proofs.once.Begins.{asks_elsewhere, begin_once, no_tc_sends, nowhere_sends, only_asks, tc_begins}
+use Rattle.outcome_laws.proofs.once.DecidedOnce.{decides_asked}
+use Rattle.outcome_laws.proofs.downfall.NeverDecided.{nodes_wish}
+use Rattle.outcome_laws.proofs.once.NobodyElse.{asking_coordinators}
+use Rattle.outcome_laws.proofs.once.Counted.{uncounted_asking}
+use Rattle.outcome_laws.proofs.once.CoordinatorScale.{IsTcOf}
+use Rattle.outcome_laws.proofs.once.AsksAreWished.{asks_wished}
+use Rattle.outcome_laws.proofs.coordinators.Lists.{count_more}
+use Rattle.outcome_laws.proofs.once.TakenFromLinks.{takes_few}
+use Rattle.outcome_laws.proofs.once.AlongLogs.{link_count, sends_in}
 use Rattle.talk_laws.specs.Talks.{DecidedAsAskedAndTold, asked_of, told_of}
 use Rattle.talk_laws.proofs.Among.{AreAmong, among_all, among_in, among_length, among_same, among_trans}
 use Rattle.talk_laws.proofs.Links.{none_on, takes_among}
