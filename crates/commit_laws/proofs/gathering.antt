@@ -1,4 +1,5 @@
--- What a takeover is told while it gathers: each member is asked once and ends once, in front of the end it tells of each
+-- What a takeover is told while it gathers: each member is asked once and ends once, in front of the end it tells of
+-- each
 -- record and marker, and when the last has ended the takeover has noted all that it was told.
 -- By induction along moments, view by view, with counts of asks and ends. It stands on the orders, one for each view.
 pub mod All

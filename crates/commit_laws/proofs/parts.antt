@@ -1,5 +1,6 @@
 -- The parts of an operation that is under way tell how far it has come on each key, and other keys are settled.
--- By cases of what an event does to a key, for each moment. It stands on records, locks and on requests in request_laws.
+-- By cases of what an event does to a key, for each moment. It stands on records, locks and on requests in
+-- request_laws.
 pub mod Always
 pub mod Apart
 pub mod Aside

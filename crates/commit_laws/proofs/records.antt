@@ -1,4 +1,5 @@
--- Which records rows have of a transaction on a key, with which image, and at which members; who holds the lock of the key.
+-- Which records rows have of a transaction on a key, with which image, and at which members; who holds the lock of the
+-- key.
 -- By what a signal makes of one record, and by induction along moments.
 pub mod Agreed
 pub mod AgreedCuts

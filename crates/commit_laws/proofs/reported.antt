@@ -1,4 +1,5 @@
--- What the client's side reports is so: of a commit it is told, of an abort it is told or infers from a takeover that is
+-- What the client's side reports is so: of a commit it is told, of an abort it is told or infers from a takeover that
+-- is
 -- complete, which has told of each commit of which members know.
 -- By induction along moments, with what is on its way to the client's side. It stands on the fates and on links.
 pub mod Aborts

@@ -68,7 +68,8 @@ module _ (shape : Shape) (x : Signal) (now : Parts) (seen : View) where
 
 step_part : (h : ℕ) (s : node.Host) (x : Signal) → part_in (step_by h s x).state.parts ≡ part_in s.parts
 step_part h s x =
-    moves_part s.standing.shape x (step_by h s x).state.parts (step_by h s x).state.standing.view s.parts s.standing.view
+    moves_part s.standing.shape x (step_by h s x).state.parts (step_by h s x).state.standing.view s.parts
+    s.standing.view
     (step_moves x h s)
 
 next_part : (h : ℕ) (s : node.Host) (x : Signal) → part_in (told h (step_by h s x)).parts ≡ part_in s.parts

@@ -114,7 +114,8 @@ tc_host_is start (suc k) low = by (k % 3) refl
   where
     by : (left : ℕ) → k % 3 ≡ left → TcHost start (suc k)
     by zero e =
-        of_none (subst (λ (left : ℕ). HasNoTc (part_started start (part_by left) (member_at (made start) (suc k))).parts) (sym e) tt)
+        of_none (subst (λ (left : ℕ). HasNoTc (part_started start (part_by left)
+        (member_at (made start) (suc k))).parts) (sym e) tt)
     by (suc zero) e =
         let enough : 1 ≤ k / 3 + 1 = omega arith in
         let few : k / 3 + 1 ≤ start.shape.nodes = omega (arith, low) in
@@ -122,7 +123,8 @@ tc_host_is start (suc k) low = by (k % 3) refl
         let is = tc_number start (first_start (k / 3 + 1)) there in
         of_tc (first_start (k / 3 + 1)) there (omega (arith, e, is))
     by (suc (suc left)) e =
-        of_none (subst (λ (left : ℕ). HasNoTc (part_started start (part_by left) (member_at (made start) (suc k))).parts) (sym e) tt)
+        of_none (subst (λ (left : ℕ). HasNoTc (part_started start (part_by left)
+        (member_at (made start) (suc k))).parts) (sym e) tt)
 
 -- the part that runs its rows
 pub ldm_started : (start : Start) (me : Member) → IsIn me (made start)

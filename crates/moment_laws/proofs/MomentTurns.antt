@@ -1,4 +1,5 @@
--- At an event the current view stays and the host of the event stands in it, or stops; or the host enters a greater one.
+-- At an event the current view stays and the host of the event stands in it, or stops; or the host enters a greater
+-- one.
 use Rattle.std.proofs.Common.{◌≡◌, ◌≢◌, ◌≤◌, ◌<◌, ◌⊎◌, ℕ, Bool, true, false, List, ◌∷◌, refl, sym, ap, subst, ◌∙◌, inl, inr, arith}
 use Rattle.std.proofs.lemmas.Bool.{cases_eq, cases_lt}
 use Rattle.std.specs.Prelude.{if◌then◌else◌}
@@ -125,7 +126,8 @@ module _ (start : Start) (all : ℕ → List HostStep) (e : HostStep) (es : List
     own_current same =
         sym own_behind ∙ stands_in_current start all (e ∷ es) moment e.host host_low (own_number_is ∙ same)
 
-    pub old_current : current_number start behind ≡ current_number start before → current start behind ≡ current start before
+    pub old_current : current_number start behind ≡ current_number start before
+        → current start behind ≡ current start before
     old_current same =
         one_view have_orderly start all moment.cluster (current start behind) (current start before)
         (moment_installed start all (e ∷ es) moment)

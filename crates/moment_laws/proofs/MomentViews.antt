@@ -71,7 +71,8 @@ module _ (start : Start) where
     greatest_is : (n : ℕ) → IsSome n (greatest n)
     greatest_is zero = inl refl
     greatest_is (suc n) =
-        of_greater (IsSome (suc n)) (greatest n) (view_after start n (logs n)) (some_more n (greatest n) (greatest_is n))
+        of_greater (IsSome (suc n)) (greatest n) (view_after start n (logs n))
+        (some_more n (greatest n) (greatest_is n))
         (inr (record { host = n; below = omega arith; is = refl }))
 
     pub current_above : (h : ℕ) → h < hosts start → number_in logs h ≤ current_number logs

@@ -309,7 +309,8 @@ module _ (node : ℕ) (layout : Layout) (tx : TxId) (key : List ℕ) (replica : 
       enters = λ some.
           begins off refl
           (part_leads tx (is_abort_to tx key replica) (onward_none tx key replica) node
-          (phase_sends layout tx (Aborting why (abort.is_verifying u.phase) (abort.aborts_awaited layout u)) u.touched) 0
+          (phase_sends layout tx (Aborting why (abort.is_verifying u.phase) (abort.aborts_awaited layout u)) u.touched)
+          0
           home
           (any_aborted layout tx key replica there why (abort.is_verifying u.phase) (abort.aborts_awaited layout u)
           u.touched (ap (has_touched key) same ∙ touched off)))

@@ -234,19 +234,29 @@ module _ (tx : TxId) where
           ap (λ n. due_in tx n later) same,
         ))
     turned node layout t turn (enters going come_all less) sent was =
-        let rest : due_in tx (list_length layout t.phase t.touched) between ≡ 0 = omega (arith, was, come_all, out (list_length layout t.phase t.touched)) in
+        let rest : due_in tx (list_length layout t.phase t.touched) between ≡ 0 =
+        omega (arith, was, come_all, out (list_length layout t.phase t.touched)) in
         subst (λ b. IsAwaited layout tx later (if b then None else Some turn.step.state)) (sym going)
         (omega (
           arith,
           less,
-          none_in (list_length layout t.phase t.touched) (list_length layout turn.step.state.phase turn.step.state.touched) between rest,
+          none_in (list_length layout t.phase t.touched)
+              (list_length layout turn.step.state.phase turn.step.state.touched) between rest,
           into (list_length layout turn.step.state.phase turn.step.state.touched),
           ap (weighs tx (list_length layout turn.step.state.phase turn.step.state.touched)) sent,
         ))
     turned node layout t turn (ends over come_all none) sent was =
-        let rest : due_in tx (list_length layout t.phase t.touched) between ≡ 0 = omega (arith, was, come_all, out (list_length layout t.phase t.touched)) in
+        let rest : due_in tx (list_length layout t.phase t.touched) between ≡ 0 =
+        omega (arith, was, come_all, out (list_length layout t.phase t.touched)) in
         subst (λ b. IsAwaited layout tx later (if b then None else Some turn.step.state)) (sym over)
-        (omega (arith, none, none_in (list_length layout t.phase t.touched) 0 between rest, into 0, ap (weighs tx 0) sent))
+        (omega (
+          arith,
+          none,
+          none_in (list_length layout t.phase t.touched) 0 between rest,
+          into 0,
+          ap (weighs tx 0)
+              sent,
+        ))
 
     abbrev Before : Option Transaction → Type 0
     Before o = IsAwaited (first_layout start.shape) tx before o
@@ -317,7 +327,8 @@ module _ (tx : TxId) where
             own : e.host ≡ home start tx
             own =
                 own_home start es e come tx step.runs
-                (of_each (λ one t. IsOwn (tc_of g).node (tc_of g).next_seq one) tx (tc_of g).live u facts.own there).home
+                (of_each (λ one t. IsOwn (tc_of g).node (tc_of g).next_seq one) tx (tc_of g).live u facts.own
+                there).home
 
             same_layout : (tc_of g).layout ≡ first_layout start.shape
             same_layout = tc_layout start e.host (logs_of start es e.host) step.runs

@@ -349,7 +349,8 @@ module _ (start : Start) (tx : TxId) (key : List ℕ) (inside : 0 + 1 < length (
         by (Chain (Complete other own chain at)) is =
             completion other own chain at is (same_tx other tx) (same_key own key) refl refl
         by (Host (Continue (work.Transaction other) at)) is =
-            onward other at is (is_tc e.step.taken.to.block) (e.step.taken.to.node == tx.tc) (same_tx other tx) refl refl
+            onward other at is (is_tc e.step.taken.to.block) (e.step.taken.to.node == tx.tc) (same_tx other tx) refl
+            refl
             refl
         by _ is = refl
 
@@ -553,7 +554,8 @@ module _ (start : Start) (tx : TxId) (key : List ℕ) (inside : 0 + 1 < length (
           where
             number : tx.tc ≡ (tc_of g).node
             number =
-                (of_each (λ one t. IsOwn (tc_of g).node (tc_of g).next_seq one) tx (tc_of g).live u facts.own there).home
+                (of_each (λ one t. IsOwn (tc_of g).node (tc_of g).next_seq one) tx (tc_of g).live u facts.own
+                there).home
 
             own : e.host ≡ home start tx
             own = own_home start es e come tx step.runs number
@@ -623,7 +625,8 @@ completed_let_go start es xs key tx run still inside carried uncommitted =
             absurd (omega (
               arith,
               high,
-              replica_low start es xs run still own at (subst (λ (c : List Member). at < length c) routed.along routed.sent.inside) to
+              replica_low start es xs run still own at
+                  (subst (λ (c : List Member). at < length c) routed.along routed.sent.inside) to
                   (routed.sent.node_is ∙ ap (λ c. node_at c at) routed.along),
             ))
         at_place to (Host (Continue (work.Transaction other) at)) routed home high =

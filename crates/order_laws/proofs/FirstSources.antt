@@ -81,7 +81,8 @@ module _ (start : Start) where
   dih_plain _ e = refl
 
   its_home : (h : ℕ) (one : TxId) → h ≡ home start one → (body : Body) → is_its one body ≡ true → IsFromHome h body
-  its_home h one here (Chain (LqhKeyReq tx work chain at)) is = λ first. here ∙ ap (home start) (sym (same_tx-is tx one is))
+  its_home h one here (Chain (LqhKeyReq tx work chain at)) is =
+      λ first. here ∙ ap (home start) (sym (same_tx-is tx one is))
   its_home h one here _ is = tt
 
   -- what a coordinator sends

@@ -111,7 +111,8 @@ module _ (tx : TxId) (key : List ℕ) where
   expires_off (Some wait) = other_off wait.1 (expires wait.0) refl
 
   -- what is no part of an operation of it on the key is no request of it there
-  rows_off : (s : LqhState) (body : Body) → is_part_on tx key body ≡ false → is_asked_by tx (event_at key s body) ≡ false
+  rows_off : (s : LqhState) (body : Body) → is_part_on tx key body ≡ false
+      → is_asked_by tx (event_at key s body) ≡ false
   rows_off s (Chain (LqhKeyReq v what chain at)) off = by (same_key (work_key what) key) off
     where
       q : Request
@@ -340,7 +341,8 @@ module _ (tx : TxId) (key : List ℕ) where
             here : e.host ≡ home start tx
             here =
                 own_home start es e come tx step.runs
-                (of_each (λ one t. IsOwn (tc_of g).node (tc_of g).next_seq one) tx (tc_of g).live u facts.own there).home
+                (of_each (λ one t. IsOwn (tc_of g).node (tc_of g).next_seq one) tx (tc_of g).live u facts.own
+                there).home
 
             its_turn : Turn
             its_turn = turn_for (tc_of g).node (tc_of g).layout tx e.step.taken.body u

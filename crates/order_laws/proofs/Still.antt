@@ -144,8 +144,14 @@ module _ (start : Start) where
 
   pub still_at_quiet : (es : List HostStep) → IsRun start es → IsQuiet (machine start) (hosts start) (logs_of start es)
       → (xs : List Addressed) × IsStill start es xs
-  still_at_quiet es run quiet =
-      (has.xs, record { transit = has.transit; absent = go has.xs (λ i j low under. off i j low under) (links_along es has.xs run has.transit) })
+  still_at_quiet es run quiet = (
+    has.xs,
+    record {
+      transit = has.transit;
+      absent = go has.xs (λ i j low under. off i j low under)
+          (links_along es has.xs run has.transit);
+    },
+  )
     where
       has : HasTransit start es
       has = has_transit start es run

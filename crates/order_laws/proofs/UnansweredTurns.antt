@@ -198,7 +198,8 @@ module _ (tx : TxId) (key : List ℕ) where
       uncounted (Some asked) none = absurd (omega (arith, chains (key_of asked.op), none))
 
       -- the answer of the operation on its key
-      own_answer : (own : List ℕ) (asked : Asked) → IsAnswered t own asked → is_part_on tx key body ≡ (same_tx tx tx && same_key own key)
+      own_answer : (own : List ℕ) (asked : Asked) → IsAnswered t own asked
+          → is_part_on tx key body ≡ (same_tx tx tx && same_key own key)
           → one_if (is_on_key key t.asked) ≤ one_if (is_part_on tx key body)
       own_answer own asked on is =
           omega (
@@ -209,7 +210,8 @@ module _ (tx : TxId) (key : List ℕ) where
             ap (λ b. one_if (b && same_key own key)) (same_tx-self tx),
           )
 
-      row_answer : (own : List ℕ) → IsRowAnswer tx own body → is_part_on tx key body ≡ (same_tx tx tx && same_key own key)
+      row_answer : (own : List ℕ) → IsRowAnswer tx own body
+          → is_part_on tx key body ≡ (same_tx tx tx && same_key own key)
       row_answer own (by_conf answer is) = ap (is_part_on tx key) is
       row_answer own (by_ref why is) = ap (is_part_on tx key) is
 
@@ -230,7 +232,8 @@ module _ (tx : TxId) (key : List ℕ) where
             (plain_out (go_on_if node layout tx t at true).effects.sends
             (rest_of_kind is_plain layout tx plain_chains node t at (front_plain t.phase)));
         operates = λ op is can.
-            let opened = ready_is t.phase t.asked (and_parts (is_ready t.phase t.asked) (fits t.touched (key_of op)) can).0
+            let opened =
+            ready_is t.phase t.asked (and_parts (is_ready t.phase t.asked) (fits t.touched (key_of op)) can).0
             in
             asks refl opened.1 (omega (arith, ap (λ b. one_if (b && same_key (key_of op) key)) (same_tx-self tx)))
             (ap is_aborting opened.0) (refl, tt);
@@ -259,9 +262,11 @@ module _ (tx : TxId) (key : List ℕ) where
               (end_none _ (abort.is_verifying t.phase));
         };
         refuses = λ own why asked is on at. record {
-          enters = λ some. answered (own_answer own asked on (ap (is_part_on tx key) is)) (enters_none (asking t None) _);
+          enters =
+              λ some. answered (own_answer own asked on (ap (is_part_on tx key) is)) (enters_none (asking t None) _);
           ends = λ none.
-              answered (own_answer own asked on (ap (is_part_on tx key) is)) (end_none why (abort.is_verifying t.phase));
+              answered (own_answer own asked on (ap (is_part_on tx key) is))
+              (end_none why (abort.is_verifying t.phase));
         };
         aborted = λ own why verifying awaited is at more. same refl refl refl;
         aborted_all = λ own why verifying awaited is at last.

@@ -160,7 +160,8 @@ abbrev AsksToWrite : Event → Type 0
 AsksToWrite (asks q refused) = work_mode q.work ≡ Exclusive
 AsksToWrite event = Unit {0}
 
-writers_after : (event : Event) (r : Replica) → AsksToWrite event → AreWriters r.lock → AreWriters (key_after event r).lock
+writers_after : (event : Event) (r : Replica) → AsksToWrite event → AreWriters r.lock
+    → AreWriters (key_after event r).lock
 writers_after rests r fine was = was
 writers_after (asks q refused) r fine was =
     answered_write r q refused (asked r.lock q.tx (work_mode q.work)).lock
@@ -229,7 +230,8 @@ module _ (start : Start) (key : List ℕ) (at : ℕ) (inside : at + 1 < length (
           (writers_after (event_in key (after start h log) e.step.taken) (key_in key (after start h log))
           (owed_write (logs_of start es) (event_in key (after start h log) e.step.taken) behind
           (subst (λ k. IsOwed start (logs_of start es) key k
-          (event_in key (after start k (logs_of start es k)) e.step.taken)) here (events_owed start es e key come))) was)
+          (event_in key (after start k (logs_of start es k)) e.step.taken)) here (events_owed start es e key come)))
+          was)
 
 -- who holds a lock to write, and waits for it to write, has enough
 enough_held : (tx : TxId) (hs : List Holder) → Each (λ (h : Holder). h.mode ≡ Exclusive) hs → holds tx hs ≡ true

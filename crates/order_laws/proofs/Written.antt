@@ -143,7 +143,8 @@ module _ (node : ℕ) (layout : Layout) (tx : TxId) (u : Transaction) where
     stays = λ over is. still u is;
     goes_on = λ at over is. still u is;
     operates = λ op same can over is.
-        unless u Open (ready_is u.phase u.asked (and_parts (is_ready u.phase u.asked) (fits u.touched (key_of op)) can).0).0 refl is;
+        unless u Open (ready_is u.phase u.asked (and_parts (is_ready u.phase u.asked) (fits u.touched (key_of op))
+        can).0).0 refl is;
     answers = λ key answer asked same on at over is. unless u Open at refl is;
     late = λ key asked why verifying awaited on at over is. unless u (Aborting why verifying awaited) at refl is;
     waits = λ asked on over is. still u is;

@@ -182,7 +182,8 @@ module _ (tx : TxId) where
           (old : ClientLog log)
         where
           pays : Pays tx (opened_after start log) (length (asked_of start tx log)) (length (told_of start tx log))
-              (length (sent_of (wished_by tx) start 0 log)) (takes_in (is_begin tx) log) old.talked e.step.taken.body few
+              (length (sent_of (wished_by tx) start 0 log)) (takes_in (is_begin tx) log) old.talked e.step.taken.body
+              few
               (opened_after start (e ∷ log)) t.effects.sends replied
           pays =
               step_talks start e log
@@ -213,7 +214,8 @@ module _ (tx : TxId) where
               which answer that false = old.among
 
               by : (b : Body) → e.step.taken.body ≡ b
-                  → AreAmong ((if is_answered tx b then reverse (answers_among replied) else []) ++ told_of start tx log)
+                  → AreAmong ((if is_answered tx b then reverse (answers_among replied) else []) ++ told_of start tx
+                  log)
                   (cons_option (told_by tx b) (taken_of (told_by tx) log))
               by (Client (TcKeyConf one answer)) is = which answer (only one answer is) (same_tx one tx)
               by b is = old.among
@@ -226,7 +228,8 @@ module _ (tx : TxId) where
                   (IsPaid tx (count_sent (is_key tx) t.effects.sends + length (asked_of start tx log))
                   (news_of tx e.step.taken.body replied + length (told_of start tx log)))
                   (IsPaid tx (length (asked_of start tx (e ∷ log))) (length (told_of start tx (e ∷ log))))
-                  (opened_after start (e ∷ log)) (λ one paid has. omega (arith, paid has, asked_now, told_now)) pays.paid;
+                  (opened_after start (e ∷ log)) (λ one paid has. omega (arith, paid has, asked_now, told_now))
+                  pays.paid;
               open_few = omega (arith, open_below, old.talked.open_few);
               wish_few = omega (arith, unwished_below, wished_now, old.talked.wish_few);
               unbegun = λ none. omega (arith, asked_now, pays.unbegun none);

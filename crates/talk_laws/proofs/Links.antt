@@ -95,7 +95,8 @@ module _ {A : Type 0} (f : Body → Option A) where
       where
         by : (b : Bool) → AreAmong (on_link f (sent (machine start) i j log)) (sent_of f start i log)
             → AreAmong
-            (on_link f (put (machine start) j (if b then [] else signals_of start i log e) (sent (machine start) i j log)))
+            (on_link f (put (machine start) j (if b then [] else signals_of start i log e)
+            (sent (machine start) i j log)))
             (sent_of f start i (e ∷ log))
         by true old =
             picked_more (λ (one : Outgoing). f one.body) (step_after start i log e).effects.sends

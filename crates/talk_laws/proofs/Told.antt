@@ -1,4 +1,5 @@
--- Whoever is decided has the operations that its client asked for, and the answers that it was told: all, and no others.
+-- Whoever is decided has the operations that its client asked for, and the answers that it was told: all, and no
+-- others.
 use Rattle.std.proofs.Common.{◌≡◌, ◌≤◌, ◌<◌, ◌+◌, ◌⊎◌, ◌∙◌, ◌++◌, ℕ, zero, suc, Bool, true, false, List, [], ◌∷◌, length, map, reverse, ap, append-nil, arith, inl, inr, refl, subst, sym}
 use Rattle.std.proofs.lemmas.Bool.{cases_lt}
 use Rattle.std.specs.List.{count_by}
@@ -76,7 +77,14 @@ all_told asked took told heard gave ops paid one two three four five = (
   sym (among_all (newest_ops ops []) asked asks
       (omega (arith, paid, among_length told (newest ops []) tells, newest_length ops [], newest_ops_length ops []))),
   among_all told (newest ops []) tells
-      (omega (arith, paid, among_length (newest_ops ops []) asked asks, newest_length ops [], newest_ops_length ops [])),
+      (omega (
+        arith,
+        paid,
+        among_length (newest_ops ops []) asked asks,
+        newest_length ops [],
+        newest_ops_length ops
+            [],
+      )),
 )
   where
     tells : AreAmong told (newest ops [])
@@ -163,7 +171,8 @@ module _ (tx : TxId) where
     heard : AreAmong (taken_of (told_by tx) (logs 0)) (sent_of (told_by tx) start c (logs c))
     heard =
         takes_among (told_by tx) only_told start c logs are.right 0
-        (λ i other. link_none (told_by tx) (is_answered tx) unanswered i 0 (others_answer_none start logs are tx i other))
+        (λ i other. link_none (told_by tx) (is_answered tx) unanswered i 0
+        (others_answer_none start logs are tx i other))
 
     took : (h : ℕ) → AreAmong (taken_of (asked_by tx) (logs h)) (asked_of start tx (logs 0))
     took h =
@@ -219,7 +228,8 @@ module _ (tx : TxId) where
                 heard)
                 gives.answers_are gives.ops_are (took (tc_of start me))
             by (inr none) =
-                let bare = asks_wished tx start me made_is (logs (tc_of start me)) (are.right.local (tc_of start me)) none in
+                let bare =
+                asks_wished tx start me made_is (logs (tc_of start me)) (are.right.local (tc_of start me)) none in
                 let same = ap (λ (h : ℕ). sends_in (is_asking tx) start h (logs h)) at in
                 absurd (omega (arith, some, bare, same))
 
@@ -273,7 +283,12 @@ module _ (tx : TxId) where
           older_takes (is_asking tx) is.past.newer (is.step ∷ is.before),
           ap (takes_in (is_asking tx)) is.past.is,
           takes_few (is_asking tx) (only_asks tx start logs are) start c logs are.right h
-              (λ i other. omega (arith, asks_elsewhere tx start logs are i other, link_count (is_asking tx) start i h (logs i))),
+              (λ i other. omega (
+                arith,
+                asks_elsewhere tx start logs are i other,
+                link_count (is_asking tx) start i h
+                    (logs i),
+              )),
           link_count (is_asking tx) start c h (logs c),
         )))
 

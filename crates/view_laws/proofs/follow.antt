@@ -1,4 +1,5 @@
--- Hosts follow the events of their blocks: from the log of a host to the events of its membership, of its arbitrator and
+-- Hosts follow the events of their blocks: from the log of a host to the events of its membership, of its arbitrator
+-- and
 -- of the view that it stands in. The induction goes along a log; a step has few forms.
 pub mod HostKinds
 pub mod Hosts

@@ -117,7 +117,8 @@ module _ (own : EndsAreOwn) (start : Start) (all : ℕ → List HostStep) (e : H
 
         master_is : master_of start old me ≡ p.master
         master_is =
-            ap (λ h. master_in (fresh_master me (first_layout start.shape).view 0) (after start h (old h)).parts) (sym at)
+            ap (λ h. master_in (fresh_master me (first_layout start.shape).view 0) (after start h (old h)).parts)
+            (sym at)
             ∙ ap (master_in (fresh_master me (first_layout start.shape).view 0)) main_runs.is
 
         -- the master takes the signal in the view in which its host stood before
@@ -149,7 +150,8 @@ module _ (own : EndsAreOwn) (start : Start) (all : ℕ → List HostStep) (e : H
             view_old : view_after start e.host (old e.host) ≡ current start new
             view_old = sym view_same ∙ taken_here.stands
 
-            number_old : (view_after start (main_of start me) (old (main_of start me))).number ≡ current_number start new
+            number_old : (view_after start (main_of start me) (old (main_of start me))).number
+                ≡ current_number start new
             number_old = ap (λ h. (view_after start h (old h)).number) (sym at) ∙ ap (λ (v : View). v.number) view_old
 
             same_number : current_number start new ≡ current_number start old
@@ -211,8 +213,10 @@ module _ (own : EndsAreOwn) (start : Start) (all : ℕ → List HostStep) (e : H
             ended (last body have none) =
                 each_ended (with_one p.master.voices (voice_of x)) have
                 (each_append (λ (voice : Voice). HasEnded closes.run.epoch (epochs_of start old voice.member))
-                p.master.voices (voice_of x ∷ []) voices_heard
-                (report_true start all e es moment stand heard_all block.GcpMaster taken_here closes.run.epoch body, tt))
+                p.master.voices (voice_of x ∷ []) voices_heard (
+                  report_true start all e es moment stand heard_all block.GcpMaster taken_here closes.run.epoch body,
+                  tt,
+                ))
             ended (heard.over body have) = each_ended p.master.voices have voices_heard
 
             over_in : Heard p.master (voice_of x) x.body closes.run → IsOverIn start new me (current start new)

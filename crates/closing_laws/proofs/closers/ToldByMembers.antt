@@ -176,7 +176,8 @@ module _ (start : Start) (all : ℕ → List HostStep) (e : HostStep) (es : List
       runs : RunsTc start e.host (old e.host)
       runs =
           runs_tc start e.host _
-          (ap (λ h. (started start h).parts) at ∙ ap (λ (s : node.Host). s.parts) (tc_started start me there)) (old e.host)
+          (ap (λ h. (started start h).parts) at ∙ ap (λ (s : node.Host). s.parts) (tc_started start me there))
+          (old e.host)
 
       did : TcDoes start.shape runs.part (view_after start e.host (old e.host)) x
           (after start e.host (e ∷ old e.host)).parts stood sends
@@ -280,7 +281,8 @@ module _ (start : Start) (all : ℕ → List HostStep) (e : HostStep) (es : List
               one sent (inr among) =
                   let phase = (master_row reached.before x).state.phase in
                   says_end now phase sent.body
-                  (each_in (λ (sent : Outgoing). MaySay phase sent.body) sent (master_row reached.before x).effects.sends
+                  (each_in (λ (sent : Outgoing). MaySay phase sent.body) sent
+                  (master_row reached.before x).effects.sends
                   (master_says reached.before x) among)
 
       shell_ends : e.host ≡ 0 → AllEnd now sends
@@ -315,7 +317,8 @@ module _ (start : Start) (all : ℕ → List HostStep) (e : HostStep) (es : List
     sent_end_true y one =
         subst (λ (m : Member). TellsEnd (epochs_of start new m) y.signal.body) (sym one.member)
         (subst (TellsEnd (epochs_of start new (member_at (made start) e.host))) (sym one.body)
-        (each_in (λ (sent : Outgoing). TellsEnd (epochs_of start new (member_at (made start) e.host)) sent.body) one.sent
+        (each_in (λ (sent : Outgoing). TellsEnd (epochs_of start new (member_at (made start) e.host)) sent.body)
+        one.sent
         sends sent_ends one.there))
 
     new_ends : Each (IsEndTrue start new) (filter (is_sound start) (signals_of start e.host (old e.host) e))

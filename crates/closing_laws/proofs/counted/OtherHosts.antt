@@ -57,7 +57,8 @@ dih_counting s x = counting _ (dih_none s x)
 pub dih_installs_counting : (s : DihState) (number : ℕ) → AreCounting (epochs.install_row s number).effects.sends
 dih_installs_counting s number = counting _ (dih_installs_none s number)
 
-pub coordinator_installs_counting : (s : CoordinatorState) (view : View) → AreCounting (install_row s view).effects.sends
+pub coordinator_installs_counting : (s : CoordinatorState) (view : View)
+    → AreCounting (install_row s view).effects.sends
 unfolding install_row
 coordinator_installs_counting s view = by _ _
   where

@@ -51,7 +51,8 @@ module _ (start : Start) (logs : ℕ → List HostStep) where
   abbrev pub AllSaid : List Outgoing → Type 0
   AllSaid sends = Each (λ (sent : Outgoing). IsSaidTruly sent.body) sends
 
-  -- what a member has noted as closed was closed, and the member has come to it; as durable it has noted none before the
+  -- what a member has noted as closed was closed, and the member has come to it; as durable it has noted none before
+  -- the
   -- start
   pub record HasNoted (s : DihState) : Type 0 where
     pub noted : IsNoted start logs s.closed

@@ -1,4 +1,5 @@
--- A master owes no takeover in the first view, and later where it was told, in its view, that the takeover of its member is
+-- A master owes no takeover in the first view, and later where it was told, in its view, that the takeover of its
+-- member is
 -- over.
 use Rattle.std.proofs.Common.{◌≡◌, ◌≢◌, ◌≤◌, ◌⊎◌, ◌||◌, ◌==◌, ◌&&◌, ℕ, Bool, true, false, List, [], ◌∷◌, refl, sym, ap, subst, ◌∙◌, inl, inr, eq-eqb}
 use Rattle.std.proofs.lemmas.Bool.{cases_eq, true≢false}
@@ -123,7 +124,8 @@ module _ (own : EndsAreOwn) (start : Start) (all : ℕ → List HostStep) (e : H
         number_is = told.number_is;
       }
         where
-          by : (e.host ≡ h) ⊎ (e.host ≢ h) → IsIn told.signal (taken n (tc_of start member) (new (main_of start member)))
+          by : (e.host ≡ h) ⊎ (e.host ≢ h)
+              → IsIn told.signal (taken n (tc_of start member) (new (main_of start member)))
           by (inl at) =
               subst (λ log. IsIn told.signal (taken n (tc_of start member) log))
               (sym (subst (λ k. new k ≡ e ∷ old k) at (own_log start all e es moment)))
@@ -145,9 +147,11 @@ module _ (own : EndsAreOwn) (start : Start) (all : ℕ → List HostStep) (e : H
 
           is_true : IsOverTrue start (n.signal e)
           is_true =
-              taken_told start (IsOverTrue start) all e es moment (own start all es some (moment_less start all e es moment))
+              taken_told start (IsOverTrue start) all e es moment
+              (own start all es some (moment_less start all e es moment))
               taken_here.sound not_own
-              (λ closes. let differ : Takeover TakeoverEnd ≡ Host (Closed closes.cause) = sym ends ∙ closes.is in absurd cc)
+              (λ closes. let differ : Takeover TakeoverEnd ≡ Host (Closed closes.cause) = sym ends ∙ closes.is in
+              absurd cc)
 
           fenced : is_fenced x ≡ true
           unfolding is_fenced

@@ -60,13 +60,16 @@ use Rattle.command_laws.specs.Aborts.{ReadyAbortsAreAnswered}
 use Rattle.command_laws.specs.Served.{IsServedBetween, named_in, replies_since}
 
 -- an end that isn't wrong is an abort at the client's request
-pub ends_right : (tx : TxId) (body : Body) (end : Outcome) → outcome_in body ≡ Some (tx, end) → wrong_of tx body ≡ false → end ≡ outcome.Aborted cause.Request
+pub ends_right : (tx : TxId) (body : Body) (end : Outcome) → outcome_in body ≡ Some (tx, end) → wrong_of tx body ≡ false
+    → end ≡ outcome.Aborted cause.Request
 ends_right tx (Client (TcCommitConf one epoch)) end is right =
-    absurd (let same : same_tx one tx ≡ true = ap (λ (e : OutcomeOf). same_tx e.0 tx) (ending_is (one, outcome.Committed epoch) (tx, end) is) ∙ same_tx-self tx in
+    absurd (let same : same_tx one tx ≡ true = ap (λ (e : OutcomeOf). same_tx e.0 tx)
+    (ending_is (one, outcome.Committed epoch) (tx, end) is) ∙ same_tx-self tx in
     let off : false ≡ true = sym right ∙ same in cc)
 ends_right tx (Client (TcRollbackRep one why)) end is right =
     ap (λ (e : OutcomeOf). e.1) (sym (ending_is (one, outcome.Aborted why) (tx, end) is))
-    ∙ by why (requested (is_requested why) right (ap (λ (e : OutcomeOf). same_tx e.0 tx) (ending_is (one, outcome.Aborted why) (tx, end) is) ∙ same_tx-self tx))
+    ∙ by why (requested (is_requested why) right (ap (λ (e : OutcomeOf). same_tx e.0 tx)
+    (ending_is (one, outcome.Aborted why) (tx, end) is) ∙ same_tx-self tx))
   where
     requested : (b : Bool) → (if b then false else same_tx one tx) ≡ false → same_tx one tx ≡ true → b ≡ true
     requested true off same = refl
@@ -78,18 +81,23 @@ ends_right tx (Client (TcRollbackRep one why)) end is right =
 ends_right tx _ end is right = cc
 
 -- an operation or a commit that is asked for counts as one or the other
-more_less : (tx : TxId) (to : Place) (body : Body) → one_if (is_more_to tx to body) ≤ one_if (is_wish_to tx to body) + one_if (is_push_to tx to body)
+more_less : (tx : TxId) (to : Place) (body : Body)
+    → one_if (is_more_to tx to body) ≤ one_if (is_wish_to tx to body) + one_if (is_push_to tx to body)
 more_less tx to (Client (TcKeyReq one op)) = omega arith
 more_less tx to (Client (TcCommitReq one)) = omega arith
 more_less tx to _ = omega (arith, ap one_if (and_off (is_tc to.block) refl))
 
-fewer_sent : (tx : TxId) (sends : List Outgoing) → sends_of (is_more_to tx) sends ≤ sends_of (is_wish_to tx) sends + sends_of (is_push_to tx) sends
+fewer_sent : (tx : TxId) (sends : List Outgoing)
+    → sends_of (is_more_to tx) sends ≤ sends_of (is_wish_to tx) sends + sends_of (is_push_to tx) sends
 fewer_sent tx [] = omega arith
 fewer_sent tx (o ∷ sends) = omega (arith, fewer_sent tx sends, more_less tx o.to o.body)
 
-fewer_since : (start : Start) (tx : TxId) (h : ℕ) (newer log : List HostStep) → sent_since start (is_more_to tx) h newer log ≤ sent_since start (is_wish_to tx) h newer log + sent_since start (is_push_to tx) h newer log
+fewer_since : (start : Start) (tx : TxId) (h : ℕ) (newer log : List HostStep)
+    → sent_since start (is_more_to tx) h newer log
+    ≤ sent_since start (is_wish_to tx) h newer log + sent_since start (is_push_to tx) h newer log
 fewer_since start tx h [] log = omega arith
-fewer_since start tx h (e ∷ newer) log = omega (arith, fewer_since start tx h newer log, fewer_sent tx (step_after start h (newer ++ log) e).effects.sends)
+fewer_since start tx h (e ∷ newer) log =
+    omega (arith, fewer_since start tx h newer log, fewer_sent tx (step_after start h (newer ++ log) e).effects.sends)
 
 more_request : (tx : TxId) (to : Place) (body : Body) → is_request body ≡ true → is_more_to tx to body ≡ false
 more_request tx to body is = and_off (is_tc to.block) (plain body is)
@@ -112,11 +120,13 @@ was_rolled : (tx : TxId) (newer : List HostStep) → 1 ≤ steps (is_roll_to tx)
 was_rolled tx [] some = absurd (omega (arith, some))
 was_rolled tx (e ∷ newer) some = by (is_roll_to tx e.step.taken.to e.step.taken.body) refl (was_rolled tx newer)
   where
-    by : (b : Bool) → is_roll_to tx e.step.taken.to e.step.taken.body ≡ b → (1 ≤ steps (is_roll_to tx) newer → rolled tx newer ≡ true) → (if b then true else rolled tx newer) ≡ true
+    by : (b : Bool) → is_roll_to tx e.step.taken.to e.step.taken.body ≡ b
+        → (1 ≤ steps (is_roll_to tx) newer → rolled tx newer ≡ true) → (if b then true else rolled tx newer) ≡ true
     by true is rest = refl
     by false is rest = rest (omega (arith, some, ap one_if is))
 
-module _ (answered : EachIsAnswered) (start : Start) (was now : ℕ → List HostStep) (name : ℕ) (t : OpenTransaction) (tx : TxId) (served : IsServedBetween start was now (Abort name))
+module _ (answered : EachIsAnswered) (start : Start) (was now : ℕ → List HostStep) (name : ℕ) (t : OpenTransaction)
+    (tx : TxId) (served : IsServedBetween start was now (Abort name))
     (named : named_in (opened_after start was) name ≡ Some t) (ready : t.doing ≡ Ready) (own : t.tx ≡ Some tx) where
   f : IsFirst start was now (Abort name)
   f = request_first start was now (Abort name) served
@@ -158,20 +168,26 @@ module _ (answered : EachIsAnswered) (start : Start) (was now : ℕ → List Hos
 
   none_more : (h : ℕ) → Each (λ (e : HostStep). is_more_to tx e.step.taken.to e.step.taken.body ≡ false) (cut h).newer
   none_more h =
-      each_map (λ (e : HostStep). is_request e.step.taken.body ≡ false → is_more_to tx e.step.taken.to e.step.taken.body ≡ false) (λ (e : HostStep). is_more_to tx e.step.taken.to e.step.taken.body ≡ false) (cut h).newer
-      (none_at (is_more_to tx) (more_request tx)) (none_taken start was now served.before served.since cut (is_more_to tx) (λ i low. no_more i) h)
+      each_map (λ (e : HostStep). is_request e.step.taken.body ≡ false → is_more_to tx e.step.taken.to e.step.taken.body
+      ≡ false) (λ (e : HostStep). is_more_to tx e.step.taken.to e.step.taken.body ≡ false) (cut h).newer
+      (none_at (is_more_to tx) (more_request tx))
+      (none_taken start was now served.before served.since cut (is_more_to tx) (λ i low. no_more i) h)
 
   run : (h : ℕ) → h < hosts start → (sent_since start (is_wrong tx) h (cut h).newer (was h) ≡ 0)
       × (home start tx ≡ h → OnTc (IsLooseNow tx (rolled tx (cut h).newer)) (after start h ((cut h).newer ++ was h)))
   run h low = host_run tx start h low (cut h).newer (was h) (none_more h) (loose_was h)
 
-  none_wrong : Each (λ (e : HostStep). is_request e.step.taken.body ≡ false → is_wrong tx e.step.taken.to e.step.taken.body ≡ false) (f.later ++ f.first ∷ [])
+  none_wrong : Each (λ (e : HostStep). is_request e.step.taken.body ≡ false → is_wrong tx e.step.taken.to
+      e.step.taken.body ≡ false) (f.later ++ f.first ∷ [])
   none_wrong = none_taken start was now served.before served.since cut (is_wrong tx) (λ i low. (run i low).0) 0
 
-  ended_right : HasEnded tx (Some name) start f.later (f.first ∷ was 0) → IsIn (Ended (Some name) (outcome.Aborted cause.Request)) (replies_since start was now)
+  ended_right : HasEnded tx (Some name) start f.later (f.first ∷ was 0)
+      → IsIn (Ended (Some name) (outcome.Aborted cause.Request)) (replies_since start was now)
   ended_right ended =
-      replied start was now (Abort name) served f ended.newer ended.step ended.older (Ended (Some name) (outcome.Aborted cause.Request)) ended.is
-      (ended.ending.told ∙ ap (λ end. replies_of (after start 0 (ended.older ++ f.first ∷ was 0)) ++ Ended (Some name) end ∷ []) (ends_right tx ended.step.step.taken.body ended.ending.outcome ended.ending.about right))
+      replied start was now (Abort name) served f ended.newer ended.step ended.older
+      (Ended (Some name) (outcome.Aborted cause.Request)) ended.is
+      (ended.ending.told ∙ ap (λ end. replies_of (after start 0 (ended.older ++ f.first ∷ was 0)) ++ Ended (Some name)
+      end ∷ []) (ends_right tx ended.step.step.taken.body ended.ending.outcome ended.ending.about right))
     where
       right : wrong_of tx ended.step.step.taken.body ≡ false
       right = fails_at_end tx (Some name) start f.later (f.first ∷ was 0) f.first (is_wrong tx) ended f.plain none_wrong
@@ -204,16 +220,20 @@ module _ (answered : EachIsAnswered) (start : Start) (was now : ℕ → List Hos
       cc
 
   still_ready : HasOne tx (Some name) Ready (opened_after start now) → ⊥
-  still_ready has = closed (opens start now tx has.item.doing has.item.tx has.does has.own (answered start now has.item served.since has.inside))
+  still_ready has = closed (opens start now tx has.item.doing has.item.tx has.does has.own
+      (answered start now has.item served.since has.inside))
 
   abort_told : IsIn (Ended (Some name) (outcome.Aborted cause.Request)) (replies_since start was now)
   abort_told = by (entry_goes tx (Some name) Ready refl (λ e. cc) start f.later (f.first ∷ was 0) f.plain asked.has)
     where
-      by : HasOne tx (Some name) Ready (opened_in (after start 0 (f.later ++ f.first ∷ was 0))) ⊎ HasEnded tx (Some name) start f.later (f.first ∷ was 0)
+      by : HasOne tx (Some name) Ready (opened_in (after start 0 (f.later ++ f.first ∷ was 0)))
+          ⊎ HasEnded tx (Some name) start f.later (f.first ∷ was 0)
           → IsIn (Ended (Some name) (outcome.Aborted cause.Request)) (replies_since start was now)
-      by (inl has) = absurd (still_ready (subst (λ log. HasOne tx (Some name) Ready (opened_in (after start 0 log))) (sym f.is) has))
+      by (inl has) = absurd (still_ready (subst (λ log. HasOne tx (Some name) Ready (opened_in (after start 0 log)))
+          (sym f.is) has))
       by (inr ended) = ended_right ended
 
 -- so it is where each command is answered
 pub aborts_answered : EachIsAnswered → ReadyAbortsAreAnswered
-aborts_answered answered start was now name t tx served named ready own = abort_told answered start was now name t tx served named ready own
+aborts_answered answered start was now name t tx served named ready own =
+    abort_told answered start was now name t tx served named ready own

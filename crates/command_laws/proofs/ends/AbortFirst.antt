@@ -1,4 +1,5 @@
--- The request of an abort: the wish for it goes to the transaction's coordinator, and all that was asked for stays as it is.
+-- The request of an abort: the wish for it goes to the transaction's coordinator, and all that was asked for stays as
+-- it is.
 use Rattle.std.proofs.Common.{◌≡◌, ◌≤◌, ◌+◌, ℕ, Bool, true, false, sym, ap, ◌∙◌, subst, arith}
 use Rattle.std.specs.Prelude.{◌==◌, ◌&&◌, None, Some}
 use Rattle.run_theory.specs.Lists.{IsIn}
@@ -30,7 +31,8 @@ use Rattle.command_laws.proofs.operations.Asks.{AreNamed}
 use Rattle.command_laws.specs.Served.{named_in}
 
 -- the row where the name is found
-pub abort_found : (s : ApiState) (name : ℕ) (t : OpenTransaction) (tx : TxId) → t.tx ≡ Some tx → (f : IsNamed s.opened name t)
+pub abort_found : (s : ApiState) (name : ℕ) (t : OpenTransaction) (tx : TxId) → t.tx ≡ Some tx
+    → (f : IsNamed s.opened name t)
     → abort_row s name ≡ sending (about s None) (coordinator_of tx) (Client (TcRollbackReq tx))
 unfolding abort_row
 abort_found s name t tx own f =
@@ -50,13 +52,15 @@ pub record IsAbortAsked (start : Start) (tx : TxId) (name : ℕ) (step : Step Ap
   pub more : sends_of (is_more_to tx) step.effects.sends ≡ 0
   pub rolls : 1 ≤ sends_of (to_host start (home start tx) (is_roll_to tx)) step.effects.sends
 
-pub abort_first : (start : Start) (s : ApiState) (name : ℕ) (t : OpenTransaction) (tx : TxId) → named_in s.opened name ≡ Some t → t.doing ≡ Ready → t.tx ≡ Some tx → AreNamed tx s.opened
+pub abort_first : (start : Start) (s : ApiState) (name : ℕ) (t : OpenTransaction) (tx : TxId)
+    → named_in s.opened name ≡ Some t → t.doing ≡ Ready → t.tx ≡ Some tx → AreNamed tx s.opened
     → IsAbortAsked start tx name (request_row s (request.Abort name))
 unfolding request_row
 abort_first start s name t tx is ready own were = record {
   has = record {
     item = t;
-    inside = subst (IsIn t) (sym opened) (subst (λ x. IsIn x s.opened) f.item (subst (IsIn f.focus.item) (sym f.focus.is) (in_middle f.focus.front f.focus.item f.focus.back)));
+    inside = subst (IsIn t) (sym opened) (subst (λ x. IsIn x s.opened) f.item
+        (subst (IsIn f.focus.item) (sym f.focus.is) (in_middle f.focus.front f.focus.item f.focus.back)));
     own = own;
     called = f.called;
     does = ready;

@@ -137,8 +137,12 @@ module _ (tx : TxId) where
         → of_live tx step.state.live ≡ left_of_turn (turn_row s body t) → s.next_seq ≤ step.state.next_seq
         → LooseStep Home then_c step.state step.effects.sends
     at_turn t same live sends left more = record {
-      silent = ap (sends_of (is_wrong tx)) sends ∙ none_of is_mild (is_wrong tx) mild_right (turn_row s body t).step.effects.sends q.sends;
-      loose = λ at. record { loose = subst (LooseOption then_c) (sym left) (by (turn_row s body t).over refl); early = omega (arith, old.early, more) };
+      silent = ap (sends_of (is_wrong tx)) sends
+          ∙ none_of is_mild (is_wrong tx) mild_right (turn_row s body t).step.effects.sends q.sends;
+      loose = λ at. record {
+        loose = subst (LooseOption then_c) (sym left) (by (turn_row s body t).over refl);
+        early = omega (arith, old.early, more);
+      };
     }
       where
         old : IsLooseNow tx c s
@@ -162,7 +166,10 @@ module _ (tx : TxId) where
         → LooseStep Home then_c step.state step.effects.sends
     at_none missing same none more = record {
       silent = none_wrong step.effects.sends none;
-      loose = λ at. record { loose = subst (LooseOption then_c) (sym (same ∙ missing)) tt; early = omega (arith, (was at).early, more) };
+      loose = λ at. record {
+        loose = subst (LooseOption then_c) (sym (same ∙ missing)) tt;
+        early = omega (arith, (was at).early, more);
+      };
     }
 
     loose_goes : TcGoes tx s body step → LooseStep Home then_c step.state step.effects.sends
@@ -177,7 +184,11 @@ module _ (tx : TxId) where
         by false off = record {
           silent = none_wrong step.effects.sends none;
           loose = λ at. let old = was at in
-              record { loose = subst (λ b. LooseOption (if b then true else c) (of_live tx step.state.live)) (sym off) (subst (LooseOption c) (sym same) old.loose); early = omega (arith, old.early, more) };
+              record {
+                loose = subst (λ b. LooseOption (if b then true else c) (of_live tx step.state.live)) (sym off)
+                    (subst (LooseOption c) (sym same) old.loose);
+                early = omega (arith, old.early, more);
+              };
         }
         by true on = at_none (absent (roll_turn body on) (roll_in body on)) same none more
 
@@ -228,7 +239,8 @@ module _ (tx : TxId) where
     pub host_run : (newer log : List HostStep)
         → Each (λ (e : HostStep). is_more_to tx e.step.taken.to e.step.taken.body ≡ false) newer
         → (home start tx ≡ h → OnTc (IsLooseNow tx false) (after start h log))
-        → (sent_since start (is_wrong tx) h newer log ≡ 0) × (home start tx ≡ h → OnTc (IsLooseNow tx (rolled newer)) (after start h (newer ++ log)))
+        → (sent_since start (is_wrong tx) h newer log ≡ 0)
+        × (home start tx ≡ h → OnTc (IsLooseNow tx (rolled newer)) (after start h (newer ++ log)))
     host_run newer log plain was = let r = run newer plain in (r.silent, r.loose)
       where
         run : (some : List HostStep)

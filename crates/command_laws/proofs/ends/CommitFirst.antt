@@ -22,14 +22,19 @@ use Rattle.command_laws.proofs.hosts.Entries.{HasOne, IsNamed, NoneBegins, named
 use Rattle.command_laws.proofs.ends.FirmHosts.{is_push_to}
 use Rattle.command_laws.specs.Served.{named_in}
 
-module _ (s : ApiState) (name : ℕ) (t : OpenTransaction) (tx : TxId) (ready : t.doing ≡ Ready) (own : t.tx ≡ Some tx) where
-  -- the row where the name is found
-  pub commit_found : (f : IsNamed s.opened name t) → commit_row s name ≡ sending (about (changing s f.at (committing t)) (Some f.at)) (coordinator_of tx) (Client (TcCommitReq tx))
-  unfolding commit_row
-  commit_found f =
-      ap (where_at s.opened (refused s (Some name) NotOpen) (λ at (u : OpenTransaction). commit_by s name at u u.doing u.tx)) f.place
-      ∙ ap (if_there (refused s (Some name) NotOpen) (λ (u : OpenTransaction). commit_by s name f.at u u.doing u.tx)) f.get
-      ∙ ap (λ (d : Doing). commit_by s name f.at t d t.tx) ready ∙ ap (commit_by s name f.at t Ready) own
+module _ (s : ApiState) (name : ℕ) (t : OpenTransaction) (tx : TxId) (ready : t.doing ≡ Ready) (own : t.tx ≡ Some tx)
+  where
+    -- the row where the name is found
+    pub commit_found : (f : IsNamed s.opened name t)
+        → commit_row s name ≡ sending (about (changing s f.at (committing t)) (Some f.at)) (coordinator_of tx)
+        (Client (TcCommitReq tx))
+    unfolding commit_row
+    commit_found f =
+        ap (where_at s.opened (refused s (Some name) NotOpen) (λ at (u : OpenTransaction). commit_by s name at u u.doing
+        u.tx)) f.place
+        ∙ ap (if_there (refused s (Some name) NotOpen) (λ (u : OpenTransaction). commit_by s name f.at u u.doing u.tx))
+        f.get
+        ∙ ap (λ (d : Doing). commit_by s name f.at t d t.tx) ready ∙ ap (commit_by s name f.at t Ready) own
 
 -- after it the transaction is committing, none begins, and nothing else is asked for
 pub record IsAsked (tx : TxId) (name : ℕ) (step : Step ApiState) : Type 0 where
@@ -37,7 +42,8 @@ pub record IsAsked (tx : TxId) (name : ℕ) (step : Step ApiState) : Type 0 wher
   pub calm : NoneBegins step.state.opened
   pub pushes : sends_of (is_push_to tx) step.effects.sends ≡ 0
 
-pub commit_first : (s : ApiState) (name : ℕ) (t : OpenTransaction) (tx : TxId) → named_in s.opened name ≡ Some t → t.doing ≡ Ready → t.tx ≡ Some tx → NoneBegins s.opened
+pub commit_first : (s : ApiState) (name : ℕ) (t : OpenTransaction) (tx : TxId) → named_in s.opened name ≡ Some t
+    → t.doing ≡ Ready → t.tx ≡ Some tx → NoneBegins s.opened
     → IsAsked tx name (request_row s (request.Commit name))
 unfolding request_row
 commit_first s name t tx is ready own calm = record {
@@ -49,12 +55,15 @@ commit_first s name t tx is ready own calm = record {
     does = refl;
   };
   calm = subst NoneBegins (sym opened)
-      (each_changed (λ (u : OpenTransaction). is_beginning u.doing ≡ false) f.focus.front f.focus.item (committing t) f.focus.back s.opened f.focus.is calm (λ before. refl));
-  pushes = ap (λ (step : Step ApiState). sends_of (is_push_to tx) step.effects.sends) (commit_found s name t tx ready own f);
+      (each_changed (λ (u : OpenTransaction). is_beginning u.doing ≡ false) f.focus.front f.focus.item (committing t)
+      f.focus.back s.opened f.focus.is calm (λ before. refl));
+  pushes = ap (λ (step : Step ApiState). sends_of (is_push_to tx) step.effects.sends)
+      (commit_found s name t tx ready own f);
 }
   where
     f : IsNamed s.opened name t
     f = named_found s.opened name t is
 
     opened : (commit_row s name).state.opened ≡ f.focus.front ++ committing t ∷ f.focus.back
-    opened = ap (λ (step : Step ApiState). step.state.opened) (commit_found s name t tx ready own f) ∙ f.focus.set (committing t)
+    opened = ap (λ (step : Step ApiState). step.state.opened) (commit_found s name t tx ready own f)
+        ∙ f.focus.set (committing t)

@@ -278,7 +278,8 @@ module _ (name : ℕ) where
         subst (λ (step : Step ApiState). Stays base step.state.opened step.state.replies)
         (sym (commit_found s name t tx ready own n))
         (changed base s.opened _ s.replies s.replies
-        (record { t = n.focus.item; front = n.focus.front; back = n.focus.back; is = n.focus.is }) (committing t) stays_was
+        (record { t = n.focus.item; front = n.focus.front; back = n.focus.back; is = n.focus.is }) (committing t)
+        stays_was
         (n.focus.set (committing t)) (ap (λ (x : OpenTransaction). x.name) (sym n.item)) (λ kept on. refl) refl)
 
     module _ (asked : ApiReq) (served : IsServedBetween start was now asked)

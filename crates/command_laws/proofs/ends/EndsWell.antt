@@ -48,15 +48,18 @@ request_plain_wish tx to body is = and_off (is_tc to.block) (plain body is)
     plain _ r = refl
 
 -- an end that isn't bad is an abort for want of room or of time
-ends_well : (tx : TxId) (body : Body) (end : Outcome) → outcome_in body ≡ Some (tx, end) → is_good tx body ≡ true → (cause : AbortCause) × ((end ≡ outcome.Aborted cause) × (is_refusal cause ≡ true))
+ends_well : (tx : TxId) (body : Body) (end : Outcome) → outcome_in body ≡ Some (tx, end) → is_good tx body ≡ true
+    → (cause : AbortCause) × ((end ≡ outcome.Aborted cause) × (is_refusal cause ≡ true))
 ends_well tx (Client (TcCommitConf one epoch)) end is good =
-    absurd (let same : same_tx one tx ≡ true = ap (λ (e : OutcomeOf). same_tx e.0 tx) (ending_is (one, outcome.Committed epoch) (tx, end) is) ∙ same_tx-self tx in
+    absurd (let same : same_tx one tx ≡ true = ap (λ (e : OutcomeOf). same_tx e.0 tx)
+    (ending_is (one, outcome.Committed epoch) (tx, end) is) ∙ same_tx-self tx in
     let off : false ≡ true = sym (ap not same) ∙ good in cc)
 ends_well tx (Client (TcRollbackRep one cause)) end is good = (
   cause,
   (
     ap (λ (e : OutcomeOf). e.1) (sym (ending_is (one, outcome.Aborted cause) (tx, end) is)),
-    by (is_refusal cause) good (ap (λ (e : OutcomeOf). same_tx e.0 tx) (ending_is (one, outcome.Aborted cause) (tx, end) is) ∙ same_tx-self tx),
+    by (is_refusal cause) good (ap (λ (e : OutcomeOf). same_tx e.0 tx)
+        (ending_is (one, outcome.Aborted cause) (tx, end) is) ∙ same_tx-self tx),
   ),
 )
   where
@@ -75,21 +78,27 @@ pub record EndsWell (start : Start) (was now : ℕ → List HostStep) (name : Op
   pub told : IsIn (Ended name (outcome.Aborted cause)) (replies_since start was now)
   pub refusal : is_refusal cause ≡ true
 
-module _ (start : Start) (was now : ℕ → List HostStep) (asked : ApiReq) (served : IsServedBetween start was now asked) (f : IsFirst start was now asked) where
+module _ (start : Start) (was now : ℕ → List HostStep) (asked : ApiReq) (served : IsServedBetween start was now asked)
+    (f : IsFirst start was now asked) where
   abbrev cut : IsCut was now
   cut = cut_at_first was now f.later f.first f.is served.cut
 
   past_of : (older : List HostStep) → IsPast (was 0) (older ++ f.first ∷ was 0)
   past_of older = record { newer = older ++ f.first ∷ []; is = sym (append_assoc older (f.first ∷ []) (was 0)) }
 
-  now_of : (newer : List HostStep) (step : HostStep) (older : List HostStep) → f.later ≡ newer ++ step ∷ older → now 0 ≡ newer ++ step ∷ (older ++ f.first ∷ was 0)
-  now_of newer step older is = f.is ∙ ap (λ w. w ++ f.first ∷ was 0) is ∙ append_assoc newer (step ∷ older) (f.first ∷ was 0)
+  now_of : (newer : List HostStep) (step : HostStep) (older : List HostStep) → f.later ≡ newer ++ step ∷ older
+      → now 0 ≡ newer ++ step ∷ (older ++ f.first ∷ was 0)
+  now_of newer step older is =
+      f.is ∙ ap (λ w. w ++ f.first ∷ was 0) is ∙ append_assoc newer (step ∷ older) (f.first ∷ was 0)
 
   -- what a step replies is among the replies since then
-  pub replied : (newer : List HostStep) (step : HostStep) (older : List HostStep) (reply : ApiReply) → f.later ≡ newer ++ step ∷ older
-      → replies_of (after start 0 (step ∷ (older ++ f.first ∷ was 0))) ≡ replies_of (after start 0 (older ++ f.first ∷ was 0)) ++ reply ∷ [] → IsIn reply (replies_since start was now)
+  pub replied : (newer : List HostStep) (step : HostStep) (older : List HostStep) (reply : ApiReply)
+      → f.later ≡ newer ++ step ∷ older
+      → replies_of (after start 0 (step ∷ (older ++ f.first ∷ was 0)))
+      ≡ replies_of (after start 0 (older ++ f.first ∷ was 0)) ++ reply ∷ [] → IsIn reply (replies_since start was now)
   replied newer step older reply is told =
-      subst (λ w. IsIn reply (drop (length (replies_of (after start 0 (was 0)))) (replies_of (after start 0 w)))) (sym (now_of newer step older is))
+      subst (λ w. IsIn reply (drop (length (replies_of (after start 0 (was 0)))) (replies_of (after start 0 w))))
+      (sym (now_of newer step older is))
       (told_since start (was 0) (older ++ f.first ∷ was 0) newer step reply (past_of older) told)
 
   module _ (tx : TxId) (wishes : sent_since start (is_wish_to tx) 0 (f.later ++ f.first ∷ []) (was 0) ≡ 0)
@@ -99,13 +108,19 @@ module _ (start : Start) (was now : ℕ → List HostStep) (asked : ApiReq) (ser
     no_wishes zero = wishes
     no_wishes (suc h) = node_since start (is_wish_to tx) (no_wish_node tx) h (cut (suc h)).newer (was (suc h))
 
-    none_wished : (h : ℕ) → Each (λ (e : HostStep). is_wish_to tx e.step.taken.to e.step.taken.body ≡ false) (cut h).newer
+    none_wished : (h : ℕ)
+        → Each (λ (e : HostStep). is_wish_to tx e.step.taken.to e.step.taken.body ≡ false) (cut h).newer
     none_wished h =
-        each_map (λ (e : HostStep). is_request e.step.taken.body ≡ false → is_wish_to tx e.step.taken.to e.step.taken.body ≡ false) (λ (e : HostStep). is_wish_to tx e.step.taken.to e.step.taken.body ≡ false) (cut h).newer
-        (none_at (is_wish_to tx) (request_plain_wish tx)) (none_taken start was now served.before served.since cut (is_wish_to tx) (λ i low. no_wishes i) h)
+        each_map (λ (e : HostStep). is_request e.step.taken.body ≡ false → is_wish_to tx e.step.taken.to
+        e.step.taken.body ≡ false) (λ (e : HostStep). is_wish_to tx e.step.taken.to e.step.taken.body ≡ false)
+        (cut h).newer
+        (none_at (is_wish_to tx) (request_plain_wish tx))
+        (none_taken start was now served.before served.since cut (is_wish_to tx) (λ i low. no_wishes i) h)
 
-    none_bad : Each (λ (e : HostStep). is_request e.step.taken.body ≡ false → is_bad tx e.step.taken.to e.step.taken.body ≡ false) (f.later ++ f.first ∷ [])
-    none_bad = none_taken start was now served.before served.since cut (is_bad tx) (λ i low. no_bad start was now served.before served.since cut tx none_wished open_was i) 0
+    none_bad : Each (λ (e : HostStep). is_request e.step.taken.body ≡ false → is_bad tx e.step.taken.to
+        e.step.taken.body ≡ false) (f.later ++ f.first ∷ [])
+    none_bad = none_taken start was now served.before served.since cut (is_bad tx)
+        (λ i low. no_bad start was now served.before served.since cut tx none_wished open_was i) 0
 
     pub ended_well : (name : Option ℕ) → HasEnded tx name start f.later (f.first ∷ was 0) → EndsWell start was now name
     ended_well name ended =
@@ -113,7 +128,8 @@ module _ (start : Start) (was now : ℕ → List HostStep) (asked : ApiReq) (ser
         record {
           cause = w.0;
           told = replied ended.newer ended.step ended.older (Ended name (outcome.Aborted w.0)) ended.is
-              (ended.ending.told ∙ ap (λ end. replies_of (after start 0 (ended.older ++ f.first ∷ was 0)) ++ Ended name end ∷ []) w.1.0);
+              (ended.ending.told ∙ ap (λ end. replies_of (after start 0 (ended.older ++ f.first ∷ was 0)) ++ Ended name
+              end ∷ []) w.1.0);
           refusal = w.1.1;
         }
       where

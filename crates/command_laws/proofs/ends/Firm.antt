@@ -41,7 +41,13 @@ is_push _ = false
 
 pub has_chains : (tx : TxId) → HasChains tx is_no_abort
 has_chains tx =
-    record { commits = λ key epoch chain at. refl; completes = λ key chain at. refl; aborts = λ key. refl; goes_on = λ at. refl }
+    record {
+      commits =
+          λ key epoch chain at. refl;
+      completes = λ key chain at. refl;
+      aborts = λ key. refl;
+      goes_on = λ at. refl;
+    }
 
 pub fronts : (tx : TxId) (phase : Phase) → are_of is_no_abort (front_sends tx phase) ≡ true
 unfolding front_sends
@@ -59,13 +65,17 @@ pub record StaysFirm (turn : Turn) : Type 0 where
 module _ (node : ℕ) (layout : Layout) (tx : TxId) (t : Transaction) (firm : is_firm t.phase t.asked ≡ true) where
   enters : (phase : Phase) → is_firm phase t.asked ≡ true → StaysFirm (going (entering node layout tx t phase))
   unfolding entering
-  enters phase is = record { firm = is; sends = entering_of_kind is_no_abort layout tx (has_chains tx) node t phase (fronts tx phase) }
+  enters phase is = record {
+    firm = is;
+    sends = entering_of_kind is_no_abort layout tx (has_chains tx) node t phase (fronts tx phase);
+  }
 
   commits : (epoch : ℕ) → CommittedForms node layout tx t epoch StaysFirm
   commits epoch = record { enters = λ some. enters _ refl; ends = λ none. record { firm = firm; sends = refl } }
 
   not_open : (asked : Asked) → t.asked ≡ Some asked → t.phase ≡ Open → ⊥
-  not_open asked on at = let off : false ≡ true = sym (ap (λ p. is_firm p (Some asked)) at) ∙ (ap (is_firm t.phase) (sym on) ∙ firm) in cc
+  not_open asked on at =
+      let off : false ≡ true = sym (ap (λ p. is_firm p (Some asked)) at) ∙ (ap (is_firm t.phase) (sym on) ∙ firm) in cc
 
   not_aborting : (why : AbortCause) (verifying : Bool) (awaited : ℕ) → t.phase ≡ Aborting why verifying awaited → ⊥
   not_aborting why verifying awaited at = let off : false ≡ true = sym (ap (λ p. is_firm p t.asked) at) ∙ firm in cc
@@ -76,11 +86,17 @@ module _ (node : ℕ) (layout : Layout) (tx : TxId) (t : Transaction) (firm : is
   turns_firm : (body : Body) → is_push body ≡ false → TurnForms node layout tx t body StaysFirm
   turns_firm body plain = record {
     stays = record { firm = firm; sends = refl };
-    goes_on = λ at. record { firm = firm; sends = rest_of_kind is_no_abort layout tx (has_chains tx) node t at (fronts tx t.phase) };
+    goes_on = λ at. record {
+      firm = firm;
+      sends = rest_of_kind is_no_abort layout tx (has_chains tx) node t at (fronts tx t.phase);
+    };
     operates = λ op is can. absurd (not_pushed body (Client (TcKeyReq tx op)) plain is refl);
     answers = λ key answer asked is on at. absurd (not_open asked on at);
     late = λ key asked why verifying awaited on at. absurd (not_aborting why verifying awaited at);
-    waits = λ asked on. record { firm = firm; sends = of_map is_no_abort (wait_of tx (key_of asked.op)) asked.chain (λ m. refl) };
+    waits = λ asked on. record {
+      firm = firm;
+      sends = of_map is_no_abort (wait_of tx (key_of asked.op)) asked.chain (λ m. refl);
+    };
     decides = λ is ready. record { firm = refl; sends = refl };
     commits = λ epoch is at some. enters _ refl;
     commits_none = λ epoch is at. commits epoch;
@@ -94,5 +110,7 @@ module _ (node : ℕ) (layout : Layout) (tx : TxId) (t : Transaction) (firm : is
     aborted_all = λ why verifying awaited at last. absurd (not_aborting why verifying awaited at);
   }
 
-pub firm_turn : (s : TcState) (tx : TxId) (body : Body) (t : Transaction) → tx_in body ≡ tx → is_push body ≡ false → is_firm t.phase t.asked ≡ true → StaysFirm (turn_row s body t)
-firm_turn s tx body t same plain firm = turn_at s tx body t StaysFirm same (turns_firm s.node s.layout tx t firm body plain)
+pub firm_turn : (s : TcState) (tx : TxId) (body : Body) (t : Transaction) → tx_in body ≡ tx → is_push body ≡ false
+    → is_firm t.phase t.asked ≡ true → StaysFirm (turn_row s body t)
+firm_turn s tx body t same plain firm =
+    turn_at s tx body t StaysFirm same (turns_firm s.node s.layout tx t firm body plain)

@@ -32,10 +32,14 @@ module _ (start : Start) (tx : TxId) (logs : ℕ → List HostStep) where
       few = (sound_at start tx h (logs h)).few
 
       -- it is the one that is open
-      here : (e : TxId × Transaction) → IsIn e (tc_of (after start h (logs h))).live → same_tx e.0 tx ≡ true → is_firm e.1.phase e.1.asked ≡ true
+      here : (e : TxId × Transaction) → IsIn e (tc_of (after start h (logs h))).live → same_tx e.0 tx ≡ true
+          → is_firm e.1.phase e.1.asked ≡ true
       here e inside same =
           let own = subst (λ v. IsIn (v, e.1) (tc_of (after start h (logs h))).live) (same_tx-is e.0 tx same) inside in
           let at = lives_home start tx h (logs h) low e.1 (live_tx start tx h (logs h) e.1 own) in
-          let o : IsOpenAt tx (after start h (logs h)) = subst (λ k. IsOpenAt tx (after start k (logs k))) at open_there in
-          let is : e ≡ (tx, o.transaction) = only_one (is_keyed tx) (tc_of (after start h (logs h))).live e (tx, o.transaction) few inside o.live same (same_tx-self tx) in
-          ap (λ (x : TxId × Transaction). is_firm x.1.phase x.1.asked) is ∙ ap (λ p. is_firm p o.transaction.asked) o.phase ∙ ap (is_firm Open) o.asked
+          let o : IsOpenAt tx (after start h (logs h)) =
+          subst (λ k. IsOpenAt tx (after start k (logs k))) at open_there in
+          let is : e ≡ (tx, o.transaction) = only_one (is_keyed tx) (tc_of (after start h (logs h))).live e
+          (tx, o.transaction) few inside o.live same (same_tx-self tx) in
+          ap (λ (x : TxId × Transaction). is_firm x.1.phase x.1.asked) is
+          ∙ ap (λ p. is_firm p o.transaction.asked) o.phase ∙ ap (is_firm Open) o.asked

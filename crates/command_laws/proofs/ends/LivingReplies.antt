@@ -66,7 +66,13 @@ module _ (s : ApiState) (all : AllLiving s.replies) where
   }
     where
       round : (of : ℕ) (last : Bool) → Lives body
-          (record { state = about (ticked_if s of last) None; effects = record { sends = telling_all news.Round (everyone s.view); marks = [] } })
+          (record {
+            state = about (ticked_if s of last) None;
+            effects = record {
+              sends = telling_all news.Round (everyone s.view);
+              marks = [];
+            };
+          })
       round of true sound = one_more _ refl
       round of false sound = all
 

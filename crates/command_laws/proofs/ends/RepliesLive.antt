@@ -102,7 +102,8 @@ addressed_sound : (who : Membership) (h stamp : ℕ) (count : ℕ → ℕ) (send
     → Each (λ (o : Outgoing). is_sound o.body ≡ true) sends
     → Each (λ (x : Addressed). is_sound x.signal.body ≡ true) (all_addressed who h stamp count sends)
 addressed_sound who h stamp count [] all = tt
-addressed_sound who h stamp count (o ∷ more) all = (all.0, addressed_sound who h stamp (counted (receiver who o.to) count) more all.1)
+addressed_sound who h stamp count (o ∷ more) all =
+    (all.0, addressed_sound who h stamp (counted (receiver who o.to) count) more all.1)
 
 module _ (start : Start) where
   fresh_lives : (h : ℕ) → HostLives (started start h)
@@ -146,7 +147,8 @@ module _ (start : Start) where
         by (inl same) =
             subst (λ k. HostLives (after start k (log_of (machine start) (e ∷ es) k))) same
             (subst (λ l. HostLives (after start h l)) (sym (log_of-own (machine start) e es h refl)) lives.state)
-        by (inr other) = subst (λ l. HostLives (after start g l)) (sym (log_of-other (machine start) e es g other)) (come.all.law g)
+        by (inr other) =
+            subst (λ l. HostLives (after start g l)) (sym (log_of-other (machine start) e es g other)) (come.all.law g)
 
     sends_sound : Each (λ (x : Addressed). is_sound x.signal.body ≡ true) (signals_of start h log e)
     sends_sound = addressed_sound (first_membership start) h e.step.stamp (sent_count start h log)
@@ -164,4 +166,5 @@ module _ (start : Start) where
 pub replies_live : RepliesAreOfTheLiving
 replies_live start logs within right =
     subst (Each (λ (reply : ApiReply). is_of_living reply ≡ true)) (sym (replies_are (after start 0 (logs 0))))
-    ((along_signals_of_logs (machine start) (stamped start) (Sound start) (AllHosts start) (living_kept start) (hosts start) logs within right).law 0).replies
+    ((along_signals_of_logs (machine start) (stamped start) (Sound start) (AllHosts start) (living_kept start)
+    (hosts start) logs within right).law 0).replies

@@ -36,15 +36,23 @@ pub ending_is : (a b : OutcomeOf) → Some a ≡ Some b → a ≡ b
 ending_is a b is = cc
 
 -- an end by abort is told by the report of one
-pub was_aborted : (tx : TxId) (body : Body) (cause : AbortCause) → outcome_in body ≡ Some (tx, outcome.Aborted cause) → back_of tx body ≡ true
-was_aborted tx (Client (TcRollbackRep one other)) cause is = ap (λ (e : OutcomeOf). same_tx e.0 tx) (ending_is (one, outcome.Aborted other) (tx, outcome.Aborted cause) is) ∙ same_tx-self tx
-was_aborted tx (Client (TcCommitConf one epoch)) cause is = absurd (let both : outcome.Committed epoch ≡ outcome.Aborted cause = ap (λ (e : OutcomeOf). e.1) (ending_is (one, outcome.Committed epoch) (tx, outcome.Aborted cause) is) in cc)
+pub was_aborted : (tx : TxId) (body : Body) (cause : AbortCause) → outcome_in body ≡ Some (tx, outcome.Aborted cause)
+    → back_of tx body ≡ true
+was_aborted tx (Client (TcRollbackRep one other)) cause is = ap (λ (e : OutcomeOf). same_tx e.0 tx)
+    (ending_is (one, outcome.Aborted other) (tx, outcome.Aborted cause) is) ∙ same_tx-self tx
+was_aborted tx (Client (TcCommitConf one epoch)) cause is = absurd
+    (let both : outcome.Committed epoch ≡ outcome.Aborted cause = ap (λ (e : OutcomeOf). e.1)
+    (ending_is (one, outcome.Committed epoch) (tx, outcome.Aborted cause) is) in cc)
 was_aborted tx _ cause is = cc
 
 -- none is unknown
 pub never_unknown : (tx : TxId) (body : Body) → outcome_in body ≡ Some (tx, outcome.Unknown) → ⊥
-never_unknown tx (Client (TcRollbackRep one other)) is = let both : outcome.Aborted other ≡ outcome.Unknown = ap (λ (e : OutcomeOf). e.1) (ending_is (one, outcome.Aborted other) (tx, outcome.Unknown) is) in cc
-never_unknown tx (Client (TcCommitConf one epoch)) is = let both : outcome.Committed epoch ≡ outcome.Unknown = ap (λ (e : OutcomeOf). e.1) (ending_is (one, outcome.Committed epoch) (tx, outcome.Unknown) is) in cc
+never_unknown tx (Client (TcRollbackRep one other)) is = let both : outcome.Aborted other
+    ≡ outcome.Unknown =
+    ap (λ (e : OutcomeOf). e.1) (ending_is (one, outcome.Aborted other) (tx, outcome.Unknown) is) in cc
+never_unknown tx (Client (TcCommitConf one epoch)) is = let both : outcome.Committed epoch
+    ≡ outcome.Unknown =
+    ap (λ (e : OutcomeOf). e.1) (ending_is (one, outcome.Committed epoch) (tx, outcome.Unknown) is) in cc
 never_unknown tx _ is = cc
 
 -- the transaction of this name was reported committed
@@ -53,8 +61,11 @@ pub record IsReported (start : Start) (was now : ℕ → List HostStep) (name : 
   pub told : IsIn (Ended name (outcome.Committed epoch)) (replies_since start was now)
   pub marked : IsMarked was now tx epoch
 
-module _ (start : Start) (was now : ℕ → List HostStep) (since : AreQuiet start now) (tx : TxId) (name : Option ℕ) (later log : List HostStep) (is_now : now 0 ≡ later ++ log) (past : IsPast (was 0) log)
-    (plain : Each (λ (e : HostStep). is_request e.step.taken.body ≡ false) later) (none : Each (λ (e : HostStep). is_request e.step.taken.body ≡ false → back_of tx e.step.taken.body ≡ false) later)
+module _ (start : Start) (was now : ℕ → List HostStep) (since : AreQuiet start now) (tx : TxId) (name : Option ℕ)
+    (later log : List HostStep) (is_now : now 0 ≡ later ++ log) (past : IsPast (was 0) log)
+    (plain : Each (λ (e : HostStep). is_request e.step.taken.body ≡ false) later)
+    (none : Each (λ (e : HostStep). is_request e.step.taken.body ≡ false → back_of tx e.step.taken.body ≡ false)
+    later)
     (ended : HasEnded tx name start later log) where
   now_is : now 0 ≡ ended.newer ++ ended.step ∷ (ended.older ++ log)
   now_is = is_now ∙ ap (λ w. w ++ log) ended.is ∙ append_assoc ended.newer (ended.step ∷ ended.older) log
@@ -64,14 +75,16 @@ module _ (start : Start) (was now : ℕ → List HostStep) (since : AreQuiet sta
 
   not_back : back_of tx ended.step.step.taken.body ≡ false
   not_back =
-      each_in (λ (e : HostStep). is_request e.step.taken.body ≡ false → back_of tx e.step.taken.body ≡ false) ended.step later none inside
+      each_in (λ (e : HostStep). is_request e.step.taken.body ≡ false → back_of tx e.step.taken.body ≡ false) ended.step
+      later none inside
       (each_in (λ (e : HostStep). is_request e.step.taken.body ≡ false) ended.step later plain inside)
 
   before : IsPast (was 0) (ended.older ++ log)
   before = past_trans past (record { newer = ended.older; is = refl })
 
   logged : IsLog (machine start) 0 (ended.step ∷ (ended.older ++ log))
-  logged = log_after (machine start) 0 ended.newer (ended.step ∷ (ended.older ++ log)) (subst (IsLog (machine start) 0) now_is (since.right.local 0))
+  logged = log_after (machine start) 0 ended.newer (ended.step ∷ (ended.older ++ log))
+      (subst (IsLog (machine start) 0) now_is (since.right.local 0))
 
   marks : ended.step.step.marks ≡ Reported tx ended.ending.outcome ∷ []
   marks = logged.0.fits.marks ∙ ended.ending.marked
@@ -82,17 +95,23 @@ module _ (start : Start) (was now : ℕ → List HostStep) (since : AreQuiet sta
       by : (end : Outcome) → ended.ending.outcome ≡ end → IsReported start was now name tx
       by (outcome.Committed epoch) is = record {
         epoch = epoch;
-        told = subst (λ w. IsIn (Ended name (outcome.Committed epoch)) (drop (length (replies_of (after start 0 (was 0)))) (replies_of (after start 0 w)))) (sym now_is)
-            (told_since start (was 0) (ended.older ++ log) ended.newer ended.step (Ended name (outcome.Committed epoch)) before
-            (ended.ending.told ∙ ap (λ end. replies_of (after start 0 (ended.older ++ log)) ++ Ended name end ∷ []) is));
+        told = subst (λ w. IsIn (Ended name (outcome.Committed epoch))
+            (drop (length (replies_of (after start 0 (was 0)))) (replies_of (after start 0 w)))) (sym now_is)
+            (told_since start (was 0) (ended.older ++ log) ended.newer ended.step (Ended name (outcome.Committed epoch))
+            before
+            (ended.ending.told ∙ ap (λ end. replies_of (after start 0 (ended.older ++ log)) ++ Ended name end ∷ [])
+            is));
         marked = record {
           step = ended.step;
           older = ended.older ++ log;
           inside = record { newer = ended.newer; is = now_is };
           later = before;
-          marked = subst (IsIn (Reported tx (outcome.Committed epoch))) (sym (marks ∙ ap (λ end. Reported tx end ∷ []) is)) (inl refl);
+          marked = subst (IsIn (Reported tx (outcome.Committed epoch)))
+              (sym (marks ∙ ap (λ end. Reported tx end ∷ []) is)) (inl refl);
         };
       }
       by (outcome.Aborted cause) is =
-          absurd (let both : false ≡ true = sym not_back ∙ was_aborted tx ended.step.step.taken.body cause (ended.ending.about ∙ ap (λ end. Some (tx, end)) is) in cc)
-      by outcome.Unknown is = absurd (never_unknown tx ended.step.step.taken.body (ended.ending.about ∙ ap (λ end. Some (tx, end)) is))
+          absurd (let both : false ≡ true = sym not_back ∙ was_aborted tx ended.step.step.taken.body cause
+          (ended.ending.about ∙ ap (λ end. Some (tx, end)) is) in cc)
+      by outcome.Unknown is =
+          absurd (never_unknown tx ended.step.step.taken.body (ended.ending.about ∙ ap (λ end. Some (tx, end)) is))

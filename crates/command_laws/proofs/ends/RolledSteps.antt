@@ -154,7 +154,8 @@ module _ (tx : TxId) where
       others to (Client (TcRollbackRep other why)) e = cc
       others to _ e = refl
 
-  host_rolled : (g : Host) (x : Signal) → IsSound tx (tc_of g) → IsRolledNow tx (not (is_roll_to tx x.to x.body)) (tc_of g)
+  host_rolled : (g : Host) (x : Signal) → IsSound tx (tc_of g)
+      → IsRolledNow tx (not (is_roll_to tx x.to x.body)) (tc_of g)
       → RolledStep (tc_of (row g x).state) (row g x).effects.sends
   host_rolled g x sound was =
       tc_host (λ (step : Step TcState). RolledStep step.state step.effects.sends) g x
@@ -169,7 +170,10 @@ module _ (tx : TxId) where
       by : (of : BlockId) (b : Bool) → (is_tc of && roll_of tx x.body) ≡ b → (of ≡ block.Tc → has_tc g ≡ false)
           → IsRolledNow tx (not b) (tc_of g) → IsRolledNow tx true (tc_of g)
       by block.Tc true is off old =
-          record { rolled = subst (RolledOption true) (sym (ap (of_live tx) (no_live g (off refl)))) tt; early = old.early }
+          record {
+            rolled = subst (RolledOption true) (sym (ap (of_live tx) (no_live g (off refl)))) tt;
+            early = old.early;
+          }
       by of false is off old = old
       by of true is off old = cc
 
@@ -208,7 +212,8 @@ module _ (tx : TxId) where
           × OnTc (IsRolledNow tx true) (after start h ((x ∷ newer) ++ e ∷ log))
       next before =
           let r = host_rolled (after start h (newer ++ e ∷ log)) x.step.taken (sound_at start tx h (newer ++ e ∷ log))
-          (weaker_now (not (is_roll_to tx x.step.taken.to x.step.taken.body)) (tc_of (after start h (newer ++ e ∷ log))) before.1) in (
+          (weaker_now (not (is_roll_to tx x.step.taken.to x.step.taken.body)) (tc_of (after start h (newer ++ e ∷ log)))
+          before.1) in (
             omega (
               arith,
               before.0,

@@ -112,7 +112,8 @@ module _ (node : ℕ) (layout : Layout) (tx : TxId) (t : Transaction) (body : Bo
           (fronts (not (is_roll body)) tx t.phase fine);
     };
     operates = λ op is can.
-        absurd (not_open (Client (TcKeyReq tx op)) is refl (ready_is t.phase t.asked (left_of (is_ready t.phase t.asked) _ can)).0);
+        absurd (not_open (Client (TcKeyReq tx op)) is refl (ready_is t.phase t.asked
+        (left_of (is_ready t.phase t.asked) _ can)).0);
     answers = λ key answer asked is own at. absurd (not_open (Chain (LqhKeyConf tx key answer)) is refl at);
     late = λ key asked why verifying awaited is own at. record {
       phase = λ on. ap (is_loose true) at ∙ requested why verifying awaited at;
@@ -172,7 +173,8 @@ IsWished t = is_wished t.asked t.phase ≡ true
 abbrev StaysWished : Turn → Type 0
 StaysWished turn = turn.over ≡ false → IsWished turn.step.state
 
-at_request : (o : Option Asked) (verifying : Bool) (awaited : ℕ) → is_wished o (Aborting Request verifying awaited) ≡ true
+at_request : (o : Option Asked) (verifying : Bool) (awaited : ℕ)
+    → is_wished o (Aborting Request verifying awaited) ≡ true
 at_request None verifying awaited = refl
 at_request (Some asked) verifying awaited = refl
 
@@ -200,7 +202,8 @@ module _ (node : ℕ) (layout : Layout) (tx : TxId) (t : Transaction) (body : Bo
     stays = λ other missed on. was;
     stops = λ at is high on. was;
     goes_on = λ at is low on. was;
-    operates = λ op is can on. ap (is_loose false) (ready_is t.phase t.asked (left_of (is_ready t.phase t.asked) _ can)).0;
+    operates =
+        λ op is can on. ap (is_loose false) (ready_is t.phase t.asked (left_of (is_ready t.phase t.asked) _ can)).0;
     answers = λ key answer asked is own at on. refl;
     late = λ key asked why verifying awaited is own at on. refl;
     waits = λ asked is on over. was;

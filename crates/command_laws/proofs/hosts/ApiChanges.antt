@@ -147,7 +147,8 @@ at_signal s body = record {
   answers_last = λ tx answer at f is d e. commits tx answer (one_of f) is f.passes d e (f.set _) refl refl;
   answers_none = λ tx answer at f is other. rests refl (none_added s refl) refl;
   commits = λ tx epoch at f is.
-      ends tx (outcome.Committed epoch) (one_of f) (ap outcome_in is) f.passes f.removed refl refl (telling_news (news.Committed tx) (everyone s.view));
+      ends tx (outcome.Committed epoch) (one_of f) (ap outcome_in is) f.passes f.removed refl refl
+      (telling_news (news.Committed tx) (everyone s.view));
   acknowledges = λ tx epoch is none.
       rests refl (none_added s refl) (telling_news (news.Committed tx) (everyone s.view));
   aborts = λ tx cause at f is.

@@ -31,7 +31,8 @@ pub record IsApart (x : OpenTransaction) (front back : List OpenTransaction) : T
   pub kept : (u : OpenTransaction) → IsIn x (front ++ u ∷ back)
   pub left : IsIn x (front ++ back)
 
-apart_here : (x : OpenTransaction) (front : List OpenTransaction) (t : OpenTransaction) (back : List OpenTransaction) → IsIn x (front ++ t ∷ back) → (x ≡ t) ⊎ IsApart x front back
+apart_here : (x : OpenTransaction) (front : List OpenTransaction) (t : OpenTransaction) (back : List OpenTransaction)
+    → IsIn x (front ++ t ∷ back) → (x ≡ t) ⊎ IsApart x front back
 apart_here x [] t back (inl same) = inl same
 apart_here x [] t back (inr rest) = inr (record { kept = λ u. inr rest; left = rest })
 apart_here x (y ∷ front) t back (inl same) = inr (record { kept = λ u. inl same; left = inl same })
@@ -42,7 +43,8 @@ apart_here x (y ∷ front) t back (inr rest) = by (apart_here x front t back res
     by (inr others) = inr (record { kept = λ u. inr (others.kept u); left = inr others.left })
 
 -- it is the one that is looked at, or another
-pub here_or_apart : (x : OpenTransaction) (opened : List OpenTransaction) (one : IsOneOf opened) → IsIn x opened → (x ≡ one.t) ⊎ IsApart x one.front one.back
+pub here_or_apart : (x : OpenTransaction) (opened : List OpenTransaction) (one : IsOneOf opened) → IsIn x opened
+    → (x ≡ one.t) ⊎ IsApart x one.front one.back
 here_or_apart x opened one inside = apart_here x one.front one.t one.back (subst (IsIn x) one.is inside)
 
 -- what has the transaction's number is that transaction
@@ -58,7 +60,8 @@ pub record IsNamed (opened : List OpenTransaction) (name : ℕ) (t : OpenTransac
   pub item : focus.item ≡ t
   pub called : t.name ≡ Some name
 
-pub named_found : (opened : List OpenTransaction) (name : ℕ) (t : OpenTransaction) → named_in opened name ≡ Some t → IsNamed opened name t
+pub named_found : (opened : List OpenTransaction) (name : ℕ) (t : OpenTransaction) → named_in opened name ≡ Some t
+    → IsNamed opened name t
 named_found opened name t = go (nat_lt n (length opened)) refl
   where
     p : OpenTransaction → Bool
@@ -67,7 +70,8 @@ named_found opened name t = go (nat_lt n (length opened)) refl
     n : ℕ
     n = prefix_len (λ (x : OpenTransaction). not (is_named (Some name) x)) opened
 
-    at_place : (f : IsFocus (is_named (Some name)) opened n) → nat_lt n (length opened) ≡ true → if_there None (λ (t : OpenTransaction). Some t) (slice_get opened n) ≡ Some t → IsNamed opened name t
+    at_place : (f : IsFocus (is_named (Some name)) opened n) → nat_lt n (length opened) ≡ true
+        → if_there None (λ (t : OpenTransaction). Some t) (slice_get opened n) ≡ Some t → IsNamed opened name t
     at_place f low is =
         let both : Some f.item ≡ Some t = sym (ap (if_there None (λ (x : OpenTransaction). Some x)) f.get) ∙ is in
         let same : f.item ≡ t = cc in
@@ -80,6 +84,8 @@ named_found opened name t = go (nat_lt n (length opened)) refl
           called = ap (λ (x : OpenTransaction). x.name) (sym same) ∙ same_name-is f.item.name (Some name) f.passes;
         }
 
-    go : (b : Bool) → nat_lt n (length opened) ≡ b → where_at opened None (λ at (x : OpenTransaction). Some x) (cond b (Some n) None) ≡ Some t → IsNamed opened name t
+    go : (b : Bool) → nat_lt n (length opened) ≡ b
+        → where_at opened None (λ at (x : OpenTransaction). Some x) (cond b (Some n) None) ≡ Some t
+        → IsNamed opened name t
     go true e is = at_place (found (is_named (Some name)) opened (grind (arith, nat_tests, e))) e is
     go false e is = cc

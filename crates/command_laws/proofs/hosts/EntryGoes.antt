@@ -63,9 +63,11 @@ pub record HasEnded (tx : TxId) (name : Option ℕ) (start : Start) (later log :
       (step_after start 0 (older ++ log) step)
 
 -- what fails at each of these steps that takes no request fails at one of them
-pub fails_in : (later : List HostStep) (first : HostStep) (test : Place → Body → Bool) (step : HostStep) → IsIn step later
+pub fails_in : (later : List HostStep) (first : HostStep) (test : Place → Body → Bool) (step : HostStep)
+    → IsIn step later
     → Each (λ (e : HostStep). is_request e.step.taken.body ≡ false) later
-    → Each (λ (e : HostStep). is_request e.step.taken.body ≡ false → test e.step.taken.to e.step.taken.body ≡ false) (later ++ first ∷ [])
+    → Each (λ (e : HostStep). is_request e.step.taken.body ≡ false → test e.step.taken.to e.step.taken.body ≡ false)
+    (later ++ first ∷ [])
     → test step.step.taken.to step.step.taken.body ≡ false
 fails_in later first test step inside plain none =
     each_in Fails step later (each_before Fails later (first ∷ []) none) inside
@@ -75,9 +77,11 @@ fails_in later first test step inside plain none =
     Fails e = is_request e.step.taken.body ≡ false → test e.step.taken.to e.step.taken.body ≡ false
 
 -- and at the one in which it ended
-pub fails_at_end : (tx : TxId) (name : Option ℕ) (start : Start) (later log : List HostStep) (first : HostStep) (test : Place → Body → Bool)
+pub fails_at_end : (tx : TxId) (name : Option ℕ) (start : Start) (later log : List HostStep) (first : HostStep)
+    (test : Place → Body → Bool)
     (ended : HasEnded tx name start later log) → Each (λ (e : HostStep). is_request e.step.taken.body ≡ false) later
-    → Each (λ (e : HostStep). is_request e.step.taken.body ≡ false → test e.step.taken.to e.step.taken.body ≡ false) (later ++ first ∷ [])
+    → Each (λ (e : HostStep). is_request e.step.taken.body ≡ false → test e.step.taken.to e.step.taken.body ≡ false)
+    (later ++ first ∷ [])
     → test ended.step.step.taken.to ended.step.step.taken.body ≡ false
 fails_at_end tx name start later log first test ended plain none =
     fails_in later first test ended.step

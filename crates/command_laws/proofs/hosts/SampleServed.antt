@@ -28,7 +28,9 @@ use Rattle.command_laws.specs.Sample.{SampleIsServed, committed}
 use Rattle.command_laws.specs.Served.{named_in}
 
 local : (h : ℕ) → IsLog (machine lone) h (committed h)
-unfolding receiver started row shell_row request_row api.begin_row api.commit_row begun_row commit_report_row everyone tc_part_row ldm_row tc.begin_row fresh_shell fresh_part tc_commit.verify_row tc_commit.commit_row all_committed without dih.decide_row dih.end_row acknowledged
+unfolding receiver started row shell_row request_row api.begin_row api.commit_row begun_row commit_report_row everyone
+    tc_part_row ldm_row tc.begin_row fresh_shell fresh_part tc_commit.verify_row tc_commit.commit_row all_committed
+    without dih.decide_row dih.end_row acknowledged
 local zero = (
   record { at = refl; stamped = omega arith; runs = refl; fits = record { marks = refl; asked_at = 0; asked = tt } },
   (
@@ -39,13 +41,22 @@ local zero = (
       fits = record { marks = refl; asked_at = 3; asked = record { request = Commit 7; shell = refl; is = refl } };
     },
     (
-      record { at = refl; stamped = omega arith; runs = refl; fits = record { marks = refl; asked_at = 0; asked = tt } },
+      record {
+        at = refl;
+        stamped = omega arith;
+        runs = refl;
+        fits = record { marks = refl; asked_at = 0; asked = tt };
+      },
       (
         record {
           at = refl;
           stamped = omega arith;
           runs = tt;
-          fits = record { marks = refl; asked_at = 0; asked = record { request = Begin 7 (Some 1); shell = refl; is = refl } };
+          fits = record {
+            marks = refl;
+            asked_at = 0;
+            asked = record { request = Begin 7 (Some 1); shell = refl; is = refl };
+          };
         },
         tt,
       ),
@@ -58,19 +69,48 @@ local (suc (suc zero)) = (
   (
     record { at = refl; stamped = omega arith; runs = refl; fits = record { marks = refl; asked_at = 0; asked = tt } },
     (
-      record { at = refl; stamped = omega arith; runs = refl; fits = record { marks = refl; asked_at = 0; asked = tt } },
+      record {
+        at = refl;
+        stamped = omega arith;
+        runs = refl;
+        fits = record { marks = refl; asked_at = 0; asked = tt };
+      },
       (
-        record { at = refl; stamped = omega arith; runs = refl; fits = record { marks = refl; asked_at = 0; asked = tt } },
-        (record { at = refl; stamped = omega arith; runs = tt; fits = record { marks = refl; asked_at = 0; asked = tt } }, tt),
+        record {
+          at = refl;
+          stamped = omega arith;
+          runs = refl;
+          fits = record { marks = refl; asked_at = 0; asked = tt };
+        },
+        (
+          record {
+            at = refl;
+            stamped = omega arith;
+            runs = tt;
+            fits = record { marks = refl; asked_at = 0; asked = tt };
+          },
+          tt,
+        ),
       ),
     ),
   ),
 )
-local (suc (suc (suc zero))) = (record { at = refl; stamped = omega arith; runs = tt; fits = record { marks = refl; asked_at = 0; asked = tt } }, tt)
+local (suc (suc (suc zero))) = (
+  record {
+    at = refl;
+    stamped = omega arith;
+    runs = tt;
+    fits = record
+        { marks = refl; asked_at = 0; asked = tt };
+  },
+  tt,
+)
 local (suc (suc (suc (suc h)))) = tt
 
 linked : (i j : ℕ) → taken (machine lone) i (committed j) ≡ sent (machine lone) i j (committed i)
-unfolding receiver started row shell_row request_row api.begin_row api.commit_row begun_row commit_report_row everyone tc_part_row ldm_row tc.begin_row fresh_shell fresh_part tc_commit.verify_row tc_commit.commit_row all_committed without dih.decide_row dih.end_row acknowledged
+unfolding receiver started row shell_row request_row api.begin_row api.commit_row begun_row commit_report_row everyone
+    tc_part_row ldm_row tc.begin_row fresh_shell fresh_part tc_commit.verify_row tc_commit.commit_row all_committed
+    without dih.decide_row dih.end_row acknowledged
 linked zero zero = refl
 linked zero (suc zero) = refl
 linked zero (suc (suc zero)) = refl
@@ -95,12 +135,14 @@ linked (suc (suc (suc zero))) (suc zero) = refl
 linked (suc (suc (suc zero))) (suc (suc zero)) = refl
 linked (suc (suc (suc zero))) (suc (suc (suc zero))) = refl
 linked (suc (suc (suc zero))) (suc (suc (suc (suc j)))) = refl
-linked (suc (suc (suc (suc i)))) zero = let off : (2 == suc (suc (suc (suc i)))) ≡ false = grind (arith, nat_tests) in rw off refl
+linked (suc (suc (suc (suc i)))) zero =
+    let off : (2 == suc (suc (suc (suc i)))) ≡ false = grind (arith, nat_tests) in rw off refl
 linked (suc (suc (suc (suc i)))) (suc zero) = refl
 linked (suc (suc (suc (suc i)))) (suc (suc zero)) = let shell_off : (0 == suc (suc (suc (suc i)))) ≡ false =
     grind (arith, nat_tests) in let own_off : (2 == suc (suc (suc (suc i)))) ≡ false = grind (arith, nat_tests) in
     rw shell_off (rw own_off refl)
-linked (suc (suc (suc (suc i)))) (suc (suc (suc zero))) = let off : (0 == suc (suc (suc (suc i)))) ≡ false = grind (arith, nat_tests) in rw off refl
+linked (suc (suc (suc (suc i)))) (suc (suc (suc zero))) =
+    let off : (0 == suc (suc (suc (suc i)))) ≡ false = grind (arith, nat_tests) in rw off refl
 linked (suc (suc (suc (suc i)))) (suc (suc (suc (suc j)))) = refl
 
 within : (h : ℕ) → 4 ≤ h → committed h ≡ []
@@ -113,7 +155,11 @@ within (suc (suc (suc (suc h)))) high = refl
 quiet_now : AreQuiet lone committed
 quiet_now = record {
   shape = sample_quiet.quiet.shape;
-  right = record { local = local; there = λ h has. inl refl; linked = λ i j. inl (record { newer = []; is = sym (linked i j) }) };
+  right = record {
+    local = local;
+    there = λ h has. inl refl;
+    linked = λ i j. inl (record { newer = []; is = sym (linked i j) });
+  };
   within = within;
   quiet = λ i j low under. linked i j;
 }

@@ -11,8 +11,10 @@ and_off true p = p
 and_off false p = refl
 
 -- a test that no request passes, and no signal of this step, isn't passed there
-pub none_at : (test : Place → Body → Bool) → ((to : Place) (body : Body) → is_request body ≡ true → test to body ≡ false) → (e : HostStep)
-    → (is_request e.step.taken.body ≡ false → test e.step.taken.to e.step.taken.body ≡ false) → test e.step.taken.to e.step.taken.body ≡ false
+pub none_at : (test : Place → Body → Bool)
+    → ((to : Place) (body : Body) → is_request body ≡ true → test to body ≡ false) → (e : HostStep)
+    → (is_request e.step.taken.body ≡ false → test e.step.taken.to e.step.taken.body ≡ false)
+    → test e.step.taken.to e.step.taken.body ≡ false
 none_at test fails e none = by (is_request e.step.taken.body) refl
   where
     by : (b : Bool) → is_request e.step.taken.body ≡ b → test e.step.taken.to e.step.taken.body ≡ false

@@ -1,4 +1,5 @@
--- An operation alone is answered, or refused for want of room or of time, or its transaction can't begin, or it waits for a lock.
+-- An operation alone is answered, or refused for want of room or of time, or its transaction can't begin, or it waits
+-- for a lock.
 use Rattle.std.proofs.Common.{◌≡◌, ◌⊎◌, ℕ, true, false, List, [], ◌∷◌, ◌++◌, sym, ap, ◌∙◌, subst, inl, inr, append_assoc, arith}
 use Rattle.std.specs.Prelude.{Option, None, Some}
 use Rattle.run_theory.proofs.Pasts.{each_before}
@@ -48,31 +49,38 @@ module _ (start : Start) (newer : List HostStep) (step : HostStep) (older log : 
   same_log : (some : List HostStep) → some ++ (step ∷ (older ++ log)) ≡ (some ++ step ∷ older) ++ log
   same_log some = sym (append_assoc some (step ∷ older) log)
 
-  answered_before : (name : Option ℕ) → HasAnswered name start newer (step ∷ (older ++ log)) → HasAnswered name start (newer ++ step ∷ older) log
+  answered_before : (name : Option ℕ) → HasAnswered name start newer (step ∷ (older ++ log))
+      → HasAnswered name start (newer ++ step ∷ older) log
   answered_before name a = record {
     newer = a.newer;
     step = a.step;
     older = a.older ++ step ∷ older;
     is = ap (λ w. w ++ step ∷ older) a.is ∙ append_assoc a.newer (a.step ∷ a.older) (step ∷ older);
-    answering = subst (λ l. IsAnswering name (after start 0 l) (step_after start 0 l a.step)) (same_log a.older) a.answering;
+    answering =
+        subst (λ l. IsAnswering name (after start 0 l) (step_after start 0 l a.step)) (same_log a.older) a.answering;
   }
 
-  ended_before : (tx : TxId) (name : Option ℕ) → HasEnded tx name start newer (step ∷ (older ++ log)) → HasEnded tx name start (newer ++ step ∷ older) log
+  ended_before : (tx : TxId) (name : Option ℕ) → HasEnded tx name start newer (step ∷ (older ++ log))
+      → HasEnded tx name start (newer ++ step ∷ older) log
   ended_before tx name ended = record {
     newer = ended.newer;
     step = ended.step;
     older = ended.older ++ step ∷ older;
     is = ap (λ w. w ++ step ∷ older) ended.is ∙ append_assoc ended.newer (ended.step ∷ ended.older) (step ∷ older);
-    ending = subst (λ l. IsEnding tx name (after start 0 l) ended.step.step.taken.body (step_after start 0 l ended.step)) (same_log ended.older) ended.ending;
+    ending = subst (λ l. IsEnding tx name (after start 0 l) ended.step.step.taken.body
+        (step_after start 0 l ended.step)) (same_log ended.older) ended.ending;
   }
 
 -- the API's view stays the first
-pub shell_view : (start : Start) (log : List HostStep) → (api_of (after start 0 log)).view ≡ first_view start.shape.nodes
+pub shell_view : (start : Start) (log : List HostStep)
+    → (api_of (after start 0 log)).view ≡ first_view start.shape.nodes
 shell_view start log = let s = shell_after start log in ap (λ g. (api_of g).view) s.is ∙ s.view
 
-module _ (answered : EachIsAnswered) (start : Start) (was now : ℕ → List HostStep) (op : Op) (served : IsServedBetween start was now (Operate None op)) where
+module _ (answered : EachIsAnswered) (start : Start) (was now : ℕ → List HostStep) (op : Op)
+    (served : IsServedBetween start was now (Operate None op)) where
   abbrev Result : Type 0
-  Result = IsAnsweredAlone start was now ⊎ (IsRefusedAlone start was now ⊎ (IsTurnedAway start was now ⊎ WaitsAlone start was now))
+  Result = IsAnsweredAlone start was now ⊎
+      (IsRefusedAlone start was now ⊎ (IsTurnedAway start was now ⊎ WaitsAlone start was now))
 
   f : IsFirst start was now (Operate None op)
   f = request_first start was now (Operate None op) served
@@ -85,16 +93,20 @@ module _ (answered : EachIsAnswered) (start : Start) (was now : ℕ → List Hos
   answered_alone : HasAnswered None start f.later (f.first ∷ was 0) → IsAnsweredAlone start was now
   answered_alone a = record {
     answer = a.answering.answer;
-    told = replied start was now (Operate None op) served f a.newer a.step a.older (Answered None a.answering.answer) a.is a.answering.told;
+    told = replied start was now (Operate None op) served f a.newer a.step a.older (Answered None a.answering.answer)
+        a.is a.answering.told;
   }
 
   turned_away : WasRefused op start f.later (f.first ∷ was 0) → IsTurnedAway start was now
-  turned_away r = replied start was now (Operate None op) served f r.newer r.step r.older (Refused None TooManyOpen) r.is r.told
+  turned_away r =
+      replied start was now (Operate None op) served f r.newer r.step r.older (Refused None TooManyOpen) r.is r.told
 
   not_beginning : IsAlone op (opened_after start now) → ⊥
-  not_beginning has = let both : true ≡ false = sym (ap is_beginning has.does) ∙ no_begin start now has.item served.since has.inside in cc
+  not_beginning has = let both : true ≡ false = sym (ap is_beginning has.does)
+      ∙ no_begin start now has.item served.since has.inside in cc
 
-  module _ (wishes : (tx : TxId) → sent_since start (is_wish_to tx) 0 f.later (f.first ∷ was 0) ≡ 0) (b : HasBegun op start f.later (f.first ∷ was 0)) where
+  module _ (wishes : (tx : TxId) → sent_since start (is_wish_to tx) 0 f.later (f.first ∷ was 0) ≡ 0)
+      (b : HasBegun op start f.later (f.first ∷ was 0)) where
     abbrev rest : List HostStep
     rest = b.older ++ f.first ∷ was 0
 
@@ -114,7 +126,12 @@ module _ (answered : EachIsAnswered) (start : Start) (was now : ℕ → List Hos
         )
 
     no_wishes : sent_since start (is_wish_to b.tx) 0 (f.later ++ f.first ∷ []) (was 0) ≡ 0
-    no_wishes = omega (arith, sent_append start (is_wish_to b.tx) 0 f.later (f.first ∷ []) (was 0), wishes b.tx, asked.wishes b.tx)
+    no_wishes = omega (
+      arith,
+      sent_append start (is_wish_to b.tx) 0 f.later (f.first ∷ []) (was 0),
+      wishes b.tx,
+      asked.wishes b.tx,
+    )
 
     open_was : (h : ℕ) → home start b.tx ≡ h → OnTc (IsOpenNow b.tx) (after start h (was h))
     open_was h at =
@@ -134,30 +151,43 @@ module _ (answered : EachIsAnswered) (start : Start) (was now : ℕ → List Hos
       own = has.own;
       does = has.does;
       waits = by has.item.doing has.item.tx has.does has.own (answered start now has.item served.since has.inside);
-      begun_since = none_passes (has_tx b.tx) (opened_after start was) (omega (arith, (holds_at start b.tx was served.before).few, unbegun));
+      begun_since = none_passes (has_tx b.tx) (opened_after start was)
+          (omega (arith, (holds_at start b.tx was served.before).few, unbegun));
     }
       where
-        by : (doing : Doing) (o : Option TxId) → doing ≡ Operating → o ≡ Some b.tx → is_answered_by start now doing o → WaitsForLock start now b.tx
-        by doing o is some all = subst (λ p. is_answered_by start now Operating p) some (subst (λ d. is_answered_by start now d o) is all)
+        by : (doing : Doing) (o : Option TxId) → doing ≡ Operating → o ≡ Some b.tx → is_answered_by start now doing o
+            → WaitsForLock start now b.tx
+        by doing o is some all =
+            subst (λ p. is_answered_by start now Operating p) some (subst (λ d. is_answered_by start now d o) is all)
 
     plain_newer : Each (λ (e : HostStep). is_request e.step.taken.body ≡ false) b.newer
-    plain_newer = each_before (λ (e : HostStep). is_request e.step.taken.body ≡ false) b.newer (b.step ∷ b.older) (subst (Each (λ (e : HostStep). is_request e.step.taken.body ≡ false)) b.is f.plain)
+    plain_newer = each_before (λ (e : HostStep). is_request e.step.taken.body ≡ false) b.newer (b.step ∷ b.older)
+        (subst (Each (λ (e : HostStep). is_request e.step.taken.body ≡ false)) b.is f.plain)
 
     begun_result : Result
     begun_result = by (operate_goes b.tx None start b.newer (b.step ∷ rest) plain_newer b.has)
       where
-        by : HasOne b.tx None Operating (opened_in (after start 0 (b.newer ++ b.step ∷ rest))) ⊎ (HasAnswered None start b.newer (b.step ∷ rest) ⊎ HasEnded b.tx None start b.newer (b.step ∷ rest)) → Result
-        by (inl has) = inr (inr (inr (waits_alone (subst (λ log. HasOne b.tx None Operating (opened_in (after start 0 log))) (sym now_is) has))))
-        by (inr (inl a)) = inl (answered_alone (subst (λ later. HasAnswered None start later (f.first ∷ was 0)) (sym b.is) (answered_before start b.newer b.step b.older (f.first ∷ was 0) None a)))
-        by (inr (inr ended)) = inr (inl (refused (subst (λ later. HasEnded b.tx None start later (f.first ∷ was 0)) (sym b.is) (ended_before start b.newer b.step b.older (f.first ∷ was 0) b.tx None ended))))
+        by : HasOne b.tx None Operating (opened_in (after start 0 (b.newer ++ b.step ∷ rest)))
+            ⊎ (HasAnswered None start b.newer (b.step ∷ rest) ⊎ HasEnded b.tx None start b.newer (b.step ∷ rest))
+            → Result
+        by (inl has) = inr (inr (inr (waits_alone (subst (λ log. HasOne b.tx None Operating
+            (opened_in (after start 0 log))) (sym now_is) has))))
+        by (inr (inl a)) = inl (answered_alone (subst (λ later. HasAnswered None start later (f.first ∷ was 0))
+            (sym b.is) (answered_before start b.newer b.step b.older (f.first ∷ was 0) None a)))
+        by (inr (inr ended)) = inr (inl (refused (subst (λ later. HasEnded b.tx None start later (f.first ∷ was 0))
+            (sym b.is) (ended_before start b.newer b.step b.older (f.first ∷ was 0) b.tx None ended))))
 
   lone_result : Result
-  lone_result = by (wishes_since start f.later (f.first ∷ was 0) f.plain) (begin_goes op start f.later (f.first ∷ was 0) f.plain asked.alone)
+  lone_result = by (wishes_since start f.later (f.first ∷ was 0) f.plain)
+      (begin_goes op start f.later (f.first ∷ was 0) f.plain asked.alone)
     where
-      by : HasAnswered None start f.later (f.first ∷ was 0) ⊎ ((tx : TxId) → sent_since start (is_wish_to tx) 0 f.later (f.first ∷ was 0) ≡ 0)
-          → IsAlone op (opened_in (after start 0 (f.later ++ f.first ∷ was 0))) ⊎ (HasBegun op start f.later (f.first ∷ was 0) ⊎ WasRefused op start f.later (f.first ∷ was 0)) → Result
+      by : HasAnswered None start f.later (f.first ∷ was 0)
+          ⊎ ((tx : TxId) → sent_since start (is_wish_to tx) 0 f.later (f.first ∷ was 0) ≡ 0)
+          → IsAlone op (opened_in (after start 0 (f.later ++ f.first ∷ was 0)))
+          ⊎ (HasBegun op start f.later (f.first ∷ was 0) ⊎ WasRefused op start f.later (f.first ∷ was 0)) → Result
       by (inl a) goes = inl (answered_alone a)
-      by (inr wishes) (inl has) = absurd (not_beginning (subst (λ log. IsAlone op (opened_in (after start 0 log))) (sym f.is) has))
+      by (inr wishes) (inl has) =
+          absurd (not_beginning (subst (λ log. IsAlone op (opened_in (after start 0 log))) (sym f.is) has))
       by (inr wishes) (inr (inl b)) = begun_result wishes b
       by (inr wishes) (inr (inr r)) = inr (inr (inl (turned_away r)))
 

@@ -81,7 +81,8 @@ no_wish_node tx to body e = and_off (is_tc to.block) (plain body e)
     plain (Client (TcRollbackReq one)) k = cc
     plain _ k = refl
 
-request_plain_wish : (tx : TxId) (to : Place) (body : Body) → is_request body ≡ true → is_wish_back_to tx to body ≡ false
+request_plain_wish : (tx : TxId) (to : Place) (body : Body) → is_request body ≡ true
+    → is_wish_back_to tx to body ≡ false
 request_plain_wish tx to body is = and_off (is_tc to.block) (plain body is)
   where
     plain : (b : Body) → is_request b ≡ true → wish_back_of tx b ≡ false
@@ -97,7 +98,8 @@ fewer_asked tx (e ∷ live) = omega (arith, fewer_asked tx live, few (same_tx e.
     few true false = omega arith
     few false b = omega arith
 
-module _ (start : Start) (was now : ℕ → List HostStep) (op : Op) (served : IsServedBetween start was now (Operate None op)) where
+module _ (start : Start) (was now : ℕ → List HostStep) (op : Op)
+    (served : IsServedBetween start was now (Operate None op)) where
   f : IsFirst start was now (Operate None op)
   f = request_first start was now (Operate None op) served
 
@@ -117,13 +119,22 @@ module _ (start : Start) (was now : ℕ → List HostStep) (op : Op) (served : I
     -- nobody wishes for its abort
     no_wishes : (h : ℕ) → sent_since start (is_wish_back_to tx) h (cut h).newer (was h) ≡ 0
     no_wishes zero =
-        omega (arith, sent_append start (is_wish_back_to tx) 0 f.later (f.first ∷ []) (was 0), (asks_since tx start f.later (f.first ∷ was 0) f.plain).0, first.wishes)
+        omega (
+          arith,
+          sent_append start (is_wish_back_to tx) 0 f.later (f.first ∷ []) (was 0),
+          (asks_since tx start f.later (f.first ∷ was 0) f.plain).0,
+          first.wishes,
+        )
     no_wishes (suc h) = node_since start (is_wish_back_to tx) (no_wish_node tx) h (cut (suc h)).newer (was (suc h))
 
-    none_wished : (h : ℕ) → Each (λ (e : HostStep). is_wish_back_to tx e.step.taken.to e.step.taken.body ≡ false) (cut h).newer
+    none_wished : (h : ℕ)
+        → Each (λ (e : HostStep). is_wish_back_to tx e.step.taken.to e.step.taken.body ≡ false) (cut h).newer
     none_wished h =
-        each_map (λ (e : HostStep). is_request e.step.taken.body ≡ false → is_wish_back_to tx e.step.taken.to e.step.taken.body ≡ false) (λ (e : HostStep). is_wish_back_to tx e.step.taken.to e.step.taken.body ≡ false) (cut h).newer
-        (none_at (is_wish_back_to tx) (request_plain_wish tx)) (none_taken start was now served.before served.since cut (is_wish_back_to tx) (λ i low. no_wishes i) h)
+        each_map (λ (e : HostStep). is_request e.step.taken.body ≡ false → is_wish_back_to tx e.step.taken.to
+        e.step.taken.body ≡ false) (λ (e : HostStep). is_wish_back_to tx e.step.taken.to e.step.taken.body ≡ false)
+        (cut h).newer
+        (none_at (is_wish_back_to tx) (request_plain_wish tx))
+        (none_taken start was now served.before served.since cut (is_wish_back_to tx) (λ i low. no_wishes i) h)
 
     -- an operation is asked for at most once since it has begun
     few_keys : (h : ℕ) → steps (is_key tx) (cut (suc h)).newer ≤ steps (is_start tx) f.later
@@ -142,7 +153,12 @@ module _ (start : Start) (was now : ℕ → List HostStep) (op : Op) (served : I
         other : (k : ℕ) → k ≢ 0 → taken_since start (is_key tx) k (cut (suc h)).newer ≡ 0
         other zero differs = absurd (differs refl)
         other (suc k) differs =
-            omega (arith, few_taken start was now served.before served.since cut (is_key tx) (suc k) (suc h), node_since start (is_key tx) (no_key_node tx) k (cut (suc k)).newer (was (suc k)))
+            omega (
+              arith,
+              few_taken start was now served.before served.since cut (is_key tx) (suc k) (suc h),
+              node_since
+                  start (is_key tx) (no_key_node tx) k (cut (suc k)).newer (was (suc k)),
+            )
 
     starts_apart : steps (is_start tx) f.later + steps (is_start tx) (was 0) ≤ 1
     starts_apart =
@@ -164,15 +180,19 @@ module _ (start : Start) (was now : ℕ → List HostStep) (op : Op) (served : I
       unfolding asked
       few_asked = omega (arith, fewer_asked tx s.live, lives_begun start was served.before tx (suc h))
 
-      told : (sent_since start (is_reply tx) (suc h) (cut (suc h)).newer (was (suc h)) ≡ 0) ⊎ (sent_since start (is_back tx) (suc h) (cut (suc h)).newer (was (suc h)) ≡ 0)
+      told : (sent_since start (is_reply tx) (suc h) (cut (suc h)).newer (was (suc h)) ≡ 0)
+          ⊎ (sent_since start (is_back tx) (suc h) (cut (suc h)).newer (was (suc h)) ≡ 0)
       unfolding asked
-      told = three (tc_of (after start (suc h) ((cut (suc h)).newer ++ was (suc h)))) (tells_since start tx (suc h) (cut (suc h)).newer (was (suc h)) asked (none_wished (suc h)) (omega (arith, few_asked, few_keys h, starts_apart))
+      told = three (tc_of (after start (suc h) ((cut (suc h)).newer ++ was (suc h))))
+          (tells_since start tx (suc h) (cut (suc h)).newer (was (suc h)) asked (none_wished (suc h))
+          (omega (arith, few_asked, few_keys h, starts_apart))
           (record { fair = omega arith; three = inl (refl, refl) })).three
         where
           three : (now_it : TcState)
               → IsOneOfThree tx (sent_since start (is_reply tx) (suc h) (cut (suc h)).newer (was (suc h)))
               (sent_since start (is_back tx) (suc h) (cut (suc h)).newer (was (suc h))) now_it
-              → (sent_since start (is_reply tx) (suc h) (cut (suc h)).newer (was (suc h)) ≡ 0) ⊎ (sent_since start (is_back tx) (suc h) (cut (suc h)).newer (was (suc h)) ≡ 0)
+              → (sent_since start (is_reply tx) (suc h) (cut (suc h)).newer (was (suc h)) ≡ 0)
+              ⊎ (sent_since start (is_back tx) (suc h) (cut (suc h)).newer (was (suc h)) ≡ 0)
           three now_it (inl none) = inl none.0
           three now_it (inr (inl firm)) = inr firm.0.1
           three now_it (inr (inr gone)) = inl gone.0
@@ -188,12 +208,16 @@ module _ (start : Start) (was now : ℕ → List HostStep) (op : Op) (served : I
       grown = replies_grow start (was 0) (now 0) (served.cut 0)
 
       since_is : drop (length (replies_of (after start 0 (was 0)))) (replies_of (after start 0 (now 0))) ≡ grown.more
-      since_is = ap (drop (length (replies_of (after start 0 (was 0))))) grown.is ∙ drop-append_seam (replies_of (after start 0 (was 0))) grown.more
+      since_is = ap (drop (length (replies_of (after start 0 (was 0))))) grown.is
+          ∙ drop-append_seam (replies_of (after start 0 (was 0))) grown.more
 
       some : 1 ≤ tally is_lone grown.more
-      some = tally_in is_lone (Answered None answered.answer) grown.more (subst (IsIn (Answered None answered.answer)) since_is answered.told) refl
+      some = tally_in is_lone (Answered None answered.answer) grown.more
+          (subst (IsIn (Answered None answered.answer)) since_is answered.told) refl
 
-      by : HasLone start f.later (f.first ∷ was 0) ⊎ (tally is_lone (replies_of (after start 0 (f.later ++ f.first ∷ was 0))) ≡ tally is_lone (replies_of (after start 0 (f.first ∷ was 0)))) → HasLone start f.later (f.first ∷ was 0)
+      by : HasLone start f.later (f.first ∷ was 0)
+          ⊎ (tally is_lone (replies_of (after start 0 (f.later ++ f.first ∷ was 0))) ≡ tally is_lone
+          (replies_of (after start 0 (f.first ∷ was 0)))) → HasLone start f.later (f.first ∷ was 0)
       by (inl l) = l
       by (inr same) =
           absurd (omega (
@@ -216,7 +240,8 @@ module _ (start : Start) (was now : ℕ → List HostStep) (op : Op) (served : I
     in_newer : IsIn l.step (f.later ++ f.first ∷ [])
     in_newer =
         subst (λ w. IsIn l.step (w ++ f.first ∷ [])) (sym l.is)
-        (subst (IsIn l.step) (sym (append_assoc l.newer (l.step ∷ l.older) (f.first ∷ []))) (in_middle l.newer l.step (l.older ++ f.first ∷ [])))
+        (subst (IsIn l.step) (sym (append_assoc l.newer (l.step ∷ l.older) (f.first ∷ [])))
+        (in_middle l.newer l.step (l.older ++ f.first ∷ [])))
 
     in_now : IsIn l.step (now 0)
     in_now = subst (IsIn l.step) (sym now_is) (in_middle l.newer l.step (l.older ++ f.first ∷ was 0))
@@ -242,12 +267,16 @@ module _ (start : Start) (was now : ℕ → List HostStep) (op : Op) (served : I
 
     was_sent : (i : ℕ) → l.step.step.taken.from.0 ≡ i → 1 ≤ sent_since start (is_reply l.tx) i (cut i).newer (was i)
     was_sent i at =
-        let here = all_three (is_request l.step.step.taken.body) (l.step.step.taken.from.0 == i) (is_reply l.tx l.step.step.taken.to l.step.step.taken.body) plain_step (grind (arith, nat_tests, at)) is_answer_here in
-        let taken = tally_in (λ (e : HostStep). is_from (machine start) i e && is_reply l.tx e.step.taken.to e.step.taken.body) l.step (f.later ++ f.first ∷ []) in_newer here in
+        let here = all_three (is_request l.step.step.taken.body) (l.step.step.taken.from.0 == i)
+        (is_reply l.tx l.step.step.taken.to l.step.step.taken.body) plain_step (grind (arith, nat_tests, at))
+        is_answer_here in
+        let taken = tally_in (λ (e : HostStep). is_from (machine start) i e && is_reply l.tx e.step.taken.to
+        e.step.taken.body) l.step (f.later ++ f.first ∷ []) in_newer here in
         omega (arith, taken, few_taken start was now served.before served.since cut (is_reply l.tx) i 0)
 
     -- its coordinator answered it, and so no host reports its abort
-    no_backs_at : (k : ℕ) → l.step.step.taken.from.0 ≡ k → (h : ℕ) → h < hosts start → sent_since start (is_back l.tx) h (cut h).newer (was h) ≡ 0
+    no_backs_at : (k : ℕ) → l.step.step.taken.from.0 ≡ k → (h : ℕ) → h < hosts start
+        → sent_since start (is_back l.tx) h (cut h).newer (was h) ≡ 0
     no_backs_at k at zero low = (shell_tells (cut 0).newer (was 0)).1
     no_backs_at zero at (suc h) low = absurd (omega (arith, was_sent zero at, (shell_tells (cut 0).newer (was 0)).0))
     no_backs_at (suc k) at (suc h) low = home_is (cases_eq (home start l.tx) (suc k))
@@ -256,13 +285,17 @@ module _ (start : Start) (was now : ℕ → List HostStep) (op : Op) (served : I
         some : 1 ≤ sent_since start (is_reply l.tx) (suc k) (cut (suc k)).newer (was (suc k))
         some = was_sent (suc k) at
 
-        away : (j : ℕ) → j < hosts start → home start l.tx ≢ j → (sent_since start (is_reply l.tx) j (cut j).newer (was j) ≡ 0) × (sent_since start (is_back l.tx) j (cut j).newer (was j) ≡ 0)
-        away j there differs = since_none start l.tx j (cut j).newer (was j) (away_since start l.tx j there differs (cut j).newer (was j))
+        away : (j : ℕ) → j < hosts start → home start l.tx ≢ j
+            → (sent_since start (is_reply l.tx) j (cut j).newer (was j) ≡ 0)
+            × (sent_since start (is_back l.tx) j (cut j).newer (was j) ≡ 0)
+        away j there differs =
+            since_none start l.tx j (cut j).newer (was j) (away_since start l.tx j there differs (cut j).newer (was j))
 
         here : suc k ≡ suc h → sent_since start (is_back l.tx) (suc h) (cut (suc h)).newer (was (suc h)) ≡ 0
         here same = by (told l.tx h low)
           where
-            by : (sent_since start (is_reply l.tx) (suc h) (cut (suc h)).newer (was (suc h)) ≡ 0) ⊎ (sent_since start (is_back l.tx) (suc h) (cut (suc h)).newer (was (suc h)) ≡ 0)
+            by : (sent_since start (is_reply l.tx) (suc h) (cut (suc h)).newer (was (suc h)) ≡ 0)
+                ⊎ (sent_since start (is_back l.tx) (suc h) (cut (suc h)).newer (was (suc h)) ≡ 0)
                 → sent_since start (is_back l.tx) (suc h) (cut (suc h)).newer (was (suc h)) ≡ 0
             by (inl none) =
                 absurd (omega (
@@ -276,14 +309,18 @@ module _ (start : Start) (was now : ℕ → List HostStep) (op : Op) (served : I
             ⊎ (home start l.tx ≢ suc h) → (suc k < hosts start) ⊎ (hosts start ≤ suc k)
             → sent_since start (is_back l.tx) (suc h) (cut (suc h)).newer (was (suc h)) ≡ 0
         home_is one other (inr high) =
-            let none : (cut (suc k)).newer ≡ [] = front_nil (cut (suc k)).newer (was (suc k)) (sym (served.since.within (suc k) high) ∙ (cut (suc k)).is) in
+            let none : (cut (suc k)).newer
+            ≡ [] = front_nil (cut (suc k)).newer (was (suc k))
+            (sym (served.since.within (suc k) high) ∙ (cut (suc k)).is) in
             absurd (omega (arith, some, ap (λ w. sent_since start (is_reply l.tx) (suc k) w (was (suc k))) none))
         home_is (inr differs) other (inl there) = absurd (omega (arith, (away (suc k) there differs).0, some))
         home_is (inl own) (inr differs) (inl there) = (away (suc h) low differs).1
         home_is (inl own) (inl same) (inl there) = here (sym own ∙ same)
 
-    none_back : Each (λ (e : HostStep). is_request e.step.taken.body ≡ false → back_of l.tx e.step.taken.body ≡ false) (f.later ++ f.first ∷ [])
-    none_back = none_taken start was now served.before served.since cut (is_back l.tx) (no_backs_at l.step.step.taken.from.0 refl) 0
+    none_back : Each (λ (e : HostStep). is_request e.step.taken.body ≡ false → back_of l.tx e.step.taken.body ≡ false)
+        (f.later ++ f.first ∷ [])
+    none_back = none_taken start was now served.before served.since cut (is_back l.tx)
+        (no_backs_at l.step.step.taken.from.0 refl) 0
 
     later_is : f.later ++ f.first ∷ [] ≡ l.newer ++ (l.step ∷ l.older ++ f.first ∷ [])
     later_is = ap (λ w. w ++ f.first ∷ []) l.is ∙ append_assoc l.newer (l.step ∷ l.older) (f.first ∷ [])
@@ -298,25 +335,37 @@ module _ (start : Start) (was now : ℕ → List HostStep) (op : Op) (served : I
         by None none = none
 
     plain_newer : Each (λ (e : HostStep). is_request e.step.taken.body ≡ false) l.newer
-    plain_newer = each_before (λ (e : HostStep). is_request e.step.taken.body ≡ false) l.newer (l.step ∷ l.older) (subst (Each (λ (e : HostStep). is_request e.step.taken.body ≡ false)) l.is f.plain)
+    plain_newer = each_before (λ (e : HostStep). is_request e.step.taken.body ≡ false) l.newer (l.step ∷ l.older)
+        (subst (Each (λ (e : HostStep). is_request e.step.taken.body ≡ false)) l.is f.plain)
 
-    none_newer : Each (λ (e : HostStep). is_request e.step.taken.body ≡ false → back_of l.tx e.step.taken.body ≡ false) l.newer
+    none_newer : Each (λ (e : HostStep). is_request e.step.taken.body ≡ false → back_of l.tx e.step.taken.body ≡ false)
+        l.newer
     none_newer =
-        each_before (λ (e : HostStep). is_request e.step.taken.body ≡ false → back_of l.tx e.step.taken.body ≡ false) l.newer (l.step ∷ l.older ++ f.first ∷ [])
-        (subst (Each (λ (e : HostStep). is_request e.step.taken.body ≡ false → back_of l.tx e.step.taken.body ≡ false)) later_is none_back)
+        each_before (λ (e : HostStep). is_request e.step.taken.body ≡ false → back_of l.tx e.step.taken.body ≡ false)
+        l.newer (l.step ∷ l.older ++ f.first ∷ [])
+        (subst (Each (λ (e : HostStep). is_request e.step.taken.body ≡ false → back_of l.tx e.step.taken.body ≡ false))
+        later_is none_back)
 
     lone_told : IsCommittedAlone start was now
     lone_told = by (commit_goes l.tx None start l.newer (l.step ∷ (l.older ++ f.first ∷ was 0)) plain_newer l.lone.has)
       where
         past : IsPast (was 0) (l.step ∷ (l.older ++ f.first ∷ was 0))
-        past = record { newer = l.step ∷ l.older ++ f.first ∷ []; is = ap (λ w. l.step ∷ w) (sym (append_assoc l.older (f.first ∷ []) (was 0))) }
+        past = record {
+          newer = l.step ∷ l.older ++ f.first ∷ [];
+          is = ap (λ w. l.step ∷ w)
+              (sym (append_assoc l.older (f.first ∷ []) (was 0)));
+        }
 
-        by : HasOne l.tx None Committing (opened_in (after start 0 (l.newer ++ l.step ∷ (l.older ++ f.first ∷ was 0)))) ⊎ HasEnded l.tx None start l.newer (l.step ∷ (l.older ++ f.first ∷ was 0)) → IsCommittedAlone start was now
-        by (inl has) = absurd (still_committing (subst (λ log. HasOne l.tx None Committing (opened_in (after start 0 log))) (sym now_is) has))
+        by : HasOne l.tx None Committing (opened_in (after start 0 (l.newer ++ l.step ∷ (l.older ++ f.first ∷ was 0))))
+            ⊎ HasEnded l.tx None start l.newer (l.step ∷ (l.older ++ f.first ∷ was 0)) → IsCommittedAlone start was now
+        by (inl has) = absurd (still_committing (subst (λ log. HasOne l.tx None Committing
+            (opened_in (after start 0 log))) (sym now_is) has))
         by (inr ended) =
-            let r = reported start was now served.since l.tx None l.newer (l.step ∷ (l.older ++ f.first ∷ was 0)) now_is past plain_newer none_newer ended in
+            let r = reported start was now served.since l.tx None l.newer (l.step ∷ (l.older ++ f.first ∷ was 0)) now_is
+            past plain_newer none_newer ended in
             record { tx = l.tx; epoch = r.epoch; told = r.told; marked = r.marked }
 
 -- so it is where each command is answered
 pub lone_committed : EachIsAnswered → LoneAreCommitted
-lone_committed each start was now op served answered = lone_told start was now op served each (answered_step start was now op served answered)
+lone_committed each start was now op served answered =
+    lone_told start was now op served each (answered_step start was now op served answered)

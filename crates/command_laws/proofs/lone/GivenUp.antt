@@ -60,7 +60,8 @@ module _ (start : Start) (was mid now : ℕ → List HostStep) (t : OpenTransact
 
   module _ (tx : TxId) (own_tx : t.tx ≡ Some tx) (nameless : t.name ≡ None) where
     row_is : request_row s request.Pending
-        ≡ sending (replied s (Pending None (HeldBy (name_of s who)) ∷ [])) (coordinator_of tx) (Client (TcRollbackReq tx))
+        ≡ sending (replied s (Pending None (HeldBy (name_of s who)) ∷ [])) (coordinator_of tx)
+        (Client (TcRollbackReq tx))
     unfolding request_row
     row_is =
         pending_is s entry.front t entry.back who about_it unanswered
@@ -69,7 +70,8 @@ module _ (start : Start) (was mid now : ℕ → List HostStep) (t : OpenTransact
 
     given_up : IsAbortHeard start mid now None
     given_up =
-        heard start mid now request.Pending None tx (behind t (Some who)) then_served in_mid nameless own_tx waiting.does
+        heard start mid now request.Pending None tx (behind t (Some who)) then_served in_mid nameless own_tx
+        waiting.does
         (replied s (Pending None (HeldBy (name_of s who)) ∷ [])) refl row_is
 
 -- so it is where a command left something of its own unanswered

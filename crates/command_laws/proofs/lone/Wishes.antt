@@ -38,19 +38,28 @@ record TellsLone (s : ApiState) (step : Step ApiState) : Type 0 where
   answer : Answer
   told : step.state.replies ≡ s.replies ++ Answered None answer ∷ []
 
-goes_none : (s : ApiState) (one : TxId) (t u : OpenTransaction) (step : Step ApiState) → GoesOnAs s one t u step → WishNone step.effects.sends
+goes_none : (s : ApiState) (one : TxId) (t u : OpenTransaction) (step : Step ApiState) → GoesOnAs s one t u step
+    → WishNone step.effects.sends
 goes_none s one t u step (told name called is replies sends) tx = ap (sends_of (is_wish_to tx)) sends
 goes_none s one t u step (alone op called does is replies sends) tx = ap (sends_of (is_wish_to tx)) sends
 goes_none s one t u step (idle is replies sends) tx = ap (sends_of (is_wish_to tx)) sends
 
-change_none : (s : ApiState) (body : Body) (step : Step ApiState) → ApiChange s body step → TellsLone s step ⊎ WishNone step.effects.sends
-change_none s body step (rests is adds kind) = inr (λ tx. none_of is_news_kind (is_wish_to tx) (no_wish_news tx) step.effects.sends kind)
+change_none : (s : ApiState) (body : Body) (step : Step ApiState) → ApiChange s body step
+    → TellsLone s step ⊎ WishNone step.effects.sends
+change_none s body step (rests is adds kind) =
+    inr (λ tx. none_of is_news_kind (is_wish_to tx) (no_wish_news tx) step.effects.sends kind)
 change_none s body step (waits one ahead at about is replies sends) = inr (λ tx. ap (sends_of (is_wish_to tx)) sends)
-change_none s body step (answers one answer called at about passes does named is replies sends) = inr (λ tx. ap (sends_of (is_wish_to tx)) sends)
-change_none s body step (commits one answer at about passes does named is replies sends) = inl (record { answer = answer; told = replies })
-change_none s body step (ends one end at about passes is replies marks sends) = inr (λ tx. none_of is_news_kind (is_wish_to tx) (no_wish_news tx) step.effects.sends sends)
+change_none s body step (answers one answer called at about passes does named is replies sends) =
+    inr (λ tx. ap (sends_of (is_wish_to tx)) sends)
+change_none s body step (commits one answer at about passes does named is replies sends) = inl (record {
+  answer = answer;
+  told = replies;
+})
+change_none s body step (ends one end at about passes is replies marks sends) =
+    inr (λ tx. none_of is_news_kind (is_wish_to tx) (no_wish_news tx) step.effects.sends sends)
 change_none s body step (starts called one at u about passes is goes) = inr (goes_none s one at.t u step goes)
-change_none s body step (refuses called at about passes is replies sends) = inr (λ tx. ap (sends_of (is_wish_to tx)) sends)
+change_none s body step (refuses called at about passes is replies sends) =
+    inr (λ tx. ap (sends_of (is_wish_to tx)) sends)
 
 host_none : (g : host.Host) (x : Signal) → has_api g ≡ true → is_request x.body ≡ false → IsAnswering None g (row g x)
     ⊎ WishNone (row g x).effects.sends
@@ -69,18 +78,29 @@ host_none g x has plain =
     by (inr none) = inr none
 
 -- along steps of the shell's host that aren't requests
-pub wishes_since : (start : Start) (later log : List HostStep) → Each (λ (e : HostStep). is_request e.step.taken.body ≡ false) later
+pub wishes_since : (start : Start) (later log : List HostStep)
+    → Each (λ (e : HostStep). is_request e.step.taken.body ≡ false) later
     → HasAnswered None start later log ⊎ ((tx : TxId) → sent_since start (is_wish_to tx) 0 later log ≡ 0)
 wishes_since start [] log plain = inr (λ tx. refl)
 wishes_since start (e ∷ later) log plain = by (wishes_since start later log plain.1)
   where
-    next : ((tx : TxId) → sent_since start (is_wish_to tx) 0 later log ≡ 0) → IsAnswering None (after start 0 (later ++ log)) (step_after start 0 (later ++ log) e) ⊎ WishNone (step_after start 0 (later ++ log) e).effects.sends
-        → HasAnswered None start (e ∷ later) log ⊎ ((tx : TxId) → sent_since start (is_wish_to tx) 0 (e ∷ later) log ≡ 0)
+    next : ((tx : TxId) → sent_since start (is_wish_to tx) 0 later log ≡ 0)
+        → IsAnswering None (after start 0 (later ++ log)) (step_after start 0 (later ++ log) e)
+        ⊎ WishNone (step_after start 0 (later ++ log) e).effects.sends
+        → HasAnswered None start (e ∷ later) log
+        ⊎ ((tx : TxId) → sent_since start (is_wish_to tx) 0 (e ∷ later) log ≡ 0)
     next before (inl answering) = inl (record { newer = []; step = e; older = later; is = refl; answering = answering })
     next before (inr none) = inr (λ tx. omega (arith, before tx, none tx))
 
     by : HasAnswered None start later log ⊎ ((tx : TxId) → sent_since start (is_wish_to tx) 0 later log ≡ 0)
-        → HasAnswered None start (e ∷ later) log ⊎ ((tx : TxId) → sent_since start (is_wish_to tx) 0 (e ∷ later) log ≡ 0)
-    by (inl a) = inl (record { newer = e ∷ a.newer; step = a.step; older = a.older; is = ap (λ w. e ∷ w) a.is; answering = a.answering })
+        → HasAnswered None start (e ∷ later) log
+        ⊎ ((tx : TxId) → sent_since start (is_wish_to tx) 0 (e ∷ later) log ≡ 0)
+    by (inl a) = inl (record {
+      newer = e ∷ a.newer;
+      step = a.step;
+      older = a.older;
+      is = ap (λ w. e ∷ w) a.is;
+      answering = a.answering;
+    })
     by (inr before) =
         next before (host_none (after start 0 (later ++ log)) e.step.taken (api_runs start (later ++ log)) plain.0)

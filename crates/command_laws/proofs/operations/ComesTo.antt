@@ -23,11 +23,17 @@ operations_come_to start was now name op served = by (operation_taken start was 
         → OperationComesTo start was now name op
     by (inl turned) = inl turned
     by (inr t) =
-        inr (left t.takes.tx (operations_answered each_answered start was now name op t.takes.item t.takes.tx served t.takes.named t.takes.ready t.takes.own t.few))
+        inr (left t.takes.tx (operations_answered each_answered start was now name op t.takes.item t.takes.tx served
+        t.takes.named t.takes.ready t.takes.own t.few))
 
 pub commits_come_to : CommitsComeTo
 commits_come_to start was now name served = by (commit_taken start was now name served)
   where
-    by : IsTurnedDown start was now (request.Commit name) ⊎ TakesCommands (opened_after start was) name → CommitComesTo start was now name
+    by : IsTurnedDown start was now (request.Commit name) ⊎ TakesCommands (opened_after start was) name
+        → CommitComesTo start was now name
     by (inl turned) = inl turned
-    by (inr t) = inr (record { tx = t.tx; committed = commits_committed each_answered start was now name t.item t.tx served t.named t.ready t.own })
+    by (inr t) = inr (record {
+      tx = t.tx;
+      committed = commits_committed each_answered start was now name t.item t.tx served t.named t.ready
+          t.own;
+    })

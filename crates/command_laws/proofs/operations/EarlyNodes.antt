@@ -80,6 +80,7 @@ module _ (tx : TxId) where
         go t (rows_take step) =
             rests t _ step.tc step.effects (none_of is_lqh_kind (is_bad tx) (not_of_lqh (is_bad tx) (bad_tc tx))
             (lqh_table (lqh_of g) x.body).effects.sends (lqh_kinds (lqh_of g) x.body))
-            (none_of (is_fair tx) (is_loss tx) (fair_loss tx) (lqh_table (lqh_of g) x.body).effects.sends (lqh_fair tx (lqh_of g) x.body fair))
+            (none_of (is_fair tx) (is_loss tx) (fair_loss tx) (lqh_table (lqh_of g) x.body).effects.sends
+            (lqh_fair tx (lqh_of g) x.body fair))
         go t (none_takes step) = rests t nothing (ap (λ (u : Step Host). tc_of u.state) step.is)
             (ap (λ (u : Step Host). u.effects) step.is) refl refl

@@ -1,4 +1,5 @@
--- Where no commit or abort of an open transaction is wished for, nobody reports its commit, or its abort but for want of room or of time.
+-- Where no commit or abort of an open transaction is wished for, nobody reports its commit, or its abort but for want
+-- of room or of time.
 use Rattle.std.proofs.Common.{◌≡◌, ◌≢◌, ◌⊎◌, ◌<◌, ◌≤◌, ℕ, Bool, true, false, List, [], ◌∷◌, ◌++◌, refl, sym, ap, ◌∙◌, subst, inl, inr, append_assoc, arith}
 use Rattle.std.proofs.lemmas.Bool.{cases_eq, cases_lt}
 use Rattle.std.proofs.lemmas.List.{append_cancel_right}
@@ -50,7 +51,8 @@ request_fair tx (Chain (Abort other key)) e = cc
 request_fair tx (Chain (LqhKeyRef other key why)) e = cc
 request_fair tx _ e = refl
 
-module _ (start : Start) (was now : ℕ → List HostStep) (before : AreQuiet start was) (since : AreQuiet start now) (cut : IsCut was now) (tx : TxId)
+module _ (start : Start) (was now : ℕ → List HostStep) (before : AreQuiet start was) (since : AreQuiet start now)
+    (cut : IsCut was now) (tx : TxId)
     (wishes : (h : ℕ) → Each (λ (e : HostStep). is_wish_to tx e.step.taken.to e.step.taken.body ≡ false) (cut h).newer)
     (open_was : (h : ℕ) → home start tx ≡ h → OnTc (IsOpenNow tx) (after start h (was h))) where
   -- the steps of a host among these events
@@ -75,7 +77,8 @@ module _ (start : Start) (was now : ℕ → List HostStep) (before : AreQuiet st
   record Holds (logs : ℕ → List HostStep) : Type 0 where
     holds : IsCut logs now → AllHold logs
 
-  module _ (es : List HostStep) (e : HostStep) (happens : Happens (machine start) es e) (inside : IsCut (log_of (machine start) (e ∷ es)) now) (all : AllHold (log_of (machine start) es)) where
+  module _ (es : List HostStep) (e : HostStep) (happens : Happens (machine start) es e)
+      (inside : IsCut (log_of (machine start) (e ∷ es)) now) (all : AllHold (log_of (machine start) es)) where
     less : IsCut (log_of (machine start) es) now
     less h = past_trans (log_of-past (machine start) e es h) (inside h)
 
@@ -91,11 +94,13 @@ module _ (start : Start) (was now : ℕ → List HostStep) (before : AreQuiet st
     is_newer : (cut e.host).newer ≡ (inside e.host).newer ++ e ∷ newer_in all.more e.host
     is_newer =
         append_cancel_right (cut e.host).newer ((inside e.host).newer ++ e ∷ newer_in all.more e.host) (was e.host)
-        (sym (cut e.host).is ∙ is_now ∙ sym (append_assoc (inside e.host).newer (e ∷ newer_in all.more e.host) (was e.host)))
+        (sym (cut e.host).is ∙ is_now ∙ sym
+        (append_assoc (inside e.host).newer (e ∷ newer_in all.more e.host) (was e.host)))
 
     no_wish : is_wish_to tx e.step.taken.to e.step.taken.body ≡ false
     no_wish =
-        each_in (λ (x : HostStep). is_wish_to tx x.step.taken.to x.step.taken.body ≡ false) e (cut e.host).newer (wishes e.host)
+        each_in (λ (x : HostStep). is_wish_to tx x.step.taken.to x.step.taken.body ≡ false) e (cut e.host).newer
+        (wishes e.host)
         (subst (IsIn e) (sym is_newer) (in_middle (inside e.host).newer e (newer_in all.more e.host)))
 
     low : e.host < hosts start
@@ -113,11 +118,16 @@ module _ (start : Start) (was now : ℕ → List HostStep) (before : AreQuiet st
     past_was h = record { newer = newer_in all.more h; is = all.is h }
 
     -- no more losses were sent than were taken before
-    few_losses : IsClean all.more → (i : ℕ) → signals (is_loss tx) (sent (machine start) i e.host (log_of (machine start) es i)) ≤ signals (is_loss tx) (taken (machine start) i (was e.host))
+    few_losses : IsClean all.more → (i : ℕ)
+        → signals (is_loss tx) (sent (machine start) i e.host (log_of (machine start) es i))
+        ≤ signals (is_loss tx) (taken (machine start) i (was e.host))
     few_losses clean i = by (cases_lt i (hosts start))
       where
-        by : (i < hosts start) ⊎ (hosts start ≤ i) → signals (is_loss tx) (sent (machine start) i e.host (log_of (machine start) es i)) ≤ signals (is_loss tx) (taken (machine start) i (was e.host))
-        by (inr high) = omega (arith, ap (λ log. signals (is_loss tx) (sent (machine start) i e.host log)) (within i high))
+        by : (i < hosts start) ⊎ (hosts start ≤ i)
+            → signals (is_loss tx) (sent (machine start) i e.host (log_of (machine start) es i))
+            ≤ signals (is_loss tx) (taken (machine start) i (was e.host))
+        by (inr high) =
+            omega (arith, ap (λ log. signals (is_loss tx) (sent (machine start) i e.host log)) (within i high))
         by (inl under) =
             omega (
               arith,
@@ -135,31 +145,40 @@ module _ (start : Start) (was now : ℕ → List HostStep) (before : AreQuiet st
     comes_fair : IsClean all.more → is_fair tx e.step.taken.body ≡ true
     comes_fair clean = by (is_request e.step.taken.body) refl
       where
-        signal : is_request e.step.taken.body ≡ false → (b : Bool) → is_loss tx e.step.taken.to e.step.taken.body ≡ b → b ≡ false
+        signal : is_request e.step.taken.body ≡ false → (b : Bool) → is_loss tx e.step.taken.to e.step.taken.body ≡ b
+            → b ≡ false
         signal plain false is = refl
         signal plain true is =
             absurd (omega (
               arith,
               ap one_if is,
               tally_past (λ (x : Addressed). is_loss tx x.signal.to x.signal.body)
-                  (given_past start e.step.taken.from.0 e.host (log_of (machine start) es e.step.taken.from.0) (record { to = e.host; signal = e.step.taken } ∷ taken (machine start) e.step.taken.from.0 (log_of (machine start) es e.host)) (happens.takes plain)),
+                  (given_past start e.step.taken.from.0 e.host (log_of (machine start) es e.step.taken.from.0)
+                  (record { to = e.host; signal = e.step.taken } ∷ taken (machine start) e.step.taken.from.0
+                  (log_of (machine start) es e.host)) (happens.takes plain)),
               few_losses clean e.step.taken.from.0,
-              tally_past (λ (x : Addressed). is_loss tx x.signal.to x.signal.body) (taken_past (machine start) e.step.taken.from.0 (past_was e.host)),
+              tally_past (λ (x : Addressed). is_loss tx x.signal.to x.signal.body)
+                  (taken_past (machine start) e.step.taken.from.0 (past_was e.host)),
             ))
 
         by : (b : Bool) → is_request e.step.taken.body ≡ b → is_fair tx e.step.taken.body ≡ true
         by true is = request_fair tx e.step.taken.body is
-        by false is = is_true (is_fair tx e.step.taken.body) (signal is (is_loss tx e.step.taken.to e.step.taken.body) refl)
+        by false is =
+            is_true (is_fair tx e.step.taken.body) (signal is (is_loss tx e.step.taken.to e.step.taken.body) refl)
 
     log_more : (h : ℕ) → log_of (machine start) (e ∷ es) h ≡ newer_in (e ∷ all.more) h ++ was h
     log_more h = by (cases_eq e.host h)
       where
         by : (e.host ≡ h) ⊎ (e.host ≢ h) → log_of (machine start) (e ∷ es) h ≡ newer_in (e ∷ all.more) h ++ was h
-        by (inl at) = log_of-own (machine start) e es h at ∙ ap (λ w. e ∷ w) (all.is h) ∙ ap (λ w. w ++ was h) (sym (log_of-own (machine start) e all.more h at))
-        by (inr other) = log_of-other (machine start) e es h other ∙ all.is h ∙ ap (λ w. w ++ was h) (sym (log_of-other (machine start) e all.more h other))
+        by (inl at) = log_of-own (machine start) e es h at ∙ ap (λ w. e ∷ w) (all.is h)
+            ∙ ap (λ w. w ++ was h) (sym (log_of-own (machine start) e all.more h at))
+        by (inr other) = log_of-other (machine start) e es h other ∙ all.is h
+            ∙ ap (λ w. w ++ was h) (sym (log_of-other (machine start) e all.more h other))
 
     -- a claim of each host's steps that its own step keeps
-    each_host : (P : (h : ℕ) → List HostStep → Type 0) → ((h : ℕ) → P h (newer_in all.more h)) → ((h : ℕ) → e.host ≡ h → P h (newer_in all.more h) → P h (e ∷ newer_in all.more h)) → (h : ℕ) → P h (newer_in (e ∷ all.more) h)
+    each_host : (P : (h : ℕ) → List HostStep → Type 0) → ((h : ℕ) → P h (newer_in all.more h))
+        → ((h : ℕ) → e.host ≡ h → P h (newer_in all.more h) → P h (e ∷ newer_in all.more h)) → (h : ℕ)
+        → P h (newer_in (e ∷ all.more) h)
     each_host P old step h = by (cases_eq e.host h)
       where
         by : (e.host ≡ h) ⊎ (e.host ≢ h) → P h (newer_in (e ∷ all.more) h)
@@ -240,18 +259,33 @@ module _ (start : Start) (was now : ℕ → List HostStep) (before : AreQuiet st
         by (inl clean) = from_clean clean
         by (inr gone) = from_gone gone
 
-  event_holds : (es : List HostStep) (e : HostStep) → Run (machine start) es → Happens (machine start) es e → Holds (log_of (machine start) es) → Holds (log_of (machine start) (e ∷ es))
-  event_holds es e run happens h = record { holds = λ inside. next es e happens inside (h.holds (λ k. past_trans (log_of-past (machine start) e es k) (inside k))) }
+  event_holds : (es : List HostStep) (e : HostStep) → Run (machine start) es → Happens (machine start) es e
+      → Holds (log_of (machine start) es) → Holds (log_of (machine start) (e ∷ es))
+  event_holds es e run happens h = record {
+    holds = λ inside. next es e happens inside
+        (h.holds (λ k. past_trans (log_of-past (machine start) e es k) (inside k)));
+  }
 
   -- so nothing bad is sent
   pub no_bad : (h : ℕ) → sent_since start (is_bad tx) h (cut h).newer (was h) ≡ 0
   no_bad h = subst (λ newer. sent_since start (is_bad tx) h newer (was h) ≡ 0) (sym same) (all.good h)
     where
       begin : Holds was
-      begin = record { holds = λ inside. record { more = []; is = λ k. refl; good = λ k. refl; stage = inl (record { fair = λ k. refl; is_open = open_was }) } }
+      begin = record {
+        holds = λ inside. record {
+          more = [];
+          is = λ k. refl;
+          good = λ k. refl;
+          stage = inl (record {
+            fair = λ k. refl;
+            is_open = open_was;
+          });
+        };
+      }
 
       all : AllHold now
-      all = (along_cuts (machine start) (stamped start) Holds event_holds (hosts start) was now since.within since.right before.right cut begin).holds (λ k. past_self (now k))
+      all = (along_cuts (machine start) (stamped start) Holds event_holds (hosts start) was now since.within since.right
+          before.right cut begin).holds (λ k. past_self (now k))
 
       same : (cut h).newer ≡ newer_in all.more h
       same = append_cancel_right (cut h).newer (newer_in all.more h) (was h) (sym (cut h).is ∙ all.is h)

@@ -1,4 +1,5 @@
--- At quiet an operation that was sent is unanswered at its coordinator, and held up at one of the nodes that it is sent along.
+-- At quiet an operation that was sent is unanswered at its coordinator, and held up at one of the nodes that it is sent
+-- along.
 use Rattle.std.proofs.Common.{◌≡◌, ◌≢◌, ◌⊎◌, ◌<◌, ◌≤◌, ◌+◌, ℕ, zero, suc, Bool, true, false, List, [], ◌∷◌, length, refl, sym, ap, ◌∙◌, subst, inl, inr, arith}
 use Rattle.std.proofs.lemmas.Bool.{cases_eq}
 use Rattle.std.specs.Prelude.{if◌then◌else◌, Option, None, Some, is_some, not}
@@ -59,7 +60,8 @@ pub total_two : (n : ℕ) (f : ℕ → ℕ) (i j : ℕ) → i < n → j < n → 
 total_two zero f i j low under apart = absurd (omega (arith, low))
 total_two (suc n) f i j low under apart = by (cases_eq n i) (cases_eq n j) (total_two n f i j)
   where
-    by : (n ≡ i) ⊎ (n ≢ i) → (n ≡ j) ⊎ (n ≢ j) → (i < n → j < n → i ≢ j → f i + f j ≤ total n f) → f i + f j ≤ f n + total n f
+    by : (n ≡ i) ⊎ (n ≢ i) → (n ≡ j) ⊎ (n ≢ j) → (i < n → j < n → i ≢ j → f i + f j ≤ total n f)
+        → f i + f j ≤ f n + total n f
     by (inl a) (inl b) more = absurd (apart (sym a ∙ b))
     by (inl a) (inr b) more = omega (arith, ap f a, total_at n f j (omega (arith, under, b)))
     by (inr a) (inl b) more = omega (arith, ap f b, total_at n f i (omega (arith, low, a)))
@@ -74,7 +76,11 @@ record IsMemberAt (chain : List Member) (at : ℕ) : Type 0 where
 member_at : (chain : List Member) (at : ℕ) → at < length chain → IsMemberAt chain at
 member_at [] at low = absurd (omega (arith, low))
 member_at (m ∷ chain) zero low = record { member = m; inside = inl refl; node_is = refl }
-member_at (m ∷ chain) (suc at) low = let rest = member_at chain at (omega (arith, low)) in record { member = rest.member; inside = inr rest.inside; node_is = rest.node_is }
+member_at (m ∷ chain) (suc at) low = let rest = member_at chain at (omega (arith, low)) in record {
+  member = rest.member;
+  inside = inr rest.inside;
+  node_is = rest.node_is;
+}
 
 few_budget : (b : Bool) (o : Option Transaction) → budget_by b o ≤ 1
 few_budget b (Some t) = by (is_aborting t.phase)
@@ -103,7 +109,8 @@ module _ (start : Start) (logs : ℕ → List HostStep) (quiet : AreQuiet start 
   run = record {
     shape = quiet.shape;
     run = merged_run (machine start) (stamped start) (hosts start) logs quiet.within quiet.right;
-    within = subst (IsWithin (hosts start)) (sym (logs_merged (machine start) (hosts start) logs quiet.within quiet.right)) quiet.within;
+    within = subst (IsWithin (hosts start))
+        (sym (logs_merged (machine start) (hosts start) logs quiet.within quiet.right)) quiet.within;
   }
 
   -- at most one request of a transaction waits
@@ -122,7 +129,8 @@ module _ (start : Start) (logs : ℕ → List HostStep) (quiet : AreQuiet start 
       let xs = runs_have_transit start es run in
       subst (λ w. IsHostRouted start (after start h (w h))) same ((signals_are_routed start es xs.0 run xs.1).hosts h)
 
-  module _ (t : OpenTransaction) (inside : IsIn t (opened_after start logs)) (tx : TxId) (own : t.tx ≡ Some tx) (does : t.doing ≡ Operating) where
+  module _ (t : OpenTransaction) (inside : IsIn t (opened_after start logs)) (tx : TxId) (own : t.tx ≡ Some tx)
+      (does : t.doing ≡ Operating) where
     served : IsKeptByCoordinator start logs t tx
     served = each_served start logs t quiet inside tx own
 
@@ -135,7 +143,9 @@ module _ (start : Start) (logs : ℕ → List HostStep) (quiet : AreQuiet start 
     asked_there None e =
         ap is_some (sym e)
         ∙ asked_where_operating start logs t quiet inside tx served.transaction own does served.live
-        (only_open served.transaction.phase (no_epoch start logs (home start tx) tx served.transaction quiet low served.live) served.uncommitted served.unreported
+        (only_open served.transaction.phase
+        (no_epoch start logs (home start tx) tx served.transaction quiet low served.live) served.uncommitted
+        served.unreported
         (no_abort start logs (home start tx) tx served.transaction quiet low served.live e))
 
     module _ (asked : Asked) (unanswered : served.transaction.asked ≡ Some asked) where
@@ -146,10 +156,12 @@ module _ (start : Start) (logs : ℕ → List HostStep) (quiet : AreQuiet start 
       waits = operations_wait start logs (home start tx) tx served.transaction asked quiet low served.live unanswered
 
       some_queued : (g : Host) → IsQueuedAt tx g → 1 ≤ waiting_in tx g
-      some_queued g q = tally_in (λ (r : Request). same_tx r.tx tx) q.request (lqh_of g).waiting q.waits (ap (λ v. same_tx v tx) q.own ∙ same_tx-self tx)
+      some_queued g q = tally_in (λ (r : Request). same_tx r.tx tx) q.request (lqh_of g).waiting q.waits
+          (ap (λ v. same_tx v tx) q.own ∙ same_tx-self tx)
 
       some_waiting : (g : Host) → IsWaitingAt tx (key_of asked.op) g → 1 ≤ waiting_in tx g
-      some_waiting g w = tally_in (λ (r : Request). same_tx r.tx tx) w.request (lqh_of g).waiting w.waits (ap (λ v. same_tx v tx) w.own ∙ same_tx-self tx)
+      some_waiting g w = tally_in (λ (r : Request). same_tx r.tx tx) w.request (lqh_of g).waiting w.waits
+          (ap (λ v. same_tx v tx) w.own ∙ same_tx-self tx)
 
       abbrev queued_host : ℕ
       queued_host = rows_host start queued.node
@@ -186,14 +198,18 @@ module _ (start : Start) (logs : ℕ → List HostStep) (quiet : AreQuiet start 
       is_held true e = refl
       is_held false e = cc
 
-      request_for : (g : Host) → waiting_in tx g ≤ 1 → IsHostRouted start g → IsQueuedAt tx g → IsWaitingAt tx (key_of asked.op) g → IsFor g
+      request_for : (g : Host) → waiting_in tx g ≤ 1 → IsHostRouted start g → IsQueuedAt tx g
+          → IsWaitingAt tx (key_of asked.op) g → IsFor g
       request_for g few r q w =
-          let one : q.request ≡ w.request = only_one (λ (x : Request). same_tx x.tx tx) (lqh_of g).waiting q.request w.request few q.waits w.waits (ap (λ v. same_tx v tx) q.own ∙ same_tx-self tx) (ap (λ v. same_tx v tx) w.own ∙ same_tx-self tx) in
+          let one : q.request ≡ w.request = only_one (λ (x : Request). same_tx x.tx tx) (lqh_of g).waiting q.request
+          w.request few q.waits w.waits (ap (λ v. same_tx v tx) q.own ∙ same_tx-self tx)
+          (ap (λ v. same_tx v tx) w.own ∙ same_tx-self tx) in
           let key_is : work_key q.request.work ≡ key_of asked.op = ap (λ (x : Request). work_key x.work) one ∙ w.on in
           record {
             request = q.request;
             on = key_is;
-            routed_so = each_in (λ (x : Request). IsRequestRouted start (lqh_of g).node x) q.request (lqh_of g).waiting r.waiting q.waits;
+            routed_so = each_in (λ (x : Request). IsRequestRouted start (lqh_of g).node x) q.request (lqh_of g).waiting
+                r.waiting q.waits;
             held = ap (λ k. is_some (ahead_at (lqh_of g).locks k tx)) (sym key_is)
                 ∙ ap (λ v. is_some (ahead_at (lqh_of g).locks (work_key q.request.work) v)) (sym q.own)
                 ∙ is_held (is_some (ahead_at (lqh_of g).locks (work_key q.request.work) q.request.tx)) q.queued;
@@ -202,17 +218,27 @@ module _ (start : Start) (logs : ℕ → List HostStep) (quiet : AreQuiet start 
       for : IsFor (after start queued_host (logs queued_host))
       for =
           request_for (after start queued_host (logs queued_host))
-          (omega (arith, few_waiting tx, total_at (hosts start) (λ h. waiting_in tx (after start h (logs h))) queued_host queued_low))
-          (routed queued_host) queued.there (subst (λ k. IsWaitingAt tx (key_of asked.op) (after start k (logs k))) (sym same_host) waits.there)
+          (omega (
+            arith,
+            few_waiting tx,
+            total_at (hosts start) (λ h. waiting_in tx (after start h (logs h)))
+                queued_host queued_low,
+          ))
+          (routed queued_host) queued.there
+          (subst (λ k. IsWaitingAt tx (key_of asked.op) (after start k (logs k))) (sym same_host) waits.there)
 
       -- the operation is sent along the replicas of its key
-      sent_along : (g : Host) → IsHostRouted start g → IsLiveAs tx served.transaction g → asked.chain ≡ replicas start (key_of asked.op)
+      sent_along : (g : Host) → IsHostRouted start g → IsLiveAs tx served.transaction g
+          → asked.chain ≡ replicas start (key_of asked.op)
       sent_along g r l =
-          let u = each_in (λ (e : TxId × Transaction). IsTransactionRouted start e.1) (tx, served.transaction) (tc_of g).live r.live l in
+          let u = each_in (λ (e : TxId × Transaction). IsTransactionRouted start e.1) (tx, served.transaction)
+          (tc_of g).live r.live l in
           by served.transaction.asked unanswered u.asked
         where
-          by : (o : Option Asked) → o ≡ Some asked → IsAskedRouted start o → asked.chain ≡ replicas start (key_of asked.op)
-          by (Some other) is so = let one : other ≡ asked = cc in subst (λ (a : Asked). a.chain ≡ replicas start (key_of a.op)) one so
+          by : (o : Option Asked) → o ≡ Some asked → IsAskedRouted start o
+              → asked.chain ≡ replicas start (key_of asked.op)
+          by (Some other) is so =
+              let one : other ≡ asked = cc in subst (λ (a : Asked). a.chain ≡ replicas start (key_of a.op)) one so
           by None is so = cc
 
       at_member : IsMemberAt for.request.chain for.request.at
@@ -232,9 +258,13 @@ module _ (start : Start) (logs : ℕ → List HostStep) (quiet : AreQuiet start 
         asked = asked;
         unanswered = unanswered;
         member = at_member.member;
-        inside = subst (IsIn at_member.member) (for.routed_so.chain ∙ ap (replicas start) for.on ∙ sym (sent_along (after start (home start tx) (logs (home start tx))) (routed (home start tx)) served.live)) at_member.inside;
+        inside = subst (IsIn at_member.member)
+            (for.routed_so.chain ∙ ap (replicas start) for.on
+            ∙ sym (sent_along (after start (home start tx) (logs (home start tx))) (routed (home start tx))
+            served.live)) at_member.inside;
         low = omega (arith, own_node, rows_own.low);
-        held = subst (λ k. IsHeldUpAt tx (key_of asked.op) (after start k (logs k))) (rows_own.is ∙ ap (rows_host start) own_node) for.held;
+        held = subst (λ k. IsHeldUpAt tx (key_of asked.op) (after start k (logs k)))
+            (rows_own.is ∙ ap (rows_host start) own_node) for.held;
       }
 
     held_by : (o : Option Asked) → served.transaction.asked ≡ o → is_some o ≡ true → IsHeldUp start logs tx
@@ -244,4 +274,5 @@ module _ (start : Start) (logs : ℕ → List HostStep) (quiet : AreQuiet start 
 pub each_held_up : EachIsHeldUp
 each_held_up start logs t quiet inside tx own does =
     held_by start logs quiet t inside tx own does (served start logs quiet t inside tx own does).transaction.asked refl
-    (asked_there start logs quiet t inside tx own does (served start logs quiet t inside tx own does).transaction.asked refl)
+    (asked_there start logs quiet t inside tx own does (served start logs quiet t inside tx own does).transaction.asked
+    refl)

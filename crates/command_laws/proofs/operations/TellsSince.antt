@@ -1,4 +1,5 @@
--- Along a log of its host, an operation of a transaction is answered or its abort is reported, and not both. Other hosts tell nothing of it.
+-- Along a log of its host, an operation of a transaction is answered or its abort is reported, and not both. Other
+-- hosts tell nothing of it.
 use Rattle.std.proofs.Common.{◌≡◌, ◌≢◌, ◌<◌, ◌≤◌, ◌+◌, ℕ, false, List, [], ◌∷◌, ◌++◌, refl, sym, subst, arith}
 use Rattle.run_theory.specs.Lists.{Each}
 use Rattle.sig_core.specs.declared.member.TxId.{TxId}
@@ -29,24 +30,35 @@ OnTc P g = P (tc_of g)
 
 module _ (start : Start) (tx : TxId) where
   -- along steps without a wish for an abort, where at most one operation is unanswered or comes
-  pub tells_since : (h : ℕ) (newer log : List HostStep) (asked : ℕ) → Each (λ (e : HostStep). is_wish_back_to tx e.step.taken.to e.step.taken.body ≡ false) newer → asked + steps (is_key tx) newer ≤ 1
+  pub tells_since : (h : ℕ) (newer log : List HostStep) (asked : ℕ)
+      → Each (λ (e : HostStep). is_wish_back_to tx e.step.taken.to e.step.taken.body ≡ false) newer
+      → asked + steps (is_key tx) newer ≤ 1
       → OnTc (HasTold tx asked 0 0 0) (after start h log)
-      → OnTc (HasTold tx asked (steps (is_key tx) newer) (sent_since start (is_reply tx) h newer log) (sent_since start (is_back tx) h newer log)) (after start h (newer ++ log))
+      → OnTc (HasTold tx asked (steps (is_key tx) newer) (sent_since start (is_reply tx) h newer log)
+      (sent_since start (is_back tx) h newer log)) (after start h (newer ++ log))
   tells_since h [] log asked wish once has = has
-  tells_since h (e ∷ newer) log asked wish once has = next (tells_since h newer log asked wish.1 (omega (arith, once)) has)
+  tells_since h (e ∷ newer) log asked wish once has =
+      next (tells_since h newer log asked wish.1 (omega (arith, once)) has)
     where
-      turned : one_if (is_key tx e.step.taken.to e.step.taken.body) + steps (is_key tx) newer ≡ steps (is_key tx) newer + one_if (is_key tx e.step.taken.to e.step.taken.body)
+      turned : one_if (is_key tx e.step.taken.to e.step.taken.body) + steps (is_key tx) newer
+          ≡ steps (is_key tx) newer + one_if (is_key tx e.step.taken.to e.step.taken.body)
       turned = omega arith
 
-      next : OnTc (HasTold tx asked (steps (is_key tx) newer) (sent_since start (is_reply tx) h newer log) (sent_since start (is_back tx) h newer log)) (after start h (newer ++ log))
-          → OnTc (HasTold tx asked (steps (is_key tx) (e ∷ newer)) (sent_since start (is_reply tx) h (e ∷ newer) log) (sent_since start (is_back tx) h (e ∷ newer) log)) (after start h (e ∷ (newer ++ log)))
+      next : OnTc (HasTold tx asked (steps (is_key tx) newer) (sent_since start (is_reply tx) h newer log)
+          (sent_since start (is_back tx) h newer log)) (after start h (newer ++ log))
+          → OnTc (HasTold tx asked (steps (is_key tx) (e ∷ newer)) (sent_since start (is_reply tx) h (e ∷ newer) log)
+          (sent_since start (is_back tx) h (e ∷ newer) log)) (after start h (e ∷ (newer ++ log)))
       next before =
-          subst (λ k. OnTc (HasTold tx asked k (sent_since start (is_reply tx) h (e ∷ newer) log) (sent_since start (is_back tx) h (e ∷ newer) log)) (after start h (e ∷ (newer ++ log)))) (sym turned)
-          (host_tells tx (after start h (newer ++ log)) e.step.taken (sound_at start tx h (newer ++ log)) wish.0 asked (steps (is_key tx) newer)
-          (sent_since start (is_reply tx) h newer log) (sent_since start (is_back tx) h newer log) (omega (arith, once)) before)
+          subst (λ k. OnTc (HasTold tx asked k (sent_since start (is_reply tx) h (e ∷ newer) log)
+          (sent_since start (is_back tx) h (e ∷ newer) log)) (after start h (e ∷ (newer ++ log)))) (sym turned)
+          (host_tells tx (after start h (newer ++ log)) e.step.taken (sound_at start tx h (newer ++ log)) wish.0 asked
+          (steps (is_key tx) newer)
+          (sent_since start (is_reply tx) h newer log) (sent_since start (is_back tx) h newer log) (omega (arith, once))
+          before)
 
   -- another host than its home tells nothing of it
-  pub away_since : (h : ℕ) → h < hosts start → home start tx ≢ h → (newer log : List HostStep) → sent_since start (is_told tx) h newer log ≡ 0
+  pub away_since : (h : ℕ) → h < hosts start → home start tx ≢ h → (newer log : List HostStep)
+      → sent_since start (is_told tx) h newer log ≡ 0
   away_since h low away [] log = refl
   away_since h low away (e ∷ newer) log = omega (arith, away_since h low away newer log, here)
     where
@@ -68,7 +80,8 @@ module _ (start : Start) (tx : TxId) where
   shell_since newer log = shell_silent (is_told tx) (not_of_api (is_told tx) (told_tc tx)) start newer log
 
   -- what isn't told isn't answered, nor is the abort reported
-  pub since_none : (h : ℕ) (newer log : List HostStep) → sent_since start (is_told tx) h newer log ≡ 0 → (sent_since start (is_reply tx) h newer log ≡ 0) × (sent_since start (is_back tx) h newer log ≡ 0)
+  pub since_none : (h : ℕ) (newer log : List HostStep) → sent_since start (is_told tx) h newer log ≡ 0
+      → (sent_since start (is_reply tx) h newer log ≡ 0) × (sent_since start (is_back tx) h newer log ≡ 0)
   since_none h [] log none = (refl, refl)
   since_none h (e ∷ newer) log none =
       let rest = since_none h newer log (omega (arith, none)) in

@@ -54,11 +54,22 @@ module _ (tx : TxId) where
       by _ k = refl
 
   -- a turn that sends neither kind
-  silent : (turn : Turn) → are_of is_keyless turn.step.effects.sends ≡ true → are_of is_no_abort turn.step.effects.sends ≡ true → TurnTells tx turn
-  silent turn keys aborts = inl (none_of is_keyless (is_reply tx) no_reply_keyless turn.step.effects.sends keys, none_of is_no_abort (is_back tx) (no_back_firm tx) turn.step.effects.sends aborts)
+  silent : (turn : Turn) → are_of is_keyless turn.step.effects.sends ≡ true
+      → are_of is_no_abort turn.step.effects.sends ≡ true → TurnTells tx turn
+  silent turn keys aborts = inl (
+    none_of is_keyless (is_reply tx) no_reply_keyless turn.step.effects.sends keys,
+    none_of
+        is_no_abort (is_back tx) (no_back_firm tx) turn.step.effects.sends aborts,
+  )
 
   keyless_chains : HasChains tx is_keyless
-  keyless_chains = record { commits = λ key epoch chain at. refl; completes = λ key chain at. refl; aborts = λ key. refl; goes_on = λ at. refl }
+  keyless_chains = record {
+    commits =
+        λ key epoch chain at. refl;
+    completes = λ key chain at. refl;
+    aborts = λ key. refl;
+    goes_on = λ at. refl;
+  }
 
   front_keyless : (phase : Phase) → are_of is_keyless (front_sends tx phase) ≡ true
   unfolding front_sends
@@ -71,15 +82,24 @@ module _ (tx : TxId) where
   module _ (node : ℕ) (layout : Layout) (t : Transaction) where
     enters : (u : Transaction) (phase : Phase) → TurnTells tx (going (entering node layout tx u phase))
     enters u phase =
-        silent (going (entering node layout tx u phase)) (entering_of_kind is_keyless layout tx keyless_chains node u phase (front_keyless phase))
+        silent (going (entering node layout tx u phase))
+        (entering_of_kind is_keyless layout tx keyless_chains node u phase (front_keyless phase))
         (entering_of_kind is_no_abort layout tx (has_chains tx) node u phase (fronts tx phase))
 
-    end_keyless : (why : AbortCause) (verifying : Bool) → are_of is_keyless (abort.abort_end node tx why verifying) ≡ true
+    end_keyless : (why : AbortCause) (verifying : Bool)
+        → are_of is_keyless (abort.abort_end node tx why verifying) ≡ true
     end_keyless why true = refl
     end_keyless why false = refl
 
-    over_by : (u : Transaction) (why : AbortCause) (verifying : Bool) → TurnTells tx (record { step = record { state = u; effects = record { sends = abort.abort_end node tx why verifying; marks = [] } }; over = true })
-    over_by u why verifying = inr (inr (none_of is_keyless (is_reply tx) no_reply_keyless (abort.abort_end node tx why verifying) (end_keyless why verifying), refl))
+    over_by : (u : Transaction) (why : AbortCause) (verifying : Bool) → TurnTells tx (record {
+      step = record { state = u; effects = record { sends = abort.abort_end node tx why verifying; marks = [] } };
+      over = true;
+    })
+    over_by u why verifying = inr (inr (
+      none_of is_keyless (is_reply tx) no_reply_keyless
+          (abort.abort_end node tx why verifying) (end_keyless why verifying),
+      refl,
+    ))
 
     aborts : (u : Transaction) (why : AbortCause) → AbortForms node layout tx u why (TurnTells tx)
     aborts u why = record { enters = λ some. enters u _; ends = λ none. over_by u why (abort.is_verifying u.phase) }
@@ -91,14 +111,23 @@ module _ (tx : TxId) where
     turns_tell body = record {
       stays = silent _ refl refl;
       goes_on = λ at.
-          silent (going (go_on_if node layout tx t at true)) (rest_of_kind is_keyless layout tx keyless_chains node t at (front_keyless t.phase))
+          silent (going (go_on_if node layout tx t at true))
+          (rest_of_kind is_keyless layout tx keyless_chains node t at (front_keyless t.phase))
           (rest_of_kind is_no_abort layout tx (has_chains tx) node t at (fronts tx t.phase));
       operates = λ op is can. silent _ refl refl;
-      answers = λ key answer asked is on at. inr (inl (refl, record { goes = refl; firm = ap (λ p. is_firm p None) at }));
+      answers = λ key answer asked is on at. inr (inl (
+        refl,
+        record {
+          goes = refl;
+          firm = ap (λ p. is_firm p None) at;
+        },
+      ));
       late = λ key asked why verifying awaited on at.
-          silent (going (operate.late_answer layout tx t key)) (keyless.late_keyless layout tx t key) (aborts_of_kind is_no_abort layout tx (has_chains tx) key (chain_of layout key));
+          silent (going (operate.late_answer layout tx t key)) (keyless.late_keyless layout tx t key)
+          (aborts_of_kind is_no_abort layout tx (has_chains tx) key (chain_of layout key));
       waits = λ asked on.
-          silent (going (operate.wait_by tx t (Some asked))) (of_map is_keyless (wait_of tx (key_of asked.op)) asked.chain (λ m. refl))
+          silent (going (operate.wait_by tx t (Some asked)))
+          (of_map is_keyless (wait_of tx (key_of asked.op)) asked.chain (λ m. refl))
           (of_map is_no_abort (wait_of tx (key_of asked.op)) asked.chain (λ m. refl));
       decides = λ is ready. silent _ refl refl;
       commits = λ epoch is at some. enters t _;
@@ -113,5 +142,6 @@ module _ (tx : TxId) where
       aborted_all = λ why verifying awaited at last. over_by t why verifying;
     }
 
-pub turn_tells : (s : TcState) (tx : TxId) (body : Body) (t : Transaction) → tx_in body ≡ tx → TurnTells tx (turn_row s body t)
+pub turn_tells : (s : TcState) (tx : TxId) (body : Body) (t : Transaction) → tx_in body ≡ tx
+    → TurnTells tx (turn_row s body t)
 turn_tells s tx body t same = turn_at s tx body t (TurnTells tx) same (turns_tell tx s.node s.layout t body)

@@ -24,7 +24,8 @@ past_either : {A : Type 0} (zs : List A) {xs ys : List A} → IsPast xs zs → I
 past_either [] {xs} {ys} p q = inl (subst (λ w. IsPast w ys) (sym (past_whole xs [] p (omega arith))) (past_nil ys))
 past_either {A} (z ∷ zs) {xs} {ys} p q = by (past_cases z p) (past_cases z q) (λ a b. past_either zs a b)
   where
-    by : (z ∷ zs ≡ xs) ⊎ IsPast xs zs → (z ∷ zs ≡ ys) ⊎ IsPast ys zs → (IsPast xs zs → IsPast ys zs → IsPast xs ys ⊎ IsPast ys xs) → IsPast xs ys ⊎ IsPast ys xs
+    by : (z ∷ zs ≡ xs) ⊎ IsPast xs zs → (z ∷ zs ≡ ys) ⊎ IsPast ys zs
+        → (IsPast xs zs → IsPast ys zs → IsPast xs ys ⊎ IsPast ys xs) → IsPast xs ys ⊎ IsPast ys xs
     by (inl is) q' rest = inr (subst (IsPast ys) is q)
     by (inr p') (inl is) rest = inl (subst (IsPast xs) is p)
     by (inr p') (inr q') rest = rest p' q'
@@ -44,7 +45,8 @@ module _ {E X : Type 0} (m : Machine E X) where
     pub first : (h : ℕ) (log : List E) (e : E) → m.Fits h log e → m.asked e ≡ true → h ≡ 0
 
   -- what a link gave was sent
-  given_sent : IsAskedAtFirst → (i j : ℕ) (log : List E) (xs : List X) → IsGiven m i j log xs → IsPast xs (sent m i j log)
+  given_sent : IsAskedAtFirst → (i j : ℕ) (log : List E) (xs : List X) → IsGiven m i j log xs
+      → IsPast xs (sent m i j log)
   given_sent only i j log xs (inl past) = past
   given_sent only i j [] xs (inr closing) = absurd closing
   given_sent only i j (e ∷ log) xs (inr closing) = absurd (false≢true (sym (only.never e) ∙ closing.stops))
@@ -59,7 +61,8 @@ module _ {E X : Type 0} (m : Machine E X) where
     pub quiet : IsQuiet m n now
     pub first : IsPast (was 0) (now 0)
 
-  module _ (stamped : IsStamped m) (only : IsAskedAtFirst) (n : ℕ) (was now logs : ℕ → List E) (of : AreOfLogs n was now logs) where
+  module _ (stamped : IsStamped m) (only : IsAskedAtFirst) (n : ℕ) (was now logs : ℕ → List E)
+      (of : AreOfLogs n was now logs) where
     -- a host whose log isn't empty is below n
     low : (inside : ℕ → List E) (h : ℕ) → IsCut inside logs → 1 ≤ length (inside h) → h < n
     low inside h cut some = by (cases_lt h n)
@@ -80,22 +83,34 @@ module _ {E X : Type 0} (m : Machine E X) where
         most = past_short (sent_past i j (inside i))
 
         by : (i < n) ⊎ (n ≤ i) → ⊥
-        by (inl below) = omega (arith, more, most, ap length (of.quiet i j below under), past_short (taken_past m i short))
-        by (inr high) = omega (arith, more, most, ap (λ log. length (sent m i j log)) (within_cut m stamped n now logs of.within of.now_cut i high))
+        by (inl below) =
+            omega (arith, more, most, ap length (of.quiet i j below under), past_short (taken_past m i short))
+        by (inr high) = omega (
+          arith,
+          more,
+          most,
+          ap (λ log. length (sent m i j log))
+              (within_cut m stamped n now logs of.within of.now_cut i high),
+        )
 
     -- each event of a run to the earlier moment has come at the later one
-    own_next : (es : List E) (e : E) → Happens m es e → IsCut (log_of m es) now → IsPast (e ∷ log_of m es (m.host e)) (was (m.host e)) → IsPast (e ∷ log_of m es (m.host e)) (now (m.host e))
+    own_next : (es : List E) (e : E) → Happens m es e → IsCut (log_of m es) now
+        → IsPast (e ∷ log_of m es (m.host e)) (was (m.host e)) → IsPast (e ∷ log_of m es (m.host e)) (now (m.host e))
     own_next es e happens inside here = by (past_either (logs j) (past_trans here (of.was_cut j)) (of.now_cut j))
       where
         j : ℕ
         j = m.host e
 
         past : IsPast (now j) (log_of m es j) → (b : Bool) → m.asked e ≡ b → IsPast (e ∷ log_of m es j) (now j)
-        past short true asked = past_trans here (subst (λ k. IsPast (was k) (now k)) (sym (only.first j (log_of m es j) e happens.step.fits asked)) of.first)
+        past short true asked = past_trans here
+            (subst (λ k. IsPast (was k) (now k)) (sym (only.first j (log_of m es j) e happens.step.fits asked))
+            of.first)
         past short false plain =
-            absurd (none_gives es (m.from (m.signal e)) j (m.signal e) (low was j of.was_cut (omega (arith, past_short here))) inside short (happens.takes plain))
+            absurd (none_gives es (m.from (m.signal e)) j (m.signal e)
+            (low was j of.was_cut (omega (arith, past_short here))) inside short (happens.takes plain))
 
-        by : IsPast (e ∷ log_of m es j) (now j) ⊎ IsPast (now j) (e ∷ log_of m es j) → IsPast (e ∷ log_of m es j) (now j)
+        by : IsPast (e ∷ log_of m es j) (now j) ⊎ IsPast (now j) (e ∷ log_of m es j)
+            → IsPast (e ∷ log_of m es j) (now j)
         by (inl has) = has
         by (inr short) = again (past_cases e short)
           where
@@ -103,7 +118,8 @@ module _ {E X : Type 0} (m : Machine E X) where
             again (inl is) = subst (IsPast (e ∷ log_of m es j)) is (past_self (e ∷ log_of m es j))
             again (inr shorter) = past shorter (m.asked e) refl
 
-    next : (es : List E) (e : E) → Run m es → Happens m es e → (IsCut (log_of m es) was → IsCut (log_of m es) now) → IsCut (log_of m (e ∷ es)) was → IsCut (log_of m (e ∷ es)) now
+    next : (es : List E) (e : E) → Run m es → Happens m es e → (IsCut (log_of m es) was → IsCut (log_of m es) now)
+        → IsCut (log_of m (e ∷ es)) was → IsCut (log_of m (e ∷ es)) now
     next es e run happens before inside h = by (cases_eq (m.host e) h)
       where
         old : IsCut (log_of m es) now
@@ -112,7 +128,8 @@ module _ {E X : Type 0} (m : Machine E X) where
         own : IsPast (log_of m (e ∷ es) (m.host e)) (now (m.host e))
         own =
             let is = log_of-own m e es (m.host e) refl in
-            subst (λ w. IsPast w (now (m.host e))) (sym is) (own_next es e happens old (subst (λ w. IsPast w (was (m.host e))) is (inside (m.host e))))
+            subst (λ w. IsPast w (now (m.host e))) (sym is)
+            (own_next es e happens old (subst (λ w. IsPast w (was (m.host e))) is (inside (m.host e))))
 
         by : (m.host e ≡ h) ⊎ (m.host e ≢ h) → IsPast (log_of m (e ∷ es) h) (now h)
         by (inl at) = subst (λ k. IsPast (log_of m (e ∷ es) k) (now k)) at own
@@ -132,4 +149,5 @@ module _ {E X : Type 0} (m : Machine E X) where
         same = logs_merged m n was inside of.right
 
         all : IsCut (log_of m es) was → IsCut (log_of m es) now
-        all = along_run m (λ fs. IsCut (log_of m fs) was → IsCut (log_of m fs) now) (λ cut h. past_nil (now h)) next es (merged_run m stamped n was inside of.right)
+        all = along_run m (λ fs. IsCut (log_of m fs) was → IsCut (log_of m fs) now) (λ cut h. past_nil (now h)) next es
+            (merged_run m stamped n was inside of.right)

@@ -39,7 +39,8 @@ use Rattle.command_laws.specs.Served.{IsServedBetween}
 pub requests_append : (newer log : List HostStep) → requests (newer ++ log) ≡ requests log ++ requests newer
 requests_append [] log = sym (append-nil (requests log))
 requests_append (e ∷ newer) log =
-    ap (λ rs. rs ++ option_to_list (request_in e.step.taken.body)) (requests_append newer log) ∙ append_assoc (requests log) (requests newer) (option_to_list (request_in e.step.taken.body))
+    ap (λ rs. rs ++ option_to_list (request_in e.step.taken.body)) (requests_append newer log)
+    ∙ append_assoc (requests log) (requests newer) (option_to_list (request_in e.step.taken.body))
 
 cancel : {A : Type 0} (xs ys zs : List A) → xs ++ ys ≡ xs ++ zs → ys ≡ zs
 cancel [] ys zs is = is
@@ -50,7 +51,8 @@ none_asked (Host (Continue (Request request) at)) none = cc
 none_asked _ none = refl
 
 -- a log without requests
-pub no_requests : (log : List HostStep) → requests log ≡ [] → Each (λ (e : HostStep). is_request e.step.taken.body ≡ false) log
+pub no_requests : (log : List HostStep) → requests log ≡ []
+    → Each (λ (e : HostStep). is_request e.step.taken.body ≡ false) log
 no_requests [] none = tt
 no_requests (e ∷ log) none = by (request_in e.step.taken.body) refl (front (requests log) none) (no_requests log)
   where
@@ -58,13 +60,16 @@ no_requests (e ∷ log) none = by (request_in e.step.taken.body) refl (front (re
     front [] is = (refl, is)
     front (x ∷ xs) is = absurd cc
 
-    by : (o : Option ApiReq) → request_in e.step.taken.body ≡ o → (requests log ≡ []) × (option_to_list (request_in e.step.taken.body) ≡ [])
-        → (requests log ≡ [] → Each (λ (f : HostStep). is_request f.step.taken.body ≡ false) log) → Each (λ (f : HostStep). is_request f.step.taken.body ≡ false) (e ∷ log)
+    by : (o : Option ApiReq) → request_in e.step.taken.body ≡ o
+        → (requests log ≡ []) × (option_to_list (request_in e.step.taken.body) ≡ [])
+        → (requests log ≡ [] → Each (λ (f : HostStep). is_request f.step.taken.body ≡ false) log)
+        → Each (λ (f : HostStep). is_request f.step.taken.body ≡ false) (e ∷ log)
     by None is both rest = (none_asked e.step.taken.body is, rest both.0)
     by (Some r) is both rest = let some : r ∷ [] ≡ [] = sym (ap option_to_list is) ∙ both.1 in absurd cc
 
 -- a step that a request makes is one of the shell's host
-pub fits_asked : (start : Start) (h stamp : ℕ) (x : Signal) (b : Bool) → b ≡ true → asked_rightly (first_membership start) b h stamp x → IsAsked (first_membership start) h stamp x
+pub fits_asked : (start : Start) (h stamp : ℕ) (x : Signal) (b : Bool) → b ≡ true
+    → asked_rightly (first_membership start) b h stamp x → IsAsked (first_membership start) h stamp x
 fits_asked start h stamp x true e asked = asked
 fits_asked start h stamp x false e asked = cc
 
@@ -107,9 +112,11 @@ pub first_step : (start : Start) (was now : ℕ → List HostStep) (request : Ap
 first_step start was now request f = request_step (after start 0 (was 0)) f.first.step.taken request
     (api_runs start (was 0)) f.place f.body
 
-module _ (start : Start) (was now : ℕ → List HostStep) (request : ApiReq) (served : IsServedBetween start was now request) where
+module _ (start : Start) (was now : ℕ → List HostStep) (request : ApiReq)
+    (served : IsServedBetween start was now request) where
   -- what comes at a quiet moment is no signal that a link gave
-  first_asked : (es : List HostStep) (e : HostStep) → log_of (machine start) es ≡ was → Happens (machine start) es e → e.host < hosts start → is_request e.step.taken.body ≡ true
+  first_asked : (es : List HostStep) (e : HostStep) → log_of (machine start) es ≡ was → Happens (machine start) es e
+      → e.host < hosts start → is_request e.step.taken.body ≡ true
   first_asked es e same happens low = by (is_request e.step.taken.body) refl
     where
       by : (b : Bool) → is_request e.step.taken.body ≡ b → b ≡ true
@@ -117,7 +124,9 @@ module _ (start : Start) (was now : ℕ → List HostStep) (request : ApiReq) (s
       by false is =
           let i = e.step.taken.from.0 in
           let j = e.host in
-          let past = given_past start i j (log_of (machine start) es i) (record { to = e.host; signal = e.step.taken } ∷ taken (machine start) i (log_of (machine start) es j)) (happens.takes is) in
+          let past = given_past start i j (log_of (machine start) es i)
+          (record { to = e.host; signal = e.step.taken } ∷ taken (machine start) i (log_of (machine start) es j))
+          (happens.takes is) in
           let more = tally_past (λ (x : Addressed). true) past in
           absurd (omega (
             arith,
@@ -127,8 +136,11 @@ module _ (start : Start) (was now : ℕ → List HostStep) (request : ApiReq) (s
             all_taken start was now served.before served.since served.cut (λ to body. true) i j low,
           ))
 
-  at_first : (es newer : List HostStep) (e : HostStep) → log_of (machine start) es ≡ was → Happens (machine start) es e → Run (machine start) (e ∷ es) → log_of (machine start) (newer ++ e ∷ es) ≡ now → IsFirst start was now request
-  at_first es newer e same happens run all = found (fits_asked start e.host _ e.step.taken (is_request e.step.taken.body) (first_asked es e same happens low) happens.step.fits.asked)
+  at_first : (es newer : List HostStep) (e : HostStep) → log_of (machine start) es ≡ was → Happens (machine start) es e
+      → Run (machine start) (e ∷ es) → log_of (machine start) (newer ++ e ∷ es) ≡ now → IsFirst start was now request
+  at_first es newer e same happens run all = found
+      (fits_asked start e.host _ e.step.taken (is_request e.step.taken.body) (first_asked es e same happens low)
+      happens.step.fits.asked)
     where
       here : (h : ℕ) → now h ≡ log_of (machine start) newer h ++ log_of (machine start) (e ∷ es) h
       here h = ap (λ logs. logs h) (sym all) ∙ log_of-append (machine start) newer (e ∷ es) h
@@ -138,11 +150,13 @@ module _ (start : Start) (was now : ℕ → List HostStep) (request : ApiReq) (s
       nonempty (x ∷ xs) ys is = cc
 
       own : (h : ℕ) → e.host ≡ h → now h ≡ log_of (machine start) newer h ++ e ∷ was h
-      own h at = here h ∙ ap (λ log. log_of (machine start) newer h ++ log) (log_of-own (machine start) e es h at ∙ ap (λ logs. e ∷ logs h) same)
+      own h at = here h ∙ ap (λ log. log_of (machine start) newer h ++ log)
+          (log_of-own (machine start) e es h at ∙ ap (λ logs. e ∷ logs h) same)
 
       first_logs : e.host ≡ 0 → (h : ℕ) → log_of (machine start) (e ∷ es) h ≡ with_first was e h
       first_logs at zero = log_of-own (machine start) e es 0 at ∙ ap (λ logs. e ∷ logs 0) same
-      first_logs at (suc h) = log_of-other (machine start) e es (suc h) (λ other. absurd (omega (arith, at, other))) ∙ ap (λ logs. logs (suc h)) same
+      first_logs at (suc h) = log_of-other (machine start) e es (suc h) (λ other. absurd (omega (arith, at, other)))
+          ∙ ap (λ logs. logs (suc h)) same
 
       low : e.host < hosts start
       low = by (cases_lt e.host (hosts start))
@@ -151,15 +165,21 @@ module _ (start : Start) (was now : ℕ → List HostStep) (request : ApiReq) (s
           by (inl under) = under
           by (inr high) = absurd (nonempty _ _ (sym (served.since.within e.host high) ∙ own e.host refl))
 
-      found : IsAsked (first_membership start) e.host happens.step.fits.asked_at e.step.taken → IsFirst start was now request
+      found : IsAsked (first_membership start) e.host happens.step.fits.asked_at e.step.taken
+          → IsFirst start was now request
       found asked =
-          let body_is : e.step.taken.body ≡ Host (Continue (Request asked.request) 0) = ap (λ (x : Signal). x.body) asked.is in
+          let body_is : e.step.taken.body ≡ Host (Continue (Request asked.request) 0) =
+          ap (λ (x : Signal). x.body) asked.is in
           let log_is = own 0 asked.shell in
-          let all_asked : requests (was 0) ++ (asked.request ∷ requests (log_of (machine start) newer 0)) ≡ requests (was 0) ++ request ∷ [] =
+          let all_asked : requests (was 0) ++ (asked.request ∷ requests (log_of (machine start) newer 0))
+          ≡ requests (was 0) ++ request ∷ [] =
           sym (append_assoc (requests (was 0)) (asked.request ∷ []) (requests (log_of (machine start) newer 0)))
-          ∙ ap (λ o. (requests (was 0) ++ option_to_list o) ++ requests (log_of (machine start) newer 0)) (sym (ap request_in body_is))
-          ∙ sym (requests_append (log_of (machine start) newer 0) (e ∷ was 0)) ∙ ap requests (sym log_is) ∙ served.asked in
-          let rest : asked.request ∷ requests (log_of (machine start) newer 0) ≡ request ∷ [] = cancel (requests (was 0)) _ _ all_asked in
+          ∙ ap (λ o. (requests (was 0) ++ option_to_list o) ++ requests (log_of (machine start) newer 0))
+          (sym (ap request_in body_is))
+          ∙ sym (requests_append (log_of (machine start) newer 0) (e ∷ was 0)) ∙ ap requests (sym log_is)
+          ∙ served.asked in
+          let rest : asked.request ∷ requests (log_of (machine start) newer 0) ≡ request ∷ [] =
+          cancel (requests (was 0)) _ _ all_asked in
           let none : requests (log_of (machine start) newer 0) ≡ [] = cc in
           let this : asked.request ≡ request = cc in
           record {
@@ -169,7 +189,8 @@ module _ (start : Start) (was now : ℕ → List HostStep) (request : ApiReq) (s
             place = ap (λ (x : Signal). x.to) asked.is;
             body = body_is ∙ ap (λ r. Host (Continue (Request r) 0)) this;
             plain = no_requests (log_of (machine start) newer 0) none;
-            right = subst (AreLogs (machine start)) (fun_ext (first_logs asked.shell)) (logs_of_run (machine start) (e ∷ es) run);
+            right = subst (AreLogs (machine start)) (fun_ext (first_logs asked.shell))
+                (logs_of_run (machine start) (e ∷ es) run);
           }
 
   pub request_first : IsFirst start was now request
@@ -186,7 +207,9 @@ module _ (start : Start) (was now : ℕ → List HostStep) (request : ApiReq) (s
 
       grown : Grows (machine start) es now
       grown =
-          grow (machine start) (stamped start) n es now (merged_run (machine start) (stamped start) n was served.before.within served.before.right) served.since.within served.since.right
+          grow (machine start) (stamped start) n es now
+          (merged_run (machine start) (stamped start) n was served.before.within served.before.right)
+          served.since.within served.since.right
           (subst (λ logs. IsCut logs now) (sym same) served.cut)
 
       longer : (xs : List ApiReq) → xs ≡ xs ++ request ∷ [] → ⊥
@@ -196,8 +219,11 @@ module _ (start : Start) (was now : ℕ → List HostStep) (request : ApiReq) (s
       by : (grown.more ≡ []) ⊎ Oldest grown.more → IsFirst start was now request
       by (inl none) =
           absurd (longer (requests (was 0))
-          (ap (λ logs. requests (logs 0)) (sym same) ∙ ap (λ m. requests (log_of (machine start) (m ++ es) 0)) (sym none) ∙ ap requests (grown.logs 0) ∙ served.asked))
+          (ap (λ logs. requests (logs 0)) (sym same)
+          ∙ ap (λ m. requests (log_of (machine start) (m ++ es) 0)) (sym none) ∙ ap requests (grown.logs 0)
+          ∙ served.asked))
       by (inr o) =
-          let parts : grown.more ++ es ≡ o.newer ++ (o.first ∷ es) = ap (λ m. m ++ es) o.is ∙ append_assoc o.newer (o.first ∷ []) es in
+          let parts : grown.more ++ es ≡ o.newer ++ (o.first ∷ es) =
+          ap (λ m. m ++ es) o.is ∙ append_assoc o.newer (o.first ∷ []) es in
           let run = run_before start o.newer (o.first ∷ es) (subst (Run (machine start)) parts grown.run) in
           at_first es o.newer o.first same run.1 run (ap (log_of (machine start)) (sym parts) ∙ fun_ext grown.logs)

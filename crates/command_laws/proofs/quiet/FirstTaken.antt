@@ -59,7 +59,8 @@ module _ (start : Start) (was now : ℕ → List HostStep) (asked : ApiReq) (ser
   under_way : IsUnderWay start (with_first was f.first) x
   under_way =
       goes_under_way start P D was (with_first was f.first) f.first next first_low out one_there
-      (asked_all start P D was (with_first was f.first) f.first next first_low (ap is_request f.body) served.before.quiet)
+      (asked_all start P D was (with_first was f.first) f.first next first_low (ap is_request f.body)
+      served.before.quiet)
       there
 
   -- the first further step of the host that it goes to took it

@@ -1,4 +1,5 @@
--- At quiet no transaction that is being aborted has an operation unanswered. One that has waits in the queue of a lock, at
+-- At quiet no transaction that is being aborted has an operation unanswered. One that has waits in the queue of a lock,
+-- at
 -- a place of the key's chain; not at the first, and at a later one not behind another, since that one would be aborted
 -- too and wait further on.
 use Rattle.std.proofs.Common.{◌≡◌, ◌≢◌, ◌⊎◌, ◌<◌, ◌≤◌, ◌+◌, ◌-◌, ℕ, zero, suc, Bool, true, false, List, [], ◌∷◌, length, refl, sym}
@@ -104,7 +105,8 @@ module _ (start : Start) (es : List HostStep) (run : IsRun start es) (quiet : Ar
   record IsStuck (tx : TxId) (key : List ℕ) (at : ℕ) : Type 0 where
     inside : at < length (replicas start key)
     request : Request
-    there : IsIn request (lqh_of (after start (replica_host start key at) (logs_of start es (replica_host start key at)))).waiting
+    there : IsIn request (lqh_of (after start (replica_host start key at)
+        (logs_of start es (replica_host start key at)))).waiting
     own : request.tx ≡ tx
     on : work_key request.work ≡ key
     place : request.at ≡ at
@@ -187,9 +189,11 @@ module _ (start : Start) (es : List HostStep) (run : IsRun start es) (quiet : Ar
             on = refl;
             place = refl;
             who = b.0;
-            waiting = subst (λ k. waits tx (lock_at (lqh_of (after start k (logs_of start es k))).locks key).queue ≡ true)
+            waiting =
+                subst (λ k. waits tx (lock_at (lqh_of (after start k (logs_of start es k))).locks key).queue ≡ true)
                 here b.1.waiting;
-            holding = subst (λ k. holds b.0 (lock_at (lqh_of (after start k (logs_of start es k))).locks key).holders ≡ true)
+            holding =
+                subst (λ k. holds b.0 (lock_at (lqh_of (after start k (logs_of start es k))).locks key).holders ≡ true)
                 here b.1.held;
             other = b.1.other;
           }
@@ -201,7 +205,8 @@ module _ (start : Start) (es : List HostStep) (run : IsRun start es) (quiet : Ar
       by : (h < hosts start) ⊎ (hosts start ≤ h) → h < hosts start
       by (inl low) = low
       by (inr high) =
-          absurd (nobody (ap (λ log. (lqh_of (after start h log)).waiting) (run.within h high) ∙ first_waiting start h) there)
+          absurd (nobody (ap (λ log. (lqh_of (after start h log)).waiting) (run.within h high) ∙ first_waiting start h)
+          there)
         where
           nobody : {xs : List Request} → xs ≡ [] → IsIn q xs → ⊥
           nobody is inside = subst (λ xs. IsIn q xs) is inside
@@ -229,7 +234,8 @@ module _ (start : Start) (es : List HostStep) (run : IsRun start es) (quiet : Ar
         arith,
         parts_are_unanswered start es still.0 tx key run still.1.transit,
         total_at (hosts start) (λ k. waiting_on tx key (after start k (logs_of start es k))) h (waits_low h q inside),
-        tally_in (is_for tx key) q (lqh_of (after start h (logs_of start es h))).waiting inside (counts tx key q own on),
+        tally_in (is_for tx key) q (lqh_of (after start h (logs_of start es h))).waiting inside
+            (counts tx key q own on),
       )
 
       by : (o : Option Transaction) → live_at start (logs_of start es) tx ≡ o → IsAsked tx key
@@ -317,7 +323,8 @@ module _ (start : Start) (es : List HostStep) (run : IsRun start es) (quiet : Ar
         apart = k.other;
         holding = subst (λ p. holds k.who (lock_at_place start (logs_of start es) key p).holders ≡ true)
             (omega arith) k.holding;
-        waiting = subst (λ p. waits tx (lock_at_place start (logs_of start es) key p).queue ≡ true) (omega arith) k.waiting;
+        waiting =
+            subst (λ p. waits tx (lock_at_place start (logs_of start es) key p).queue ≡ true) (omega arith) k.waiting;
       }
 
       uncommitted : (t : Transaction) → live_at start (logs_of start es) k.who ≡ Some t → is_committing t.phase ≡ false
@@ -330,7 +337,8 @@ module _ (start : Start) (es : List HostStep) (run : IsRun start es) (quiet : Ar
       first_place : is_carried_out start (logs_of start es) k.who ≡ true → at ≡ 0
           → is_given_up start (logs_of start es) k.who ≡ true
       first_place carried is =
-          absurd (true≢false (sym (subst (λ p. holds k.who (lock_at_place start (logs_of start es) key p).holders ≡ true)
+          absurd (true≢false (sym (subst (λ p. holds k.who (lock_at_place start (logs_of start es) key p).holders ≡
+          true)
           (omega (arith, is)) k.holding)
           ∙ completed_let_go start es still.0 key k.who run still.1 (omega (arith, k.inside, is)) carried uncommitted))
 
@@ -339,7 +347,8 @@ module _ (start : Start) (es : List HostStep) (run : IsRun start es) (quiet : Ar
       over = by (who_lets_go_is_over start es key (replica_host start key at) k.who run
           (holders_have_let_go start es key at k.who tx run waited))
         where
-          by : (is_given_up start (logs_of start es) k.who ≡ true) ⊎ (is_carried_out start (logs_of start es) k.who ≡ true)
+          by : (is_given_up start (logs_of start es) k.who ≡ true)
+              ⊎ (is_carried_out start (logs_of start es) k.who ≡ true)
               → is_given_up start (logs_of start es) k.who ≡ true
           by (inl given) = given
           by (inr carried) = place (cases_eq at 0)
@@ -373,7 +382,8 @@ module _ (start : Start) (es : List HostStep) (run : IsRun start es) (quiet : Ar
           home_there = home_low start es k.who run (inl over)
 
           of : IsHome start k.who (home start k.who)
-          of = at_home start k.who (home start k.who) (logs_of start es (home start k.who)) a.transaction home_there a.there
+          of = at_home start k.who (home start k.who) (logs_of start es (home start k.who)) a.transaction home_there
+              a.there
 
           found : IsStuckSomewhere k.who
           found = stuck_at k.who a.transaction a.asked home_there live a.is
@@ -426,7 +436,8 @@ module _ (start : Start) (es : List HostStep) (run : IsRun start es) (quiet : Ar
       → is_aborting t.phase ≡ true → ⊥
   none_aborts tx t asked low live is on =
       let found = stuck_at tx t asked low live is in
-      none_stuck (length (replicas start found.key)) tx found.key found.at (omega arith) given of.some of.low found.stuck
+      none_stuck (length (replicas start found.key)) tx found.key found.at (omega arith) given of.some of.low
+      found.stuck
     where
       there : live_at start (logs_of start es) tx ≡ Some t
       there = live_tx start tx (home start tx) (logs_of start es (home start tx)) t live
@@ -456,7 +467,8 @@ no_abort_waits start logs h tx t asked quiet low live is = by (is_aborting t.pha
     run = record {
       shape = quiet.shape;
       run = merged_run (machine start) (stamped start) (hosts start) logs quiet.within quiet.right;
-      within = subst (IsWithin (hosts start)) (sym (logs_merged (machine start) (hosts start) logs quiet.within quiet.right))
+      within = subst (IsWithin (hosts start))
+          (sym (logs_merged (machine start) (hosts start) logs quiet.within quiet.right))
           quiet.within;
     }
 

@@ -1,4 +1,5 @@
--- A command at which one signal at a time is under way: what a host does at it follows from the signal before, and where
+-- A command at which one signal at a time is under way: what a host does at it follows from the signal before, and
+-- where
 -- none follows the command is done.
 use Rattle.std.proofs.Common.{◌≡◌, ◌≢◌, ◌⊎◌, ◌+◌, ◌<◌, ◌≤◌, ◌==◌, ℕ, zero, suc, Bool, true, false, List, [], ◌∷◌, ◌++◌, if◌then◌else◌, length, refl, sym, ap, ◌∙◌, subst, inl, inr, length-append, eq-eqb, ne_eqb, arith}
 use Rattle.std.proofs.lemmas.Bool.{cases_eq, cases_lt}
@@ -260,7 +261,8 @@ module _ (start : Start) (P : Addressed → (ℕ → List HostStep) → Type 0) 
     front_none [] e log is = cc
     front_none (x ∷ xs) e log is = cc
 
-    module _ (es : List HostStep) (e : HostStep) (run : Run m es) (happens : Happens m es e) (since : IsPast (f.first ∷ was 0) (log_of m es 0))
+    module _ (es : List HostStep) (e : HostStep) (run : Run m es) (happens : Happens m es e)
+        (since : IsPast (f.first ∷ was 0) (log_of m es 0))
         (cut : IsCut (log_of m (e ∷ es)) now) where
       abbrev before : ℕ → List HostStep
       before = log_of m es
@@ -347,7 +349,8 @@ module _ (start : Start) (P : Addressed → (ℕ → List HostStep) → Type 0) 
         phase : IsCut logs now → IsPhase logs
 
       phase_here : (es : List HostStep) (e : HostStep) (run : Run m es) (happens : Happens m es e)
-          (since : IsPast (f.first ∷ was 0) (log_of m es 0)) (cut : IsCut (log_of m (e ∷ es)) now) → IsPhase (log_of m es)
+          (since : IsPast (f.first ∷ was 0) (log_of m es 0)) (cut : IsCut (log_of m (e ∷ es)) now)
+          → IsPhase (log_of m es)
           → IsPhase (log_of m (e ∷ es))
       phase_here es e run happens since cut = by
         where
@@ -375,7 +378,8 @@ module _ (start : Start) (P : Addressed → (ℕ → List HostStep) → Type 0) 
           → Goes (log_of m (e ∷ es))
       goes_step es e run happens goes = record {
         since = past_trans goes.since (log_of-past m e es 0);
-        phase = λ cut. phase_here es e run happens goes.since cut (goes.phase (λ h. past_trans (log_of-past m e es h) (cut h)));
+        phase = λ cut. phase_here es e run happens goes.since cut
+            (goes.phase (λ h. past_trans (log_of-past m e es h) (cut h)));
       }
 
       phase_now : IsPhase now

@@ -34,24 +34,32 @@ use Rattle.command_laws.specs.Begun.{TakesCommands}
 use Rattle.command_laws.specs.Once.{IsToldOnce}
 use Rattle.command_laws.specs.Served.{IsAnsweredAlone, IsServedBetween, IsToldCommitted}
 
-lone_comes_to : (start : Start) (was now : ℕ → List HostStep) (op : Op) → IsServedBetween start was now (request.Operate None op) → LoneComesTo start was now
+lone_comes_to : (start : Start) (was now : ℕ → List HostStep) (op : Op)
+    → IsServedBetween start was now (request.Operate None op) → LoneComesTo start was now
 lone_comes_to start was now op served = by (lone_answered each_answered start was now op served)
   where
-    by : IsAnsweredAlone start was now ⊎ (IsRefusedAlone start was now ⊎ (IsTurnedAway start was now ⊎ WaitsAlone start was now)) → LoneComesTo start was now
-    by (inl answered) = inl (record { answered = answered; committed = lone_committed each_answered start was now op served answered })
+    by : IsAnsweredAlone start was now ⊎ (IsRefusedAlone start was now ⊎
+        (IsTurnedAway start was now ⊎ WaitsAlone start was now)) → LoneComesTo start was now
+    by (inl answered) = inl (record {
+      answered = answered;
+      committed = lone_committed each_answered start was now op served answered;
+    })
     by (inr other) = inr other
 
-answers_request : (start : Start) (was now : ℕ → List HostStep) → IsIdle start was → (r : ApiReq) → IsServedBetween start was now r
+answers_request : (start : Start) (was now : ℕ → List HostStep) → IsIdle start was → (r : ApiReq)
+    → IsServedBetween start was now r
     → AnswersRequest start was now r
 answers_request start was now idle (request.Operate (Some name) op) served = (
   operations_come_to start was now name op served,
-  (λ tx t. operations_answered each_answered start was now name op t.takes.item tx served t.takes.named t.takes.ready t.takes.own t.few),
+  (λ tx t. operations_answered each_answered start was now name op t.takes.item tx served t.takes.named t.takes.ready
+      t.takes.own t.few),
 )
 answers_request start was now idle (request.Operate None op) served = lone_comes_to start was now op served
 answers_request start was now idle (request.Commit name) served =
     (commits_come_to start was now name served, told)
   where
-    told : (tx : TxId) → TakesCommands start was name tx → IsToldCommitted start was now name tx × IsToldOnce start was now name
+    told : (tx : TxId) → TakesCommands start was name tx
+        → IsToldCommitted start was now name tx × IsToldOnce start was now name
     told tx t =
         let c = commits_committed each_answered start was now name t.item tx served t.named t.ready t.own in
         (c, commit_once start was now name t.item tx served t.named t.ready t.own (outcome.Committed c.epoch) c.told)
@@ -60,7 +68,8 @@ answers_request start was now idle (request.Abort name) served = (
   (λ tx t. waiting_aborts_heard start was now name tx served t),
 )
   where
-    told : (tx : TxId) → TakesCommands start was name tx → IsAbortedAs start was now name × IsToldOnce start was now name
+    told : (tx : TxId) → TakesCommands start was name tx
+        → IsAbortedAs start was now name × IsToldOnce start was now name
     told tx t =
         let a = aborts_answered each_answered start was now name t.item tx served t.named t.ready t.own in
         (a, abort_once start was now name t.item tx served t.named t.ready t.own (outcome.Aborted cause.Request) a)

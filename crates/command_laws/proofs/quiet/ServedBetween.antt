@@ -47,31 +47,52 @@ first_asked : (newer : List HostStep) → (requests newer ≡ []) ⊎ FirstAsked
 first_asked [] = inl refl
 first_asked (e ∷ newer) = by (request_in e.step.taken.body) refl (first_asked newer)
   where
-    by : (o : Option ApiReq) → request_in e.step.taken.body ≡ o → (requests newer ≡ []) ⊎ FirstAsked newer → (requests (e ∷ newer) ≡ []) ⊎ FirstAsked (e ∷ newer)
+    by : (o : Option ApiReq) → request_in e.step.taken.body ≡ o → (requests newer ≡ []) ⊎ FirstAsked newer
+        → (requests (e ∷ newer) ≡ []) ⊎ FirstAsked (e ∷ newer)
     by o asks (inr first) =
-        inr (record { later = e ∷ first.later; next = first.next; between = first.between; is = ap (λ w. e ∷ w) first.is; asks = first.asks; none = first.none })
-    by None asks (inl none) = inl (ap (λ rs. rs ++ option_to_list (request_in e.step.taken.body)) none ∙ ap option_to_list asks)
+        inr (record {
+          later = e ∷ first.later;
+          next = first.next;
+          between = first.between;
+          is = ap (λ w. e ∷ w) first.is;
+          asks = first.asks;
+          none = first.none;
+        })
+    by None asks (inl none) =
+        inl (ap (λ rs. rs ++ option_to_list (request_in e.step.taken.body)) none ∙ ap option_to_list asks)
     by (Some request) asks (inl none) =
-        inr (record { later = []; next = e; between = newer; is = refl; asks = asks_it e.step.taken.body request asks; none = none })
+        inr (record {
+          later =
+              [];
+          next = e;
+          between = newer;
+          is = refl;
+          asks = asks_it e.step.taken.body request asks;
+          none = none;
+        })
 
 only_first : (start : Start) → IsAskedAtFirst (machine start)
 only_first start =
     record {
       never = λ e. refl;
-      first = λ h log e fits asked. (fits_asked start h _ e.step.taken (is_request e.step.taken.body) asked fits.asked).shell;
+      first = λ h log e fits asked. (fits_asked start h _ e.step.taken (is_request e.step.taken.body) asked
+          fits.asked).shell;
     }
 
-module _ (start : Start) (logs : ℕ → List HostStep) (right : AreLogs (machine start) logs) (within : IsWithin (hosts start) logs) (at_quiet : AreAskedAtQuiet start logs) where
+module _ (start : Start) (logs : ℕ → List HostStep) (right : AreLogs (machine start) logs)
+    (within : IsWithin (hosts start) logs) (at_quiet : AreAskedAtQuiet start logs) where
   -- behind this log of host 0 comes a quiet moment before anything else is asked for
   pub record IsDriven (log : List HostStep) : Type 0 where
     pub between : List HostStep
     pub none : requests between ≡ []
     pub ends : QuietBefore start logs (between ++ log)
 
-  driven : (newer log : List HostStep) → logs 0 ≡ newer ++ log → IsQuiet (machine start) (hosts start) logs ⊎ IsAskedAgain start newer → IsDriven log
+  driven : (newer log : List HostStep) → logs 0 ≡ newer ++ log
+      → IsQuiet (machine start) (hosts start) logs ⊎ IsAskedAgain start newer → IsDriven log
   driven newer log is ends = by (first_asked newer) ends
     where
-      by : (requests newer ≡ []) ⊎ FirstAsked newer → IsQuiet (machine start) (hosts start) logs ⊎ IsAskedAgain start newer → IsDriven log
+      by : (requests newer ≡ []) ⊎ FirstAsked newer
+          → IsQuiet (machine start) (hosts start) logs ⊎ IsAskedAgain start newer → IsDriven log
       by (inr first) ends =
           record {
             between = first.between;
@@ -82,9 +103,20 @@ module _ (start : Start) (logs : ℕ → List HostStep) (right : AreLogs (machin
                 first.asks;
           }
       by (inl none) (inl quiet) =
-          record { between = newer; none = none; ends = record { inside = logs; cut = λ h. past_self (logs h); at = is; right = right; quiet = quiet } }
+          record {
+            between = newer;
+            none = none;
+            ends = record {
+              inside = logs;
+              cut = λ h. past_self (logs h);
+              at = is;
+              right = right;
+              quiet = quiet;
+            };
+          }
       by (inl none) (inr again) =
-          let rest = each_after (λ (e : HostStep). is_request e.step.taken.body ≡ false) again.later (again.next ∷ again.between) (no_requests _ (sym (ap requests again.is) ∙ none)) in
+          let rest = each_after (λ (e : HostStep). is_request e.step.taken.body ≡ false) again.later
+          (again.next ∷ again.between) (no_requests _ (sym (ap requests again.is) ∙ none)) in
           absurd (false≢true (sym rest.0 ∙ again.asked))
 
   module _ (shape : IsShape start.shape) where
@@ -98,29 +130,47 @@ module _ (start : Start) (logs : ℕ → List HostStep) (right : AreLogs (machin
         }
 
     -- the request is served between the quiet moment before it and the one to which it is driven
-    pub served_is : (e : HostStep) (before : List HostStep) (request : ApiReq) → request_in e.step.taken.body ≡ Some request
-        → (begins : QuietBefore start logs before) (d : IsDriven (e ∷ before)) → IsServedBetween start begins.inside d.ends.inside request
+    pub served_is : (e : HostStep) (before : List HostStep) (request : ApiReq)
+        → request_in e.step.taken.body ≡ Some request
+        → (begins : QuietBefore start logs before) (d : IsDriven (e ∷ before))
+        → IsServedBetween start begins.inside d.ends.inside request
     served_is e before request asks begins d =
-        record { before = are_quiet before begins; since = are_quiet (d.between ++ e ∷ before) d.ends; cut = cut; asked = asked }
+        record {
+          before =
+              are_quiet before begins;
+          since = are_quiet (d.between ++ e ∷ before) d.ends;
+          cut = cut;
+          asked = asked;
+        }
       where
         first : IsPast (begins.inside 0) (d.ends.inside 0)
         first =
             record {
               newer = d.between ++ e ∷ [];
-              is = d.ends.at ∙ sym (append_assoc d.between (e ∷ []) before) ∙ ap (λ w. (d.between ++ e ∷ []) ++ w) (sym begins.at);
+              is = d.ends.at ∙ sym (append_assoc d.between (e ∷ []) before)
+                  ∙ ap (λ w. (d.between ++ e ∷ []) ++ w) (sym begins.at);
             }
 
         cut : IsCut begins.inside d.ends.inside
         cut =
             quiet_cut (machine start) (stamped start) (only_first start) (hosts start) begins.inside d.ends.inside logs
-            (record { was_cut = begins.cut; now_cut = d.ends.cut; right = begins.right; within = within; quiet = d.ends.quiet; first = first })
+            (record {
+              was_cut = begins.cut;
+              now_cut = d.ends.cut;
+              right = begins.right;
+              within = within;
+              quiet = d.ends.quiet;
+              first = first;
+            })
 
         asked : requests (d.ends.inside 0) ≡ requests (begins.inside 0) ++ request ∷ []
         asked =
-            ap requests d.ends.at ∙ requests_append d.between (e ∷ before) ∙ ap (λ rs. requests (e ∷ before) ++ rs) d.none ∙ append-nil (requests (e ∷ before))
+            ap requests d.ends.at ∙ requests_append d.between (e ∷ before)
+            ∙ ap (λ rs. requests (e ∷ before) ++ rs) d.none ∙ append-nil (requests (e ∷ before))
             ∙ ap (λ o. requests before ++ option_to_list o) asks ∙ ap (λ w. requests w ++ request ∷ []) (sym begins.at)
 
-    served_between : (e : HostStep) (before : List HostStep) (request : ApiReq) → request_in e.step.taken.body ≡ Some request
+    served_between : (e : HostStep) (before : List HostStep) (request : ApiReq)
+        → request_in e.step.taken.body ≡ Some request
         → QuietBefore start logs before → IsDriven (e ∷ before) → IsServedIn start logs request before
     served_between e before request asks begins d =
         record {

@@ -26,27 +26,43 @@ module _ (start : Start) (test : Place → Body → Bool) where
   -- how many signals that pass the test the newer steps of host h sent, behind its log
   abbrev pub sent_since : ℕ → List HostStep → List HostStep → ℕ
   sent_since h [] log = 0
-  sent_since h (e ∷ newer) log = sends_of test (step_after start h (newer ++ log) e).effects.sends + sent_since h newer log
+  sent_since h (e ∷ newer) log =
+      sends_of test (step_after start h (newer ++ log) e).effects.sends + sent_since h newer log
 
   -- those of them that are for host j
   abbrev pub sent_since_to : ℕ → ℕ → List HostStep → List HostStep → ℕ
   sent_since_to h j [] log = 0
-  sent_since_to h j (e ∷ newer) log = sends_of (to_host start j test) (step_after start h (newer ++ log) e).effects.sends + sent_since_to h j newer log
+  sent_since_to h j (e ∷ newer) log =
+      sends_of (to_host start j test) (step_after start h (newer ++ log) e).effects.sends + sent_since_to h j newer log
 
   -- and how many they took from host i
   abbrev pub taken_since : ℕ → List HostStep → ℕ
-  taken_since i newer = tally (λ (e : HostStep). is_from (machine start) i e && test e.step.taken.to e.step.taken.body) newer
+  taken_since i newer =
+      tally (λ (e : HostStep). is_from (machine start) i e && test e.step.taken.to e.step.taken.body) newer
 
-  pub link_sent : (h j : ℕ) (newer log : List HostStep) → signals test (sent (machine start) h j (newer ++ log)) ≤ sent_since h newer log + signals test (sent (machine start) h j log)
+  pub link_sent : (h j : ℕ) (newer log : List HostStep)
+      → signals test (sent (machine start) h j (newer ++ log))
+      ≤ sent_since h newer log + signals test (sent (machine start) h j log)
   link_sent h j [] log = omega arith
   link_sent h j (e ∷ newer) log =
-      omega (arith, link_sent h j newer log, sent_signals start test h j e (newer ++ log), few_sends start j test (step_after start h (newer ++ log) e).effects.sends)
+      omega (
+        arith,
+        link_sent h j newer log,
+        sent_signals start test h j e (newer ++ log),
+        few_sends start j test
+            (step_after start h (newer ++ log) e).effects.sends,
+      )
 
-  pub link_sent_to : (h j : ℕ) (newer log : List HostStep) → signals test (sent (machine start) h j (newer ++ log)) ≡ sent_since_to h j newer log + signals test (sent (machine start) h j log)
+  pub link_sent_to : (h j : ℕ) (newer log : List HostStep)
+      → signals test (sent (machine start) h j (newer ++ log))
+      ≡ sent_since_to h j newer log + signals test (sent (machine start) h j log)
   link_sent_to h j [] log = omega arith
-  link_sent_to h j (e ∷ newer) log = omega (arith, link_sent_to h j newer log, sent_signals start test h j e (newer ++ log))
+  link_sent_to h j (e ∷ newer) log =
+      omega (arith, link_sent_to h j newer log, sent_signals start test h j e (newer ++ log))
 
-  pub link_taken : (i : ℕ) (newer log : List HostStep) → signals test (taken (machine start) i (newer ++ log)) ≡ taken_since i newer + signals test (taken (machine start) i log)
+  pub link_taken : (i : ℕ) (newer log : List HostStep)
+      → signals test (taken (machine start) i (newer ++ log))
+      ≡ taken_since i newer + signals test (taken (machine start) i log)
   link_taken i [] log = omega arith
   link_taken i (e ∷ newer) log = omega (arith, link_taken i newer log, taken_signals start test i e (newer ++ log))
 
@@ -62,17 +78,20 @@ pub front_nil : (newer log : List HostStep) → [] ≡ newer ++ log → newer �
 front_nil [] log is = refl
 front_nil (e ∷ newer) log is = absurd cc
 
-module _ (start : Start) (was now : ℕ → List HostStep) (before : AreQuiet start was) (since : AreQuiet start now) (cut : IsCut was now) where
+module _ (start : Start) (was now : ℕ → List HostStep) (before : AreQuiet start was) (since : AreQuiet start now)
+    (cut : IsCut was now) where
   -- the steps of a host since then, the newest first
   abbrev pub newer_at : ℕ → List HostStep
   newer_at h = (cut h).newer
 
   module _ (test : Place → Body → Bool) where
     -- all that was sent before was taken
-    pub all_taken : (i j : ℕ) → j < hosts start → signals test (sent (machine start) i j (was i)) ≤ signals test (taken (machine start) i (was j))
+    pub all_taken : (i j : ℕ) → j < hosts start
+        → signals test (sent (machine start) i j (was i)) ≤ signals test (taken (machine start) i (was j))
     all_taken i j low = by (cases_lt i (hosts start))
       where
-        by : (i < hosts start) ⊎ (hosts start ≤ i) → signals test (sent (machine start) i j (was i)) ≤ signals test (taken (machine start) i (was j))
+        by : (i < hosts start) ⊎ (hosts start ≤ i)
+            → signals test (sent (machine start) i j (was i)) ≤ signals test (taken (machine start) i (was j))
         by (inl under) = omega (arith, ap (signals test) (before.quiet i j under low))
         by (inr high) = omega (arith, ap (λ log. signals test (sent (machine start) i j log)) (before.within i high))
 
@@ -80,11 +99,13 @@ module _ (start : Start) (was now : ℕ → List HostStep) (before : AreQuiet st
     pub few_taken : (i j : ℕ) → taken_since start test i (newer_at j) ≤ sent_since start test i (newer_at i) (was i)
     few_taken i j = by (cases_lt j (hosts start))
       where
-        by : (j < hosts start) ⊎ (hosts start ≤ j) → taken_since start test i (newer_at j) ≤ sent_since start test i (newer_at i) (was i)
+        by : (j < hosts start) ⊎ (hosts start ≤ j)
+            → taken_since start test i (newer_at j) ≤ sent_since start test i (newer_at i) (was i)
         by (inl low) =
             omega (
               arith,
-              tally_past (λ (x : Addressed). test x.signal.to x.signal.body) (given_past start i j (now i) (taken (machine start) i (now j)) (since.right.linked i j)),
+              tally_past (λ (x : Addressed). test x.signal.to x.signal.body)
+                  (given_past start i j (now i) (taken (machine start) i (now j)) (since.right.linked i j)),
               ap (λ log. signals test (sent (machine start) i j log)) (cut i).is,
               ap (λ log. signals test (taken (machine start) i log)) (cut j).is,
               link_sent start test i j (newer_at i) (was i),
@@ -96,8 +117,10 @@ module _ (start : Start) (was now : ℕ → List HostStep) (before : AreQuiet st
             omega (arith, ap (taken_since start test i) none)
 
     -- a signal that was taken from a link
-    from_link : (i : ℕ) (e : HostStep) → is_request e.step.taken.body ≡ false → e.step.taken.from.0 ≡ i → is_from (machine start) i e ≡ true
-    from_link i e plain at = go (is_request e.step.taken.body) (e.step.taken.from.0 == i) plain (grind (arith, nat_tests, at))
+    from_link : (i : ℕ) (e : HostStep) → is_request e.step.taken.body ≡ false → e.step.taken.from.0 ≡ i
+        → is_from (machine start) i e ≡ true
+    from_link i e plain at =
+        go (is_request e.step.taken.body) (e.step.taken.from.0 == i) plain (grind (arith, nat_tests, at))
       where
         go : (a b : Bool) → a ≡ false → b ≡ true → (not a && b) ≡ true
         go false true p q = refl
@@ -116,18 +139,22 @@ module _ (start : Start) (was now : ℕ → List HostStep) (before : AreQuiet st
 
     -- what no host has sent since then none has taken
     pub none_taken : ((i : ℕ) → i < hosts start → sent_since start test i (newer_at i) (was i) ≡ 0) → (j : ℕ)
-        → Each (λ (e : HostStep). is_request e.step.taken.body ≡ false → test e.step.taken.to e.step.taken.body ≡ false) (newer_at j)
+        → Each (λ (e : HostStep). is_request e.step.taken.body ≡ false → test e.step.taken.to e.step.taken.body ≡ false)
+        (newer_at j)
     none_taken none j = each_from _ (newer_at j) one
       where
-        one : (e : HostStep) → IsIn e (newer_at j) → is_request e.step.taken.body ≡ false → test e.step.taken.to e.step.taken.body ≡ false
+        one : (e : HostStep) → IsIn e (newer_at j) → is_request e.step.taken.body ≡ false
+            → test e.step.taken.to e.step.taken.body ≡ false
         one e inside plain =
             let i = e.step.taken.from.0 in
             let zero : taken_since start test i (newer_at j) ≡ 0 = omega (arith, few_taken i j, none_sent none i) in
-            let off = each_in (λ (f : HostStep). (is_from (machine start) i f && test f.step.taken.to f.step.taken.body) ≡ false) e (newer_at j) (none_passes _ (newer_at j) zero) inside in
+            let off = each_in (λ (f : HostStep). (is_from (machine start) i f && test f.step.taken.to f.step.taken.body)
+            ≡ false) e (newer_at j) (none_passes _ (newer_at j) zero) inside in
             ap (λ b. b && test e.step.taken.to e.step.taken.body) (sym (from_link i e plain refl)) ∙ off
 
     -- all that was sent to a host since then was taken there
-    pub all_arrive : (i j : ℕ) → i < hosts start → j < hosts start → sent_since_to start test i j (newer_at i) (was i) ≤ taken_since start test i (newer_at j)
+    pub all_arrive : (i j : ℕ) → i < hosts start → j < hosts start
+        → sent_since_to start test i j (newer_at i) (was i) ≤ taken_since start test i (newer_at j)
     all_arrive i j under low =
         omega (
           arith,

@@ -1,5 +1,6 @@
 -- An abort of a transaction whose operation waits: its coordinator takes the wish before anything else, so it is
--- being aborted at the client's request then, and is neither answered nor ended otherwise; and where nothing is under way
+-- being aborted at the client's request then, and is neither answered nor ended otherwise; and where nothing is under
+-- way
 -- no transaction that is being aborted has an operation unanswered, so it has ended.
 use Rattle.std.proofs.Common.{◌≡◌, ◌≢◌, ◌⊎◌, ◌<◌, ℕ, zero, suc, true, false, List, [], ◌∷◌, ◌++◌, refl, sym, ap, ◌∙◌, subst, inl, inr, append_assoc}
 use Rattle.std.proofs.lemmas.Bool.{cases_eq, false≢true, true≢false}
@@ -165,9 +166,11 @@ module _ (start : Start) (was now : ℕ → List HostStep) (request : ApiReq) (c
             (sound_at start tx (home start tx) (was (home start tx))).own;
       }
 
-  run : (sent_since start (is_stray tx) (home start tx) (taken_so.newer ++ taken_so.step ∷ []) (was (home start tx)) ≡ 0)
+  run : (sent_since start (is_stray tx) (home start tx) (taken_so.newer ++ taken_so.step ∷ []) (was (home start tx)) ≡
+      0)
       × OnTc (IsRolledNow tx true) (after start (home start tx) (taken_so.newer ++ taken_so.step ∷ was (home start tx)))
-  run = rolled_since tx start (home start tx) taken_so.newer (was (home start tx)) taken_so.step is_roll_taken rolled_was
+  run =
+      rolled_since tx start (home start tx) taken_so.newer (was (home start tx)) taken_so.step is_roll_taken rolled_was
 
   silent : (h : ℕ) → h < hosts start → sent_since start (is_stray tx) h (cut h).newer (was h) ≡ 0
   silent h under = by (cases_eq (home start tx) h)

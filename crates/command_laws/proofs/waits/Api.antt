@@ -78,12 +78,14 @@ module _ (front : List OpenTransaction) (t : OpenTransaction) (back : List OpenT
     has ahead = ap (is_tx tx) own_tx ∙ same_tx-self tx
 
     -- it is told for whom the transaction waits
-    behind_is : (s : ApiState) (ahead : Option TxId) (next : TxId) → s.opened ≡ front ++ behind t ahead ∷ back → behind_row s tx next ≡ changing s (length front) (behind t (Some next))
+    behind_is : (s : ApiState) (ahead : Option TxId) (next : TxId) → s.opened ≡ front ++ behind t ahead ∷ back
+        → behind_row s tx next ≡ changing s (length front) (behind t (Some next))
     unfolding behind_row
     behind_is s ahead next opened =
         ap (where_at s.opened s (λ at (x : OpenTransaction). changing s at (behind x (Some next))))
         (ap (position (has_tx tx)) opened ∙ split_position (has_tx tx) front (behind t ahead) back none (has ahead))
-        ∙ ap (if_there s (λ (x : OpenTransaction). changing s (length front) (behind x (Some next)))) (ap (λ xs. slice_get xs (length front)) opened ∙ split_get front (behind t ahead) back)
+        ∙ ap (if_there s (λ (x : OpenTransaction). changing s (length front) (behind x (Some next))))
+        (ap (λ xs. slice_get xs (length front)) opened ∙ split_get front (behind t ahead) back)
 
     -- at a question or an answer to one
     pub record StaysAbout (ahead : Option TxId) (to : Place) (body : Body) (step : Step ApiState) : Type 0 where
@@ -105,9 +107,12 @@ module _ (front : List OpenTransaction) (t : OpenTransaction) (back : List OpenT
         from = λ who is. inl is;
       }
 
-      told_who : (who next one : TxId) → same_tx one tx ≡ true → next ≡ who → Client (TcWaitConf one next) ≡ body → to.block ≡ block.Api → is_telling_who tx who to body ≡ true
+      told_who : (who next one : TxId) → same_tx one tx ≡ true → next ≡ who → Client (TcWaitConf one next) ≡ body
+          → to.block ≡ block.Api → is_telling_who tx who to body ≡ true
       told_who who next one w which same there =
-          ap (λ c. is_telling_who tx who to c) (sym same) ∙ ap (λ b. is_api b && (same_tx one tx && same_tx next who)) there ∙ ap (λ b. b && same_tx next who) w ∙ ap (λ v. same_tx v who) which ∙ same_tx-self who
+          ap (λ c. is_telling_who tx who to c) (sym same)
+          ∙ ap (λ b. is_api b && (same_tx one tx && same_tx next who)) there ∙ ap (λ b. b && same_tx next who) w
+          ∙ ap (λ v. same_tx v who) which ∙ same_tx-self who
 
       not_passed : passed_of tx body ≡ false → is_passed tx to body ≡ true → ⊥
       not_passed off on = by (is_api to.block) on
@@ -116,13 +121,17 @@ module _ (front : List OpenTransaction) (t : OpenTransaction) (back : List OpenT
           by true e = let both : false ≡ true = sym off ∙ e in cc
           by false e = cc
 
-      told_now : (b : Body) → b ≡ body → is_wait_of tx b ≡ true → to.block ≡ block.Api → StaysAbout ahead to body (api_table s b)
+      told_now : (b : Body) → b ≡ body → is_wait_of tx b ≡ true → to.block ≡ block.Api
+          → StaysAbout ahead to body (api_table s b)
       told_now (Client (TcWaitConf one next)) same w there = record {
         now = Some next;
         about = record {
-          own_is = ap (λ v. (behind_row s v next).own) (same_tx-is one tx w) ∙ ap (λ (r : ApiState). r.own) (behind_is s ahead next about.opened) ∙ about.own_is;
-          opened = ap (λ v. (behind_row s v next).opened) (same_tx-is one tx w) ∙ ap (λ (r : ApiState). r.opened) (behind_is s ahead next about.opened)
-              ∙ ap (λ xs. slice_set xs (length front) (behind t (Some next))) about.opened ∙ split_set front (behind t ahead) back (behind t (Some next));
+          own_is = ap (λ v. (behind_row s v next).own) (same_tx-is one tx w)
+              ∙ ap (λ (r : ApiState). r.own) (behind_is s ahead next about.opened) ∙ about.own_is;
+          opened = ap (λ v. (behind_row s v next).opened) (same_tx-is one tx w)
+              ∙ ap (λ (r : ApiState). r.opened) (behind_is s ahead next about.opened)
+              ∙ ap (λ xs. slice_set xs (length front) (behind t (Some next))) about.opened
+              ∙ split_set front (behind t ahead) back (behind t (Some next));
         };
         plain = refl;
         kept = λ some. refl;
@@ -130,8 +139,10 @@ module _ (front : List OpenTransaction) (t : OpenTransaction) (back : List OpenT
         from = λ who now_is. inr (told_who who next one w (let which : next ≡ who = cc in which) same there);
       }
       told_now (Client (TcWaitReq one)) same w there = stays_about (not_passed (ap (λ b. passed_of tx b) (sym same)))
-      told_now (Client (LqhWaitReq one key)) same w there = stays_about (not_passed (ap (λ b. passed_of tx b) (sym same)))
-      told_now (Client (LqhWaitConf one next)) same w there = stays_about (not_passed (ap (λ b. passed_of tx b) (sym same)))
+      told_now (Client (LqhWaitReq one key)) same w there =
+          stays_about (not_passed (ap (λ b. passed_of tx b) (sym same)))
+      told_now (Client (LqhWaitConf one next)) same w there =
+          stays_about (not_passed (ap (λ b. passed_of tx b) (sym same)))
       told_now _ same w there = cc
 
     -- so it is of the shell's host
@@ -154,21 +165,26 @@ inside front u back =
 own_place_is : (s : ApiState) (front : List OpenTransaction) (u : OpenTransaction) (back : List OpenTransaction)
     → s.own ≡ Some (length front) → s.opened ≡ front ++ u ∷ back → own_place s ≡ Some (length front)
 own_place_is s front u back own opened =
-    ap (if_inside s.opened) own ∙ ap (λ xs. if nat_lt (length front) (length xs) then Some (length front) else None) opened
+    ap (if_inside s.opened) own ∙ ap (λ xs. if nat_lt (length front) (length xs) then Some (length front) else None)
+    opened
     ∙ ap (λ b. if b then Some (length front) else None) (inside front u back)
 
 -- the question for whom it waits
-pub record IsAsking (start : Start) (s : ApiState) (t : OpenTransaction) (tx : TxId) (i : IsOwn s t) (step : Step ApiState) : Type 0 where
+pub record IsAsking (start : Start) (s : ApiState) (t : OpenTransaction) (tx : TxId) (i : IsOwn s t)
+    (step : Step ApiState) : Type 0 where
   pub about : IsAboutOne i.front t i.back (Some (length i.front)) None step.state
   pub plain : sends_of (is_other tx) step.effects.sends ≡ 0
   pub wants : 1 ≤ sends_of (to_host start (home start tx) (is_want tx)) step.effects.sends
 
-waits_is : (s : ApiState) (t : OpenTransaction) (tx : TxId) (i : IsOwn s t) → is_unanswered t.doing ≡ true → t.tx ≡ Some tx
+waits_is : (s : ApiState) (t : OpenTransaction) (tx : TxId) (i : IsOwn s t) → is_unanswered t.doing ≡ true
+    → t.tx ≡ Some tx
     → waits_row s ≡ sending (changing s (length i.front) (behind t None)) (coordinator_of tx) (Client (TcWaitReq tx))
 unfolding waits_row
 waits_is s t tx i waits own =
-    ap (where_at s.opened (stay s) (λ at (x : OpenTransaction). waits_if s at x (is_unanswered x.doing) x.tx)) (own_place_is s i.front t i.back i.own i.is)
-    ∙ ap (if_there (stay s) (λ (x : OpenTransaction). waits_if s (length i.front) x (is_unanswered x.doing) x.tx)) (ap (λ xs. slice_get xs (length i.front)) i.is ∙ split_get i.front t i.back)
+    ap (where_at s.opened (stay s) (λ at (x : OpenTransaction). waits_if s at x (is_unanswered x.doing) x.tx))
+    (own_place_is s i.front t i.back i.own i.is)
+    ∙ ap (if_there (stay s) (λ (x : OpenTransaction). waits_if s (length i.front) x (is_unanswered x.doing) x.tx))
+    (ap (λ xs. slice_get xs (length i.front)) i.is ∙ split_get i.front t i.back)
     ∙ ap (λ b. waits_if s (length i.front) t b t.tx) waits ∙ ap (waits_if s (length i.front) t true) own
 
 pub waits_first : (start : Start) (s : ApiState) (t : OpenTransaction) (tx : TxId) (i : IsOwn s t)
@@ -177,9 +193,11 @@ unfolding request_row
 waits_first start s t tx i waits own = record {
   about = record {
     own_is = ap (λ (r : Step ApiState). r.state.own) now ∙ i.own;
-    opened = ap (λ (r : Step ApiState). r.state.opened) now ∙ ap (λ xs. slice_set xs (length i.front) (behind t None)) i.is ∙ split_set i.front t i.back (behind t None);
+    opened = ap (λ (r : Step ApiState). r.state.opened) now
+        ∙ ap (λ xs. slice_set xs (length i.front) (behind t None)) i.is ∙ split_set i.front t i.back (behind t None);
   };
-  plain = ap (λ (r : Step ApiState). sends_of (is_other tx) r.effects.sends) now ∙ ap (λ b. one_if (not b) + 0) (same_tx-self tx);
+  plain = ap (λ (r : Step ApiState). sends_of (is_other tx) r.effects.sends) now
+      ∙ ap (λ b. one_if (not b) + 0) (same_tx-self tx);
   wants = omega (
     arith,
     ap (λ (r : Step ApiState). sends_of (to_host start (home start tx) (is_want tx)) r.effects.sends) now,
@@ -187,10 +205,12 @@ waits_first start s t tx i waits own = record {
   );
 }
   where
-    now : waits_row s ≡ sending (changing s (length i.front) (behind t None)) (coordinator_of tx) (Client (TcWaitReq tx))
+    now : waits_row s ≡ sending (changing s (length i.front) (behind t None)) (coordinator_of tx)
+        (Client (TcWaitReq tx))
     now = waits_is s t tx i waits own
 
-pending_by_replies : (s : ApiState) (holder name : Option ℕ) (one : Option TxId) → (pending_by s holder name one).state.replies ≡ s.replies ++ Pending name (HeldBy holder) ∷ []
+pending_by_replies : (s : ApiState) (holder name : Option ℕ) (one : Option TxId)
+    → (pending_by s holder name one).state.replies ≡ s.replies ++ Pending name (HeldBy holder) ∷ []
 pending_by_replies s holder None (Some tx) = refl
 pending_by_replies s holder None None = refl
 pending_by_replies s holder (Some name) one = refl
@@ -213,7 +233,8 @@ pub record TellsHolder (name : Option ℕ) (ahead : Option TxId) (s : ApiState) 
   pub is : ahead ≡ Some who
   pub told : step.state.replies ≡ s.replies ++ Pending name (HeldBy (name_of_tx s.opened who)) ∷ []
 
-pub pending_first : (s : ApiState) (front : List OpenTransaction) (t : OpenTransaction) (back : List OpenTransaction) (ahead : Option TxId) → IsAboutOne front t back (Some (length front)) ahead s
+pub pending_first : (s : ApiState) (front : List OpenTransaction) (t : OpenTransaction) (back : List OpenTransaction)
+    (ahead : Option TxId) → IsAboutOne front t back (Some (length front)) ahead s
     → is_unanswered t.doing ≡ true → is_some ahead ≡ true
     → TellsHolder t.name ahead s (request_row s request.Pending)
 unfolding request_row

@@ -55,10 +55,16 @@ use Rattle.command_laws.proofs.waits.Behind.{IsBehindThere, behind_there}
 use Rattle.command_laws.specs.Served.{name_of_tx, EachIsHeldUp, HoldersAreTold, IsHeldUp, IsHeldUpAt, IsServedBetween, IsToldHolder, own_in}
 
 pub sent_to_append : (start : Start) (test : Place → Body → Bool) (h j : ℕ) (xs ys log : List HostStep)
-    → sent_since_to start test h j (xs ++ ys) log ≡ sent_since_to start test h j xs (ys ++ log) + sent_since_to start test h j ys log
+    → sent_since_to start test h j (xs ++ ys) log
+    ≡ sent_since_to start test h j xs (ys ++ log) + sent_since_to start test h j ys log
 sent_to_append start test h j [] ys log = omega arith
 sent_to_append start test h j (e ∷ xs) ys log =
-    omega (arith, sent_to_append start test h j xs ys log, ap (λ l. sends_of (to_host start j test) (step_after start h l e).effects.sends) (append_assoc xs ys log))
+    omega (
+      arith,
+      sent_to_append start test h j xs ys log,
+      ap
+          (λ l. sends_of (to_host start j test) (step_after start h l e).effects.sends) (append_assoc xs ys log),
+    )
 
 -- what is unanswered at quiet is an operation that was sent
 pub record IsWaiting (t : OpenTransaction) : Type 0 where
@@ -66,10 +72,12 @@ pub record IsWaiting (t : OpenTransaction) : Type 0 where
   pub own : t.tx ≡ Some tx
   pub does : t.doing ≡ Operating
 
-is_waiting : (start : Start) (logs : ℕ → List HostStep) (t : OpenTransaction) → is_unanswered t.doing ≡ true → is_answered_by start logs t.doing t.tx → IsWaiting t
+is_waiting : (start : Start) (logs : ℕ → List HostStep) (t : OpenTransaction) → is_unanswered t.doing ≡ true
+    → is_answered_by start logs t.doing t.tx → IsWaiting t
 is_waiting start logs t unanswered answered = by t.doing t.tx refl refl unanswered answered
   where
-    by : (doing : Doing) (o : Option TxId) → t.doing ≡ doing → t.tx ≡ o → is_unanswered doing ≡ true → is_answered_by start logs doing o → IsWaiting t
+    by : (doing : Doing) (o : Option TxId) → t.doing ≡ doing → t.tx ≡ o → is_unanswered doing ≡ true
+        → is_answered_by start logs doing o → IsWaiting t
     by Operating (Some tx) does own some a = record { tx = tx; own = own; does = does }
     by Operating None does own some a = absurd a
     by Ready o does own some a = cc
@@ -103,8 +111,10 @@ not_held tx key g api held = by (has_lqh g) refl
     by true rows = api_no_rows g api rows
     by false none = let both : false ≡ true = sym (ap is_some (no_rows g none key tx)) ∙ held in cc
 
-module _ (answered : EachIsAnswered) (held_up : EachIsHeldUp) (start : Start) (was mid now : ℕ → List HostStep) (t : OpenTransaction) (first_served : IsServedBetween start was mid request.Waits)
-    (then_served : IsServedBetween start mid now request.Pending) (own : own_in (after start 0 (was 0)) ≡ Some t) (unanswered : is_unanswered t.doing ≡ true) where
+module _ (answered : EachIsAnswered) (held_up : EachIsHeldUp) (start : Start) (was mid now : ℕ → List HostStep)
+    (t : OpenTransaction) (first_served : IsServedBetween start was mid request.Waits)
+    (then_served : IsServedBetween start mid now request.Pending) (own : own_in (after start 0 (was 0)) ≡ Some t)
+    (unanswered : is_unanswered t.doing ≡ true) where
   abbrev s : ApiState
   s = api_of (after start 0 (was 0))
 
@@ -157,13 +167,18 @@ module _ (answered : EachIsAnswered) (held_up : EachIsHeldUp) (start : Start) (w
   asked_same : requests (mid 0) ≡ requests (f.first ∷ was 0)
   asked_same = first_served.asked ∙ ap (λ o. requests (was 0) ++ option_to_list o) (sym (ap request_in f.body))
 
-  pub all : AllHold start was first_served.before f.first w.tx up.transaction up.asked up.member up.unanswered up.inside live up.held i.front t i.back (Some (length i.front)) w.own none asking.plain mid
+  pub all : AllHold start was first_served.before f.first w.tx up.transaction up.asked up.member up.unanswered up.inside
+      live up.held i.front t i.back (Some (length i.front)) w.own none asking.plain mid
   all =
-      all_hold start was first_served.before f.first w.tx up.transaction up.asked up.member up.unanswered up.inside live up.held i.front t i.back (Some (length i.front)) w.own none asking.plain mid f.right
+      all_hold start was first_served.before f.first w.tx up.transaction up.asked up.member up.unanswered up.inside live
+      up.held i.front t i.back (Some (length i.front)) w.own none asking.plain mid f.right
       first_served.since first_cut asked_same asking.about
 
   abbrev cut : IsCut was mid
-  cut zero = record { newer = log_of (machine start) all.more 0 ++ f.first ∷ []; is = all.is 0 ∙ sym (append_assoc (log_of (machine start) all.more 0) (f.first ∷ []) (was 0)) }
+  cut zero = record {
+    newer = log_of (machine start) all.more 0 ++ f.first ∷ [];
+    is = all.is 0 ∙ sym (append_assoc (log_of (machine start) all.more 0) (f.first ∷ []) (was 0));
+  }
   cut (suc h) = record { newer = log_of (machine start) all.more (suc h); is = all.is (suc h) }
 
   -- where it is held up is a host that is there
@@ -177,7 +192,8 @@ module _ (answered : EachIsAnswered) (held_up : EachIsHeldUp) (start : Start) (w
   -- the question goes to the coordinator, from there to the node where the lock is, and the answer back
   module _ (c m : ℕ) (c_is : c_host ≡ suc c) (m_is : m_host ≡ suc m) where
     c_low : suc c < hosts start
-    c_low = let low = live_low start was w.tx up.transaction first_served.before c_host up.live in omega (arith, low, c_is)
+    c_low =
+        let low = live_low start was w.tx up.transaction first_served.before c_host up.live in omega (arith, low, c_is)
 
     m_low : suc m < hosts start
     m_low = omega (arith, held_low, m_is)
@@ -199,7 +215,8 @@ module _ (answered : EachIsAnswered) (held_up : EachIsHeldUp) (start : Start) (w
 
     probed : 1 ≤ steps (is_probe w.tx (key_of up.asked.op)) (log_of (machine start) all.more (suc m))
     probed =
-        arrives start was mid first_served.before first_served.since cut (is_probe w.tx (key_of up.asked.op)) (suc c) (suc m) c_low m_low
+        arrives start was mid first_served.before first_served.since cut (is_probe w.tx (key_of up.asked.op)) (suc c)
+        (suc m) c_low m_low
         (omega (
           arith,
           wanted,
@@ -221,9 +238,12 @@ module _ (answered : EachIsAnswered) (held_up : EachIsHeldUp) (start : Start) (w
     passed =
         omega (
           arith,
-          arrives start was mid first_served.before first_served.since cut (is_passed w.tx) (suc c) 0 c_low (omega arith) (omega (arith, found, (all.nodes c).passes c_is)),
-          tally_append (λ (e : HostStep). is_passed w.tx e.step.taken.to e.step.taken.body) (log_of (machine start) all.more 0) (f.first ∷ []),
-          ap one_if (ap (λ (to : Place). is_passed w.tx to f.first.step.taken.body) f.place ∙ ap (is_passed w.tx client) f.body),
+          arrives start was mid first_served.before first_served.since cut (is_passed w.tx) (suc c) 0 c_low
+              (omega arith) (omega (arith, found, (all.nodes c).passes c_is)),
+          tally_append (λ (e : HostStep). is_passed w.tx e.step.taken.to e.step.taken.body)
+              (log_of (machine start) all.more 0) (f.first ∷ []),
+          ap one_if (ap (λ (to : Place). is_passed w.tx to f.first.step.taken.body) f.place ∙ ap (is_passed w.tx client)
+              f.body),
         )
 
   ahead_known : is_some all.shell.ahead ≡ true
@@ -237,9 +257,11 @@ module _ (answered : EachIsAnswered) (held_up : EachIsHeldUp) (start : Start) (w
   then = request_first start mid now request.Pending then_served
 
   pub about : IsAboutOne i.front t i.back (Some (length i.front)) all.shell.ahead (api_of (after start 0 (mid 0)))
-  about = subst (λ log. IsAboutOne i.front t i.back (Some (length i.front)) all.shell.ahead (api_of (after start 0 log))) (sym (all.is 0)) all.shell.about
+  about = subst (λ log. IsAboutOne i.front t i.back (Some (length i.front)) all.shell.ahead
+      (api_of (after start 0 log))) (sym (all.is 0)) all.shell.about
 
-  pub tells : TellsHolder t.name all.shell.ahead (api_of (after start 0 (mid 0))) (api_seen (step_after start 0 (mid 0) then.first))
+  pub tells : TellsHolder t.name all.shell.ahead (api_of (after start 0 (mid 0)))
+      (api_seen (step_after start 0 (mid 0) then.first))
   tells =
       subst (TellsHolder t.name all.shell.ahead (api_of (after start 0 (mid 0))))
       (sym (first_step start mid now request.Pending then))
@@ -252,18 +274,25 @@ module _ (answered : EachIsAnswered) (held_up : EachIsHeldUp) (start : Start) (w
       (sym (replies_are (after start 0 (mid 0))))
 
   -- the signal that told it came from a node where the transaction waits behind that one
-  telling : Counted (λ (e : HostStep). is_telling_who w.tx tells.who e.step.taken.to e.step.taken.body) (log_of (machine start) all.more 0)
-  telling = counted (λ (e : HostStep). is_telling_who w.tx tells.who e.step.taken.to e.step.taken.body) (log_of (machine start) all.more 0) (all.shell.from tells.who tells.is)
+  telling : Counted (λ (e : HostStep). is_telling_who w.tx tells.who e.step.taken.to e.step.taken.body)
+      (log_of (machine start) all.more 0)
+  telling = counted (λ (e : HostStep). is_telling_who w.tx tells.who e.step.taken.to e.step.taken.body)
+      (log_of (machine start) all.more 0) (all.shell.from tells.who tells.is)
 
   in_front : (xs ys : List HostStep) (e : HostStep) → IsIn e xs → IsIn e (xs ++ ys)
   in_front [] ys e inside = absurd inside
   in_front (x ∷ xs) ys e (inl same) = inl same
   in_front (x ∷ xs) ys e (inr rest) = inr (in_front xs ys e rest)
 
-  behind : IsBehindThere start was mid w.tx tells.who first_served.before first_served.since cut (λ h. each_log (machine start) (λ (e : HostStep). is_wait_of w.tx e.step.taken.body ≡ true) all.more (suc h) all.waits)
+  behind : IsBehindThere start was mid w.tx tells.who first_served.before first_served.since cut
+      (λ h. each_log (machine start) (λ (e : HostStep). is_wait_of w.tx e.step.taken.body ≡ true) all.more (suc h)
+      all.waits)
   behind =
-      behind_there start was mid w.tx tells.who first_served.before first_served.since cut (λ h. each_log (machine start) (λ (e : HostStep). is_wait_of w.tx e.step.taken.body ≡ true) all.more (suc h) all.waits)
-      telling.item (in_front (log_of (machine start) all.more 0) (f.first ∷ []) telling.item telling.inside) telling.passes
+      behind_there start was mid w.tx tells.who first_served.before first_served.since cut
+      (λ h. each_log (machine start) (λ (e : HostStep). is_wait_of w.tx e.step.taken.body ≡ true) all.more (suc h)
+      all.waits)
+      telling.item (in_front (log_of (machine start) all.more 0) (f.first ∷ []) telling.item telling.inside)
+      telling.passes
 
   holder_told : IsToldHolder start was mid now
   holder_told =
@@ -278,7 +307,8 @@ module _ (answered : EachIsAnswered) (held_up : EachIsHeldUp) (start : Start) (w
         low = behind.low;
         key = behind.key;
         behind = behind.behind;
-        told = subst (λ log. IsIn reply (drop (length (replies_of (after start 0 (mid 0)))) (replies_of (after start 0 log)))) (sym then.is)
+        told = subst (λ log. IsIn reply (drop (length (replies_of (after start 0 (mid 0))))
+            (replies_of (after start 0 log)))) (sym then.is)
             (told_since start (mid 0) (mid 0) then.later then.first reply (past_self (mid 0)) tells_reply);
       }
 
@@ -295,15 +325,18 @@ left_own (Tc p) left = cc
 left_own (Ldm l) left = cc
 left_own (Shell s) left = at_place (own_place s) refl left
   where
-    at_get : (at : ℕ) (x : Option OpenTransaction) → own_place s ≡ Some at → slice_get s.opened at ≡ x → if_there false (λ (y : OpenTransaction). is_unanswered y.doing) x ≡ true → IsLeft (Shell s)
+    at_get : (at : ℕ) (x : Option OpenTransaction) → own_place s ≡ Some at → slice_get s.opened at ≡ x
+        → if_there false (λ (y : OpenTransaction). is_unanswered y.doing) x ≡ true → IsLeft (Shell s)
     at_get at None place get is = cc
     at_get at (Some y) place get is = record {
       t = y;
-      own = ap (where_at s.opened None (λ p (x : OpenTransaction). Some x)) place ∙ ap (if_there None (λ (x : OpenTransaction). Some x)) get;
+      own = ap (where_at s.opened None (λ p (x : OpenTransaction). Some x)) place
+          ∙ ap (if_there None (λ (x : OpenTransaction). Some x)) get;
       unanswered = is;
     }
 
-    at_place : (o : Option ℕ) → own_place s ≡ o → where_at s.opened false (λ at (y : OpenTransaction). is_unanswered y.doing) o ≡ true → IsLeft (Shell s)
+    at_place : (o : Option ℕ) → own_place s ≡ o
+        → where_at s.opened false (λ at (y : OpenTransaction). is_unanswered y.doing) o ≡ true → IsLeft (Shell s)
     at_place None place is = cc
     at_place (Some at) place is = at_get at (slice_get s.opened at) place refl is
 

@@ -47,17 +47,22 @@ is_asked_in : (body : Body) → is_request body ≡ true → length (option_to_l
 is_asked_in (Host (Continue (Request request) at)) e = refl
 is_asked_in _ e = cc
 
-module _ (start : Start) (was : ℕ → List HostStep) (before : AreQuiet start was) (first : HostStep) (tx : TxId) (u : Transaction) (asked : Asked) (member : Member) (unanswered : u.asked ≡ Some asked) (inside : IsIn member asked.chain)
+module _ (start : Start) (was : ℕ → List HostStep) (before : AreQuiet start was) (first : HostStep) (tx : TxId)
+    (u : Transaction) (asked : Asked) (member : Member) (unanswered : u.asked ≡ Some asked)
+    (inside : IsIn member asked.chain)
     (live : OnTc (λ s. of_live tx s.live ≡ Some u) (after start (home start tx) (was (home start tx))))
     (held : IsHeldUpAt tx (key_of asked.op)
     (after start (rows_host start member.node) (was (rows_host start member.node))))
-    (front : List OpenTransaction) (t : OpenTransaction) (back : List OpenTransaction) (own : Option ℕ) (own_tx : t.tx ≡ Some tx) (none : tally (has_tx tx) front ≡ 0)
+    (front : List OpenTransaction) (t : OpenTransaction) (back : List OpenTransaction) (own : Option ℕ)
+    (own_tx : t.tx ≡ Some tx) (none : tally (has_tx tx) front ≡ 0)
     (plain_first : sends_of (is_other tx) (step_after start 0 (was 0) first).effects.sends ≡ 0) where
   abbrev NodesHold : List HostStep → Type 0
-  NodesHold more = (h : ℕ) → NodeHolds start was tx u asked member unanswered inside live held h (log_of (machine start) more (suc h))
+  NodesHold more = (h : ℕ) → NodeHolds start was tx u asked member unanswered inside live held h
+      (log_of (machine start) more (suc h))
 
   abbrev ShellHas : List HostStep → Type 0
-  ShellHas more = ShellHolds start was tx u asked member unanswered inside live held (first ∷ was 0) front t back own own_tx none (log_of (machine start) more 0)
+  ShellHas more = ShellHolds start was tx u asked member unanswered inside live held (first ∷ was 0) front t back own
+      own_tx none (log_of (machine start) more 0)
 
   -- these logs are those with the request and the steps of some events, which are questions and answers to them
   pub record AllHold (logs : ℕ → List HostStep) : Type 0 where
@@ -73,11 +78,16 @@ module _ (start : Start) (was : ℕ → List HostStep) (before : AreQuiet start 
 
   module _ (logs : ℕ → List HostStep) (all : AllHold logs) where
     -- of other signals no more are sent than were taken before
-    few_others : (i j : ℕ) → j < hosts start → IsWithin (hosts start) logs → signals (is_other tx) (sent (machine start) i j (logs i)) ≤ signals (is_other tx) (taken (machine start) i (was j))
+    few_others : (i j : ℕ) → j < hosts start → IsWithin (hosts start) logs
+        → signals (is_other tx) (sent (machine start) i j (logs i))
+        ≤ signals (is_other tx) (taken (machine start) i (was j))
     few_others i j low within = by i (cases_lt i (hosts start))
       where
-        by : (i : ℕ) → (i < hosts start) ⊎ (hosts start ≤ i) → signals (is_other tx) (sent (machine start) i j (logs i)) ≤ signals (is_other tx) (taken (machine start) i (was j))
-        by i (inr high) = omega (arith, ap (λ log. signals (is_other tx) (sent (machine start) i j log)) (within i high))
+        by : (i : ℕ) → (i < hosts start) ⊎ (hosts start ≤ i)
+            → signals (is_other tx) (sent (machine start) i j (logs i))
+            ≤ signals (is_other tx) (taken (machine start) i (was j))
+        by i (inr high) =
+            omega (arith, ap (λ log. signals (is_other tx) (sent (machine start) i j log)) (within i high))
         by zero (inl under) =
             omega (
               arith,
@@ -99,7 +109,10 @@ module _ (start : Start) (was : ℕ → List HostStep) (before : AreQuiet start 
             )
 
     past_was : (j : ℕ) → IsPast (was j) (logs j)
-    past_was zero = record { newer = log_of (machine start) all.more 0 ++ first ∷ []; is = all.is 0 ∙ sym (append_assoc (log_of (machine start) all.more 0) (first ∷ []) (was 0)) }
+    past_was zero = record {
+      newer = log_of (machine start) all.more 0 ++ first ∷ [];
+      is = all.is 0 ∙ sym (append_assoc (log_of (machine start) all.more 0) (first ∷ []) (was 0));
+    }
     past_was (suc h) = record { newer = log_of (machine start) all.more (suc h); is = all.is (suc h) }
 
   is_wait : (b : Bool) → not b ≡ false → b ≡ true
@@ -107,9 +120,11 @@ module _ (start : Start) (was : ℕ → List HostStep) (before : AreQuiet start 
   is_wait false e = cc
 
   -- so what comes is a question or an answer to one
-  comes_wait : (es : List HostStep) (e : HostStep) → Happens (machine start) es e → AllHold (log_of (machine start) es) → IsWithin (hosts start) (log_of (machine start) es) → e.host < hosts start → is_request e.step.taken.body ≡ false
+  comes_wait : (es : List HostStep) (e : HostStep) → Happens (machine start) es e → AllHold (log_of (machine start) es)
+      → IsWithin (hosts start) (log_of (machine start) es) → e.host < hosts start → is_request e.step.taken.body ≡ false
       → is_wait_of tx e.step.taken.body ≡ true
-  comes_wait es e happens all within low plain = is_wait (is_wait_of tx e.step.taken.body) (by (is_other tx e.step.taken.to e.step.taken.body) refl)
+  comes_wait es e happens all within low plain =
+      is_wait (is_wait_of tx e.step.taken.body) (by (is_other tx e.step.taken.to e.step.taken.body) refl)
     where
       by : (b : Bool) → is_other tx e.step.taken.to e.step.taken.body ≡ b → b ≡ false
       by false is = refl
@@ -118,49 +133,73 @@ module _ (start : Start) (was : ℕ → List HostStep) (before : AreQuiet start 
             arith,
             ap one_if is,
             tally_past (λ (x : Addressed). is_other tx x.signal.to x.signal.body)
-                (given_past start e.step.taken.from.0 e.host (log_of (machine start) es e.step.taken.from.0) (record { to = e.host; signal = e.step.taken } ∷ taken (machine start) e.step.taken.from.0 (log_of (machine start) es e.host)) (happens.takes plain)),
+                (given_past start e.step.taken.from.0 e.host (log_of (machine start) es e.step.taken.from.0)
+                (record { to = e.host; signal = e.step.taken } ∷ taken (machine start) e.step.taken.from.0
+                (log_of (machine start) es e.host)) (happens.takes plain)),
             few_others (log_of (machine start) es) all e.step.taken.from.0 e.host low within,
-            tally_past (λ (x : Addressed). is_other tx x.signal.to x.signal.body) (taken_past (machine start) e.step.taken.from.0 (past_was (log_of (machine start) es) all e.host)),
+            tally_past (λ (x : Addressed). is_other tx x.signal.to x.signal.body)
+                (taken_past (machine start) e.step.taken.from.0 (past_was (log_of (machine start) es) all e.host)),
           ))
 
-  module _ (es : List HostStep) (e : HostStep) (all : AllHold (log_of (machine start) es)) (is : is_wait_of tx e.step.taken.body ≡ true) where
-    log_more : (h : ℕ) → log_of (machine start) (e ∷ es) h ≡ log_of (machine start) (e ∷ all.more) h ++ with_first was first h
+  module _ (es : List HostStep) (e : HostStep) (all : AllHold (log_of (machine start) es))
+      (is : is_wait_of tx e.step.taken.body ≡ true) where
+    log_more : (h : ℕ)
+        → log_of (machine start) (e ∷ es) h ≡ log_of (machine start) (e ∷ all.more) h ++ with_first was first h
     log_more h = by (cases_eq e.host h)
       where
-        by : (e.host ≡ h) ⊎ (e.host ≢ h) → log_of (machine start) (e ∷ es) h ≡ log_of (machine start) (e ∷ all.more) h ++ with_first was first h
-        by (inl at) = log_of-own (machine start) e es h at ∙ ap (λ w. e ∷ w) (all.is h) ∙ ap (λ w. w ++ with_first was first h) (sym (log_of-own (machine start) e all.more h at))
-        by (inr other) = log_of-other (machine start) e es h other ∙ all.is h ∙ ap (λ w. w ++ with_first was first h) (sym (log_of-other (machine start) e all.more h other))
+        by : (e.host ≡ h) ⊎ (e.host ≢ h)
+            → log_of (machine start) (e ∷ es) h ≡ log_of (machine start) (e ∷ all.more) h ++ with_first was first h
+        by (inl at) = log_of-own (machine start) e es h at ∙ ap (λ w. e ∷ w) (all.is h)
+            ∙ ap (λ w. w ++ with_first was first h) (sym (log_of-own (machine start) e all.more h at))
+        by (inr other) = log_of-other (machine start) e es h other ∙ all.is h
+            ∙ ap (λ w. w ++ with_first was first h) (sym (log_of-other (machine start) e all.more h other))
 
     shell_more : ShellHas (e ∷ all.more)
     shell_more = by (cases_eq e.host 0)
       where
         by : (e.host ≡ 0) ⊎ (e.host ≢ 0) → ShellHas (e ∷ all.more)
         by (inl at) =
-            subst (ShellHolds start was tx u asked member unanswered inside live held (first ∷ was 0) front t back own own_tx none) (sym (log_of-own (machine start) e all.more 0 at))
-            (shell_next start was tx u asked member unanswered inside live held (first ∷ was 0) front t back own own_tx none e (log_of (machine start) all.more 0) is all.shell)
-        by (inr other) = subst (ShellHolds start was tx u asked member unanswered inside live held (first ∷ was 0) front t back own own_tx none) (sym (log_of-other (machine start) e all.more 0 other)) all.shell
+            subst (ShellHolds start was tx u asked member unanswered inside live held (first ∷ was 0) front t back own
+            own_tx none) (sym (log_of-own (machine start) e all.more 0 at))
+            (shell_next start was tx u asked member unanswered inside live held (first ∷ was 0) front t back own own_tx
+            none e (log_of (machine start) all.more 0) is all.shell)
+        by (inr other) = subst (ShellHolds start was tx u asked member unanswered inside live held (first ∷ was 0) front
+            t back own own_tx none) (sym (log_of-other (machine start) e all.more 0 other)) all.shell
 
     nodes_more : NodesHold (e ∷ all.more)
     nodes_more h = by (cases_eq e.host (suc h))
       where
-        by : (e.host ≡ suc h) ⊎ (e.host ≢ suc h) → NodeHolds start was tx u asked member unanswered inside live held h (log_of (machine start) (e ∷ all.more) (suc h))
+        by : (e.host ≡ suc h) ⊎ (e.host ≢ suc h)
+            → NodeHolds start was tx u asked member unanswered inside live held h
+            (log_of (machine start) (e ∷ all.more) (suc h))
         by (inl at) =
-            subst (NodeHolds start was tx u asked member unanswered inside live held h) (sym (log_of-own (machine start) e all.more (suc h) at))
-            (node_next start was tx u asked member unanswered inside live held h e (log_of (machine start) all.more (suc h)) is (all.nodes h))
-        by (inr other) = subst (NodeHolds start was tx u asked member unanswered inside live held h) (sym (log_of-other (machine start) e all.more (suc h) other)) (all.nodes h)
+            subst (NodeHolds start was tx u asked member unanswered inside live held h)
+            (sym (log_of-own (machine start) e all.more (suc h) at))
+            (node_next start was tx u asked member unanswered inside live held h e
+            (log_of (machine start) all.more (suc h)) is (all.nodes h))
+        by (inr other) = subst (NodeHolds start was tx u asked member unanswered inside live held h)
+            (sym (log_of-other (machine start) e all.more (suc h) other)) (all.nodes h)
 
     all_more : AllHold (log_of (machine start) (e ∷ es))
-    all_more = record { more = e ∷ all.more; waits = (is, all.waits); is = log_more; shell = shell_more; nodes = nodes_more }
+    all_more = record {
+      more = e ∷ all.more;
+      waits = (is, all.waits);
+      is = log_more;
+      shell = shell_more;
+      nodes = nodes_more;
+    }
 
   -- nothing else is asked for
-  not_asked : (es : List HostStep) (e : HostStep) → Happens (machine start) es e → AllHold (log_of (machine start) es) → length (requests (log_of (machine start) (e ∷ es) 0)) ≤ length (requests (first ∷ was 0))
+  not_asked : (es : List HostStep) (e : HostStep) → Happens (machine start) es e → AllHold (log_of (machine start) es)
+      → length (requests (log_of (machine start) (e ∷ es) 0)) ≤ length (requests (first ∷ was 0))
       → is_request e.step.taken.body ≡ false
   not_asked es e happens all few = by (is_request e.step.taken.body) refl
     where
       by : (b : Bool) → is_request e.step.taken.body ≡ b → b ≡ false
       by false is = refl
       by true is =
-          let at : IsAsked (first_membership start) e.host _ e.step.taken = fits_asked start e.host _ e.step.taken (is_request e.step.taken.body) is happens.step.fits.asked in
+          let at : IsAsked (first_membership start) e.host _ e.step.taken =
+          fits_asked start e.host _ e.step.taken (is_request e.step.taken.body) is happens.step.fits.asked in
           absurd (omega (
             arith,
             few,
@@ -172,21 +211,26 @@ module _ (start : Start) (was : ℕ → List HostStep) (before : AreQuiet start 
             length-append (requests (first ∷ was 0)) (requests (log_of (machine start) all.more 0)),
           ))
 
-  within_less : (es : List HostStep) (e : HostStep) → IsWithin (hosts start) (log_of (machine start) (e ∷ es)) → IsWithin (hosts start) (log_of (machine start) es)
-  within_less es e within h high = let past = log_of-past (machine start) e es h in older_nil past.newer (log_of (machine start) es h) (sym (within h high) ∙ past.is)
+  within_less : (es : List HostStep) (e : HostStep) → IsWithin (hosts start) (log_of (machine start) (e ∷ es))
+      → IsWithin (hosts start) (log_of (machine start) es)
+  within_less es e within h high = let past = log_of-past (machine start) e es h in
+      older_nil past.newer (log_of (machine start) es h) (sym (within h high) ∙ past.is)
     where
       older_nil : (newer log : List HostStep) → [] ≡ newer ++ log → log ≡ []
       older_nil [] log is = sym is
       older_nil (x ∷ newer) log is = absurd cc
 
-  under_hosts : (es : List HostStep) (e : HostStep) → IsWithin (hosts start) (log_of (machine start) (e ∷ es)) → e.host < hosts start
+  under_hosts : (es : List HostStep) (e : HostStep) → IsWithin (hosts start) (log_of (machine start) (e ∷ es))
+      → e.host < hosts start
   under_hosts es e within = by (cases_lt e.host (hosts start))
     where
       by : (e.host < hosts start) ⊎ (hosts start ≤ e.host) → e.host < hosts start
       by (inl low) = low
-      by (inr high) = absurd (let none : e ∷ log_of (machine start) es e.host ≡ [] = sym (log_of-own (machine start) e es e.host refl) ∙ within e.host high in cc)
+      by (inr high) = absurd (let none : e ∷ log_of (machine start) es e.host ≡ [] = sym
+          (log_of-own (machine start) e es e.host refl) ∙ within e.host high in cc)
 
-  fewer_asked : (es : List HostStep) (e : HostStep) → length (requests (log_of (machine start) es 0)) ≤ length (requests (log_of (machine start) (e ∷ es) 0))
+  fewer_asked : (es : List HostStep) (e : HostStep)
+      → length (requests (log_of (machine start) es 0)) ≤ length (requests (log_of (machine start) (e ∷ es) 0))
   fewer_asked es e =
       let past = log_of-past (machine start) e es 0 in
       omega (
@@ -196,20 +240,26 @@ module _ (start : Start) (was : ℕ → List HostStep) (before : AreQuiet start 
         length-append (requests (log_of (machine start) es 0)) (requests past.newer),
       )
 
-  event_holds : (es : List HostStep) (e : HostStep) → Run (machine start) es → Happens (machine start) es e → Holds (log_of (machine start) es) → Holds (log_of (machine start) (e ∷ es))
+  event_holds : (es : List HostStep) (e : HostStep) → Run (machine start) es → Happens (machine start) es e
+      → Holds (log_of (machine start) es) → Holds (log_of (machine start) (e ∷ es))
   event_holds es e run happens h = record { holds = now }
     where
-      now : IsWithin (hosts start) (log_of (machine start) (e ∷ es)) → length (requests (log_of (machine start) (e ∷ es) 0)) ≤ length (requests (first ∷ was 0)) → AllHold (log_of (machine start) (e ∷ es))
+      now : IsWithin (hosts start) (log_of (machine start) (e ∷ es))
+          → length (requests (log_of (machine start) (e ∷ es) 0)) ≤ length (requests (first ∷ was 0))
+          → AllHold (log_of (machine start) (e ∷ es))
       now within few =
           let less = within_less es e within in
           let all = h.holds less (omega (arith, few, fewer_asked es e)) in
-          all_more es e all (comes_wait es e happens all less (under_hosts es e within) (not_asked es e happens all few))
+          all_more es e all (comes_wait es e happens all less (under_hosts es e within)
+          (not_asked es e happens all few))
 
   -- so it is at each later cut
-  pub all_hold : (now : ℕ → List HostStep) → AreLogs (machine start) (with_first was first) → AreQuiet start now → IsCut (with_first was first) now → requests (now 0) ≡ requests (first ∷ was 0)
+  pub all_hold : (now : ℕ → List HostStep) → AreLogs (machine start) (with_first was first) → AreQuiet start now
+      → IsCut (with_first was first) now → requests (now 0) ≡ requests (first ∷ was 0)
       → IsAboutOne front t back own None (api_of (after start 0 (first ∷ was 0))) → AllHold now
   all_hold now right quiet cut same about =
-      (along_cuts (machine start) (stamped start) Holds event_holds (hosts start) (with_first was first) now quiet.within quiet.right right cut begin).holds quiet.within (omega (arith, ap length same))
+      (along_cuts (machine start) (stamped start) Holds event_holds (hosts start) (with_first was first) now
+      quiet.within quiet.right right cut begin).holds quiet.within (omega (arith, ap length same))
     where
       begin : Holds (with_first was first)
       begin = record {
@@ -217,7 +267,8 @@ module _ (start : Start) (was : ℕ → List HostStep) (before : AreQuiet start 
           more = [];
           waits = tt;
           is = λ h. refl;
-          shell = shell_none start was tx u asked member unanswered inside live held (first ∷ was 0) front t back own own_tx none about;
+          shell = shell_none start was tx u asked member unanswered inside live held (first ∷ was 0) front t back own
+              own_tx none about;
           nodes = λ h. node_none start was tx u asked member unanswered inside live held h;
         };
       }

@@ -1,4 +1,5 @@
--- Behind an event of its host a coordinator that completes a transaction, and has driven it in its view, was told in that
+-- Behind an event of its host a coordinator that completes a transaction, and has driven it in its view, was told in
+-- that
 -- view of each key that the transaction wrote.
 use Rattle.std.proofs.Common.{◌≡◌, ◌∙◌, ℕ, List, ◌∷◌, sym, ap, subst}
 use Rattle.std.specs.Prelude.{Some}
@@ -65,7 +66,8 @@ module _ (start : Start) (all : ℕ → List HostStep) (e : HostStep) (es : List
     completes_answered t found epoch awaited phase busy =
         all_committed_in start new n tx t.touched t.ops
         (ap (λ (m : Member). ops_of tx (new (tc_of start m))) own ∙ says.1.1.ops_are)
-        (each_found (λ (one : TxId × Transaction). IsTouchedRightly one.1) (coordinator_after start member log).tc.live tx t
+        (each_found (λ (one : TxId × Transaction). IsTouchedRightly one.1) (coordinator_after start member log).tc.live
+        tx t
         stands.keyed found).answered
         (keys_committed start all (e ∷ es) moment member there tx own led t found epoch awaited phase busy)
       where

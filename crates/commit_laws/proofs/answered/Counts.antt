@@ -1,4 +1,5 @@
--- Signals of distinct keys are counted: where each key has one at most, and there are as many as keys, each key has one.
+-- Signals of distinct keys are counted: where each key has one at most, and there are as many as keys, each key has
+-- one.
 use Rattle.std.proofs.Common.{◌≡◌, ◌≤◌, ◌+◌, ◌||◌, ◌&&◌, ◌==◌, ℕ, Bool, true, false, if◌then◌else◌, List, [], ◌∷◌, length, refl, ap, arith}
 use Rattle.std.specs.List.{list_any}
 use Rattle.std.specs.Prelude.{not}
@@ -41,16 +42,18 @@ module _ (count : (List ℕ → Bool) → ℕ) (none : count (among []) ≡ 0)
         (omega (arith, adds u us, counts_few us, enough), each_counts us (omega (arith, adds u us, once u.key, enough)))
 
 -- what is taken, test by test
-module _ (start : Start) (p q r : Signal → Bool) (parts : (x : Signal) → one_if (p x) ≤ one_if (q x) + one_if (r x)) where
-  pub taken_parts : (log : List HostStep) → taken_along start p log ≤ taken_along start q log + taken_along start r log
-  taken_parts [] = omega arith
-  taken_parts (e ∷ log) = omega (arith, one ((sound_machine start).asked e), taken_parts log)
-    where
-      one : (b : Bool)
-          → (if b then 0 else one_if (p e.step.taken))
-          ≤ (if b then 0 else one_if (q e.step.taken)) + (if b then 0 else one_if (r e.step.taken))
-      one true = omega arith
-      one false = parts e.step.taken
+module _ (start : Start) (p q r : Signal → Bool) (parts : (x : Signal) → one_if (p x) ≤ one_if (q x) + one_if (r x))
+  where
+    pub taken_parts : (log : List HostStep)
+        → taken_along start p log ≤ taken_along start q log + taken_along start r log
+    taken_parts [] = omega arith
+    taken_parts (e ∷ log) = omega (arith, one ((sound_machine start).asked e), taken_parts log)
+      where
+        one : (b : Bool)
+            → (if b then 0 else one_if (p e.step.taken))
+            ≤ (if b then 0 else one_if (q e.step.taken)) + (if b then 0 else one_if (r e.step.taken))
+        one true = omega arith
+        one false = parts e.step.taken
 
 pub taken_none : (start : Start) (p : Signal → Bool) → ((x : Signal) → p x ≡ false) → (log : List HostStep)
     → taken_along start p log ≡ 0
@@ -126,7 +129,8 @@ module _ (tx : TxId) (number : ℕ) where
           (taken_none start (told (among [])) nothing_told log)
           (λ u us.
           taken_parts start (told (among (u ∷ us))) (told (only u.key)) (told (among us))
-          (told_parts (among (u ∷ us)) (only u.key) (among us) (λ key. or_parts (same_key key u.key) (among us key))) log)
+          (told_parts (among (u ∷ us)) (only u.key) (among us) (λ key. or_parts (same_key key u.key) (among us key)))
+          log)
           once touched
           (omega (
             arith,

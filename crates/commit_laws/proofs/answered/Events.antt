@@ -43,7 +43,8 @@ CoordinatorAnswers =
     → (IsPassed start.shape (part.Tc (step start all e es follows.moment member there at).does.between)
     (view_after start e.host (e ∷ logs_of start es e.host)) e.step.taken → e.step.taken.to.block ≡ block.Takeover
     → AreAnsweredNow start e es
-    (tc_row (step start all e es follows.moment member there at).does.between block.Takeover e.step.taken).effects.sends)
+    (tc_row (step start all e es follows.moment member there at).does.between block.Takeover
+    e.step.taken).effects.sends)
     → AreAnsweredNow start e es (step_after start e.host (logs_of start es e.host) e).effects.sends
 
 pub events_keep_answered : CoordinatorAnswers → EventsKeepAnswered

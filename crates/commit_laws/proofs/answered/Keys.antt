@@ -51,7 +51,8 @@ use Rattle.commit_laws.proofs.drive.Tasks.{listed}
 use Rattle.commit_laws.proofs.commits.WholeTurns.{IsOfKeys, keys_in, phase_keys}
 
 -- of keys that weren't touched no commit is among what is sent
-among_in : (touched : List Touched) (u : Touched) (key : List ℕ) → IsIn u touched → u.key ≡ key → among touched key ≡ true
+among_in : (touched : List Touched) (u : Touched) (key : List ℕ) → IsIn u touched → u.key ≡ key
+    → among touched key ≡ true
 among_in [] u key there is = absurd there
 among_in (v ∷ touched) u key (inl same) is =
     or_left (same_key key v.key) (among touched key)
@@ -60,7 +61,8 @@ among_in (v ∷ touched) u key (inr there) is =
     or_right (same_key key v.key) (among touched key) (among_in touched u key there is)
 
 module _ (layout : Layout) (tx : TxId) (touched : List Touched) where
-  one_off : (keys : List Touched) → ((u : Touched) (key : List ℕ) → IsIn u keys → u.key ≡ key → among touched key ≡ true)
+  one_off : (keys : List Touched)
+      → ((u : Touched) (key : List ℕ) → IsIn u keys → u.key ≡ key → among touched key ≡ true)
       → (body : Body) → IsOfKeys keys body → goes committing (mine tx (outside touched)) body ≡ false
   one_off keys inside (Chain (Commit one key epoch chain at)) is =
       off (same_tx one tx) (among touched key) (inside is.one key is.among is.key_is)
@@ -77,10 +79,12 @@ module _ (layout : Layout) (tx : TxId) (touched : List Touched) where
   none_outside phase inside =
       none_counted (goes committing (mine tx (outside touched))) (phase_sends layout tx phase touched)
       (each_map (λ (o : Outgoing). IsOfKeys (keys_in phase touched) o.body)
-      (λ (o : Outgoing). goes committing (mine tx (outside touched)) o.body ≡ false) (phase_sends layout tx phase touched)
+      (λ (o : Outgoing). goes committing (mine tx (outside touched)) o.body ≡ false)
+      (phase_sends layout tx phase touched)
       (λ o is. one_off (keys_in phase touched) inside o.body is) (phase_keys 0 layout tx phase touched))
 
-module _ (start : Start) (all : ℕ → List HostStep) (es : List HostStep) (moment : IsMoment start all es) (member : Member)
+module _ (start : Start) (all : ℕ → List HostStep) (es : List HostStep) (moment : IsMoment start all es)
+    (member : Member)
     (there : IsIn member (made start)) (tx : TxId) (own : coordinator_member tx ≡ member)
     (led : IsLedIn start all tx
     (number_at start member tx (tc_of start member) (logs_of start es (tc_of start member))))
@@ -127,7 +131,8 @@ module _ (start : Start) (all : ℕ → List HostStep) (es : List HostStep) (mom
           taken_sent wk,
           told_few committing (mine tx wk) n start all es moment,
           owners_own start all tx n led es moment there_too committing wk,
-          ap (λ (m : Member). sent_along start (numbered n (goes committing (mine tx wk))) (tc_of start m) (logs (tc_of start m))) own,
+          ap (λ (m : Member). sent_along start (numbered n (goes committing (mine tx wk))) (tc_of start m)
+              (logs (tc_of start m))) own,
         )
 
     once : (key : List ℕ) → taken_along start (told tx n (only key)) log ≤ 1
@@ -136,7 +141,8 @@ module _ (start : Start) (all : ℕ → List HostStep) (es : List HostStep) (mom
           arith,
           taken_own (only key),
           coordinators_drive_once start all es moment tx there_too n committing key,
-          ap (λ (m : Member). sent_along start (numbered n (goes committing (mine tx (only key)))) (tc_of start m) (logs (tc_of start m))) own,
+          ap (λ (m : Member). sent_along start (numbered n (goes committing (mine tx (only key)))) (tc_of start m)
+              (logs (tc_of start m))) own,
         )
 
     module _ (t : Transaction) (found : entry_of (coordinator_after start member log) tx ≡ Some t) (epoch awaited : ℕ)
@@ -154,7 +160,8 @@ module _ (start : Start) (all : ℕ → List HostStep) (es : List HostStep) (mom
               arith,
               taken_own (outside t.touched),
               sending.keys committing (outside t.touched),
-              none_outside layout tx t.touched (Committing before left) (λ u key there is. among_in t.touched u key there is),
+              none_outside layout tx t.touched (Committing before left)
+                  (λ u key there is. among_in t.touched u key there is),
               none_outside layout tx t.touched (Completing before left) (λ u key there is. absurd there),
               taken_less (λ (o : Outgoing). goes committing (mine tx (outside t.touched)) o.body) place
                   (completions_of layout tx before left t.touched),

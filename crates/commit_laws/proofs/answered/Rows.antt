@@ -34,7 +34,8 @@ use Rattle.commit_laws.proofs.links.TakenChains.{chain_told}
 
 module _ (start : Start) (all : ℕ → List HostStep) (e : HostStep) (es : List HostStep)
     (moment : IsMoment start all (e ∷ es))
-    (answered : EachSent start (λ (y : Addressed). IsAnswered start (logs_of start es) y.signal.view.number y.signal.body)
+    (answered : EachSent start (λ (y : Addressed). IsAnswered start (logs_of start es) y.signal.view.number
+    y.signal.body)
     (logs_of start es))
   where
     abbrev old : ℕ → List HostStep

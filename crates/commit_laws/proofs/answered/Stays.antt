@@ -49,7 +49,8 @@ module _ (start : Start) (all : ℕ → List HostStep) (e : HostStep) (es : List
             subst (λ log. IsPast (sent (sound_machine start) i j (old i)) (sent (sound_machine start) i j log))
             (sym (log_of-other (machine start) e es i other)) (past_self (sent (sound_machine start) i j (old i)))
 
-    pub committed_stays : (number : ℕ) (tx : TxId) (key : List ℕ) → WasCommittedIn start (logs_of start es) number tx key
+    pub committed_stays : (number : ℕ) (tx : TxId) (key : List ℕ)
+        → WasCommittedIn start (logs_of start es) number tx key
         → WasCommittedIn start (logs_of start (e ∷ es)) number tx key
     committed_stays number tx key was = record {
       from = was.from;
@@ -61,7 +62,8 @@ module _ (start : Start) (all : ℕ → List HostStep) (e : HostStep) (es : List
     }
 
     pub all_stay : (number : ℕ) (tx : TxId) → is_forth start (logs_of start es) tx ≡ true
-        → AllWereCommittedIn start (logs_of start es) number tx → AllWereCommittedIn start (logs_of start (e ∷ es)) number tx
+        → AllWereCommittedIn start (logs_of start es) number tx
+        → AllWereCommittedIn start (logs_of start (e ∷ es)) number tx
     all_stay number tx forth were key written =
         committed_stays number tx key
         (were key (written_before start all e es moment tx key (forth_decided start all es before tx forth) written))
@@ -83,7 +85,8 @@ module _ (start : Start) (all : ℕ → List HostStep) (e : HostStep) (es : List
     pub sent_answered : ((i j : ℕ)
         → Each (λ (x : Addressed). IsAnswered start (logs_of start es) x.signal.view.number x.signal.body)
         (sent (sound_machine start) i j (logs_of start es i)))
-        → (i j : ℕ) → Each (λ (x : Addressed). IsAnswered start (logs_of start (e ∷ es)) x.signal.view.number x.signal.body)
+        → (i j : ℕ)
+        → Each (λ (x : Addressed). IsAnswered start (logs_of start (e ∷ es)) x.signal.view.number x.signal.body)
         (sent (sound_machine start) i j (logs_of start es i))
     sent_answered were i j =
         each_from (λ (x : Addressed). IsAnswered start new x.signal.view.number x.signal.body)

@@ -34,11 +34,13 @@ pub record Passes (p : Signal → Bool) (ys : List Addressed) : Type 0 where
   pub there : IsIn one ys
   pub is : p one.signal ≡ true
 
-pub passes_some : (p : Signal → Bool) (ys : List Addressed) → 1 ≤ count_by (λ (y : Addressed). p y.signal) ys → Passes p ys
+pub passes_some : (p : Signal → Bool) (ys : List Addressed) → 1 ≤ count_by (λ (y : Addressed). p y.signal) ys
+    → Passes p ys
 passes_some p [] some = absurd (omega (arith, some))
 passes_some p (y ∷ ys) some = by (p y.signal) refl (passes_some p ys)
   where
-    by : (b : Bool) → p y.signal ≡ b → (1 ≤ count_by (λ (y : Addressed). p y.signal) ys → Passes p ys) → Passes p (y ∷ ys)
+    by : (b : Bool) → p y.signal ≡ b → (1 ≤ count_by (λ (y : Addressed). p y.signal) ys → Passes p ys)
+        → Passes p (y ∷ ys)
     by true is less = record { one = y; there = inl refl; is = is }
     by false off less =
         let nothing : one_if (p y.signal) ≡ 0 = ap one_if off in
@@ -88,7 +90,8 @@ told_sent start logs number tx key some = record {
   to = own.to_host;
   signal = own.signal;
   there = own.there;
-  body = body_is own.signal.signal.body (and_parts (comes committing (mine tx (only key)) own.signal.signal.body) same own.is).0;
+  body = body_is own.signal.signal.body (and_parts (comes committing (mine tx (only key)) own.signal.signal.body) same
+      own.is).0;
   view =
       eqb-true own.signal.signal.view.number number
       (and_parts (comes committing (mine tx (only key)) own.signal.signal.body) same own.is).1;

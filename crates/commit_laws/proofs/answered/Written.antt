@@ -1,4 +1,5 @@
--- A key that was written is among those that the transaction has touched, so where each of these was committed, all were
+-- A key that was written is among those that the transaction has touched, so where each of these was committed, all
+-- were
 -- that were written.
 use Rattle.std.proofs.Common.{◌≡◌, ◌||◌, ◌∙◌, ℕ, Bool, true, false, List, [], ◌∷◌, refl, sym, subst, inl, inr}
 use Rattle.std.proofs.lemmas.Bool.{true≢false}
@@ -53,6 +54,7 @@ pub all_committed_in : (start : Start) (logs : ℕ → List HostStep) (number : 
     → AllWereCommittedIn start logs number tx
 all_committed_in start logs number tx touched ops ops_are all were key written =
     let has =
-    written_touched touched ops key all (subst (λ (o : List (Op × Answer)). is_written_by o key ≡ true) ops_are written) in
+    written_touched touched ops key all (subst (λ (o : List (Op × Answer)). is_written_by o key ≡ true) ops_are written)
+    in
     subst (WasCommittedIn start logs number tx) has.key_is
     (each_in (λ (u : Touched). WasCommittedIn start logs number tx u.key) has.one touched were has.among)

@@ -179,7 +179,8 @@ module _ (start : Start) (all : ℕ → List HostStep) (e : HostStep) (es : List
             sent_whole one.sent tx key epoch chain at (sym one.body ∙ is) one.there
         by body is = tt
 
-    wholes_next : EachSent start (λ (y : Addressed). GoesWhole start (logs_of start (e ∷ es)) y.signal.view y.signal.body)
+    wholes_next : EachSent start (λ (y : Addressed). GoesWhole start (logs_of start (e ∷ es)) y.signal.view
+        y.signal.body)
         (logs_of start (e ∷ es))
     wholes_next i j =
         each_from _ (sent (sound_machine start) i j (new i))

@@ -156,7 +156,8 @@ module _ (start : Start) (all : ℕ → List HostStep) (e : HostStep) (es : List
     new_log = subst (λ k. new k ≡ e ∷ old_log) at (own_log start all e es moment)
 
     view_is : view_of_tc start new member ≡ view
-    view_is = ap (λ k. view_after start k (new k)) (sym at) ∙ ap (view_after start e.host) (own_log start all e es moment)
+    view_is =
+        ap (λ k. view_after start k (new k)) (sym at) ∙ ap (view_after start e.host) (own_log start all e es moment)
 
     abbrev Whole : Type 0
     Whole =
@@ -168,14 +169,17 @@ module _ (start : Start) (all : ℕ → List HostStep) (e : HostStep) (es : List
     unfolding tc_row
     from_coordinator inside is =
         subst
-        (λ (v : View). WasDrivenIn start new v tx → HasWritten start new tx key → chain ≡ chain_of (layout_in start v) key)
+        (λ (v : View). WasDrivenIn start new v tx → HasWritten start new tx key
+        → chain ≡ chain_of (layout_in start v) key)
         view_is
         (commit_whole start all (e ∷ es) moment member there tx key chain
         (subst (λ (s : CoordinatorState). IsInCommit (entry_of s tx) key chain) (sym behind)
-        (commit_sent member between.coordinator (between_of start all e es moment member there at) x o tx key epoch chain
+        (commit_sent member between.coordinator (between_of start all e es moment member there at) x o tx key epoch
+        chain
         place about inside)))
       where
-        behind : coordinator_after start member (new (tc_of start member)) ≡ (tc_row between block.Tc x).state.coordinator
+        behind : coordinator_after start member (new (tc_of start member))
+            ≡ (tc_row between block.Tc x).state.coordinator
         behind =
             ap (coordinator_after start member) new_log
             ∙ (coordinator_is start member e.host (e ∷ old_log) at tc.does.own tc.does.is
@@ -195,7 +199,8 @@ module _ (start : Start) (all : ℕ → List HostStep) (e : HostStep) (es : List
     not_aside os aside inside =
         true≢false (sym (ap is_of_rows about) ∙ each_in IsAside o os aside inside)
 
-    from_row : (b : BlockId) → IsIn o (tc_row between b x).effects.sends → tc.does.own ≡ (tc_row between b x).state → Whole
+    from_row : (b : BlockId) → IsIn o (tc_row between b x).effects.sends → tc.does.own ≡ (tc_row between b x).state
+        → Whole
     unfolding tc_row
     from_row block.Tc inside is = from_coordinator inside is
     from_row block.Takeover inside is = from_takeover inside

@@ -1,4 +1,5 @@
--- A commit that a coordinator sends is of a transaction that it has behind that, in commit, and of a key with its chain.
+-- A commit that a coordinator sends is of a transaction that it has behind that, in commit, and of a key with its
+-- chain.
 use Rattle.std.proofs.Common.{◌≡◌, ◌⊎◌, ◌+◌, ◌∙◌, ℕ, Bool, true, false, List, [], ◌∷◌, drop, inl, inr, length, nat_lt, refl, sym, ap, subst, take}
 use Rattle.std.proofs.lemmas.Bool.{true≢false}
 use Rattle.std.specs.Prelude.{Option, Some}
@@ -129,7 +130,8 @@ module _ (node : ℕ) (layout : Layout) (tx : TxId) where
       of_part u phase is place there =
           by phase is
           (subst (IsOfKeys (keys_in phase u.touched)) about
-          (each_in (λ (o : Outgoing). IsOfKeys (keys_in phase u.touched) o.body) o _ (part_keys phase u.touched place) there))
+          (each_in (λ (o : Outgoing). IsOfKeys (keys_in phase u.touched) o.body) o _ (part_keys phase u.touched place)
+          there))
         where
           by : (p : Phase) → u.phase ≡ p → IsOfTouched (keys_in p u.touched) key chain → IsInCommit (Some u) key chain
           by (Committing epoch awaited) is own =
@@ -141,7 +143,8 @@ module _ (node : ℕ) (layout : Layout) (tx : TxId) where
 
       no_key : (sends : List Outgoing) → Each (λ (o : Outgoing). drives_key o.body ≡ false) sends → IsIn o sends → ⊥
       no_key sends none there =
-          true≢false (sym (ap drives_key about) ∙ each_in (λ (o : Outgoing). drives_key o.body ≡ false) o sends none there)
+          true≢false (sym (ap drives_key about) ∙ each_in (λ (o : Outgoing). drives_key o.body ≡ false) o sends none
+          there)
 
       no_drive : (sends : List Outgoing) → Each (λ (o : Outgoing). drives o.body ≡ false) sends → IsIn o sends → ⊥
       no_drive sends none there =
@@ -153,7 +156,8 @@ module _ (node : ℕ) (layout : Layout) (tx : TxId) where
       pub of_turn : (t : Transaction) (body : Body) (turn : Turn) → DriveTurn node layout tx t body turn
           → IsIn o turn.step.effects.sends → IsInCommit (left_of turn) key chain
       unfolding entering
-      of_turn t body turn (drive.rests over same touched none) there = absurd (no_drive turn.step.effects.sends none there)
+      of_turn t body turn (drive.rests over same touched none) there =
+          absurd (no_drive turn.step.effects.sends none there)
       of_turn t body turn (drive.loosens off kept back none rest) there =
           absurd (no_key turn.step.effects.sends none there)
       of_turn t body turn (drive.begins epoch is at_phase turn_is) there =
@@ -179,7 +183,8 @@ module _ (node : ℕ) (layout : Layout) (tx : TxId) where
           no_key (go_on_if node true) (refl, tt) there
       go_on_none false there = there
 
-module _ (member : Member) (s : CoordinatorState) (of : IsCoordinatorOf member s) (x : Signal) (o : Outgoing) (tx : TxId)
+module _ (member : Member) (s : CoordinatorState) (of : IsCoordinatorOf member s) (x : Signal) (o : Outgoing)
+    (tx : TxId)
     (key : List ℕ) (epoch : ℕ) (chain : List Member) (at : ℕ) (about : o.body ≡ Chain (Commit tx key epoch chain at))
   where
     abbrev step : Step CoordinatorState
@@ -189,7 +194,8 @@ module _ (member : Member) (s : CoordinatorState) (of : IsCoordinatorOf member s
         → IsInCommit (entry_of (coordinator_row s x).state tx) key chain
     commit_sent there = by (coordinator_walks member s of tx x)
       where
-        no_key_here : (sends : List Outgoing) → Each (λ (o : Outgoing). drives_key o.body ≡ false) sends → IsIn o sends → ⊥
+        no_key_here : (sends : List Outgoing) → Each (λ (o : Outgoing). drives_key o.body ≡ false) sends → IsIn o sends
+            → ⊥
         no_key_here sends none inside = no_key s.tc.node s.tc.layout tx o tx key epoch chain at about sends none inside
 
         by : Walks member s x.view.number x.body tx step → IsInCommit (entry_of step.state tx) key chain
@@ -199,12 +205,15 @@ module _ (member : Member) (s : CoordinatorState) (of : IsCoordinatorOf member s
             (sym (ap (is_about tx) about ∙ same_tx-self tx)
             ∙ each_in (IsSpared (is_about tx)) o step.effects.sends away there))
         by (passes ahead is same next out) =
-            absurd (no_key_here (to_place client (Client (TcWaitConf tx ahead)) ∷ []) (refl, tt) (subst (IsIn o) out there))
+            absurd (no_key_here (to_place client (Client (TcWaitConf tx ahead)) ∷ []) (refl, tt)
+            (subst (IsIn o) out there))
         by (begins name is room own none some next out) =
-            absurd (no_key_here (to_place client (Client (TcBeginConf name tx)) ∷ []) (refl, tt) (subst (IsIn o) out there))
+            absurd (no_key_here (to_place client (Client (TcBeginConf name tx)) ∷ []) (refl, tt)
+            (subst (IsIn o) out there))
         by (turns t found takes same free left next out) =
             subst (λ entry. IsInCommit entry key chain) (sym left)
-            (of_turn s.tc.node s.tc.layout tx o tx key epoch chain at about t x.body turn did (subst (IsIn o) out there))
+            (of_turn s.tc.node s.tc.layout tx o tx key epoch chain at about t x.body turn did
+            (subst (IsIn o) out there))
           where
             turn : Turn
             turn = turn_for s.tc.node s.tc.layout tx x.body t

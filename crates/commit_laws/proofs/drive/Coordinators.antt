@@ -64,7 +64,8 @@ away_keys tx drive wk sends away =
 pub away_onward : (tx : TxId) (at : ℕ) (sends : List Outgoing) → AreAway tx sends → count_sent (onward tx at) sends ≡ 0
 away_onward tx at sends away =
     none_counted (onward tx at) sends
-    (each_map (IsSpared (is_about tx)) (λ (o : Outgoing). onward tx at o.body ≡ false) sends (λ o is. one o.body is) away)
+    (each_map (IsSpared (is_about tx)) (λ (o : Outgoing). onward tx at o.body ≡ false) sends (λ o is. one o.body is)
+    away)
   where
     none : (b c : Bool) → b ≡ false → (b && c) ≡ false
     none true c e = absurd (true≢false e)
@@ -81,7 +82,8 @@ module _ (layout : Layout) (tx : TxId) where
     pub unbegun : unborn ≡ true → Untouched tx sent × (count ≡ 0)
 
   -- as a view is installed nothing is sent in it
-  pub untouched_stands : (sent taken : Counts) (entry : Option Transaction) (unborn : Bool) (count : ℕ) → Untouched tx sent
+  pub untouched_stands : (sent taken : Counts) (entry : Option Transaction) (unborn : Bool) (count : ℕ)
+      → Untouched tx sent
       → count ≤ one_if (decided_now entry) → (unborn ≡ true → entry ≡ None) → Stands sent taken entry unborn count
   untouched_stands sent taken None unborn count un few none = record {
     drives = λ drive key. omega (arith, un.keys drive (only key));
@@ -231,8 +233,10 @@ module _ (member : Member) (s : CoordinatorState) (of : IsCoordinatorOf member s
             by false e = absurd (omega (arith, same, leb-false n q e))
     walked (turns t found takes about free left next out) =
         turned t found (left_of turn)
-        (turn_drives s.tc.node layout tx sent taken sent_now taken_now t x.body turn (listed tx s) (listed tx step.state)
-        (subst (λ sends. Moves tx layout sent taken sent_now taken_now sends) out moves) (knows free) (apart t found) less
+        (turn_drives s.tc.node layout tx sent taken sent_now taken_now t x.body turn (listed tx s)
+        (listed tx step.state)
+        (subst (λ sends. Moves tx layout sent taken sent_now taken_now sends) out moves) (knows free) (apart t found)
+        less
         did (drives_of t found))
         next left
       where
@@ -261,7 +265,8 @@ module _ (member : Member) (s : CoordinatorState) (of : IsCoordinatorOf member s
         more_keys drive wk =
             omega (
               arith,
-              count_both (λ (o : Outgoing). goes drive (mine tx wk) o.body) turn.step.effects.sends (go_on_with node rest),
+              count_both (λ (o : Outgoing). goes drive (mine tx wk) o.body) turn.step.effects.sends
+                  (go_on_with node rest),
               none drive (nat_lt 0 (length rest)),
             )
           where

@@ -1,4 +1,5 @@
--- For a transaction whose coordinator is a full member of the view of a number, no other host that coordinates commits or
+-- For a transaction whose coordinator is a full member of the view of a number, no other host that coordinates commits
+-- or
 -- completes a key in that view, and no other host at all goes on with that.
 use Rattle.std.proofs.Common.{◌≡◌, ◌≤◌, ◌⊎◌, ◌==◌, ◌&&◌, ◌++◌, ◌∙◌, ℕ, Bool, true, false, List, [], ◌∷◌, inl, inr, refl, sym, ap, arith, subst}
 use Rattle.std.proofs.lemmas.Bool.{eqb-true}
@@ -78,7 +79,8 @@ module _ (start : Start) (h : ℕ) (log : List HostStep) (e : HostStep) (number 
         none true = same
         none false = refl
 
-    pub unseen_none : count_by (λ (y : Addressed). numbered number p y.signal) (sent_by (sound_machine start) h log e) ≡ 0
+    pub unseen_none : count_by (λ (y : Addressed). numbered number p y.signal) (sent_by (sound_machine start) h log e)
+        ≡ 0
     unseen_none =
         unseen (sent_by (sound_machine start) h log e)
         (sent_by_each (sound_machine start) (λ (y : Addressed). y.signal.view.number ≡ seen) h log e
@@ -143,7 +145,8 @@ module _ (start : Start) (all : ℕ → List HostStep) (e : HostStep) (es : List
     own_orphans =
         subst (GatheredAre (IsOrphan stood)) (takeover_is start me e.host log at step.own step.runs)
         (subst
-        (λ k. GatheredAre (IsOrphan (view_after start k (logs_of start es k))) (takeover_after start me (logs_of start es k)))
+        (λ k. GatheredAre (IsOrphan (view_after start k (logs_of start es k)))
+        (takeover_after start me (logs_of start es k)))
         (sym at) (orphans_before.gathered me there))
 
     between_orphans : GatheredAre (IsOrphan view) step.does.between.takeover
@@ -222,7 +225,8 @@ module _ (start : Start) (all : ℕ → List HostStep) (e : HostStep) (es : List
                 front_off.keys drive wk,
               )
           by (inr is) =
-              let none : count_sent (goes drive (mine tx wk)) sends ≡ 0 = ap (count_sent (goes drive (mine tx wk))) is in
+              let none : count_sent (goes drive (mine tx wk)) sends ≡ 0 =
+              ap (count_sent (goes drive (mine tx wk))) is in
               omega (arith, none)
 
       pub sends_onward : (place : ℕ) → count_sent (onward tx place) sends ≤ count_sent (onward tx place) step.does.rest
@@ -238,11 +242,13 @@ module _ (start : Start) (all : ℕ → List HostStep) (e : HostStep) (es : List
                 front_off.goes_on place,
               )
           by (inr is) =
-              let none : count_sent (onward tx place) sends ≡ 0 = ap (count_sent (onward tx place)) is in omega (arith, none)
+              let none : count_sent (onward tx place) sends ≡ 0 =
+              ap (count_sent (onward tx place)) is in omega (arith, none)
 
 -- none of these was sent by the host
 pub record IsForeign (start : Start) (tx : TxId) (number h : ℕ) (log : List HostStep) : Type 0 where
-  pub keys : (drive : Drive) (wk : List ℕ → Bool) → sent_along start (numbered number (goes drive (mine tx wk))) h log ≡ 0
+  pub keys : (drive : Drive) (wk : List ℕ → Bool)
+      → sent_along start (numbered number (goes drive (mine tx wk))) h log ≡ 0
   pub goes_on : (place : ℕ) → sent_along start (numbered number (onward tx place)) h log ≡ 0
 
 module _ (start : Start) (all : ℕ → List HostStep) (tx : TxId) (number : ℕ) (led : IsLedIn start all tx number) where
@@ -278,7 +284,8 @@ module _ (start : Start) (all : ℕ → List HostStep) (tx : TxId) (number : ℕ
             → AreOff tx (step_after start e.host (logs_of start es e.host) e).effects.sends
         off same =
             sends_off start all e es moment me there at tx
-            (led (view_after start e.host (e ∷ logs_of start es e.host)) (installed start all e es moment me there at) same)
+            (led (view_after start e.host (e ∷ logs_of start es e.host)) (installed start all e es moment me there at)
+            same)
             (λ to. other)
 
     -- rows and hosts beside don't go on
@@ -293,7 +300,8 @@ module _ (start : Start) (all : ℕ → List HostStep) (tx : TxId) (number : ℕ
         row : LdmStep start e.host log e
         row = ldm_step start me there e.host at log e
 
-        of_block : (b : BlockId) → count_sent (onward tx place) (ldm_row row.does.between b e.step.taken).effects.sends ≡ 0
+        of_block : (b : BlockId)
+            → count_sent (onward tx place) (ldm_row row.does.between b e.step.taken).effects.sends ≡ 0
         of_block block.Lqh = rows_stay tx place row.does.between.replica e.step.taken
         of_block _ = refl
 

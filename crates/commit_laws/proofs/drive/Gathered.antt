@@ -1,4 +1,5 @@
--- What a takeover gathers names each transaction once, and of each transaction each key once; and before it is ordered it
+-- What a takeover gathers names each transaction once, and of each transaction each key once; and before it is ordered
+-- it
 -- does nothing.
 use Rattle.std.proofs.Common.{◌≡◌, ◌⊎◌, ◌==◌, ◌&&◌, ◌||◌, ◌∙◌, ℕ, Bool, true, false, None, Some, Option, List, [], ◌∷◌, inl, inr, nat_lt, refl, sym, arith, subst}
 use Rattle.std.proofs.lemmas.Bool.{ltb-true, true≢false}
@@ -120,7 +121,8 @@ pub first_alone : (tx : TxId) (key : List ℕ) (gs : List Gathered) → AreFit g
     → gs ≡ g ∷ rest → same_tx g.tx tx ≡ true → has_tx tx key rest ≡ false
 first_alone tx key gs fit g rest is own = none rest (subst AreInOrder is fit.order).0
   where
-    none : (later : List Gathered) → Each (λ (h : Gathered). is_before g.tx h.tx ≡ true) later → has_tx tx key later ≡ false
+    none : (later : List Gathered) → Each (λ (h : Gathered). is_before g.tx h.tx ≡ true) later
+        → has_tx tx key later ≡ false
     none [] all = refl
     none (h ∷ later) all = by (same_tx h.tx tx) refl (none later all.1)
       where

@@ -39,7 +39,8 @@ module _ (start : Start) (all : ℕ → List HostStep) (tx : TxId) (number : ℕ
     where
       by : PartHost start e.host → sent_now start all e es moment (numbered number (onward tx place)) ≡ 0
       by (coordinates me there at) =
-          (other_now start all tx number led e es moment me there (λ is. off (at ∙ ap (tc_of start) (sym is))) at).1 place
+          (other_now start all tx number led e es moment me there (λ is. off (at ∙ ap (tc_of start) (sym is))) at).1
+          place
       by (keeps_rows me there at) = rows_now start all tx number led e es moment me there at place
       by (is_beside beside) =
           none_now start all tx number led e es moment (onward tx place)
@@ -69,7 +70,8 @@ module _ (start : Start) (all : ℕ → List HostStep) (tx : TxId) (number : ℕ
   -- nor does another coordinator, or a takeover, drive a key
   no_keys : (es : List HostStep) → IsMoment start all es → (me : Member) → IsIn me (made start)
       → (coordinator_member tx ≡ me → ⊥) → (drive : Drive) (wk : List ℕ → Bool)
-      → sent_along start (numbered number (goes drive (mine tx wk))) (tc_of start me) (logs_of start es (tc_of start me)) ≡ 0
+      → sent_along start (numbered number (goes drive (mine tx wk))) (tc_of start me)
+      (logs_of start es (tc_of start me)) ≡ 0
   no_keys [] moment me there other drive wk = refl
   no_keys (e ∷ es) moment me there other drive wk =
       by (cases_eq e.host (tc_of start me)) (no_keys es (moment_less start all e es moment) me there other drive wk)
@@ -114,7 +116,8 @@ module _ (start : Start) (all : ℕ → List HostStep) (tx : TxId) (number : ℕ
       me = coordinator_member tx
 
       abbrev along : Drive → (List ℕ → Bool) → Member → ℕ
-      along drive wk m = sent_along start (numbered number (goes drive (mine tx wk))) (tc_of start m) (logs (tc_of start m))
+      along drive wk m =
+          sent_along start (numbered number (goes drive (mine tx wk))) (tc_of start m) (logs (tc_of start m))
 
       own_is : node_of me.node ≡ me
       own_is =

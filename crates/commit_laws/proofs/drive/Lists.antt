@@ -128,13 +128,15 @@ module _ (layout : Layout) (tx : TxId) where
   commits_plain x epoch awaited (t ∷ touched) = (refl, commits_plain x epoch awaited touched)
 
   completions_plain_of : (x epoch awaited : ℕ) (touched : List Touched)
-      → Each (λ (o : Outgoing). onward tx x o.body ≡ false) (flat_map (key_sends layout tx (Completing epoch awaited)) touched)
+      → Each (λ (o : Outgoing). onward tx x o.body ≡ false)
+      (flat_map (key_sends layout tx (Completing epoch awaited)) touched)
   unfolding key_sends
   completions_plain_of x epoch awaited [] = tt
   completions_plain_of x epoch awaited (t ∷ touched) = by t.written (completions_plain_of x epoch awaited touched)
     where
       by : (b : Bool)
-          → Each (λ (o : Outgoing). onward tx x o.body ≡ false) (flat_map (key_sends layout tx (Completing epoch awaited)) touched)
+          → Each (λ (o : Outgoing). onward tx x o.body ≡ false)
+          (flat_map (key_sends layout tx (Completing epoch awaited)) touched)
           → Each (λ (o : Outgoing). onward tx x o.body ≡ false)
           (complete_if tx t b ++ flat_map (key_sends layout tx (Completing epoch awaited)) touched)
       by true rest = (refl, rest)
@@ -178,14 +180,16 @@ module _ (layout : Layout) (tx : TxId) where
     one_less false false = omega arith
 
     -- commits of other keys
-    commits_off : (epoch awaited : ℕ) (touched : List Touched) → Each (λ (u : Touched). same_key u.key key ≡ false) touched
+    commits_off : (epoch awaited : ℕ) (touched : List Touched)
+        → Each (λ (u : Touched). same_key u.key key ≡ false) touched
         → count_sent (goes committing own) (commits_of epoch awaited touched) ≡ 0
     unfolding phase_sends front_sends key_sends
     commits_off epoch awaited [] off = refl
     commits_off epoch awaited (t ∷ touched) off =
         omega (
           arith,
-          count_more (λ (o : Outgoing). goes committing own o.body) (commit_of tx epoch t) (commits_of epoch awaited touched),
+          count_more (λ (o : Outgoing). goes committing own o.body) (commit_of tx epoch t)
+              (commits_of epoch awaited touched),
           one_less (same_tx tx tx) (same_key t.key key),
           ap one_if off.0,
           commits_off epoch awaited touched off.1,
@@ -212,7 +216,8 @@ module _ (layout : Layout) (tx : TxId) where
     completions_off epoch awaited (t ∷ touched) off =
         omega (
           arith,
-          count_both (λ (o : Outgoing). goes completing own o.body) (complete_if tx t t.written) (rest_of epoch awaited touched),
+          count_both (λ (o : Outgoing). goes completing own o.body) (complete_if tx t t.written)
+              (rest_of epoch awaited touched),
           one_completed t t.written,
           ap one_if off.0,
           completions_off epoch awaited touched off.1,
@@ -230,7 +235,8 @@ module _ (layout : Layout) (tx : TxId) where
         → count_sent (goes committing own) (commits_of epoch awaited touched) ≤ 1
     unfolding phase_sends front_sends key_sends
     commits_once epoch awaited [] apart = omega arith
-    commits_once epoch awaited (t ∷ touched) apart = by (same_key t.key key) refl (commits_once epoch awaited touched apart.1)
+    commits_once epoch awaited (t ∷ touched) apart =
+        by (same_key t.key key) refl (commits_once epoch awaited touched apart.1)
       where
         more : count_sent (goes committing own) (commits_of epoch awaited (t ∷ touched))
             ≡ one_if (goes committing own (commit_of tx epoch t).body)
@@ -313,7 +319,8 @@ module _ (layout : Layout) (tx : TxId) where
   commits_alone w epoch awaited (t ∷ touched) =
       omega (
         arith,
-        count_more (λ (o : Outgoing). goes completing w o.body) (commit_of tx epoch t) (commits_of epoch awaited touched),
+        count_more (λ (o : Outgoing). goes completing w o.body) (commit_of tx epoch t)
+            (commits_of epoch awaited touched),
         commits_alone w epoch awaited touched,
       )
 

@@ -48,7 +48,8 @@ module _ (drive : Drive) (w : Keys) (number : ℕ) where
       all false = refl
 
       by : (same : Bool)
-          → one_if (either drive w x.body && same) ≡ one_if (goes drive w x.body && same) + one_if (comes drive w x.body && same)
+          → one_if (either drive w x.body && same)
+          ≡ one_if (goes drive w x.body && same) + one_if (comes drive w x.body && same)
       by true =
           omega (
             arith,
@@ -136,7 +137,8 @@ module _ (start : Start) (all : ℕ → List HostStep) (e : HostStep) (es : List
 
     pub owners_rise : owners_sent start p before ≤ owners_sent start p behind
     owners_rise =
-        total_of_below (made start) (λ me. along me before) (λ me. along me behind) (λ me there. along_rises (tc_of start me))
+        total_of_below (made start) (λ me. along me before) (λ me. along me behind)
+        (λ me there. along_rises (tc_of start me))
 
     module _ (me : Member) (there : IsIn me (made start)) (at : e.host ≡ tc_of start me) where
       own_is : node_of me.node ≡ me

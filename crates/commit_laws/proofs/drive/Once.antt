@@ -1,4 +1,5 @@
--- In each view each key of a transaction is committed once at most, and completed once at most, where takeovers commit and
+-- In each view each key of a transaction is committed once at most, and completed once at most, where takeovers commit
+-- and
 -- complete each once.
 use Rattle.std.proofs.Common.{◌≡◌, ◌≢◌, ◌≤◌, ◌⊎◌, ◌==◌, ◌&&◌, ◌∙◌, ℕ, Bool, true, false, List, [], ◌∷◌, inl, inr, refl, sym, ap, arith, subst, nat_eq}
 use Rattle.std.proofs.lemmas.Bool.{and_parts, cases_eq, eqb-true}
@@ -56,7 +57,8 @@ TakeoversDriveOnce =
 
 -- tests that agree count the same
 module _ (start : Start) (p q : Signal → Bool) (agree : (x : Signal) → p x ≡ q x) where
-  count_same : (xs : List Addressed) → count_by (λ (y : Addressed). p y.signal) xs ≡ count_by (λ (y : Addressed). q y.signal) xs
+  count_same : (xs : List Addressed)
+      → count_by (λ (y : Addressed). p y.signal) xs ≡ count_by (λ (y : Addressed). q y.signal) xs
   count_same [] = refl
   count_same (y ∷ xs) =
       omega (
@@ -89,9 +91,11 @@ module _ (start : Start) (all : ℕ → List HostStep) (es : List HostStep) (mom
   leader_made view was tx led =
       let one = passing (was_begun_by tx) view.full led in
       let parts = and_parts (nat_eq one.item.node tx.tc) (nat_eq one.item.start tx.start) one.is in
-      subst (λ m. IsIn m (made start)) (same one.item (eqb-true one.item.node tx.tc parts.0) (eqb-true one.item.start tx.start parts.1))
+      subst (λ m. IsIn m (made start)) (same one.item (eqb-true one.item.node tx.tc parts.0)
+      (eqb-true one.item.start tx.start parts.1))
       (inside one.item
-      (each_in (λ (m : Member). IsIn m (made start) ⊎ ⊥) one.item view.full (first_part start all moment.cluster view was).full
+      (each_in (λ (m : Member). IsIn m (made start) ⊎ ⊥) one.item view.full
+      (first_part start all moment.cluster view was).full
       one.there))
     where
       same : (m : Member) → m.node ≡ tx.tc → m.start ≡ tx.start → m ≡ coordinator_member tx
@@ -207,7 +211,8 @@ keys_are_driven_once takeovers start all es moment number tx key = record {
   committed_once =
       omega (
         arith,
-        all_same start (in_number number (has_committed tx key)) (numbered number (comes committing (mine tx (only key))))
+        all_same start (in_number number (has_committed tx key))
+            (numbered number (comes committing (mine tx (only key))))
             (λ x. ap (λ b. b && (x.view.number == number)) (committed_comes tx key x.body)) (logs_of start es),
         all_once takeovers start tx number committing key all es moment,
       );
@@ -221,7 +226,8 @@ keys_are_driven_once takeovers start all es moment number tx key = record {
   completed_once =
       omega (
         arith,
-        all_same start (in_number number (has_completed tx key)) (numbered number (comes completing (mine tx (only key))))
+        all_same start (in_number number (has_completed tx key))
+            (numbered number (comes completing (mine tx (only key))))
             (λ x. ap (λ b. b && (x.view.number == number)) (completed_comes tx key x.body)) (logs_of start es),
         all_once takeovers start tx number completing key all es moment,
       );

@@ -1,4 +1,5 @@
--- Takeovers commit each key of a transaction that is left in a view once at most there, and complete it once at most, where
+-- Takeovers commit each key of a transaction that is left in a view once at most there, and complete it once at most,
+-- where
 -- one of them is ordered once.
 use Rattle.std.proofs.Common.{◌≡◌, ◌≢◌, ◌≤◌, ◌+◌, ◌*◌, ◌⊎◌, ◌==◌, ◌++◌, ◌∙◌, ℕ, zero, suc, Bool, true, false, List, [], ◌∷◌, inl, inr, refl, sym, ap, arith, subst}
 use Rattle.std.proofs.lemmas.Bool.{cases_eq, eq-eqb, eqb-true, true≢false}
@@ -37,7 +38,8 @@ module _ (orders : OrdersAreOnce) (start : Start) (all : ℕ → List HostStep) 
   where
     -- an event of the host of a member's takeover
     next : (e : HostStep) (es : List HostStep) (moment : IsMoment start all (e ∷ es)) (me : Member)
-        → IsIn me (made start) → e.host ≡ tc_of start me → IsRuled start me tx key number e.host (logs_of start es e.host)
+        → IsIn me (made start) → e.host ≡ tc_of start me
+        → IsRuled start me tx key number e.host (logs_of start es e.host)
         → IsRuled start me tx key number e.host (e ∷ logs_of start es e.host)
     next e es moment me there at before =
         by ((view_after start e.host (e ∷ logs_of start es e.host)).number == number) refl
@@ -48,7 +50,8 @@ module _ (orders : OrdersAreOnce) (start : Start) (all : ℕ → List HostStep) 
             let same = eqb-true (view_after start e.host (e ∷ logs_of start es e.host)).number number is in
             subst (λ m. IsRuled start me tx key m e.host (e ∷ logs_of start es e.host)) same
             (ruled_next orders start all e es moment me there at tx key
-            (left (view_after start e.host (e ∷ logs_of start es e.host)) (installed start all e es moment me there at) same)
+            (left (view_after start e.host (e ∷ logs_of start es e.host)) (installed start all e es moment me there at)
+            same)
             (subst (λ m. IsRuled start me tx key m e.host (logs_of start es e.host)) (sym same) before))
         by false off = record {
           few = λ drive.
@@ -58,7 +61,8 @@ module _ (orders : OrdersAreOnce) (start : Start) (all : ℕ → List HostStep) 
                 own,
                 unseen_none start e.host (logs_of start es e.host) e number (goes drive (mine tx (only key))) off,
               );
-          now = λ same. absurd (true≢false (sym (eq-eqb (view_after start e.host (e ∷ logs_of start es e.host)).number number same) ∙ off));
+          now = λ same. absurd (true≢false (sym (eq-eqb (view_after start e.host (e ∷ logs_of start es e.host)).number
+              number same) ∙ off));
         }
 
     pub ruled : (es : List HostStep) → IsMoment start all es → (me : Member) → IsIn me (made start)

@@ -104,7 +104,8 @@ module _ (start : Start) (member : Member) (there : IsIn member (made start)) (t
     driven_first k = record {
       now =
           subst (StandsNow start member tx k []) (sym (coordinator_first start member there))
-          (untouched_stands (layout_in start (view_after start k [])) tx (sent_in start member tx k (number_at start member tx k []) [])
+          (untouched_stands (layout_in start (view_after start k [])) tx
+          (sent_in start member tx k (number_at start member tx k []) [])
           (taken_in start member tx k (number_at start member tx k []) []) None _ 0
           (record { keys = λ drive wk. refl; goes_on = λ at. refl }) (omega arith) (λ is. refl));
       once = λ number drive key. omega arith;
@@ -163,14 +164,16 @@ module _ (start : Start) (member : Member) (there : IsIn member (made start)) (t
         pub led_in : IsLedIn start all tx n
         led_in other was same =
             ap (λ (v : View). is_coordinated v.full tx)
-            (one_view have_orderly start all moment.cluster other view was (installed start all e es moment member there at) same)
+            (one_view have_orderly start all moment.cluster other view was
+            (installed start all e es moment member there at) same)
             ∙ led
 
         own_is : coordinator_after start member log ≡ tc.own.coordinator
         own_is = coordinator_is start member e.host log at tc.own tc.runs
 
         -- the coordinator, once the view is installed
-        stands_between : Stands layout tx sent taken (entry_of between.coordinator tx) (is_unborn between.coordinator tx)
+        stands_between : Stands layout tx sent taken (entry_of between.coordinator tx)
+            (is_unborn between.coordinator tx)
             (listed tx between.coordinator)
         stands_between = by (entering start all e es moment member there at)
           where
@@ -201,7 +204,8 @@ module _ (start : Start) (member : Member) (there : IsIn member (made start)) (t
                 (λ (q : TcPart). Stands layout tx sent taken (entry_of q.coordinator tx) (is_unborn q.coordinator tx)
                 (listed tx q.coordinator))
                 (sym same)
-                (installed_stands member tc.own.coordinator (subst (IsCoordinatorOf member) own_is (coordinator_of start member there log))
+                (installed_stands member tc.own.coordinator
+                (subst (IsCoordinatorOf member) own_is (coordinator_of start member there log))
                 tx x.view layout sent taken
                 (new (let number = ap (λ (v : View). v.number) stands in omega (arith, number, above))))
 
@@ -401,7 +405,8 @@ module _ (start : Start) (member : Member) (there : IsIn member (made start)) (t
         stands_own : StandsFor tc.does.own.coordinator
         stands_own = by tc.does.takes
           where
-            by : PartTakes tc_kind start.shape between view x tc.does.own tc.does.rest → StandsFor tc.does.own.coordinator
+            by : PartTakes tc_kind start.shape between view x tc.does.own tc.does.rest
+                → StandsFor tc.does.own.coordinator
             by (ignores is nothing) =
                 subst (λ (q : TcPart). StandsFor q.coordinator) (sym is)
                 (quiet (λ drive wk. ap (count_sent (goes drive (mine tx wk))) nothing)

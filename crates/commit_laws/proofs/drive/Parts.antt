@@ -1,4 +1,5 @@
--- At an event of a host that coordinates, takeovers and coordinators of other members send nothing for a transaction whose
+-- At an event of a host that coordinates, takeovers and coordinators of other members send nothing for a transaction
+-- whose
 -- coordinator is a full member of the view.
 use Rattle.std.proofs.Common.{◌≡◌, ◌==◌, ◌&&◌, ◌++◌, ◌∙◌, ℕ, Bool, true, false, List, [], ◌∷◌, Some, inl, inr, refl, sym, ap, arith, subst}
 use Rattle.std.proofs.lemmas.Bool.{true≢false}
@@ -82,7 +83,8 @@ aside_off tx sends all = record {
       (each_map IsAside (λ (o : Outgoing). onward tx at o.body ≡ false) sends (λ o is. on at o.body is) all);
 }
   where
-    key : (drive : Drive) (wk : List ℕ → Bool) (body : Body) → is_of_rows body ≡ false → goes drive (mine tx wk) body ≡ false
+    key : (drive : Drive) (wk : List ℕ → Bool) (body : Body) → is_of_rows body ≡ false
+        → goes drive (mine tx wk) body ≡ false
     key drive wk (Chain signal) is = absurd (true≢false is)
     key committing wk body is = refl
     key completing wk body is = refl

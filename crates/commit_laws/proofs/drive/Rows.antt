@@ -142,7 +142,8 @@ module _ (drive : Drive) (w : Keys) where
       had : Option Bool
       had = record_state s.rows tx key
 
-      own : (o : Outgoing) → one_if (either drive w o.body) ≤ one_if (goes drive w (Chain (Commit tx key epoch chain at)))
+      own : (o : Outgoing)
+          → one_if (either drive w o.body) ≤ one_if (goes drive w (Chain (Commit tx key epoch chain at)))
           → Few (Chain (Commit tx key epoch chain at)) (o ∷ [])
       own o one = of_one (Chain (Commit tx key epoch chain at)) o [] refl one
 
@@ -157,10 +158,12 @@ module _ (drive : Drive) (w : Keys) where
           (told drive (w tx key))
         where
           told : (d : Drive) (b : Bool)
-              → one_if (either d w (Chain (Committed tx key))) ≤ one_if (goes d w (Chain (Commit tx key epoch chain at)))
+              → one_if (either d w (Chain (Committed tx key)))
+              ≤ one_if (goes d w (Chain (Commit tx key epoch chain at)))
           told committing b = omega arith
           told completing b = omega arith
-      by false = own (to_place (rows_of (node_at chain (at - 1))) (Chain (Commit tx key epoch chain (at - 1)))) (passed drive)
+      by false =
+          own (to_place (rows_of (node_at chain (at - 1))) (Chain (Commit tx key epoch chain (at - 1)))) (passed drive)
         where
           passed : (d : Drive)
               → one_if (either d w (Chain (Commit tx key epoch chain (at - 1))))
@@ -177,7 +180,8 @@ module _ (drive : Drive) (w : Keys) where
       (granted_none s.node work.Granted (nat_lt 0 (freed_lock s tx key).granted)) (by drive (at == 0))
     where
       by : (d : Drive) (b : Bool)
-          → one_if (either d w (completed_by tx key chain at b).body) ≤ one_if (goes d w (Chain (Complete tx key chain at)))
+          → one_if (either d w (completed_by tx key chain at b).body)
+          ≤ one_if (goes d w (Chain (Complete tx key chain at)))
       by committing true = omega arith
       by committing false = omega arith
       by completing true = omega arith

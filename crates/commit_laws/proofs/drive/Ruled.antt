@@ -1,4 +1,5 @@
--- The takeover of a member commits each key of a transaction that is left in a view once at most there, and only when it
+-- The takeover of a member commits each key of a transaction that is left in a view once at most there, and only when
+-- it
 -- was ordered; where it is ordered once.
 use Rattle.std.proofs.Common.{◌≡◌, ◌≢◌, ◌≤◌, ◌+◌, ◌⊎◌, ◌++◌, ◌∙◌, ℕ, zero, suc, Bool, true, false, List, [], ◌∷◌, inl, inr, refl, sym, ap, arith, subst}
 use Rattle.std.proofs.lemmas.Bool.{cases_eq, true≢false}
@@ -97,7 +98,8 @@ ruled_first start me there tx key number k = record {
   now = λ same.
       subst (StandsRuled start me tx key number k [])
       (sym
-      (ap (λ (s : hosts_of.Host). takeover_in (resting me.node (first_layout start.shape)) s.parts) (tc_started start me there)))
+      (ap (λ (s : hosts_of.Host). takeover_in (resting me.node (first_layout start.shape)) s.parts)
+      (tc_started start me there)))
       (record { fit = none_fit; rules = awaits refl (λ drive. refl); idle = λ none. refl });
 }
 
@@ -148,7 +150,8 @@ module _ (orders : OrdersAreOnce) (start : Start) (all : ℕ → List HostStep) 
         front_off : AreOff tx tc.does.front
         front_off =
             away_off tx tc.does.front
-            (front_away tx me tc.own (own_of start all e es moment me there at) (view_after start e.host log) x between view
+            (front_away tx me tc.own (own_of start all e es moment me there at) (view_after start e.host log) x between
+            view
             tc.does.front (entering start all e es moment me there at))
 
         by : (sends ≡ tc.does.front ++ tc.does.rest) ⊎ (sends ≡ [])
@@ -193,7 +196,8 @@ module _ (orders : OrdersAreOnce) (start : Start) (all : ℕ → List HostStep) 
             omega (
               arith,
               orders start all (e ∷ es) moment number,
-              total_at (hosts start) (λ h. taken_along start (numbered number is_order) (logs_of start (e ∷ es) h)) e.host
+              total_at (hosts start) (λ h. taken_along start (numbered number is_order) (logs_of start (e ∷ es) h))
+                  e.host
                   (host_low start all e es moment),
               ap (taken_along start (numbered number is_order)) (own_log start all e es moment),
             )
@@ -232,7 +236,8 @@ module _ (orders : OrdersAreOnce) (start : Start) (all : ℕ → List HostStep) 
             fit = fit_stays between.takeover x before.fit;
             rules =
                 takeover_drives tx key between.takeover sent sent_behind before.fit.keys
-                (λ g rest same own. first_alone tx key between.takeover.gathered before.fit g rest same own) before.rules x
+                (λ g rest same own. first_alone tx key between.takeover.gathered before.fit g rest same own)
+                before.rules x
                 (λ order drive.
                 let first = first_order passed to order in
                 let none = first.1 in
@@ -250,7 +255,8 @@ module _ (orders : OrdersAreOnce) (start : Start) (all : ℕ → List HostStep) 
             still : ordered_behind ≡ 0 → takeover_row between.takeover x ≡ stay between.takeover
             still unordered =
                 idle_stays between.takeover x (before.idle (omega (arith, unordered)))
-                (λ order. absurd (let first = first_order passed to order in let more = first.0 in omega (arith, more, unordered)))
+                (λ order. absurd (let first = first_order passed to order in let more = first.0 in omega
+                (arith, more, unordered)))
 
     -- the coordinator of the transaction isn't a full member
     module _ (orphan : is_coordinated view.full tx ≡ false) (was : IsRuled start me tx key number e.host log) where
@@ -336,7 +342,8 @@ module _ (orders : OrdersAreOnce) (start : Start) (all : ℕ → List HostStep) 
               let few = was.few drive in
               omega (arith, own, silent, few)
           by drive (inr some) =
-              let once = rules_once tx key tc.does.own.takeover sent_behind comes.stands.fit.keys comes.stands.rules drive in
+              let once =
+              rules_once tx key tc.does.own.takeover sent_behind comes.stands.fit.keys comes.stands.rules drive in
               omega (arith, once, some_is ordered_behind some)
             where
               some_is : (n : ℕ) → n ≢ 0 → 1 ≤ n

@@ -1,4 +1,5 @@
--- How far a takeover has come with the commits of a transaction on one key in a view; and that each of its steps leads on.
+-- How far a takeover has come with the commits of a transaction on one key in a view; and that each of its steps leads
+-- on.
 use Rattle.std.proofs.Common.{◌≡◌, ◌≤◌, ◌⊎◌, ℕ, Bool, true, false, List, ◌∷◌, refl, sym, arith, subst, take}
 use Rattle.std.proofs.lemmas.Bool.{true≢false}
 use Rattle.std.specs.List.{list_any}

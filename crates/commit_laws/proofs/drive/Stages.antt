@@ -25,7 +25,8 @@ KeysApart [] = Unit {0}
 KeysApart (key ∷ keys) = Each (λ (own : List ℕ). same_key own key ≡ false) keys × KeysApart keys
 
 -- one more, that isn't among them
-last_apart : (keys : List (List ℕ)) (key : List ℕ) → has_key keys key ≡ false → KeysApart keys → KeysApart (keys ++ key ∷ [])
+last_apart : (keys : List (List ℕ)) (key : List ℕ) → has_key keys key ≡ false → KeysApart keys
+    → KeysApart (keys ++ key ∷ [])
 last_apart [] key off apart = (tt, tt)
 last_apart (own ∷ keys) key off apart =
     let parts = neither (same_key key own) (has_key keys key) off in (
@@ -73,11 +74,19 @@ module _ (layout : Layout) (g : Gathered) where
         by : (d : Drive) (stage : Stage)
             → count_sent (goes d w) (key_sends_along g.tx stage key (chain_of layout key)) ≤ one_if (w g.tx key)
         by committing (Committing e n) =
-            omega (arith, count_more (λ (o : Outgoing). goes committing w o.body) (commit_along g.tx e key (chain_of layout key)) [])
+            omega (
+              arith,
+              count_more (λ (o : Outgoing). goes committing w o.body)
+                  (commit_along g.tx e key (chain_of layout key)) [],
+            )
         by completing (Committing e n) = omega arith
         by committing (Completing e n) = omega arith
         by completing (Completing e n) =
-            omega (arith, count_more (λ (o : Outgoing). goes completing w o.body) (complete_along g.tx key (chain_of layout key)) [])
+            omega (
+              arith,
+              count_more (λ (o : Outgoing). goes completing w o.body)
+                  (complete_along g.tx key (chain_of layout key)) [],
+            )
         by committing (Aborting n) =
             let none =
             none_counted (goes committing w) (key_sends_along g.tx (Aborting n) key (chain_of layout key))
@@ -173,7 +182,8 @@ module _ (layout : Layout) (g : Gathered) where
         )
 
     -- what doesn't commit, or doesn't complete, has none
-    pub stage_none : is_way drive stage ≡ false → (w : Keys) → count_sent (goes drive w) (stage_sends layout stage g) ≡ 0
+    pub stage_none : is_way drive stage ≡ false → (w : Keys)
+        → count_sent (goes drive w) (stage_sends layout stage g) ≡ 0
     unfolding stage_sends key_sends
     stage_none off w =
         omega (
@@ -191,10 +201,12 @@ module _ (layout : Layout) (g : Gathered) where
         one completing (Completing e n) off u = absurd (true≢false off)
         one committing (Aborting n) off u =
             none_counted (goes committing w) (key_sends_along g.tx (Aborting n) u (chain_of layout u))
-            (each_mapped (λ (o : Outgoing). goes committing w o.body ≡ false) (abort_at g.tx u) (chain_of layout u) (λ m. refl))
+            (each_mapped (λ (o : Outgoing). goes committing w o.body ≡ false) (abort_at g.tx u) (chain_of layout u)
+            (λ m. refl))
         one completing (Aborting n) off u =
             none_counted (goes completing w) (key_sends_along g.tx (Aborting n) u (chain_of layout u))
-            (each_mapped (λ (o : Outgoing). goes completing w o.body ≡ false) (abort_at g.tx u) (chain_of layout u) (λ m. refl))
+            (each_mapped (λ (o : Outgoing). goes completing w o.body ≡ false) (abort_at g.tx u) (chain_of layout u)
+            (λ m. refl))
         one committing Resting off u = refl
         one completing Resting off u = refl
         one committing (Gathering n) off u = refl

@@ -1,4 +1,5 @@
--- How far a coordinator has come with the commits of a transaction in one view, by what it has sent and taken in it; and
+-- How far a coordinator has come with the commits of a transaction in one view, by what it has sent and taken in it;
+-- and
 -- that each turn leads on.
 use Rattle.std.proofs.Common.{◌≡◌, ◌≤◌, ◌+◌, ◌==◌, ◌&&◌, ◌∙◌, ℕ, Bool, true, false, List, [], length, nat_lt, refl, sym, ap, arith, subst, take}
 use Rattle.std.proofs.lemmas.Bool.{eqb-true, true≢false}
@@ -34,7 +35,8 @@ pub no_keys : (tx : TxId) (drive : Drive) (wk : List ℕ → Bool) (sends : List
     → count_sent (goes drive (mine tx wk)) sends ≡ 0
 no_keys tx drive wk sends all =
     none_counted (goes drive (mine tx wk)) sends
-    (each_map (λ (o : Outgoing). drives_key o.body ≡ false) (λ (o : Outgoing). goes drive (mine tx wk) o.body ≡ false) sends
+    (each_map (λ (o : Outgoing). drives_key o.body ≡ false) (λ (o : Outgoing). goes drive (mine tx wk) o.body ≡ false)
+    sends
     (λ o is. one drive o.body is) all)
   where
     one : (d : Drive) (body : Body) → drives_key body ≡ false → goes d (mine tx wk) body ≡ false
@@ -120,7 +122,8 @@ module _ (tx : TxId) where
     -- an event adds what it sends and what it takes
     pub record Moves (sent taken sent_now taken_now : Counts) (sends : List Outgoing) : Type 0 where
       pub keys_few : (drive : Drive) (wk : List ℕ → Bool)
-          → sent_now (goes drive (mine tx wk)) ≤ sent (goes drive (mine tx wk)) + count_sent (goes drive (mine tx wk)) sends
+          → sent_now (goes drive (mine tx wk))
+          ≤ sent (goes drive (mine tx wk)) + count_sent (goes drive (mine tx wk)) sends
       pub onward_few : (at : ℕ) → sent_now (onward tx at) ≤ sent (onward tx at) + count_sent (onward tx at) sends
       pub takes_more : (p : Body → Bool) → taken p ≤ taken_now p
 
@@ -136,7 +139,8 @@ module _ (tx : TxId) where
       pub goes_on : (at : ℕ) → taken_now (onward tx at) ≤ sent (onward tx at)
       pub comes_back : (drive : Drive) → taken_now (comes drive (mine tx any)) ≤ sent (goes drive (mine tx any))
 
-    module _ (sent taken sent_now taken_now : Counts) (sends : List Outgoing) (moves : Moves sent taken sent_now taken_now sends)
+    module _ (sent taken sent_now taken_now : Counts) (sends : List Outgoing)
+        (moves : Moves sent taken sent_now taken_now sends)
       where
         pub still_untouched : DriveNone sends → Untouched sent → Untouched sent_now
         still_untouched none un = record {
@@ -155,7 +159,8 @@ module _ (tx : TxId) where
         still_none no_key none drive wk =
             omega (arith, moves.keys_few drive wk, no_keys tx drive wk sends no_key, none drive wk)
 
-        pub still_sending : DriveNone sends → (front list : List Outgoing) (place : ℕ) → Sending sent taken front list place
+        pub still_sending : DriveNone sends → (front list : List Outgoing) (place : ℕ)
+            → Sending sent taken front list place
             → Sending sent_now taken_now front list place
         still_sending none front list place sending = record {
           keys = λ drive wk.
@@ -186,12 +191,14 @@ module _ (tx : TxId) where
             given_up (ap is_aborting phase ∙ is) (still_none (none_no_key sends none) nothing)
         still_drives none t u listed listed_now phase touched less (waits is few un) =
             waits (ap is_decided phase ∙ is) (omega (arith, few, less)) (still_untouched none un)
-        still_drives none t u listed listed_now phase touched less (commits epoch awaited place at zero sending enough) =
+        still_drives none t u listed listed_now phase touched less (commits epoch awaited place at zero sending enough)
+            =
             commits epoch awaited place (phase ∙ at) (omega (arith, zero, less))
             (subst (λ ts. Sending sent_now taken_now [] (commits_of layout tx epoch awaited ts) place) (sym touched)
             (still_sending none [] (commits_of layout tx epoch awaited t.touched) place sending))
             (omega (arith, ap length touched, enough, moves.takes_more (comes committing (mine tx any))))
-        still_drives none t u listed listed_now phase touched less (completes epoch awaited place at zero sending enough) =
+        still_drives none t u listed listed_now phase touched less
+            (completes epoch awaited place at zero sending enough) =
             completes epoch awaited place (phase ∙ at) (omega (arith, zero, less))
             (subst
             (λ ts. Sending sent_now taken_now (commits_of layout tx epoch awaited ts)

@@ -1,4 +1,5 @@
--- Each turn of a coordinator's transaction leads on with its commits as it should, and so does what an installation left
+-- Each turn of a coordinator's transaction leads on with its commits as it should, and so does what an installation
+-- left
 -- to do.
 use Rattle.std.proofs.Common.{◌≡◌, ◌≤◌, ◌+◌, ◌==◌, ◌&&◌, ◌∙◌, ℕ, suc, Bool, true, false, List, [], ◌∷◌, length, map, nat_lt, refl, sym, ap, arith, subst}
 use Rattle.std.proofs.lemmas.Bool.{eq-eqb, ltb-false, ltb-true, true≢false}
@@ -37,7 +38,8 @@ use Rattle.commit_laws.proofs.drive.Turns.{aborting_part, DriveNoKey, DriveNone,
 own_one : (tx : TxId) (b : Bool) → (same_tx tx tx && b) ≡ b
 own_one tx b = ap (λ c. c && b) (same_tx-self tx)
 
-module _ (node : ℕ) (layout : Layout) (tx : TxId) (sent taken sent_now taken_now : Counts) (t : Transaction) (body : Body)
+module _ (node : ℕ) (layout : Layout) (tx : TxId) (sent taken sent_now taken_now : Counts) (t : Transaction)
+    (body : Body)
     (turn : Turn) (listed listed_now : ℕ)
     (moves : Moves tx layout sent taken sent_now taken_now turn.step.effects.sends)
     (knows : Knows tx layout sent taken taken_now body) (apart : AreApart t.touched) (less : listed_now ≤ listed)
@@ -214,10 +216,16 @@ module _ (node : ℕ) (layout : Layout) (tx : TxId) (sent taken sent_now taken_n
               arith,
               sending.keys drive wk,
               none drive wk,
-              taken_less (λ (o : Outgoing). goes drive (mine tx wk) o.body) place (commits_of layout tx before left t.touched),
+              taken_less (λ (o : Outgoing). goes drive (mine tx wk) o.body) place
+                  (commits_of layout tx before left t.touched),
               same_count drive wk,
             ))
-            (λ x. omega (arith, sending.goes_on x, nothing_left x (nat_lt place (length (commits_of layout tx before left t.touched))) refl))
+            (λ x. omega (
+              arith,
+              sending.goes_on x,
+              nothing_left x
+                  (nat_lt place (length (commits_of layout tx before left t.touched))) refl,
+            ))
             (λ x. part_onward node tx list 0 x (completions_plain layout tx x epoch count t.touched)))
             all_told
           where
@@ -263,7 +271,8 @@ module _ (node : ℕ) (layout : Layout) (tx : TxId) (sent taken sent_now taken_n
                 )
 
             nothing_left : (x : ℕ) (b : Bool)
-                → nat_lt place (length (commits_of layout tx before left t.touched)) ≡ b → one_if (b && (place == x)) ≡ 0
+                → nat_lt place (length (commits_of layout tx before left t.touched)) ≡ b
+                → one_if (b && (place == x)) ≡ 0
             nothing_left x false e = refl
             nothing_left x true e =
                 absurd
@@ -300,11 +309,14 @@ module _ (node : ℕ) (layout : Layout) (tx : TxId) (sent taken sent_now taken_n
         by (completes before left place is_at zero sending enough) =
             completes epoch (awaited - 1) place refl (omega (arith, zero, less))
             (subst
-            (λ front. Sending tx sent_now taken_now front (completions_of layout tx epoch (awaited - 1) t.touched) place)
+            (λ front. Sending tx sent_now taken_now front (completions_of layout tx epoch (awaited - 1) t.touched)
+            place)
             front_same
-            (subst (λ list. Sending tx sent_now taken_now (commits_of layout tx before left t.touched) list place) list_same
+            (subst (λ list. Sending tx sent_now taken_now (commits_of layout tx before left t.touched) list place)
+            list_same
             (still_sending tx layout sent taken sent_now taken_now sends moves none
-            (commits_of layout tx before left t.touched) (completions_of layout tx before left t.touched) place sending)))
+            (commits_of layout tx before left t.touched) (completions_of layout tx before left t.touched) place
+            sending)))
             (omega (arith, enough, moves.takes_more (comes committing (mine tx any))))
           where
             epoch_is : Completing before left ≡ Completing epoch awaited → before ≡ epoch
@@ -349,7 +361,8 @@ module _ (node : ℕ) (layout : Layout) (tx : TxId) (sent taken sent_now taken_n
         by (undecided undone other zero un) = absurd (never un)
         by (given_up is_back nothing) =
             given_up is_back
-            (still_none tx layout sent taken sent_now taken_now sends moves (aborting_no_key t.phase refl is_back) nothing)
+            (still_none tx layout sent taken sent_now taken_now sends moves (aborting_no_key t.phase refl is_back)
+            nothing)
           where
             aborting_no_key : (phase : Phase) → t.phase ≡ phase → is_aborting t.phase ≡ true → DriveNoKey sends
             aborting_no_key (Aborting why verifying awaited) is_at back =
@@ -357,8 +370,10 @@ module _ (node : ℕ) (layout : Layout) (tx : TxId) (sent taken sent_now taken_n
                 (aborting_part node layout tx why verifying awaited t.touched at)
             aborting_no_key Open is_at back = absurd (true≢false (sym back ∙ ap is_aborting is_at))
             aborting_no_key Verifying is_at back = absurd (true≢false (sym back ∙ ap is_aborting is_at))
-            aborting_no_key (Committing epoch awaited) is_at back = absurd (true≢false (sym back ∙ ap is_aborting is_at))
-            aborting_no_key (Completing epoch awaited) is_at back = absurd (true≢false (sym back ∙ ap is_aborting is_at))
+            aborting_no_key (Committing epoch awaited) is_at back =
+                absurd (true≢false (sym back ∙ ap is_aborting is_at))
+            aborting_no_key (Completing epoch awaited) is_at back =
+                absurd (true≢false (sym back ∙ ap is_aborting is_at))
         by (waits done few un) = absurd (never un)
         by (commits epoch awaited place is_at zero sending enough) =
             commits epoch awaited (at + PORTION) is_at (omega (arith, zero, less))

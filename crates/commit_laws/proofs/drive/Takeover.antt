@@ -173,7 +173,8 @@ module _ (tx : TxId) (key : List ℕ) where
             )
 
     others_add : (node : ℕ) (layout : Layout) (stage : Stage) (g : Gathered) (at : ℕ) → same_tx g.tx tx ≡ false
-        → Adds sent sent_now (stage_effects node layout stage g at).sends → (drive : Drive) → sent_now drive ≤ sent drive
+        → Adds sent sent_now (stage_effects node layout stage g at).sends → (drive : Drive)
+        → sent_now drive ≤ sent drive
     others_add node layout stage g at off adds drive =
         omega (arith, adds drive, part_all node layout stage g at drive, other_none layout stage g off drive)
 
@@ -388,12 +389,14 @@ module _ (tx : TxId) (key : List ℕ) (s : TakeoverState) (sent sent_now : Drive
           later = λ off has drive.
               let nothing = own.own.later off has drive in
               let under =
-              others_add tx key sent sent_now s.node s.layout (Completing e (length own.g.keys)) own.g 0 off adds drive in
+              others_add tx key sent sent_now s.node s.layout (Completing e (length own.g.keys)) own.g 0 off adds drive
+              in
               omega (arith, nothing, under);
           gone = λ off drive.
               let few = own.own.gone off drive in
               let under =
-              others_add tx key sent sent_now s.node s.layout (Completing e (length own.g.keys)) own.g 0 off adds drive in
+              others_add tx key sent sent_now s.node s.layout (Completing e (length own.g.keys)) own.g 0 off adds drive
+              in
               omega (arith, few, under);
         })) adds
 
@@ -420,14 +423,16 @@ module _ (tx : TxId) (key : List ℕ) (s : TakeoverState) (sent sent_now : Drive
             → IsAt tx key s.layout stage (stage_left s.layout stage g place) g sent_now
         by (Committing e n) is adds =
             let nothing = is.1 in
-            let other = other_way tx key sent sent_now s.node s.layout (Committing e n) g place completing refl adds in (
+            let other =
+            other_way tx key sent sent_now s.node s.layout (Committing e n) g place completing refl adds in (
               goes_further tx key sent sent_now s.node s.layout (Committing e n) g place committing
                   (from_place committing (stage_sends s.layout (Committing e n) g) is.0) adds,
               omega (arith, nothing, other),
             )
         by (Completing e n) is adds =
             let few = is.1 in
-            let other = other_way tx key sent sent_now s.node s.layout (Completing e n) g place committing refl adds in (
+            let other =
+            other_way tx key sent sent_now s.node s.layout (Completing e n) g place committing refl adds in (
               goes_further tx key sent sent_now s.node s.layout (Completing e n) g place completing
                   (from_place completing (stage_sends s.layout (Completing e n) g) is.0) adds,
               omega (arith, few, other),
@@ -455,7 +460,8 @@ module _ (tx : TxId) (key : List ℕ) (s : TakeoverState) (sent sent_now : Drive
         (λ adds.
         works work own.g own.rest own.is (record {
           own = λ is.
-              further place own.g s.stage (ltb-true 0 place parts.0) (eqb-true place s.left left.0) (own.own.own is) adds;
+              further place own.g s.stage (ltb-true 0 place parts.0) (eqb-true place s.left left.0) (own.own.own is)
+              adds;
           later = λ off has drive.
               let nothing = own.own.later off has drive in
               let under = others_add tx key sent sent_now s.node s.layout s.stage own.g place off adds drive in
@@ -473,11 +479,13 @@ module _ (tx : TxId) (key : List ℕ) (s : TakeoverState) (sent sent_now : Drive
     asks_none node view at drive =
         omega (
           arith,
-          count_both own (take PORTION (drop at asks)) (rest_if (takeover node) work.Members at (nat_lt (at + PORTION) (length asks))),
+          count_both own (take PORTION (drop at asks))
+              (rest_if (takeover node) work.Members at (nat_lt (at + PORTION) (length asks))),
           none_counted (goes drive (mine tx (only key))) (take PORTION (drop at asks))
               (each_take No PORTION (drop at asks) (each_drop No at asks
               (each_append No (map ask_of view.full) (map ask_of view.starting)
-              (each_mapped No ask_of view.full (λ m. off drive m)) (each_mapped No ask_of view.starting (λ m. off drive m))))),
+              (each_mapped No ask_of view.full (λ m. off drive m))
+              (each_mapped No ask_of view.starting (λ m. off drive m))))),
           rest drive (nat_lt (at + PORTION) (length asks)),
         )
       where
@@ -504,7 +512,8 @@ module _ (tx : TxId) (key : List ℕ) (s : TakeoverState) (sent sent_now : Drive
     Does step = Adds tx key sent sent_now step.effects.sends → Rules tx key step.state sent_now
 
     nothing_less : Adds tx key sent sent_now [] → Less
-    nothing_less adds drive = let own = adds drive in let none : counted tx key drive [] ≡ 0 = refl in omega (arith, own, none)
+    nothing_less adds drive =
+        let own = adds drive in let none : counted tx key drive [] ≡ 0 = refl in omega (arith, own, none)
 
     gathers : (n : ℕ) → s.stage ≡ Gathering n → Less → (drive : Drive) → sent_now drive ≡ 0
     gathers n at less drive =

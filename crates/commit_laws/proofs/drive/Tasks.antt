@@ -1,4 +1,5 @@
--- How often a transaction is listed to be driven once more: once at most as a view is installed, if it is decided; and no
+-- How often a transaction is listed to be driven once more: once at most as a view is installed, if it is decided; and
+-- no
 -- more often later.
 use Rattle.std.proofs.Common.{◌≡◌, ◌≤◌, ◌==◌, ◌&&◌, ◌||◌, ◌++◌, ◌∙◌, ℕ, Bool, true, false, List, [], ◌∷◌, nat_lt, refl, sym, ap, arith}
 use Rattle.std.specs.List.{count_by}
@@ -111,7 +112,8 @@ module _ (tx : TxId) (doomed : List TxId) where
             ap (λ b. one_if (b && is_decided e.1.phase)) same,
             others_listed live
                 (each_map (λ (x : TxId × Transaction). same_tx x.0 e.0 ≡ false)
-                (λ (x : TxId × Transaction). same_tx x.0 tx ≡ false) live (λ x off. ap (same_tx x.0) (sym is) ∙ off) once.0),
+                (λ (x : TxId × Transaction). same_tx x.0 tx ≡ false) live (λ x off. ap (same_tx x.0) (sym is) ∙ off)
+                once.0),
           )
       by false off rest =
           omega (

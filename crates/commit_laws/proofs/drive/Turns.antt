@@ -104,7 +104,8 @@ pub data DriveTurn (node : ℕ) (layout : Layout) (tx : TxId) (t : Transaction) 
   counts : (key : List ℕ) (epoch awaited : ℕ) → body ≡ Chain (Committed tx key) → t.phase ≡ Committing epoch awaited
       → nat_lt 1 awaited ≡ true → turn ≡ going (stay (at_phase t (Committing epoch (awaited - 1))))
       → DriveTurn node layout tx t body turn
-  counts_last : (key : List ℕ) (epoch awaited : ℕ) → body ≡ Chain (Committed tx key) → t.phase ≡ Committing epoch awaited
+  counts_last : (key : List ℕ) (epoch awaited : ℕ) → body ≡ Chain (Committed tx key)
+      → t.phase ≡ Committing epoch awaited
       → nat_lt 1 awaited ≡ false → turn ≡ going (entering node layout tx t (Completing epoch (written_count t.touched)))
       → DriveTurn node layout tx t body turn
   -- a key was completed
@@ -146,7 +147,8 @@ module _ (node : ℕ) (layout : Layout) (tx : TxId) where
       → DriveNone (phase_sends layout tx (Aborting why verifying awaited) touched)
   unfolding phase_sends front_sends key_sends
   aborting_plain why verifying awaited touched =
-      each_flat (λ (o : Outgoing). drives o.body ≡ false) (key_sends layout tx (Aborting why verifying awaited)) touched key
+      each_flat (λ (o : Outgoing). drives o.body ≡ false) (key_sends layout tx (Aborting why verifying awaited)) touched
+      key
     where
       key : (u : Touched) → DriveNone (key_sends layout tx (Aborting why verifying awaited) u)
       key u = aborts_plain u.key (chain_of layout u.key)
@@ -218,8 +220,10 @@ module _ (node : ℕ) (layout : Layout) (tx : TxId) where
       stops = λ at is high. stays_so;
       goes_on = λ at is low. goes_on at is refl;
       operates = λ op is can.
-          let ready = ready_is t.phase t.asked (and_parts (is_ready t.phase t.asked) (fits t.touched (key_of op)) can).0 in
-          takes_on Open ready.0 refl refl (going (operating tx t op (chain_of layout (key_of op)))) (ap is_decided ready.0)
+          let ready =
+          ready_is t.phase t.asked (and_parts (is_ready t.phase t.asked) (fits t.touched (key_of op)) can).0 in
+          takes_on Open ready.0 refl refl (going (operating tx t op (chain_of layout (key_of op))))
+          (ap is_decided ready.0)
           (refl, tt);
       answers = λ key answer asked is own at.
           takes_on Open at refl refl (going (sending (answered t asked answer) client (Client (TcKeyConf tx answer))))

@@ -1,4 +1,5 @@
--- Whoever commits has gone forth at its coordinator, and is decided; and what becomes of whoever has no coordinator in the
+-- Whoever commits has gone forth at its coordinator, and is decided; and what becomes of whoever has no coordinator in
+-- the
 -- current view.
 use Rattle.std.proofs.Common.{◌≡◌, ◌≢◌, ◌⊎◌, ℕ, Bool, true, false, List, ◌∷◌, inl, inr, sym, subst}
 use Rattle.std.proofs.lemmas.Bool.{and_parts, true≢false}
@@ -44,7 +45,8 @@ module _ (start : Start) (all : ℕ → List HostStep) (es : List HostStep) (mom
       by (either (list_any (is_committed_of tx) (rows_at start logs member).lqh.rows.pending)
       (list_any (is_marker_of tx) (rows_at start logs member).lqh.markers) left)
     where
-      of_record : (r : PendingRecord) (b : Bool) → b ≡ true → IsDecidedIf (λ v epoch. IsForth start logs v) (IsForth start logs) r b
+      of_record : (r : PendingRecord) (b : Bool) → b ≡ true
+          → IsDecidedIf (λ v epoch. IsForth start logs v) (IsForth start logs) r b
           → IsForth start logs r.tx
       of_record r true is forth = forth
       of_record r false is forth = absurd (true≢false (sym is))
@@ -56,7 +58,8 @@ module _ (start : Start) (all : ℕ → List HostStep) (es : List HostStep) (mom
           let parts = and_parts _ _ one.is in
           subst (IsForth start logs) (same_tx-is one.item.tx tx parts.0)
           (of_record one.item one.item.committed parts.1
-          (each_in (λ (r : PendingRecord). IsDecidedIf (λ v epoch. IsForth start logs v) (IsForth start logs) r r.committed)
+          (each_in (λ (r : PendingRecord). IsDecidedIf (λ v epoch. IsForth start logs v) (IsForth start logs) r
+          r.committed)
           one.item (rows_at start logs member).lqh.rows.pending (known.rows member there).records one.there))
       by (inr markers) =
           let one = passing (is_marker_of tx) (rows_at start logs member).lqh.markers markers in
@@ -64,15 +67,19 @@ module _ (start : Start) (all : ℕ → List HostStep) (es : List HostStep) (mom
           (each_in (λ (m : Marker). IsForth start logs m.tx)
           one.item (rows_at start logs member).lqh.markers (known.rows member there).markers one.there)
 
-  pub trace_forth : (tx : TxId) → has_trace start (logs_of start es) tx ≡ true → is_forth start (logs_of start es) tx ≡ true
+  pub trace_forth : (tx : TxId) → has_trace start (logs_of start es) tx ≡ true
+      → is_forth start (logs_of start es) tx ≡ true
   trace_forth tx has =
-      let one = passing (λ (member : Member). leave_trace tx (rows_at start logs member)) (members_now start logs) has in
+      let one =
+      passing (λ (member : Member). leave_trace tx (rows_at start logs member)) (members_now start logs) has in
       left_forth one.item (member_made start all es moment one.item one.there) tx one.is
 
   -- and so has whoever commits
-  pub fate_forth : (tx : TxId) → fate start (logs_of start es) tx ≡ commits → is_forth start (logs_of start es) tx ≡ true
+  pub fate_forth : (tx : TxId) → fate start (logs_of start es) tx ≡ commits
+      → is_forth start (logs_of start es) tx ≡ true
   fate_forth tx is =
-      by (commits_by (is_known start logs tx) (is_led_by_full start logs tx) (is_forth start logs tx) (is_lost start logs tx)
+      by (commits_by (is_known start logs tx) (is_led_by_full start logs tx) (is_forth start logs tx)
+      (is_lost start logs tx)
       (has_trace start logs tx) is)
     where
       by : (is_known start logs tx ≡ true) ⊎ ((is_forth start logs tx ≡ true) ⊎ (has_trace start logs tx ≡ true))

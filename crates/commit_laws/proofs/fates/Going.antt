@@ -97,7 +97,8 @@ module _ (start : Start) (all : ℕ → List HostStep) (es : List HostStep) (mom
     hale_fate is =
         not_aborting (is_known start logs tx) (is_forth start logs tx) (is_lost start logs tx) (has_trace start logs tx)
         hale_ways.0 hale.spared
-        (sym (ap (λ full. fate_if (is_known start logs tx) full (is_forth start logs tx) (is_lost start logs tx) (has_trace start logs tx)) hale.full)
+        (sym (ap (λ full. fate_if (is_known start logs tx) full (is_forth start logs tx) (is_lost start logs tx)
+        (has_trace start logs tx)) hale.full)
         ∙ is)
 
     none_asked : (o : Option Asked) → o ≡ None → is_some o ≡ false
@@ -172,7 +173,8 @@ module _ (key : List ℕ) (tx : TxId) (s : ReplicaState) (x : Signal) where
     at_event (Chain (Commit u own epoch chain at)) is =
         on own (makes_so u (at == 0))
         (λ here. other_than u
-        (λ same. apart.committed own epoch chain at (is ∙ (λ i. Chain (Commit (same_tx-is u tx same i) own epoch chain at)))))
+        (λ same. apart.committed own epoch chain at
+        (is ∙ (λ i. Chain (Commit (same_tx-is u tx same i) own epoch chain at)))))
     at_event (Chain (Complete u own chain at)) is =
         on own (ends u)
         (λ here. other_than u

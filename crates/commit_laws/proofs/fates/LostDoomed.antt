@@ -86,7 +86,8 @@ module _ (view : View) (before : List TxId) (tx : TxId) where
       Rest = is_among (doomed_in view before live) tx ≡ true → IsDoomedBy view before live tx
 
       by : (b : Bool) → (is_among before e.0 || is_doomed_by view e.1) ≡ b
-          → is_among (doomed_if e.0 b ++ doomed_in view before live) tx ≡ true → Rest → IsDoomedBy view before (e ∷ live) tx
+          → is_among (doomed_if e.0 b ++ doomed_in view before live) tx ≡ true → Rest
+          → IsDoomedBy view before (e ∷ live) tx
       by false why is rest = later e live (rest is)
       by true why is rest = which (same_tx tx e.0) refl is
         where
@@ -128,7 +129,8 @@ promised_doomed : (s : CoordinatorState) (proposal : View)
 unfolding fence_row
 promised_doomed s proposal = refl
 
-promised_entry : (s : CoordinatorState) (proposal : View) (tx : TxId) → entry_of (fence_row s proposal).state tx ≡ entry_of s tx
+promised_entry : (s : CoordinatorState) (proposal : View) (tx : TxId)
+    → entry_of (fence_row s proposal).state tx ≡ entry_of s tx
 unfolding fence_row
 promised_entry s proposal tx = refl
 
@@ -144,7 +146,8 @@ doomed_undecided view u is = by (is_undecided u.phase) refl is
 -- What a step leaves: it promises a view; or it leaves transactions and whom it has doomed; or of these those that it
 -- hasn't forgotten.
 data Leaves (s : CoordinatorState) (body : Body) (t : CoordinatorState) : Type 0 where
-  promises : (proposal : View) → body ≡ Membership (FenceReq proposal) → t ≡ (fence_row s proposal).state → Leaves s body t
+  promises : (proposal : View) → body ≡ Membership (FenceReq proposal) → t ≡ (fence_row s proposal).state
+      → Leaves s body t
   rests : t.tc ≡ s.tc → t.doomed ≡ s.doomed → Leaves s body t
   forgets : t.doomed ≡ still_live t.tc s.doomed → Leaves s body t
 
@@ -171,7 +174,8 @@ module _ (s : CoordinatorState) where
   table_leaves number (Membership (FenceReq proposal)) = promises proposal refl refl
   table_leaves number (Host (Continue Installation at)) = resumes_leaves (Host (Continue Installation at)) number
   table_leaves number (Host (Continue (work.Transaction tx) at)) =
-      unless_leaves (Host (Continue (work.Transaction tx) at)) (Host (Continue (work.Transaction tx) at)) (nat_lt number s.number)
+      unless_leaves (Host (Continue (work.Transaction tx) at)) (Host (Continue (work.Transaction tx) at))
+      (nat_lt number s.number)
   table_leaves number (Epoch (DiVerifyConf tx epoch)) =
       unless_leaves (Epoch (DiVerifyConf tx epoch)) (Epoch (DiVerifyConf tx epoch)) (is_among s.doomed tx)
   table_leaves number (Client (TcKeyReq tx op)) =
@@ -222,7 +226,8 @@ placed_there tc tx lives none = absurd (true≢false (sym lives ∙ off (tc.live
             ∙ none_by (position (same_tx tx) (keys_of live)) (rest is))
 
 -- whoever is among those that aren't forgotten isn't
-still_there : (tc : TcState) (txs : List TxId) (tx : TxId) → is_among (still_live tc txs) tx ≡ true → is_live tc tx ≡ true
+still_there : (tc : TcState) (txs : List TxId) (tx : TxId) → is_among (still_live tc txs) tx ≡ true
+    → is_live tc tx ≡ true
 still_there tc [] tx is = absurd (true≢false (sym is))
 still_there tc (one ∷ txs) tx is = by (is_live tc one) refl is (still_there tc txs tx)
   where
@@ -260,7 +265,8 @@ module _ (s : CoordinatorState) (once : KeysOnce s.tc.live) (x : Signal) (tx : T
       who : is_among t.doomed tx ≡ true → IsDoomedBy proposal s.doomed s.tc.live tx
       who among =
           who_is_doomed proposal s.doomed tx s.tc.live
-          (sym (ap (λ txs. is_among txs tx) (ap (λ (c : CoordinatorState). c.doomed) is ∙ promised_doomed s proposal)) ∙ among)
+          (sym (ap (λ txs. is_among txs tx) (ap (λ (c : CoordinatorState). c.doomed) is ∙ promised_doomed s proposal))
+          ∙ among)
 
       found : (one : IsDoomedBy proposal s.doomed s.tc.live tx) → entry_of s tx ≡ Some one.one.1
       found one = ap (λ v. of_live v s.tc.live) one.same ∙ in_found s.tc.live once one.one one.there
@@ -284,7 +290,8 @@ module _ (s : CoordinatorState) (once : KeysOnce s.tc.live) (x : Signal) (tx : T
       lives : IsDoomedBy proposal s.doomed s.tc.live tx → IsThere t tx
       lives one none =
           let nothing : Some one.one.1 ≡ None =
-          sym (found one) ∙ (sym (promised_entry s proposal tx) ∙ (ap (λ (c : CoordinatorState). entry_of c tx) (sym is) ∙ none)) in
+          sym (found one) ∙ (sym (promised_entry s proposal tx) ∙
+          (ap (λ (c : CoordinatorState). entry_of c tx) (sym is) ∙ none)) in
           absurd cc
 
   left : Leaves s x.body t → Dooms s x.body t tx
@@ -293,7 +300,8 @@ module _ (s : CoordinatorState) (once : KeysOnce s.tc.live) (x : Signal) (tx : T
     stays = λ among there. ap (λ txs. is_among txs tx) doomed ∙ among;
     was = λ among. inl (ap (λ txs. is_among txs tx) (sym doomed) ∙ among);
     lives = λ before among none.
-        before (ap (λ txs. is_among txs tx) (sym doomed) ∙ among) (ap (λ (c : TcState). of_live tx c.live) (sym tc) ∙ none);
+        before (ap (λ txs. is_among txs tx) (sym doomed) ∙ among)
+        (ap (λ (c : TcState). of_live tx c.live) (sym tc) ∙ none);
   }
   left (forgets doomed) = record {
     stays = λ among there.
@@ -308,7 +316,8 @@ module _ (s : CoordinatorState) (once : KeysOnce s.tc.live) (x : Signal) (tx : T
   row_dooms = left (table_leaves s x.view.number x.body)
 
 -- a doomed transaction takes no epoch
-pub takes_no_epoch : (s : CoordinatorState) (x : Signal) (tx : TxId) (epoch : ℕ) → x.body ≡ Epoch (DiVerifyConf tx epoch)
+pub takes_no_epoch : (s : CoordinatorState) (x : Signal) (tx : TxId) (epoch : ℕ)
+    → x.body ≡ Epoch (DiVerifyConf tx epoch)
     → is_among s.doomed tx ≡ true → coordinator_row s x ≡ stay s
 takes_no_epoch s x tx epoch is among =
     ap (coordinator_table s x.view.number) is ∙ ap (calm_unless s (Epoch (DiVerifyConf tx epoch))) among

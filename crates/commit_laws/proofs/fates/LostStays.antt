@@ -88,7 +88,8 @@ module _ (tx : TxId) where
     stays = λ among. dooms.stays (ap (λ txs. is_among txs tx) like.doomed ∙ among);
     was = λ among. was (dooms.was among);
     lives = λ before among.
-        dooms.lives (λ is none. before (ap (λ txs. is_among txs tx) (sym like.doomed) ∙ is) (sym like.entry ∙ none)) among;
+        dooms.lives (λ is none. before (ap (λ txs. is_among txs tx) (sym like.doomed) ∙ is) (sym like.entry ∙ none))
+        among;
   }
     where
       was : (is_among between.doomed tx ≡ true) ⊎ (IsUndecidedThere between tx × IsPromise body)
@@ -200,18 +201,24 @@ module _ (start : Start) (member : Member) (there : IsIn member (made start)) (t
     -- the coordinator behind the event is that of the part that the step leaves
     now_is : (p : TcPart) → (step_after start h log e).state.parts ≡ part.Tc p → c (e ∷ log) ≡ p.coordinator
     now_is p is =
-        ap (λ (s : hosts.Host). coordinator_in (fresh_coordinator member.node member.start (first_layout start.shape)) s.parts)
+        ap (λ (s : hosts.Host). coordinator_in (fresh_coordinator member.node member.start (first_layout start.shape))
+        s.parts)
         (told_some h (part_some start Tc member) (step_after start h log e))
         ∙ ap (coordinator_in (fresh_coordinator member.node member.start (first_layout start.shape))) is
 
     taken_dooms : (between : TcPart) → IsCoordinatorOf member between.coordinator → (to : BlockId)
         → Dooms between.coordinator x.body (tc_row between to x).state.coordinator tx
     unfolding tc_row
-    taken_dooms between fits block.Tc = row_dooms between.coordinator (keys_once between.coordinator.tc.live fits.once) x tx
-    taken_dooms between fits _ = like_dooms tx between.coordinator between.coordinator x.body (record { doomed = refl; entry = refl })
+    taken_dooms between fits block.Tc =
+        row_dooms between.coordinator (keys_once between.coordinator.tc.live fits.once) x tx
+    taken_dooms between fits _ = like_dooms tx between.coordinator between.coordinator x.body (record {
+      doomed = refl;
+      entry = refl;
+    })
 
     step_dooms : Dooms (c log) x.body (c (e ∷ log)) tx
-    step_dooms = subst (λ (s : CoordinatorState). Dooms s x.body (c (e ∷ log)) tx) (sym (coordinator_is start member there log at)) (by (tc_goes start h log e at.own at.runs))
+    step_dooms = subst (λ (s : CoordinatorState). Dooms s x.body (c (e ∷ log)) tx)
+        (sym (coordinator_is start member there log at)) (by (tc_goes start h log e at.own at.runs))
       where
         by : Goes start.shape at.own x (step_after start h log e) → Dooms at.own.coordinator x.body (c (e ∷ log)) tx
         by (goes.leaves between entered parts words marks) =
@@ -220,7 +227,8 @@ module _ (start : Start) (member : Member) (there : IsIn member (made start)) (t
         by (goes.takes between entered sound front words marks going parts effects) =
             subst (λ (s : CoordinatorState). Dooms at.own.coordinator x.body s tx)
             (sym (now_is (tc_row between x.to.block x).state parts))
-            (behind_dooms tx at.own.coordinator between.coordinator (tc_row between x.to.block x).state.coordinator x.body
+            (behind_dooms tx at.own.coordinator between.coordinator (tc_row between x.to.block x).state.coordinator
+            x.body
             (entered_like tx at.own between entered)
             (taken_dooms between (once at.own at.fits between entered) x.to.block))
 
@@ -230,7 +238,8 @@ module _ (start : Start) (member : Member) (there : IsIn member (made start)) (t
         → entry_of (tc_row between to x).state.coordinator tx ≡ entry_of between.coordinator tx
     unfolding tc_row
     taken_same epoch is between among block.Tc =
-        ap (λ (t : _). entry_of t tx) (ap (λ (step : _). step.state) (takes_no_epoch between.coordinator x tx epoch is among))
+        ap (λ (t : _). entry_of t tx) (ap (λ (step : _). step.state)
+        (takes_no_epoch between.coordinator x tx epoch is among))
     taken_same epoch is between among _ = refl
 
     step_same : (epoch : ℕ) → x.body ≡ Epoch (DiVerifyConf tx epoch) → is_among (c log).doomed tx ≡ true
@@ -241,11 +250,13 @@ module _ (start : Start) (member : Member) (there : IsIn member (made start)) (t
         was = ap (λ (s : CoordinatorState). entry_of s tx) (coordinator_is start member there log at)
 
         doomed : is_among at.own.coordinator.doomed tx ≡ true
-        doomed = ap (λ (s : CoordinatorState). is_among s.doomed tx) (sym (coordinator_is start member there log at)) ∙ among
+        doomed = ap (λ (s : CoordinatorState). is_among s.doomed tx) (sym (coordinator_is start member there log at))
+            ∙ among
 
         by : Goes start.shape at.own x (step_after start h log e) → o (e ∷ log) ≡ entry_of at.own.coordinator tx
         by (goes.leaves between entered parts words marks) =
-            ap (λ (s : CoordinatorState). entry_of s tx) (now_is between parts) ∙ (entered_like tx at.own between entered).entry
+            ap (λ (s : CoordinatorState). entry_of s tx) (now_is between parts)
+            ∙ (entered_like tx at.own between entered).entry
         by (goes.takes between entered sound front words marks going parts effects) =
             let like = entered_like tx at.own between entered in
             ap (λ (s : CoordinatorState). entry_of s tx) (now_is (tc_row between x.to.block x).state parts)
@@ -274,10 +285,12 @@ module _ (start : Start) (member : Member) (there : IsIn member (made start)) (t
       says = (goes_one_way start member there tx log).says t found
 
       -- it is there behind the event, in such a phase
-      stays_by : (u : Transaction) → o (e ∷ log) ≡ Some u → is_decided u.phase ≡ false → AreSpared (tells_commit tx) sends
+      stays_by : (u : Transaction) → o (e ∷ log) ≡ Some u → is_decided u.phase ≡ false
+          → AreSpared (tells_commit tx) sends
           → Remains
       stays_by u some undecided quiet = record {
-        forth = gone_nowhere start member tx is_decided (tells_commit tx) log e (ap (is_at is_decided) some ∙ undecided) quiet forth;
+        forth = gone_nowhere start member tx is_decided (tells_commit tx) log e (ap (is_at is_decided) some ∙ undecided)
+            quiet forth;
         back = λ none. absurd (let nothing : Some u ≡ None = sym some ∙ none in cc);
       }
 
@@ -314,14 +327,17 @@ module _ (start : Start) (member : Member) (there : IsIn member (made start)) (t
         not_decided epoch at about goes false on =
             let same : turn.step.state ≡ t = cc (sym (on_some on) ∙ (held epoch about ∙ found)) in
             let is : is_decided t.phase ≡ true =
-            subst (λ (u : Transaction). is_decided u.phase ≡ true) same (decided_as turn.step.state.phase epoch (goes.on on)) in
+            subst (λ (u : Transaction). is_decided u.phase ≡ true) same
+            (decided_as turn.step.state.phase epoch (goes.on on)) in
             absurd (true≢false (sym is ∙ ap is_decided at))
 
         goes_back : turns.Back tx t turn → (over : Bool) → turn.over ≡ over → Remains
         goes_back goes false on =
-            stays_by turn.step.state (on_some on) (aborting_not turn.step.state.phase (goes.on on)) (no_commit goes.commits)
+            stays_by turn.step.state (on_some on) (aborting_not turn.step.state.phase (goes.on on))
+            (no_commit goes.commits)
         goes_back goes true over = record {
-          forth = gone_nowhere start member tx is_decided (tells_commit tx) log e (ap (is_at is_decided) (over_none over))
+          forth =
+              gone_nowhere start member tx is_decided (tells_commit tx) log e (ap (is_at is_decided) (over_none over))
               (no_commit goes.commits) forth;
           back = λ none. back (goes.ends over);
         }
@@ -329,7 +345,8 @@ module _ (start : Start) (member : Member) (there : IsIn member (made start)) (t
             back : (is_aborting t.phase ≡ true) ⊎ (is_sent (tells_abort tx) turn.step.effects.sends ≡ true)
                 → b (e ∷ log) ≡ true
             back (inl is) =
-                gone_stays start member tx is_aborting (tells_abort tx) log e (says_back t.phase (f log) (b log) says is)
+                gone_stays start member tx is_aborting (tells_abort tx) log e
+                (says_back t.phase (f log) (b log) says is)
             back (inr is) = gone_told start member tx is_aborting (tells_abort tx) log e (abort_told is)
 
         changed : (body : Body) → e.step.taken.body ≡ body → Changes (c log).tc.node tx t body turn → Remains
@@ -341,7 +358,8 @@ module _ (start : Start) (member : Member) (there : IsIn member (made start)) (t
             on_by on Verifying (ap (λ (u : Transaction). u.phase) now ∙ at) refl still.commits
         changed body is (turns.decides epoch at about goes) = not_decided epoch at (is ∙ about) goes turn.over refl
         changed body is (turns.forth epoch decided goes) =
-            absurd (true≢false (sym (says_forth t.phase (f log) (b log) says (decided_as t.phase epoch decided)) ∙ forth))
+            absurd (true≢false (sym (says_forth t.phase (f log) (b log) says (decided_as t.phase epoch decided)) ∙
+            forth))
         changed body is (turns.back undecided goes) = goes_back goes turn.over refl
 
       counted : is_at is_decided (o log) ≡ true → f log ≡ true
@@ -387,7 +405,8 @@ module _ (start : Start) (member : Member) (there : IsIn member (made start)) (t
 
   first_doomed : AllDoomed []
   first_doomed among =
-      absurd (true≢false (sym among ∙ ap (λ (s : CoordinatorState). is_among s.doomed tx) (coordinator_first start member there)))
+      absurd (true≢false (sym among ∙ ap (λ (s : CoordinatorState). is_among s.doomed tx)
+      (coordinator_first start member there)))
 
   all_doomed : (log : List HostStep) → AllDoomed log
   all_doomed [] = first_doomed
@@ -425,7 +444,8 @@ module _ (start : Start) (member : Member) (there : IsIn member (made start)) (t
               ((step_dooms log e).stays among (λ none. let nothing : Some t ≡ None = sym is ∙ none in cc))
       by false back false among =
           let off : lost_along log ≡ false =
-          ap (λ x. not (f log) && (x || is_among (c log).doomed tx)) back ∙ (ap (λ x. not (f log) && x) among ∙ ap (λ x. not x && false) forth) in
+          ap (λ x. not (f log) && (x || is_among (c log).doomed tx)) back
+          ∙ (ap (λ x. not (f log) && x) among ∙ ap (λ x. not x && false) forth) in
           absurd (true≢false (sym lost ∙ off))
 
 -- Whoever is lost stays so.

@@ -79,16 +79,19 @@ lost_off true rest lost = absurd (true≢false (sym lost))
 lost_off false rest lost = refl
 
 -- whoever leaves a trace is known to be so
-traced_known : (F : TxId → Type 0) (tx : TxId) (s : ReplicaState) → RowsKnow (λ one epoch. F one) F s → leave_trace tx s ≡ true
+traced_known : (F : TxId → Type 0) (tx : TxId) (s : ReplicaState) → RowsKnow (λ one epoch. F one) F s
+    → leave_trace tx s ≡ true
     → F tx
 traced_known F tx s known traced = by (list_any (is_committed_of tx) s.lqh.rows.pending) refl traced
   where
-    by : (b : Bool) → list_any (is_committed_of tx) s.lqh.rows.pending ≡ b → (b || list_any (is_marker_of tx) s.lqh.markers) ≡ true
+    by : (b : Bool) → list_any (is_committed_of tx) s.lqh.rows.pending ≡ b
+        → (b || list_any (is_marker_of tx) s.lqh.markers) ≡ true
         → F tx
     by true some is =
         let one = some_of (is_committed_of tx) s.lqh.rows.pending some in
         let parts = and_parts (same_tx one.one.tx tx) one.one.committed one.passes in
-        let all = each_in (λ (r : PendingRecord). IsDecidedIf (λ one epoch. F one) F r r.committed) one.one s.lqh.rows.pending known.records one.there in
+        let all = each_in (λ (r : PendingRecord). IsDecidedIf (λ one epoch. F one) F r r.committed) one.one
+        s.lqh.rows.pending known.records one.there in
         subst F (same_tx-is one.one.tx tx parts.0)
         (subst (IsDecidedIf (λ one epoch. F one) F one.one) parts.1 all)
     by false none is =
@@ -114,7 +117,8 @@ either : (a b : Bool) → (a || b) ≡ true → (a ≡ true) ⊎ (b ≡ true)
 either true b is = inl refl
 either false b is = inr is
 
-module _ (start : Start) (all : ℕ → List HostStep) (e : HostStep) (es : List HostStep) (follows : Follows start all e es)
+module _ (start : Start) (all : ℕ → List HostStep) (e : HostStep) (es : List HostStep)
+    (follows : Follows start all e es)
     (tx : TxId) where
   abbrev old : ℕ → List HostStep
   old = logs_of start es
@@ -149,11 +153,13 @@ module _ (start : Start) (all : ℕ → List HostStep) (e : HostStep) (es : List
   coordinator_made : is_led_by_full start old tx ≡ true → IsIn (coordinator_member tx) (made start)
   coordinator_made full =
       let one = some_of (was_begun_by tx) (current start old).full full in
-      subst (λ (m : Member). IsIn m (made start)) (begun_by tx one.one one.passes) (current_made start all es before one.one one.there)
+      subst (λ (m : Member). IsIn m (made start)) (begun_by tx one.one one.passes)
+      (current_made start all es before one.one one.there)
 
   -- at an event at which a transaction aborts no member comes to have a trace of it
   module _ (aborting : fate start old tx ≡ aborts) where
-    no_commit : (member : Member) (there : IsIn member (made start)) → TakesCommit start all e es moment member there tx → ⊥
+    no_commit : (member : Member) (there : IsIn member (made start)) → TakesCommit start all e es moment member there tx
+        → ⊥
     no_commit member there takes = not_both (sym (said same) ∙ aborting)
       where
         fenced : is_fenced e.step.taken ≡ true
@@ -186,10 +192,12 @@ module _ (start : Start) (all : ℕ → List HostStep) (e : HostStep) (es : List
         by : (b : Bool) → has_trace start new tx ≡ b → b ≡ false
         by false is = refl
         by true is =
-            let one = some_of (λ (member : Member). leave_trace tx (rows_at start new member)) (members_now start new) is in
+            let one =
+            some_of (λ (member : Member). leave_trace tx (rows_at start new member)) (members_now start new) is in
             absurd (true≢false (sym one.passes ∙ gone one.one one.there))
           where
-            gone : (member : Member) → IsIn member (members_now start new) → leave_trace tx (rows_at start new member) ≡ false
+            gone : (member : Member) → IsIn member (members_now start new)
+                → leave_trace tx (rows_at start new member) ≡ false
             gone member there =
                 let was = member_was start all e es moment member there in
                 let is_made = members_made start all es before member was in
@@ -212,10 +220,12 @@ module _ (start : Start) (all : ℕ → List HostStep) (e : HostStep) (es : List
     -- whoever aborts does so for ever
     aborts_on : fate start old tx ≡ aborts → fate start new tx ≡ aborts
     aborts_on aborting =
-        by (aborting_is (is_known start old tx) (is_led_by_full start old tx) (is_forth start old tx) (is_lost start old tx)
+        by (aborting_is (is_known start old tx) (is_led_by_full start old tx) (is_forth start old tx)
+        (is_lost start old tx)
         (has_trace start old tx) aborting)
       where
-        by : IsAborting (is_known start old tx) (is_led_by_full start old tx) (is_forth start old tx) (is_lost start old tx)
+        by : IsAborting (is_known start old tx) (is_led_by_full start old tx) (is_forth start old tx)
+            (is_lost start old tx)
             (has_trace start old tx) → fate start new tx ≡ aborts
         by is = which is.why (is_led_by_full start new tx) refl
           where
@@ -226,16 +236,19 @@ module _ (start : Start) (all : ℕ → List HostStep) (e : HostStep) (es : List
                 → (full : Bool) → is_led_by_full start new tx ≡ full → fate start new tx ≡ aborts
             which (led full lost) true now =
                 let lost_now = lost_on (coordinator_made full) lost in
-                lost_aborts (is_known start new tx) (is_led_by_full start new tx) (is_forth start new tx) (is_lost start new tx)
+                lost_aborts (is_known start new tx) (is_led_by_full start new tx) (is_forth start new tx)
+                (is_lost start new tx)
                 (has_trace start new tx) unknown now (lost_off (is_forth start new tx) _ lost_now) lost_now
             which (led full lost) false now =
                 let lost_now = lost_on (coordinator_made full) lost in
-                none_aborts (is_known start new tx) (is_led_by_full start new tx) (is_forth start new tx) (is_lost start new tx)
+                none_aborts (is_known start new tx) (is_led_by_full start new tx) (is_forth start new tx)
+                (is_lost start new tx)
                 (has_trace start new tx) unknown now (no_trace (lost_off (is_forth start new tx) _ lost_now))
             which (gone full none) true now =
                 absurd (true≢false (sym (led_was start all e es moment tx now) ∙ full))
             which (gone full none) false now =
-                none_aborts (is_known start new tx) (is_led_by_full start new tx) (is_forth start new tx) (is_lost start new tx)
+                none_aborts (is_known start new tx) (is_led_by_full start new tx) (is_forth start new tx)
+                (is_lost start new tx)
                 (has_trace start new tx) unknown now (trace_off aborting none)
 
   -- and whoever commits does so in the current view
@@ -245,25 +258,31 @@ module _ (start : Start) (all : ℕ → List HostStep) (e : HostStep) (es : List
 
     commits_on : fate start old tx ≡ commits → fate start new tx ≡ commits
     commits_on committing =
-        by (committing_is (is_known start old tx) (is_led_by_full start old tx) (is_forth start old tx) (is_lost start old tx)
+        by (committing_is (is_known start old tx) (is_led_by_full start old tx) (is_forth start old tx)
+        (is_lost start old tx)
         (has_trace start old tx) committing)
       where
-        by : Commits (is_known start old tx) (is_led_by_full start old tx) (is_forth start old tx) (has_trace start old tx)
+        by : Commits (is_known start old tx) (is_led_by_full start old tx) (is_forth start old tx)
+            (has_trace start old tx)
             → fate start new tx ≡ commits
         by (by_word known) =
-            known_commits (is_known start new tx) (is_led_by_full start new tx) (is_forth start new tx) (is_lost start new tx)
+            known_commits (is_known start new tx) (is_led_by_full start new tx) (is_forth start new tx)
+            (is_lost start new tx)
             (has_trace start new tx) (known_grows start e es tx known)
         by (by_coordinator full forth) =
-            forth_commits (is_known start new tx) (is_led_by_full start new tx) (is_forth start new tx) (is_lost start new tx)
+            forth_commits (is_known start new tx) (is_led_by_full start new tx) (is_forth start new tx)
+            (is_lost start new tx)
             (has_trace start new tx) (led_same ∙ full) (forth_grows start e es tx forth)
-        by (by_trace full trace) = traced (some_of (λ (m : Member). leave_trace tx (rows_at start old m)) (members_now start old) trace)
+        by (by_trace full trace) =
+            traced (some_of (λ (m : Member). leave_trace tx (rows_at start old m)) (members_now start old) trace)
           where
             traced : IsSome (λ (m : Member). leave_trace tx (rows_at start old m)) (members_now start old)
                 → fate start new tx ≡ commits
             traced one =
                 which
                 (either (leave_trace tx (rows_at start new one.one)) (is_known start new tx)
-                (traces_stay start all e es moment one.one (members_made start all es before one.one one.there) tx one.passes))
+                (traces_stay start all e es moment one.one (members_made start all es before one.one one.there) tx
+                one.passes))
               where
                 which : (leave_trace tx (rows_at start new one.one) ≡ true) ⊎ (is_known start new tx ≡ true)
                     → fate start new tx ≡ commits

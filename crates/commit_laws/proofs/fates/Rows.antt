@@ -78,10 +78,12 @@ module _ (tx : TxId) where
       neither true b is = absurd (true≢false is)
       neither false b is = (refl, is)
 
-  markers_other : (ms : List Marker) → list_any (is_marker_of tx) ms ≡ false → Each (λ (m : Marker). Other m.tx m.epoch) ms
+  markers_other : (ms : List Marker) → list_any (is_marker_of tx) ms ≡ false
+      → Each (λ (m : Marker). Other m.tx m.epoch) ms
   markers_other [] none = tt
   markers_other (m ∷ ms) none =
-      let parts = neither (is_marker_of tx m) (list_any (is_marker_of tx) ms) none in (parts.0, markers_other ms parts.1)
+      let parts =
+      neither (is_marker_of tx m) (list_any (is_marker_of tx) ms) none in (parts.0, markers_other ms parts.1)
     where
       neither : (a b : Bool) → (a || b) ≡ false → (a ≡ false) × (b ≡ false)
       neither true b is = absurd (true≢false is)
@@ -89,7 +91,8 @@ module _ (tx : TxId) where
 
   untraced_know : (s : ReplicaState) → leave_trace tx s ≡ false → RowsKnow Other Anyone s
   untraced_know s none =
-      let parts = neither (list_any (is_committed_of tx) s.lqh.rows.pending) (list_any (is_marker_of tx) s.lqh.markers) none in
+      let parts =
+      neither (list_any (is_committed_of tx) s.lqh.rows.pending) (list_any (is_marker_of tx) s.lqh.markers) none in
       record { records = records_other s.lqh.rows.pending parts.0; markers = markers_other s.lqh.markers parts.1 }
     where
       neither : (a b : Bool) → (a || b) ≡ false → (a ≡ false) × (b ≡ false)
@@ -111,7 +114,8 @@ module _ (tx : TxId) where
           none true = refl
           none false = refl
 
-  markers_untraced : (ms : List Marker) → Each (λ (m : Marker). Other m.tx m.epoch) ms → list_any (is_marker_of tx) ms ≡ false
+  markers_untraced : (ms : List Marker) → Each (λ (m : Marker). Other m.tx m.epoch) ms
+      → list_any (is_marker_of tx) ms ≡ false
   markers_untraced [] all = refl
   markers_untraced (m ∷ ms) all =
       ap (λ b. b || list_any (is_marker_of tx) ms) all.0 ∙ markers_untraced ms all.1
@@ -141,9 +145,11 @@ module _ (tx : TxId) where
   left_untraced s x none (Epoch (DiVerifyConf one epoch)) is leaves =
       subst (λ b. leave_trace tx (replica_by s x b).state ≡ false) (sym is) none
   left_untraced s x none (Client (TcCommitConf one epoch)) is leaves =
-      subst (λ b. leave_trace tx (replica_by s x b).state ≡ false) (sym is) (same s x none (Client (TcCommitConf one epoch)) is refl)
+      subst (λ b. leave_trace tx (replica_by s x b).state ≡ false) (sym is)
+      (same s x none (Client (TcCommitConf one epoch)) is refl)
   left_untraced s x none (Client (TcKeyFailConf one epoch)) is leaves =
-      subst (λ b. leave_trace tx (replica_by s x b).state ≡ false) (sym is) (same s x none (Client (TcKeyFailConf one epoch)) is refl)
+      subst (λ b. leave_trace tx (replica_by s x b).state ≡ false) (sym is)
+      (same s x none (Client (TcKeyFailConf one epoch)) is refl)
   left_untraced s x none (Takeover (LqhTransConf one key told epoch)) is leaves =
       subst (λ b. leave_trace tx (replica_by s x b).state ≡ false) (sym is)
       (same s x none (Takeover (LqhTransConf one key told epoch)) is refl)
@@ -179,7 +185,8 @@ module _ (tx : TxId) where
           know_untraced (replica_row s x).state
           (rows_know Other Anyone s x (untraced_know s none) (tells_other x.body rows not_own))
 
-module _ (start : Start) (all : ℕ → List HostStep) (e : HostStep) (es : List HostStep) (moment : IsMoment start all (e ∷ es))
+module _ (start : Start) (all : ℕ → List HostStep) (e : HostStep) (es : List HostStep)
+    (moment : IsMoment start all (e ∷ es))
     (member : Member) (there : IsIn member (made start)) (tx : TxId) where
   abbrev old : ℕ → List HostStep
   old = logs_of start es
@@ -201,8 +208,10 @@ module _ (start : Start) (all : ℕ → List HostStep) (e : HostStep) (es : List
 
   entered_untraced : (p between : LdmPart) (view seen : View) (front : _)
       → does.PartEnters does.ldm_kind p view e.step.taken between seen front → Untraced p → Untraced between
-  entered_untraced p between view seen front (does.remains same stands none) untraced = subst Untraced (sym same) untraced
-  entered_untraced p between view seen front (does.installs above same stands sent) untraced = subst Untraced (sym same) untraced
+  entered_untraced p between view seen front (does.remains same stands none) untraced =
+      subst Untraced (sym same) untraced
+  entered_untraced p between view seen front (does.installs above same stands sent) untraced =
+      subst Untraced (sym same) untraced
 
   row_by : (p : LdmPart) (to : BlockId) → Untraced p → (IsCommitOf tx e.step.taken.body → ⊥)
       → Untraced (ldm_row p to e.step.taken).state
@@ -216,7 +225,8 @@ module _ (start : Start) (all : ℕ → List HostStep) (e : HostStep) (es : List
     did = ldm_step start member there e.host at (old e.host) e
 
     was : rows_at start old member ≡ did.own.replica
-    was = ap (λ k. rows_after start member (old k)) (sym at) ∙ rows_are start member e.host (old e.host) at did.own did.runs
+    was = ap (λ k. rows_after start member (old k)) (sym at)
+        ∙ rows_are start member e.host (old e.host) at did.own did.runs
 
     now : rows_at start new member ≡ did.does.own.replica
     now =
@@ -230,9 +240,11 @@ module _ (start : Start) (all : ℕ → List HostStep) (e : HostStep) (es : List
         before : Untraced did.does.between
         before =
             entered_untraced did.own did.does.between (view_after start e.host (old e.host))
-            (view_after start e.host (e ∷ old e.host)) did.does.front did.does.enters (ap (leave_trace tx) (sym was) ∙ none)
+            (view_after start e.host (e ∷ old e.host)) did.does.front did.does.enters
+            (ap (leave_trace tx) (sym was) ∙ none)
 
-        by : does.PartTakes does.ldm_kind start.shape did.does.between (view_after start e.host (e ∷ old e.host)) e.step.taken
+        by : does.PartTakes does.ldm_kind start.shape did.does.between (view_after start e.host (e ∷ old e.host))
+            e.step.taken
             did.does.own did.does.rest → Untraced did.does.own
         by (does.ignores same rests) = subst Untraced (sym same) before
         by (does.handles passes same sends) =
@@ -242,7 +254,8 @@ module _ (start : Start) (all : ℕ → List HostStep) (e : HostStep) (es : List
               host = at;
               commit = commit;
               taken =
-                  handled_now start all e es moment does.ldm_kind ldm_is did.own did.runs did.does.between did.does.front
+                  handled_now start all e es moment does.ldm_kind ldm_is did.own did.runs did.does.between
+                  did.does.front
                   did.does.enters passes e.step.taken.to.block refl;
             })))
 

@@ -126,7 +126,8 @@ module _ (known : ForthIsKnownAlways) (start : Start) (all : ℕ → List HostSt
     unfolding ldm_row
     ldm_speaks step = by step.does.sent
       where
-        front : PartEnters ldm_kind step.own (view_after start e.host (old e.host)) x step.does.between view step.does.front
+        front : PartEnters ldm_kind step.own (view_after start e.host (old e.host)) x step.does.between view
+            step.does.front
             → AreSpoken A C step.does.front
         front (remains same stands none) = subst (AreSpoken A C) (sym none) tt
         front (installs above same stands is) = subst (AreSpoken A C) (sym is) tt
@@ -200,7 +201,8 @@ module _ (known : ForthIsKnownAlways) (start : Start) (all : ℕ → List HostSt
           sent_next start NowCommits all e es moment old_commits
           (λ on.
           each_map (λ (y : Addressed). SaysCommit (fate start new) y.signal.body) NowCommits _ (λ y says header. says)
-          (sent_so start e.host (old e.host) e (λ (v : View) (to : Place) (body : Body). SaysCommit (fate start new) body)
+          (sent_so start e.host (old e.host) e
+          (λ (v : View) (to : Place) (body : Body). SaysCommit (fate start new) body)
           (each_map (IsSpoken A C) (λ (o : Outgoing). SaysCommit (fate start new) o.body) sends
           (λ o says. commit_said (fate start new) o.body says) sends_speak)));
     }

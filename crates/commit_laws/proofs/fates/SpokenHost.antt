@@ -56,7 +56,8 @@ pub record StandsStill (start : Start) (e : HostStep) (es : List HostStep) (memb
   pub current_is : current start (logs_of start (e ∷ es)) ≡ current start (logs_of start es)
   pub number_is : number_in start (logs_of start es) (tc_of start member) ≡ current_number start (logs_of start es)
 
--- of a takeover that stood still: it has what it should, and all that it has gathered is so if all members end by the event
+-- of a takeover that stood still: it has what it should, and all that it has gathered is so if all members end by the
+-- event
 pub record TakeoverGoes (start : Start) (all : ℕ → List HostStep) (e : HostStep) (es : List HostStep)
     (moment : IsMoment start all (e ∷ es)) (member : Member) (W : Gathered → Type 0) : Type 0 where
   pub rules : (g : Gathered) → W g → g.epoch ≡ None → Aborts start (logs_of start (e ∷ es)) g.tx
@@ -142,7 +143,8 @@ module _ (start : Start) (all : ℕ → List HostStep) (e : HostStep) (es : List
 
       between_same : (tx : TxId) → entry_of between.coordinator tx ≡ entry_of (coordinator_after start member log) tx
       unfolding install_row
-      between_same tx = by entering ∙ ap (λ (c : CoordinatorState). entry_of c tx) (sym (coordinator_is start member h log refl p step.runs))
+      between_same tx = by entering ∙ ap (λ (c : CoordinatorState). entry_of c tx)
+          (sym (coordinator_is start member h log refl p step.runs))
         where
           by : PartEnters tc_kind p stood x between view step.does.front
               → entry_of between.coordinator tx ≡ entry_of p.coordinator tx
@@ -211,14 +213,16 @@ module _ (start : Start) (all : ℕ → List HostStep) (e : HostStep) (es : List
             by (remains same stands none) =
                 subst (λ (q : TcPart). ClosesBy A D W q.takeover x.body) (sym same)
                 (subst (λ (s : TakeoverState). ClosesBy A D W s x.body)
-                (takeover_is start member h log refl p step.runs) (goes.closes (stands_still stands) (taken block.Takeover to)))
+                (takeover_is start member h log refl p step.runs)
+                (goes.closes (stands_still stands) (taken block.Takeover to)))
             by (installs above same stands is) =
                 λ n ends gathers last.
                 absurd (idle n (sym (ap (λ (q : TcPart). q.takeover.stage) same) ∙ gathers))
 
         module _ (forth : ForthIsKnown start (logs_of start (e ∷ es)))
             (own_is : step.does.own ≡ (tc_row between x.to.block x).state)
-            (sent : (q : Body → Bool) → is_sent q (tc_row between x.to.block x).effects.sends ≡ true → is_sent q sends ≡ true) where
+            (sent : (q : Body → Bool) → is_sent q (tc_row between x.to.block x).effects.sends ≡ true
+            → is_sent q sends ≡ true) where
           full : IsIn member (current start new).full
           full =
               subst (λ (v : View). IsIn member v.full) view_is
@@ -233,7 +237,8 @@ module _ (start : Start) (all : ℕ → List HostStep) (e : HostStep) (es : List
               shown_back start all e es moment member there at full forth tx shown.own between.coordinator now own_sends
               (between_same tx) behind own_sent shown.shows)
               (λ tx shown.
-              shown_forth start all e es moment member there at full forth tx shown.own between.coordinator now own_sends
+              shown_forth start all e es moment member there at full forth tx shown.own between.coordinator now
+              own_sends
               (between_same tx) behind own_sent shown.shows)
             where
               now : CoordinatorState
@@ -259,7 +264,8 @@ module _ (start : Start) (all : ℕ → List HostStep) (e : HostStep) (es : List
               by : (b : BlockId) → x.to.block ≡ b → AreSpoken A C (tc_row between b x).effects.sends
               by block.Tc to = coordinator_true to
               by block.Takeover to =
-                  each_map (IsSpoken A D) (IsSpoken A C) _ (λ o says. speaks_so A D A C (λ tx is. is) (λ tx is. is.0) o.body says)
+                  each_map (IsSpoken A D) (IsSpoken A C) _
+                  (λ o says. speaks_so A D A C (λ tx is. is) (λ tx is. is.0) o.body says)
                   (takeover_speaks A D W goes.rules between.takeover between_is x (between_closes to))
               by block.Dih to = epochs_speak A C between.dih x
               by _ to = tt

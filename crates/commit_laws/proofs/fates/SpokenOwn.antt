@@ -1,4 +1,5 @@
--- At an event of the host of a coordinator it speaks truly of its own transactions: who has gone forth there commits, and
+-- At an event of the host of a coordinator it speaks truly of its own transactions: who has gone forth there commits,
+-- and
 -- who is given up aborts.
 use Rattle.std.proofs.Common.{◌≡◌, ◌||◌, ◌&&◌, ◌∙◌, not, ℕ, Bool, true, false, List, ◌∷◌, refl, sym, ap, subst}
 use Rattle.std.proofs.lemmas.Bool.{true≢false}
@@ -73,7 +74,8 @@ module _ (start : Start) (all : ℕ → List HostStep) (e : HostStep) (es : List
           lost_aborts (is_known start new tx) (is_led_by_full start new tx) (is_forth start new tx)
           (is_lost start new tx) (has_trace start new tx)
           (not_true (is_known start new tx) (λ known. true≢false (sym (forth.known tx known) ∙ unmoved))) led unmoved
-          (lost (is_forth start new tx) (is_back start new tx || is_among (own_coordinator start new tx).doomed tx) unmoved
+          (lost (is_forth start new tx) (is_back start new tx || is_among (own_coordinator start new tx).doomed tx)
+          unmoved
           (or_left (is_back start new tx) (is_among (own_coordinator start new tx).doomed tx) back))
         where
           back : is_back start new tx ≡ true

@@ -1,4 +1,5 @@
--- What the client's side does where it is told of a commit: it drops that, if the sender isn't in the view that it sees,
+-- What the client's side does where it is told of a commit: it drops that, if the sender isn't in the view that it
+-- sees,
 -- and else acknowledges it, and reports it if the transaction is open.
 use Rattle.std.proofs.Common.{◌≡◌, ◌≤◌, ◌⊎◌, ◌∙◌, ◌||◌, ◌++◌, ◌-◌, ℕ, Bool, true, false, length, List, [], ◌∷◌, inl, inr, take, refl, ap, arith}
 use Rattle.std.specs.List.{count_by}
@@ -41,7 +42,8 @@ pub data TakesWord (tx : TxId) (s : ClientState) (x : Signal) (step : Step Clien
 module _ (tx : TxId) (s : ClientState) (x : Signal) where
   -- a word whose row is this, once it is vouched for or not
   vouched_word : (epoch : ℕ) (body : Body) → x.body ≡ body
-      → vouched_table s x body true ≡ within s (commit_report_row s.api tx epoch) → vouched_table s x body false ≡ stay s
+      → vouched_table s x body true ≡ within s (commit_report_row s.api tx epoch)
+      → vouched_table s x body false ≡ stay s
       → client_table s x body ≡ vouched_table s x x.body (is_vouched s x) → TakesWord tx s x (client_table s x x.body)
   vouched_word epoch body is heard off table = by (is_vouched s x) refl
     where

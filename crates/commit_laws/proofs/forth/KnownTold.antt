@@ -82,7 +82,8 @@ module _ (x : Signal) (Well : Type 0) where
   untold_owed : (sends : List Outgoing) → AreUntold sends → Each Owe sends
   untold_owed sends none = each_map IsUntold Owe sends (λ sent is. untold sent.body is) none
 
-  row_owed : Well → (parts : Parts) → IsShell parts → IsShell (parts_row parts x).state × AreOwed (parts_row parts x).effects
+  row_owed : Well → (parts : Parts) → IsShell parts
+      → IsShell (parts_row parts x).state × AreOwed (parts_row parts x).effects
   unfolding shell_row
   row_owed well (Shell p) shell = (tt, by x.to.block)
     where
@@ -131,7 +132,8 @@ module _ (start : Start) where
       → AreOwed e.step.taken (is_well_formed start.shape e.step.taken ≡ true) (step_after start 0 log e).effects
   owed log e =
       (shell_steps e.step.taken (is_well_formed start.shape e.step.taken ≡ true) (after start 0 log)
-      (λ sound. ap (λ shape. is_well_formed shape e.step.taken) (sym (shape_stays start 0 log)) ∙ sound) (runs_shell log)).1
+      (λ sound. ap (λ shape. is_well_formed shape e.step.taken) (sym (shape_stays start 0 log)) ∙ sound)
+      (runs_shell log)).1
 
 -- a signal was sent that tells the client's side of the commit
 pub record WasTold (start : Start) (logs : ℕ → List HostStep) (tx : TxId) : Type 0 where
@@ -202,7 +204,8 @@ module _ (start : Start) (all : ℕ → List HostStep) (e : HostStep) (es : List
     sent_told : (tx : TxId) → e.host ≡ 0
         → is_sent (is_acknowledgement tx) (step_after start 0 (old 0) e).effects.sends ≡ true → WasTold start old tx
     sent_told tx at is =
-        let one = passing (λ (o : Outgoing). is_acknowledgement tx o.body) (step_after start 0 (old 0) e).effects.sends is in
+        let one =
+        passing (λ (o : Outgoing). is_acknowledgement tx o.body) (step_after start 0 (old 0) e).effects.sends is in
         by one.item.body one.is
         (each_in (λ (o : Outgoing). Owes x (is_well_formed start.shape x ≡ true) o.body) one.item
         (step_after start 0 (old 0) e).effects.sends (owed start (old 0) e) one.there)
@@ -217,7 +220,8 @@ module _ (start : Start) (all : ℕ → List HostStep) (e : HostStep) (es : List
         → WasTold start new tx
     told_next tx before is = told_still tx (by (cases_eq e.host 0))
       where
-        either : e.host ≡ 0 → (b : Bool) → is_sent (is_acknowledgement tx) (step_after start 0 (old 0) e).effects.sends ≡ b
+        either : e.host ≡ 0 → (b : Bool)
+            → is_sent (is_acknowledgement tx) (step_after start 0 (old 0) e).effects.sends ≡ b
             → (b || is_known start old tx) ≡ true → WasTold start old tx
         either at true here known = sent_told tx at here
         either at false none known = before known
@@ -225,7 +229,8 @@ module _ (start : Start) (all : ℕ → List HostStep) (e : HostStep) (es : List
         by : (e.host ≡ 0) ⊎ (e.host ≢ 0) → WasTold start old tx
         by (inl at) =
             either at (is_sent (is_acknowledgement tx) (step_after start 0 (old 0) e).effects.sends) refl
-            (subst (λ log. has_sent start (is_acknowledgement tx) 0 log ≡ true) (log_of-own (machine start) e es 0 at) is)
+            (subst (λ log. has_sent start (is_acknowledgement tx) 0 log ≡ true) (log_of-own (machine start) e es 0 at)
+            is)
         by (inr other) =
             before
             (subst (λ log. has_sent start (is_acknowledgement tx) 0 log ≡ true)

@@ -286,12 +286,15 @@ module _ (orders : OrdersAreOnce) (start : Start) (all : ℕ → List HostStep) 
                   → IsTakenNow start all e es moment b
               taken_by b to passed =
                   handled_now start all e es moment tc_kind tc_is own.own
-                  (subst (λ k. (after start k (old k)).parts ≡ part.Tc own.own) (sym at) own.runs) between own.does.front
+                  (subst (λ k. (after start k (old k)).parts ≡ part.Tc own.own) (sym at) own.runs) between
+                  own.does.front
                   (subst
-                  (λ k. PartEnters tc_kind own.own (view_after start k (old k)) x between (view_after start k (e ∷ old k))
+                  (λ k. PartEnters tc_kind own.own (view_after start k (old k)) x between
+                  (view_after start k (e ∷ old k))
                   own.does.front)
                   (sym at) own.does.enters)
-                  (subst (λ k. IsPassed start.shape (part.Tc between) (view_after start k (e ∷ old k)) x) (sym at) passed)
+                  (subst (λ k. IsPassed start.shape (part.Tc between) (view_after start k (e ∷ old k)) x) (sym at)
+                  passed)
                   b to
 
               between_was : view.number ≡ number → PartEnters tc_kind own.own stood x between view own.does.front
@@ -299,7 +302,8 @@ module _ (orders : OrdersAreOnce) (start : Start) (all : ℕ → List HostStep) 
               between_was stood_now (remains same stays none) is =
                   let same_number : view.number ≡ stood.number = ap (λ (v : View). v.number) stays in (
                     sym same_number ∙ stood_now,
-                    ap (λ (s : TakeoverState). is_gathering s.stage) (takeover_is start member h log refl own.own own.runs)
+                    ap (λ (s : TakeoverState). is_gathering s.stage)
+                        (takeover_is start member h log refl own.own own.runs)
                         ∙ (sym (ap (λ (q : TcPart). is_gathering q.takeover.stage) same) ∙ is),
                   )
               between_was stood_now (installs above same stays sent) is =

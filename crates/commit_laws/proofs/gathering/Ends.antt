@@ -81,7 +81,8 @@ module _ (start : Start) (all : ℕ → List HostStep) (member : Member) (there 
     waits_in view n = if view.number == number then n else 0
 
     abbrev waits_of : List HostStep → ℕ
-    waits_of es = waits_in (view_after start h (logs_of start es h)) (under_way (rows_at start (logs_of start es) member))
+    waits_of es =
+        waits_in (view_after start h (logs_of start es h)) (under_way (rows_at start (logs_of start es) member))
 
     abbrev asked_of : List HostStep → ℕ
     asked_of es = taken_along start (asked_in member.node number) (logs_of start es h)

@@ -93,7 +93,8 @@ module _ (start : Start) (all : ℕ → List HostStep) (es : List HostStep) (mom
         → has_marker tx key (rows_at start (logs_of start (e ∷ older)) one) ≡ true
         → has_marker tx key (rows_at start (logs_of start older) one) ≡ true
     had_marker e older at_then rests same has =
-        marker_was start all e older at_then rests one there tx (subst (λ (v : View). IsOrphan v tx) (sym same) orphan) key
+        marker_was start all e older at_then rests one there tx (subst (λ (v : View). IsOrphan v tx) (sym same) orphan)
+        key
         has
 
     module _ (j : ℕ) (y : Addressed) (newer older : List Addressed)

@@ -208,7 +208,8 @@ module _ (start : Start) (all : ℕ → List HostStep) (tx : TxId) (member : Mem
 
             number : x.view.number ≡ current_number start old
             number =
-                taken.fresh (takeover_fenced x (LqhTransConf other key told epoch) is) ∙ ap (λ (v : View). v.number) same
+                taken.fresh (takeover_fenced x (LqhTransConf other key told epoch) is)
+                ∙ ap (λ (v : View). v.number) same
 
             fated : IsPreparedIf start old tx other (told_epoch told epoch)
             fated =

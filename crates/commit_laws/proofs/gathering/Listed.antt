@@ -58,7 +58,8 @@ module _ (behind : EndsComeBehind) (ended : AllHaveEnded) (told : TellingsAreGat
         subst (λ k. IsRunning (sound_machine start) (old k)) closing.host_is happens.step.runs
 
     -- whoever has a marker at a full member is listed
-    marked : (one : Member) → IsIn one (current start old).full → (key : List ℕ) → has_marker_at start old one key tx ≡ true
+    marked : (one : Member) → IsIn one (current start old).full → (key : List ℕ)
+        → has_marker_at start old one key tx ≡ true
         → IsListed tx gathered
     marked one full key is =
         let front = fronted behind ended told start all e es moment member closing one full in

@@ -217,7 +217,8 @@ pub telling_noted : (s : TakeoverState) (x : Signal) (tx : TxId) (key : List ℕ
     → NotedAt tx key (told_epoch state epoch ≡ None → ⊥) (takeover_row s x).state
 unfolding tell_row
 telling_noted s x tx key state epoch told =
-    subst (λ (body : Body). NotedAt tx key (told_epoch state epoch ≡ None → ⊥) (takeover_table s body).state) (sym told) own
+    subst (λ (body : Body). NotedAt tx key (told_epoch state epoch ≡ None → ⊥) (takeover_table s body).state) (sym told)
+    own
   where
     own : NotedAt tx key (told_epoch state epoch ≡ None → ⊥) (tell_row s tx key state epoch).state
     own = by s.stage refl

@@ -1,4 +1,5 @@
--- Until a takeover is at work in a view, records of whoever has no coordinator in it stay as they are, and no marker of it
+-- Until a takeover is at work in a view, records of whoever has no coordinator in it stay as they are, and no marker of
+-- it
 -- comes.
 use Rattle.std.proofs.Common.{◌≡◌, ◌⊎◌, ◌∙◌, ◌<◌, ℕ, true, List, ◌∷◌, inl, inr, ap, subst, arith}
 use Rattle.run_theory.specs.Lists.{IsIn}
@@ -69,7 +70,8 @@ module _ (start : Start) (all : ℕ → List HostStep) (e : HostStep) (es : List
         subst (λ (v : View). IsOrphan v tx)
         (fenced_keeps start all e es moment b taken (ap is_of_rows is) (chain_fenced x signal is)) orphan
 
-    pub record_same : record_at start (logs_of start (e ∷ es)) member key tx ≡ record_at start (logs_of start es) member key tx
+    pub record_same : record_at start (logs_of start (e ∷ es)) member key tx
+        ≡ record_at start (logs_of start es) member key tx
     record_same = by (orphan_goes start all e es moment member there tx orphan key).record_goes
       where
         by : RecordGoes start all e es moment member there key tx
@@ -82,7 +84,8 @@ module _ (start : Start) (all : ℕ → List HostStep) (e : HostStep) (es : List
             absurd (unended block.Lqh takes.now (Complete tx key chain at) about
             (orphan_before block.Lqh takes.now (Complete tx key chain at) about))
         by (is_aborted takes about is) =
-            absurd (unended block.Lqh takes.now (Abort tx key) about (orphan_before block.Lqh takes.now (Abort tx key) about))
+            absurd (unended block.Lqh takes.now (Abort tx key) about
+            (orphan_before block.Lqh takes.now (Abort tx key) about))
 
     pub marker_was : has_marker_at start (logs_of start (e ∷ es)) member key tx ≡ true
         → has_marker_at start (logs_of start es) member key tx ≡ true

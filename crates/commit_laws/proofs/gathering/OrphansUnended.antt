@@ -1,4 +1,5 @@
--- Coordinators end their own transactions alone, and rows only whom they are told to: so nobody ends an orphan of the current
+-- Coordinators end their own transactions alone, and rows only whom they are told to: so nobody ends an orphan of the
+-- current
 -- view until a takeover is at work.
 use Rattle.std.proofs.Common.{◌≡◌, ◌⊎◌, ◌++◌, ◌∙◌, ◌<◌, ℕ, false, List, [], ◌∷◌, inl, inr, refl, sym, ap, subst, arith}
 use Rattle.std.proofs.lemmas.Bool.{true≢false}
@@ -133,7 +134,8 @@ module _ (start : Start) where
       unfolding ldm_row
       ldm_speaks step = by step.does.sent
         where
-          front : PartEnters ldm_kind step.own (view_after start e.host (old e.host)) x step.does.between view step.does.front
+          front : PartEnters ldm_kind step.own (view_after start e.host (old e.host)) x step.does.between view
+              step.does.front
               → AreSpoken N N step.does.front
           front (remains same stands none) = subst (AreSpoken N N) (sym none) tt
           front (installs above same stands is) = subst (AreSpoken N N) (sym is) tt
@@ -155,7 +157,8 @@ module _ (start : Start) where
           by : (sends ≡ step.does.front ++ step.does.rest) ⊎ (sends ≡ []) → AreSpoken N N sends
           by (inl is) =
               subst (AreSpoken N N) (sym is)
-              (each_append (IsSpoken N N) step.does.front step.does.rest (front step.does.enters) (rest step.does.takes))
+              (each_append (IsSpoken N N) step.does.front step.does.rest (front step.does.enters)
+              (rest step.does.takes))
           by (inr is) = subst (AreSpoken N N) (sym is) tt
 
       -- a coordinator's host that stands in the current view
@@ -192,7 +195,8 @@ module _ (start : Start) where
         between_fits : PartEnters tc_kind p own_stood x between own_view step.does.front
             → IsCoordinatorOf member between.coordinator
         unfolding install_row
-        between_fits (remains same stands none) = subst (λ (q : TcPart). IsCoordinatorOf member q.coordinator) (sym same) fits
+        between_fits (remains same stands none) =
+            subst (λ (q : TcPart). IsCoordinatorOf member q.coordinator) (sym same) fits
         between_fits (installs above same stands is) =
             subst (λ (q : TcPart). IsCoordinatorOf member q.coordinator) (sym same)
             (record {

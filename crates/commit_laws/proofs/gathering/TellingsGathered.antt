@@ -48,7 +48,8 @@ module _ (start : Start) (member : Member) (there : IsIn member (made start)) wh
   unfolding tc_row
   gathered_step log e fit =
       subst (λ s. AreFit s.gathered)
-      (sym (takeover_is start member (tc_of start member) (e ∷ log) refl own.does.own own.does.is)) (taken_fit own.does.takes)
+      (sym (takeover_is start member (tc_of start member) (e ∷ log) refl own.does.own own.does.is))
+      (taken_fit own.does.takes)
     where
       own : TcStep start (tc_of start member) log e
       own = own_tc start member there log e
@@ -59,7 +60,8 @@ module _ (start : Start) (member : Member) (there : IsIn member (made start)) wh
       view : View
       view = view_after start (tc_of start member) (e ∷ log)
 
-      between_fit : PartEnters tc_kind own.own (view_after start (tc_of start member) log) x own.does.between view own.does.front
+      between_fit : PartEnters tc_kind own.own (view_after start (tc_of start member) log) x own.does.between view
+          own.does.front
           → AreFit own.does.between.takeover.gathered
       between_fit (remains same stays none) =
           subst (λ (q : TcPart). AreFit q.takeover.gathered) (sym same)
@@ -135,5 +137,6 @@ module _ (first : OrdersComeFirst) (start : Start) (all : ℕ → List HostStep)
     gathered_noted i y there tx key tells =
         noted_each tx key (told_epoch tells.told tells.epoch ≡ None → ⊥) (takeover_at start old member).gathered
         (gathered_fit start member closing.made_is (old (tc_of start member))).order
-        (tellings_noted first tellings_are_for_takeovers start all es (moment_less start all e es moment) member closing.made_is
+        (tellings_noted first tellings_are_for_takeovers start all es (moment_less start all e es moment) member
+        closing.made_is
         (ap (λ (v : View). v.number) closing.stands) running i y there tx key tells (ap is_gathering closing.gathers))

@@ -131,62 +131,69 @@ module _ (first : OrdersComeFirst) (placed : TellingsAreForTakeovers) (start : S
           Noted s = NotedAt tx key (told_epoch tells.told tells.epoch ≡ None → ⊥) s
 
           -- what it was told before
-          module _ (i : ℕ) (inside : IsIn y (taken (sound_machine start) i (logs_of start es (tc_of start member)))) where
-            between_noted : PartEnters tc_kind own.own stood x between view own.does.front → Noted between.takeover
-            between_noted (remains same stays none) =
-                let number : view.number ≡ stood.number = ap (λ (v : View). v.number) stays in
-                subst (λ (q : TcPart). Noted q.takeover) (sym same)
-                (subst Noted (takeover_is start member h log refl own.own own.runs)
-                (was y tx key tells (sym number ∙ stands) running i inside))
-            between_noted (installs above same stays sent) =
-                subst (λ (q : TcPart). Noted q.takeover) (sym same) (λ gathers. absurd (true≢false (sym gathers)))
+          module _ (i : ℕ) (inside : IsIn y (taken (sound_machine start) i (logs_of start es (tc_of start member))))
+            where
+              between_noted : PartEnters tc_kind own.own stood x between view own.does.front → Noted between.takeover
+              between_noted (remains same stays none) =
+                  let number : view.number ≡ stood.number = ap (λ (v : View). v.number) stays in
+                  subst (λ (q : TcPart). Noted q.takeover) (sym same)
+                  (subst Noted (takeover_is start member h log refl own.own own.runs)
+                  (was y tx key tells (sym number ∙ stands) running i inside))
+              between_noted (installs above same stays sent) =
+                  subst (λ (q : TcPart). Noted q.takeover) (sym same) (λ gathers. absurd (true≢false (sym gathers)))
 
-            taken_by : (b : BlockId) → x.to.block ≡ b → IsPassed start.shape (part.Tc between) view x
-                → IsTakenNow start all e es moment b
-            taken_by b to passed =
-                handled_now start all e es moment tc_kind tc_is own.own
-                (subst (λ k. (after start k (old k)).parts ≡ part.Tc own.own) (sym at) own.runs) between own.does.front
-                (subst
-                (λ k. PartEnters tc_kind own.own (view_after start k (old k)) x between (view_after start k (e ∷ old k))
-                own.does.front)
-                (sym at) own.does.enters)
-                (subst (λ k. IsPassed start.shape (part.Tc between) (view_after start k (e ∷ old k)) x) (sym at) passed)
-                b to
+              taken_by : (b : BlockId) → x.to.block ≡ b → IsPassed start.shape (part.Tc between) view x
+                  → IsTakenNow start all e es moment b
+              taken_by b to passed =
+                  handled_now start all e es moment tc_kind tc_is own.own
+                  (subst (λ k. (after start k (old k)).parts ≡ part.Tc own.own) (sym at) own.runs) between
+                  own.does.front
+                  (subst
+                  (λ k. PartEnters tc_kind own.own (view_after start k (old k)) x between
+                  (view_after start k (e ∷ old k))
+                  own.does.front)
+                  (sym at) own.does.enters)
+                  (subst (λ k. IsPassed start.shape (part.Tc between) (view_after start k (e ∷ old k)) x) (sym at)
+                  passed)
+                  b to
 
-            unordered : x.to.block ≡ block.Takeover → IsPassed start.shape (part.Tc between) view x
-                → x.body ≡ Takeover TakeoverOrd → ⊥
-            unordered to passed orders =
-                first start all e es moment member there at to orders
-                ((taken_by block.Takeover to passed).fresh (takeover_fenced x TakeoverOrd orders)) i y inside tx key tells
+              unordered : x.to.block ≡ block.Takeover → IsPassed start.shape (part.Tc between) view x
+                  → x.body ≡ Takeover TakeoverOrd → ⊥
+              unordered to passed orders =
+                  first start all e es moment member there at to orders
+                  ((taken_by block.Takeover to passed).fresh (takeover_fenced x TakeoverOrd orders)) i y inside tx key
+                  tells
 
-            row_noted : IsPassed start.shape (part.Tc between) view x → (b : BlockId) → x.to.block ≡ b
-                → Noted (tc_row between b x).state.takeover
-            unfolding tc_row
-            row_noted passed block.Takeover to =
-                notes_stay tx key (told_epoch tells.told tells.epoch ≡ None → ⊥) between.takeover x (unordered to passed)
-                (between_noted own.does.enters)
-            row_noted passed block.Tc to = between_noted own.does.enters
-            row_noted passed block.Dih to = between_noted own.does.enters
-            row_noted passed _ to = between_noted own.does.enters
+              row_noted : IsPassed start.shape (part.Tc between) view x → (b : BlockId) → x.to.block ≡ b
+                  → Noted (tc_row between b x).state.takeover
+              unfolding tc_row
+              row_noted passed block.Takeover to =
+                  notes_stay tx key (told_epoch tells.told tells.epoch ≡ None → ⊥) between.takeover x
+                  (unordered to passed)
+                  (between_noted own.does.enters)
+              row_noted passed block.Tc to = between_noted own.does.enters
+              row_noted passed block.Dih to = between_noted own.does.enters
+              row_noted passed _ to = between_noted own.does.enters
 
-            takes_noted : PartTakes tc_kind start.shape between view x own.does.own own.does.rest
-                → Noted own.does.own.takeover
-            takes_noted (ignores same none) =
-                subst (λ (q : TcPart). Noted q.takeover) (sym same) (between_noted own.does.enters)
-            takes_noted (handles passed same sent) =
-                subst (λ (q : TcPart). Noted q.takeover) (sym same) (row_noted passed x.to.block refl)
+              takes_noted : PartTakes tc_kind start.shape between view x own.does.own own.does.rest
+                  → Noted own.does.own.takeover
+              takes_noted (ignores same none) =
+                  subst (λ (q : TcPart). Noted q.takeover) (sym same) (between_noted own.does.enters)
+              takes_noted (handles passed same sent) =
+                  subst (λ (q : TcPart). Noted q.takeover) (sym same) (row_noted passed x.to.block refl)
 
-            older_noted : Noted (takeover_after start member (e ∷ log))
-            older_noted =
-                subst Noted (sym (takeover_is start member h (e ∷ log) refl own.does.own own.does.is))
-                (takes_noted own.does.takes)
+              older_noted : Noted (takeover_after start member (e ∷ log))
+              older_noted =
+                  subst Noted (sym (takeover_is start member h (e ∷ log) refl own.does.own own.does.is))
+                  (takes_noted own.does.takes)
 
           -- and what it is told by the event
           newest_noted : stops_by e.step.marks ≡ false → is_well_formed start.shape x ≡ true → y.signal ≡ x
               → Noted (takeover_after start member (e ∷ log))
           unfolding tc_row
           newest_noted runs sound is =
-              by (tc_hears start h log e own.own own.runs (LqhTransConf tx key tells.told tells.epoch) body_is to high sound)
+              by (tc_hears start h log e own.own own.runs (LqhTransConf tx key tells.told tells.epoch) body_is to high
+              sound)
             where
               body_is : x.body ≡ Takeover (LqhTransConf tx key tells.told tells.epoch)
               body_is = ap (λ (s : Signal). s.body) (sym is) ∙ tells.body

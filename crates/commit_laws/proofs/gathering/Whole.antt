@@ -51,7 +51,8 @@ in_rest y z x ys (n ∷ newer) older is there =
     let rest : ys ≡ newer ++ y ∷ older = cc is in subst (IsIn z) (sym rest) (in_behind y z newer older there)
 
 module _ (behind : EndsComeBehind) (ended : AllHaveEnded) (gathered_all : TellingsAreGathered) (start : Start)
-    (all : ℕ → List HostStep) (e : HostStep) (es : List HostStep) (moment : IsMoment start all (e ∷ es)) (member : Member)
+    (all : ℕ → List HostStep) (e : HostStep) (es : List HostStep) (moment : IsMoment start all (e ∷ es))
+    (member : Member)
     (closing : EndsGathering start e es member)
   where
     abbrev pub old : ℕ → List HostStep
@@ -110,7 +111,8 @@ module _ (behind : EndsComeBehind) (ended : AllHaveEnded) (gathered_all : Tellin
               (sym is ∙ (own ∙ ap (λ b. if b then n.signal e ∷ taken n l (old t) else taken n l (old t)) from))
               (in_behind y z newer older there)
 
-      of_past : (ys front : List Addressed) → taken n l (new t) ≡ front ++ ys → IsPast ys (sent n l t (old l)) → IsIn y ys
+      of_past : (ys front : List Addressed) → taken n l (new t) ≡ front ++ ys → IsPast ys (sent n l t (old l))
+          → IsIn y ys
           → Fronted
       of_past ys front is past there =
           let stands = stands_in y ys there in
@@ -160,7 +162,8 @@ module _ (behind : EndsComeBehind) (ended : AllHaveEnded) (gathered_all : Tellin
         pub tells : (is_some (record_at start old one key tx) ≡ true → IsAmong start old tx key ⊥ fronted.older)
             × (has_marker_at start old one key tx ≡ true → IsAmong start old tx key Unit fronted.older)
         tells =
-            behind start all e es moment member closing one full y fronted.newer fronted.older fronted.is has_ended.ends tx
+            behind start all e es moment member closing one full y fronted.newer fronted.older fronted.is has_ended.ends
+            tx
             orphan key
 
     -- so it was told of all

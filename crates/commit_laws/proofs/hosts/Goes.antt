@@ -1,4 +1,5 @@
--- What a step comes to of a host that settles on no view: it stops; or the view of the signal is installed, or none, and
+-- What a step comes to of a host that settles on no view: it stops; or the view of the signal is installed, or none,
+-- and
 -- behind that its blocks take the signal, or leave it alone. What is sent is told exactly.
 use Rattle.std.proofs.Common.{◌≡◌, ◌≤◌, ◌⊎◌, ◌||◌, ◌&&◌, ◌++◌, ◌∙◌, ℕ, zero, suc, Bool, true, false, nat_lt, List, [], ◌∷◌, refl, sym, ap, subst, inl, inr, arith}
 use Rattle.std.proofs.lemmas.Bool.{and_parts, ltb-true, true≢false}
@@ -122,7 +123,8 @@ module _ (x : Signal) where
 
         fresh : is_fenced x ≡ true → fence_at s.parts x.to.block s.standing.view.number ≤ x.view.number
         fresh on =
-            let off = by (is_fenced x) (nat_lt x.view.number (fence_at s.parts x.to.block s.standing.view.number)) unbarred on in
+            let off = by (is_fenced x) (nat_lt x.view.number (fence_at s.parts x.to.block s.standing.view.number))
+            unbarred on in
             grind (arith, nat_tests, off)
 
     -- with what is sent and marked in front
@@ -179,7 +181,8 @@ module _ (x : Signal) where
             by false older =
                 plain_goes s (grind (arith, nat_tests, older)) (passed_row s x) (row_passes s unsettled)
 
-    counted_goes : (s : hosts.Host) → settled_at s.parts x ≡ None → settled_at (parts_entered s.parts x.view).state x ≡ None
+    counted_goes : (s : hosts.Host) → settled_at s.parts x ≡ None
+        → settled_at (parts_entered s.parts x.view).state x ≡ None
         → (left : Option ℕ) → HostGoes shape s.parts s.standing.view x (counted_row s x left)
     counted_goes s unsettled then_unsettled None = headed_goes s unsettled then_unsettled
     counted_goes s unsettled then_unsettled (Some zero) = halts refl

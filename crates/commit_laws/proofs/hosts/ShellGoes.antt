@@ -137,7 +137,8 @@ module _ (start : Start) (log : List HostStep) (e : HostStep) where
       → q.client.api.view ≡ view_after start 0 (e ∷ log)
   shell_view q is =
       let next = seeing start (e ∷ log) in
-      sym (ap (view_of stood) is) ∙ (sym (view_given stood step.state.parts) ∙ (ap (view_of stood) next.runs ∙ next.sees))
+      sym (ap (view_of stood) is) ∙ (sym (view_given stood step.state.parts) ∙
+      (ap (view_of stood) next.runs ∙ next.sees))
 
   -- what it has open, and which takeover is complete, is so behind the step
   abbrev opened_of : List OpenTransaction → Parts → List OpenTransaction
@@ -148,7 +149,8 @@ module _ (start : Start) (log : List HostStep) (e : HostStep) where
   taken_of other (Shell p) = p.client.taken_over
   taken_of other parts = other
 
-  opened_given : (other : List OpenTransaction) (parts : Parts) → opened_of other (giving parts []) ≡ opened_of other parts
+  opened_given : (other : List OpenTransaction) (parts : Parts)
+      → opened_of other (giving parts []) ≡ opened_of other parts
   opened_given other (Shell p) = refl
   opened_given other _ = refl
 

@@ -91,7 +91,8 @@ module _ (shell main tc ldm : Type 0) where
   -- what is so of each word of such a host is so of all that it sends
   pub host_each : (Q : Body → Type 0)
       → ((parts : Parts) → OfKind shell main tc ldm parts → (body : Body) → parts_words parts body ≡ true → Q body)
-      → (start : Start) (h : ℕ) → OfKind shell main tc ldm (started start h).parts → (log : List HostStep) (e : HostStep)
+      → (start : Start) (h : ℕ) → OfKind shell main tc ldm (started start h).parts
+      → (log : List HostStep) (e : HostStep)
       → Each (λ (sent : Outgoing). Q sent.body) (step_after start h log e).effects.sends
   host_each Q of_words start h first log e =
       (step_words Q (λ (mark : Mark). Unit {0}) h (after start h log) e.step.taken
@@ -100,7 +101,8 @@ module _ (shell main tc ldm : Type 0) where
   -- and so it is of its marks, and those that any host makes
   pub host_marks_each : (M : Mark → Type 0) → IsOfHost M
       → ((parts : Parts) → OfKind shell main tc ldm parts → (mark : Mark) → parts_marks parts mark ≡ true → M mark)
-      → (start : Start) (h : ℕ) → OfKind shell main tc ldm (started start h).parts → (log : List HostStep) (e : HostStep)
+      → (start : Start) (h : ℕ) → OfKind shell main tc ldm (started start h).parts
+      → (log : List HostStep) (e : HostStep)
       → Each M (step_after start h log e).effects.marks
   host_marks_each M own of_marks start h first log e =
       (step_words (λ (body : Body). Unit {0}) M h (after start h log) e.step.taken (λ body word. tt)

@@ -137,7 +137,8 @@ pub record HasEntryOf (start : Start) (es : List HostStep) (v : TxId) : Type 0 w
   pub tx_is : entry.tx ≡ v
   pub ops_is : entry.ops ≡ decided_ops start (logs_of start es) v
 
-pub entry_of_decided : (start : Start) (all : ℕ → List HostStep) (es : List HostStep) → IsMoment start all es → (v : TxId)
+pub entry_of_decided : (start : Start) (all : ℕ → List HostStep) (es : List HostStep) → IsMoment start all es
+    → (v : TxId)
     → is_decided start (logs_of start es) v ≡ true → HasEntryOf start es v
 entry_of_decided start all [] moment v is = absurd (true≢false (sym is))
 entry_of_decided start all (e ∷ es) moment v is =

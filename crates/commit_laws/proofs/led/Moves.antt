@@ -93,7 +93,8 @@ edited_kept tx (r ∷ rest) x is done = by (same_tx r.tx tx) refl is (λ more. e
         ap (λ c. put_back (if c then Some r else None) rest) own
     by false e is more = ap (λ w. r ∷ w) (more is)
 
--- What isn't spoilt afterwards wasn't before: where an image is stored, or a record is committed, given up or completed.
+-- What isn't spoilt afterwards wasn't before: where an image is stored, or a record is committed, given up or
+-- completed.
 module _ (final : TxId → Bool) where
   abbrev is_clean : List PendingRecord → Type 0
   is_clean xs = list_any (is_spoilt final) xs ≡ false

@@ -125,7 +125,8 @@ never o none is = absurd (true≢false (sym is ∙ ap is_some none))
 
 -- an event leaves what is unfinished so, unless it takes the record away
 module _ (start : Start) (all : ℕ → List HostStep) (e : HostStep) (es : List HostStep)
-    (moment : IsMoment start all (e ∷ es)) (stood : AllStand start es) (member : Member) (there : IsIn member (made start))
+    (moment : IsMoment start all (e ∷ es)) (stood : AllStand start es) (member : Member)
+    (there : IsIn member (made start))
     (key : List ℕ) (replica : IsReplicaOf start (logs_of start es) key member) (v : TxId) where
   abbrev old : ℕ → List HostStep
   old = logs_of start es
@@ -205,7 +206,8 @@ module _ (start : Start) (all : ℕ → List HostStep) (e : HostStep) (es : List
     completed_gone chain at about y there_y =
         ap (λ (r : Replica). found v r.cell.pending)
         (chain_event start all e es moment member there takes (Complete v key chain at) about key
-        ∙ ap (λ event. key_after event (at_key key s.lqh)) (on_self start all e es moment member there takes key (completes v)))
+        ∙ ap (λ event. key_after event (at_key key s.lqh))
+        (on_self start all e es moment member there takes key (completes v)))
         ∙ found_own unless_committed unless_keeps v (at_key key s.lqh).cell.pending once
         ∙ ap (now_by unless_committed) (found_is ∙ there_y)
         ∙ ap (λ b. if b then None else Some y) is_committed
@@ -233,7 +235,8 @@ module _ (start : Start) (all : ℕ → List HostStep) (e : HostStep) (es : List
     aborted_gone about state y there_y =
         ap (λ (r : Replica). found v r.cell.pending)
         (chain_event start all e es moment member there takes (Abort v key) about key
-        ∙ ap (λ event. key_after event (at_key key s.lqh)) (on_self start all e es moment member there takes key (aborts v)))
+        ∙ ap (λ event. key_after event (at_key key s.lqh))
+        (on_self start all e es moment member there takes key (aborts v)))
         ∙ found_own if_committed if_keeps v (at_key key s.lqh).cell.pending once
         ∙ ap (now_by if_committed) (found_is ∙ there_y)
         ∙ ap (λ b. if b then Some y else None) uncommitted

@@ -109,7 +109,8 @@ module _ (forth : ForthIsKnownAlways) (stand : AllStandAlways) (forward : Finals
           (backup_of (key_after (event_under key s e.step.taken) (at_key key s.lqh))) first
           (fair_lead decided final (event_under key s e.step.taken) (at_key key s.lqh)
           (record { orderly = well_s.orderly.each key; attended = attended_s.attended }) first.tidy
-          (fair_now forth stand forward applied aborted start all end e es along member inside key replica s between taken))))
+          (fair_now forth stand forward applied aborted start all end e es along member inside key replica s between
+          taken))))
         where
           well_s : IsWell s.lqh
           well_s =

@@ -42,82 +42,85 @@ pub data Hears (p : TcPart) (view : View) (x : Signal) (step : Step hosts.Host) 
 abbrev host_of : Standing → TcPart → hosts.Host
 host_of standing p = record { standing = standing; parts = part.Tc p }
 
-module _ (x : Signal) (signal : TakeoverSignal) (body_is : x.body ≡ Takeover signal) (to : x.to.block ≡ block.Takeover) where
-  -- the part takes it
-  record Takes (standing : Standing) (p : TcPart) (step : Step hosts.Host) : Type 0 where
-    parts : step.state.parts ≡ part.Tc (tc_row p x.to.block x).state
-    stood : step.state.standing.view ≡ standing.view
+module _ (x : Signal) (signal : TakeoverSignal) (body_is : x.body ≡ Takeover signal) (to : x.to.block ≡ block.Takeover)
+  where
+    -- the part takes it
+    record Takes (standing : Standing) (p : TcPart) (step : Step hosts.Host) : Type 0 where
+      parts : step.state.parts ≡ part.Tc (tc_row p x.to.block x).state
+      stood : step.state.standing.view ≡ standing.view
 
-  module _ (standing : Standing) (p : TcPart) where
-    blocks_take : Takes standing p (blocks_row (host_of standing p) x)
-    unfolding blocks_row
-    blocks_take = record { parts = refl; stood = refl }
+    module _ (standing : Standing) (p : TcPart) where
+      blocks_take : Takes standing p (blocks_row (host_of standing p) x)
+      unfolding blocks_row
+      blocks_take = record { parts = refl; stood = refl }
 
-    table_takes : Takes standing p (host_table (host_of standing p) x x.body)
-    table_takes =
-        subst (λ (body : Body). Takes standing p (host_table (host_of standing p) x body)) (sym body_is) blocks_take
+      table_takes : Takes standing p (host_table (host_of standing p) x x.body)
+      table_takes =
+          subst (λ (body : Body). Takes standing p (host_table (host_of standing p) x body)) (sym body_is) blocks_take
 
-    passed_takes : standing.view.number ≤ x.view.number → Takes standing p (passed_row (host_of standing p) x)
-    unfolding passed_row
-    passed_takes high = by (is_barred (host_of standing p) x) refl
-      where
-        fence : fence_at (part.Tc p) x.to.block standing.view.number ≡ standing.view.number
-        fence = ap (λ (b : BlockId). fence_at (part.Tc p) b standing.view.number) to
+      passed_takes : standing.view.number ≤ x.view.number → Takes standing p (passed_row (host_of standing p) x)
+      unfolding passed_row
+      passed_takes high = by (is_barred (host_of standing p) x) refl
+        where
+          fence : fence_at (part.Tc p) x.to.block standing.view.number ≡ standing.view.number
+          fence = ap (λ (b : BlockId). fence_at (part.Tc p) b standing.view.number) to
 
-        by : (b : Bool) → is_barred (host_of standing p) x ≡ b → Takes standing p (passed_if (host_of standing p) x b)
-        by false is = table_takes
-        by true is =
-            let low = (and_parts (is_fenced x) (nat_lt x.view.number (fence_at (part.Tc p) x.to.block standing.view.number))
-            is).1 in
-            let less = ltb-true x.view.number (fence_at (part.Tc p) x.to.block standing.view.number) low in
-            absurd (omega (arith, less, fence, high))
+          by : (b : Bool) → is_barred (host_of standing p) x ≡ b → Takes standing p (passed_if (host_of standing p) x b)
+          by false is = table_takes
+          by true is =
+              let low =
+              (and_parts (is_fenced x) (nat_lt x.view.number (fence_at (part.Tc p) x.to.block standing.view.number))
+              is).1 in
+              let less = ltb-true x.view.number (fence_at (part.Tc p) x.to.block standing.view.number) low in
+              absurd (omega (arith, less, fence, high))
 
-  module _ (p : TcPart) where
-    headed_hears : (standing : Standing) → standing.view.number ≤ x.view.number
-        → Hears p standing.view x (headed_row (host_of standing p) x)
-    unfolding headed_row entered
-    headed_hears standing high = by (nat_lt standing.view.number x.view.number) refl
-      where
-        unless_excluded : nat_lt standing.view.number x.view.number ≡ true → (b : Bool)
-            → Hears p standing.view x (entering_if (host_of standing p) x b)
-        unless_excluded newer true = stops refl
-        unless_excluded newer false =
-            let between = (tc_entered p x.view).state in
-            let took = passed_takes (in_view standing x.view) between (omega arith) in
-            heard between x.view (tc_entered p x.view).effects.sends
-            (installs (ltb-true standing.view.number x.view.number newer) refl refl refl) took.parts took.stood
+    module _ (p : TcPart) where
+      headed_hears : (standing : Standing) → standing.view.number ≤ x.view.number
+          → Hears p standing.view x (headed_row (host_of standing p) x)
+      unfolding headed_row entered
+      headed_hears standing high = by (nat_lt standing.view.number x.view.number) refl
+        where
+          unless_excluded : nat_lt standing.view.number x.view.number ≡ true → (b : Bool)
+              → Hears p standing.view x (entering_if (host_of standing p) x b)
+          unless_excluded newer true = stops refl
+          unless_excluded newer false =
+              let between = (tc_entered p x.view).state in
+              let took = passed_takes (in_view standing x.view) between (omega arith) in
+              heard between x.view (tc_entered p x.view).effects.sends
+              (installs (ltb-true standing.view.number x.view.number newer) refl refl refl) took.parts took.stood
 
-        by : (b : Bool) → nat_lt standing.view.number x.view.number ≡ b
-            → Hears p standing.view x (headed_if (host_of standing p) x b)
-        by true newer = unless_excluded newer (is_excluded standing x.view)
-        by false older =
-            let took = passed_takes standing p high in
-            heard p standing.view [] (remains refl refl refl) took.parts took.stood
+          by : (b : Bool) → nat_lt standing.view.number x.view.number ≡ b
+              → Hears p standing.view x (headed_if (host_of standing p) x b)
+          by true newer = unless_excluded newer (is_excluded standing x.view)
+          by false older =
+              let took = passed_takes standing p high in
+              heard p standing.view [] (remains refl refl refl) took.parts took.stood
 
-    counted_hears : (standing : Standing) → standing.view.number ≤ x.view.number → (left : Option ℕ)
-        → Hears p standing.view x (counted_row (host_of standing p) x left)
-    counted_hears standing high None = headed_hears standing high
-    counted_hears standing high (Some zero) = stops refl
-    counted_hears standing high (Some (suc zero)) = stops refl
-    counted_hears standing high (Some (suc (suc left))) = headed_hears (killed_after standing (Some (suc left))) high
+      counted_hears : (standing : Standing) → standing.view.number ≤ x.view.number → (left : Option ℕ)
+          → Hears p standing.view x (counted_row (host_of standing p) x left)
+      counted_hears standing high None = headed_hears standing high
+      counted_hears standing high (Some zero) = stops refl
+      counted_hears standing high (Some (suc zero)) = stops refl
+      counted_hears standing high (Some (suc (suc left))) = headed_hears (killed_after standing (Some (suc left))) high
 
-    step_hears : (h : ℕ) (standing : Standing) → standing.view.number ≤ x.view.number
-        → is_well_formed standing.shape x ≡ true → Hears p standing.view x (step_by h (host_of standing p) x)
-    unfolding host_row
-    step_hears h standing high sound = stopped (own_stop h x)
-      where
-        hushed_hears : (step : Step hosts.Host) → Hears p standing.view x step → Hears p standing.view x (hushed step)
-        hushed_hears step (stops is) = stops is
-        hushed_hears step (heard between seen front entering parts stood) =
-            heard between seen front entering parts stood
+      step_hears : (h : ℕ) (standing : Standing) → standing.view.number ≤ x.view.number
+          → is_well_formed standing.shape x ≡ true → Hears p standing.view x (step_by h (host_of standing p) x)
+      unfolding host_row
+      step_hears h standing high sound = stopped (own_stop h x)
+        where
+          hushed_hears : (step : Step hosts.Host) → Hears p standing.view x step → Hears p standing.view x (hushed step)
+          hushed_hears step (stops is) = stops is
+          hushed_hears step (heard between seen front entering parts stood) =
+              heard between seen front entering parts stood
 
-        well : Hears p standing.view x (taken_if (host_of standing p) x true)
-        well =
-            hushed_hears (counted_row (host_of standing p) x standing.left) (counted_hears standing high standing.left)
+          well : Hears p standing.view x (taken_if (host_of standing p) x true)
+          well =
+              hushed_hears (counted_row (host_of standing p) x standing.left)
+              (counted_hears standing high standing.left)
 
-        stopped : (o : Option StopCause) → Hears p standing.view x (step_if (host_of standing p) x o)
-        stopped (Some cause) = stops refl
-        stopped None = subst (λ b. Hears p standing.view x (taken_if (host_of standing p) x b)) (sym sound) well
+          stopped : (o : Option StopCause) → Hears p standing.view x (step_if (host_of standing p) x o)
+          stopped (Some cause) = stops refl
+          stopped None = subst (λ b. Hears p standing.view x (taken_if (host_of standing p) x b)) (sym sound) well
 
 -- so it is along a log
 module _ (start : Start) (h : ℕ) (log : List HostStep) (e : HostStep) (p : TcPart)

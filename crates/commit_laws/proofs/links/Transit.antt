@@ -74,7 +74,8 @@ module _ (start : Start) where
   joined_own h j [] xs ys zs own is = is
   joined_own h j (x ∷ sends) xs ys zs own is =
       joined_own h j sends (x ∷ xs) (if x.to == j then x ∷ ys else ys) zs own.1
-      (by (x.to == j) ∙ ap (λ b. (if (b && (x.to == j)) && counts x then x ∷ chosen (counts_on h j) xs else chosen (counts_on h j) xs) ++ zs)
+      (by (x.to == j) ∙ ap (λ b. (if (b && (x.to == j)) && counts x then x ∷ chosen (counts_on h j) xs else chosen
+      (counts_on h j) xs) ++ zs)
       (sym (eq-eqb x.signal.from.0 h own.0)))
     where
       one : (b : Bool) → (if b then x ∷ chosen counts ys else chosen counts ys)
@@ -141,7 +142,8 @@ module _ (start : Start) where
           → IsBetween es e before before
       nothing alone none = record {
         takes = record { alone = λ is. refl; signal = λ off. absurd (let both : true ≡ false = sym alone ∙ off in cc) };
-        links = λ i j. held.links i j ∙ ap (λ w. chosen (counts_on i j) before ++ w) (sym (taken_same i j (λ at. none i)));
+        links =
+            λ i j. held.links i j ∙ ap (λ w. chosen (counts_on i j) before ++ w) (sym (taken_same i j (λ at. none i)));
       }
 
       abbrev from : ℕ
@@ -194,7 +196,8 @@ module _ (start : Start) where
             sent_is
             ∙ (ap (λ w. w ++ (taken_by e ∷ chosen counts rests)) (sym found.left)
             ∙ ap (λ w. chosen (counts_on from h) (found.front ++ found.back) ++ w)
-            (sym (ap (had from) own_now ∙ (ap (chosen counts) (taken-step n from e (old h) asked refl) ∙ taken_counts))))
+            (sym (ap (had from) own_now ∙ (ap (chosen counts) (taken-step n from e (old h) asked refl) ∙
+            taken_counts))))
 
         links_between : (i j : ℕ) → Linked i j
         links_between i j = by (cases_eq from i) (cases_eq h j)

@@ -46,7 +46,8 @@ module _ (start : Start) where
   put_in x [] before there = absurd there
   put_in x (y ∷ sends) before (inl is) =
       in_past x (put_past n x.to sends (if y.to == x.to then y ∷ before else before))
-      (subst (λ b. IsIn x (if b then y ∷ before else before)) (sym (eq-eqb y.to x.to (ap (λ (z : Addressed). z.to) (sym is))))
+      (subst (λ b. IsIn x (if b then y ∷ before else before))
+      (sym (eq-eqb y.to x.to (ap (λ (z : Addressed). z.to) (sym is))))
       (inl is))
   put_in x (y ∷ sends) before (inr there) = put_in x sends (if y.to == x.to then y ∷ before else before) there
 

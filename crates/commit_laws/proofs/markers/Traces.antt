@@ -164,7 +164,8 @@ module _ (forth : ForthIsKnownAlways) where
         where
           module _ (member : Member) (there : IsIn member (made start)) (key : List ℕ) (tx : TxId) where
             -- a commit of a record is of a key that it wrote
-            pub commit_written : TakesNow start all e es moment member there → (epoch : ℕ) (chain : List Member) (at : ℕ)
+            pub commit_written : TakesNow start all e es moment member there
+                → (epoch : ℕ) (chain : List Member) (at : ℕ)
                 → e.step.taken.body ≡ Chain (Commit tx key epoch chain at) → (r : PendingRecord)
                 → record_at start (logs_of start es) member key tx ≡ Some r → HasWritten start (logs_of start es) tx key
             commit_written takes epoch chain at about r is =
@@ -297,7 +298,8 @@ module _ (forth : ForthIsKnownAlways) where
                   ≡ Chain (Commit tx key now.commits.epoch now.commits.chain now.commits.at) =
                   sym about ∙ now.commits.body_is in cc)
 
-              by : (has_marker_at start old member key tx ≡ true) ⊎ IsMarkedNow start all e es moment member there key tx
+              by : (has_marker_at start old member key tx ≡ true)
+                  ⊎ IsMarkedNow start all e es moment member there key tx
                   → IsDone start old tx
               by (inl was) =
                   old_marker was (goes member there key tx gone).record_goes (record_at start old member key tx) refl

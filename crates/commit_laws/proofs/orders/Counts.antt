@@ -1,4 +1,5 @@
--- A membership orders a takeover once along its list of orders: where it takes a signal to go on from a place in front of
+-- A membership orders a takeover once along its list of orders: where it takes a signal to go on from a place in front
+-- of
 -- that order it sends the order, or the signal to go on from another such place, and nothing of the kind behind it.
 use Rattle.std.proofs.Common.{◌≡◌, ◌≤◌, ◌<◌, ◌+◌, ◌++◌, ◌&&◌, ◌⊎◌, ℕ, zero, suc, Bool, true, false, List, [], ◌∷◌, drop, inl, inr, length, nat_le, refl, ap, take, arith}
 use Rattle.std.proofs.lemmas.Bool.{cases_lt, true≢false}
@@ -65,7 +66,8 @@ behind_quiet [] order back quiet (suc at) above = each_drop IsQuiet at back quie
 behind_quiet (x ∷ front) order back quiet (suc at) above =
     behind_quiet front order back quiet at (omega (arith, above))
 
-take_front : (front back : List Outgoing) → AreQuiet front → (n : ℕ) → n ≤ length front → AreQuiet (take n (front ++ back))
+take_front : (front back : List Outgoing) → AreQuiet front → (n : ℕ) → n ≤ length front
+    → AreQuiet (take n (front ++ back))
 take_front front back quiet zero low = tt
 take_front [] back quiet (suc n) low = absurd (omega (arith, low))
 take_front (x ∷ front) back quiet (suc n) low = (quiet.0, take_front front back quiet.1 n (omega (arith, low)))
@@ -125,12 +127,14 @@ module _ (node : ℕ) (front : List Outgoing) (order : Outgoing) (back : List Ou
 
     -- what is sent of the list from a place on
     pub portion_counts : (at : ℕ) (b : Bool)
-        → count_orders (length front) (take PORTION (drop at (front ++ order ∷ back)) ++ rest_if (membership node) Members at b)
+        → count_orders (length front) (take PORTION (drop at (front ++ order ∷ back)) ++ rest_if (membership node)
+        Members at b)
         ≤ one_if (nat_le at (length front))
     portion_counts at b = by (cases_lt last at)
       where
         both : count_orders last (take PORTION (drop at all) ++ rest_if (membership node) Members at b)
-            ≡ count_orders last (take PORTION (drop at all)) + count_orders last (rest_if (membership node) Members at b)
+            ≡ count_orders last (take PORTION (drop at all))
+            + count_orders last (rest_if (membership node) Members at b)
         both = count_both (is_counted last) (take PORTION (drop at all)) (rest_if (membership node) Members at b)
 
         goes : at ≤ last → (last < at + PORTION) ⊎ (at + PORTION ≤ last)

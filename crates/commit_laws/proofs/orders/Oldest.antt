@@ -39,7 +39,8 @@ module _ (come_rightly : ViewsComeRightly) (start : Start) (is_shape : IsShape s
 
   -- the oldest of the view has come to it
   abbrev IsAhead : (ℕ → List HostStep) → View → Type 0
-  IsAhead logs view = (me : Member) → IsIn me (made start) → is_oldest_of me view.full ≡ true → view.number ≤ reach me logs
+  IsAhead logs view =
+      (me : Member) → IsIn me (made start) → is_oldest_of me view.full ≡ true → view.number ≤ reach me logs
 
   -- and by no header, along the log of its host
   abbrev IsYoung : Member → List HostStep → HostStep → Type 0
@@ -114,14 +115,20 @@ module _ (come_rightly : ViewsComeRightly) (start : Start) (is_shape : IsShape s
             by : (asked : Bool) → is_asked e.host e.step.taken ≡ asked
                 → comes_rightly asked start e.host (old e.host) e.step.taken → IsAhead old e.step.taken.view
             by true is own =
-                subst (IsAhead old) (sym (own_view start e.host (old e.host) e.step.taken own)) (before.views e.host low)
+                subst (IsAhead old) (sym (own_view start e.host (old e.host) e.step.taken own))
+                (before.views e.host low)
             by false is uncut = come.told is (within_less start e es within)
 
         -- the view in which the host stands behind the step
         own_ahead : IsAhead new (view_after start e.host (e ∷ old e.host))
         own_ahead =
             by (come_rightly start new
-            (record { shape = is_shape; right = logs_of_run (machine start) (e ∷ es) (come.run, come.happens); within = within })
+            (record {
+              shape =
+                  is_shape;
+              right = logs_of_run (machine start) (e ∷ es) (come.run, come.happens);
+              within = within;
+            })
             e.host low (old e.host) e
             (subst (IsPast (e ∷ old e.host)) (sym (log_of-own (machine start) e es e.host refl))
             (past_self (e ∷ old e.host))))
@@ -136,7 +143,8 @@ module _ (come_rightly : ViewsComeRightly) (start : Start) (is_shape : IsShape s
             by (inr (inl same)) = subst (IsAhead new) (sym same) (more e.step.taken.view taken)
             by (inr (inr runs)) = λ me there is.
                 let same = ap (λ h. (view_after start h (new h)).number) (runs me there is) in
-                let own = ap (λ log. (view_after start e.host log).number) (log_of-own (machine start) e es e.host refl) in
+                let own =
+                ap (λ log. (view_after start e.host log).number) (log_of-own (machine start) e es e.host refl) in
                 omega (arith, same, own)
 
         views_now : (h : ℕ) → h < hosts start → IsAhead new (view_after start h (new h))
@@ -165,7 +173,8 @@ module _ (come_rightly : ViewsComeRightly) (start : Start) (is_shape : IsShape s
                 subst (AreYoung me) (sym (log_of-own (machine start) e es (main_of start me) at))
                 (unless (is_oldest_of me e.step.taken.view.full) refl, before.young me there)
             by (inr off) =
-                subst (AreYoung me) (sym (log_of-other (machine start) e es (main_of start me) off)) (before.young me there)
+                subst (AreYoung me) (sym (log_of-other (machine start) e es (main_of start me) off))
+                (before.young me there)
 
         now : AreAhead new
         now = record { views = views_now; young = young_now }

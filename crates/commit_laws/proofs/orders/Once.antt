@@ -177,7 +177,8 @@ module _ (others : OthersAreQuiet) (first : OldestGoFirst) (start : Start) (all 
         here : last ≡ length (members_of behind)
         here =
             ap (λ (v : View). length (members_of v))
-            (sym (one_view have_orderly start all moment.cluster behind view (own_installed start all e es moment) was same))
+            (sym (one_view have_orderly start all moment.cluster behind view (own_installed start all e es moment) was
+            same))
 
         few : sent_now start all e es moment counted ≤ count_orders last sends
         few = sent_few (λ (to : Place). counts last to.block) start number e.host old e
@@ -201,13 +202,15 @@ module _ (others : OthersAreQuiet) (first : OldestGoFirst) (start : Start) (all 
               (step_none start me there old e younger last here_at
               (subst (λ h. is_oldest_of me (view_after start h (e ∷ old)).full ≡ false) at
               (subst (λ (v : View). is_oldest_of me v.full ≡ false)
-              (sym (one_view have_orderly start all moment.cluster behind view (own_installed start all e es moment) was same))
+              (sym (one_view have_orderly start all moment.cluster behind view (own_installed start all e es moment) was
+              same))
               is)))
 
           own_counts : count_orders last sends
               ≤ one_if (nat_lt (view_after start e.host old).number behind.number)
               + (if (sound_machine start).asked e then 0
-              else one_if (goes_from last behind.number e.step.taken.to.block e.step.taken.view.number e.step.taken.body))
+              else one_if (goes_from last behind.number e.step.taken.to.block e.step.taken.view.number
+              e.step.taken.body))
           own_counts =
               subst (λ h. count_orders last (step_after start h old e).effects.sends
               ≤ one_if (nat_lt (view_after start h old).number (view_after start h (e ∷ old)).number)
@@ -223,7 +226,8 @@ module _ (others : OthersAreQuiet) (first : OldestGoFirst) (start : Start) (all 
                 few,
                 own_counts,
                 ap (λ n. if (sound_machine start).asked e then 0
-                    else one_if (goes_from last n e.step.taken.to.block e.step.taken.view.number e.step.taken.body)) same,
+                    else one_if (goes_from last n e.step.taken.to.block e.step.taken.view.number e.step.taken.body))
+                    same,
                 reached (oldest_host start view.full == e.host)
                     (equal_self (oldest_host start view.full) e.host (oldest_at start me view.full is ∙ sym at)) number
                     (view_after start e.host old).number behind.number same,
@@ -303,7 +307,8 @@ module _ (others : OthersAreQuiet) (first : OldestGoFirst) (start : Start) (all 
       parts_of b header body = omega arith
 
       along_parts : (log : List HostStep)
-          → taken_along start counted log ≡ taken_along start (numbered number is_order) log + taken_along start going log
+          → taken_along start counted log
+          ≡ taken_along start (numbered number is_order) log + taken_along start going log
       along_parts [] = refl
       along_parts (e ∷ log) = by ((sound_machine start).asked e) (along_parts log)
         where
@@ -322,7 +327,8 @@ module _ (others : OthersAreQuiet) (first : OldestGoFirst) (start : Start) (all 
                 parts_of e.step.taken.to.block e.step.taken.view.number e.step.taken.body,
               )
 
-      all_parts : all_taken start counted logs ≡ all_taken start (numbered number is_order) logs + all_taken start going logs
+      all_parts : all_taken start counted logs
+          ≡ all_taken start (numbered number is_order) logs + all_taken start going logs
       all_parts =
           omega (
             arith,

@@ -50,5 +50,6 @@ others_are_quiet start h (coordinates me there at) log e =
     (λ passed. tc_orders_none step.does.between e.step.taken e.step.taken.to.block)
 others_are_quiet start h (keeps_rows me there at) log e =
     let step = ldm_step start me there h at log e in
-    part_each ldm_kind IsQuiet start.shape step.own _ e.step.taken _ _ (step_after start h log e).effects.sends step.does
+    part_each ldm_kind IsQuiet start.shape step.own _ e.step.taken _ _ (step_after start h log e).effects.sends
+    step.does
     (λ above. tt) (λ passed. ldm_quiet step.does.between e.step.taken.to.block e.step.taken)

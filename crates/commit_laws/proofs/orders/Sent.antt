@@ -51,7 +51,8 @@ module _ (q : Place → Body → Bool) where
       first = routed (reached made h standing.view sent.to) sent
 
       by : (kept : Bool) → count_by of_routed (routed_all made h standing sends) ≤ count_by of_out sends
-          → count_by of_routed (routed_if kept first (routed_all made h standing sends)) ≤ count_by of_out (sent ∷ sends)
+          → count_by of_routed (routed_if kept first (routed_all made h standing sends))
+          ≤ count_by of_out (sent ∷ sends)
       by true few = omega (arith, few, count_more of_out sent sends)
       by false few =
           omega (

@@ -1,4 +1,5 @@
--- At an event of a membership's host it sends as many orders, and signals to go on to them, as it takes of these, and one
+-- At an event of a membership's host it sends as many orders, and signals to go on to them, as it takes of these, and
+-- one
 -- more where it comes to a greater view.
 use Rattle.std.proofs.Common.{◌≡◌, ◌≤◌, ◌<◌, ◌+◌, ◌++◌, ◌⊎◌, ◌∙◌, ℕ, true, false, ◌&&◌, ◌||◌, ◌==◌, Bool, List, [], ◌∷◌, inl, inr, length, nat_lt, refl, sym, ap, subst, arith}
 use Rattle.std.proofs.lemmas.Bool.Decides.{nat_tests}
@@ -122,7 +123,8 @@ module _ (start : Start) (member : Member) (there : IsIn member (made start)) (l
     runs : RunsMain member (after start (main_of start member) log).parts (view_after start (main_of start member) log)
     runs =
         let follows = hosts_follow start member log there in
-        main_of_parts member (after start h log).parts (membership_of start member log) before follows.state follows.view
+        main_of_parts member (after start h log).parts (membership_of start member log) before follows.state
+        follows.view
         (me_is member (first_layout start.shape) (events_of is_membership start (main_of start member) log))
 
     did : PartsDo start.shape (after start h log).parts before x (after start h (e ∷ log)).parts behind sends
@@ -148,7 +150,8 @@ module _ (start : Start) (member : Member) (there : IsIn member (made start)) (l
       between_by : (inside : Parts) (stood : View) (front : List Outgoing)
           → Enters (after start h log).parts before x inside stood front → Between inside stood front
       between_by inside stood front (stays same stands none) = record {
-        own = subst (λ v. RunsMain member inside v) (sym stands) (subst (λ parts. RunsMain member parts before) (sym same) runs);
+        own = subst (λ v. RunsMain member inside v) (sym stands)
+            (subst (λ parts. RunsMain member parts before) (sym same) runs);
         none = ap (count_orders last) none;
         follows =
             subst (λ v. Follows (first_layout start.shape) inside v) (sym stands)
@@ -171,7 +174,8 @@ module _ (start : Start) (member : Member) (there : IsIn member (made start)) (l
         follows =
             subst (λ v. Follows (first_layout start.shape) inside v) (sym stands)
             (subst (λ parts. Follows (first_layout start.shape) parts x.view) (sym same)
-            (entered_follows (first_layout start.shape) (after start h log).parts before x.view (host_follows start h log)));
+            (entered_follows (first_layout start.shape) (after start h log).parts before x.view
+            (host_follows start h log)));
         up = let is = ap (λ (v : View). v.number) stands in omega (arith, is, above);
       }
 
@@ -204,7 +208,8 @@ module _ (start : Start) (member : Member) (there : IsIn member (made start)) (l
           row : count_orders last rest ≤ took
           row =
               subst (λ xs. count_orders last xs ≤ took)
-              (sym (sent ∙ ap (λ parts. (parts_row parts x).effects.sends) own.own.is)) (omega (arith, in_view, counted))
+              (sym (sent ∙ ap (λ parts. (parts_row parts x).effects.sends) own.own.is))
+              (omega (arith, in_view, counted))
             where
               counted : one_if (goes_from last behind.number x.to.block x.view.number x.body) ≤ took
               counted =
@@ -238,7 +243,8 @@ module _ (start : Start) (member : Member) (there : IsIn member (made start)) (l
               omega (
                 arith,
                 ap (count_orders last) rest_is,
-                count_both (is_counted last) (main_row p x.to.block x).effects.sends (main_entered now behind).effects.sends,
+                count_both (is_counted last) (main_row p x.to.block x).effects.sends
+                    (main_entered now behind).effects.sends,
                 settles_none p x last behind settled_main,
                 enters_counts now x last behind,
               )
@@ -251,13 +257,15 @@ module _ (start : Start) (member : Member) (there : IsIn member (made start)) (l
         takes_none inside stood front rest own (takes passed settled same stands sent) =
             ap (count_orders last) (sent ∙ ap (λ parts. (parts_row parts x).effects.sends) own.own.is)
             ∙ younger_none own.own.main x last
-            (younger_known member behind own.own.main.qmgr.known own.own.me (own.own.laid ∙ sym stands) young) x.to.block
+            (younger_known member behind own.own.main.qmgr.known own.own.me (own.own.laid ∙ sym stands) young)
+            x.to.block
         takes_none inside stood front rest own (settles passed settled same sent) =
             omega (
               arith,
               ap (count_orders last) (sent ∙ ap (λ parts. (parts_row parts x).effects.sends
                   ++ (parts_entered (parts_row parts x).state behind).effects.sends) own.own.is),
-              count_both (is_counted last) (main_row p x.to.block x).effects.sends (main_entered now behind).effects.sends,
+              count_both (is_counted last) (main_row p x.to.block x).effects.sends
+                  (main_entered now behind).effects.sends,
               settles_none p x last behind settled_main,
               enters_none now x last behind
                   (younger_known member behind (installing now.qmgr.known behind)

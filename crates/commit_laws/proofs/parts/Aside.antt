@@ -76,14 +76,16 @@ module _ (start : Start) (all : ℕ → List HostStep) (e : HostStep) (es : List
           (sent_now start all e es follows xs between transit takes same tx)
       none_out none =
           bodies_sent start e.host (old e.host) e (λ b. is_token tx b ≡ false)
-          (none_passes (λ (o : Outgoing). is_token tx o.body) (step_after start e.host (old e.host) e).effects.sends none)
+          (none_passes (λ (o : Outgoing). is_token tx o.body) (step_after start e.host (old e.host) e).effects.sends
+          none)
 
       stays_so : Each (λ (y : Addressed). is_token tx y.signal.body ≡ false)
           (sent_now start all e es follows xs between transit takes same tx)
           → PartsOf start all e es follows xs between transit takes same tx u
       stays_so none =
           goes_on_so start all e es follows xs between transit takes same tx
-          (λ m among. log_of-other (machine start) e es (ldm_of start m) (apart m among)) u u hale_same hale.full refl refl
+          (λ m among. log_of-other (machine start) e es (ldm_of start m) (apart m among)) u u hale_same hale.full refl
+          refl
           none
 
     beside_rows : IsBeside (started start e.host).parts → (m : Member) → IsIn m (made start) → e.host ≢ ldm_of start m

@@ -116,7 +116,8 @@ module _ (start : Start) (all : ℕ → List HostStep) (e : HostStep) (es : List
       granted : answer ≡ Granted → Sent key
       granted lets =
           performed_told start all e es follows same tx t hale led me there s between which taken key w at placed
-          (subst (λ k. slice_get (chain_of (layout_in start (current start (logs_of start es))) k) at ≡ Some me) key_is place)
+          (subst (λ k. slice_get (chain_of (layout_in start (current start (logs_of start es))) k) at ≡ Some me) key_is
+          place)
           refused (asks q refused) own_event
           (ap (λ a. (by_lock a).cell) lets)
           (subst (λ a. holds_enough tx (work_mode w) (by_lock a).lock.holders ≡ true) (sym lets)

@@ -40,8 +40,10 @@ use Rattle.commit_laws.proofs.parts.Sent.{part_by}
 module _ (start : Start) (old new : ℕ → List HostStep) (same : current start new ≡ current start old) (key : List ℕ)
     (tx : TxId)
     (me : Member)
-    (others_same : (m : Member) → IsIn m (made start) → (m ≡ me) ⊎ (replica_at start new m key ≡ replica_at start old m key))
-    (chain_made : (place : ℕ) (m : Member) → slice_get (chain_of (layout_in start (current start old)) key) place ≡ Some m
+    (others_same : (m : Member) → IsIn m (made start)
+    → (m ≡ me) ⊎ (replica_at start new m key ≡ replica_at start old m key))
+    (chain_made : (place : ℕ) (m : Member)
+    → slice_get (chain_of (layout_in start (current start old)) key) place ≡ Some m
     → IsReplicaOf start old key m × IsIn m (made start))
     (row_same : (replica_at start new me key).cell.row ≡ (replica_at start old me key).cell.row)
     (t : Transaction) (cell : Cell) (cell_is : cell ≡ (replica_at start old me key).cell) (refused : Bool)
@@ -92,7 +94,8 @@ module _ (start : Start) (old new : ℕ → List HostStep) (same : current start
     stores_tell own image at place true is was = tt
     stores_tell own image at place false is was =
         passes_on own image at
-        (stored_on start old new same key tx me others_same chain_made row_same t image (has_image own image is) at was place
+        (stored_on start old new same key tx me others_same chain_made row_same t image (has_image own image is) at was
+        place
         kept)
         (slice_get chain_old (at + 1)) refl
 
@@ -120,7 +123,8 @@ module _ (start : Start) (old new : ℕ → List HostStep) (same : current start
         done_not o row is = refl
 
         exclusive : is_get op ≡ false → holds_enough tx Exclusive (replica_at start new me key).lock.holders ≡ true
-        exclusive off = subst (λ m. holds_enough tx m (replica_at start new me key).lock.holders ≡ true) (not_get op off) held
+        exclusive off =
+            subst (λ m. holds_enough tx m (replica_at start new me key).lock.holders ≡ true) (not_get op off) held
 
         now_asks : IsAsked start new key tx t op
         now_asks = record { asked = asks.asked; is = asks.is; op_is = asks.op_is; here = asks.here }
@@ -133,7 +137,8 @@ module _ (start : Start) (old new : ℕ → List HostStep) (same : current start
           op,
           (
             now_asks,
-            answered_settles start old new same key tx me others_same chain_made row_same t primary settled op asks answer
+            answered_settles start old new same key tx me others_same chain_made row_same t primary settled op asks
+                answer
                 (sym is ∙ ap (answer_to op) seen_left) off
                 (ap (λ (c : Cell). found tx c.pending) (same_cell ∙ cell_is))
                 (holds_so tx (op_mode op) (replica_at start new me key).lock.holders held) kept exclusive,

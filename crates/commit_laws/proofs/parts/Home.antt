@@ -165,7 +165,8 @@ module _ (start : Start) (all : ℕ → List HostStep) (e : HostStep) (es : List
     abbrev number_is : (current start new).number ≡ (current start old).number
     number_is = ap (λ v. v.number) same
 
-    transit_now : AreInTransit start (e ∷ es) (joined (sent_now start all e es follows xs between transit takes same tx) between)
+    transit_now : AreInTransit start (e ∷ es)
+        (joined (sent_now start all e es follows xs between transit takes same tx) between)
     transit_now = (xs, (transit, record { between = between; takes = takes; is = refl }))
 
     -- tokens that the host sends
@@ -218,7 +219,8 @@ module _ (start : Start) (all : ℕ → List HostStep) (e : HostStep) (es : List
         → u.asked ≡ t.asked → Now
     unchanged t was undecided ops asked =
         goes_on_so start all e es follows xs between transit takes same tx still t u
-        (hale_was start all e es follows xs between transit takes same tx u t hale there was undecided (fresh_was hale.fresh))
+        (hale_was start all e es follows xs between transit takes same tx u t hale there was undecided
+        (fresh_was hale.fresh))
         hale.full ops asked (bodies (λ b. is_token tx b ≡ false) none)
       where
         none : Each (λ (o : Outgoing). is_token tx o.body ≡ false) sends
@@ -259,7 +261,8 @@ module _ (start : Start) (all : ℕ → List HostStep) (e : HostStep) (es : List
         taken =
             let at : IsHandled start e.host (old e.host) e block.Tc =
             subst (λ k. IsHandled start k (old k) e block.Tc) (sym home) handled in
-            handled_now start all e es moment tc_kind tc_is at.own at.runs at.between at.front at.enters at.passed block.Tc
+            handled_now start all e es moment tc_kind tc_is at.own at.runs at.between at.front at.enters at.passed
+            block.Tc
             at.block_is
 
         header : x.view.number ≡ (current start new).number
@@ -271,7 +274,8 @@ module _ (start : Start) (all : ℕ → List HostStep) (e : HostStep) (es : List
 
         alone : IsAlone start old tx (number_now start new)
         alone =
-            taken_alone start all e es moment tx there (not_either ((sound_machine start).asked e) (is_closing x.body) gave)
+            taken_alone start all e es moment tx there
+            (not_either ((sound_machine start).asked e) (is_closing x.body) gave)
             (λ i. both (ap (is_token tx) is ∙ same_tx-self tx) (eq-eqb x.view.number (number_now start new) header) i)
           where
             both : {a b : Bool} → a ≡ true → b ≡ true → (a && b) ≡ true
@@ -302,7 +306,8 @@ module _ (start : Start) (all : ℕ → List HostStep) (e : HostStep) (es : List
             by : Tells start old key tx t (answers answer)
                 → IsSettledWith start new key tx (t.ops ++ (asked.op, answer) ∷ [])
             by (op, (asking, settled)) =
-                let one : asked ≡ asking.asked = let two : Some asked ≡ Some asking.asked = sym some ∙ asking.is in cc in
+                let one : asked ≡ asking.asked =
+                let two : Some asked ≡ Some asking.asked = sym some ∙ asking.is in cc in
                 let op_is : op ≡ asked.op = sym asking.op_is ∙ ap (λ (a : Asked). a.op) (sym one) in
                 settled_still start all e es moment follows.stood.commits same key tx
                 (members_still start all e es follows xs between transit takes same tx still key)
@@ -324,7 +329,10 @@ module _ (start : Start) (all : ℕ → List HostStep) (e : HostStep) (es : List
     -- an operation is asked for
     module _ (t : Transaction) (was : own_live start old tx ≡ Some t) (undecided : is_undecided t.phase ≡ true)
         (op : Op) (none : t.asked ≡ None) (ops : u.ops ≡ t.ops)
-        (asked : u.asked ≡ Some (record { op = op; chain = chain_of (layout_in start (view_after start h (e ∷ old h))) (key_of op) }))
+        (asked : u.asked ≡ Some (record {
+          op = op;
+          chain = chain_of (layout_in start (view_after start h (e ∷ old h))) (key_of op);
+        }))
       where
         abbrev request : Outgoing
         request = request_of (layout_in start (view_after start h (e ∷ old h))) tx op
@@ -408,17 +416,20 @@ module _ (start : Start) (all : ℕ → List HostStep) (e : HostStep) (es : List
               (sent_now start all e es follows xs between transit takes same tx) (λ y told here. told)
               (bodies (λ b. Told start new key tx u (part_of tx key b)) (sent_told key own is out)))
               (each_map
-              (λ (y : Addressed). y.signal.view.number ≡ (current start old).number → part_of tx key y.signal.body ≡ None) _
+              (λ (y : Addressed). y.signal.view.number ≡ (current start old).number
+              → part_of tx key y.signal.body ≡ None) _
               between (λ y off here. subst (Told start new key tx u) (sym (off (here ∙ number_is))) tt)
               (takes_less start _ e xs between takes (idle.signals key)));
           waits = λ key m among stands.
               subst
-              (λ (s : ReplicaState). Each (λ (q : Request). same_tx q.tx tx ≡ true → same_key (work_key q.work) key ≡ true
+              (λ (s : ReplicaState). Each
+              (λ (q : Request). same_tx q.tx tx ≡ true → same_key (work_key q.work) key ≡ true
               → Tells start new key tx u (performs q.work q.at)) s.lqh.waiting)
               (ap (rows_after start m) (sym (still m among)))
               (each_map _ _ (rows_at start old m).lqh.waiting (λ q off mine here. absurd (true≢false (sym mine ∙ off)))
               (idle.waits m among
-              (ap (λ log. (view_after start (ldm_of start m) log).number) (sym (still m among)) ∙ (stands ∙ number_is))));
+              (ap (λ log. (view_after start (ldm_of start m) log).number) (sym (still m among))
+              ∙ (stands ∙ number_is))));
           rests = λ key away. settled_now key;
         }
 

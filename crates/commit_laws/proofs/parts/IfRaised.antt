@@ -1,4 +1,5 @@
--- Each event keeps the parts of operations that are under way true, and other keys settled, if events that raise the view
+-- Each event keeps the parts of operations that are under way true, and other keys settled, if events that raise the
+-- view
 -- do.
 use Rattle.std.proofs.Common.{◌≤◌, ◌<◌, ◌⊎◌, ℕ, List, ◌∷◌, inl, inr, arith}
 use Rattle.std.proofs.lemmas.Bool.{cases_lt}
@@ -28,4 +29,5 @@ events_keep_parts rising start all e es follows moves xs transit =
     by (inl above) = rising start all e es follows above xs transit
     by (inr low) =
         let rises = current_rises start all e es follows.moment in
-        parts_kept start all e es follows (old_current start all e es follows.moment (omega (arith, low, rises))) xs transit
+        parts_kept start all e es follows (old_current start all e es follows.moment (omega (arith, low, rises))) xs
+        transit

@@ -107,7 +107,8 @@ module _ (start : Start) (all : ℕ → List HostStep) (e : HostStep) (es : List
           → (view_after start (ldm_of start m) (logs_of start (e ∷ es) (ldm_of start m))).number
           ≡ (current start (logs_of start (e ∷ es))).number
           → Each (λ (q : Request). same_tx q.tx tx ≡ true → same_key (work_key q.work) key ≡ true
-          → Tells start (logs_of start (e ∷ es)) key tx u (performs q.work q.at)) (rows_at start (logs_of start (e ∷ es)) m).lqh.waiting
+          → Tells start (logs_of start (e ∷ es)) key tx u (performs q.work q.at))
+          (rows_at start (logs_of start (e ∷ es)) m).lqh.waiting
       pub rests : (key : List ℕ) → IsOff start (logs_of start (e ∷ es)) key tx u u.asked
           → IsSettledWith start (logs_of start (e ∷ es)) key tx u.ops
 
@@ -141,7 +142,8 @@ module _ (start : Start) (all : ℕ → List HostStep) (e : HostStep) (es : List
         pub members_still : (key : List ℕ) (m : Member) → IsIn m (made start)
             → KeepsFor tx (replica_at start (logs_of start es) m key) (replica_at start (logs_of start (e ∷ es)) m key)
         members_still key m there =
-            subst (λ (s : ReplicaState). KeepsFor tx (replica_at start old m key) (at_key key s.lqh)) (sym (rows_still m there))
+            subst (λ (s : ReplicaState). KeepsFor tx (replica_at start old m key) (at_key key s.lqh))
+            (sym (rows_still m there))
             (keeps_self tx (replica_at start old m key))
 
         -- and nothing of it is sent, and nothing of it changes
@@ -151,7 +153,8 @@ module _ (start : Start) (all : ℕ → List HostStep) (e : HostStep) (es : List
             (none : Each (λ (x : Addressed). is_token tx x.signal.body ≡ false) sent_now)
           where
             told_on : (key : List ℕ) (x : Addressed)
-                → (x.signal.view.number ≡ (current start old).number → Told start old key tx t (part_of tx key x.signal.body))
+                → (x.signal.view.number ≡ (current start old).number → Told start old key tx t
+                (part_of tx key x.signal.body))
                 → x.signal.view.number ≡ (current start new).number
                 → Told start new key tx u (part_of tx key x.signal.body)
             told_on key x was here =
@@ -177,12 +180,14 @@ module _ (start : Start) (all : ℕ → List HostStep) (e : HostStep) (es : List
                   (takes_less start _ e xs between takes (parts.signals tx t hale key)));
               waits = λ key m there stands.
                   subst
-                  (λ (s : ReplicaState). Each (λ (q : Request). same_tx q.tx tx ≡ true → same_key (work_key q.work) key ≡ true
+                  (λ (s : ReplicaState). Each
+                  (λ (q : Request). same_tx q.tx tx ≡ true → same_key (work_key q.work) key ≡ true
                   → Tells start new key tx u (performs q.work q.at)) s.lqh.waiting)
                   (sym (rows_still m there))
                   (each_map _ _ (rows_at start old m).lqh.waiting (wait_on key)
                   (parts.waits tx t hale key m there
-                  (ap (λ log. (view_after start (ldm_of start m) log).number) (sym (still m there)) ∙ (stands ∙ number_is))));
+                  (ap (λ log. (view_after start (ldm_of start m) log).number) (sym (still m there))
+                  ∙ (stands ∙ number_is))));
               rests = λ key off.
                   subst (IsSettledWith start new key tx) (sym ops)
                   (rests_stay start all e es follows xs between transit takes tx t hale key same led

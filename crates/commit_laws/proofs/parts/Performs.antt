@@ -100,7 +100,8 @@ module _ (start : Start) (logs : ℕ → List HostStep) (key : List ℕ) (tx : T
       ∙ list_any-append (λ (o : Op × Answer). is_done o.1) (ops_on key ops) ((op, answer) ∷ [])
 
   changing_more : (ops : List (Op × Answer)) (op : Op) (answer : Answer) → same_key (key_of op) key ≡ true
-      → is_changing (ops_on key (ops ++ (op, answer) ∷ [])) ≡ (is_changing (ops_on key ops) || (not (is_get op) || false))
+      → is_changing (ops_on key (ops ++ (op, answer) ∷ []))
+      ≡ (is_changing (ops_on key ops) || (not (is_get op) || false))
   changing_more ops op answer here =
       ap is_changing (own_more ops op answer here)
       ∙ list_any-append (λ (o : Op × Answer). not (is_get o.0)) (ops_on key ops) ((op, answer) ∷ [])
@@ -150,8 +151,10 @@ module _ (start : Start) (logs : ℕ → List HostStep) (key : List ℕ) (tx : T
 module _ (start : Start) (old new : ℕ → List HostStep) (same : current start new ≡ current start old) (key : List ℕ)
     (tx : TxId)
     (me : Member)
-    (others_same : (m : Member) → IsIn m (made start) → (m ≡ me) ⊎ (replica_at start new m key ≡ replica_at start old m key))
-    (chain_made : (place : ℕ) (m : Member) → slice_get (chain_of (layout_in start (current start old)) key) place ≡ Some m
+    (others_same : (m : Member) → IsIn m (made start)
+    → (m ≡ me) ⊎ (replica_at start new m key ≡ replica_at start old m key))
+    (chain_made : (place : ℕ) (m : Member)
+    → slice_get (chain_of (layout_in start (current start old)) key) place ≡ Some m
     → IsReplicaOf start old key m × IsIn m (made start))
     (row_same : (replica_at start new me key).cell.row ≡ (replica_at start old me key).cell.row)
     (t : Transaction)
@@ -279,12 +282,15 @@ module _ (start : Start) (old new : ℕ → List HostStep) (same : current start
                 → seen_by (replica_at start old me key).cell.row (record_at start old me key tx) ≡ left
             by true wrote =
                 let image : HasImageIf true left (record_at start old me key tx) =
-                subst (λ b. HasImageIf b left (record_at start old me key tx)) wrote (settled.images me primary me replica_me) in
+                subst (λ b. HasImageIf b left (record_at start old me key tx)) wrote
+                (settled.images me primary me replica_me) in
                 ap (seen_by (replica_at start old me key).cell.row) image.1.0 ∙ image.1.1.1
             by false off =
                 ap (seen_by (replica_at start old me key).cell.row)
-                (subst (λ b. HasImageIf b left (record_at start old me key tx)) off (settled.images me primary me replica_me))
-                ∙ sym (row_unwritten (replica_at start old me key).cell.row (ops_on key t.ops) (settled.right me primary) off)
+                (subst (λ b. HasImageIf b left (record_at start old me key tx)) off
+                (settled.images me primary me replica_me))
+                ∙ sym (row_unwritten (replica_at start old me key).cell.row (ops_on key t.ops)
+                (settled.right me primary) off)
 
         right_me : AreRight (replica_at start new me key).cell.row (ops_on key t.ops)
         right_me = subst (λ row. AreRight row (ops_on key t.ops)) (sym row_same) (settled.right me primary)
@@ -324,7 +330,8 @@ module _ (start : Start) (old new : ℕ → List HostStep) (same : current start
             (held_now : holds tx (replica_at start new me key).lock.holders ≡ true)
             (kept : holds_enough tx Exclusive (replica_at start old me key).lock.holders ≡ true
             → holds_enough tx Exclusive (replica_at start new me key).lock.holders ≡ true)
-            (for_change : is_get op ≡ false → holds_enough tx Exclusive (replica_at start new me key).lock.holders ≡ true)
+            (for_change : is_get op ≡ false
+            → holds_enough tx Exclusive (replica_at start new me key).lock.holders ≡ true)
           where
             abbrev more : List (Op × Answer)
             more = t.ops ++ (op, answer) ∷ []
@@ -361,7 +368,8 @@ module _ (start : Start) (old new : ℕ → List HostStep) (same : current start
             images_me m replica =
                 let was = was_replica m replica in
                 let place = place_of chain_old m was.chained in
-                subst (λ b. HasImageIf b (row_behind start new key me more) (record_at start new m key tx)) (sym written_same)
+                subst (λ b. HasImageIf b (row_behind start new key me more) (record_at start new m key tx))
+                (sym written_same)
                 (subst (λ w. HasImageIf (is_written_by t.ops key) w (record_at start new m key tx)) (sym left_more)
                 (subst (HasImageIf (is_written_by t.ops key) left) (sym (rec_same m (chain_made place.at m place.is).1))
                 (settled.images me primary m was)))
@@ -387,7 +395,8 @@ module _ (start : Start) (old new : ℕ → List HostStep) (same : current start
               images =
                   at_me
                   (λ p. (m : Member) → IsReplicaOf start new key m
-                  → HasImageIf (is_written_by more key) (row_behind start new key p more) (record_at start new m key tx))
+                  → HasImageIf (is_written_by more key) (row_behind start new key p more)
+                  (record_at start new m key tx))
                   images_me;
               others = λ m there no_replica.
                   rec_same m there ∙ settled.others m there (λ is. no_replica (is_replica m is));

@@ -50,7 +50,8 @@ closing_off tx number x is = by x.body is
 pub no_part : (tx : TxId) (key : List ℕ) (body : Body) → is_token tx body ≡ false → part_of tx key body ≡ None
 no_part tx key (Chain (LqhKeyReq other w chain at)) off =
     ap (λ b. part_if (performs w at) (b && same_key (work_key w) key)) off
-no_part tx key (Chain (LqhKeyConf other own answer)) off = ap (λ b. part_if (answers answer) (b && same_key own key)) off
+no_part tx key (Chain (LqhKeyConf other own answer)) off =
+    ap (λ b. part_if (answers answer) (b && same_key own key)) off
 no_part tx key (Chain (LqhKeyRef other own cause)) off = ap (λ b. part_if refuses (b && same_key own key)) off
 no_part tx key _ off = refl
 
@@ -83,7 +84,8 @@ module _ (start : Start) (all : ℕ → List HostStep) (es : List HostStep) (mom
         (λ x off here.
         no_part tx key x.signal.body
         (not_and (is_token tx x.signal.body) (x.signal.view.number == now) off (eq-eqb x.signal.view.number now here)))
-        (none_in_transit start (is_token_in tx now) (λ x is. closing_off tx now x is) all es moment xs transit quiet.goes);
+        (none_in_transit start (is_token_in tx now) (λ x is. closing_off tx now x is) all es moment xs transit
+        quiet.goes);
     waits = λ member there stands.
         none_passes (λ (q : Request). same_tx q.tx tx) (rows_at start logs member).lqh.waiting
         (sym (ap (λ b. if b then count_waiting tx (rows_at start logs member) else 0)
@@ -111,7 +113,8 @@ module _ (start : Start) (all : ℕ → List HostStep) (es : List HostStep) (mom
       → (view_after start (ldm_of start member) (logs_of start es (ldm_of start member))).number
       ≡ (current start (logs_of start es)).number
       → Each (λ (q : Request). same_tx q.tx tx ≡ true → same_key (work_key q.work) key ≡ true
-      → Tells start (logs_of start es) key tx t (performs q.work q.at)) (rows_at start (logs_of start es) member).lqh.waiting
+      → Tells start (logs_of start es) key tx t (performs q.work q.at))
+      (rows_at start (logs_of start es) member).lqh.waiting
   idle_waits xs idle t key member there stands =
       each_map _ _ (rows_at start (logs_of start es) member).lqh.waiting
       (λ q off own here. absurd (true≢false (sym own ∙ off))) (idle.waits member there stands)

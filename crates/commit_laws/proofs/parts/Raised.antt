@@ -1,4 +1,5 @@
--- Where the current view rises, and all that go on keep to it, all parts stand behind the event: of whoever goes on nothing is under way, and what it has
+-- Where the current view rises, and all that go on keep to it, all parts stand behind the event: of whoever goes on
+-- nothing is under way, and what it has
 -- settled is so still.
 use Rattle.std.proofs.Common.{◌≡◌, ◌<◌, ℕ, List, ◌∷◌, sym, ap, subst}
 use Rattle.std.specs.Prelude.{None}
@@ -61,7 +62,8 @@ module _ (start : Start) (all : ℕ → List HostStep) (e : HostStep) (es : List
       rests : (key : List ℕ) → IsSettledWith start new key tx t.ops
       rests key =
           settled_kept start all e es follows.moment follows.stood.commits key tx t.ops
-          (raised_same start all e es follows.moment above follows.stood.commits tx t hale (keeps tx t hale) key) (members_keep key tx)
+          (raised_same start all e es follows.moment above follows.stood.commits tx t hale (keeps tx t hale) key)
+          (members_keep key tx)
           ((follows.stood.parts transit.0 transit.1.0).rests tx t went key
           (subst (IsOff start old key tx t) (sym none) tt))
 

@@ -150,7 +150,8 @@ module _ (start : Start) (all : ℕ → List HostStep) (e : HostStep) (es : List
         (sym (no_part tx key y.signal.body
         (not_and (is_token tx y.signal.body) (y.signal.view.number == number_now start new) off
         (eq-eqb y.signal.view.number (number_now start new) here)))) tt)
-        (none_left start (is_token_in tx (number_now start new)) (λ y closing. closing_off tx (number_now start new) y closing)
+        (none_left start (is_token_in tx (number_now start new))
+        (λ y closing. closing_off tx (number_now start new) y closing)
         all e es follows.moment xs left transit takes alone.goes asked_off token)
 
     pub request_signals : (key : List ℕ)
@@ -161,7 +162,8 @@ module _ (start : Start) (all : ℕ → List HostStep) (e : HostStep) (es : List
         joined_each _ (sent_now start all e es follows xs left transit takes same tx) left
         (each_map (λ (y : Addressed). Told start new key tx t (part_of tx key y.signal.body)) _
         (sent_now start all e es follows xs left transit takes same tx) (λ y told here. told)
-        (request_told start all e es follows same tx t hale led me there s between which taken w chain at is along placed
+        (request_told start all e es follows same tx t hale led me there s between which taken w chain at is along
+        placed
         place tells key))
         (left_none key)
 
@@ -178,13 +180,15 @@ module _ (start : Start) (all : ℕ → List HostStep) (e : HostStep) (es : List
       abbrev refused : Bool
       refused = is_refused (storage_of s.lqh) q
 
-      none_waits : Each (λ (one : Request). same_tx one.tx tx ≡ true → Tells start new key tx t (performs one.work one.at))
+      none_waits : Each (λ (one : Request). same_tx one.tx tx ≡ true → Tells start new key tx t
+          (performs one.work one.at))
           r.waiting
       none_waits =
           each_map (λ (one : Request). same_tx one.tx tx ≡ false) _ r.waiting
           (λ one off mine. absurd (true≢false (sym mine ∙ off)))
           (each_filter (λ (one : Request). same_tx one.tx tx ≡ false) (asks_for key) s.lqh.waiting
-          (alone_waits start all e es follows.moment me there tx (hale_made start all es before tx t hale) s between taken
+          (alone_waits start all e es follows.moment me there tx (hale_made start all es before tx t hale) s between
+          taken
           (ap (is_token tx) is ∙ same_tx-self tx)))
 
       kept : KeepsTo start all e es follows.moment me there key tx s
@@ -296,7 +300,11 @@ module _ (start : Start) (all : ℕ → List HostStep) (e : HostStep) (es : List
     -- so all of it tells the truth
     pub request_parts : PartsOf start all e es follows xs left transit takes same tx t
     request_parts =
-        record { signals = request_signals; waits = λ key m among stands. request_waits key m among stands; rests = request_rests }
+        record {
+          signals = request_signals;
+          waits = λ key m among stands. request_waits key m among stands;
+          rests = request_rests;
+        }
 
 -- wherever it went
 pub taken_request_parts : (start : Start) (all : ℕ → List HostStep) (e : HostStep) (es : List HostStep)
@@ -311,10 +319,12 @@ pub taken_request_parts : (start : Start) (all : ℕ → List HostStep) (e : Hos
     → IsTakenAt start all e es follows.moment me there s → (w : RowWork) (chain : List Member) (at : ℕ)
     → e.step.taken.body ≡ Chain (LqhKeyReq tx w chain at)
     → PartsOf start all e es follows xs left transit takes same tx t
-taken_request_parts start all e es follows xs left transit takes same tx t hale led me there s between which taken w chain
+taken_request_parts start all e es follows xs left transit takes same tx t hale led me there s between which taken w
+    chain
     at is =
     let way =
     request_place start all e es follows.moment me there
     (record { rows = s; between = between; taken = taken; at = taken.at; now = taken.now }) tx w chain at is in
-    request_parts start all e es follows xs left transit takes same tx t hale led me there s between which taken w chain at
+    request_parts start all e es follows xs left transit takes same tx t hale led me there s between which taken w chain
+    at
     is way.0 way.1.1 way.1.0

@@ -131,7 +131,8 @@ module _ (start : Start) (all : ℕ → List HostStep) (e : HostStep) (es : List
             ≡ view_after start (ldm_of start member) (old (ldm_of start member))
             → (view_after start (ldm_of start member) (old (ldm_of start member))).number ≡ (current start old).number
         stood_now stays =
-            let stood : (view_after start (ldm_of start member) (old (ldm_of start member))).number ≡ current_number start new =
+            let stood : (view_after start (ldm_of start member) (old (ldm_of start member))).number
+            ≡ current_number start new =
             sym (ap (λ (v : View). v.number) stays)
             ∙ (ap (λ k. (view_after start k (e ∷ old k)).number) (sym taken.at)
             ∙ ap (λ (v : View). v.number) taken.now.stands) in
@@ -150,19 +151,22 @@ module _ (start : Start) (all : ℕ → List HostStep) (e : HostStep) (es : List
               where
                 own : (b : Bool) → same_tx q.tx tx ≡ b → b ≡ false
                 own false is = refl
-                own true is = let found = tells_asked q.work q.at (tells is here) in absurd (off_asked off found.0 found.1)
+                own true is =
+                    let found = tells_asked q.work q.at (tells is here) in absurd (off_asked off found.0 found.1)
 
             by : IsBetween start all e es moment member there s
                 → Each (λ (q : Request). asks_for key q ≡ true → same_tx q.tx tx ≡ false) s.lqh.waiting
             by (as_was is stays) =
                 subst
-                (λ (s : ReplicaState). Each (λ (q : Request). asks_for key q ≡ true → same_tx q.tx tx ≡ false) s.lqh.waiting)
+                (λ (s : ReplicaState). Each (λ (q : Request). asks_for key q ≡ true → same_tx q.tx tx ≡ false)
+                s.lqh.waiting)
                 (sym is)
                 (each_map _ _ (rows_at start old member).lqh.waiting one
                 (parts.waits tx t hale key member there (stood_now stays)))
             by (entered view is) =
                 subst
-                (λ (s : ReplicaState). Each (λ (q : Request). asks_for key q ≡ true → same_tx q.tx tx ≡ false) s.lqh.waiting)
+                (λ (s : ReplicaState). Each (λ (q : Request). asks_for key q ≡ true → same_tx q.tx tx ≡ false)
+                s.lqh.waiting)
                 (sym is) tt
 
         not_forth : is_forth start old tx ≡ true → ⊥

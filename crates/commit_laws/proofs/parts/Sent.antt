@@ -138,13 +138,16 @@ module _ (start : Start) (all : ℕ → List HostStep) (e : HostStep) (es : List
         (sent_by (sound_machine start) e.host (logs_of start es e.host) e)
     sent_parts key P tokens so =
         both_each _ _ _ (sent_by (sound_machine start) e.host (old e.host) e)
-        (λ y told routed. part_so tx key (Told start new key tx u) tt P so _ _ _ _ y.signal.to y.signal.body routed told)
+        (λ y told routed. part_so tx key (Told start new key tx u) tt P so _ _ _ _ y.signal.to y.signal.body routed
+        told)
         (places_sent start e.host (old e.host) e (λ to body. lists.Told tx key P (token_of tx key to body))
         (subst (λ k. Each (λ (o : Outgoing). lists.Told tx key P (token_of tx key o.to o.body))
         (step_after start k (old k) e).effects.sends) (sym taken.at) (by taken.sent)))
-        (event_sent start (IsRoutedSignal start new) e es (signals_are_routed start all (e ∷ es) follows.moment).signals)
+        (event_sent start (IsRoutedSignal start new) e es
+        (signals_are_routed start all (e ∷ es) follows.moment).signals)
       where
-        by : ((step_after start (ldm_of start me) (old (ldm_of start me)) e).effects.sends ≡ (replica_row s x).effects.sends)
+        by : ((step_after start (ldm_of start me) (old (ldm_of start me)) e).effects.sends ≡
+            (replica_row s x).effects.sends)
             ⊎ ((step_after start (ldm_of start me) (old (ldm_of start me)) e).effects.sends ≡ [])
             → Each (λ (o : Outgoing). lists.Told tx key P (token_of tx key o.to o.body))
             (step_after start (ldm_of start me) (old (ldm_of start me)) e).effects.sends

@@ -142,7 +142,8 @@ module _ (start : Start) (all : ℕ → List HostStep) (e : HostStep) (es : List
       own_sent : Sent key
       own_sent =
           performed_told start all e es follows same tx t hale led me there s between which taken key q.work q.at placed
-          (subst (λ k. slice_get (chain_of (layout_in start (current start (logs_of start es))) k) q.at ≡ Some me) key_is
+          (subst (λ k. slice_get (chain_of (layout_in start (current start (logs_of start es))) k) q.at ≡ Some me)
+          key_is
           place)
           refused (serves refused) own_event
           (ap (λ o. (by_first o).cell) let_in ∙ ap (λ v. worked r.cell v refused q.work) own)

@@ -84,10 +84,13 @@ module _ (start : Start) (all : ℕ → List HostStep) (e : HostStep) (es : List
           op = s.op;
           asks = asked_still s.op s.asks;
           image_is = s.image_is;
-          takes_effect = λ p is. by_row p (primary_was p is) (λ row. answer_to s.op (row_after_all row (ops_on key u.ops)) ≡ Done)
-              (subst (λ w. answer_to s.op (row_behind start old key p w) ≡ Done) (sym ops) (s.takes_effect p (primary_was p is)));
+          takes_effect =
+              λ p is. by_row p (primary_was p is) (λ row. answer_to s.op (row_after_all row (ops_on key u.ops)) ≡ Done)
+              (subst (λ w. answer_to s.op (row_behind start old key p w) ≡ Done) (sym ops)
+              (s.takes_effect p (primary_was p is)));
           right = λ p is. by_row p (primary_was p is) (λ row. AreRight row (ops_on key u.ops))
-              (subst (λ w. AreRight (replica_at start old p key).cell.row (ops_on key w)) (sym ops) (s.right p (primary_was p is)));
+              (subst (λ w. AreRight (replica_at start old p key).cell.row (ops_on key w)) (sym ops)
+              (s.right p (primary_was p is)));
           stored = λ place m low is.
               let was = subst (λ v. slice_get (chain_by v) place ≡ Some m) same is in
               let there = current_made start all es before m

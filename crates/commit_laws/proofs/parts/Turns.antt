@@ -110,7 +110,8 @@ module _ (layout : Layout) (tx : TxId) where
     -- at a signal about it
     pub turn_moves : tx_in body ≡ tx → Moves (turn_for node layout tx body t)
     turn_moves same =
-        turn_with node layout tx body t Moves (rows_at node layout tx t body Moves forms) same (λ off going_on undecided. (undecided, rests refl refl))
+        turn_with node layout tx body t Moves (rows_at node layout tx t body Moves forms) same
+        (λ off going_on undecided. (undecided, rests refl refl))
 
     again : (u : Transaction) (why : AbortCause) (verifying b : Bool) → Moves (anew_if node layout tx u why verifying b)
     unfolding entering

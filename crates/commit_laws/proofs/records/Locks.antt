@@ -401,7 +401,8 @@ module _ (forth : ForthIsKnownAlways) (remembered : CommitsAreRemembered) (ackno
                 → (own : PendingRecord) × ((record_at start old member key tx ≡ Some own) × (own.committed ≡ true))
             by_record (record_stays now) = (r, (sym now ∙ is, done))
             by_record (is_committed takes epoch chain at about now) =
-                absurd (let both : Chain (Abort tx key) ≡ Chain (Commit tx key epoch chain at) = sym abort ∙ about in cc)
+                absurd (let both : Chain (Abort tx key) ≡ Chain (Commit tx key epoch chain at) = sym abort ∙ about in
+                cc)
             by_record (is_completed takes chain at about now) =
                 absurd (let both : Chain (Abort tx key) ≡ Chain (Complete tx key chain at) = sym abort ∙ about in cc)
             by_record (is_aborted takes about now) =
@@ -427,7 +428,8 @@ module _ (forth : ForthIsKnownAlways) (remembered : CommitsAreRemembered) (ackno
                 let was = was_committed about in
                 absurd (let both : fate_commits ≡ fate_aborts =
                 sym (record_commits forth start all es before member was_among key tx was.0 was.1.0 was.1.1)
-                ∙ abort_aborts start all e es moment taken.now (Abort tx key) about forth stood.spoken tx key refl in cc)
+                ∙ abort_aborts start all e es moment taken.now (Abort tx key) about forth stood.spoken tx key refl in
+                cc)
 
             taken_case : (b : Bool) → holds tx (at_key key s.lqh) ≡ b → IsCommittedAtAll start new tx key
             taken_case true held = let_go (lets_go_now s between taken held off)

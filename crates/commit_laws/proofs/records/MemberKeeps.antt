@@ -159,7 +159,8 @@ module _ (start : Start) (all : ℕ → List HostStep) (e : HostStep) (es : List
     -- the event that the rows make of the signal for the key isn't of the transaction
     abbrev pub IsOfOther : Type 0
     IsOfOther =
-        (s : ReplicaState) → IsBetween start all e es moment member there s → IsTakenAt start all e es moment member there s
+        (s : ReplicaState) → IsBetween start all e es moment member there s
+        → IsTakenAt start all e es moment member there s
         → is_of tx (worker_of (event_under key s x) (at_key key s.lqh)) ≡ false
 
     abbrev rows_old : ReplicaState
@@ -200,7 +201,8 @@ module _ (start : Start) (all : ℕ → List HostStep) (e : HostStep) (es : List
             keeps_both tx (replica_at start old member key) (at_key key s.lqh) (at_key key (replica_row s x).state.lqh)
             kept.held kept.keeps
             (subst (KeepsFor tx (at_key key s.lqh)) (sym (signals_are_events s x key kept.well))
-            (event_keeps tx (at_key key s.lqh) (event_under key s x) (kept.well.orderly.each key) (aside s between taken)))
+            (event_keeps tx (at_key key s.lqh) (event_under key s x) (kept.well.orderly.each key)
+            (aside s between taken)))
 
         by : RowsTurn start all e es moment member there
             → KeepsFor tx (replica_at start old member key) (replica_at start new member key)

@@ -49,11 +49,14 @@ module _ (tx : TxId) (key : List ℕ) where
           (addressed view (record { to = to; body = body })).body
           ≡ token_of tx key to body
       by to (Chain (Committed v own)) =
-          elsewhere view.full (record { to = to; body = Chain (Committed v own) }) (λ w. refl) (is_coordinated view.full v)
+          elsewhere view.full (record { to = to; body = Chain (Committed v own) }) (λ w. refl)
+          (is_coordinated view.full v)
       by to (Chain (Completed v own)) =
-          elsewhere view.full (record { to = to; body = Chain (Completed v own) }) (λ w. refl) (is_coordinated view.full v)
+          elsewhere view.full (record { to = to; body = Chain (Completed v own) }) (λ w. refl)
+          (is_coordinated view.full v)
       by to (Chain (Aborted v own)) =
-          elsewhere view.full (record { to = to; body = Chain (Aborted v own) }) (λ w. refl) (is_coordinated view.full v)
+          elsewhere view.full (record { to = to; body = Chain (Aborted v own) }) (λ w. refl)
+          (is_coordinated view.full v)
       by to body = refl
 
   addressed_tokens : (view : View) (sends : List Outgoing)
@@ -107,7 +110,8 @@ module _ (tx : TxId) (key : List ℕ) where
     epoch_none from _ = refl
 
     by_tokens : (x : Signal) → is_abort tx x.body ≡ false → (body : Body)
-        → tokens_of tx key (replica_by s x body).effects.sends ≡ event_tokens tx (event_by key s x body) (at_key key s.lqh)
+        → tokens_of tx key (replica_by s x body).effects.sends
+        ≡ event_tokens tx (event_by key s x body) (at_key key s.lqh)
     by_tokens x off (Membership (FenceReq proposal)) = refl
     by_tokens x off (Takeover LqhTransReq) = report_none _
     by_tokens x off (Host (Continue work.Report at)) = go_on_none (x.view.number == s.lqh.layout.view.number) s.report

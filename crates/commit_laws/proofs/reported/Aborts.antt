@@ -131,7 +131,8 @@ module _ (stand : AllStandAlways) (list : GatheringsList) (start : Start) (all :
           ran : (e.host ≡ 0) ⊎ (e.host ≢ 0) → IsRunning (sound_machine start) (logs_of start (e ∷ es) 0)
               → IsRunning (sound_machine start) (logs_of start es 0)
           ran (inl at) runs = subst (λ k. IsRunning (sound_machine start) (logs_of start es k)) at happens.step.runs
-          ran (inr other) runs = subst (IsRunning (sound_machine start)) (log_of-other (machine start) e es 0 other) runs
+          ran (inr other) runs =
+              subst (IsRunning (sound_machine start)) (log_of-other (machine start) e es 0 other) runs
 
   module _ (e : HostStep) (es : List HostStep) (moment : IsMoment start all (e ∷ es)) (at : e.host ≡ 0) (tx : TxId)
       (why : AbortCause) (not_down : why ≢ cause.Down)
@@ -169,7 +170,8 @@ module _ (stand : AllStandAlways) (list : GatheringsList) (start : Start) (all :
           (λ closes. let differ : Client signal ≡ Host (Closed closes.cause) = sym is ∙ closes.is in absurd cc))
 
       -- a transaction that is open isn't known to be committed
-      not_known : (t : OpenTransaction) → IsIn t own.client.api.opened → t.tx ≡ Some tx → is_known start old tx ≡ true → ⊥
+      not_known : (t : OpenTransaction) → IsIn t own.client.api.opened → t.tx ≡ Some tx → is_known start old tx ≡ true
+          → ⊥
       not_known t there is knows =
           let some = any_counts (has_tx tx) own.client.api.opened
           (any_of (has_tx tx) own.client.api.opened t there (ap (is_tx tx) is ∙ same_tx-self tx)) in
@@ -210,7 +212,8 @@ module _ (stand : AllStandAlways) (list : GatheringsList) (start : Start) (all :
               (each_in (HasAbortReason x (noted q.client x.view)) (Reported tx (Aborted why))
               (client_row q.client x).effects.marks (client_is_good x q.client).0 inside)
           row q same sound block.Arbiter inside =
-              absurd (true≢false (each_in IsNoOutcome (Reported tx (Aborted why)) (arbiter_row q.arbiter x).effects.marks
+              absurd (true≢false (each_in IsNoOutcome (Reported tx (Aborted why))
+              (arbiter_row q.arbiter x).effects.marks
               (arbiter_tells_nothing q.arbiter x).1 inside))
           row q same sound _ inside = absurd inside
 
@@ -232,7 +235,8 @@ module _ (stand : AllStandAlways) (list : GatheringsList) (start : Start) (all :
       by (inl at) rest =
           which (subst (IsMarked (Reported tx (Aborted why))) (log_of-own (machine start) e es 0 at) marked)
         where
-          which : IsIn (Reported tx (Aborted why)) e.step.marks ⊎ IsMarked (Reported tx (Aborted why)) (logs_of start es 0)
+          which : IsIn (Reported tx (Aborted why)) e.step.marks
+              ⊎ IsMarked (Reported tx (Aborted why)) (logs_of start es 0)
               → fate start (logs_of start es) tx ≡ aborts
           which (inl now) = now_aborts e es moment at tx why not_down now
           which (inr older) = rest older

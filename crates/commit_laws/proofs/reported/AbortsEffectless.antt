@@ -52,7 +52,8 @@ is_abort_of tx (Reported other (Aborted cause)) = same_tx other tx
 is_abort_of tx mark = false
 
 -- which is another report than that of its commit
-apart : (tx : TxId) (mark : Mark) → one_if (is_reported tx mark) + one_if (is_abort_of tx mark) ≤ one_if (is_report tx mark)
+apart : (tx : TxId) (mark : Mark)
+    → one_if (is_reported tx mark) + one_if (is_abort_of tx mark) ≤ one_if (is_report tx mark)
 apart tx (Reported other outcome) = by outcome
   where
     by : (outcome : Outcome)
@@ -101,7 +102,8 @@ reported_apart start logs are tx why marked has =
     ))
 
 module _ (reported : ReportedAbort) (applied : AppliedCommit) (start : Start) (logs : ℕ → List HostStep)
-    (are : AreOfCluster start logs) (tx : TxId) (why : AbortCause) (marked : IsMarked (Reported tx (Aborted why)) (logs 0))
+    (are : AreOfCluster start logs) (tx : TxId) (why : AbortCause)
+    (marked : IsMarked (Reported tx (Aborted why)) (logs 0))
     (not_down : why ≢ cause.Down)
   where
     abbrev events : List HostStep
@@ -147,7 +149,8 @@ module _ (reported : ReportedAbort) (applied : AppliedCommit) (start : Start) (l
         (λ entry there. by entry (kept_in (is_kept (hosts start) logs) entry (entries (hosts start) logs) there).passes
         (same_tx entry.tx tx) refl)
       where
-        by : (entry : Entry) → is_kept (hosts start) logs entry ≡ true → (b : Bool) → same_tx entry.tx tx ≡ b → b ≡ false
+        by : (entry : Entry) → is_kept (hosts start) logs entry ≡ true → (b : Bool) → same_tx entry.tx tx ≡ b
+            → b ≡ false
         by entry kept false is = refl
         by entry kept true is = absurd (no_entry entry kept (same_tx-is entry.tx tx is))
 

@@ -108,12 +108,14 @@ module _ (stand : AllStandAlways) (start : Start) (all : ℕ → List HostStep) 
         took tx
         (client_told (TellsForth (λ v. is_forth start old v ≡ true)) (forth_is_known start all es before).signals
         (TcCommitConf tx epoch) is sound)
-        (client_told (ComesWhenDone start old) (stand start all es before).commits.done (TcCommitConf tx epoch) is sound)
+        (client_told (ComesWhenDone start old) (stand start all es before).commits.done (TcCommitConf tx epoch) is
+        sound)
     told sound tx (by_takeover epoch is) =
         took tx
         (client_told (TellsForth (λ v. is_forth start old v ≡ true)) (forth_is_known start all es before).signals
         (TcKeyFailConf tx epoch) is sound)
-        (client_told (ComesWhenDone start old) (stand start all es before).commits.done (TcKeyFailConf tx epoch) is sound).0
+        (client_told (ComesWhenDone start old) (stand start all es before).commits.done (TcKeyFailConf tx epoch) is
+        sound).0
 
     reasons : Each (HasReason (Unit {0}) (TookEffect start old)) e.step.marks
     reasons =

@@ -173,7 +173,8 @@ module _ (O S : TxId → Type 0) where
     state = record {
       attended =
           at_stage stage
-          (attended_more O S (SaidBy (stage_effects s.node s.layout stage g 0).sends) (λ tx said. inl said) s.gathered all);
+          (attended_more O S (SaidBy (stage_effects s.node s.layout stage g 0).sends) (λ tx said. inl said) s.gathered
+          all);
       first = first;
     };
     sends = stage_last s.node s.layout stage g 0;
@@ -279,7 +280,8 @@ module _ (O S : TxId → Type 0) where
 
     -- where members are asked, and all that have to end do, whatever it takes
     pub goes_on_telling : (x : Signal) → ((member_count s.layout.view == 0) ≡ true → ⊥)
-        → ((n : ℕ) → x.body ≡ Takeover LqhTransEnd → s.stage ≡ Gathering n → nat_lt 1 n ≡ false → AreAttended O S s.gathered)
+        → ((n : ℕ) → x.body ≡ Takeover LqhTransEnd → s.stage ≡ Gathering n → nat_lt 1 n ≡ false → AreAttended O S
+        s.gathered)
         → TellsOn (takeover_row s x)
     unfolding entering
     goes_on_telling x some closes =

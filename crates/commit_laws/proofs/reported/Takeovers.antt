@@ -133,7 +133,8 @@ has_members view m there none = by view.full there none
 abbrev pub TakeoverTells : Start → (ℕ → List HostStep) → Member → Type 0
 TakeoverTells start logs member =
     number_in start logs (tc_of start member) ≡ current_number start logs
-    → IsRunning (sound_machine start) (logs (tc_of start member)) → CanTell start (tc_of start member) (logs (tc_of start member))
+    → IsRunning (sound_machine start) (logs (tc_of start member))
+    → CanTell start (tc_of start member) (logs (tc_of start member))
     → TellsAll (IsOrphan (current start logs))
     (λ tx. IsSaid start logs tx (sent (sound_machine start) (tc_of start member) 0 (logs (tc_of start member))))
     (takeover_at start logs member)
@@ -181,7 +182,8 @@ module _ (list : GatheringsList) (start : Start) (all : ℕ → List HostStep) (
     said_more tx ys zs past (known is) = known (known_more start all e es moment tx is)
     said_more tx ys zs past (told one) = longer start new tx ys zs past (told one)
 
-    module _ (member : Member) (there : IsIn member (made start)) (before : TakeoverTells start (logs_of start es) member) where
+    module _ (member : Member) (there : IsIn member (made start))
+        (before : TakeoverTells start (logs_of start es) member) where
       abbrev h : ℕ
       h = tc_of start member
 
@@ -247,7 +249,8 @@ module _ (list : GatheringsList) (start : Start) (all : ℕ → List HostStep) (
             → (b : BlockId) → x.to.block ≡ b → IsTakenNow start all e es moment b
         taken_now between seen front entering passed same b to =
             passed_now start all e es moment between seen front
-            (subst (λ k. Enters (after start k (old k)).parts (view_after start k (old k)) x between seen front) (sym at)
+            (subst (λ k. Enters (after start k (old k)).parts (view_after start k (old k)) x between seen front)
+            (sym at)
             (subst (λ (parts : Parts). Enters parts stood x between seen front) (sym own.runs) entering))
             passed (subst (λ k. view_after start k (e ∷ old k) ≡ seen) (sym at) same) b to
 
@@ -325,7 +328,8 @@ module _ (list : GatheringsList) (start : Start) (all : ℕ → List HostStep) (
                 tells = subst (TellsAll O S) takeover_same (was still running (can_before start h log e same can));
                 back =
                     subst (λ (s : TakeoverState). IsAbortingAt S s.stage (slice_get s.gathered 0)) takeover_same
-                    (back_more (takeover_after start member log).stage (slice_get (takeover_after start member log).gathered 0)
+                    (back_more (takeover_after start member log).stage
+                    (slice_get (takeover_after start member log).gathered 0)
                     (stands_on start all e es follows moves member there still).aborting);
                 members =
                     has_members own.own.takeover.layout.view member
@@ -416,7 +420,8 @@ module _ (list : GatheringsList) (start : Start) (all : ℕ → List HostStep) (
             behind runs = by goes
               where
                 next_view : step.state.standing.view ≡ view
-                next_view = ap (λ (s : hosts.Host). s.standing.view) (sym (told_some h (part_some start kinds.Tc member) step))
+                next_view =
+                    ap (λ (s : hosts.Host). s.standing.view) (sym (told_some h (part_some start kinds.Tc member) step))
 
                 by : HostGoes start.shape (part.Tc own.own) stood x step → Behind
                 by (halts is) = absurd (true≢false (sym (ap stops_by marks ∙ is) ∙ runs))
@@ -433,7 +438,8 @@ module _ (list : GatheringsList) (start : Start) (all : ℕ → List HostStep) (
                     let row : step.effects.sends ≡ front ++ (parts_row (part.Tc i.q) x).effects.sends =
                     sends ∙ ap (λ (parts : Parts). front ++ (parts_row parts x).effects.sends) i.is in
                     after_row front i.q
-                    (did between i (taken_now between seen front entering passed seen_is x.to.block refl) x.to.block refl)
+                    (did between i (taken_now between seen front entering passed seen_is x.to.block refl) x.to.block
+                    refl)
                     row (same ∙ ap (λ (parts : Parts). (parts_row parts x).state) i.is)
 
             tells_now : stops_by e.step.marks ≡ false
@@ -447,13 +453,15 @@ module _ (list : GatheringsList) (start : Start) (all : ℕ → List HostStep) (
                 b.now.takeover b.tells)
               where
                 on : (tx : TxId) → SaidBy O S step.effects.sends tx → IsSaid start new tx (sent n h 0 (e ∷ log))
-                on tx (inl said) = longer start new tx (sent n h 0 log) (sent n h 0 (e ∷ log)) (sent_more n h 0 log e) said
+                on tx (inl said) =
+                    longer start new tx (sent n h 0 log) (sent n h 0 (e ∷ log)) (sent_more n h 0 log e) said
                 on tx (inr told_now) = by (is_tx start.shape tx) refl
                   where
                     by : (b : Bool) → is_tx start.shape tx ≡ b → IsSaid start new tx (sent n h 0 (e ∷ log))
                     by true is =
                         let link =
-                        goes_on_link start h log e runs can (Client (TcKeyFailConf tx told_now.epoch)) told_now.there refl
+                        goes_on_link start h log e runs can (Client (TcKeyFailConf tx told_now.epoch)) told_now.there
+                        refl
                         is in
                         told (record {
                           epoch = told_now.epoch;
@@ -470,7 +478,8 @@ module _ (list : GatheringsList) (start : Start) (all : ℕ → List HostStep) (
         words_now can runs o inside_sends is tx orphan = by goes
           where
             next_view : step.state.standing.view ≡ view
-            next_view = ap (λ (s : hosts.Host). s.standing.view) (sym (told_some h (part_some start kinds.Tc member) step))
+            next_view =
+                ap (λ (s : hosts.Host). s.standing.view) (sym (told_some h (part_some start kinds.Tc member) step))
 
             never : (sends : List Outgoing) → AreNoWords sends → IsIn o sends → S tx
             never sends all there =
@@ -516,7 +525,8 @@ module _ (list : GatheringsList) (start : Start) (all : ℕ → List HostStep) (
                 which : IsIn o front ⊎ IsIn o (parts_row (part.Tc i.q) x).effects.sends → S tx
                 which (inl there) = never front (front_none between seen front entering) there
                 which (inr there) =
-                    last i.q (did can (ap (λ (v : View). v.number) is_current) between i now x.to.block refl).words there
+                    last i.q (did can (ap (λ (v : View). v.number) is_current) between i now x.to.block refl).words
+                    there
                     is_current
 
       -- so it is behind each event
@@ -544,12 +554,14 @@ module _ (list : GatheringsList) (start : Start) (all : ℕ → List HostStep) (
     module _ (tells : (member : Member) → IsIn member (made start) → TakeoverTells start (logs_of start es) member)
         (last : CompletesLast start (logs_of start es))
       where
-        module _ (i : ℕ) (y : Addressed) (older : List Addressed) (is : y.signal.body ≡ Client NfCompleteRep) (tx : TxId)
+        module _ (i : ℕ) (y : Addressed) (older : List Addressed) (is : y.signal.body ≡ Client NfCompleteRep)
+            (tx : TxId)
             (orphan : IsOrphan y.signal.view tx)
           where
             comes : (at : e.host ≡ i) → IsIn y (sent_by n i (old i) e) → (n.to y == 0) ≡ true
                 → IsSaid start new tx (sent n i 0 (old i))
-            comes at inside to = by (tc_host_is start i (subst (λ k. k < host_count start) at (host_low start all e es moment)))
+            comes at inside to =
+                by (tc_host_is start i (subst (λ k. k < host_count start) at (host_low start all e es moment)))
               where
                 one : IsNew start i (old i) e y
                 one = new_sent start i (old i) e y inside (eqb-true y.to 0 to)
@@ -577,7 +589,8 @@ module _ (list : GatheringsList) (start : Start) (all : ℕ → List HostStep) (
                         → IsSaid start new tx (sent n i 0 (old i))
                     at_takeover me there own at one going =
                         subst (λ k. IsSaid start new tx (sent n k 0 (old k))) (sym own)
-                        (words_now me there (tells me there) (at ∙ own) (subst (λ k. CanTell start k (e ∷ old k)) own one.can)
+                        (words_now me there (tells me there) (at ∙ own)
+                        (subst (λ k. CanTell start k (e ∷ old k)) own one.can)
                         going one.by.sent
                         (subst (λ k. IsIn one.by.sent (step_after start k (old k) e).effects.sends) own one.by.there)
                         (sym one.by.body ∙ is) tx
@@ -590,7 +603,8 @@ module _ (list : GatheringsList) (start : Start) (all : ℕ → List HostStep) (
             by : (e.host ≡ i) ⊎ (e.host ≢ i) → IsSaid start new tx older
             by (inr other) =
                 said_more tx older older (past_self older)
-                (last i y newer older (sym (ap (sent n i 0) (log_of-other (machine start) e es i other)) ∙ is) body tx orphan)
+                (last i y newer older (sym (ap (sent n i 0) (log_of-other (machine start) e es i other)) ∙ is) body tx
+                orphan)
             by (inl at) =
                 which (put_at n 0 (sent_by n i (old i) e) (sent n i 0 (old i)) y newer older
                 (sym (ap (sent n i 0) (log_of-own (machine start) e es i at)) ∙ is))

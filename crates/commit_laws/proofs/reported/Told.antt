@@ -94,7 +94,8 @@ pub record ClientStands (start : Start) (logs : ℕ → List HostStep) : Type 0 
       → (tx : TxId) (epoch : ℕ) → z.signal.body ≡ Client (TcKeyFailConf tx epoch)
       → (is_known start logs tx ≡ true) ⊎ (is_member (view_after start 0 (logs 0)) z.signal.member ≡ false)
   -- a transaction of whose commit it knows isn't open any more
-  pub closed : (tx : TxId) → is_known start logs tx ≡ true → in_client (count_open tx) (after start 0 (logs 0)).parts ≡ 0
+  pub closed : (tx : TxId) → is_known start logs tx ≡ true
+      → in_client (count_open tx) (after start 0 (logs 0)).parts ≡ 0
   -- whoever has no coordinator in a view in which a takeover is complete aborts, unless its commit is known
   pub over : (view : View) → (seeing start (logs 0)).part.client.taken_over ≡ Some view → (tx : TxId)
       → is_member view (coordinator_member tx) ≡ false
@@ -265,7 +266,8 @@ module _ (start : Start) (all : ℕ → List HostStep) (e : HostStep) (es : List
       unfolding is_member
       still_out m out = by (is_member view m) refl (cases_lt stood.number view.number)
         where
-          by : (b : Bool) → is_member view m ≡ b → (stood.number < view.number) ⊎ (view.number ≤ stood.number) → b ≡ false
+          by : (b : Bool) → is_member view m ≡ b → (stood.number < view.number) ⊎ (view.number ≤ stood.number)
+              → b ≡ false
           by false is either = refl
           by true is (inr low) =
               let rises = view_rises start 0 log e in
@@ -336,7 +338,8 @@ module _ (start : Start) (all : ℕ → List HostStep) (e : HostStep) (es : List
                 (subst (λ b. step.effects.sends ≡ (shell_row q b x).effects.sends) to sends)
                 (takes_word tx q.client x (by_takeover epoch body))
 
-      heard_next : (i : ℕ) (z : Addressed) → IsIn z (taken n i (e ∷ log)) → z.signal.to ≡ client → (tx : TxId) (epoch : ℕ)
+      heard_next : (i : ℕ) (z : Addressed) → IsIn z (taken n i (e ∷ log)) → z.signal.to ≡ client
+          → (tx : TxId) (epoch : ℕ)
           → z.signal.body ≡ Client (TcKeyFailConf tx epoch)
           → (is_known start new tx ≡ true) ⊎ (is_member view z.signal.member ≡ false)
       heard_next i z there place tx epoch body = by (is_from n i e) refl there
@@ -354,7 +357,8 @@ module _ (start : Start) (all : ℕ → List HostStep) (e : HostStep) (es : List
           newest from is =
               subst (λ (s : Signal). (is_known start new tx ≡ true) ⊎ (is_member view s.member ≡ false)) (sym is)
               (word_heard
-              (sound_of ((machine start).asked e) (is_well_formed start.shape x) (n.from (n.signal e) == i) from) tx epoch
+              (sound_of ((machine start).asked e) (is_well_formed start.shape x) (n.from (n.signal e) == i) from) tx
+              epoch
               (ap (λ (s : Signal). s.body) (sym is) ∙ body) (ap (λ (s : Signal). s.to) (sym is) ∙ place))
 
           by : (b : Bool) → is_from n i e ≡ b → IsIn z (if b then n.signal e ∷ taken n i log else taken n i log)
@@ -368,11 +372,13 @@ module _ (start : Start) (all : ℕ → List HostStep) (e : HostStep) (es : List
         abbrev open_in : Parts → ℕ
         open_in parts = in_client (count_open tx) parts
 
-        light : open_in (after start 0 (e ∷ log)).parts ≤ open_in (after start 0 log).parts + one_if (is_begin tx x.body)
+        light : open_in (after start 0 (e ∷ log)).parts
+            ≤ open_in (after start 0 log).parts + one_if (is_begin tx x.body)
         light =
             let is =
             step_light (of_client no_body (is_report tx) (count_open tx) (is_begin tx)) IsShell
-            (client_light no_body (is_report tx) (count_open tx) (is_begin tx) (reports_client tx)) x 0 (after start 0 log)
+            (client_light no_body (is_report tx) (count_open tx) (is_begin tx) (reports_client tx)) x 0
+            (after start 0 log)
             (runs_shell start log) in
             let below = is.below in
             omega (arith, below)
@@ -404,7 +410,8 @@ module _ (start : Start) (all : ℕ → List HostStep) (e : HostStep) (es : List
             ∙ ap (λ (ts : List OpenTransaction). count_by (has_tx tx) ts) (shell_next start log e q parts).opened
 
         -- where the commit comes to be known
-        now_closed : is_sent (is_acknowledgement tx) step.effects.sends ≡ true → open_in (after start 0 (e ∷ log)).parts ≡ 0
+        now_closed : is_sent (is_acknowledgement tx) step.effects.sends ≡ true
+            → open_in (after start 0 (e ∷ log)).parts ≡ 0
         unfolding shell_row
         now_closed acks = by goes
           where
@@ -412,7 +419,8 @@ module _ (start : Start) (all : ℕ → List HostStep) (e : HostStep) (es : List
                 → is_sent (is_acknowledgement tx) (client_row q.client x).effects.sends ≡ true
                 → open_in (after start 0 (e ∷ log)).parts ≡ 0
             took q same parts acks =
-                let o = passing (λ (u : Outgoing). is_acknowledgement tx u.body) (client_row q.client x).effects.sends acks in
+                let o = passing (λ (u : Outgoing). is_acknowledgement tx u.body) (client_row q.client x).effects.sends
+                acks in
                 let word = told_of o.item.body o.is (each_in (λ (u : Outgoing). Answers x.body u.body) o.item
                 (client_row q.client x).effects.sends (client_acknowledges x q.client) o.there) in
                 let none = few word (takes_word tx q.client x word) in
@@ -420,7 +428,8 @@ module _ (start : Start) (all : ℕ → List HostStep) (e : HostStep) (es : List
                 omega (arith, none, is)
               where
                 told_of : (body : Body) → is_acknowledgement tx body ≡ true → Answers x.body body → IsToldOf tx x.body
-                told_of (Client (TcCommitAck other)) own is = subst (λ v. IsToldOf v x.body) (same_tx-is other tx own) is
+                told_of (Client (TcCommitAck other)) own is =
+                    subst (λ v. IsToldOf v x.body) (same_tx-is other tx own) is
                 told_of body own is = absurd cc
 
                 few : IsToldOf tx x.body → TakesWord tx (noted q.client x.view) x (client_row q.client x)
@@ -435,18 +444,22 @@ module _ (start : Start) (all : ℕ → List HostStep) (e : HostStep) (es : List
                     which rows begins open_once (word_noted tx number (noted q.client x.view).api).marks
                   where
                     marks_are : count_by (is_report tx) (client_row q.client x).effects.marks
-                        ≡ count_by (is_report tx) (commit_report_row (noted q.client x.view).api tx number).effects.marks
+                        ≡ count_by (is_report tx)
+                        (commit_report_row (noted q.client x.view).api tx number).effects.marks
                     marks_are = ap (λ (t : Step ClientState). count_by (is_report tx) t.effects.marks) is
 
                     which : count_by (is_report tx) (client_row q.client x).effects.marks
-                        + count_open tx (client_row q.client x).state ≤ count_open tx q.client + one_if (is_begin tx x.body)
+                        + count_open tx (client_row q.client x).state
+                        ≤ count_open tx q.client + one_if (is_begin tx x.body)
                         → one_if (is_begin tx x.body) ≡ 0 → count_open tx q.client ≤ 1
                         → (tally (has_tx tx) (noted q.client x.view).api.opened ≡ 0)
-                        ⊎ (1 ≤ count_by (is_report tx) (commit_report_row (noted q.client x.view).api tx number).effects.marks)
+                        ⊎ (1 ≤ count_by (is_report tx) (commit_report_row (noted q.client x.view).api tx
+                        number).effects.marks)
                         → count_open tx (client_row q.client x).state ≤ 0
                     which rows begins once (inl none) =
                         let same_tally = tally_counts (has_tx tx) (noted q.client x.view).api.opened in
-                        let same_open : count_by (has_tx tx) (noted q.client x.view).api.opened ≡ count_open tx q.client =
+                        let same_open : count_by (has_tx tx) (noted q.client x.view).api.opened
+                        ≡ count_open tx q.client =
                         ap (λ (ts : List OpenTransaction). count_by (has_tx tx) ts) (noted_opened q.client x.view) in
                         omega (arith, rows, begins, none, same_tally, same_open)
                     which rows begins once (inr one) = omega (arith, rows, begins, once, one, marks_are)
@@ -523,15 +536,18 @@ module _ (start : Start) (all : ℕ → List HostStep) (e : HostStep) (es : List
             where
               of_past : IsPast (n.signal e ∷ taken n i log) (sent n i 0 (old i))
                   → (fate start new tx ≡ aborts) ⊎ (is_known start new tx ≡ true)
-              of_past past = which (last i (n.signal e) past.newer (taken n i log) past.is body tx (not_led x.view tx out))
+              of_past past =
+                  which (last i (n.signal e) past.newer (taken n i log) past.is body tx (not_led x.view tx out))
                 where
-                  members : Each (λ (y : Addressed). y.signal.member ≡ member_at (made start) i) (n.signal e ∷ taken n i log)
+                  members : Each (λ (y : Addressed). y.signal.member ≡ member_at (made start) i)
+                      (n.signal e ∷ taken n i log)
                   members = each_past _ past (sent_members start i 0 (old i))
 
                   not_both : (z : Addressed) → IsIn z (taken n i log) → is_member stood z.signal.member ≡ false → ⊥
                   not_both z there off =
                       let own_member : z.signal.member ≡ x.member =
-                      each_in (λ (y : Addressed). y.signal.member ≡ member_at (made start) i) z (taken n i log) members.1 there
+                      each_in (λ (y : Addressed). y.signal.member ≡ member_at (made start) i) z (taken n i log)
+                      members.1 there
                       ∙ sym members.0 in
                       true≢false (sym (subst (λ v. is_member v x.member ≡ true) seen_is vouched)
                       ∙ subst (λ m. is_member view m ≡ false) own_member (still_out z.signal.member off))
@@ -617,7 +633,8 @@ module _ (start : Start) (all : ℕ → List HostStep) (e : HostStep) (es : List
       }
 
     -- so it is behind each event
-    pub client_next : IsRunning (sound_machine start) (logs_of start (e ∷ es) 0) → ClientStands start (logs_of start (e ∷ es))
+    pub client_next : IsRunning (sound_machine start) (logs_of start (e ∷ es) 0)
+        → ClientStands start (logs_of start (e ∷ es))
     client_next runs = by (cases_eq e.host 0)
       where
         by : (e.host ≡ 0) ⊎ (e.host ≢ 0) → ClientStands start new

@@ -159,11 +159,13 @@ module _ (forth : ForthIsKnownAlways) (transit : MomentsHaveTransit) (start : St
         ((follows.stood.parts one.0 one.1).rests tx waits.transaction hale key (off key))
 
 -- and so it is of one that is kept
-pub settled_now : (forth : ForthIsKnownAlways) → MomentsHaveTransit → (start : Start) (all : ℕ → List HostStep) (e : HostStep)
+pub settled_now : (forth : ForthIsKnownAlways) → MomentsHaveTransit
+    → (start : Start) (all : ℕ → List HostStep) (e : HostStep)
     (es : List HostStep) → Follows start all e es → (tx : TxId) → IsKept start (logs_of start (e ∷ es)) tx
     → is_decided start (logs_of start es) tx ≡ false → (key : List ℕ)
     → IsSettledWith start (logs_of start es) key tx (decided_ops start (logs_of start (e ∷ es)) tx)
 settled_now forth transit start all e es follows tx kept isnt key =
     settled_then forth transit start all e es follows tx kept.decided
-    (is_now forth start all e es follows.moment tx (decides_now forth start all e es follows.moment tx kept.decided isnt) isnt
+    (is_now forth start all e es follows.moment tx
+    (decides_now forth start all e es follows.moment tx kept.decided isnt) isnt
     kept) isnt key

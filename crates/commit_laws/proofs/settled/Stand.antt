@@ -17,24 +17,25 @@ use Rattle.commit_laws.proofs.commits.WholeAll.{commits_go_whole}
 abbrev pub FirstStands : Type 0
 FirstStands = (start : Start) (all : ℕ → List HostStep) → IsMoment start all [] → AllStand start []
 
-module _ (first : FirstStands) (answers : EventsKeepAnswered) (parts : EventsKeepParts) (whole : GatheringsAreWhole) where
-  stands_next : (start : Start) (all : ℕ → List HostStep) (e : HostStep) (es : List HostStep) → Follows start all e es
-      → AllStand start (e ∷ es)
-  stands_next start all e es follows = record {
-    spoken = events_keep_spoken whole start all e es follows moves;
-    answered = answers start all e es follows moves;
-    takeovers = events_keep_takeovers whole start all e es follows moves;
-    commits =
-        events_keep_commits commits_go_whole moments_have_transit start all e es follows moves
-        (answers start all e es follows moves);
-    parts = parts start all e es follows moves;
-  }
-    where
-      moves : (tx : TxId) → FatesMove start e es tx
-      moves = fates_move known_commit start all e es follows
+module _ (first : FirstStands) (answers : EventsKeepAnswered) (parts : EventsKeepParts) (whole : GatheringsAreWhole)
+  where
+    stands_next : (start : Start) (all : ℕ → List HostStep) (e : HostStep) (es : List HostStep) → Follows start all e es
+        → AllStand start (e ∷ es)
+    stands_next start all e es follows = record {
+      spoken = events_keep_spoken whole start all e es follows moves;
+      answered = answers start all e es follows moves;
+      takeovers = events_keep_takeovers whole start all e es follows moves;
+      commits =
+          events_keep_commits commits_go_whole moments_have_transit start all e es follows moves
+          (answers start all e es follows moves);
+      parts = parts start all e es follows moves;
+    }
+      where
+        moves : (tx : TxId) → FatesMove start e es tx
+        moves = fates_move known_commit start all e es follows
 
-  pub stand_always : AllStandAlways
-  stand_always start all [] moment = first start all moment
-  stand_always start all (e ∷ es) moment =
-      stands_next start all e es
-      (record { moment = moment; stood = stand_always start all es (moment_less start all e es moment) })
+    pub stand_always : AllStandAlways
+    stand_always start all [] moment = first start all moment
+    stand_always start all (e ∷ es) moment =
+        stands_next start all e es
+        (record { moment = moment; stood = stand_always start all es (moment_less start all e es moment) })

@@ -92,7 +92,8 @@ module _ (start : Start) (all : ℕ → List HostStep) (es : List HostStep) (mom
 
         committed : is_known start logs tx ≡ true → p.own.committed ≡ true
         committed is =
-            let written = (stood.records tx (kept is) p.member (replica_made start all es moment p.key p.member p.replica)
+            let written =
+            (stood.records tx (kept is) p.member (replica_made start all es moment p.key p.member p.replica)
             p.key p.own p.there).0 in
             sym (ap (is_committed_by (has_marker_at start logs p.member p.key tx || is_known start logs tx)) p.there)
             ∙ (known_done tx is p.key written).committed p.member p.replica
@@ -124,7 +125,8 @@ module _ (start : Start) (all : ℕ → List HostStep) (es : List HostStep) (mom
         traceless : g.epoch ≡ None → has_trace start logs g.tx ≡ false
         traceless none = not_true (has_trace start logs g.tx) found
           where
-            left : (one : Member) → IsIn one (members_now start logs) → leave_trace g.tx (rows_at start logs one) ≡ true → ⊥
+            left : (one : Member) → IsIn one (members_now start logs) → leave_trace g.tx (rows_at start logs one) ≡ true
+                → ⊥
             left one there_one is =
                 by (either (list_any (is_committed_of g.tx) (rows_at start logs one).lqh.rows.pending)
                 (list_any (is_marker_of g.tx) (rows_at start logs one).lqh.markers) is)
@@ -134,7 +136,8 @@ module _ (start : Start) (all : ℕ → List HostStep) (es : List HostStep) (mom
 
                 of_record : (r : PendingRecord) → r.tx ≡ g.tx
                     → (has_marker_at start logs one r.key r.tx || is_known start logs r.tx) ≡ true → ⊥
-                of_record r own marked = which (either (has_marker_at start logs one r.key r.tx) (is_known start logs r.tx) marked)
+                of_record r own marked =
+                    which (either (has_marker_at start logs one r.key r.tx) (is_known start logs r.tx) marked)
                   where
                     which : (has_marker_at start logs one r.key r.tx ≡ true) ⊎ (is_known start logs r.tx ≡ true) → ⊥
                     which (inl there_marker) =
@@ -150,9 +153,11 @@ module _ (start : Start) (all : ℕ → List HostStep) (es : List HostStep) (mom
                     let parts = and_parts _ _ r.is in
                     of_record r.item (same_tx-is r.item.tx g.tx parts.0)
                     (each_in (λ (r : PendingRecord).
-                    r.committed ≡ true → (has_marker_at start logs one r.key r.tx || is_known start logs r.tx) ≡ true) r.item
+                    r.committed ≡ true → (has_marker_at start logs one r.key r.tx || is_known start logs r.tx) ≡ true)
+                    r.item
                     (rows_at start logs one).lqh.rows.pending
-                    (commits_are_remembered start all es moment one (member_made start all es moment one there_one)) r.there
+                    (commits_are_remembered start all es moment one (member_made start all es moment one there_one))
+                    r.there
                     parts.1)
                 by (inr markers) =
                     let m = passing (is_marker_of g.tx) (rows_at start logs one).lqh.markers markers in
@@ -162,7 +167,8 @@ module _ (start : Start) (all : ℕ → List HostStep) (es : List HostStep) (mom
 
             found : has_trace start logs g.tx ≡ true → ⊥
             found is =
-                let one = passing (λ (m : Member). leave_trace g.tx (rows_at start logs m)) (members_now start logs) is in
+                let one =
+                passing (λ (m : Member). leave_trace g.tx (rows_at start logs m)) (members_now start logs) is in
                 left one.item one.there one.is
 
         left_is : g.epoch ≡ None → fate start logs g.tx ≡ aborts

@@ -30,7 +30,8 @@ use Rattle.commit_laws.proofs.fates.SpokenTakeover.{TakeoverIs}
 use Rattle.commit_laws.proofs.takeover.Closes.{all_right}
 use Rattle.commit_laws.proofs.takeover.Words.{Aborts, Commits, IsRight, stands_is, takeover_grows}
 
-module _ (start : Start) (all : ℕ → List HostStep) (e : HostStep) (es : List HostStep) (follows : Follows start all e es)
+module _ (start : Start) (all : ℕ → List HostStep) (e : HostStep) (es : List HostStep)
+    (follows : Follows start all e es)
     (moves : (tx : TxId) → FatesMove start e es tx) (member : Member) (there : IsIn member (made start))
   where
     abbrev old : ℕ → List HostStep
@@ -58,8 +59,10 @@ module _ (start : Start) (all : ℕ → List HostStep) (e : HostStep) (es : List
           (IsRight start (logs_of start (e ∷ es))) (takeover_after start member (logs_of start es (tc_of start member)))
       stands_on =
           let stood = follows.stood.takeovers.each member there in
-          takeover_grows (Aborts start old) (Commits start old) (Aborts start new) (Commits start new) (IsRight start old)
-          (IsRight start new) (λ tx. (moves tx).aborting) (commits_more start all e es follows.moment moves still.current_is)
+          takeover_grows (Aborts start old) (Commits start old) (Aborts start new) (Commits start new)
+          (IsRight start old)
+          (IsRight start new) (λ tx. (moves tx).aborting)
+          (commits_more start all e es follows.moment moves still.current_is)
           (λ (g : Gathered). IsOrphan (current start old) g.tx)
           (right_more start all e es follows.moment moves still.current_is)
           (takeover_after start member (old (tc_of start member))) orphans

@@ -169,7 +169,8 @@ module _ (whole : GatheringsAreWhole) (start : Start) (all : ℕ → List HostSt
                 (takeover_goes start all e es follows moves member there whole at) step.does.enters passed to)
                 (heard
                 (taken start all e es moment member there at (IsRight start new)
-                (takeover_goes start all e es follows moves member there whole at) step.does.enters passed block.Takeover to))
+                (takeover_goes start all e es follows moves member there whole at) step.does.enters passed
+                block.Takeover to))
             by block.Tc to = has
             by block.Dih to = has
             by _ to = has
@@ -209,7 +210,8 @@ module _ (whole : GatheringsAreWhole) (start : Start) (all : ℕ → List HostSt
     pub takeover_next : TakeoverStands start (logs_of start (e ∷ es)) member
     takeover_next = record {
       orphans =
-          subst (λ (v : View). Each (λ (g : Gathered). IsOrphan v g.tx) (takeover_at start new member).gathered) (sym laid)
+          subst (λ (v : View). Each (λ (g : Gathered). IsOrphan v g.tx) (takeover_at start new member).gathered)
+          (sym laid)
           ((takeovers_are_of_orphans start all (e ∷ es) moment).gathered member there);
       told = λ stands. (all_stands stands).told;
       ruled = λ stands. (all_stands stands).ruled;

@@ -72,7 +72,8 @@ pub in_cell : (key : List ℕ) (r : PendingRecord) (xs : List PendingRecord) →
     → IsIn (without_epoch r) (map without_epoch (filter (is_on key) xs))
 in_cell key r [] there on = absurd there
 in_cell key r (x ∷ xs) (inl same) on =
-    subst (λ (b : Bool). IsIn (without_epoch r) (map without_epoch (cond b (x ∷ filter (is_on key) xs) (filter (is_on key) xs))))
+    subst (λ (b : Bool). IsIn (without_epoch r) (map without_epoch
+    (cond b (x ∷ filter (is_on key) xs) (filter (is_on key) xs))))
     (sym (ap (is_on key) (sym same) ∙ on)) (inl (ap without_epoch same))
 in_cell key r (x ∷ xs) (inr there) on = by (is_on key x) (in_cell key r xs there on)
   where
@@ -85,17 +86,20 @@ in_cell key r (x ∷ xs) (inr there) on = by (is_on key x) (in_cell key r xs the
 pub once_found : (xs : List PendingRecord) → AreOnce xs → (r : PendingRecord) → IsIn r xs → found r.tx xs ≡ Some r
 once_found [] once r there = absurd there
 once_found (x ∷ xs) once r (inl same) =
-    ap (λ b. if b then Some x else found r.tx xs) (ap (λ (y : PendingRecord). same_tx y.tx r.tx) (sym same) ∙ same_tx-self r.tx)
+    ap (λ b. if b then Some x else found r.tx xs)
+    (ap (λ (y : PendingRecord). same_tx y.tx r.tx) (sym same) ∙ same_tx-self r.tx)
     ∙ ap (λ (y : PendingRecord). Some y) (sym same)
 once_found (x ∷ xs) once r (inr there) = by (same_tx x.tx r.tx) refl (once_found xs once.1 r there)
   where
     by : (b : Bool) → same_tx x.tx r.tx ≡ b → found r.tx xs ≡ Some r
         → (if b then Some x else found r.tx xs) ≡ Some r
     by true own more =
-        absurd (let none : Some r ≡ None = sym more ∙ (ap (λ v. found v xs) (sym (same_tx-is x.tx r.tx own)) ∙ once.0) in cc)
+        absurd (let none : Some r ≡ None = sym more ∙ (ap (λ v. found v xs) (sym (same_tx-is x.tx r.tx own)) ∙ once.0)
+        in cc)
     by false off more = more
 
-module _ (start : Start) (all : ℕ → List HostStep) (e : HostStep) (es : List HostStep) (follows : Follows start all e es)
+module _ (start : Start) (all : ℕ → List HostStep) (e : HostStep) (es : List HostStep)
+    (follows : Follows start all e es)
     (moves : (tx : TxId) → FatesMove start e es tx)
   where
     abbrev old : ℕ → List HostStep
@@ -121,7 +125,8 @@ module _ (start : Start) (all : ℕ → List HostStep) (e : HostStep) (es : List
 
     -- what is told, if the transaction has no coordinator in the current view
     abbrev If : TxId → Option ℕ → Type 0
-    If tx epoch = IsOrphan (current start (logs_of start (e ∷ es))) tx → TellsFate start (logs_of start (e ∷ es)) tx epoch
+    If tx epoch =
+        IsOrphan (current start (logs_of start (e ∷ es))) tx → TellsFate start (logs_of start (e ∷ es)) tx epoch
 
     module _ (member : Member) (there : IsIn member (made start)) where
       abbrev rows : ReplicaState
@@ -186,7 +191,8 @@ module _ (start : Start) (all : ℕ → List HostStep) (e : HostStep) (es : List
             by (inl left) =
                 trace_commits (is_known start new tx) (is_led_by_full start new tx) (is_forth start new tx)
                 (is_lost start new tx) (has_trace start new tx) orphan
-                (passed (λ (m : Member). leave_trace tx (rows_at start new m)) member (members_now start new) inside left)
+                (passed (λ (m : Member). leave_trace tx (rows_at start new m)) member (members_now start new) inside
+                left)
             by (inr known) =
                 known_commits (is_known start new tx) (is_led_by_full start new tx) (is_forth start new tx)
                 (is_lost start new tx) (has_trace start new tx) known
@@ -196,7 +202,8 @@ module _ (start : Start) (all : ℕ → List HostStep) (e : HostStep) (es : List
       inside_now at stands =
           subst (IsIn member) (sym (members_full start all (e ∷ es) moment))
           (subst (λ m. IsIn m (current start new).full) (ldm_member start member there)
-          (current_host start all (e ∷ es) moment (ldm_of start member) (part_some start Ldm member) (ldm_low start member there)
+          (current_host start all (e ∷ es) moment (ldm_of start member) (part_some start Ldm member)
+          (ldm_low start member there)
           here))
         where
           here : view_after start (ldm_of start member) (new (ldm_of start member)) ≡ current start new
@@ -252,7 +259,8 @@ module _ (start : Start) (all : ℕ → List HostStep) (e : HostStep) (es : List
     tc_tells : TcStep start e.host (old e.host) e → AreFated If sends
     tc_tells step = by step.does.sent
       where
-        front : PartEnters tc_kind step.own (view_after start e.host (old e.host)) x step.does.between view step.does.front
+        front : PartEnters tc_kind step.own (view_after start e.host (old e.host)) x step.does.between view
+            step.does.front
             → AreFated If step.does.front
         front (remains same stands none) = subst (AreFated If) (sym none) tt
         front (installs above same stands is) = subst (AreFated If) (sym is) (tc_enters_fated If step.own x.view)
@@ -345,7 +353,8 @@ module _ (start : Start) (all : ℕ → List HostStep) (e : HostStep) (es : List
         each_from _ (sent (sound_machine start) i j (new i))
         (λ y there.
         joins y.signal.view y.signal.body
-        (each_in (λ (y : Addressed). TellsOf (IsOrphan y.signal.view) y.signal.body) y (sent (sound_machine start) i j (new i))
+        (each_in (λ (y : Addressed). TellsOf (IsOrphan y.signal.view) y.signal.body) y
+        (sent (sound_machine start) i j (new i))
         ((takeovers_are_of_orphans start all (e ∷ es) moment).signals i j) there)
         (each_in NowTold y (sent (sound_machine start) i j (new i)) (all_told i j) there))
       where

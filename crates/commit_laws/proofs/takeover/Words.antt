@@ -64,7 +64,8 @@ module _ (start : Start) (logs : ℕ → List HostStep) where
   both_ruled Resting (Some g) back forth = tt
   both_ruled (Gathering n) (Some g) back forth = tt
 
-  closed_of : (stage : Stage) (gs : List Gathered) → Each (IsWhole start logs stage) gs → Each (IsLeft start logs stage) gs
+  closed_of : (stage : Stage) (gs : List Gathered) → Each (IsWhole start logs stage) gs
+      → Each (IsLeft start logs stage) gs
       → Each (IsOnceClosed (IsRight start logs) stage) gs
   closed_of stage [] whole left = tt
   closed_of stage (g ∷ gs) whole left = (by stage whole.0 left.0, closed_of stage gs whole.1 left.1)

@@ -34,11 +34,16 @@ some_of {A} test (x ∷ xs) is = by (test x) refl is (some_of test xs)
     by : (b : Bool) → test x ≡ b → (b || list_any test xs) ≡ true → (list_any test xs ≡ true → IsSome test xs)
         → IsSome test (x ∷ xs)
     by true passes is rest = record { one = x; there = inl refl; passes = passes }
-    by false fails is rest = let more = rest is in record { one = more.one; there = inr more.there; passes = more.passes }
+    by false fails is rest = let more = rest is in record {
+      one = more.one;
+      there = inr more.there;
+      passes = more.passes;
+    }
 
 pub any_of : {A : Type 0} (test : A → Bool) (xs : List A) (x : A) → IsIn x xs → test x ≡ true → list_any test xs ≡ true
 any_of test [] x there passes = absurd there
-any_of test (y ∷ xs) x (inl is) passes = ap (λ z. test z || list_any test xs) (sym is) ∙ ap (λ b. b || list_any test xs) passes
+any_of test (y ∷ xs) x (inl is) passes =
+    ap (λ z. test z || list_any test xs) (sym is) ∙ ap (λ b. b || list_any test xs) passes
 any_of test (y ∷ xs) x (inr there) passes = or_right (test y) (list_any test xs) (any_of test xs x there passes)
   where
     or_right : (a b : Bool) → b ≡ true → (a || b) ≡ true
@@ -50,13 +55,15 @@ module _ (start : Start) (all : ℕ → List HostStep) (es : List HostStep) (mom
   pub full_only : members_now start (logs_of start es) ≡ (current start (logs_of start es)).full
   full_only =
       ap (λ more. (current start (logs_of start es)).full ++ more)
-      (nobody_later start all moment.cluster (current start (logs_of start es)) (moment_installed start all es moment)).starting
+      (nobody_later start all moment.cluster (current start (logs_of start es))
+      (moment_installed start all es moment)).starting
       ∙ append-nil (current start (logs_of start es)).full
 
   pub members_made : (member : Member) → IsIn member (members_now start (logs_of start es)) → IsIn member (made start)
   members_made member there = current_made start all es moment member (subst (IsIn member) full_only there)
 
-module _ (start : Start) (all : ℕ → List HostStep) (e : HostStep) (es : List HostStep) (moment : IsMoment start all (e ∷ es))
+module _ (start : Start) (all : ℕ → List HostStep) (e : HostStep) (es : List HostStep)
+    (moment : IsMoment start all (e ∷ es))
   where
     abbrev old : ℕ → List HostStep
     old = logs_of start es
@@ -71,17 +78,20 @@ module _ (start : Start) (all : ℕ → List HostStep) (e : HostStep) (es : List
         by (moments.keeps same stands) = subst (IsPart (current start old)) (sym same) (part_self (current start old))
         by (moments.raises above stands) =
             views_shrink start all moment.cluster (current start old) (current start new)
-            (moment_installed start all es (moment_less start all e es moment)) (moment_installed start all (e ∷ es) moment) above
+            (moment_installed start all es (moment_less start all e es moment))
+            (moment_installed start all (e ∷ es) moment) above
 
     pub full_was : (member : Member) → IsIn member (current start new).full → IsIn member (current start old).full
-    full_was member there = by (each_in (λ (m : Member). IsIn m (current start old).full ⊎ ⊥) member (current start new).full part_now.full there)
+    full_was member there = by (each_in (λ (m : Member). IsIn m (current start old).full ⊎ ⊥) member
+        (current start new).full part_now.full there)
       where
         by : IsIn member (current start old).full ⊎ ⊥ → IsIn member (current start old).full
         by (inl is) = is
         by (inr nowhere) = absurd nowhere
 
     -- a coordinator that is full now was so before
-    pub led_was : (tx : TxId) → is_coordinated (current start new).full tx ≡ true → is_coordinated (current start old).full tx ≡ true
+    pub led_was : (tx : TxId) → is_coordinated (current start new).full tx ≡ true
+        → is_coordinated (current start old).full tx ≡ true
     led_was tx is =
         let one = some_of (was_begun_by tx) (current start new).full is in
         any_of (was_begun_by tx) (current start old).full one.one (full_was one.one one.there) one.passes
@@ -96,4 +106,5 @@ module _ (start : Start) (all : ℕ → List HostStep) (e : HostStep) (es : List
     member_full member there = subst (IsIn member) (full_only start all es (moment_less start all e es moment)) there
 
     pub full_member : (member : Member) → IsIn member (current start old).full → IsIn member (members_now start old)
-    full_member member there = subst (IsIn member) (sym (full_only start all es (moment_less start all e es moment))) there
+    full_member member there =
+        subst (IsIn member) (sym (full_only start all es (moment_less start all e es moment))) there

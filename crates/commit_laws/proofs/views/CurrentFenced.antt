@@ -1,4 +1,5 @@
--- The coordinator of each full member of the current view is fenced at it, if it is so at each number that its member has
+-- The coordinator of each full member of the current view is fenced at it, if it is so at each number that its member
+-- has
 -- confirmed by then.
 use Rattle.std.proofs.Common.{◌≡◌, ◌≤◌, ℕ, Bool, true, false, List, [], ◌∷◌, sym, ap, subst, inl, inr, arith}
 use Rattle.std.specs.List.{list_any}
@@ -69,7 +70,8 @@ module _ (confirmed : ConfirmedIsFenced) (start : Start)
         by : (view : View) → IsSome start logs (hosts start) view → IsChosen start.shape (ballots_of start logs) view
         by view (inl first) = inl first
         by view (inr one) =
-            subst (IsChosen start.shape (ballots_of start logs)) (sym one.is) (sound.are.views one.host one.below).chosen
+            subst (IsChosen start.shape (ballots_of start logs)) (sym one.is)
+            (sound.are.views one.host one.below).chosen
 
     not_before : (h : ℕ) (log : List HostStep) → (first_view start.shape.nodes).number ≤ (view_after start h log).number
     not_before h [] =
@@ -87,14 +89,16 @@ module _ (confirmed : ConfirmedIsFenced) (start : Start)
       fence_same : fence_after start (tc_of start member) log block.Tc ≡ (coordinator_after start member log).fence
       fence_same =
           fence_is (HasAsked start logs member)
-          (fresh_coordinator member.node member.start (first_layout start.shape)) (view_after start (tc_of start member) log)
+          (fresh_coordinator member.node member.start (first_layout start.shape))
+          (view_after start (tc_of start member) log)
           (after start (tc_of start member) log).parts (view_after start (tc_of start member) log).number
           (stands_at start all member there es moment)
 
       is_fenced : now.number ≤ (coordinator_after start member log).fence
       is_fenced = by now_chosen
         where
-          by : IsChosen start.shape (ballots_of start logs) now → now.number ≤ (coordinator_after start member log).fence
+          by : IsChosen start.shape (ballots_of start logs) now
+              → now.number ≤ (coordinator_after start member log).fence
           by (inl first) =
               let is = ap (λ (v : View). v.number) first in
               let low = not_before (tc_of start member) log in

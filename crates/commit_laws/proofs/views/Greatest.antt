@@ -395,7 +395,8 @@ module _ (start : Start) (logs : ℕ → List HostStep) (are : AreOfCluster star
             of (inl is) = subst Was (sym is) header
             of (inr is) = subst Was (sym is) stands
 
-        by_was : Was top → (greatest_in e.step.marks top ≡ top) ⊎ IsIn (Installed (greatest_in e.step.marks top)) e.step.marks
+        by_was : Was top
+            → (greatest_in e.step.marks top ≡ top) ⊎ IsIn (Installed (greatest_in e.step.marks top)) e.step.marks
             → Was (greatest_in e.step.marks top)
         by_was was (inl same) = subst Was (sym same) was
         by_was was (inr there) = by_reached (greatest_in e.step.marks top) (steps.each _ there)
@@ -421,7 +422,8 @@ module _ (start : Start) (logs : ℕ → List HostStep) (are : AreOfCluster star
     top_of [] past local view = record {
       was = λ was. was;
       grows = omega arith;
-      stood = λ above. let is = ap (λ (v : View). v.number) (started_view start are.shape h) in omega (arith, is, above);
+      stood =
+          λ above. let is = ap (λ (v : View). v.number) (started_view start are.shape h) in omega (arith, is, above);
       least = λ c own stands. own;
     }
     top_of (e ∷ log) past local view =
@@ -444,7 +446,8 @@ module _ (start : Start) (logs : ℕ → List HostStep) (are : AreOfCluster star
   }
     where
       one : IsTopOf n (logs n) (greatest_below n logs first) (greatest_below (suc n) logs first)
-      one = top_of n (omega (arith, few)) (logs n) (past_self (logs n)) (are.right.local n) (greatest_below n logs first)
+      one =
+          top_of n (omega (arith, few)) (logs n) (past_self (logs n)) (are.right.local n) (greatest_below n logs first)
 
       stood : View
       stood = view_after start n (logs n)

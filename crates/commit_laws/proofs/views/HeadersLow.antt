@@ -150,7 +150,8 @@ module _ (start : Start) (all : ℕ → List HostStep) (e : HostStep) (es : List
               subst (λ k. StopsLow start (current_number start new) k (new k)) at
               (subst (StopsLow start (current_number start new) e.host) (sym (own_log start all e es moment)) own_stops)
           by (inr other) =
-              subst (StopsLow start (current_number start new) h) (sym (moments.other_log start all e es moment h other))
+              subst (StopsLow start (current_number start new) h)
+              (sym (moments.other_log start all e es moment h other))
               (older_stops h (old h) (stops h))
 
       -- a host without a membership doesn't come to a greater view than the current one

@@ -1,4 +1,5 @@
--- Where the current view rises it does so at the host of a membership: neither at one of a coordinator nor at one of rows.
+-- Where the current view rises it does so at the host of a membership: neither at one of a coordinator nor at one of
+-- rows.
 use Rattle.std.proofs.Common.{◌≡◌, ◌≢◌, ◌≤◌, ◌<◌, ℕ, List, ◌∷◌, sym, ap, subst, arith}
 use Rattle.run_theory.specs.Lists.{IsIn}
 use Rattle.sig_core.specs.declared.member.Member.{Member}

@@ -1,4 +1,5 @@
--- Where the current view rises, and a transaction that goes on keeps to it, it touched no key whose primary isn't that of
+-- Where the current view rises, and a transaction that goes on keeps to it, it touched no key whose primary isn't that
+-- of
 -- before, and wrote none of which a replica isn't one still.
 use Rattle.std.proofs.Common.{◌≡◌, ◌≤◌, ◌<◌, ◌⊎◌, ◌||◌, ◌&&◌, ◌∙◌, ℕ, Bool, true, false, List, [], ◌∷◌, refl, sym, ap, subst, inl, inr, arith}
 use Rattle.std.proofs.lemmas.Bool.{cases_lt, true≢false}
@@ -182,7 +183,8 @@ module _ (start : Start) (all : ℕ → List HostStep) (e : HostStep) (es : List
     routes_was =
         routes_stay (layout_in start stood) was
         (nobody_later start all moment.cluster stood stood_installed) part_was t none
-        (keeps_to_whole was now (views_shrink start all moment.cluster was now was_installed now_installed above) t keeps)
+        (keeps_to_whole was now (views_shrink start all moment.cluster was now was_installed now_installed above) t
+        keeps)
         routes
 
     -- a key that it touched
@@ -193,7 +195,8 @@ module _ (start : Start) (all : ℕ → List HostStep) (e : HostStep) (es : List
       of_was : u.chain ≡ touched_chain (layout_in start was) u u.written
       of_was = each_in (IsTouchedRouted (layout_in start was)) u t.touched routes_was.touched touched
 
-      primary_same : primary_of (chain_of (layout_in start now) u.key) ≡ primary_of (chain_of (layout_in start was) u.key)
+      primary_same : primary_of (chain_of (layout_in start now) u.key)
+          ≡ primary_of (chain_of (layout_in start was) u.key)
       primary_same = by u.written of_now of_was
         where
           by : (b : Bool) → u.chain ≡ touched_chain (layout_in start now) u b
@@ -218,7 +221,8 @@ module _ (start : Start) (all : ℕ → List HostStep) (e : HostStep) (es : List
             chain_replica start all (e ∷ es) moment u.key m (subst (IsIn m) (chain_same (written_is wrote)) is.chained);
       }
 
-    nothing_written : (ops : List (Op × Answer)) → ops ≡ [] → list_any (λ (op : Op × Answer). is_done op.1) ops ≡ true → ⊥
+    nothing_written : (ops : List (Op × Answer)) → ops ≡ [] → list_any (λ (op : Op × Answer). is_done op.1) ops ≡ true
+        → ⊥
     nothing_written [] empty is = true≢false (sym is)
     nothing_written (op ∷ ops) empty is = absurd cc
 

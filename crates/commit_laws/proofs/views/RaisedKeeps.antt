@@ -1,4 +1,5 @@
--- Where the coordinator of a transaction that goes on is fenced at the current view, as that rises, the transaction keeps to
+-- Where the coordinator of a transaction that goes on is fenced at the current view, as that rises, the transaction
+-- keeps to
 -- it; and so does one that has its routes in it.
 use Rattle.std.proofs.Common.{◌≡◌, ◌≤◌, ◌<◌, ◌||◌, ◌∙◌, ℕ, Bool, true, false, List, [], ◌∷◌, refl, ap, subst, inl, inr, arith}
 use Rattle.std.specs.List.{list_any}
@@ -63,7 +64,8 @@ module _ (fenced : CurrentIsFenced) (start : Start) (all : ℕ → List HostStep
         (moment_installed start all (e ∷ es) moment)
         (in_front member now.full now.starting (hale_full start all (e ∷ es) moment tx t hale))
         (let low =
-        current_above start old (tc_of start member) (tc_low start member (hale_made start all (e ∷ es) moment tx t hale)) in
+        current_above start old (tc_of start member)
+        (tc_low start member (hale_made start all (e ∷ es) moment tx t hale)) in
         omega (arith, low, above))
         (subst (λ w. now.number ≤ (coordinator_after start member w).fence)
         (coordinator_still start all e es moment above member (hale_made start all (e ∷ es) moment tx t hale))
@@ -80,14 +82,16 @@ module _ (start : Start) (all : ℕ → List HostStep) (es : List HostStep) (mom
   abbrev view : View
   view = current start (logs_of start es)
 
-  chain_inside : (key : List ℕ) (ms : List Member) → ((m : Member) → IsIn m ms → IsIn m (chain_of (layout_in start view) key))
+  chain_inside : (key : List ℕ) (ms : List Member)
+      → ((m : Member) → IsIn m ms → IsIn m (chain_of (layout_in start view) key))
       → list_any (is_outside view) ms ≡ false
   chain_inside key [] among = refl
   chain_inside key (m ∷ ms) among =
       ap (λ b. b || list_any (is_outside view) ms) inside ∙ chain_inside key ms (λ x there. among x (inr there))
     where
       full : list_any (is_member m) view.full ≡ true
-      full = any_in (is_member m) m view.full (chain_replica start all es moment key m (among m (inl refl))).full (self m)
+      full =
+          any_in (is_member m) m view.full (chain_replica start all es moment key m (among m (inl refl))).full (self m)
 
       inside : is_outside view m ≡ false
       inside = ap (λ b. not (b || list_any (is_member m) view.starting)) full
@@ -104,7 +108,8 @@ module _ (start : Start) (all : ℕ → List HostStep) (es : List HostStep) (mom
       ap (list_any (is_outside view)) is
       ∙ chain_inside u.key _ (λ m there. first_in (chain_of (layout_in start view) u.key) m there)
 
-  all_inside : (us : List Touched) → Each (IsTouchedRouted (layout_in start view)) us → list_any (strays view) us ≡ false
+  all_inside : (us : List Touched) → Each (IsTouchedRouted (layout_in start view)) us
+      → list_any (strays view) us ≡ false
   all_inside [] routed = refl
   all_inside (u ∷ us) routed =
       ap (λ b. b || list_any (strays view) us) (touched_inside u u.written routed.0) ∙ all_inside us routed.1

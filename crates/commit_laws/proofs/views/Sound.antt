@@ -120,17 +120,20 @@ module _ (start : Start) (all : ℕ → List HostStep) (e : HostStep) (es : List
       same_view : view_after start e.host (e ∷ old e.host) ≡ view_after start e.host (old e.host)
       same_view = ap (λ (t : Step node.Host). (told e.host t).standing.view) same_step ∙ told_stands e.host s
 
-      plain_views : (h : ℕ) → IsGood start new (view_after start h (old h)) → IsGood start new (view_after start h (new h))
+      plain_views : (h : ℕ) → IsGood start new (view_after start h (old h))
+          → IsGood start new (view_after start h (new h))
       plain_views h good = by (cases_eq e.host h)
         where
           by : (e.host ≡ h) ⊎ (e.host ≢ h) → IsGood start new (view_after start h (new h))
           by (inl at) =
-              subst (λ k. IsGood start new (view_after start k (old k)) → IsGood start new (view_after start k (new k))) at
+              subst (λ k. IsGood start new (view_after start k (old k)) → IsGood start new (view_after start k (new k)))
+              at
               (λ good.
               subst (λ log. IsGood start new (view_after start e.host log)) (sym (own_log start all e es moment))
               (subst (IsGood start new) (sym same_view) good)) good
           by (inr other) =
-              subst (λ log. IsGood start new (view_after start h log)) (sym (other_log start all e es moment h other)) good
+              subst (λ log. IsGood start new (view_after start h log)) (sym (other_log start all e es moment h other))
+              good
 
       plain_events : (mine : BlockId → Bool) (h : ℕ) → events_of mine start h (new h) ≡ events_of mine start h (old h)
       plain_events mine h = by (cases_eq e.host h)
@@ -162,7 +165,8 @@ module _ (start : Start) (all : ℕ → List HostStep) (e : HostStep) (es : List
         by : IsPlain ⊎ IsTrue → AreSoundLogs start new
         by (inl plain) = plain_next plain
         by (inr true_one) =
-            sound_next start moment.cluster.shape es e (moment_within start all (e ∷ es) moment) happens.step.fits was.are
+            sound_next start moment.cluster.shape es e (moment_within start all (e ∷ es) moment) happens.step.fits
+            was.are
             true_one.0
 
     sent_sound : EachSent start (IsSoundSignal start new) new
@@ -201,7 +205,8 @@ module _ (start : Start) (all : ℕ → List HostStep) (e : HostStep) (es : List
             subst (λ k. StopsGood start new k (new k)) at
             (subst (StopsGood start new e.host) (sym (own_log start all e es moment)) own_stops)
         by (inr other) =
-            subst (StopsGood start new h) (sym (other_log start all e es moment h other)) (older_stops h (old h) (was.stops h))
+            subst (StopsGood start new h) (sym (other_log start all e es moment h other))
+            (older_stops h (old h) (was.stops h))
 
     all_next : AllSound start new
     all_next = record { are = are_next; sent_so = sent_sound; stops = stops_next }

@@ -57,28 +57,30 @@ ended (Client (TcRollbackRep tx cause)) = Some tx
 ended _ = None
 
 -- what a step of the API from s at the signal does to its transactions, and sends
-pub data ApiMove (s : ApiState) (body : Body) (after : View × List OpenTransaction) (sends : List Outgoing) : Type 0 where
-  rests : after ≡ (s.view, s.opened) → are_of is_api_kind sends ≡ true → IsVoid s.opened body
-      → ApiMove s body after sends
-  opens : (name : Option ℕ) (node : ℕ) (op : Option Op) → IsNew s name node → is_request body ≡ true
-      → after ≡ (s.view, s.opened ++ asked_for name node op ∷ [])
-      → sends ≡ to_place (coordinator node) (Client (TcBeginReq name)) ∷ [] → ApiMove s body after sends
-  begun_as : (name : Option ℕ) (tx : TxId) (front : List OpenTransaction) (t u : OpenTransaction) (back : List OpenTransaction)
-      → body ≡ Client (TcBeginConf name tx) → begins_at name tx.tc t ≡ true → HasBegun tx t u
-      → s.opened ≡ front ++ t ∷ back → after ≡ (s.view, front ++ u ∷ back) → are_of is_api_kind sends ≡ true
-      → ApiMove s body after sends
-  goes : (front : List OpenTransaction) (t u : OpenTransaction) (back : List OpenTransaction)
-      → GoesOn t u → IsVoid s.opened body
-      → s.opened ≡ front ++ t ∷ back → after ≡ (s.view, front ++ u ∷ back) → are_of is_api_kind sends ≡ true
-      → ApiMove s body after sends
-  ends : (tx : TxId) (front : List OpenTransaction) (t : OpenTransaction) (back : List OpenTransaction)
-      → ended body ≡ Some tx → has_tx tx t ≡ true
-      → s.opened ≡ front ++ t ∷ back → after ≡ (s.view, front ++ back) → are_of is_api_kind sends ≡ true
-      → ApiMove s body after sends
-  refuses : (name : Option ℕ) (front : List OpenTransaction) (t : OpenTransaction) (back : List OpenTransaction)
-      → body ≡ Client (TcBeginRef name) → begins name t ≡ true
-      → s.opened ≡ front ++ t ∷ back → after ≡ (s.view, front ++ back) → are_of is_api_kind sends ≡ true
-      → ApiMove s body after sends
+pub data ApiMove (s : ApiState) (body : Body) (after : View × List OpenTransaction) (sends : List Outgoing) : Type 0
+  where
+    rests : after ≡ (s.view, s.opened) → are_of is_api_kind sends ≡ true → IsVoid s.opened body
+        → ApiMove s body after sends
+    opens : (name : Option ℕ) (node : ℕ) (op : Option Op) → IsNew s name node → is_request body ≡ true
+        → after ≡ (s.view, s.opened ++ asked_for name node op ∷ [])
+        → sends ≡ to_place (coordinator node) (Client (TcBeginReq name)) ∷ [] → ApiMove s body after sends
+    begun_as : (name : Option ℕ) (tx : TxId) (front : List OpenTransaction) (t u : OpenTransaction)
+        (back : List OpenTransaction)
+        → body ≡ Client (TcBeginConf name tx) → begins_at name tx.tc t ≡ true → HasBegun tx t u
+        → s.opened ≡ front ++ t ∷ back → after ≡ (s.view, front ++ u ∷ back) → are_of is_api_kind sends ≡ true
+        → ApiMove s body after sends
+    goes : (front : List OpenTransaction) (t u : OpenTransaction) (back : List OpenTransaction)
+        → GoesOn t u → IsVoid s.opened body
+        → s.opened ≡ front ++ t ∷ back → after ≡ (s.view, front ++ u ∷ back) → are_of is_api_kind sends ≡ true
+        → ApiMove s body after sends
+    ends : (tx : TxId) (front : List OpenTransaction) (t : OpenTransaction) (back : List OpenTransaction)
+        → ended body ≡ Some tx → has_tx tx t ≡ true
+        → s.opened ≡ front ++ t ∷ back → after ≡ (s.view, front ++ back) → are_of is_api_kind sends ≡ true
+        → ApiMove s body after sends
+    refuses : (name : Option ℕ) (front : List OpenTransaction) (t : OpenTransaction) (back : List OpenTransaction)
+        → body ≡ Client (TcBeginRef name) → begins name t ≡ true
+        → s.opened ≡ front ++ t ∷ back → after ≡ (s.view, front ++ back) → are_of is_api_kind sends ≡ true
+        → ApiMove s body after sends
 
 -- a step moves so
 abbrev pub Moves : ApiState → Body → Step ApiState → Type 0
@@ -104,9 +106,11 @@ at_request s r n = record {
   opens_alone = λ op node is new. opens None node (Some op) new refl refl refl;
   refuses = λ name why is own. rests refl refl tt;
   operates = λ name op at f tx is ready own low.
-      goes f.front f.item _ f.back (went_on refl refl refl (ap is_beginning (sym ready))) tt f.is (ap (λ os. (s.view, os)) (f.set _)) refl;
+      goes f.front f.item _ f.back (went_on refl refl refl (ap is_beginning (sym ready))) tt f.is
+      (ap (λ os. (s.view, os)) (f.set _)) refl;
   commits = λ name at f tx is ready own.
-      goes f.front f.item _ f.back (went_on refl refl refl (ap is_beginning (sym ready))) tt f.is (ap (λ os. (s.view, os)) (f.set _)) refl;
+      goes f.front f.item _ f.back (went_on refl refl refl (ap is_beginning (sym ready))) tt f.is
+      (ap (λ os. (s.view, os)) (f.set _)) refl;
   aborts = λ name at f tx is own. rests refl refl tt;
   ticks = λ number of is. round of (number == of);
   dumps = λ node digest is. rests refl refl tt;
@@ -119,33 +123,46 @@ at_request s r n = record {
 }
   where
     round : (of : ℕ) (last : Bool)
-        → Moves s (asking r n) (record { state = about (ticked_if s of last) None; effects = record { sends = telling_all news.Round (everyone s.view); marks = [] } })
+        → Moves s (asking r n) (record {
+          state = about (ticked_if s of last) None;
+          effects = record {
+            sends = telling_all news.Round (everyone s.view);
+            marks = [];
+          };
+        })
     round of true = rests refl (telling_of news.Round (everyone s.view)) tt
     round of false = rests refl (telling_of news.Round (everyone s.view)) tt
 
 at_signal : (s : ApiState) (body : Body) → ApiSignalForms s body (Moves s body)
 at_signal s body = record {
   begins_named = λ name tx at f called is e.
-      begun_as name tx f.front f.item _ f.back is f.passes (record { name = refl; is = refl; begun = refl }) f.is (ap (λ os. (s.view, os)) (f.set _)) refl;
+      begun_as name tx f.front f.item _ f.back is f.passes (record { name = refl; is = refl; begun = refl }) f.is
+      (ap (λ os. (s.view, os)) (f.set _)) refl;
   begins_alone = λ name tx at f op is e d.
-      begun_as name tx f.front f.item _ f.back is f.passes (record { name = refl; is = refl; begun = refl }) f.is (ap (λ os. (s.view, os)) (f.set _)) refl;
+      begun_as name tx f.front f.item _ f.back is f.passes (record { name = refl; is = refl; begun = refl }) f.is
+      (ap (λ os. (s.view, os)) (f.set _)) refl;
   begins_idle = λ name tx at f is.
-      begun_as name tx f.front f.item _ f.back is f.passes (record { name = refl; is = refl; begun = refl }) f.is (ap (λ os. (s.view, os)) (f.set _)) refl;
+      begun_as name tx f.front f.item _ f.back is f.passes (record { name = refl; is = refl; begun = refl }) f.is
+      (ap (λ os. (s.view, os)) (f.set _)) refl;
   refuses = λ name at f is.
       refuses name f.front f.item f.back is f.passes f.is (ap (λ os. (s.view, os)) f.removed) refl;
   answers = λ tx answer at f name is d e.
-      goes f.front f.item _ f.back (went_on refl refl refl (ap is_beginning (sym d))) (subst (IsVoid s.opened) (sym is) tt) f.is (ap (λ os. (s.view, os)) (f.set _)) refl;
+      goes f.front f.item _ f.back (went_on refl refl refl (ap is_beginning (sym d)))
+      (subst (IsVoid s.opened) (sym is) tt) f.is (ap (λ os. (s.view, os)) (f.set _)) refl;
   answers_last = λ tx answer at f is d e.
-      goes f.front f.item _ f.back (went_on refl refl refl (ap is_beginning (sym d))) (subst (IsVoid s.opened) (sym is) tt) f.is (ap (λ os. (s.view, os)) (f.set _)) refl;
+      goes f.front f.item _ f.back (went_on refl refl refl (ap is_beginning (sym d)))
+      (subst (IsVoid s.opened) (sym is) tt) f.is (ap (λ os. (s.view, os)) (f.set _)) refl;
   answers_none = λ tx answer at f is idle. rests refl refl (subst (IsVoid s.opened) (sym is) tt);
   commits = λ tx epoch at f is.
-      ends tx f.front f.item f.back (ap ended is) f.passes f.is (ap (λ os. (s.view, os)) f.removed) (telling_of (news.Committed tx) (everyone s.view));
+      ends tx f.front f.item f.back (ap ended is) f.passes f.is (ap (λ os. (s.view, os)) f.removed)
+      (telling_of (news.Committed tx) (everyone s.view));
   acknowledges = λ tx epoch is none.
       rests refl (telling_of (news.Committed tx) (everyone s.view)) (subst (IsVoid s.opened) (sym is) none);
   aborts = λ tx cause at f is.
       ends tx f.front f.item f.back (ap ended is) f.passes f.is (ap (λ os. (s.view, os)) f.removed) refl;
   waits = λ tx ahead at f is.
-      goes f.front f.item _ f.back (went_on refl refl refl refl) (subst (IsVoid s.opened) (sym is) tt) f.is (ap (λ os. (s.view, os)) (f.set _)) refl;
+      goes f.front f.item _ f.back (went_on refl refl refl refl) (subst (IsVoid s.opened) (sym is) tt) f.is
+      (ap (λ os. (s.view, os)) (f.set _)) refl;
   dumps = λ d rows next at is. rests refl refl (subst (IsVoid s.opened) (sym is) tt);
   dumped = λ d rows next is. rests refl refl (subst (IsVoid s.opened) (sym is) tt);
   rests = λ void stray. rests refl refl void;

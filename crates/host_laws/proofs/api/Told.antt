@@ -1,4 +1,5 @@
--- What the API knows of its transactions: those that it asks to commit were told to have begun, and it reports the commit of
+-- What the API knows of its transactions: those that it asks to commit were told to have begun, and it reports the
+-- commit of
 -- those alone that it is told of.
 use Rattle.std.proofs.Common.{◌≡◌, List, sym, ap, subst}
 use Rattle.std.specs.Prelude.{Option, None, Some}
@@ -47,15 +48,18 @@ abbrev pub TellsBegun : (TxId → Type 0) → Kind → Type 0
 TellsBegun T (kind.begun tx) = T tx
 TellsBegun T k = Unit {0}
 
-pub api_goes : (T : TxId → Type 0) (s : ApiState) (body : Body) → AreTold T s.opened → TellsBegun T (kind_of body) → ApiGoes T (kind_of body) (api_table s body)
+pub api_goes : (T : TxId → Type 0) (s : ApiState) (body : Body) → AreTold T s.opened → TellsBegun T (kind_of body)
+    → ApiGoes T (kind_of body) (api_table s body)
 api_goes T s body told tells = record { told = each.opened; says = each.sends; reports = each.marks }
   where
     known : (t : OpenTransaction) (tx : TxId) → ToldOf T t.tx → t.tx ≡ Some tx → T tx
     known t tx own is = subst (ToldOf T) is own
 
-    each : ApiEach (λ (t : OpenTransaction). ToldOf T t.tx) (λ (o : Outgoing). ApiSays T (kind_of o.body)) (Reports (kind_of body)) (api_table s body)
+    each : ApiEach (λ (t : OpenTransaction). ToldOf T t.tx) (λ (o : Outgoing). ApiSays T (kind_of o.body))
+        (Reports (kind_of body)) (api_table s body)
     each =
-        api_each (λ (t : OpenTransaction). ToldOf T t.tx) (λ (o : Outgoing). ApiSays T (kind_of o.body)) (Reports (kind_of body)) s body (record {
+        api_each (λ (t : OpenTransaction). ToldOf T t.tx) (λ (o : Outgoing). ApiSays T (kind_of o.body))
+        (Reports (kind_of body)) s body (record {
           asked = λ name node op. tt;
           changed = λ t u same own. subst (ToldOf T) (sym same) own;
           begun = λ name tx u is own. subst (ToldOf T) (sym own) (subst (λ b. TellsBegun T (kind_of b)) is tells);

@@ -35,7 +35,8 @@ use Rattle.tc_block.proofs.EachTurn.{AbortForms, CommittedForms, TurnForms}
 use Rattle.run_theory.proofs.EachSent.{each_drop, each_flat, each_mapped, each_take}
 use Rattle.sig_core.specs.declared.portion.TheConstants.{PORTION}
 
--- what a transaction may say where D is known of it once it is decided: that its rows are committed and that it has ended,
+-- what a transaction may say where D is known of it once it is decided: that its rows are committed and that it has
+-- ended,
 -- and nothing of the rest
 abbrev pub SaysOf : TxId → Type 0 → Kind → Type 0
 SaysOf tx D (kind.ended other) = (other ≡ tx) × D
@@ -67,11 +68,14 @@ module _ (tx : TxId) (D : Type 0) where
   rest_says node at true = (tt, tt)
   rest_says node at false = tt
 
-  part_says : (node : ℕ) (sends : List Outgoing) (at : ℕ) → AllSay tx D sends → AllSay tx D (part_effects node tx sends at).sends
+  part_says : (node : ℕ) (sends : List Outgoing) (at : ℕ) → AllSay tx D sends
+      → AllSay tx D (part_effects node tx sends at).sends
   unfolding part_effects
   part_says node sends at all =
-      each_append (λ (o : Outgoing). SaysOf tx D (kind_of o.body)) (take PORTION (drop at sends)) (rest_if node tx at (nat_lt (at + PORTION) (length sends)))
-      (each_take (λ (o : Outgoing). SaysOf tx D (kind_of o.body)) PORTION (drop at sends) (each_drop (λ (o : Outgoing). SaysOf tx D (kind_of o.body)) at sends all))
+      each_append (λ (o : Outgoing). SaysOf tx D (kind_of o.body)) (take PORTION (drop at sends))
+      (rest_if node tx at (nat_lt (at + PORTION) (length sends)))
+      (each_take (λ (o : Outgoing). SaysOf tx D (kind_of o.body)) PORTION (drop at sends)
+      (each_drop (λ (o : Outgoing). SaysOf tx D (kind_of o.body)) at sends all))
       (rest_says node at (nat_lt (at + PORTION) (length sends)))
 
   front_says : (phase : Phase) → Known phase → AllSay tx D (front_sends tx phase)
@@ -92,16 +96,21 @@ module _ (tx : TxId) (D : Type 0) where
   key_says layout Verifying t known = tt
   key_says layout (Committing epoch awaited) t known = ((refl, known refl), tt)
   key_says layout (Completing epoch awaited) t known = complete_says t t.written
-  key_says layout (Aborting why verifying awaited) t known = each_mapped (λ (o : Outgoing). SaysOf tx D (kind_of o.body)) (abort_of tx t.key) (chain_of layout t.key) (λ r. tt)
+  key_says layout (Aborting why verifying awaited) t known = each_mapped
+      (λ (o : Outgoing). SaysOf tx D (kind_of o.body)) (abort_of tx t.key) (chain_of layout t.key) (λ r. tt)
 
-  phase_says : (layout : Layout) (phase : Phase) (touched : List Touched) → Known phase → AllSay tx D (phase_sends layout tx phase touched)
+  phase_says : (layout : Layout) (phase : Phase) (touched : List Touched) → Known phase
+      → AllSay tx D (phase_sends layout tx phase touched)
   unfolding phase_sends
   phase_says layout phase touched known =
-      each_append (λ (o : Outgoing). SaysOf tx D (kind_of o.body)) (front_sends tx phase) (flat_map (key_sends layout tx phase) touched) (front_says phase known)
-      (each_flat (λ (o : Outgoing). SaysOf tx D (kind_of o.body)) (key_sends layout tx phase) touched (λ t. key_says layout phase t known))
+      each_append (λ (o : Outgoing). SaysOf tx D (kind_of o.body)) (front_sends tx phase)
+      (flat_map (key_sends layout tx phase) touched) (front_says phase known)
+      (each_flat (λ (o : Outgoing). SaysOf tx D (kind_of o.body)) (key_sends layout tx phase) touched
+      (λ t. key_says layout phase t known))
 
   -- it enters a phase that isn't the open one
-  enters : (node : ℕ) (layout : Layout) (t : Transaction) (phase : Phase) → is_open phase ≡ false → Known phase → Goes tx D t.phase (entering node layout tx t phase)
+  enters : (node : ℕ) (layout : Layout) (t : Transaction) (phase : Phase) → is_open phase ≡ false → Known phase
+      → Goes tx D t.phase (entering node layout tx t phase)
   unfolding entering
   enters node layout t phase shut known = record {
     sends = part_says node (phase_sends layout tx phase t.touched) 0 (phase_says layout phase t.touched known);
@@ -109,16 +118,19 @@ module _ (tx : TxId) (D : Type 0) where
     deciding = known;
   }
 
-  late_goes : (layout : Layout) (t : Transaction) (key : List ℕ) → Known t.phase → Goes tx D t.phase (operate.late_answer layout tx t key)
+  late_goes : (layout : Layout) (t : Transaction) (key : List ℕ) → Known t.phase
+      → Goes tx D t.phase (operate.late_answer layout tx t key)
   late_goes layout t key known = record {
-    sends = each_mapped (λ (o : Outgoing). SaysOf tx D (kind_of o.body)) (abort_of tx key) (chain_of layout key) (λ r. tt);
+    sends =
+        each_mapped (λ (o : Outgoing). SaysOf tx D (kind_of o.body)) (abort_of tx key) (chain_of layout key) (λ r. tt);
     closed = λ is. is;
     deciding = known;
   }
 
   wait_goes : (t : Transaction) (asked : Asked) → Known t.phase → Goes tx D t.phase (operate.wait_by tx t (Some asked))
   wait_goes t asked known = record {
-    sends = each_mapped (λ (o : Outgoing). SaysOf tx D (kind_of o.body)) (wait_of tx (key_of asked.op)) asked.chain (λ r. tt);
+    sends = each_mapped (λ (o : Outgoing). SaysOf tx D (kind_of o.body)) (wait_of tx (key_of asked.op)) asked.chain
+        (λ r. tt);
     closed = λ is. is;
     deciding = known;
   }
@@ -128,38 +140,68 @@ module _ (tx : TxId) (D : Type 0) where
   abort_end_says node why false = (tt, tt)
 
   module _ (R : Turn → Type 0) (node : ℕ) (layout : Layout) where
-    committed_goes : (t : Transaction) (epoch : ℕ) → ((turn : Turn) → TurnGoes tx D t.phase turn → R turn) → Known t.phase → D → CommittedForms node layout tx t epoch R
+    committed_goes : (t : Transaction) (epoch : ℕ) → ((turn : Turn) → TurnGoes tx D t.phase turn → R turn)
+        → Known t.phase → D → CommittedForms node layout tx t epoch R
     committed_goes t epoch so known d = record {
       enters = λ some. so _ (enters node layout t (Completing epoch (complete.written_count t.touched)) refl (λ is. d));
       ends = λ none. so _ (record { sends = ((refl, d), (tt, tt)); closed = λ is. is; deciding = known });
     }
 
-    abort_goes : (t : Transaction) → ((turn : Turn) → TurnGoes tx D t.phase turn → R turn) → Known t.phase → (why : AbortCause) → AbortForms node layout tx t why R
+    abort_goes : (t : Transaction) → ((turn : Turn) → TurnGoes tx D t.phase turn → R turn) → Known t.phase
+        → (why : AbortCause) → AbortForms node layout tx t why R
     abort_goes t so known why = record {
-      enters = λ some. so _ (enters node layout t (Aborting why (abort.is_verifying t.phase) (abort.aborts_awaited layout t)) refl (λ is. absurd cc));
-      ends = λ none. so _ (record { sends = abort_end_says node why (abort.is_verifying t.phase); closed = λ is. is; deciding = known });
+      enters = λ some. so _ (enters node layout t (Aborting why (abort.is_verifying t.phase)
+          (abort.aborts_awaited layout t)) refl (λ is. absurd cc));
+      ends = λ none. so _ (record {
+        sends = abort_end_says node why (abort.is_verifying t.phase);
+        closed = λ is. is;
+        deciding = known;
+      });
     }
 
     -- whatever turn it takes, but where it asks for an epoch
     pub turn_goes : (t : Transaction) (body : Body) → ((turn : Turn) → TurnGoes tx D t.phase turn → R turn)
-        → (body ≡ Client (TcCommitReq tx) → operate.is_ready t.phase t.asked ≡ true → R (going (commit.verify_if node tx t true)))
+        → (body ≡ Client (TcCommitReq tx) → operate.is_ready t.phase t.asked ≡ true → R
+        (going (commit.verify_if node tx t true)))
         → Known t.phase → ((epoch : ℕ) → body ≡ Epoch (DiVerifyConf tx epoch) → D) → TurnForms node layout tx t body R
     turn_goes t body so asks known told = record {
       stays = so _ (stays t known);
-      goes_on = λ at. so _ (record { sends = part_says node (phase_sends layout tx t.phase t.touched) at (phase_says layout t.phase t.touched known); closed = λ is. is; deciding = known });
+      goes_on = λ at. so _ (record {
+        sends = part_says node (phase_sends layout tx t.phase t.touched) at
+            (phase_says layout t.phase t.touched known);
+        closed = λ is. is;
+        deciding = known;
+      });
       operates = λ op is can. so _ (record { sends = (tt, tt); closed = λ is. is; deciding = known });
       answers = λ key answer asked is on at. so _ (record { sends = (tt, tt); closed = λ is. is; deciding = known });
       late = λ key asked why verifying awaited on at. so _ (late_goes layout t key known);
       waits = λ asked on. so _ (wait_goes t asked known);
       decides = asks;
-      commits = λ epoch is at some. so _ (enters node layout t (Committing epoch (length t.touched)) refl (λ on. told epoch is));
+      commits = λ epoch is at some. so _ (enters node layout t (Committing epoch (length t.touched)) refl
+          (λ on. told epoch is));
       commits_none = λ epoch is at. committed_goes t epoch so known (told epoch is);
-      committed = λ epoch awaited at more. so _ (record { sends = tt; closed = λ is. refl; deciding = λ is. known (ap is_decided at) });
+      committed = λ epoch awaited at more. so _ (record {
+        sends = tt;
+        closed = λ is. refl;
+        deciding = λ is. known (ap is_decided at);
+      });
       committed_all = λ epoch awaited at. committed_goes t epoch so known (known (ap is_decided at));
-      completed = λ epoch awaited at more. so _ (record { sends = tt; closed = λ is. refl; deciding = λ is. known (ap is_decided at) });
+      completed = λ epoch awaited at more. so _ (record {
+        sends = tt;
+        closed = λ is. refl;
+        deciding = λ is. known (ap is_decided at);
+      });
       completed_all = λ epoch awaited at last. so _ (record { sends = (tt, tt); closed = λ is. is; deciding = known });
       rolls_back = λ is undecided unaborted. abort_goes t so known _;
       refuses = λ key why asked is on at. abort_goes (asking t None) so known why;
-      aborted = λ why verifying awaited at more. so _ (record { sends = tt; closed = λ is. refl; deciding = λ is. absurd cc });
-      aborted_all = λ why verifying awaited at last. so _ (record { sends = abort_end_says node why verifying; closed = λ is. is; deciding = known });
+      aborted = λ why verifying awaited at more. so _ (record {
+        sends = tt;
+        closed = λ is. refl;
+        deciding = λ is. absurd cc;
+      });
+      aborted_all = λ why verifying awaited at last. so _ (record {
+        sends = abort_end_says node why verifying;
+        closed = λ is. is;
+        deciding = known;
+      });
     }

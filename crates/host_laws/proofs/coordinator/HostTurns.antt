@@ -203,7 +203,8 @@ module _ (tx : TxId) (s : Host) (x : Signal) (once : tally (is_keyed tx) (tc_of 
         same = ap (λ u. of_live tx u.live) step.state ∙ same;
         grows = omega (arith, next_grows (tc_of s) x.body, ap (λ u. u.next_seq) step.state);
         rows = step.rows;
-        kind = ap (λ f. are_of (is_aside tx) f.sends) step.effects ∙ of_kind (is_apart tx) (is_aside tx) (apart_aside tx) (tc_table (tc_of s) x.body).effects.sends kind;
+        kind = ap (λ f. are_of (is_aside tx) f.sends) step.effects
+            ∙ of_kind (is_apart tx) (is_aside tx) (apart_aside tx) (tc_table (tc_of s) x.body).effects.sends kind;
         absent = λ on. absent;
         unheard = λ on. absurd (false≢true (sym (ap is_lqh step.at) ∙ on));
       })
@@ -238,13 +239,15 @@ module _ (tx : TxId) (s : Host) (x : Signal) (once : tally (is_keyed tx) (tc_of 
   turn_by : (t : Step Host) → BlockCase s x t → HostTurn tx s x t
   turn_by t (api_takes step) =
       besides t step.tc step.rows
-      (ap (λ f. are_of (is_aside tx) f.sends) step.effects ∙ move_aside tx (api_of s) x.body _ _ (api_moves (api_of s) x.body))
+      (ap (λ f. are_of (is_aside tx) f.sends) step.effects
+      ∙ move_aside tx (api_of s) x.body _ _ (api_moves (api_of s) x.body))
       (ap is_tc step.at) (ap is_lqh step.at)
   turn_by t (tc_takes step) = in_tc t step (tx_step tx (tc_of s) x.body once own)
   turn_by t (dih_takes step) =
       besides t step.tc step.rows
       (ap (λ f. are_of (is_aside tx) f.sends) step.effects
-      ∙ of_kind is_dih_kind (is_aside tx) (dih_aside tx) (dih_table (dih_of s) x.body).effects.sends (dih_kinds (dih_of s) x.body))
+      ∙ of_kind is_dih_kind (is_aside tx) (dih_aside tx) (dih_table (dih_of s) x.body).effects.sends
+      (dih_kinds (dih_of s) x.body))
       (ap is_tc step.at) (ap is_lqh step.at)
   turn_by t (rows_take step) = in_rows step
   turn_by t (none_takes step) =

@@ -133,10 +133,18 @@ kept_same tx s b e x y p q k = record {
 
 -- a transaction begins
 kept_start : (tx : TxId) (s : TcState) (b e : ℕ) → IsKept tx s b e
-    → IsKept tx (record { node = s.node; start = s.start; next_seq = s.next_seq + 1; layout = s.layout; live = s.live ++ (next_tx s, fresh) ∷ [] }) (one_if (same_tx (next_tx s) tx) + b) e
+    → IsKept tx (record {
+      node = s.node;
+      start = s.start;
+      next_seq = s.next_seq + 1;
+      layout = s.layout;
+      live = s.live ++
+          (next_tx s, fresh) ∷ [];
+    }) (one_if (same_tx (next_tx s) tx) + b) e
 kept_start tx s b e k = go (same_tx (next_tx s) tx) refl
   where
-    keyed : tally (is_keyed tx) (s.live ++ (next_tx s, fresh) ∷ []) ≡ tally (is_keyed tx) s.live + (one_if (same_tx (next_tx s) tx) + 0)
+    keyed : tally (is_keyed tx) (s.live ++ (next_tx s, fresh) ∷ [])
+        ≡ tally (is_keyed tx) s.live + (one_if (same_tx (next_tx s) tx) + 0)
     keyed = tally_append (is_keyed tx) s.live ((next_tx s, fresh) ∷ [])
 
     none : (c : Bool) → one_if (c && false) ≡ 0
@@ -147,7 +155,14 @@ kept_start tx s b e k = go (same_tx (next_tx s) tx) refl
     done = omega (arith, tally_append (is_over tx) s.live ((next_tx s, fresh) ∷ []), none (same_tx (next_tx s) tx))
 
     go : (m : Bool) → same_tx (next_tx s) tx ≡ m
-        → IsKept tx (record { node = s.node; start = s.start; next_seq = s.next_seq + 1; layout = s.layout; live = s.live ++ (next_tx s, fresh) ∷ [] }) (one_if (same_tx (next_tx s) tx) + b) e
+        → IsKept tx (record {
+          node = s.node;
+          start = s.start;
+          next_seq = s.next_seq + 1;
+          layout = s.layout;
+          live =
+              s.live ++ (next_tx s, fresh) ∷ [];
+        }) (one_if (same_tx (next_tx s) tx) + b) e
     go true same =
         let seq : s.next_seq ≡ tx.seq = ap (λ (x : TxId). x.seq) (same_tx-is (next_tx s) tx same) in
         let zero_b : b ≡ 0 = k.unborn (omega (arith, seq)) in
@@ -161,7 +176,9 @@ kept_start tx s b e k = go (same_tx (next_tx s) tx) refl
           own =
               each_append (λ (x : TxId × Transaction). IsOwn s.node (s.next_seq + 1) x.0) s.live
               ((next_tx s, fresh) ∷ [])
-              (each_map (λ (x : TxId × Transaction). IsOwn s.node s.next_seq x.0) (λ (x : TxId × Transaction). IsOwn s.node (s.next_seq + 1) x.0) s.live (λ x o. record { early = omega (arith, o.early); home = o.home }) k.own)
+              (each_map (λ (x : TxId × Transaction). IsOwn s.node s.next_seq x.0)
+              (λ (x : TxId × Transaction). IsOwn s.node (s.next_seq + 1) x.0) s.live
+              (λ x o. record { early = omega (arith, o.early); home = o.home }) k.own)
               (record { early = omega arith; home = refl }, tt);
         }
     go false same =
@@ -175,7 +192,9 @@ kept_start tx s b e k = go (same_tx (next_tx s) tx) refl
           own =
               each_append (λ (x : TxId × Transaction). IsOwn s.node (s.next_seq + 1) x.0) s.live
               ((next_tx s, fresh) ∷ [])
-              (each_map (λ (x : TxId × Transaction). IsOwn s.node s.next_seq x.0) (λ (x : TxId × Transaction). IsOwn s.node (s.next_seq + 1) x.0) s.live (λ x o. record { early = omega (arith, o.early); home = o.home }) k.own)
+              (each_map (λ (x : TxId × Transaction). IsOwn s.node s.next_seq x.0)
+              (λ (x : TxId × Transaction). IsOwn s.node (s.next_seq + 1) x.0) s.live
+              (λ x o. record { early = omega (arith, o.early); home = o.home }) k.own)
               (record { early = omega arith; home = refl }, tt);
         }
 
@@ -184,7 +203,8 @@ kept_live : (tx : TxId) (s : TcState) (live : List (TxId × Transaction)) (b e x
     → tally (is_keyed tx) live ≤ tally (is_keyed tx) s.live → (1 ≤ y → 1 ≤ tally (is_keyed tx) s.live)
     → (1 ≤ tally (is_keyed tx) s.live → 1 ≤ tally (is_keyed tx) live + (y + e))
     → (1 ≤ tally (is_over tx) live → 1 ≤ y + e) → Each (λ (z : TxId × Transaction). IsOwn s.node s.next_seq z.0) live
-    → IsKept tx (record { node = s.node; start = s.start; next_seq = s.next_seq; layout = s.layout; live = live }) (x + b) (y + e)
+    → IsKept tx (record { node = s.node; start = s.start; next_seq = s.next_seq; layout = s.layout; live = live })
+    (x + b) (y + e)
 kept_live tx s live b e x y k p fewer due left told own = record {
   began = omega (arith, k.began, fewer, p);
   order = λ h. omega (arith, which h, p);
@@ -213,38 +233,58 @@ kept_live tx s live b e x y k p fewer due left told own = record {
         by (inr d) = omega (arith, d)
 
 -- one of its transactions takes a turn
-kept_turn : (tx one : TxId) (s : TcState) (t u : Transaction) (front back : List (TxId × Transaction)) (sends : List Outgoing) (b e : ℕ)
+kept_turn : (tx one : TxId) (s : TcState) (t u : Transaction) (front back : List (TxId × Transaction))
+    (sends : List Outgoing) (b e : ℕ)
     → IsKept tx s b e
     → s.live ≡ front ++ (one, t) ∷ back → are_of (is_tc_kind one) sends ≡ true
     → (is_completing u.phase ≡ true → (is_completing t.phase ≡ true) ⊎ (1 ≤ ends_in one sends))
-    → IsKept tx (record { node = s.node; start = s.start; next_seq = s.next_seq; layout = s.layout; live = front ++ (one, u) ∷ back }) (starts_in tx sends + b) (ends_in tx sends + e)
+    → IsKept tx (record {
+      node = s.node;
+      start = s.start;
+      next_seq = s.next_seq;
+      layout = s.layout;
+      live = front ++
+          (one, u) ∷ back;
+    }) (starts_in tx sends + b) (ends_in tx sends + e)
 kept_turn tx one s t u front back sends b e k is kind told =
     kept_live tx s (front ++ (one, u) ∷ back) b e (starts_in tx sends) (ends_in tx sends) k
     (no_starts tx one sends kind)
     (omega (arith, keyed)) (due (same_tx one tx) refl) (λ h. omega (arith, h, keyed)) (done (same_tx one tx) refl)
-    (each_changed (λ (x : TxId × Transaction). IsOwn s.node s.next_seq x.0) front (one, t) (one, u) back s.live is k.own (λ o. o))
+    (each_changed (λ (x : TxId × Transaction). IsOwn s.node s.next_seq x.0) front (one, t) (one, u) back s.live is k.own
+    (λ o. o))
   where
     keyed : tally (is_keyed tx) (front ++ (one, u) ∷ back) ≡ tally (is_keyed tx) s.live
     keyed =
-        omega
-        (arith, tally_between (is_keyed tx) front (one, t) back s.live is, tally_between (is_keyed tx) front (one, u) back (front ++ (one, u) ∷ back) refl)
+        omega (
+          arith,
+          tally_between (is_keyed tx) front (one, t) back s.live is,
+          tally_between (is_keyed tx) front (one, u) back (front ++ (one, u) ∷ back) refl,
+        )
 
     due : (m : Bool) → same_tx one tx ≡ m → 1 ≤ ends_in tx sends → 1 ≤ tally (is_keyed tx) s.live
     due true same h = omega (arith, tally_between (is_keyed tx) front (one, t) back s.live is, ap one_if same)
     due false same h = absurd (omega (arith, h, no_ends_other tx one sends same kind))
 
-    done_old : tally (is_over tx) s.live ≡ tally (is_over tx) (front ++ back) + one_if (same_tx one tx && is_completing t.phase)
+    done_old : tally (is_over tx) s.live ≡ tally (is_over tx) (front ++ back)
+        + one_if (same_tx one tx && is_completing t.phase)
     done_old = tally_between (is_over tx) front (one, t) back s.live is
 
-    done_new : tally (is_over tx) (front ++ (one, u) ∷ back) ≡ tally (is_over tx) (front ++ back) + one_if (same_tx one tx && is_completing u.phase)
+    done_new : tally (is_over tx) (front ++ (one, u) ∷ back)
+        ≡ tally (is_over tx) (front ++ back) + one_if (same_tx one tx && is_completing u.phase)
     done_new = tally_between (is_over tx) front (one, u) back (front ++ (one, u) ∷ back) refl
 
     done : (m : Bool) → same_tx one tx ≡ m → 1 ≤ tally (is_over tx) (front ++ (one, u) ∷ back)
         → 1 ≤ ends_in tx sends + e
     done false same h =
         let before : 1 ≤ tally (is_over tx) s.live =
-        omega
-        (arith, h, done_new, done_old, ap (λ m. one_if (m && is_completing u.phase)) same, ap (λ m. one_if (m && is_completing t.phase)) same) in
+        omega (
+          arith,
+          h,
+          done_new,
+          done_old,
+          ap (λ m. one_if (m && is_completing u.phase)) same,
+          ap (λ m. one_if (m && is_completing t.phase)) same,
+        ) in
         omega (arith, k.told before)
     done true same h = by (is_completing u.phase) refl
       where
@@ -257,18 +297,26 @@ kept_turn tx one s t u front back sends b e k is kind told =
           where
             which : (is_completing t.phase ≡ true) ⊎ (1 ≤ ends_in one sends) → 1 ≤ ends_in tx sends + e
             which (inl was) =
-                let before : 1 ≤ tally (is_over tx) s.live = omega (arith, done_old, ap (λ m. one_if (m && is_completing t.phase)) same, ap one_if was) in
+                let before : 1 ≤ tally (is_over tx) s.live =
+                omega (arith, done_old, ap (λ m. one_if (m && is_completing t.phase)) same, ap one_if was) in
                 omega (arith, k.told before)
             which (inr some) =
                 let here : 1 ≤ ends_in tx sends = subst (λ x. 1 ≤ ends_in x sends) (same_tx-is one tx same) some in
                 omega (arith, here)
 
 -- or is forgotten
-kept_forget : (tx one : TxId) (s : TcState) (t : Transaction) (front back : List (TxId × Transaction)) (sends : List Outgoing) (b e : ℕ)
+kept_forget : (tx one : TxId) (s : TcState) (t : Transaction) (front back : List (TxId × Transaction))
+    (sends : List Outgoing) (b e : ℕ)
     → IsKept tx s b e
     → s.live ≡ front ++ (one, t) ∷ back → are_of (is_tc_kind one) sends ≡ true
     → (is_completing t.phase ≡ true) ⊎ (1 ≤ ends_in one sends)
-    → IsKept tx (record { node = s.node; start = s.start; next_seq = s.next_seq; layout = s.layout; live = front ++ back }) (starts_in tx sends + b) (ends_in tx sends + e)
+    → IsKept tx (record {
+      node = s.node;
+      start = s.start;
+      next_seq = s.next_seq;
+      layout = s.layout;
+      live = front ++ back;
+    }) (starts_in tx sends + b) (ends_in tx sends + e)
 kept_forget tx one s t front back sends b e k is kind told =
     kept_live tx s (front ++ back) b e (starts_in tx sends) (ends_in tx sends) k (no_starts tx one sends kind)
     (omega (arith, keyed)) (due (same_tx one tx) refl) (left (same_tx one tx) refl)
@@ -278,7 +326,8 @@ kept_forget tx one s t front back sends b e k is kind told =
     keyed : tally (is_keyed tx) s.live ≡ tally (is_keyed tx) (front ++ back) + one_if (same_tx one tx)
     keyed = tally_between (is_keyed tx) front (one, t) back s.live is
 
-    done_old : tally (is_over tx) s.live ≡ tally (is_over tx) (front ++ back) + one_if (same_tx one tx && is_completing t.phase)
+    done_old : tally (is_over tx) s.live ≡ tally (is_over tx) (front ++ back)
+        + one_if (same_tx one tx && is_completing t.phase)
     done_old = tally_between (is_over tx) front (one, t) back s.live is
 
     due : (m : Bool) → same_tx one tx ≡ m → 1 ≤ ends_in tx sends → 1 ≤ tally (is_keyed tx) s.live
@@ -293,7 +342,8 @@ kept_forget tx one s t front back sends b e k is kind told =
         which : (is_completing t.phase ≡ true) ⊎ (1 ≤ ends_in one sends)
             → 1 ≤ tally (is_keyed tx) (front ++ back) + (ends_in tx sends + e)
         which (inl was) =
-            let before : 1 ≤ tally (is_over tx) s.live = omega (arith, done_old, ap (λ m. one_if (m && is_completing t.phase)) same, ap one_if was) in
+            let before : 1 ≤ tally (is_over tx) s.live =
+            omega (arith, done_old, ap (λ m. one_if (m && is_completing t.phase)) same, ap one_if was) in
             omega (arith, k.told before)
         which (inr some) =
             let here : 1 ≤ ends_in tx sends = subst (λ x. 1 ≤ ends_in x sends) (same_tx-is one tx same) some in
@@ -304,7 +354,8 @@ pub kept_move : (tx : TxId) (s after : TcState) (sends : List Outgoing) (b e : �
     → IsKept tx s b e → IsKept tx after (starts_in tx sends + b) (ends_in tx sends + e)
 kept_move tx s after sends b e (stays is kind) k =
     subst (λ a. IsKept tx a (starts_in tx sends + b) (ends_in tx sends + e)) (sym is)
-    (kept_same tx s b e (starts_in tx sends) (ends_in tx sends) (no_starts_still tx sends kind) (no_ends_still tx sends kind) k)
+    (kept_same tx s b e (starts_in tx sends) (ends_in tx sends) (no_starts_still tx sends kind)
+    (no_ends_still tx sends kind) k)
 kept_move tx s after sends b e (turns one t u front back is now kind told) k =
     subst (λ a. IsKept tx a (starts_in tx sends + b) (ends_in tx sends + e)) (sym now)
     (kept_turn tx one s t u front back sends b e k is kind told)
@@ -312,13 +363,26 @@ kept_move tx s after sends b e (forgets one t front back is now kind told) k =
     subst (λ a. IsKept tx a (starts_in tx sends + b) (ends_in tx sends + e)) (sym now)
     (kept_forget tx one s t front back sends b e k is kind told)
 kept_move tx s after sends b e (starts name is told) k =
-    subst (λ a. IsKept tx a (starts_in tx sends + b) (ends_in tx sends + e)) (sym (is ∙ ap (λ live. record { node = s.node; start = s.start; next_seq = s.next_seq + 1; layout = s.layout; live = live })
-    (insert_new s.live (next_tx s) fresh (each_map (λ (x : TxId × Transaction). IsOwn s.node s.next_seq x.0) (λ (x : TxId × Transaction). x.0.seq < s.next_seq) s.live (λ x o. o.early) k.own))))
+    subst (λ a. IsKept tx a (starts_in tx sends + b) (ends_in tx sends + e)) (sym (is ∙ ap (λ live. record {
+      node = s.node;
+      start = s.start;
+      next_seq = s.next_seq + 1;
+      layout = s.layout;
+      live = live;
+    })
+    (insert_new s.live (next_tx s) fresh (each_map (λ (x : TxId × Transaction). IsOwn s.node s.next_seq x.0)
+    (λ (x : TxId × Transaction). x.0.seq < s.next_seq) s.live (λ x o. o.early) k.own))))
     (subst (λ n. IsKept tx grown n (ends_in tx sends + e)) (sym begins)
     (subst (λ n. IsKept tx grown (one_if (same_tx (next_tx s) tx) + b) n) (sym ends) (kept_start tx s b e k)))
   where
     grown : TcState
-    grown = record { node = s.node; start = s.start; next_seq = s.next_seq + 1; layout = s.layout; live = s.live ++ (next_tx s, fresh) ∷ [] }
+    grown = record {
+      node = s.node;
+      start = s.start;
+      next_seq = s.next_seq + 1;
+      layout = s.layout;
+      live = s.live ++ (next_tx s, fresh) ∷ [];
+    }
 
     begins : starts_in tx sends + b ≡ one_if (same_tx (next_tx s) tx) + b
     begins = omega (arith, ap (starts_in tx) told)

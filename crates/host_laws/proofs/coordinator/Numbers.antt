@@ -1,4 +1,5 @@
--- What a coordinator says, transaction by transaction: it begins each once, asks for an epoch of each at most once, and tells
+-- What a coordinator says, transaction by transaction: it begins each once, asks for an epoch of each at most once, and
+-- tells
 -- of the commit of those alone that are decided.
 use Rattle.std.proofs.Common.{◌≡◌, ◌<◌, ℕ, ◌+◌, Bool, true, false, List, [], ◌∷◌, ◌++◌, refl, sym, ap, ◌∙◌, subst, subst₂, arith}
 use Rattle.std.specs.Prelude.{Option}
@@ -80,14 +81,18 @@ SaysAt node D taken o _ = ⊥
 abbrev pub AllSayAt : ℕ → (TxId → Type 0) → Kind → List Outgoing → Type 0
 AllSayAt node D taken sends = Each (λ (o : Outgoing). SaysAt node D taken o (kind_of o.body)) sends
 
-pub record StaysNumbered (node : ℕ) (D : TxId → Type 0) (taken : Kind) (begun_yet verified : List TxId) (step : Step TcState) : Type 0 where
-  pub numbered : IsNumbered node D step.state (put_kinds begun_by step.effects.sends begun_yet) (put_kinds verified_by step.effects.sends verified)
+pub record StaysNumbered (node : ℕ) (D : TxId → Type 0) (taken : Kind) (begun_yet verified : List TxId)
+    (step : Step TcState) : Type 0 where
+  pub numbered : IsNumbered node D step.state (put_kinds begun_by step.effects.sends begun_yet)
+      (put_kinds verified_by step.effects.sends verified)
   pub says : AllSayAt node D taken step.effects.sends
 
 -- signals of a transaction's own add to neither list
-begun_none : (tx : TxId) (D : Type 0) (sends : List Outgoing) (before : List TxId) → AllSay tx D sends → put_kinds begun_by sends before ≡ before
+begun_none : (tx : TxId) (D : Type 0) (sends : List Outgoing) (before : List TxId) → AllSay tx D sends
+    → put_kinds begun_by sends before ≡ before
 begun_none tx D [] before all = refl
-begun_none tx D (o ∷ more) before all = ap (put_kinds begun_by more) (by (kind_of o.body) all.0) ∙ begun_none tx D more before all.1
+begun_none tx D (o ∷ more) before all =
+    ap (put_kinds begun_by more) (by (kind_of o.body) all.0) ∙ begun_none tx D more before all.1
   where
     by : (k : Kind) → SaysOf tx D k → begun_by k before ≡ before
     by (kind.begun other) says = absurd says
@@ -98,9 +103,11 @@ begun_none tx D (o ∷ more) before all = ap (put_kinds begun_by more) (by (kind
     by (kind.ended other) says = refl
     by kind.other says = refl
 
-verified_none : (tx : TxId) (D : Type 0) (sends : List Outgoing) (before : List TxId) → AllSay tx D sends → put_kinds verified_by sends before ≡ before
+verified_none : (tx : TxId) (D : Type 0) (sends : List Outgoing) (before : List TxId) → AllSay tx D sends
+    → put_kinds verified_by sends before ≡ before
 verified_none tx D [] before all = refl
-verified_none tx D (o ∷ more) before all = ap (put_kinds verified_by more) (by (kind_of o.body) all.0) ∙ verified_none tx D more before all.1
+verified_none tx D (o ∷ more) before all =
+    ap (put_kinds verified_by more) (by (kind_of o.body) all.0) ∙ verified_none tx D more before all.1
   where
     by : (k : Kind) → SaysOf tx D k → verified_by k before ≡ before
     by (kind.begun other) says = refl
@@ -111,8 +118,10 @@ verified_none tx D (o ∷ more) before all = ap (put_kinds verified_by more) (by
     by (kind.ended other) says = refl
     by kind.other says = refl
 
-says_at : (node : ℕ) (D : TxId → Type 0) (taken : Kind) (tx : TxId) (sends : List Outgoing) → AllSay tx (D tx) sends → AllSayAt node D taken sends
-says_at node D taken tx sends all = each_map (λ (o : Outgoing). SaysOf tx (D tx) (kind_of o.body)) (λ (o : Outgoing). SaysAt node D taken o (kind_of o.body)) sends (λ o. by o (kind_of o.body)) all
+says_at : (node : ℕ) (D : TxId → Type 0) (taken : Kind) (tx : TxId) (sends : List Outgoing) → AllSay tx (D tx) sends
+    → AllSayAt node D taken sends
+says_at node D taken tx sends all = each_map (λ (o : Outgoing). SaysOf tx (D tx) (kind_of o.body))
+    (λ (o : Outgoing). SaysAt node D taken o (kind_of o.body)) sends (λ o. by o (kind_of o.body)) all
   where
     by : (o : Outgoing) (k : Kind) → SaysOf tx (D tx) k → SaysAt node D taken o k
     by o (kind.begun other) says = absurd says
@@ -123,7 +132,8 @@ says_at node D taken tx sends all = each_map (λ (o : Outgoing). SaysOf tx (D tx
     by o (kind.ended other) says = subst D (sym says.0) says.1
     by o kind.other says = tt
 
-module _ (node : ℕ) (D : TxId → Type 0) (taken : Kind) (s : TcState) (begun_yet verified : List TxId) (n : IsNumbered node D s begun_yet verified) where
+module _ (node : ℕ) (D : TxId → Type 0) (taken : Kind) (s : TcState) (begun_yet verified : List TxId)
+    (n : IsNumbered node D s begun_yet verified) where
   nothing_said : StaysNumbered node D taken begun_yet verified (stay s)
   nothing_said = record { numbered = n; says = tt }
 
@@ -139,12 +149,16 @@ module _ (node : ℕ) (D : TxId → Type 0) (taken : Kind) (s : TcState) (begun_
     own_live = (each_after (IsLive node s.next_seq D verified) split.front ((tx, t) ∷ split.back) all_split).0
 
     -- it takes a step
-    step_stays : (step : Step Transaction) → Goes tx (D tx) t.phase step → StaysNumbered node D taken begun_yet verified (stepped s at step)
+    step_stays : (step : Step Transaction) → Goes tx (D tx) t.phase step
+        → StaysNumbered node D taken begun_yet verified (stepped s at step)
     step_stays step goes = record {
-      numbered = subst₂ (IsNumbered node D (stepped s at step).state) (sym (begun_none tx (D tx) step.effects.sends begun_yet goes.sends)) (sym (verified_none tx (D tx) step.effects.sends verified goes.sends))
+      numbered = subst₂ (IsNumbered node D (stepped s at step).state)
+          (sym (begun_none tx (D tx) step.effects.sends begun_yet goes.sends))
+          (sym (verified_none tx (D tx) step.effects.sends verified goes.sends))
           (record {
             own = n.own;
-            once = subst KeysOnce (sym (split.set step.state)) (once_set split.front split.back tx t step.state once_split);
+            once = subst KeysOnce (sym (split.set step.state))
+                (once_set split.front split.back tx t step.state once_split);
             live = subst (Each (IsLive node s.next_seq D verified)) (sym (split.set step.state))
                 (each_append (IsLive node s.next_seq D verified) split.front ((tx, step.state) ∷ split.back)
                 (each_before (IsLive node s.next_seq D verified) split.front ((tx, t) ∷ split.back) all_split)
@@ -162,13 +176,21 @@ module _ (node : ℕ) (D : TxId → Type 0) (taken : Kind) (s : TcState) (begun_
         opened false was is = absurd (let both : true ≡ false = sym is ∙ goes.closed was in cc)
 
         now : IsLive node s.next_seq D verified (tx, step.state)
-        now = record { tc = own_live.tc; below = own_live.below; decided = goes.deciding; unverified = opened (is_open t.phase) refl }
+        now = record {
+          tc = own_live.tc;
+          below = own_live.below;
+          decided = goes.deciding;
+          unverified = opened (is_open t.phase) refl;
+        }
 
     -- it is forgotten
-    gone_stays : (turn : Turn) → TurnGoes tx (D tx) t.phase turn → StaysNumbered node D taken begun_yet verified (turned_if s at turn true)
+    gone_stays : (turn : Turn) → TurnGoes tx (D tx) t.phase turn
+        → StaysNumbered node D taken begun_yet verified (turned_if s at turn true)
     unfolding without
     gone_stays turn goes = record {
-      numbered = subst₂ (IsNumbered node D (turned_if s at turn true).state) (sym (begun_none tx (D tx) turn.step.effects.sends begun_yet goes.sends)) (sym (verified_none tx (D tx) turn.step.effects.sends verified goes.sends))
+      numbered = subst₂ (IsNumbered node D (turned_if s at turn true).state)
+          (sym (begun_none tx (D tx) turn.step.effects.sends begun_yet goes.sends))
+          (sym (verified_none tx (D tx) turn.step.effects.sends verified goes.sends))
           (record {
             own = n.own;
             once = subst KeysOnce (sym split.gone) (once_gone split.front split.back tx t once_split);
@@ -184,21 +206,32 @@ module _ (node : ℕ) (D : TxId → Type 0) (taken : Kind) (s : TcState) (begun_
       says = says_at node D taken tx turn.step.effects.sends goes.sends;
     }
 
-    turn_stays : (turn : Turn) → TurnGoes tx (D tx) t.phase turn → (b : Bool) → StaysNumbered node D taken begun_yet verified (turned_if s at turn b)
+    turn_stays : (turn : Turn) → TurnGoes tx (D tx) t.phase turn → (b : Bool)
+        → StaysNumbered node D taken begun_yet verified (turned_if s at turn b)
     turn_stays turn goes true = gone_stays turn goes
     turn_stays turn goes false = step_stays turn.step goes
 
     -- it asks for an epoch
-    pub verify_stays : taken ≡ kind.wanted tx → is_ready t.phase t.asked ≡ true → StaysNumbered node D taken begun_yet verified (stepped s at (commit.verify_if s.node tx t true))
+    pub verify_stays : taken ≡ kind.wanted tx → is_ready t.phase t.asked ≡ true
+        → StaysNumbered node D taken begun_yet verified (stepped s at (commit.verify_if s.node tx t true))
     verify_stays is ready = record {
       numbered = record {
         own = n.own;
-        once = subst KeysOnce (sym (split.set (at_phase t Verifying))) (once_set split.front split.back tx t (at_phase t Verifying) once_split);
+        once = subst KeysOnce (sym (split.set (at_phase t Verifying)))
+            (once_set split.front split.back tx t (at_phase t Verifying) once_split);
         live = subst (Each (IsLive node s.next_seq D (tx ∷ verified))) (sym (split.set (at_phase t Verifying)))
-            (each_append (IsLive node s.next_seq D (tx ∷ verified)) split.front ((tx, (at_phase t Verifying)) ∷ split.back)
-            (others split.front (once_front split.front split.back tx t once_split) (each_before (IsLive node s.next_seq D verified) split.front ((tx, t) ∷ split.back) all_split)) (
-              record { tc = own_live.tc; below = own_live.below; decided = λ is. absurd cc; unverified = λ is. absurd cc },
-              others split.back (once_back split.front split.back tx t once_split) (each_after (IsLive node s.next_seq D verified) split.front ((tx, t) ∷ split.back) all_split).1,
+            (each_append (IsLive node s.next_seq D (tx ∷ verified)) split.front
+            ((tx, (at_phase t Verifying)) ∷ split.back)
+            (others split.front (once_front split.front split.back tx t once_split)
+            (each_before (IsLive node s.next_seq D verified) split.front ((tx, t) ∷ split.back) all_split)) (
+              record {
+                tc = own_live.tc;
+                below = own_live.below;
+                decided = λ is. absurd cc;
+                unverified = λ is. absurd cc;
+              },
+              others split.back (once_back split.front split.back tx t once_split)
+                  (each_after (IsLive node s.next_seq D verified) split.front ((tx, t) ∷ split.back) all_split).1,
             ));
         begun_below = n.begun_below;
         begun_apart = n.begun_apart;
@@ -215,25 +248,58 @@ module _ (node : ℕ) (D : TxId → Type 0) (taken : Kind) (s : TcState) (begun_
         opened (Completing epoch awaited) asked is = absurd cc
         opened (Aborting why verifying awaited) asked is = absurd cc
 
-        others : (xs : Live) → Each (λ (x : TxId × Transaction). same_tx x.0 tx ≡ false) xs → Each (IsLive node s.next_seq D verified) xs → Each (IsLive node s.next_seq D (tx ∷ verified)) xs
+        others : (xs : Live) → Each (λ (x : TxId × Transaction). same_tx x.0 tx ≡ false) xs
+            → Each (IsLive node s.next_seq D verified) xs → Each (IsLive node s.next_seq D (tx ∷ verified)) xs
         others [] apart all = tt
-        others (x ∷ xs) apart all =
-            (record { tc = all.0.tc; below = all.0.below; decided = all.0.decided; unverified = λ is. (same_tx-swap tx x.0 ∙ apart.0, all.0.unverified is) }, others xs apart.1 all.1)
+        others (x ∷ xs) apart all = (
+          record {
+            tc = all.0.tc;
+            below = all.0.below;
+            decided = all.0.decided;
+            unverified = λ is.
+                (same_tx-swap tx x.0 ∙ apart.0, all.0.unverified is);
+          },
+          others xs apart.1 all.1,
+        )
 
   -- a transaction begins, whose number nobody has
   pub begins_stays : (name : Option ℕ) → StaysNumbered node D taken begun_yet verified (begin_if s name false)
   begins_stays name = record {
     numbered = record {
       own = n.own;
-      once = once_inserted s.live (next_tx s) fresh (each_map (IsLive node s.next_seq D verified) (λ (x : TxId × Transaction). same_tx x.0 (next_tx s) ≡ false) s.live (λ x is. lower_apart s x.0 is.below) n.live) n.once;
+      once = once_inserted s.live (next_tx s) fresh
+          (each_map (IsLive node s.next_seq D verified) (λ (x : TxId × Transaction). same_tx x.0 (next_tx s) ≡ false)
+          s.live (λ x is. lower_apart s x.0 is.below) n.live) n.once;
       live = each_inserted (IsLive node (s.next_seq + 1) D verified) s.live (next_tx s) fresh
-          (each_map (IsLive node s.next_seq D verified) (λ (x : TxId × Transaction). same_tx x.0 (next_tx s) ≡ false) s.live (λ x is. lower_apart s x.0 is.below) n.live)
-          (record { tc = n.own; below = omega arith; decided = λ is. absurd cc; unverified = λ is. each_map (λ (v : TxId). v.seq < s.next_seq) (λ v. same_tx v (next_tx s) ≡ false) verified (lower_apart s) n.verified_below })
+          (each_map (IsLive node s.next_seq D verified) (λ (x : TxId × Transaction). same_tx x.0 (next_tx s) ≡ false)
+          s.live (λ x is. lower_apart s x.0 is.below) n.live)
+          (record {
+            tc = n.own;
+            below = omega arith;
+            decided = λ is. absurd cc;
+            unverified = λ is. each_map (λ (v : TxId). v.seq < s.next_seq) (λ v. same_tx v (next_tx s) ≡ false)
+                verified (lower_apart s) n.verified_below;
+          })
           (each_map (IsLive node s.next_seq D verified) (IsLive node (s.next_seq + 1) D verified) s.live
-          (λ x is. record { tc = is.tc; below = omega (arith, is.below); decided = is.decided; unverified = is.unverified }) n.live);
-      begun_below = (omega arith, each_map (λ (v : TxId). v.seq < s.next_seq) (λ (v : TxId). v.seq < s.next_seq + 1) begun_yet (λ v lt. omega (arith, lt)) n.begun_below);
-      begun_apart = (each_map (λ (v : TxId). v.seq < s.next_seq) (λ v. same_tx v (next_tx s) ≡ false) begun_yet (lower_apart s) n.begun_below, n.begun_apart);
-      verified_below = each_map (λ (v : TxId). v.seq < s.next_seq) (λ (v : TxId). v.seq < s.next_seq + 1) verified (λ v lt. omega (arith, lt)) n.verified_below;
+          (λ x is. record {
+            tc = is.tc;
+            below = omega (arith, is.below);
+            decided = is.decided;
+            unverified =
+                is.unverified;
+          }) n.live);
+      begun_below = (
+        omega arith,
+        each_map (λ (v : TxId). v.seq < s.next_seq) (λ (v : TxId). v.seq < s.next_seq + 1)
+            begun_yet (λ v lt. omega (arith, lt)) n.begun_below,
+      );
+      begun_apart = (
+        each_map (λ (v : TxId). v.seq < s.next_seq) (λ v. same_tx v (next_tx s) ≡ false) begun_yet
+            (lower_apart s) n.begun_below,
+        n.begun_apart,
+      );
+      verified_below = each_map (λ (v : TxId). v.seq < s.next_seq) (λ (v : TxId). v.seq < s.next_seq + 1) verified
+          (λ v lt. omega (arith, lt)) n.verified_below;
       verified_apart = n.verified_apart;
     };
     says = (n.own, tt);
@@ -245,13 +311,16 @@ Tells D (kind.decided tx) = D tx
 Tells D (kind.committing tx) = D tx
 Tells D k = Unit {0}
 
-pub tc_numbered : (node : ℕ) (D : TxId → Type 0) (s : TcState) (begun_yet verified : List TxId) (body : Body) → IsNumbered node D s begun_yet verified → Tells D (kind_of body)
+pub tc_numbered : (node : ℕ) (D : TxId → Type 0) (s : TcState) (begun_yet verified : List TxId) (body : Body)
+    → IsNumbered node D s begun_yet verified → Tells D (kind_of body)
     → StaysNumbered node D (kind_of body) begun_yet verified (tc_table s body)
 tc_numbered node D s bs vs body n tells =
     tc_each Stays (StaysNumbered node D (kind_of body) bs vs) s body (record {
       turns = λ tx t at split. rows_of s.node s.layout tx t body (Stays tx t)
-          (turn_goes tx (D tx) (Stays tx t) s.node s.layout t body (λ turn goes at split. turn_stays node D (kind_of body) s bs vs n tx t at split turn goes turn.over)
-          (λ is ready at split. verify_stays node D (kind_of body) s bs vs n tx t at split (ap kind_of is) ready) (own_live node D (kind_of body) s bs vs n tx t at split).decided
+          (turn_goes tx (D tx) (Stays tx t) s.node s.layout t body
+          (λ turn goes at split. turn_stays node D (kind_of body) s bs vs n tx t at split turn goes turn.over)
+          (λ is ready at split. verify_stays node D (kind_of body) s bs vs n tx t at split (ap kind_of is) ready)
+          (own_live node D (kind_of body) s bs vs n tx t at split).decided
           (λ epoch is. subst (λ b. Tells D (kind_of b)) is tells));
       turned = λ tx t at split turn stays. stays at split;
       stays = nothing_said node D (kind_of body) s bs vs n;

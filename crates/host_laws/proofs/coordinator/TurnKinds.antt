@@ -29,7 +29,8 @@ use Rattle.host_laws.proofs.hosts.SendKinds.{SendsOnly, are_of, of_each, of_map,
 pub record OwnKinds (tx : TxId) (kind : Body → Bool) (body : Body) : Type 0 where
   pub chains : HasChains tx kind
   pub operates : (op : Op) (chain : List Member) → kind (Chain (LqhKeyReq tx (Operate op) chain 0)) ≡ true
-  pub answers : (key : List ℕ) (answer : Answer) → body ≡ Chain (LqhKeyConf tx key answer) → kind (Client (TcKeyConf tx answer)) ≡ true
+  pub answers : (key : List ℕ) (answer : Answer) → body ≡ Chain (LqhKeyConf tx key answer)
+      → kind (Client (TcKeyConf tx answer)) ≡ true
   pub waits : (key : List ℕ) → kind (Client (LqhWaitReq tx key)) ≡ true
   pub verifies : (ops : List (Op × Answer)) → kind (Epoch (DiVerifyReq tx ops)) ≡ true
   pub verified : kind (Epoch (DiVerifyEnd tx)) ≡ true
@@ -60,14 +61,19 @@ module _ (kind : Body → Bool) (tx : TxId) (body : Body) (own : OwnKinds tx kin
   aborts t why = record { enters = λ some. enters t _; ends = λ none. abort_ends why (abort.is_verifying t.phase) }
 
   commits : (t : Transaction) (epoch : ℕ) → CommittedForms node layout tx t epoch (TurnOnly kind)
-  commits t epoch = record { enters = λ some. enters t _; ends = λ none. of_each kind (reported tx epoch ∷ verify_end node tx ∷ []) (own.committed epoch, (own.verified, tt)) }
+  commits t epoch = record {
+    enters = λ some. enters t _;
+    ends = λ none. of_each kind (reported tx epoch ∷ verify_end node tx ∷ [])
+        (own.committed epoch, (own.verified, tt));
+  }
 
   -- so is each form of turn
   pub own_forms : (t : Transaction) → TurnForms node layout tx t body (TurnOnly kind)
   own_forms t = record {
     stays = refl;
     goes_on = λ at. rest_of_kind kind layout tx own.chains node t at (fronts t.phase);
-    operates = λ op is can. one_kind (kind (Chain (LqhKeyReq tx (Operate op) (chain_of layout (key_of op)) 0))) (own.operates op (chain_of layout (key_of op)));
+    operates = λ op is can. one_kind (kind (Chain (LqhKeyReq tx (Operate op) (chain_of layout (key_of op)) 0)))
+        (own.operates op (chain_of layout (key_of op)));
     answers = λ key answer asked is on at. one_kind (kind (Client (TcKeyConf tx answer))) (own.answers key answer is);
     late = λ key asked why verifying awaited on at. aborts_of_kind kind layout tx own.chains key (chain_of layout key);
     waits = λ asked on. of_map kind (wait_of tx (key_of asked.op)) asked.chain (λ r. own.waits (key_of asked.op));

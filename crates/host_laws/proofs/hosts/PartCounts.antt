@@ -23,16 +23,19 @@ use Rattle.sig_core.specs.declared.portion.TheConstants.{PORTION}
 
 -- its coordinator goes on, at this place
 abbrev pub is_cont : TxId → ℕ → Place → Body → Bool
-is_cont tx a to (Host (Continue (work.Transaction other) at)) = (is_tc to.block && (to.node == tx.tc)) && (same_tx other tx && (at == a))
+is_cont tx a to (Host (Continue (work.Transaction other) at)) =
+    (is_tc to.block && (to.node == tx.tc)) && (same_tx other tx && (at == a))
 is_cont tx a to _ = false
 
 pub cont_block : (tx : TxId) (a : ℕ) (to : Place) (body : Body) → is_tc to.block ≡ false → is_cont tx a to body ≡ false
-cont_block tx a to (Host (Continue (work.Transaction other) at)) e = ap (λ b. (b && (to.node == tx.tc)) && (same_tx other tx && (at == a))) e
+cont_block tx a to (Host (Continue (work.Transaction other) at)) e =
+    ap (λ b. (b && (to.node == tx.tc)) && (same_tx other tx && (at == a))) e
 cont_block tx a to _ e = refl
 
 -- a part of a list was sent, from a place on: eight and the signal to go on, or all that is left
 abbrev pub IsPart : (test : Place → Body → Bool) → TxId → (l at : ℕ) → List Outgoing → Type 0
-IsPart test tx l at sends = ((at + PORTION < l) × (PORTION ≤ sends_of test sends) × (1 ≤ sends_of (is_cont tx (at + PORTION)) sends)) ⊎ (l ≤ at + sends_of test sends)
+IsPart test tx l at sends = ((at + PORTION < l) × (PORTION ≤ sends_of test sends) ×
+    (1 ≤ sends_of (is_cont tx (at + PORTION)) sends)) ⊎ (l ≤ at + sends_of test sends)
 
 pub all_counted : {A : Type 0} (p : A → Bool) (xs : List A) → Each (λ x. p x ≡ true) xs → tally p xs ≡ length xs
 all_counted p [] all = refl
@@ -49,7 +52,8 @@ each_drop P (suc m) [] all = tt
 each_drop P (suc m) (x ∷ xs) all = each_drop P m xs all.1
 
 -- eight and the signal to go on, or all that is left
-pub part_is : (test : Place → Body → Bool) (node : ℕ) (tx : TxId) (xs : List Outgoing) (at : ℕ) → node ≡ tx.tc → Each (λ (x : Outgoing). test x.to x.body ≡ true) xs
+pub part_is : (test : Place → Body → Bool) (node : ℕ) (tx : TxId) (xs : List Outgoing) (at : ℕ) → node ≡ tx.tc
+    → Each (λ (x : Outgoing). test x.to x.body ≡ true) xs
     → IsPart test tx (length xs) at (part_effects node tx xs at).sends
 unfolding part_effects
 part_is test node tx xs at home all = go (nat_lt (at + PORTION) (length xs)) refl
@@ -59,22 +63,44 @@ part_is test node tx xs at home all = go (nat_lt (at + PORTION) (length xs)) ref
 
     part_count : tally (λ (x : Outgoing). test x.to x.body) (take PORTION (drop at xs)) ≡ min PORTION (length xs - at)
     part_count =
-        all_counted (λ (x : Outgoing). test x.to x.body) (take PORTION (drop at xs)) (each_take (λ (x : Outgoing). test x.to x.body ≡ true) PORTION (drop at xs) (each_drop (λ (x : Outgoing). test x.to x.body ≡ true) at xs all))
+        all_counted (λ (x : Outgoing). test x.to x.body) (take PORTION (drop at xs))
+        (each_take (λ (x : Outgoing). test x.to x.body ≡ true) PORTION (drop at xs)
+        (each_drop (λ (x : Outgoing). test x.to x.body ≡ true) at xs all))
         ∙ (length-take PORTION (drop at xs) ∙ ap (λ m. min PORTION m) (length-drop at xs))
 
-    cont_passes : is_cont tx (at + PORTION) (record { node = node; block = block.Tc }) (Host (Continue (work.Transaction tx) (at + PORTION))) ≡ true
+    cont_passes : is_cont tx (at + PORTION) (record { node = node; block = block.Tc })
+        (Host (Continue (work.Transaction tx) (at + PORTION))) ≡ true
     cont_passes =
-        true_and (node == tx.tc) (same_tx tx tx && ((at + PORTION) == (at + PORTION))) (subst (λ k. (k == tx.tc) ≡ true) (sym home) (eqb-self tx.tc))
+        true_and (node == tx.tc) (same_tx tx tx && ((at + PORTION) == (at + PORTION)))
+        (subst (λ k. (k == tx.tc) ≡ true) (sym home) (eqb-self tx.tc))
         (true_and (same_tx tx tx) ((at + PORTION) == (at + PORTION)) (same_tx-self tx) (eqb-self (at + PORTION)))
 
-    go : (b : Bool) → nat_lt (at + PORTION) (length xs) ≡ b → IsPart test tx (length xs) at (take PORTION (drop at xs) ++ rest_if node tx at b)
+    go : (b : Bool) → nat_lt (at + PORTION) (length xs) ≡ b
+        → IsPart test tx (length xs) at (take PORTION (drop at xs) ++ rest_if node tx at b)
     go true e =
         let low : at + PORTION < length xs = grind (arith, nat_tests, e) in
         inl (
           low,
-          omega (arith, low, part_count, tally_append (λ (x : Outgoing). test x.to x.body) (take PORTION (drop at xs)) (rest_if node tx at true)),
-          omega (arith, ap one_if cont_passes, tally_append (λ (x : Outgoing). is_cont tx (at + PORTION) x.to x.body) (take PORTION (drop at xs)) (rest_if node tx at true)),
+          omega (
+            arith,
+            low,
+            part_count,
+            tally_append (λ (x : Outgoing). test x.to x.body) (take PORTION (drop at xs))
+                (rest_if node tx at true),
+          ),
+          omega (
+            arith,
+            ap one_if cont_passes,
+            tally_append (λ (x : Outgoing). is_cont tx (at + PORTION) x.to x.body)
+                (take PORTION (drop at xs)) (rest_if node tx at true),
+          ),
         )
     go false e =
         let near : length xs ≤ at + PORTION = grind (arith, nat_tests, e) in
-        inr (omega (arith, near, part_count, tally_append (λ (x : Outgoing). test x.to x.body) (take PORTION (drop at xs)) (rest_if node tx at false)))
+        inr (omega (
+          arith,
+          near,
+          part_count,
+          tally_append (λ (x : Outgoing). test x.to x.body)
+              (take PORTION (drop at xs)) (rest_if node tx at false),
+        ))

@@ -83,7 +83,8 @@ are_of kind (sent ∷ more) = if kind sent.body then are_of kind more else false
 abbrev pub SendsOnly : {S : Type 0} → (Body → Bool) → Step S → Type 0
 SendsOnly kind step = are_of kind step.effects.sends ≡ true
 
-one_more : (b first rest : Bool) → (if b then first else false) ≡ true → (first ≡ true → rest ≡ true) → (if b then rest else false) ≡ true
+one_more : (b first rest : Bool) → (if b then first else false) ≡ true → (first ≡ true → rest ≡ true)
+    → (if b then rest else false) ≡ true
 one_more true first rest e go = go e
 one_more false first rest e go = e
 
@@ -105,18 +106,22 @@ both_kinds true e r = r
 both_kinds false e r = e
 
 -- each is of the kind
-pub of_each : (kind : Body → Bool) (xs : List Outgoing) → Each (λ (o : Outgoing). kind o.body ≡ true) xs → are_of kind xs ≡ true
+pub of_each : (kind : Body → Bool) (xs : List Outgoing) → Each (λ (o : Outgoing). kind o.body ≡ true) xs
+    → are_of kind xs ≡ true
 of_each kind [] all = refl
 of_each kind (x ∷ xs) all = both_kinds (kind x.body) all.0 (of_each kind xs all.1)
 
-pub of_append : (kind : Body → Bool) (xs ys : List Outgoing) → are_of kind xs ≡ true → are_of kind ys ≡ true → are_of kind (xs ++ ys) ≡ true
+pub of_append : (kind : Body → Bool) (xs ys : List Outgoing) → are_of kind xs ≡ true → are_of kind ys ≡ true
+    → are_of kind (xs ++ ys) ≡ true
 of_append kind [] ys p q = q
-of_append kind (x ∷ xs) ys p q = one_more (kind x.body) (are_of kind xs) (are_of kind (xs ++ ys)) p (λ first. of_append kind xs ys first q)
+of_append kind (x ∷ xs) ys p q =
+    one_more (kind x.body) (are_of kind xs) (are_of kind (xs ++ ys)) p (λ first. of_append kind xs ys first q)
 
 pub of_take : (kind : Body → Bool) (n : ℕ) (xs : List Outgoing) → are_of kind xs ≡ true → are_of kind (take n xs) ≡ true
 of_take kind zero xs p = refl
 of_take kind (suc n) [] p = refl
-of_take kind (suc n) (x ∷ xs) p = one_more (kind x.body) (are_of kind xs) (are_of kind (take n xs)) p (of_take kind n xs)
+of_take kind (suc n) (x ∷ xs) p =
+    one_more (kind x.body) (are_of kind xs) (are_of kind (take n xs)) p (of_take kind n xs)
 
 pub of_drop : (kind : Body → Bool) (n : ℕ) (xs : List Outgoing) → are_of kind xs ≡ true → are_of kind (drop n xs) ≡ true
 of_drop kind zero xs p = p
@@ -124,33 +129,44 @@ of_drop kind (suc n) [] p = refl
 of_drop kind (suc n) (x ∷ xs) p = of_drop kind n xs (the_rest (kind x.body) (are_of kind xs) p)
 
 -- signals that are made of a list's items, one of each
-pub of_map : (kind : Body → Bool) {A : Type 0} (f : A → Outgoing) (xs : List A) → ((x : A) → kind (f x).body ≡ true) → are_of kind (map f xs) ≡ true
+pub of_map : (kind : Body → Bool) {A : Type 0} (f : A → Outgoing) (xs : List A) → ((x : A) → kind (f x).body ≡ true)
+    → are_of kind (map f xs) ≡ true
 of_map kind f [] plain = refl
 of_map kind f (x ∷ xs) plain = both_kinds (kind (f x).body) (plain x) (of_map kind f xs plain)
 
 -- or some of each
-pub of_flat : (kind : Body → Bool) {A : Type 0} (f : A → List Outgoing) (xs : List A) → ((x : A) → are_of kind (f x) ≡ true) → are_of kind (flat_map f xs) ≡ true
+pub of_flat : (kind : Body → Bool) {A : Type 0} (f : A → List Outgoing) (xs : List A)
+    → ((x : A) → are_of kind (f x) ≡ true) → are_of kind (flat_map f xs) ≡ true
 of_flat kind f [] plain = refl
 of_flat kind f (x ∷ xs) plain = of_append kind (f x) (flat_map f xs) (plain x) (of_flat kind f xs plain)
 
 -- where no signal of the kind passes a test, none of these does
-pub none_of : (kind : Body → Bool) (test : Place → Body → Bool) → ((to : Place) (body : Body) → kind body ≡ true → test to body ≡ false)
+pub none_of : (kind : Body → Bool) (test : Place → Body → Bool)
+    → ((to : Place) (body : Body) → kind body ≡ true → test to body ≡ false)
     → (xs : List Outgoing) → are_of kind xs ≡ true → tally (λ (x : Outgoing). test x.to x.body) xs ≡ 0
 none_of kind test fails [] e = refl
 none_of kind test fails (x ∷ xs) e =
-    one (test x.to x.body) (fails x.to x.body (the_first (kind x.body) (are_of kind xs) e)) (none_of kind test fails xs (the_rest (kind x.body) (are_of kind xs) e))
+    one (test x.to x.body) (fails x.to x.body (the_first (kind x.body) (are_of kind xs) e))
+    (none_of kind test fails xs (the_rest (kind x.body) (are_of kind xs) e))
   where
     one : (b : Bool) {n : ℕ} → b ≡ false → n ≡ 0 → cond b 1 0 + n ≡ 0
     one true e r = cc
     one false e r = omega (arith, r)
 
 -- what is so of each signal of the kind is so of each of these
-pub each_of : (kind : Body → Bool) (P : Outgoing → Type 0) → ((x : Outgoing) → kind x.body ≡ true → P x) → (xs : List Outgoing) → are_of kind xs ≡ true → Each P xs
+pub each_of : (kind : Body → Bool) (P : Outgoing → Type 0) → ((x : Outgoing) → kind x.body ≡ true → P x)
+    → (xs : List Outgoing) → are_of kind xs ≡ true → Each P xs
 each_of kind P holds [] e = tt
-each_of kind P holds (x ∷ xs) e = (holds x (the_first (kind x.body) (are_of kind xs) e), each_of kind P holds xs (the_rest (kind x.body) (are_of kind xs) e))
+each_of kind P holds (x ∷ xs) e = (
+  holds x (the_first (kind x.body) (are_of kind xs) e),
+  each_of kind P holds xs
+      (the_rest (kind x.body) (are_of kind xs) e),
+)
 
 -- signals of a kind are of each kind that includes it
-pub of_kind : (kind other : Body → Bool) → ((body : Body) → kind body ≡ true → other body ≡ true) → (xs : List Outgoing) → are_of kind xs ≡ true → are_of other xs ≡ true
+pub of_kind : (kind other : Body → Bool) → ((body : Body) → kind body ≡ true → other body ≡ true) → (xs : List Outgoing)
+    → are_of kind xs ≡ true → are_of other xs ≡ true
 of_kind kind other holds [] e = refl
 of_kind kind other holds (x ∷ xs) e =
-    both_kinds (other x.body) (holds x.body (the_first (kind x.body) (are_of kind xs) e)) (of_kind kind other holds xs (the_rest (kind x.body) (are_of kind xs) e))
+    both_kinds (other x.body) (holds x.body (the_first (kind x.body) (are_of kind xs) e))
+    (of_kind kind other holds xs (the_rest (kind x.body) (are_of kind xs) e))

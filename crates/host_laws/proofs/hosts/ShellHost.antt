@@ -1,4 +1,5 @@
--- What the hosts of right logs are: the shell's, whose transactions are good, and those of coordinators, which tell truly.
+-- What the hosts of right logs are: the shell's, whose transactions are good, and those of coordinators, which tell
+-- truly.
 use Rattle.std.proofs.Common.{◌≡◌, ℕ, ◌+◌, ◌<◌, List, [], ◌∷◌, Bool, true, false, refl, ap, sym, ◌∙◌, subst, arith}
 use Rattle.std.specs.Prelude.{◌==◌, ◌&&◌, Option}
 use Rattle.std.proofs.lemmas.Bool.{false≢true}
@@ -49,15 +50,21 @@ use Rattle.host_laws.specs.OpenedAfter.{opened_in}
 use Rattle.run_theory.proofs.Tally.{none_if}
 use Rattle.run_theory.specs.Counts.{one_if, tally}
 
-move_view : (s : ApiState) (body : Body) (after : View × List OpenTransaction) (sends : List Outgoing) → ApiMove s body after sends → after.0 ≡ s.view
+move_view : (s : ApiState) (body : Body) (after : View × List OpenTransaction) (sends : List Outgoing)
+    → ApiMove s body after sends → after.0 ≡ s.view
 move_view s body after sends (rests is kind void) = ap (λ (a : View × List OpenTransaction). a.0) is
 move_view s body after sends (opens name node op new request is told) = ap (λ (a : View × List OpenTransaction). a.0) is
-move_view s body after sends (begun_as name tx front t u back about passes begun was is kind) = ap (λ (a : View × List OpenTransaction). a.0) is
-move_view s body after sends (goes front t u back go void was is kind) = ap (λ (a : View × List OpenTransaction). a.0) is
-move_view s body after sends (ends tx front t back about passes was is kind) = ap (λ (a : View × List OpenTransaction). a.0) is
-move_view s body after sends (refuses name front t back about passes was is kind) = ap (λ (a : View × List OpenTransaction). a.0) is
+move_view s body after sends (begun_as name tx front t u back about passes begun was is kind) =
+    ap (λ (a : View × List OpenTransaction). a.0) is
+move_view s body after sends (goes front t u back go void was is kind) =
+    ap (λ (a : View × List OpenTransaction). a.0) is
+move_view s body after sends (ends tx front t back about passes was is kind) =
+    ap (λ (a : View × List OpenTransaction). a.0) is
+move_view s body after sends (refuses name front t back about passes was is kind) =
+    ap (λ (a : View × List OpenTransaction). a.0) is
 
-shell_good : (s : ApiState) (at : BlockId) (x : Signal) → AreGood s.view s.opened → AreGood (shell_row s at x).state.view (shell_row s at x).state.opened
+shell_good : (s : ApiState) (at : BlockId) (x : Signal) → AreGood s.view s.opened
+    → AreGood (shell_row s at x).state.view (shell_row s at x).state.opened
 unfolding shell_row
 shell_good s block.Api x good = good_move s x.body _ _ (api_moves s x.body) good
 shell_good s _ x good = good
@@ -67,11 +74,14 @@ unfolding shell_row
 shell_view s block.Api x = move_view s x.body _ _ (api_moves s x.body)
 shell_view s _ x = refl
 
-pub shell_count : (s : ApiState) (at : BlockId) (x : Signal) (from : ℕ) (name : Option ℕ) (node : ℕ) → AreGood s.view s.opened → (is_api at ≡ true → IsDue s x.body from)
-    → tally (begins_at name node) (shell_row s at x).state.opened + one_if ((from == node) && (is_api at && reply_of name x.body))
+pub shell_count : (s : ApiState) (at : BlockId) (x : Signal) (from : ℕ) (name : Option ℕ) (node : ℕ)
+    → AreGood s.view s.opened → (is_api at ≡ true → IsDue s x.body from)
+    → tally (begins_at name node) (shell_row s at x).state.opened
+    + one_if ((from == node) && (is_api at && reply_of name x.body))
     ≡ tally (begins_at name node) s.opened + sends_of (to_node node (is_wish name)) (shell_row s at x).effects.sends
 unfolding shell_row
-shell_count s block.Api x from name node good due = count_move s x.body _ _ from name node (api_moves s x.body) good (due refl)
+shell_count s block.Api x from name node good due =
+    count_move s x.body _ _ from name node (api_moves s x.body) good (due refl)
 shell_count s _ x from name node good due = omega (arith, none_if (from == node))
 
 -- the API replies to no wish
@@ -80,21 +90,27 @@ no_reply_api name (Client (TcBeginConf other tx)) e = cc
 no_reply_api name (Client (TcBeginRef other)) e = cc
 no_reply_api name _ e = refl
 
-no_replies : (name : Option ℕ) (j : ℕ) (sends : List Outgoing) → are_of is_api_kind sends ≡ true → sends_of (to_node j (is_reply name)) sends ≡ 0
-no_replies name j sends kind = none_of is_api_kind (to_node j (is_reply name)) (λ to b k. and_false (to.node == j) (is_api to.block) (no_reply_api name b k)) sends kind
+no_replies : (name : Option ℕ) (j : ℕ) (sends : List Outgoing) → are_of is_api_kind sends ≡ true
+    → sends_of (to_node j (is_reply name)) sends ≡ 0
+no_replies name j sends kind = none_of is_api_kind (to_node j (is_reply name))
+    (λ to b k. and_false (to.node == j) (is_api to.block) (no_reply_api name b k)) sends kind
 
-move_replies : (name : Option ℕ) (j : ℕ) (s : ApiState) (body : Body) (after : View × List OpenTransaction) (sends : List Outgoing) → ApiMove s body after sends
+move_replies : (name : Option ℕ) (j : ℕ) (s : ApiState) (body : Body) (after : View × List OpenTransaction)
+    (sends : List Outgoing) → ApiMove s body after sends
     → sends_of (to_node j (is_reply name)) sends ≡ 0
 move_replies name j s body after sends (rests is kind void) = no_replies name j sends kind
 move_replies name j s body after sends (opens other at op new request is told) =
     ap (sends_of (to_node j (is_reply name))) told ∙ none_if (at == j)
-move_replies name j s body after sends (begun_as other tx front t u back about passes begun was is kind) = no_replies name j sends kind
+move_replies name j s body after sends (begun_as other tx front t u back about passes begun was is kind) =
+    no_replies name j sends kind
 move_replies name j s body after sends (goes front t u back go void was is kind) = no_replies name j sends kind
 move_replies name j s body after sends (ends tx front t back about passes was is kind) = no_replies name j sends kind
-move_replies name j s body after sends (refuses other front t back about passes was is kind) = no_replies name j sends kind
+move_replies name j s body after sends (refuses other front t back about passes was is kind) =
+    no_replies name j sends kind
 
 -- a host replies to each wish that its coordinator takes, and to nothing else
-pub host_replies : (name : Option ℕ) (s : host.Host) (x : Signal) → sends_of (to_node 0 (is_reply name)) (row s x).effects.sends ≡ one_if (has_tc s && is_wish name x.to x.body)
+pub host_replies : (name : Option ℕ) (s : host.Host) (x : Signal)
+    → sends_of (to_node 0 (is_reply name)) (row s x).effects.sends ≡ one_if (has_tc s && is_wish name x.to x.body)
 host_replies name s x = go (row s x) (block_case s x)
   where
     count : Step host.Host → ℕ
@@ -104,7 +120,8 @@ host_replies name s x = go (row s x) (block_case s x)
     off true e = ap (λ c. one_if (c && wish_of name x.body)) (sym e)
     off false e = refl
 
-    idle_off : (h : host.Host) (b : BlockId) → runs h b ≡ false → 0 ≡ one_if (has_tc h && (is_tc b && wish_of name x.body))
+    idle_off : (h : host.Host) (b : BlockId) → runs h b ≡ false
+        → 0 ≡ one_if (has_tc h && (is_tc b && wish_of name x.body))
     idle_off (Tc p) block.Tc e = absurd (false≢true (sym e))
     idle_off (Tc p) _ e = refl
     idle_off (Shell a) b e = refl
@@ -114,15 +131,21 @@ host_replies name s x = go (row s x) (block_case s x)
     go : (t : Step host.Host) → BlockCase s x t → count t ≡ one_if (has_tc s && is_wish name x.to x.body)
     go t (tc_takes step) =
         ap (λ f. sends_of (to_node 0 (is_reply name)) f.sends) step.effects ∙ tc_replies name (tc_of s) x.body
-        ∙ ap (λ b. one_if (b && (true && wish_of name x.body))) (sym step.runs) ∙ ap (λ b. one_if (has_tc s && (is_tc b && wish_of name x.body))) (sym step.at)
+        ∙ ap (λ b. one_if (b && (true && wish_of name x.body))) (sym step.runs)
+        ∙ ap (λ b. one_if (has_tc s && (is_tc b && wish_of name x.body))) (sym step.at)
     go t (api_takes step) =
-        ap (λ f. sends_of (to_node 0 (is_reply name)) f.sends) step.effects ∙ move_replies name 0 (api_of s) x.body _ _ (api_moves (api_of s) x.body) ∙ off (has_tc s) (ap is_tc step.at)
-    go t (dih_takes step) = ap (λ f. sends_of (to_node 0 (is_reply name)) f.sends) step.effects ∙ dih_replies name (dih_of s) x.body ∙ off (has_tc s) (ap is_tc step.at)
-    go t (rows_take step) = ap (λ f. sends_of (to_node 0 (is_reply name)) f.sends) step.effects ∙ lqh_replies name (lqh_of s) x.body ∙ off (has_tc s) (ap is_tc step.at)
+        ap (λ f. sends_of (to_node 0 (is_reply name)) f.sends) step.effects
+        ∙ move_replies name 0 (api_of s) x.body _ _ (api_moves (api_of s) x.body)
+        ∙ off (has_tc s) (ap is_tc step.at)
+    go t (dih_takes step) = ap (λ f. sends_of (to_node 0 (is_reply name)) f.sends) step.effects
+        ∙ dih_replies name (dih_of s) x.body ∙ off (has_tc s) (ap is_tc step.at)
+    go t (rows_take step) = ap (λ f. sends_of (to_node 0 (is_reply name)) f.sends) step.effects
+        ∙ lqh_replies name (lqh_of s) x.body ∙ off (has_tc s) (ap is_tc step.at)
     go t (none_takes step) = ap count step.is ∙ idle_off s x.to.block step.runs
 
 -- one that doesn't run the API wishes for none
-pub host_wishes : (name : Option ℕ) (s : host.Host) (x : Signal) → has_api s ≡ false → sends_of (is_wish name) (row s x).effects.sends ≡ 0
+pub host_wishes : (name : Option ℕ) (s : host.Host) (x : Signal) → has_api s ≡ false
+    → sends_of (is_wish name) (row s x).effects.sends ≡ 0
 host_wishes name s x other = go (row s x) (block_case s x)
   where
     go : (t : Step host.Host) → BlockCase s x t → sends_of (is_wish name) t.effects.sends ≡ 0
@@ -136,19 +159,28 @@ host_wishes name s x other = go (row s x) (block_case s x)
 abbrev TellsOf : (TxId → Type 0) → Body → Type 0
 TellsOf P body = (name : Option ℕ) (tx : TxId) → body ≡ Client (TcBeginConf name tx) → P tx
 
-never : (P : TxId → Type 0) (kind : Body → Bool) → ((name : Option ℕ) (tx : TxId) → kind (Client (TcBeginConf name tx)) ≡ false) → (sends : List Outgoing) → are_of kind sends ≡ true
+never : (P : TxId → Type 0) (kind : Body → Bool)
+    → ((name : Option ℕ) (tx : TxId) → kind (Client (TcBeginConf name tx)) ≡ false) → (sends : List Outgoing)
+    → are_of kind sends ≡ true
     → Each (λ (o : Outgoing). TellsOf P o.body) sends
 never P kind fails sends all =
-    each_of kind (λ (o : Outgoing). TellsOf P o.body) (λ o k name tx is. absurd (false≢true (sym (fails name tx) ∙ (ap kind (sym is) ∙ k)))) sends all
+    each_of kind (λ (o : Outgoing). TellsOf P o.body)
+    (λ o k name tx is. absurd (false≢true (sym (fails name tx) ∙ (ap kind (sym is) ∙ k)))) sends all
 
 -- the API tells of none
-move_tells : (P : TxId → Type 0) (s : ApiState) (body : Body) (after : View × List OpenTransaction) (sends : List Outgoing) → ApiMove s body after sends → Each (λ (o : Outgoing). TellsOf P o.body) sends
+move_tells : (P : TxId → Type 0) (s : ApiState) (body : Body) (after : View × List OpenTransaction)
+    (sends : List Outgoing) → ApiMove s body after sends → Each (λ (o : Outgoing). TellsOf P o.body) sends
 move_tells P s body after sends (rests is kind void) = never P is_api_kind (λ name tx. refl) sends kind
-move_tells P s body after sends (opens name node op new request is told) = subst (Each (λ (o : Outgoing). TellsOf P o.body)) (sym told) (λ other tx e. cc, tt)
-move_tells P s body after sends (begun_as name tx front t u back about passes begun was is kind) = never P is_api_kind (λ name tx. refl) sends kind
-move_tells P s body after sends (goes front t u back go void was is kind) = never P is_api_kind (λ name tx. refl) sends kind
-move_tells P s body after sends (ends tx front t back about passes was is kind) = never P is_api_kind (λ name tx. refl) sends kind
-move_tells P s body after sends (refuses name front t back about passes was is kind) = never P is_api_kind (λ name tx. refl) sends kind
+move_tells P s body after sends (opens name node op new request is told) =
+    subst (Each (λ (o : Outgoing). TellsOf P o.body)) (sym told) (λ other tx e. cc, tt)
+move_tells P s body after sends (begun_as name tx front t u back about passes begun was is kind) =
+    never P is_api_kind (λ name tx. refl) sends kind
+move_tells P s body after sends (goes front t u back go void was is kind) =
+    never P is_api_kind (λ name tx. refl) sends kind
+move_tells P s body after sends (ends tx front t back about passes was is kind) =
+    never P is_api_kind (λ name tx. refl) sends kind
+move_tells P s body after sends (refuses name front t back about passes was is kind) =
+    never P is_api_kind (λ name tx. refl) sends kind
 
 tc_tells : (s : TcState) (body : Body)
     → Each (λ (o : Outgoing). TellsOf (λ tx. tx.tc ≡ s.node) o.body) (tc_table s body).effects.sends
@@ -181,10 +213,13 @@ host_tells s x =
     each_send (λ (o : Outgoing). TellsTruly s o.body) s x
     (record {
       api = λ runs at. move_tells _ (api_of s) x.body _ _ (api_moves (api_of s) x.body);
-      tc = λ runs at. each_map (λ (o : Outgoing). TellsOf (λ tx. tx.tc ≡ (tc_of s).node) o.body) (λ (o : Outgoing). TellsTruly s o.body) (tc_table (tc_of s) x.body).effects.sends
+      tc = λ runs at. each_map (λ (o : Outgoing). TellsOf (λ tx. tx.tc ≡ (tc_of s).node) o.body)
+          (λ (o : Outgoing). TellsTruly s o.body) (tc_table (tc_of s) x.body).effects.sends
           (λ o tells name tx is. (runs, tells name tx is)) (tc_tells (tc_of s) x.body);
-      dih = λ runs at. never _ is_dih_kind (λ name tx. refl) (dih_table (dih_of s) x.body).effects.sends (dih_kinds (dih_of s) x.body);
-      rows = λ runs at. never _ is_lqh_kind (λ name tx. refl) (lqh_table (lqh_of s) x.body).effects.sends (lqh_kinds (lqh_of s) x.body);
+      dih = λ runs at. never _ is_dih_kind (λ name tx. refl) (dih_table (dih_of s) x.body).effects.sends
+          (dih_kinds (dih_of s) x.body);
+      rows = λ runs at. never _ is_lqh_kind (λ name tx. refl) (lqh_table (lqh_of s) x.body).effects.sends
+          (lqh_kinds (lqh_of s) x.body);
     })
 
 -- who tells that a transaction begins is the host of its coordinator
@@ -201,7 +236,15 @@ pub record IsShell (start : Start) (h : host.Host) : Type 0 where
 module _ (start : Start) where
   pub shell_after : (log : List HostStep) → IsShell start (after start 0 log)
   unfolding started fresh_shell row
-  shell_after [] = record { state = idle (first_view start.shape.nodes); is = refl; view = refl; good = record { each = tt; once = λ n. omega arith } }
+  shell_after [] = record {
+    state = idle (first_view start.shape.nodes);
+    is = refl;
+    view = refl;
+    good = record {
+      each = tt;
+      once = λ n. omega arith;
+    };
+  }
   shell_after (e ∷ log) =
       let s = shell_after log in
       record {
@@ -212,7 +255,9 @@ module _ (start : Start) where
       }
 
   -- what it sends
-  pub shell_sends : (e : HostStep) (log : List HostStep) → (step_after start 0 log e).effects.sends ≡ (shell_row (shell_after log).state e.step.taken.to.block e.step.taken).effects.sends
+  pub shell_sends : (e : HostStep) (log : List HostStep)
+      → (step_after start 0 log e).effects.sends
+      ≡ (shell_row (shell_after log).state e.step.taken.to.block e.step.taken).effects.sends
   unfolding row
   shell_sends e log = ap (λ h. (row h e.step.taken).effects.sends) (shell_after log).is
 
@@ -221,19 +266,29 @@ module _ (start : Start) where
   unfolding started fresh_shell
   opened_first = refl
 
-  pub opened_next : (e : HostStep) (log : List HostStep) → opened_in (after start 0 (e ∷ log)) ≡ (shell_row (shell_after log).state e.step.taken.to.block e.step.taken).state.opened
+  pub opened_next : (e : HostStep) (log : List HostStep)
+      → opened_in (after start 0 (e ∷ log))
+      ≡ (shell_row (shell_after log).state e.step.taken.to.block e.step.taken).state.opened
   unfolding row
   opened_next e log = ap (λ h. opened_in (row h e.step.taken).state) (shell_after log).is
 
   -- what a host sends tells truly
-  pub told : (h j : ℕ) (log : List HostStep) → h < hosts start → Each (λ (x : Addressed). TellsHome start h x.signal.body) (sent (machine start) h j log)
+  pub told : (h j : ℕ) (log : List HostStep) → h < hosts start
+      → Each (λ (x : Addressed). TellsHome start h x.signal.body) (sent (machine start) h j log)
   told h j log low =
       sent_truths start (λ (x : Addressed). TellsHome start h x.signal.body) h j
-      (λ e older. each_map (λ (o : Outgoing). TellsTruly (after start h older) o.body) (λ (o : Outgoing). (number : ℕ) → TellsHome start h o.body)
-      (step_after start h older e).effects.sends (λ o tells number name tx is. at_home older (tells name tx is)) (host_tells (after start h older) e.step.taken))
+      (λ e older. each_map (λ (o : Outgoing). TellsTruly (after start h older) o.body)
+      (λ (o : Outgoing). (number : ℕ) → TellsHome start h o.body)
+      (step_after start h older e).effects.sends (λ o tells number name tx is. at_home older (tells name tx is))
+      (host_tells (after start h older) e.step.taken))
       log
     where
-      at_home : (older : List HostStep) {tx : TxId} → (has_tc (after start h older) ≡ true) × (tx.tc ≡ (tc_of (after start h older)).node) → IsHome start tx h
+      at_home : (older : List HostStep) {tx : TxId}
+          → (has_tc (after start h older) ≡ true) × (tx.tc ≡ (tc_of (after start h older)).node) → IsHome start tx h
       at_home older tells =
           let own = at_own_node start h older low tells.0 in
-          record { some = omega (arith, own.some, tells.1); low = omega (arith, own.low, tells.1); is = own.is ∙ ap (λ n. host_for start (coordinator n)) (sym tells.1) }
+          record {
+            some = omega (arith, own.some, tells.1);
+            low = omega (arith, own.low, tells.1);
+            is = own.is ∙ ap (λ n. host_for start (coordinator n)) (sym tells.1);
+          }

@@ -235,7 +235,8 @@ keys_begin_at_rest member layout epoch rows key held =
     replica_is _ _
     (λ i. record {
       row = (row_of-at (with_rows no_rows own epoch) key
-          ∙ started_row layout.shape member.node epoch no_rows map.empty rows key held (sym (map.get-empty key_cmp key))) i;
+          ∙ started_row layout.shape member.node epoch no_rows map.empty rows key held
+          (sym (map.get-empty key_cmp key))) i;
       pending = ap (λ xs. epochless (on key xs)) (started_pending no_rows own epoch) i;
     })
     (ap or_unlocked (map.get-empty key_cmp key)) refl
@@ -249,7 +250,8 @@ part_well : (of : Part) (member : Member) (layout : Layout) (epoch : ℕ) (rows 
 unfolding fresh_part
 part_well part.Main member layout epoch rows = idle_well 0 nowhere [] 0
 part_well part.Tc member layout epoch rows = idle_well 0 nowhere [] 0
-part_well part.Ldm member layout epoch rows = idle_well member.node layout (own_rows layout.shape member.node rows) epoch
+part_well part.Ldm member layout epoch rows =
+    idle_well member.node layout (own_rows layout.shape member.node rows) epoch
 
 started_well : (start : Start) (h : ℕ) → IsWellHost (started start h)
 unfolding fresh_shell started

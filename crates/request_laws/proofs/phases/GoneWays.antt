@@ -75,4 +75,5 @@ module _ (start : Start) (member : Member) (tx : TxId) (p : Phase → Bool) (tel
     pub gone_nowhere : is_at p (entry (e ∷ log)) ≡ false → AreSpared tells sends → gone log ≡ false
         → gone (e ∷ log) ≡ false
     gone_nowhere here quiet is =
-        gone_false (is_at p (entry (e ∷ log))) (is_sent tells sends) (gone log) here (spared_unsent tells sends quiet) is
+        gone_false (is_at p (entry (e ∷ log))) (is_sent tells sends) (gone log) here (spared_unsent tells sends quiet)
+        is

@@ -74,7 +74,8 @@ word_still sends all = record {
 
 pub still_untold : (tx : TxId) (sends : List Outgoing) → IsStill sends → IsUntold tx sends
 still_untold tx sends still = record {
-  commits = each_map (IsSpared is_commit_told) (IsSpared (tells_commit tx)) sends (λ o is. commits o.body is) still.commits;
+  commits =
+      each_map (IsSpared is_commit_told) (IsSpared (tells_commit tx)) sends (λ o is. commits o.body is) still.commits;
   aborts = each_map (IsSpared is_abort_told) (IsSpared (tells_abort tx)) sends (λ o is. aborts o.body is) still.aborts;
   asks = each_map (IsSpared is_epoch_asked) (IsSpared (is_asking tx)) sends (λ o is. asks o.body is) still.asks;
 }
@@ -138,7 +139,8 @@ epochs_still s x =
     })
 
 -- a part in which a view was installed, or none, has the same transactions
-module _ (member : Member) (p between : TcPart) (entered : IsEntered p between) (of : IsCoordinatorOf member p.coordinator)
+module _ (member : Member) (p between : TcPart) (entered : IsEntered p between)
+    (of : IsCoordinatorOf member p.coordinator)
   where
     abbrev s : CoordinatorState
     s = p.coordinator

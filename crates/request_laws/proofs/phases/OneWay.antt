@@ -1,4 +1,5 @@
--- Each transaction of a coordinator goes one way, along every log of its host: it is given up, or committed, and none is
+-- Each transaction of a coordinator goes one way, along every log of its host: it is given up, or committed, and none
+-- is
 -- forgotten before.
 use Rattle.std.proofs.Common.{◌≡◌, ◌⊎◌, ◌∙◌, ◌+◌, ◌≤◌, ◌<◌, ◌++◌, ◌||◌, ℕ, Bool, true, false, List, [], ◌∷◌, refl, sym, ap, subst, inl, inr, arith}
 use Rattle.std.proofs.lemmas.Bool.{leb-true, leb-false, true≢false}
@@ -68,7 +69,8 @@ at_aborting (Committing epoch awaited) f b says is = absurd cc
 at_aborting (Completing epoch awaited) f b says is = absurd cc
 at_aborting (Aborting why verifying awaited) f b says is = says.1
 
-decided_way : (phase : Phase) (epoch : ℕ) (f b : Bool) → IsDecidedAs phase epoch → f ≡ true → b ≡ false → WaySays f b phase
+decided_way : (phase : Phase) (epoch : ℕ) (f b : Bool) → IsDecidedAs phase epoch → f ≡ true → b ≡ false
+    → WaySays f b phase
 decided_way Open epoch f b is one other = absurd is
 decided_way Verifying epoch f b is one other = absurd is
 decided_way (Committing now awaited) epoch f b is one other = (one, other)
@@ -246,7 +248,10 @@ module _ (start : Start) (member : Member) (there : IsIn member (made start)) (t
         own : Own
         own =
             let fits = coordinator_of start member there log in
-            subst (λ v. coordinator_member v ≡ member) is (λ i. record { node = fits.node_is i; start = fits.start_is i })
+            subst (λ v. coordinator_member v ≡ member) is (λ i. record {
+              node = fits.node_is i;
+              start = fits.start_is i;
+            })
 
         number : (c log).tc.next_seq ≡ tx.seq
         number = ap (λ (v : TxId). v.seq) is
@@ -327,7 +332,8 @@ module _ (start : Start) (member : Member) (there : IsIn member (made start)) (t
 
       -- it stays undecided, in this phase
       open_way : (phase : Phase) → turn.over ≡ false → turn.step.state.phase ≡ phase → is_decided phase ≡ false
-          → is_aborting phase ≡ false → f log ≡ false → b log ≡ false → AreSpared turns.is_commit_told turn.step.effects.sends
+          → is_aborting phase ≡ false → f log ≡ false → b log ≡ false
+          → AreSpared turns.is_commit_told turn.step.effects.sends
           → AreSpared turns.is_abort_told turn.step.effects.sends
           → ((f (e ∷ log) ≡ false) → (b (e ∷ log) ≡ false) → WaySays (f (e ∷ log)) (b (e ∷ log)) phase)
           → Way (e ∷ log)
@@ -366,7 +372,8 @@ module _ (start : Start) (member : Member) (there : IsIn member (made start)) (t
               let back =
               gone_nowhere start member tx is_aborting (tells_abort tx) log e
               (ap (is_at is_aborting) (over_none over)) (no_abort goes.aborts) back_was in
-              ways true over (λ on. absurd (true≢false (sym over ∙ on))) (λ one. back) (λ over. inl (forth (goes.ends over)))
+              ways true over (λ on. absurd (true≢false (sym over ∙ on))) (λ one. back)
+              (λ over. inl (forth (goes.ends over)))
             where
               forth : (is_decided t.phase ≡ true) ⊎ (is_sent (tells_commit tx) turn.step.effects.sends ≡ true)
                   → f (e ∷ log) ≡ true
@@ -407,12 +414,14 @@ module _ (start : Start) (member : Member) (there : IsIn member (made start)) (t
 
       changed_way : (body : Body) → Changes (c log).tc.node tx t body turn → Way (e ∷ log)
       changed_way body (turns.opens at on now answered still) =
-          open_way Open on now refl refl (at_phase Open at).0 (at_phase Open at).1 still.commits still.aborts (λ forth back. (forth, back))
+          open_way Open on now refl refl (at_phase Open at).0 (at_phase Open at).1 still.commits still.aborts
+          (λ forth back. (forth, back))
       changed_way body (turns.asks at none about is) =
           open_way Verifying (ap (λ (u : Turn). u.over) is) (ap (λ (u : Turn). u.step.state.phase) is) refl refl
           (at_phase Open at).0 (at_phase Open at).1
           (subst (λ (u : Turn). AreSpared turns.is_commit_told u.step.effects.sends) (sym is) (refl, tt))
-          (subst (λ (u : Turn). AreSpared turns.is_abort_told u.step.effects.sends) (sym is) (refl, tt)) (λ forth back. (forth, back))
+          (subst (λ (u : Turn). AreSpared turns.is_abort_told u.step.effects.sends) (sym is) (refl, tt))
+          (λ forth back. (forth, back))
       changed_way body (turns.waits at on now still) =
           open_way Verifying on (ap (λ (u : Transaction). u.phase) now ∙ at) refl refl (at_phase Verifying at).0
           (at_phase Verifying at).1 still.commits still.aborts (λ forth back. (forth, back))

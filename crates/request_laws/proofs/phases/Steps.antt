@@ -77,7 +77,8 @@ AreAway tx sends = AreSpared (is_about tx) sends
 abbrev pub left_of : Turn → Option Transaction
 left_of turn = if turn.over then None else Some turn.step.state
 
--- something stands against the turn: the signal is of an older view, or the transaction is doomed, or left to be aborted
+-- something stands against the turn: the signal is of an older view, or the transaction is doomed, or left to be
+-- aborted
 abbrev pub is_held_back : CoordinatorState → ℕ → Body → Bool
 is_held_back s number (Host (Continue (work.Transaction tx) at)) = nat_lt number s.number
 is_held_back s number (Epoch (DiVerifyConf tx epoch)) = is_among s.doomed tx
@@ -125,36 +126,37 @@ others_none tx (e ∷ live) others =
     ap (λ b. if b then Some e.1 else of_live tx live) others.0 ∙ others_none tx live others.1
 
 -- one that stands at a place, where none stands twice
-module _ (live : Live) (one : TxId) (t : Transaction) (at : ℕ) (split : Split one t live at) (once : KeysOnce live) where
-  once_split : KeysOnce (split.front ++ (one, t) ∷ split.back)
-  once_split = subst KeysOnce split.is once
+module _ (live : Live) (one : TxId) (t : Transaction) (at : ℕ) (split : Split one t live at) (once : KeysOnce live)
+  where
+    once_split : KeysOnce (split.front ++ (one, t) ∷ split.back)
+    once_split = subst KeysOnce split.is once
 
-  front_others : AreOthers one split.front
-  front_others = once_front split.front split.back one t once_split
+    front_others : AreOthers one split.front
+    front_others = once_front split.front split.back one t once_split
 
-  pub found : of_live one live ≡ Some t
-  found = ap (of_live one) split.is ∙ of_between split.front split.back one t front_others
+    pub found : of_live one live ≡ Some t
+    found = ap (of_live one) split.is ∙ of_between split.front split.back one t front_others
 
-  found_set : (w : Transaction) → of_live one (set_value_at live at w) ≡ Some w
-  found_set w = ap (of_live one) (split.set w) ∙ of_between split.front split.back one w front_others
+    found_set : (w : Transaction) → of_live one (set_value_at live at w) ≡ Some w
+    found_set w = ap (of_live one) (split.set w) ∙ of_between split.front split.back one w front_others
 
-  found_gone : of_live one (remove live at) ≡ None
-  found_gone =
-      ap (of_live one) split.gone
-      ∙ others_none one (split.front ++ split.back)
-      (each_append (λ (x : TxId × Transaction). same_tx x.0 one ≡ false) split.front split.back front_others
-      (once_back split.front split.back one t once_split))
+    found_gone : of_live one (remove live at) ≡ None
+    found_gone =
+        ap (of_live one) split.gone
+        ∙ others_none one (split.front ++ split.back)
+        (each_append (λ (x : TxId × Transaction). same_tx x.0 one ≡ false) split.front split.back front_others
+        (once_back split.front split.back one t once_split))
 
-  module _ (tx : TxId) (off : same_tx one tx ≡ false) where
-    other_before : of_live tx live ≡ of_live tx (split.front ++ split.back)
-    other_before = ap (of_live tx) split.is ∙ of_other split.front split.back one tx t off
+    module _ (tx : TxId) (off : same_tx one tx ≡ false) where
+      other_before : of_live tx live ≡ of_live tx (split.front ++ split.back)
+      other_before = ap (of_live tx) split.is ∙ of_other split.front split.back one tx t off
 
-    other_set : (w : Transaction) → of_live tx (set_value_at live at w) ≡ of_live tx live
-    other_set w =
-        ap (of_live tx) (split.set w) ∙ (of_other split.front split.back one tx w off ∙ sym other_before)
+      other_set : (w : Transaction) → of_live tx (set_value_at live at w) ≡ of_live tx live
+      other_set w =
+          ap (of_live tx) (split.set w) ∙ (of_other split.front split.back one tx w off ∙ sym other_before)
 
-    other_gone : of_live tx (remove live at) ≡ of_live tx live
-    other_gone = ap (of_live tx) split.gone ∙ sym other_before
+      other_gone : of_live tx (remove live at) ≡ of_live tx live
+      other_gone = ap (of_live tx) split.gone ∙ sym other_before
 
 -- what the turn of a transaction comes to for each
 record Turned (s : TcState) (one : TxId) (turn : Turn) (step : Step TcState) : Type 0 where
@@ -270,7 +272,8 @@ module _ (member : Member) (s : CoordinatorState) (of : IsCoordinatorOf member s
           (ap (of_live (next_tx s.tc)) last ∙ of_between s.tc.live [] (next_tx s.tc) fresh others))
           refl (ap (λ v. to_place client (Client (TcBeginConf name v)) ∷ []) is)
       by false off =
-          stays (ap (of_live tx) last ∙ (of_other s.tc.live [] (next_tx s.tc) tx fresh off ∙ ap (of_live tx) (append-nil s.tc.live)))
+          stays (ap (of_live tx) last ∙ (of_other s.tc.live [] (next_tx s.tc) tx fresh off ∙ ap (of_live tx)
+          (append-nil s.tc.live)))
           (λ own. later s.tc.next_seq tx.seq (other_number off own)) (off, tt)
 
   -- a transaction takes its turn
@@ -294,7 +297,8 @@ module _ (member : Member) (s : CoordinatorState) (of : IsCoordinatorOf member s
       by true same =
           let is : one ≡ tx = same_tx-is one tx same in
           turns t (subst (λ v. of_live v s.tc.live ≡ Some t) is (found s.tc.live one t at split once)) takes is free
-          (subst (λ v. of_live v (turned s.tc at turn).state.live ≡ left_of (turn_for s.tc.node s.tc.layout v body t)) is
+          (subst (λ v. of_live v (turned s.tc at turn).state.live ≡ left_of (turn_for s.tc.node s.tc.layout v body t))
+          is
           did.own)
           did.next
           (did.sends ∙ ap (λ v. (turn_for s.tc.node s.tc.layout v body t).step.effects.sends) is)
@@ -371,7 +375,8 @@ module _ (member : Member) (s : CoordinatorState) (of : IsCoordinatorOf member s
               is did.own)
               did.next
               (ap (λ sends. sends ++ go_on_with (turned s.tc at (row t)).state.node left)
-              (did.sends ∙ ap (λ v. (resume_row s.tc.node s.tc.layout v t task.verdict s.number).step.effects.sends) is))
+              (did.sends ∙ ap (λ v. (resume_row s.tc.node s.tc.layout v t task.verdict s.number).step.effects.sends)
+              is))
 
           by : (b : Bool) → same_tx task.tx tx ≡ b → Resumes (turned s.tc at (row t))
           by true same = own (same_tx-is task.tx tx same)

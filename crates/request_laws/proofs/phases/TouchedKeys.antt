@@ -80,7 +80,8 @@ module _ (layout : Layout) where
     apart_anew touched apart.1,
   )
 
-  any_anew : (key : List ℕ) (touched : List Touched) → list_any (is_on key) (anew touched) ≡ list_any (is_on key) touched
+  any_anew : (key : List ℕ) (touched : List Touched)
+      → list_any (is_on key) (anew touched) ≡ list_any (is_on key) touched
   any_anew key [] = refl
   any_anew key (t ∷ touched) =
       ap (λ k. same_key k key || list_any (is_on key) (anew touched)) (key_stays t)

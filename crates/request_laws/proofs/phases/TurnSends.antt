@@ -68,7 +68,8 @@ module _ (p : Body → Bool) (node : ℕ) (layout : Layout) (tx : TxId) (spares 
       → AreSpared p (part_effects node tx sends at).sends
   unfolding part_effects
   part_spared sends at all =
-      each_append (IsSpared p) (take PORTION (drop at sends)) (rest_if node tx at (nat_lt (at + PORTION) (length sends)))
+      each_append (IsSpared p) (take PORTION (drop at sends))
+      (rest_if node tx at (nat_lt (at + PORTION) (length sends)))
       (each_take (IsSpared p) PORTION (drop at sends) (each_drop (IsSpared p) at sends all))
       (rest_spared at (nat_lt (at + PORTION) (length sends)))
 

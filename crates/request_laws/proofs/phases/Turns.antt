@@ -182,10 +182,18 @@ module _ (node : ℕ) (layout : Layout) (tx : TxId) (t : Transaction) (body : Bo
       by : (phase : Phase) → t.phase ≡ phase → Does turn
       by Open at =
           opens at on (left ∙ at) (inl (ap (λ (u : Transaction). u.ops) same))
-          (record { commits = committed (subst (SparesIn is_commit_told tx) (sym at) tt); aborts = aborts; asks = asked })
+          (record {
+            commits = committed (subst (SparesIn is_commit_told tx) (sym at) tt);
+            aborts = aborts;
+            asks = asked;
+          })
       by Verifying at =
           waits at on same
-          (record { commits = committed (subst (SparesIn is_commit_told tx) (sym at) tt); aborts = aborts; asks = asked })
+          (record {
+            commits = committed (subst (SparesIn is_commit_told tx) (sym at) tt);
+            aborts = aborts;
+            asks = asked;
+          })
       by (Committing epoch awaited) at = goes_forth epoch (subst (λ phase. IsDecidedAs phase epoch) (sym at) refl)
       by (Completing epoch awaited) at = goes_forth epoch (subst (λ phase. IsDecidedAs phase epoch) (sym at) refl)
       by (Aborting why verifying awaited) at = back (ap is_decided at) (record {
@@ -300,7 +308,8 @@ module _ (node : ℕ) (layout : Layout) (tx : TxId) (t : Transaction) (body : Bo
     commits = λ epoch is at some. decides epoch at is (forth_enters t epoch _ refl refl refl);
     commits_none = λ epoch is at none. committed_changes epoch (λ turn goes. decides epoch at is goes);
     committed = λ key epoch awaited is at more. forth epoch (known epoch _ at refl) (moved epoch _ refl);
-    committed_all = λ key epoch awaited is at last. committed_changes epoch (λ turn goes. forth epoch (known epoch _ at refl) goes);
+    committed_all = λ key epoch awaited is at last. committed_changes epoch
+        (λ turn goes. forth epoch (known epoch _ at refl) goes);
     completed = λ key epoch awaited is at more. forth epoch (known epoch _ at refl) (moved epoch _ refl);
     completed_all = λ key epoch awaited is at last. forth epoch (known epoch _ at refl) (record {
       on = λ o. absurd (true≢false o);

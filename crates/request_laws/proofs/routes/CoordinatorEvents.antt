@@ -1,4 +1,5 @@
--- At an event of the host of a coordinator, the coordinator goes on to have its routes, and what the host sends is routed.
+-- At an event of the host of a coordinator, the coordinator goes on to have its routes, and what the host sends is
+-- routed.
 use Rattle.std.proofs.Common.{◌≡◌, ◌⊎◌, ◌++◌, ◌∙◌, ℕ, Bool, true, false, List, [], ◌∷◌, inl, inr, refl, sym, ap, subst, arith}
 use Rattle.std.proofs.lemmas.Bool.{ltb-false, true≢false}
 use Rattle.run_theory.specs.Lists.{Each, IsIn}

@@ -45,7 +45,8 @@ use Rattle.request_laws.proofs.routes.Sends.{IsMade}
 use Rattle.request_laws.proofs.routes.Takeovers.{ChainsAreSome}
 use Rattle.request_laws.proofs.routes.Turns.{Grows, IsAnsweredIn, IsGiven, Renews, Routes, has_stays, resume_forms, turn_forms, was_so}
 
--- What a coordinator sends is of transactions that it asks for, or drives, in this view, and of those that it had no other
+-- What a coordinator sends is of transactions that it asks for, or drives, in this view, and of those that it had no
+-- other
 -- is asked for, or driven, anew; of those that it has, who is aborted is given up, and who is decided isn't.
 pub record Makes (A0 D0 A D G : TxId → Type 0) (before live : Live) (sends : List Outgoing) : Type 0 where
   pub sends_own : Each (λ (sent : Outgoing). IsMade A D sent.body) sends
@@ -221,7 +222,8 @@ module _ (A0 D0 G0 A D G : TxId → Type 0) (grows : Grows A0 D0 G0 A D G) (s : 
       front : Each (Renewed sends) s.tc.live → Each Given split.front → Each HasEntry split.front
       front renews given =
           others split.front (once_front split.front split.back tx t keys)
-          (each_before (Renewed sends) split.front ((tx, t) ∷ split.back) (subst (Each (Renewed sends)) split.is renews))
+          (each_before (Renewed sends) split.front ((tx, t) ∷ split.back)
+          (subst (Each (Renewed sends)) split.is renews))
           given (each_before HadEntry split.front ((tx, t) ∷ split.back) whole)
 
       back : Each (Renewed sends) s.tc.live → Each Given split.back → Each HasEntry split.back

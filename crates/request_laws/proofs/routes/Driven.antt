@@ -1,4 +1,5 @@
--- What an event adds to what transactions were asked for, and driven, in a view: at the host of their coordinator, what it
+-- What an event adds to what transactions were asked for, and driven, in a view: at the host of their coordinator, what
+-- it
 -- sends in this view, and elsewhere nothing.
 use Rattle.std.proofs.Common.{◌≡◌, ◌≢◌, ◌⊎◌, ◌==◌, ◌||◌, ◌&&◌, ℕ, Bool, true, false, List, [], ◌∷◌, inl, inr, refl, sym, ap, ◌∙◌, subst}
 use Rattle.std.proofs.lemmas.Bool.{cases_eq, eq-eqb, true≢false}
@@ -131,7 +132,8 @@ module _ (start : Start) (e : HostStep) (es : List HostStep) where
         Now : ℕ → Bool
         Now h = is_sent p (step_after start h (old e.host) e).effects.sends
 
-        by : ((Now (tc_of start one) && ((view_after start (tc_of start one) (e ∷ old e.host)).number == number)) ≡ true)
+        by : ((Now (tc_of start one) && ((view_after start (tc_of start one) (e ∷ old e.host)).number == number)) ≡
+            true)
             ⊎ (was_sent_in start one p number (old e.host) ≡ true)
             → (was_sent_in start one p number (old (tc_of start one)) ≡ true) ⊎ (is_sent p sends ≡ true)
         by (inl now) = inr (subst (λ h. Now h ≡ true) (host_is one is) (first_of (Now (tc_of start one)) _ now))

@@ -99,7 +99,8 @@ module _ (start : Start) (e : HostStep) (es : List HostStep) where
             was.asked;
       },
       λ was full.
-          subst (λ log. was_sent_in start (coordinator_member tx) (is_commit tx) view.number log ≡ true) same (was full),
+          subst (λ log. was_sent_in start (coordinator_member tx) (is_commit tx) view.number log ≡ true) same
+          (was full),
     )
       where
         same : new (tc_of start (coordinator_member tx)) ≡ old (tc_of start (coordinator_member tx))
@@ -133,6 +134,7 @@ module _ (start : Start) (e : HostStep) (es : List HostStep) where
         let h = ldm_of start member in
         let view = view_after start h (old h) in
         subst (RowsHave new) (sym (log_of-other (machine start) e es h other))
-        (waits_more (layout_in start view) (WasAskedIn start old view) (WasDrivenIn start old view) (IsGivenUp start old)
+        (waits_more (layout_in start view) (WasAskedIn start old view) (WasDrivenIn start old view)
+        (IsGivenUp start old)
         (WasAskedIn start new view) (WasDrivenIn start new view) (IsGivenUp start new) (grows start e es view)
         (rows_after start member (old h)) had)

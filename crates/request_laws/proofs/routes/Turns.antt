@@ -153,7 +153,8 @@ module _ (layout : Layout) (A D G : TxId → Type 0) (some : ChainsAreSome layou
         record {
           has = λ on. given;
           sends =
-              part_sent layout A D G some tx node (phase_sends layout tx (Aborting why verifying awaited) t.touched) 0 (inr given)
+              part_sent layout A D G some tx node (phase_sends layout tx (Aborting why verifying awaited) t.touched) 0
+              (inr given)
               (phase_sent layout A D G some tx (Aborting why verifying awaited) t.touched tt);
         }
 
@@ -165,7 +166,8 @@ module _ (layout : Layout) (A D G : TxId → Type 0) (some : ChainsAreSome layou
         λ driven. same_routes t (at_phase t (Committing epoch awaited)) refl refl (routes driven),
         (makes.given refl).decided refl,
       );
-      sends = commits_sent layout A D G some tx node epoch awaited t.touched (λ driven. (routes driven).touched) makes.sends;
+      sends = commits_sent layout A D G some tx node epoch awaited t.touched (λ driven. (routes driven).touched)
+          makes.sends;
     }
 
     enters_completing : (node : ℕ) (t : Transaction) (epoch awaited : ℕ) → D tx → (D tx → HasRoutes layout t)
@@ -177,7 +179,8 @@ module _ (layout : Layout) (A D G : TxId → Type 0) (some : ChainsAreSome layou
         (makes.given refl).decided refl,
       );
       sends =
-          part_sent layout A D G some tx node (phase_sends layout tx (Completing epoch awaited) t.touched) 0 (inl driven)
+          part_sent layout A D G some tx node (phase_sends layout tx (Completing epoch awaited) t.touched) 0
+          (inl driven)
           (phase_sent layout A D G some tx (Completing epoch awaited) t.touched (driven, (routes driven).touched));
     }
 
@@ -219,7 +222,8 @@ module _ (layout : Layout) (A D G : TxId → Type 0) (some : ChainsAreSome layou
         part_sent layout A D G some tx node (phase_sends layout tx t.phase t.touched) at (now own)
         (phase_sent layout A D G some tx t.phase t.touched (by t.phase has own))
       where
-        by : (phase : Phase) → HasRoutesIn layout A0 D0 G0 s tx t phase → D0 tx ⊎ G0 tx → Needs layout A D G some tx phase t.touched
+        by : (phase : Phase) → HasRoutesIn layout A0 D0 G0 s tx t phase → D0 tx ⊎ G0 tx
+            → Needs layout A D G some tx phase t.touched
         by Open has own = tt
         by Verifying has own = tt
         by (Committing epoch awaited) has (inl driven) = (grows.driven tx driven, (has.0 driven).touched)
@@ -274,7 +278,8 @@ module _ (layout : Layout) (A D G : TxId → Type 0) (some : ChainsAreSome layou
           has = λ on. to_phase (operating tx t op (chain_of layout (key_of op))).state Open is.0 (λ spared asked.
               let routes = in_phase t Open is.0 has spared (inl is.1) in
               record {
-                touched = touched_routed layout A D G some t.touched (key_of op) (place_of t.touched (key_of op)) routes.touched;
+                touched = touched_routed layout A D G some t.touched (key_of op) (place_of t.touched (key_of op))
+                    routes.touched;
                 asked = refl;
               });
           sends = (

@@ -136,68 +136,69 @@ module _ (start : Start) (p : Signal → Bool) where
           omega (arith, at_from (from == from) refl none_there)
 
   -- of signals that close no link
-  module _ (unclosed : (i : ℕ) (log : List HostStep) (e : HostStep) (j : ℕ) → p (n.closing i log e j).signal ≡ false) where
-    -- a link gives no more than was sent, since what closes it doesn't count
-    past_count : (xs ys : List Addressed) → IsPast xs ys → count_on xs ≤ count_on ys
-    past_count xs ys past = omega (arith, ap count_on past.is, count_both passes past.newer xs)
+  module _ (unclosed : (i : ℕ) (log : List HostStep) (e : HostStep) (j : ℕ) → p (n.closing i log e j).signal ≡ false)
+    where
+      -- a link gives no more than was sent, since what closes it doesn't count
+      past_count : (xs ys : List Addressed) → IsPast xs ys → count_on xs ≤ count_on ys
+      past_count xs ys past = omega (arith, ap count_on past.is, count_both passes past.newer xs)
 
-    pub given_count : (i j : ℕ) (log : List HostStep) (xs : List Addressed) → IsGiven n i j log xs
-        → count_on xs ≤ count_on (sent n i j log)
-    given_count i j log xs (inl past) = past_count xs (sent n i j log) past
-    given_count i j [] xs (inr closing) = absurd closing
-    given_count i j (e ∷ log) xs (inr closing) =
-        let closed = n.closing i log e j in
-        omega (
-          arith,
-          ap count_on closing.is,
-          count_more passes closed closing.rest,
-          ap one_if (unclosed i log e j),
-          past_count closing.rest (sent n i j (e ∷ log)) closing.past,
-        )
+      pub given_count : (i j : ℕ) (log : List HostStep) (xs : List Addressed) → IsGiven n i j log xs
+          → count_on xs ≤ count_on (sent n i j log)
+      given_count i j log xs (inl past) = past_count xs (sent n i j log) past
+      given_count i j [] xs (inr closing) = absurd closing
+      given_count i j (e ∷ log) xs (inr closing) =
+          let closed = n.closing i log e j in
+          omega (
+            arith,
+            ap count_on closing.is,
+            count_more passes closed closing.rest,
+            ap one_if (unclosed i log e j),
+            past_count closing.rest (sent n i j (e ∷ log)) closing.past,
+          )
 
-    module _ (m : ℕ) (before now : ℕ → List HostStep) (within : IsWithin m before)
-        (each_link : (i j : ℕ) → count_on (taken n i (now j)) ≤ count_on (sent n i j (before i)))
-      where
-        none_above : (j : ℕ) → NoneAbove m (now j)
-        none_above j i high =
-            let none : count_on (sent n i j (before i)) ≡ 0 = ap (λ log. count_on (sent n i j log)) (within i high) in
-            omega (arith, each_link i j, none)
+      module _ (m : ℕ) (before now : ℕ → List HostStep) (within : IsWithin m before)
+          (each_link : (i j : ℕ) → count_on (taken n i (now j)) ≤ count_on (sent n i j (before i)))
+        where
+          none_above : (j : ℕ) → NoneAbove m (now j)
+          none_above j i high =
+              let none : count_on (sent n i j (before i)) ≡ 0 = ap (λ log. count_on (sent n i j log)) (within i high) in
+              omega (arith, each_link i j, none)
 
-        -- all that hosts took was sent by hosts
-        links_few : total m (λ j. taken_along start p (now j)) ≤ total m (λ i. sent_along start p i (before i))
-        links_few =
-            omega (
-              arith,
-              total_le m (λ j. taken_along start p (now j)) (λ j. total m (λ i. count_on (taken n i (now j))))
-                  (λ j low. taken_total m (now j) (none_above j)),
-              total_le m (λ j. total m (λ i. count_on (taken n i (now j))))
-                  (λ j. total m (λ i. count_on (sent n i j (before i))))
-                  (λ j low. total_le m (λ i. count_on (taken n i (now j))) (λ i. count_on (sent n i j (before i)))
-                  (λ i under. each_link i j)),
-              total_swap m m (λ i j. count_on (sent n i j (before i))),
-              total_le m (λ i. total m (λ j. count_on (sent n i j (before i))))
-                  (λ i. sent_along start p i (before i)) (λ i low. sent_total m i (before i)),
-            )
+          -- all that hosts took was sent by hosts
+          links_few : total m (λ j. taken_along start p (now j)) ≤ total m (λ i. sent_along start p i (before i))
+          links_few =
+              omega (
+                arith,
+                total_le m (λ j. taken_along start p (now j)) (λ j. total m (λ i. count_on (taken n i (now j))))
+                    (λ j low. taken_total m (now j) (none_above j)),
+                total_le m (λ j. total m (λ i. count_on (taken n i (now j))))
+                    (λ j. total m (λ i. count_on (sent n i j (before i))))
+                    (λ j low. total_le m (λ i. count_on (taken n i (now j))) (λ i. count_on (sent n i j (before i)))
+                    (λ i under. each_link i j)),
+                total_swap m m (λ i j. count_on (sent n i j (before i))),
+                total_le m (λ i. total m (λ j. count_on (sent n i j (before i))))
+                    (λ i. sent_along start p i (before i)) (λ i low. sent_total m i (before i)),
+              )
 
-    pub few_taken : (all : ℕ → List HostStep) (es : List HostStep) → IsMoment start all es
-        → all_taken start p (logs_of start es) ≤ all_sent start p (logs_of start es)
-    few_taken all es moment =
-        let logs = logs_of start es in
-        let right : AreLogs n logs = logs_of_run n es moment.run in
-        links_few (hosts start) logs logs (moment_within start all es moment)
-        (λ i j. given_count i j (logs i) (taken n i (logs j)) (right.linked i j))
+      pub few_taken : (all : ℕ → List HostStep) (es : List HostStep) → IsMoment start all es
+          → all_taken start p (logs_of start es) ≤ all_sent start p (logs_of start es)
+      few_taken all es moment =
+          let logs = logs_of start es in
+          let right : AreLogs n logs = logs_of_run n es moment.run in
+          links_few (hosts start) logs logs (moment_within start all es moment)
+          (λ i j. given_count i j (logs i) (taken n i (logs j)) (right.linked i j))
 
-    -- what an event takes was sent before it
-    pub few_before : (all : ℕ → List HostStep) (e : HostStep) (es : List HostStep) → IsMoment start all (e ∷ es)
-        → all_taken start p (logs_of start (e ∷ es)) ≤ all_sent start p (logs_of start es)
-    few_before all e es moment =
-        let before = logs_of start es in
-        let now = logs_of start (e ∷ es) in
-        let right : AreLogs n before = logs_of_run n es moment.run.0 in
-        links_few (hosts start) before now
-        (moment_within start all es (moment_less start all e es moment))
-        (λ i j.
-        given_count i j (before i) (taken n i (now j)) (given_taken n es e i j moment.run.1 (right.linked i j)))
+      -- what an event takes was sent before it
+      pub few_before : (all : ℕ → List HostStep) (e : HostStep) (es : List HostStep) → IsMoment start all (e ∷ es)
+          → all_taken start p (logs_of start (e ∷ es)) ≤ all_sent start p (logs_of start es)
+      few_before all e es moment =
+          let before = logs_of start es in
+          let now = logs_of start (e ∷ es) in
+          let right : AreLogs n before = logs_of_run n es moment.run.0 in
+          links_few (hosts start) before now
+          (moment_within start all es (moment_less start all e es moment))
+          (λ i j.
+          given_count i j (before i) (taken n i (now j)) (given_taken n es e i j moment.run.1 (right.linked i j)))
 
   -- such are those about rows
   module _ (only : (x : Signal) → p x ≡ true → is_of_rows x.body ≡ true) where

@@ -1,4 +1,5 @@
--- The step by which a transaction comes to be carried out: its coordinator sends the first commits, or all is over at once. Before
+-- The step by which a transaction comes to be carried out: its coordinator sends the first commits, or all is over at
+-- once. Before
 -- it, and unless the transaction is given up, nothing is on its way that commits or completes its rows.
 use Rattle.std.proofs.Common.{◌≡◌, ◌≢◌, ◌⊎◌, ℕ, true, false, ◌||◌, List, [], ◌∷◌, refl, sym, ap, ◌∙◌, subst, inl, inr}
 use Rattle.std.specs.List.{list_any}
@@ -30,33 +31,46 @@ use Rattle.run_laws.proofs.hosts.TcOwn.{AreSilent}
 
 module _ (tx : TxId) where
   -- what says nothing of the transaction takes it nowhere
-  silent_one : (b : Body) (cs : List TxId) → is_sign tx b ≡ false → list_any (same_tx tx) (forth_by (way_of b) cs) ≡ list_any (same_tx tx) cs
-  silent_one (Chain (Commit other key epoch chain at)) cs e = ap (λ x. x || list_any (same_tx tx) cs) (same_tx-swap tx other ∙ e)
+  silent_one : (b : Body) (cs : List TxId) → is_sign tx b ≡ false
+      → list_any (same_tx tx) (forth_by (way_of b) cs) ≡ list_any (same_tx tx) cs
+  silent_one (Chain (Commit other key epoch chain at)) cs e =
+      ap (λ x. x || list_any (same_tx tx) cs) (same_tx-swap tx other ∙ e)
   silent_one (Chain (Abort other key)) cs e = refl
   silent_one (Chain (Complete other key chain at)) cs e = refl
-  silent_one (Client (TcCommitConf other epoch)) cs e = ap (λ x. x || list_any (same_tx tx) cs) (same_tx-swap tx other ∙ e)
+  silent_one (Client (TcCommitConf other epoch)) cs e =
+      ap (λ x. x || list_any (same_tx tx) cs) (same_tx-swap tx other ∙ e)
   silent_one (Client (TcRollbackRep other why)) cs e = refl
   silent_one _ cs e = refl
 
-  silent_forth : (sends : List Outgoing) (cs : List TxId) → AreSilent tx sends → list_any (same_tx tx) (put_ways forth_by sends cs) ≡ list_any (same_tx tx) cs
+  silent_forth : (sends : List Outgoing) (cs : List TxId) → AreSilent tx sends
+      → list_any (same_tx tx) (put_ways forth_by sends cs) ≡ list_any (same_tx tx) cs
   silent_forth [] cs silent = refl
-  silent_forth (o ∷ sends) cs silent = silent_forth sends (forth_by (way_of o.body) cs) silent.1 ∙ silent_one o.body cs silent.0
+  silent_forth (o ∷ sends) cs silent =
+      silent_forth sends (forth_by (way_of o.body) cs) silent.1 ∙ silent_one o.body cs silent.0
 
   back_one : (b : Body) (bs : List TxId) → is_back tx b ≡ true → list_any (same_tx tx) (back_by (way_of b) bs) ≡ true
-  back_one (Chain (Abort other key)) bs e = or_left (same_tx tx other) (list_any (same_tx tx) bs) (same_tx-swap tx other ∙ e)
+  back_one (Chain (Abort other key)) bs e =
+      or_left (same_tx tx other) (list_any (same_tx tx) bs) (same_tx-swap tx other ∙ e)
   back_one _ bs e = absurd cc
 
-  back_first : (sends : List Outgoing) (bs : List TxId) → Aborts tx sends → list_any (same_tx tx) (put_ways back_by sends bs) ≡ true
+  back_first : (sends : List Outgoing) (bs : List TxId) → Aborts tx sends
+      → list_any (same_tx tx) (put_ways back_by sends bs) ≡ true
   back_first sends bs a =
-      ap (λ os. list_any (same_tx tx) (put_ways back_by os bs)) a.is ∙ back_more (same_tx tx) a.more (back_by (way_of a.first.body) bs) (back_one a.first.body bs a.aborts)
+      ap (λ os. list_any (same_tx tx) (put_ways back_by os bs)) a.is
+      ∙ back_more (same_tx tx) a.more (back_by (way_of a.first.body) bs) (back_one a.first.body bs a.aborts)
 
-  forth_one : (b : Body) (cs : List TxId) → is_commit tx b ≡ true → list_any (same_tx tx) (forth_by (way_of b) cs) ≡ true
-  forth_one (Chain (Commit other key epoch chain at)) cs e = or_left (same_tx tx other) (list_any (same_tx tx) cs) (same_tx-swap tx other ∙ e)
+  forth_one : (b : Body) (cs : List TxId) → is_commit tx b ≡ true
+      → list_any (same_tx tx) (forth_by (way_of b) cs) ≡ true
+  forth_one (Chain (Commit other key epoch chain at)) cs e =
+      or_left (same_tx tx other) (list_any (same_tx tx) cs) (same_tx-swap tx other ∙ e)
   forth_one _ cs e = absurd cc
 
-  forth_first : (sends : List Outgoing) (first : Outgoing) (more : List Outgoing) (cs : List TxId) → sends ≡ first ∷ more → is_commit tx first.body ≡ true → list_any (same_tx tx) (put_ways forth_by sends cs) ≡ true
+  forth_first : (sends : List Outgoing) (first : Outgoing) (more : List Outgoing) (cs : List TxId)
+      → sends ≡ first ∷ more → is_commit tx first.body ≡ true
+      → list_any (same_tx tx) (put_ways forth_by sends cs) ≡ true
   forth_first sends first more cs is commits =
-      ap (λ os. list_any (same_tx tx) (put_ways forth_by os cs)) is ∙ forth_more (same_tx tx) more (forth_by (way_of first.body) cs) (forth_one first.body cs commits)
+      ap (λ os. list_any (same_tx tx) (put_ways forth_by os cs)) is
+      ∙ forth_more (same_tx tx) more (forth_by (way_of first.body) cs) (forth_one first.body cs commits)
 
 module _ (start : Start) (es : List HostStep) (e : HostStep) (come : Comes start es e) (tx : TxId) where
   abbrev h : ℕ
@@ -86,7 +100,8 @@ module _ (start : Start) (es : List HostStep) (e : HostStep) (come : Comes start
       (ap (sent_ways start f h) (now_own start es e come))
 
   -- a step that says nothing of it takes it nowhere
-  pub carried_silent : AreSilent tx said → is_carried_out start (logs_of start (e ∷ es)) tx ≡ is_carried_out start (logs_of start es) tx
+  pub carried_silent : AreSilent tx said
+      → is_carried_out start (logs_of start (e ∷ es)) tx ≡ is_carried_out start (logs_of start es) tx
   carried_silent silent = by (cases_eq h at_home)
     where
       by : (h ≡ at_home) ⊎ (h ≢ at_home)

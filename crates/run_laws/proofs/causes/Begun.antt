@@ -53,7 +53,8 @@ plain_end tx _ e = cc
 module _ (start : Start) (tx : TxId) where
   -- what is so of the transaction at a host after a log
   pub record HostKeeps (h : ℕ) (log : List HostStep) : Type 0 where
-    pub keeps : IsKept tx (tc_of (after start h log)) (signals (is_start tx) (sent (machine start) h 0 log)) (signals (is_end tx) (sent (machine start) h 0 log))
+    pub keeps : IsKept tx (tc_of (after start h log)) (signals (is_start tx) (sent (machine start) h 0 log))
+        (signals (is_end tx) (sent (machine start) h 0 log))
     pub ordered : AreOrdered tx (sent (machine start) h 0 log)
 
   put_ordered : (h stamp : ℕ) (count : ℕ → ℕ) (sends : List Outgoing) (before : List Addressed) → AreOrdered tx before
@@ -61,7 +62,8 @@ module _ (start : Start) (tx : TxId) where
       → AreOrdered tx (put (machine start) 0 (all_addressed (first_membership start) h stamp count sends) before)
   put_ordered h stamp count [] before ordered due = ordered
   put_ordered h stamp count (o ∷ more) before ordered due =
-      put_ordered h stamp (counted_ (host_for start o.to)) more _ (first (host_for start o.to == 0) refl) (λ some. later (host_for start o.to == 0) some)
+      put_ordered h stamp (counted_ (host_for start o.to)) more _ (first (host_for start o.to == 0) refl)
+      (λ some. later (host_for start o.to == 0) some)
     where
       counted_ : ℕ → ℕ → ℕ
       counted_ to = one_counted to count
@@ -73,7 +75,8 @@ module _ (start : Start) (tx : TxId) where
       first true at = (λ e. due (omega (arith, ap one_if (ap (λ b. b && is_end tx o.to o.body) at ∙ e))), ordered)
       first false at = ordered
 
-      later : (b : Bool) → 1 ≤ sends_of (to_host start 0 (is_end tx)) more → 1 ≤ signals (is_start tx) (if b then x ∷ before else before)
+      later : (b : Bool) → 1 ≤ sends_of (to_host start 0 (is_end tx)) more
+          → 1 ≤ signals (is_start tx) (if b then x ∷ before else before)
       later true some = omega (arith, due (omega (arith, some)))
       later false some = due (omega (arith, some))
 
@@ -98,30 +101,44 @@ module _ (start : Start) (tx : TxId) where
 
       next : HostKeeps h log → HostKeeps h (e ∷ log)
       next k = record {
-        keeps = subst (λ n. IsKept tx (tc_of (after start h (e ∷ log))) n (signals (is_end tx) (sent (machine start) h 0 (e ∷ log)))) (sym (shell_signals start (is_start tx) h e log))
-            (subst (λ n. IsKept tx (tc_of (after start h (e ∷ log))) (starts_in tx sends + begun) n) (sym (shell_signals start (is_end tx) h e log)) (kept_move tx (tc_of g) _ sends begun ended move k.keeps));
+        keeps = subst (λ n. IsKept tx (tc_of (after start h (e ∷ log))) n
+            (signals (is_end tx) (sent (machine start) h 0 (e ∷ log))))
+            (sym (shell_signals start (is_start tx) h e log))
+            (subst (λ n. IsKept tx (tc_of (after start h (e ∷ log))) (starts_in tx sends + begun) n)
+            (sym (shell_signals start (is_end tx) h e log))
+            (kept_move tx (tc_of g) _ sends begun ended move k.keeps));
         ordered = put_ordered h e.step.stamp (sent_count start h log) sends (sent (machine start) h 0 log) k.ordered
-            (λ some. due_move tx (tc_of g) _ sends begun ended move k.keeps (omega (arith, some, sent_to_shell start (is_end tx) sends)));
+            (λ some. due_move tx (tc_of g) _ sends begun ended move k.keeps
+            (omega (arith, some, sent_to_shell start (is_end tx) sends)));
       }
 
   -- neither is told by another host
-  pub silent_start : (h : ℕ) (log : List HostStep) → h < hosts start → h ≢ home start tx → signals (is_start tx) (sent (machine start) h 0 log) ≡ 0
+  pub silent_start : (h : ℕ) (log : List HostStep) → h < hosts start → h ≢ home start tx
+      → signals (is_start tx) (sent (machine start) h 0 log) ≡ 0
   silent_start h log low differs =
       tally_none (λ (x : Addressed). is_start tx x.signal.to x.signal.body) (sent (machine start) h 0 log)
-      (each_map (λ (x : Addressed). TellsHome start h x.signal.body) (λ (x : Addressed). is_start tx x.signal.to x.signal.body ≡ false) (sent (machine start) h 0 log)
+      (each_map (λ (x : Addressed). TellsHome start h x.signal.body)
+      (λ (x : Addressed). is_start tx x.signal.to x.signal.body ≡ false) (sent (machine start) h 0 log)
       (λ x tells. fails x tells (is_start tx x.signal.to x.signal.body) refl) (told start h 0 log low))
     where
       by_home : (body : Body) → TellsHome start h body → start_of tx body ≡ true → h ≡ home start tx
-      by_home (Client (TcBeginConf name other)) tells e = (tells name other refl).is ∙ ap (home start) (same_tx-is other tx e)
+      by_home (Client (TcBeginConf name other)) tells e =
+          (tells name other refl).is ∙ ap (home start) (same_tx-is other tx e)
       by_home _ tells e = cc
 
-      fails : (x : Addressed) → TellsHome start h x.signal.body → (b : Bool) → is_start tx x.signal.to x.signal.body ≡ b → is_start tx x.signal.to x.signal.body ≡ false
+      fails : (x : Addressed) → TellsHome start h x.signal.body → (b : Bool) → is_start tx x.signal.to x.signal.body ≡ b
+          → is_start tx x.signal.to x.signal.body ≡ false
       fails x tells false e = e
-      fails x tells true e = absurd (differs (by_home x.signal.body tells (right_of (is_api x.signal.to.block) (start_of tx x.signal.body) e)))
+      fails x tells true e = absurd (differs (by_home x.signal.body tells
+          (right_of (is_api x.signal.to.block) (start_of tx x.signal.body) e)))
 
-  pub silent_end : (h : ℕ) (log : List HostStep) → h < hosts start → h ≢ home start tx → signals (is_end tx) (sent (machine start) h 0 log) ≡ 0
+  pub silent_end : (h : ℕ) (log : List HostStep) → h < hosts start → h ≢ home start tx
+      → signals (is_end tx) (sent (machine start) h 0 log) ≡ 0
   silent_end h log low differs = go (cases_lt 0 (signals (is_end tx) (sent (machine start) h 0 log)))
     where
-      go : (0 < signals (is_end tx) (sent (machine start) h 0 log)) ⊎ (signals (is_end tx) (sent (machine start) h 0 log) ≤ 0) → signals (is_end tx) (sent (machine start) h 0 log) ≡ 0
-      go (inl some) = absurd (omega (arith, (keeps h log).keeps.order (omega (arith, some)), silent_start h log low differs))
+      go : (0 < signals (is_end tx) (sent (machine start) h 0 log))
+          ⊎ (signals (is_end tx) (sent (machine start) h 0 log) ≤ 0)
+          → signals (is_end tx) (sent (machine start) h 0 log) ≡ 0
+      go (inl some) =
+          absurd (omega (arith, (keeps h log).keeps.order (omega (arith, some)), silent_start h log low differs))
       go (inr none) = omega (arith, none)

@@ -133,7 +133,8 @@ module _ (start : Start) where
     later = let below = signal_below (machine start) h (before h) e come.happens.step in omega (arith, below)
 
     after_last : last_stamp (before h) + 1 ≤ e.step.stamp + 1
-    after_last = let above = step_above (machine start) h (before h) e come.happens.step in omega (arith, above, last_is start h (before h))
+    after_last = let above = step_above (machine start) h (before h) e come.happens.step in
+        omega (arith, above, last_is start h (before h))
 
     -- what the taken signal says
     taken_says : (k : Kind) → kind_of e.step.taken.body ≡ k → (k ≡ kind.other → ⊥)
@@ -145,17 +146,27 @@ module _ (start : Start) where
         by true asked = absurd (real (sym is ∙ request_other e.step.taken.body asked))
         by false asked = subst (Says start before (record { to = e.host; signal = e.step.taken })) is (come.told asked)
 
-    tells_decided : (k : Kind) → kind_of e.step.taken.body ≡ k → Tells (λ tx. IsDecidedBelow now tx (e.step.stamp + 1)) k
-    tells_decided (kind.decided tx) is = decided_more before now tx (e.step.taken.stamp + 1) (e.step.stamp + 1) grown (omega (arith, later)) (taken_says (kind.decided tx) is (λ same. absurd cc))
-    tells_decided (kind.committing tx) is = decided_more before now tx (e.step.taken.stamp + 1) (e.step.stamp + 1) grown (omega (arith, later)) (taken_says (kind.committing tx) is (λ same. absurd cc))
+    tells_decided : (k : Kind) → kind_of e.step.taken.body ≡ k
+        → Tells (λ tx. IsDecidedBelow now tx (e.step.stamp + 1)) k
+    tells_decided (kind.decided tx) is = decided_more before now tx (e.step.taken.stamp + 1) (e.step.stamp + 1) grown
+        (omega (arith, later)) (taken_says (kind.decided tx) is (λ same. absurd cc))
+    tells_decided (kind.committing tx) is = decided_more before now tx (e.step.taken.stamp + 1) (e.step.stamp + 1) grown
+        (omega (arith, later)) (taken_says (kind.committing tx) is (λ same. absurd cc))
     tells_decided (kind.begun tx) is = tt
     tells_decided (kind.wanted tx) is = tt
     tells_decided (kind.verified tx) is = tt
     tells_decided (kind.ended tx) is = tt
     tells_decided kind.other is = tt
 
-    tells_begun : h ≡ 0 → (body : Body) → e.step.taken.body ≡ body → TellsBegun (λ tx. IsToldBelow now tx (e.step.stamp + 1)) (kind_of body)
-    tells_begun at (Client (TcBeginConf name tx)) is = record { name = name; step = e; inside = subst (λ g. IsIn e (now g)) at here; told = is; below = omega arith }
+    tells_begun : h ≡ 0 → (body : Body) → e.step.taken.body ≡ body
+        → TellsBegun (λ tx. IsToldBelow now tx (e.step.stamp + 1)) (kind_of body)
+    tells_begun at (Client (TcBeginConf name tx)) is = record {
+      name = name;
+      step = e;
+      inside = subst (λ g. IsIn e (now g)) at here;
+      told = is;
+      below = omega arith;
+    }
     tells_begun at (Client (TcCommitReq tx)) is = tt
     tells_begun at (Client (TcCommitConf tx epoch)) is = tt
     tells_begun at (Chain (Commit tx key epoch chain place)) is = tt
@@ -181,7 +192,8 @@ module _ (start : Start) where
         (λ tx. IsToldBelow now tx (e.step.stamp + 1)) (λ tx. IsDecidedBelow now tx (e.step.stamp + 1))
         (after start h (before h)) (sent_kinds begun_by h (before h)) (sent_kinds verified_by h (before h))
         (λ tx is. told_more before now tx (last_stamp (before h) + 1) (e.step.stamp + 1) grown after_last is)
-        (λ tx is. decided_more before now tx (last_stamp (before h) + 1) (e.step.stamp + 1) grown after_last is) (come.all.law.knows h))
+        (λ tx is. decided_more before now tx (last_stamp (before h) + 1) (e.step.stamp + 1) grown after_last is)
+        (come.all.law.knows h))
         (tells_decided (kind_of e.step.taken.body) refl)
         (λ runs. tells_begun (api_found start h (before h) runs) e.step.taken.body refl)
         (λ runs at tx of_node. tc_home start h (before h) e.step.taken.to place runs ∙ ap (tc_host start) (sym of_node))
@@ -199,21 +211,34 @@ module _ (start : Start) where
             (knows_more (node_at start g) (ToldBy before (before g)) (DecidedBy before (before g))
             (ToldBy now (before g)) (DecidedBy now (before g)) (after start g (before g))
             (sent_kinds begun_by g (before g)) (sent_kinds verified_by g (before g))
-            (λ tx is. told_more before now tx (last_stamp (before g) + 1) (last_stamp (before g) + 1) grown (omega arith) is)
-            (λ tx is. decided_more before now tx (last_stamp (before g) + 1) (last_stamp (before g) + 1) grown (omega arith) is) (come.all.law.knows g))
+            (λ tx is. told_more before now tx (last_stamp (before g) + 1) (last_stamp (before g) + 1) grown
+            (omega arith) is)
+            (λ tx is. decided_more before now tx (last_stamp (before g) + 1) (last_stamp (before g) + 1) grown
+            (omega arith) is) (come.all.law.knows g))
 
     decides_now : DecidesRightly start now e
     decides_now tx marked =
         let took : kind_of e.step.taken.body ≡ kind.verified tx =
-        decision_of (kind_of e.step.taken.body) (step_after start h (before h) e).effects.marks tx goes.decides (ap (list_any (is_decision tx)) (sym own_marks) ∙ marked) in
+        decision_of (kind_of e.step.taken.body) (step_after start h (before h) e).effects.marks tx goes.decides
+        (ap (list_any (is_decision tx)) (sym own_marks) ∙ marked) in
         let says = taken_says (kind.verified tx) took (λ same. absurd cc) in
-        record { told = told_more before now tx (e.step.taken.stamp + 1) e.step.stamp grown later says.0; from = says.1; to = says.2; took = took }
+        record {
+          told = told_more before now tx (e.step.taken.stamp + 1) e.step.stamp grown later says.0;
+          from = says.1;
+          to = says.2;
+          took = took;
+        }
 
     decisions_now : (g : ℕ) → Each (DecidesRightly start now) (now g)
     decisions_now g =
         each_next (machine start) (DecidesRightly start now) es e g decides_now
         (each_map (DecidesRightly start before) (DecidesRightly start now) (before g)
-        (λ f rightly tx marked. let is = rightly tx marked in record { told = told_more before now tx f.step.stamp f.step.stamp grown (omega arith) is.told; from = is.from; to = is.to; took = is.took })
+        (λ f rightly tx marked. let is = rightly tx marked in record {
+          told = told_more before now tx f.step.stamp f.step.stamp grown (omega arith) is.told;
+          from = is.from;
+          to = is.to;
+          took = is.took;
+        })
         (come.all.law.decisions g))
 
     report_now : h ≡ 0 → ReportsRightly now e
@@ -223,16 +248,20 @@ module _ (start : Start) where
         let took : kind_of e.step.taken.body ≡ kind.ended tx =
         report_of (kind_of e.step.taken.body) (step_after start h (before h) e).effects.marks tx (goes.reports runs)
         (ap (list_any (is_reported tx)) (sym own_marks) ∙ marked) in
-        decided_more before now tx (e.step.taken.stamp + 1) e.step.stamp grown later (taken_says (kind.ended tx) took (λ same. absurd cc))
+        decided_more before now tx (e.step.taken.stamp + 1) e.step.stamp grown later
+        (taken_says (kind.ended tx) took (λ same. absurd cc))
 
     reports_now : Each (ReportsRightly now) (now 0)
     reports_now = by (cases_eq h 0)
       where
         old : Each (ReportsRightly now) (before 0)
-        old = each_map (ReportsRightly before) (ReportsRightly now) (before 0) (λ f rightly tx marked. decided_more before now tx f.step.stamp f.step.stamp grown (omega arith) (rightly tx marked)) come.all.law.reports
+        old = each_map (ReportsRightly before) (ReportsRightly now) (before 0)
+            (λ f rightly tx marked. decided_more before now tx f.step.stamp f.step.stamp grown (omega arith)
+            (rightly tx marked)) come.all.law.reports
 
         by : (h ≡ 0) ⊎ (h ≢ 0) → Each (ReportsRightly now) (now 0)
-        by (inl at) = subst (Each (ReportsRightly now)) (sym (log_of-own (machine start) e es 0 at)) (report_now at, old)
+        by (inl at) =
+            subst (Each (ReportsRightly now)) (sym (log_of-own (machine start) e es 0 at)) (report_now at, old)
         by (inr off) = subst (Each (ReportsRightly now)) (sym (log_of-other (machine start) e es 0 off)) old
 
     begins_now : Each (BeginsRightly start) (now 0)
@@ -243,11 +272,21 @@ module _ (start : Start) where
     commits_now : (g : ℕ) → Each (CommitsRightly now) (now g)
     commits_now g =
         each_next (machine start) (CommitsRightly now) es e g
-        (λ tx took. decided_more before now tx (e.step.taken.stamp + 1) e.step.stamp grown later (taken_says (kind.committing tx) took (λ same. absurd cc)))
-        (each_map (CommitsRightly before) (CommitsRightly now) (before g) (λ f rightly tx took. decided_more before now tx f.step.stamp f.step.stamp grown (omega arith) (rightly tx took)) (come.all.law.commits g))
+        (λ tx took. decided_more before now tx (e.step.taken.stamp + 1) e.step.stamp grown later
+        (taken_says (kind.committing tx) took (λ same. absurd cc)))
+        (each_map (CommitsRightly before) (CommitsRightly now) (before g)
+        (λ f rightly tx took. decided_more before now tx f.step.stamp f.step.stamp grown (omega arith)
+        (rightly tx took)) (come.all.law.commits g))
 
     pub causal_step : AreCausal now
-    causal_step = record { knows = knows_now; decisions = decisions_now; reports = reports_now; begins = begins_now; commits = commits_now }
+    causal_step = record {
+      knows =
+          knows_now;
+      decisions = decisions_now;
+      reports = reports_now;
+      begins = begins_now;
+      commits = commits_now;
+    }
 
     -- what it sends says the truth
     one_says : (number : ℕ) (o : Outgoing) (k : Kind)
@@ -257,11 +296,19 @@ module _ (start : Start) where
     one_says number o (kind.begun tx) says = says
     one_says number o (kind.wanted tx) says = says
     one_says number o (kind.verified tx) says = (
-      told_more before now tx (e.step.taken.stamp + 1) (e.step.stamp + 1) grown (omega (arith, later)) (taken_says (kind.wanted tx) says.0 (λ same. absurd cc)),
+      told_more before now tx (e.step.taken.stamp + 1) (e.step.stamp + 1) grown (omega (arith, later))
+          (taken_says (kind.wanted tx) says.0 (λ same. absurd cc)),
       says.1,
       ap (host_for start) says.2 ∙ one_part start tx.tc,
     )
-    one_says number o (kind.decided tx) says = record { host = h; step = e; inside = here; marked = ap (list_any (is_decision tx)) own_marks ∙ says; below = omega arith }
+    one_says number o (kind.decided tx) says = record {
+      host =
+          h;
+      step = e;
+      inside = here;
+      marked = ap (list_any (is_decision tx)) own_marks ∙ says;
+      below = omega arith;
+    }
     one_says number o (kind.committing tx) says = says
     one_says number o (kind.ended tx) says = says
     one_says number o kind.other says = tt

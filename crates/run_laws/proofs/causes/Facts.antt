@@ -36,10 +36,18 @@ request_other (Chain (Commit tx key epoch chain at)) is = absurd cc
 request_other _ is = refl
 
 -- facts stay as logs grow, and as the limit does
-pub told_more : (small large : ℕ → List HostStep) (tx : TxId) (a b : ℕ) → ((h : ℕ) → IsPast (small h) (large h)) → a ≤ b → IsToldBelow small tx a → IsToldBelow large tx b
-told_more small large tx a b past le is = record { name = is.name; step = is.step; inside = in_past is.step (past 0) is.inside; told = is.told; below = omega (arith, is.below, le) }
+pub told_more : (small large : ℕ → List HostStep) (tx : TxId) (a b : ℕ) → ((h : ℕ) → IsPast (small h) (large h)) → a ≤ b
+    → IsToldBelow small tx a → IsToldBelow large tx b
+told_more small large tx a b past le is = record {
+  name = is.name;
+  step = is.step;
+  inside = in_past is.step (past 0) is.inside;
+  told = is.told;
+  below = omega (arith, is.below, le);
+}
 
-pub decided_more : (small large : ℕ → List HostStep) (tx : TxId) (a b : ℕ) → ((h : ℕ) → IsPast (small h) (large h)) → a ≤ b → IsDecidedBelow small tx a → IsDecidedBelow large tx b
+pub decided_more : (small large : ℕ → List HostStep) (tx : TxId) (a b : ℕ) → ((h : ℕ) → IsPast (small h) (large h))
+    → a ≤ b → IsDecidedBelow small tx a → IsDecidedBelow large tx b
 decided_more small large tx a b past le is = record {
   host = is.host;
   step = is.step;
@@ -93,32 +101,41 @@ module _ (start : Start) where
 
 -- and a report
 abbrev pub ReportsRightly : (ℕ → List HostStep) → HostStep → Type 0
-ReportsRightly logs e = (tx : TxId) → list_any (is_reported tx) e.step.marks ≡ true → IsDecidedBelow logs tx e.step.stamp
+ReportsRightly logs e =
+    (tx : TxId) → list_any (is_reported tx) e.step.marks ≡ true → IsDecidedBelow logs tx e.step.stamp
 
 abbrev pub CommitsRightly : (ℕ → List HostStep) → HostStep → Type 0
-CommitsRightly logs e = (tx : TxId) → kind_of e.step.taken.body ≡ kind.committing tx → IsDecidedBelow logs tx e.step.stamp
+CommitsRightly logs e =
+    (tx : TxId) → kind_of e.step.taken.body ≡ kind.committing tx → IsDecidedBelow logs tx e.step.stamp
 
-pub decision_of : (taken : Kind) (marks : List Mark) (tx : TxId) → Each (Decides taken) marks → list_any (is_decision tx) marks ≡ true → taken ≡ kind.verified tx
+pub decision_of : (taken : Kind) (marks : List Mark) (tx : TxId) → Each (Decides taken) marks
+    → list_any (is_decision tx) marks ≡ true → taken ≡ kind.verified tx
 decision_of taken [] tx all is = absurd cc
-decision_of taken (m ∷ marks) tx all is = by (or_cases (is_decision tx m) (list_any (is_decision tx) marks) is) (decision_of taken marks tx all.1)
+decision_of taken (m ∷ marks) tx all is =
+    by (or_cases (is_decision tx m) (list_any (is_decision tx) marks) is) (decision_of taken marks tx all.1)
   where
     here : (m : Mark) → Decides taken m → is_decision tx m ≡ true → taken ≡ kind.verified tx
     here (mark.Decided other epoch) decides own = decides ∙ ap (λ t. kind.verified t) (same_tx-is other tx own)
     here _ decides own = absurd cc
 
-    by : (is_decision tx m ≡ true) ⊎ (list_any (is_decision tx) marks ≡ true) → (list_any (is_decision tx) marks ≡ true → taken ≡ kind.verified tx) → taken ≡ kind.verified tx
+    by : (is_decision tx m ≡ true) ⊎ (list_any (is_decision tx) marks ≡ true)
+        → (list_any (is_decision tx) marks ≡ true → taken ≡ kind.verified tx) → taken ≡ kind.verified tx
     by (inl own) more = here m all.0 own
     by (inr rest) more = more rest
 
-pub report_of : (taken : Kind) (marks : List Mark) (tx : TxId) → Each (Reports taken) marks → list_any (is_reported tx) marks ≡ true → taken ≡ kind.ended tx
+pub report_of : (taken : Kind) (marks : List Mark) (tx : TxId) → Each (Reports taken) marks
+    → list_any (is_reported tx) marks ≡ true → taken ≡ kind.ended tx
 report_of taken [] tx all is = absurd cc
-report_of taken (m ∷ marks) tx all is = by (or_cases (is_reported tx m) (list_any (is_reported tx) marks) is) (report_of taken marks tx all.1)
+report_of taken (m ∷ marks) tx all is =
+    by (or_cases (is_reported tx m) (list_any (is_reported tx) marks) is) (report_of taken marks tx all.1)
   where
     here : (m : Mark) → Reports taken m → is_reported tx m ≡ true → taken ≡ kind.ended tx
-    here (mark.Reported other (outcome.Committed epoch)) reports own = reports ∙ ap (λ t. kind.ended t) (same_tx-is other tx own)
+    here (mark.Reported other (outcome.Committed epoch)) reports own =
+        reports ∙ ap (λ t. kind.ended t) (same_tx-is other tx own)
     here (mark.Reported other (outcome.Aborted cause)) reports own = absurd cc
     here _ reports own = absurd cc
 
-    by : (is_reported tx m ≡ true) ⊎ (list_any (is_reported tx) marks ≡ true) → (list_any (is_reported tx) marks ≡ true → taken ≡ kind.ended tx) → taken ≡ kind.ended tx
+    by : (is_reported tx m ≡ true) ⊎ (list_any (is_reported tx) marks ≡ true)
+        → (list_any (is_reported tx) marks ≡ true → taken ≡ kind.ended tx) → taken ≡ kind.ended tx
     by (inl own) more = here m all.0 own
     by (inr rest) more = more rest

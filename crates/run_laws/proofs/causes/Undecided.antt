@@ -53,7 +53,8 @@ decided_not_asking (Aborting why verifying awaited) is = absurd cc
 
 -- at a host that has asked for its epoch, and hasn't given it up, there may be none of it
 module _ (tx : TxId) (h : ℕ) (D : TxId → Type 0) (bs vs : List TxId) where
-  asked_by : (live : List (TxId × Transaction)) (node next at : ℕ) → Each (IsOwned node next bs) live → Each (IsLive h at D vs) live → list_any (same_tx tx) vs ≡ true → list_any (same_tx tx) bs ≡ false
+  asked_by : (live : List (TxId × Transaction)) (node next at : ℕ) → Each (IsOwned node next bs) live
+      → Each (IsLive h at D vs) live → list_any (same_tx tx) vs ≡ true → list_any (same_tx tx) bs ≡ false
       → budget_by false (of_live tx live) ≡ 0
   asked_by live node next at owned all asked off = by (of_live tx live) refl
     where
@@ -70,7 +71,8 @@ module _ (tx : TxId) (h : ℕ) (D : TxId → Type 0) (bs vs : List TxId) where
       by (Some t) e =
           let own = each_found (IsOwned node next bs) live tx t owned e in
           let is = each_found (IsLive h at D vs) live tx t all e in
-          idle t.phase t.asked own.right (not_asking t.phase (shut t is (phases.is_open t.phase) refl) (kept t own (is_aborting t.phase) refl))
+          idle t.phase t.asked own.right (not_asking t.phase (shut t is (phases.is_open t.phase) refl)
+          (kept t own (is_aborting t.phase) refl))
 
 pub decided_have_none : DecidedHaveNone
 decided_have_none start es xs tx run transit decided kept =
@@ -80,7 +82,8 @@ decided_have_none start es xs tx run transit decided kept =
       arith,
       one_at_a_time start es xs tx run transit,
       ap (λ b. budget_by b (live_at start logs tx)) kept,
-      asked_by tx _ _ (sent_ways start back_by h (logs h)) (sent_kinds start verified_by h (logs h)) (tc_of (after start h (logs h))).live _ _ _ (log_sound start h (logs h)).tc.live numbered.live
+      asked_by tx _ _ (sent_ways start back_by h (logs h)) (sent_kinds start verified_by h (logs h))
+          (tc_of (after start h (logs h))).live _ _ _ (log_sound start h (logs h)).tc.live numbered.live
           (decided_asked start es run tx decided) kept,
     )
   where
@@ -88,7 +91,9 @@ decided_have_none start es xs tx run transit decided kept =
     logs = logs_of start es
 
 -- one that is carried out
-carried_by : (start : Start) (h : ℕ) (log : List HostStep) (tx : TxId) → list_any (same_tx tx) (sent_ways start forth_by h log) ≡ true → budget_by false (of_host tx (after start h log)) ≡ 0
+carried_by : (start : Start) (h : ℕ) (log : List HostStep) (tx : TxId)
+    → list_any (same_tx tx) (sent_ways start forth_by h log) ≡ true
+    → budget_by false (of_host tx (after start h log)) ≡ 0
 carried_by start h log tx carried = by (of_live tx s.live) refl
   where
     s : TcState
@@ -97,8 +102,10 @@ carried_by start h log tx carried = by (of_live tx s.live) refl
     by : (o : Option Transaction) → of_live tx s.live ≡ o → budget_by false o ≡ 0
     by None e = refl
     by (Some t) e =
-        let own = each_found (IsOwned s.node s.next_seq (sent_ways start back_by h log)) s.live tx t (log_sound start h log).tc.live e in
-        let known = each_found (λ (x : TxId × Transaction). list_any (same_tx x.0) (sent_ways start forth_by h log) ≡ true → phases.is_decided x.1.phase ≡ true) s.live tx t (forth_decided start h log) e in
+        let own = each_found (IsOwned s.node s.next_seq (sent_ways start back_by h log)) s.live tx t
+        (log_sound start h log).tc.live e in
+        let known = each_found (λ (x : TxId × Transaction). list_any (same_tx x.0) (sent_ways start forth_by h log) ≡
+        true → phases.is_decided x.1.phase ≡ true) s.live tx t (forth_decided start h log) e in
         idle t.phase t.asked own.right (decided_not_asking t.phase (known carried))
 
 pub carried_out_have_none : CarriedOutHaveNone

@@ -36,13 +36,18 @@ Sub xs (y ∷ ys) = Sub xs ys ⊎ Keeps (λ more. Sub more ys) xs y
 each_sub : {A : Type 0} (P : A → Type 0) (xs ys : List A) → Sub xs ys → Each P ys → Each P xs
 each_sub P xs [] none all = subst (Each P) (sym none) tt
 each_sub P xs (y ∷ ys) (inl sub) all = each_sub P xs ys sub all.1
-each_sub P xs (y ∷ ys) (inr keeps) all = subst (Each P) (sym keeps.is) (all.0, each_sub P keeps.more ys keeps.rest all.1)
+each_sub P xs (y ∷ ys) (inr keeps) all =
+    subst (Each P) (sym keeps.is) (all.0, each_sub P keeps.more ys keeps.rest all.1)
 
 apart_sub : (xs ys : List TxId) → Sub xs ys → AreApart ys → AreApart xs
 apart_sub xs [] none all = subst AreApart (sym none) tt
 apart_sub xs (y ∷ ys) (inl sub) all = apart_sub xs ys sub all.1
 apart_sub xs (y ∷ ys) (inr keeps) all =
-    subst AreApart (sym keeps.is) (each_sub (λ v. same_tx v y ≡ false) keeps.more ys keeps.rest all.0, apart_sub keeps.more ys keeps.rest all.1)
+    subst AreApart (sym keeps.is) (
+      each_sub (λ v. same_tx v y ≡ false) keeps.more ys keeps.rest all.0,
+      apart_sub
+          keeps.more ys keeps.rest all.1,
+    )
 
 apart_newer : (newer xs : List TxId) → AreApart (newer ++ xs) → AreApart xs
 apart_newer [] xs all = all
@@ -100,27 +105,33 @@ module _ (start : Start) (read : Kind → Option TxId) (add : Kind → List TxId
       by : (b : Bool) (r : Option TxId) → read (kind_of o.body) ≡ r
           → Sub (filter_map read_of (if b then one ∷ before else before)) (cons_option r all)
       by true None is = subst (λ w. Sub (cons_option w (filter_map read_of before)) all) (sym is) sub
-      by true (Some tx) is = subst (λ w. Sub (cons_option w (filter_map read_of before)) (tx ∷ all)) (sym is) (inr (record { more = filter_map read_of before; is = refl; rest = sub }))
+      by true (Some tx) is = subst (λ w. Sub (cons_option w (filter_map read_of before)) (tx ∷ all)) (sym is)
+          (inr (record { more = filter_map read_of before; is = refl; rest = sub }))
       by false None is = sub
       by false (Some tx) is = inl sub
 
-  sent_sub : (h j : ℕ) (log : List HostStep) → Sub (filter_map read_of (sent (machine start) h j log)) (sent_kinds start add h log)
+  sent_sub : (h j : ℕ) (log : List HostStep)
+      → Sub (filter_map read_of (sent (machine start) h j log)) (sent_kinds start add h log)
   sent_sub h j [] = refl
   sent_sub h j (e ∷ log) =
       put_sub (first_membership start) h j e.step.stamp (sent_count start h log)
       (step_after start h log e).effects.sends (sent (machine start) h j log) (sent_kinds start add h log)
       (sent_sub h j log)
 
-  no_closing : (i j : ℕ) (log : List HostStep) (x : Addressed) → IsClosingOf (machine start) i j log x → read_of x ≡ None
+  no_closing : (i j : ℕ) (log : List HostStep) (x : Addressed) → IsClosingOf (machine start) i j log x
+      → read_of x ≡ None
   no_closing i j [] x c = absurd c
   no_closing i j (e ∷ log) x c = absurd cc
 
   -- so what was taken of it is apart
-  taken_apart : (logs : ℕ → List HostStep) → AreLogs (machine start) logs → (i j : ℕ) → AreApart (sent_kinds start add i (logs i)) → AreApart (filter_map read_of (taken (machine start) i (logs j)))
+  taken_apart : (logs : ℕ → List HostStep) → AreLogs (machine start) logs → (i j : ℕ)
+      → AreApart (sent_kinds start add i (logs i)) → AreApart (filter_map read_of (taken (machine start) i (logs j)))
   taken_apart logs right i j apart =
-      apart_past (filter_map read_of (taken (machine start) i (logs j))) (filter_map read_of (sent (machine start) i j (logs i)))
+      apart_past (filter_map read_of (taken (machine start) i (logs j)))
+      (filter_map read_of (sent (machine start) i j (logs i)))
       (link_projects (machine start) logs right i j read_of (λ x c. no_closing i j (logs i) x c))
-      (apart_sub (filter_map read_of (sent (machine start) i j (logs i))) (sent_kinds start add i (logs i)) (sent_sub i j (logs i)) apart)
+      (apart_sub (filter_map read_of (sent (machine start) i j (logs i))) (sent_kinds start add i (logs i))
+      (sent_sub i j (logs i)) apart)
 
   -- the step took one of the kind, of this transaction, from host i
   pub record Takes (i : ℕ) (tx : TxId) (e : HostStep) : Type 0 where
@@ -128,18 +139,23 @@ module _ (start : Start) (read : Kind → Option TxId) (add : Kind → List TxId
     pub asked : is_request e.step.taken.body ≡ false
     pub of : read (kind_of e.step.taken.body) ≡ Some tx
 
-  taken_here : (i : ℕ) (tx : TxId) (e : HostStep) (log : List HostStep) → Takes i tx e → filter_map read_of (taken (machine start) i (e ∷ log)) ≡ tx ∷ filter_map read_of (taken (machine start) i log)
+  taken_here : (i : ℕ) (tx : TxId) (e : HostStep) (log : List HostStep) → Takes i tx e
+      → filter_map read_of (taken (machine start) i (e ∷ log)) ≡ tx ∷ filter_map read_of (taken (machine start) i log)
   taken_here i tx e log takes =
       ap (filter_map read_of) (taken-step (machine start) i e log takes.asked takes.from)
       ∙ ap (λ o. cons_option o (filter_map read_of (taken (machine start) i log))) takes.of
 
-  taken_in : (P : TxId → Type 0) (i : ℕ) (tx : TxId) (e : HostStep) (log : List HostStep) → IsIn e log → Takes i tx e → Each P (filter_map read_of (taken (machine start) i log)) → P tx
+  taken_in : (P : TxId → Type 0) (i : ℕ) (tx : TxId) (e : HostStep) (log : List HostStep) → IsIn e log → Takes i tx e
+      → Each P (filter_map read_of (taken (machine start) i log)) → P tx
   taken_in P i tx e [] inside takes all = absurd inside
   taken_in P i tx e (f ∷ log) (inl same) takes all =
-      let part : Each P (tx ∷ filter_map read_of (taken (machine start) i log)) = subst (Each P) (taken_here i tx f log (subst (Takes i tx) same takes)) all in part.0
-  taken_in P i tx e (f ∷ log) (inr rest) takes all = taken_in P i tx e log rest takes (less (is_from (machine start) i f) all)
+      let part : Each P (tx ∷ filter_map read_of (taken (machine start) i log)) =
+      subst (Each P) (taken_here i tx f log (subst (Takes i tx) same takes)) all in part.0
+  taken_in P i tx e (f ∷ log) (inr rest) takes all =
+      taken_in P i tx e log rest takes (less (is_from (machine start) i f) all)
     where
-      less_by : (o : Option TxId) → Each P (cons_option o (filter_map read_of (taken (machine start) i log))) → Each P (filter_map read_of (taken (machine start) i log))
+      less_by : (o : Option TxId) → Each P (cons_option o (filter_map read_of (taken (machine start) i log)))
+          → Each P (filter_map read_of (taken (machine start) i log))
       less_by None all = all
       less_by (Some t) all = all.1
 
@@ -150,26 +166,32 @@ module _ (start : Start) (read : Kind → Option TxId) (add : Kind → List TxId
       less true all = less_by (read_of ((machine start).signal f)) all
       less false all = all
 
-  pub one_taken : (i : ℕ) (tx : TxId) (a b : HostStep) (log : List HostStep) → AreApart (filter_map read_of (taken (machine start) i log)) → IsIn a log → IsIn b log → Takes i tx a → Takes i tx b → a ≡ b
+  pub one_taken : (i : ℕ) (tx : TxId) (a b : HostStep) (log : List HostStep)
+      → AreApart (filter_map read_of (taken (machine start) i log)) → IsIn a log → IsIn b log → Takes i tx a
+      → Takes i tx b → a ≡ b
   one_taken i tx a b [] apart left right at_a at_b = absurd left
   one_taken i tx a b (e ∷ log) apart (inl same) (inl other) at_a at_b = same ∙ sym other
   one_taken i tx a b (e ∷ log) apart (inl same) (inr rest) at_a at_b = absurd (twice (subst (Takes i tx) same at_a))
     where
       twice : Takes i tx e → ⊥
       twice at =
-          let part : AreApart (tx ∷ filter_map read_of (taken (machine start) i log)) = subst AreApart (taken_here i tx e log at) apart in
+          let part : AreApart (tx ∷ filter_map read_of (taken (machine start) i log)) =
+          subst AreApart (taken_here i tx e log at) apart in
           let off : same_tx tx tx ≡ false = taken_in (λ v. same_tx v tx ≡ false) i tx b log rest at_b part.0 in
           let both : true ≡ false = sym (same_tx-self tx) ∙ off in absurd cc
   one_taken i tx a b (e ∷ log) apart (inr rest) (inl same) at_a at_b = absurd (twice (subst (Takes i tx) same at_b))
     where
       twice : Takes i tx e → ⊥
       twice at =
-          let part : AreApart (tx ∷ filter_map read_of (taken (machine start) i log)) = subst AreApart (taken_here i tx e log at) apart in
+          let part : AreApart (tx ∷ filter_map read_of (taken (machine start) i log)) =
+          subst AreApart (taken_here i tx e log at) apart in
           let off : same_tx tx tx ≡ false = taken_in (λ v. same_tx v tx ≡ false) i tx a log rest at_a part.0 in
           let both : true ≡ false = sym (same_tx-self tx) ∙ off in absurd cc
-  one_taken i tx a b (e ∷ log) apart (inr left) (inr right) at_a at_b = one_taken i tx a b log (less (is_from (machine start) i e) apart) left right at_a at_b
+  one_taken i tx a b (e ∷ log) apart (inr left) (inr right) at_a at_b =
+      one_taken i tx a b log (less (is_from (machine start) i e) apart) left right at_a at_b
     where
-      less_by : (o : Option TxId) → AreApart (cons_option o (filter_map read_of (taken (machine start) i log))) → AreApart (filter_map read_of (taken (machine start) i log))
+      less_by : (o : Option TxId) → AreApart (cons_option o (filter_map read_of (taken (machine start) i log)))
+          → AreApart (filter_map read_of (taken (machine start) i log))
       less_by None all = all
       less_by (Some t) all = all.1
 
@@ -181,7 +203,8 @@ module _ (start : Start) (read : Kind → Option TxId) (add : Kind → List TxId
       less false all = all
 
 -- each host said of each transaction once that it has begun, and asked for its epoch at most once
-module _ (start : Start) (logs : ℕ → List HostStep) (right : AreLogs (machine start) logs) (causal : AreCausal start logs) where
+module _ (start : Start) (logs : ℕ → List HostStep) (right : AreLogs (machine start) logs)
+    (causal : AreCausal start logs) where
   pub one_begun : (tx : TxId) (a b : HostStep) → IsIn a (logs 0) → IsIn b (logs 0)
       → Takes start begun_of begun_by begun_reads (home start tx) tx a
       → Takes start begun_of begun_by begun_reads (home start tx) tx b → a ≡ b

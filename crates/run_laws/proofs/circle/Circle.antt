@@ -24,7 +24,11 @@ pub record IsPristine (v : View) : Type 0 where
   pub none : (h : ℕ) → v.rec h ≡ None
 
 pub pristine_as : (v w : View) → IsAs v w → IsPristine v → IsPristine w
-pristine_as v w like p = record { made = like.made ∙ p.made; alive = like.ended ∙ p.alive; none = λ h. like.rec h ∙ p.none h }
+pristine_as v w like p = record {
+  made = like.made ∙ p.made;
+  alive = like.ended ∙ p.alive;
+  none = λ h. like.rec h ∙ p.none h;
+}
 
 -- so the key is settled
 pub pristine_settles : (start : Start) (key : List ℕ) (v : View) → IsPristine v → Settles start key v []
@@ -40,6 +44,9 @@ pristine_settles start key v p = record {
     agree a b is other = subst₂ Agree (sym is) (sym other) tt
 
 -- Before it begins nothing is done for it; and while it is open, or waits for its epoch, it goes on.
-pub record IsCircling (start : Start) (tx : TxId) (key : List ℕ) (es : List HostStep) (xs : List Addressed) : Type 0 where
-  pub pristine : IsUnborn tx (host_after start es (home start tx)) → IsPristine (view_of start (logs_of start es) tx key)
-  pub going : (t : Transaction) → live_at start (logs_of start es) tx ≡ Some t → is_early t.phase ≡ true → IsGoing start tx key (view_of start (logs_of start es) tx key) t xs
+pub record IsCircling (start : Start) (tx : TxId) (key : List ℕ) (es : List HostStep) (xs : List Addressed) : Type 0
+  where
+    pub pristine : IsUnborn tx (host_after start es (home start tx))
+        → IsPristine (view_of start (logs_of start es) tx key)
+    pub going : (t : Transaction) → live_at start (logs_of start es) tx ≡ Some t → is_early t.phase ≡ true
+        → IsGoing start tx key (view_of start (logs_of start es) tx key) t xs

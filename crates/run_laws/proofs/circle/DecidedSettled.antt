@@ -31,7 +31,10 @@ record AsksFor (tx : TxId) (body : Body) : Type 0 where
   is : body ≡ Epoch (DiVerifyReq tx ops)
 
 asks_for : (tx : TxId) (body : Body) → kind_of body ≡ kind.verified tx → AsksFor tx body
-asks_for tx (Epoch (DiVerifyReq other ops)) is = let same : other ≡ tx = cc in record { ops = ops; is = ap (λ t. Epoch (DiVerifyReq t ops)) same }
+asks_for tx (Epoch (DiVerifyReq other ops)) is = let same : other ≡ tx = cc in record {
+  ops = ops;
+  is = ap (λ t. Epoch (DiVerifyReq t ops)) same;
+}
 asks_for tx (Epoch (DiVerifyConf other epoch)) is = absurd cc
 asks_for tx (Client (TcBeginConf name other)) is = absurd cc
 asks_for tx (Client (TcCommitReq other)) is = absurd cc
@@ -59,12 +62,15 @@ decided_settled start es e tx come marked kept = from (asks_for tx e.step.taken.
         let in_transit = all.1.1.0 in
         let taken = all.1.1.1.takes.signal (ap is_request asks.is) in
         let own : IsOfWaiting start (logs_of start es) e.step.taken.body =
-        each_in (λ (x : Addressed). IsOfWaiting start (logs_of start es) x.signal.body) (taken_by e) before (who_asks_waits start es before come.before in_transit)
+        each_in (λ (x : Addressed). IsOfWaiting start (logs_of start es) x.signal.body) (taken_by e) before
+        (who_asks_waits start es before come.before in_transit)
         (subst (IsIn (taken_by e)) (sym taken.is) (taken_in (taken_by e) taken.front taken.back)) in
         let has = subst (IsOfWaiting start (logs_of start es)) asks.is own kept in
         record {
           ops = asks.ops;
           request = asks.is;
           home_is = at.to;
-          settled = λ key. subst (λ ops. IsSettledFor start (logs_of start es) tx ops key) has.ops_are ((verified_settled start es before tx has.transaction come.before in_transit kept has.live has.phase).settled key);
+          settled = λ key. subst (λ ops. IsSettledFor start (logs_of start es) tx ops key) has.ops_are
+              ((verified_settled start es before tx has.transaction come.before in_transit kept has.live
+              has.phase).settled key);
         }

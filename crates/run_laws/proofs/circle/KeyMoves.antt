@@ -20,10 +20,12 @@ use Rattle.run_laws.proofs.circle.OthersStay.{ended_stays, event_of, is_of, made
 use Rattle.run_laws.proofs.circle.ViewOf.{view_of}
 
 -- the replica beside its answers
-pub replica_along : (start : Start) (h : ℕ) (key : List ℕ) (log : List HostStep) → (primary_along start h key log).replica ≡ key_in key (after start h log)
+pub replica_along : (start : Start) (h : ℕ) (key : List ℕ) (log : List HostStep)
+    → (primary_along start h key log).replica ≡ key_in key (after start h log)
 replica_along start h key [] = refl
 replica_along start h key (e ∷ log) =
-    ap (key_after (event_in key (after start h log) e.step.taken)) (replica_along start h key log) ∙ sym (logs_follow start h log e key)
+    ap (key_after (event_in key (after start h log) e.step.taken)) (replica_along start h key log)
+    ∙ sym (logs_follow start h log e key)
 
 -- one has the requests that wait of the other, too
 pub record IsLike (v w : View) : Type 0 where
@@ -49,7 +51,11 @@ module _ (start : Start) (es : List HostStep) (e : HostStep) (tx : TxId) (key : 
 
   -- what the primary had answered, were it here
   abbrev pub answered_here : AtPrimary
-  answered_here = record { replica = before_here; made = (at_primary start logs key).made; ended = (at_primary start logs key).ended }
+  answered_here = record {
+    replica = before_here;
+    made = (at_primary start logs key).made;
+    ended = (at_primary start logs key).ended;
+  }
 
   abbrev pub view_before : View
   view_before = view_of start logs tx key
@@ -71,14 +77,26 @@ module _ (start : Start) (es : List HostStep) (e : HostStep) (tx : TxId) (key : 
 
   along_here : (h : ℕ) → host_of ≡ h
       → primary_along start h key (now h)
-      ≡ primary_after event_here (record { replica = before_here; made = (primary_along start h key (logs h)).made; ended = (primary_along start h key (logs h)).ended })
+      ≡ primary_after event_here (record {
+        replica = before_here;
+        made = (primary_along start h key (logs h)).made;
+        ended = (primary_along start h key (logs h)).ended;
+      })
   along_here h is =
       subst
       (λ h. primary_along start h key (now h)
-      ≡ primary_after event_here (record { replica = before_here; made = (primary_along start h key (logs h)).made; ended = (primary_along start h key (logs h)).ended }))
+      ≡ primary_after event_here (record {
+        replica = before_here;
+        made = (primary_along start h key (logs h)).made;
+        ended = (primary_along start h key (logs h)).ended;
+      }))
       is
       (ap (primary_along start host_of key) own_log
-      ∙ ap (λ r. primary_after event_here (record { replica = r; made = (primary_along start host_of key (logs host_of)).made; ended = (primary_along start host_of key (logs host_of)).ended }))
+      ∙ ap (λ r. primary_after event_here (record {
+        replica = r;
+        made = (primary_along start host_of key (logs host_of)).made;
+        ended = (primary_along start host_of key (logs host_of)).ended;
+      }))
       (replica_along start host_of key (logs host_of)))
 
   pub made_here : host_of ≡ primary_host start key → view_now.made ≡ made_after event_here answered_here tx
@@ -88,14 +106,17 @@ module _ (start : Start) (es : List HostStep) (e : HostStep) (tx : TxId) (key : 
   ended_here is = ap (λ (p : AtPrimary). p.ended tx) (along_here (primary_host start key) is)
 
   pub made_other : host_of ≢ primary_host start key → view_now.made ≡ view_before.made
-  made_other off = ap (λ log. (primary_along start (primary_host start key) key log).made tx) (other_log (primary_host start key) off)
+  made_other off = ap (λ log. (primary_along start (primary_host start key) key log).made tx)
+      (other_log (primary_host start key) off)
 
   pub ended_other : host_of ≢ primary_host start key → view_now.ended ≡ view_before.ended
-  ended_other off = ap (λ log. (primary_along start (primary_host start key) key log).ended tx) (other_log (primary_host start key) off)
+  ended_other off = ap (λ log. (primary_along start (primary_host start key) key log).ended tx)
+      (other_log (primary_host start key) off)
 
   -- where the event leaves alone what is here of the transaction, but for the requests that wait
   pub view_as : found tx (key_after event_here before_here).cell.pending ≡ found tx before_here.cell.pending
-      → made_after event_here answered_here tx ≡ (at_primary start logs key).made tx → ended_after event_here answered_here tx ≡ (at_primary start logs key).ended tx → IsAs view_before view_now
+      → made_after event_here answered_here tx ≡ (at_primary start logs key).made tx
+      → ended_after event_here answered_here tx ≡ (at_primary start logs key).ended tx → IsAs view_before view_now
   view_as found_is made_is ended_is = record {
     made = made (cases_eq host_of (primary_host start key));
     ended = ended (cases_eq host_of (primary_host start key));
@@ -106,21 +127,28 @@ module _ (start : Start) (es : List HostStep) (e : HostStep) (tx : TxId) (key : 
       made (inl is) = made_here is ∙ made_is
       made (inr off) = made_other off
 
-      ended : (host_of ≡ primary_host start key) ⊎ (host_of ≢ primary_host start key) → view_now.ended ≡ view_before.ended
+      ended : (host_of ≡ primary_host start key) ⊎ (host_of ≢ primary_host start key)
+          → view_now.ended ≡ view_before.ended
       ended (inl is) = ended_here is ∙ ended_is
       ended (inr off) = ended_other off
 
       rec : (h : ℕ) → (host_of ≡ h) ⊎ (host_of ≢ h) → view_now.rec h ≡ view_before.rec h
-      rec h (inl is) = subst (λ h. view_now.rec h ≡ view_before.rec h) is (ap (λ (r : Replica). found tx r.cell.pending) key_here ∙ found_is)
+      rec h (inl is) = subst (λ h. view_now.rec h ≡ view_before.rec h) is
+          (ap (λ (r : Replica). found tx r.cell.pending) key_here ∙ found_is)
       rec h (inr off) = ap (λ (r : Replica). found tx r.cell.pending) (key_other h off)
 
   pub waits_other : (h : ℕ) → host_of ≢ h → view_now.waits h ≡ view_before.waits h
   waits_other h off = ap (waits_of tx) (key_other h off)
 
   -- and these too
-  pub view_like : found tx (key_after event_here before_here).cell.pending ≡ found tx before_here.cell.pending → waits_of tx (key_after event_here before_here) ≡ waits_of tx before_here
-      → made_after event_here answered_here tx ≡ (at_primary start logs key).made tx → ended_after event_here answered_here tx ≡ (at_primary start logs key).ended tx → IsLike view_before view_now
-  view_like found_is waits_are made_is ended_is = record { likewise = view_as found_is made_is ended_is; waits = λ h. waits h (cases_eq host_of h) }
+  pub view_like : found tx (key_after event_here before_here).cell.pending ≡ found tx before_here.cell.pending
+      → waits_of tx (key_after event_here before_here) ≡ waits_of tx before_here
+      → made_after event_here answered_here tx ≡ (at_primary start logs key).made tx
+      → ended_after event_here answered_here tx ≡ (at_primary start logs key).ended tx → IsLike view_before view_now
+  view_like found_is waits_are made_is ended_is = record {
+    likewise = view_as found_is made_is ended_is;
+    waits = λ h. waits h (cases_eq host_of h);
+  }
     where
       waits : (h : ℕ) → (host_of ≡ h) ⊎ (host_of ≢ h) → view_now.waits h ≡ view_before.waits h
       waits h (inl is) = subst (λ h. view_now.waits h ≡ view_before.waits h) is (ap (waits_of tx) key_here ∙ waits_are)
@@ -130,11 +158,14 @@ module _ (start : Start) (es : List HostStep) (e : HostStep) (tx : TxId) (key : 
   pub others_like : is_of tx (event_of event_here before_here) ≡ false → IsLike view_before view_now
   others_like off =
       let stays = others_stay tx event_here before_here off in
-      view_like stays.found_is stays.waits_are (made_stays tx event_here answered_here off) (ended_stays tx event_here answered_here off)
+      view_like stays.found_is stays.waits_are (made_stays tx event_here answered_here off)
+      (ended_stays tx event_here answered_here off)
 
   -- a wait that ends
   pub expired_as : (event_here ≡ expires tx) ⊎ (event_here ≡ ages (Some tx)) → IsAs view_before view_now
   expired_as (inl is) =
-      view_as (ap (λ event. found tx (key_after event before_here).cell.pending) is) (ap (λ event. made_after event answered_here tx) is) (ap (λ event. ended_after event answered_here tx) is)
+      view_as (ap (λ event. found tx (key_after event before_here).cell.pending) is)
+      (ap (λ event. made_after event answered_here tx) is) (ap (λ event. ended_after event answered_here tx) is)
   expired_as (inr is) =
-      view_as (ap (λ event. found tx (key_after event before_here).cell.pending) is) (ap (λ event. made_after event answered_here tx) is) (ap (λ event. ended_after event answered_here tx) is)
+      view_as (ap (λ event. found tx (key_after event before_here).cell.pending) is)
+      (ap (λ event. made_after event answered_here tx) is) (ap (λ event. ended_after event answered_here tx) is)

@@ -61,7 +61,8 @@ undone start logs tx t live verifying = by (is_carried_out start logs tx) refl
 started_live : (start : Start) (tx : TxId) (h : ℕ) → of_host tx (after start h []) ≡ None
 started_live start tx h = ap (of_live tx) (first_live start h)
 
-started_none : (start : Start) (tx : TxId) (key : List ℕ) (h : ℕ) → found tx (key_in key (after start h [])).cell.pending ≡ None
+started_none : (start : Start) (tx : TxId) (key : List ℕ) (h : ℕ)
+    → found tx (key_in key (after start h [])).cell.pending ≡ None
 started_none start tx key h = ap (found tx) (none_pending start h key)
 
 first_circles : (start : Start) (tx : TxId) (key : List ℕ) → IsCircling start tx key [] []
@@ -78,7 +79,8 @@ kept_before start es e tx now = by (is_given_up start (logs_of start es) tx) ref
     by : (b : Bool) → is_given_up start (logs_of start es) tx ≡ b → b ≡ false
     by false was = refl
     by true was =
-        absurd (let both : true ≡ false = sym (given_more start (logs_of start es) (logs_of start (e ∷ es)) tx (log_of-past (machine start) e es) was) ∙ now in cc)
+        absurd (let both : true ≡ false = sym (given_more start (logs_of start es) (logs_of start (e ∷ es)) tx
+        (log_of-past (machine start) e es) was) ∙ now in cc)
 
 undone_before : (start : Start) (es : List HostStep) (e : HostStep) (tx : TxId)
     → is_carried_out start (logs_of start (e ∷ es)) tx ≡ false → is_carried_out start (logs_of start es) tx ≡ false
@@ -87,11 +89,13 @@ undone_before start es e tx now = by (is_carried_out start (logs_of start es) tx
     by : (b : Bool) → is_carried_out start (logs_of start es) tx ≡ b → b ≡ false
     by false was = refl
     by true was =
-        absurd (let both : true ≡ false = sym (carried_more start (logs_of start es) (logs_of start (e ∷ es)) tx (log_of-past (machine start) e es) was) ∙ now in cc)
+        absurd (let both : true ≡ false = sym (carried_more start (logs_of start es) (logs_of start (e ∷ es)) tx
+        (log_of-past (machine start) e es) was) ∙ now in cc)
 
 -- after every run
 abbrev Circles : Start → TxId → List ℕ → List HostStep → List Addressed → Type 0
-Circles start tx key es xs = is_given_up start (logs_of start es) tx ≡ false → is_carried_out start (logs_of start es) tx ≡ false → IsCircling start tx key es xs
+Circles start tx key es xs = is_given_up start (logs_of start es) tx ≡ false
+    → is_carried_out start (logs_of start es) tx ≡ false → IsCircling start tx key es xs
 
 all_circles : (start : Start) (tx : TxId) (key : List ℕ) (es : List HostStep) (xs : List Addressed) → IsRun start es
     → AreInTransit start es xs → Circles start tx key es xs
@@ -103,28 +107,36 @@ all_circles start tx key = along_transit start (Circles start tx key) (λ kept w
     next es e before between come transit circles takes kept waits =
         let kept_then = kept_before start es e tx kept in
         let waits_then = undone_before start es e tx waits in
-        step_circles start es e tx key come before between transit takes kept_then waits_then (circles kept_then waits_then)
+        step_circles start es e tx key come before between transit takes kept_then waits_then
+        (circles kept_then waits_then)
 
 pub verified_settled : VerifiedAreSettled
-verified_settled start es xs tx t run transit kept live verifying = record { asked = (goes []).asked verifying; settled = settled }
+verified_settled start es xs tx t run transit kept live verifying = record {
+  asked = (goes []).asked verifying;
+  settled = settled;
+}
   where
     goes : (key : List ℕ) → IsGoing start tx key (view_of start (logs_of start es) tx key) t xs
-    goes key = (all_circles start tx key es xs run transit kept (undone start (logs_of start es) tx t live verifying)).going t live (ap is_early verifying)
+    goes key = (all_circles start tx key es xs run transit kept
+        (undone start (logs_of start es) tx t live verifying)).going t live (ap is_early verifying)
 
     settled : (key : List ℕ) → IsSettledFor start (logs_of start es) tx t.ops key
     settled key =
-        let zero_tokens = none_asked tx key start es run xs transit t live (ap is_early verifying) ((goes key).asked verifying) in
+        let zero_tokens =
+        none_asked tx key start es run xs transit t live (ap is_early verifying) ((goes key).asked verifying) in
         let s = (goes key).settled
         (each_map (λ (x : Addressed). is_token tx x.signal.body ≡ false)
         (λ (x : Addressed). token_of tx key x.signal.to x.signal.body ≡ None) xs
         (λ x off. uncounted tx key x.signal.to x.signal.body off) zero_tokens.signals) zero_tokens.waits in
         told key s
       where
-        told : (key : List ℕ) → Settles start key (view_of start (logs_of start es) tx key) t.ops → IsSettledFor start (logs_of start es) tx t.ops key
+        told : (key : List ℕ) → Settles start key (view_of start (logs_of start es) tx key) t.ops
+            → IsSettledFor start (logs_of start es) tx t.ops key
         told key s = record {
           made = s.made;
           alive = s.alive;
-          agreed = λ h is. subst (λ (r : Replica). Agree (found tx r.cell.pending) (found tx (at_host start (logs_of start es) key h).cell.pending)) (sym (here key)) (s.agreed h is);
+          agreed = λ h is. subst (λ (r : Replica). Agree (found tx r.cell.pending)
+              (found tx (at_host start (logs_of start es) key h).cell.pending)) (sym (here key)) (s.agreed h is);
           others = s.others;
           written = ap (λ (r : Replica). is_some (found tx r.cell.pending)) (here key) ∙ s.written;
         }

@@ -53,7 +53,8 @@ module _ (start : Start) (key : List ℕ) where
     pub alive : v.ended ≡ false
     pub agreed : (h : ℕ) → IsReplica start key h → Agree (v.rec (primary_host start key)) (v.rec h)
     pub others : (h : ℕ) → (IsReplica start key h → ⊥) → v.rec h ≡ None
-    pub written : is_some (v.rec (primary_host start key)) ≡ list_any (λ (op : Op × Answer). is_done op.1) (ops_on key ops)
+    pub written : is_some (v.rec (primary_host start key))
+        ≡ list_any (λ (op : Op × Answer). is_done op.1) (ops_on key ops)
 
   -- an operation's image is prepared at the places below this one
   pub record Stores (v : View) (at : ℕ) (image : Option (List ℕ)) (op : Op) (ops : List (Op × Answer)) : Type 0 where
@@ -101,31 +102,49 @@ module _ (start : Start) (key : List ℕ) where
   }
 
   has_as : (image : Option (List ℕ)) (a b : Option PendingRecord) → b ≡ a → HasIt image a → HasIt image b
-  has_as image a b is has = record { is_record = has.is_record; there = is ∙ has.there; alive = has.alive; image_is = has.image_is }
+  has_as image a b is has = record {
+    is_record = has.is_record;
+    there = is ∙ has.there;
+    alive = has.alive;
+    image_is = has.image_is;
+  }
 
-  stores_as : (v w : View) (at : ℕ) (image : Option (List ℕ)) (op : Op) (ops : List (Op × Answer)) → IsAs v w → Stores v at image op ops → Stores w at image op ops
+  stores_as : (v w : View) (at : ℕ) (image : Option (List ℕ)) (op : Op) (ops : List (Op × Answer)) → IsAs v w
+      → Stores v at image op ops → Stores w at image op ops
   stores_as v w at image op ops like s = record {
     made = like.made ∙ s.made;
     alive = like.ended ∙ s.alive;
-    prepared = λ j low. has_as image (v.rec (replica_host start key j)) (w.rec (replica_host start key j)) (like.rec (replica_host start key j)) (s.prepared j low);
+    prepared = λ j low. has_as image (v.rec (replica_host start key j)) (w.rec (replica_host start key j))
+        (like.rec (replica_host start key j)) (s.prepared j low);
     others = λ h off. like.rec h ∙ s.others h off;
   }
 
   pub tells_as : (v w : View) (t : Transaction) (token : Token) → IsAs v w → Tells v t token → Tells w t token
   tells_as v w t (performs (Operate op) at) like tells = (settles_as v w t.ops like tells.0, tells.1)
-  tells_as v w t (performs (Store own image) at) like tells = record { op = tells.op; asks = tells.asks; stores = stores_as v w at image tells.op t.ops like tells.stores }
-  tells_as v w t (answers answer) like tells = record { op = tells.op; asks = tells.asks; settles = settles_as v w (t.ops ++ (tells.op, answer) ∷ []) like tells.settles }
+  tells_as v w t (performs (Store own image) at) like tells = record {
+    op = tells.op;
+    asks = tells.asks;
+    stores = stores_as v w at image tells.op t.ops like tells.stores;
+  }
+  tells_as v w t (answers answer) like tells = record {
+    op = tells.op;
+    asks = tells.asks;
+    settles = settles_as v w (t.ops ++ (tells.op, answer) ∷ []) like tells.settles;
+  }
   tells_as v w t refuses like (inl asked) = inl asked
   tells_as v w t refuses like (inr settled) = inr (settles_as v w t.ops like settled)
 
   -- an operation on the key, and on another one
-  pub ops_own : (ops : List (Op × Answer)) (op : Op × Answer) → same_key (key_of op.0) key ≡ true → ops_on key (ops ++ op ∷ []) ≡ ops_on key ops ++ op ∷ []
+  pub ops_own : (ops : List (Op × Answer)) (op : Op × Answer) → same_key (key_of op.0) key ≡ true
+      → ops_on key (ops ++ op ∷ []) ≡ ops_on key ops ++ op ∷ []
   ops_own ops op here = filter-end (λ (op : Op × Answer). same_key (key_of op.0) key) ops op true here
 
-  pub ops_other : (ops : List (Op × Answer)) (op : Op × Answer) → same_key (key_of op.0) key ≡ false → ops_on key (ops ++ op ∷ []) ≡ ops_on key ops
+  pub ops_other : (ops : List (Op × Answer)) (op : Op × Answer) → same_key (key_of op.0) key ≡ false
+      → ops_on key (ops ++ op ∷ []) ≡ ops_on key ops
   ops_other ops op off = filter-end (λ (op : Op × Answer). same_key (key_of op.0) key) ops op false off
 
-  pub settles_other : (v : View) (ops : List (Op × Answer)) (op : Op × Answer) → same_key (key_of op.0) key ≡ false → Settles v ops → Settles v (ops ++ op ∷ [])
+  pub settles_other : (v : View) (ops : List (Op × Answer)) (op : Op × Answer) → same_key (key_of op.0) key ≡ false
+      → Settles v ops → Settles v (ops ++ op ∷ [])
   settles_other v ops op off s = record {
     made = s.made ∙ sym (ops_other ops op off);
     alive = s.alive;
@@ -136,7 +155,8 @@ module _ (start : Start) (key : List ℕ) where
 
   -- whether there is a write, with one more operation on the key
   any_own : (ops : List (Op × Answer)) (op : Op) (answer : Answer) → same_key (key_of op) key ≡ true
-      → list_any (λ (op : Op × Answer). is_done op.1) (ops_on key (ops ++ (op, answer) ∷ [])) ≡ (list_any (λ (op : Op × Answer). is_done op.1) (ops_on key ops) || (is_done answer || false))
+      → list_any (λ (op : Op × Answer). is_done op.1) (ops_on key (ops ++ (op, answer) ∷ []))
+      ≡ (list_any (λ (op : Op × Answer). is_done op.1) (ops_on key ops) || (is_done answer || false))
   any_own ops op answer here =
       ap (list_any (λ (op : Op × Answer). is_done op.1)) (ops_own ops (op, answer) here)
       ∙ list_any-append (λ (op : Op × Answer). is_done op.1) (ops_on key ops) ((op, answer) ∷ [])
@@ -150,56 +170,69 @@ module _ (start : Start) (key : List ℕ) where
   or_true false b is = ap (λ b. b || false) is
 
   -- The primary answers an operation that isn't a write that takes effect.
-  pub answers_settle : (v w : View) (ops : List (Op × Answer)) (op : Op) (answer : Answer) → Settles v ops → same_key (key_of op) key ≡ true → is_done answer ≡ false
-      → w.made ≡ v.made ++ (op, answer) ∷ [] → w.ended ≡ v.ended → ((h : ℕ) → w.rec h ≡ v.rec h) → Settles w (ops ++ (op, answer) ∷ [])
+  pub answers_settle : (v w : View) (ops : List (Op × Answer)) (op : Op) (answer : Answer) → Settles v ops
+      → same_key (key_of op) key ≡ true → is_done answer ≡ false
+      → w.made ≡ v.made ++ (op, answer) ∷ [] → w.ended ≡ v.ended → ((h : ℕ) → w.rec h ≡ v.rec h)
+      → Settles w (ops ++ (op, answer) ∷ [])
   answers_settle v w ops op answer s here plain made ended rec = record {
     made = made ∙ ap (λ xs. xs ++ (op, answer) ∷ []) s.made ∙ sym (ops_own ops (op, answer) here);
     alive = ended ∙ s.alive;
     agreed = λ h is. subst₂ Agree (sym (rec (primary_host start key))) (sym (rec h)) (s.agreed h is);
     others = λ h off. rec h ∙ s.others h off;
     written = ap is_some (rec (primary_host start key)) ∙ s.written
-        ∙ sym (any_own ops op answer here ∙ or_false (list_any (λ (op : Op × Answer). is_done op.1) (ops_on key ops)) (is_done answer) plain);
+        ∙ sym (any_own ops op answer here ∙ or_false (list_any (λ (op : Op × Answer). is_done op.1) (ops_on key ops))
+        (is_done answer) plain);
   }
 
   -- It prepares the image of a write.
-  pub writes_store : (v w : View) (ops : List (Op × Answer)) (op : Op) (image : Option (List ℕ)) → Settles v ops → same_key (key_of op) key ≡ true → 0 < length (replicas start key)
-      → w.made ≡ v.made ++ (op, Done) ∷ [] → w.ended ≡ v.ended → HasIt image (w.rec (primary_host start key)) → ((h : ℕ) → h ≢ primary_host start key → w.rec h ≡ v.rec h)
+  pub writes_store : (v w : View) (ops : List (Op × Answer)) (op : Op) (image : Option (List ℕ)) → Settles v ops
+      → same_key (key_of op) key ≡ true → 0 < length (replicas start key)
+      → w.made ≡ v.made ++ (op, Done) ∷ [] → w.ended ≡ v.ended → HasIt image (w.rec (primary_host start key))
+      → ((h : ℕ) → h ≢ primary_host start key → w.rec h ≡ v.rec h)
       → Stores w 1 image op ops
   writes_store v w ops op image s here some made ended has rec = record {
     made = made ∙ ap (λ xs. xs ++ (op, Done) ∷ []) s.made ∙ sym (ops_own ops (op, Done) here);
     alive = ended ∙ s.alive;
-    prepared = λ j low. let first : 0 ≡ j = omega (arith, low) in subst (λ j. HasIt image (w.rec (replica_host start key j))) first has;
+    prepared = λ j low. let first : 0 ≡ j = omega (arith, low) in
+        subst (λ j. HasIt image (w.rec (replica_host start key j))) first has;
     others = λ h off. rec h (λ is. off (record { at = 0; inside = some; host_is = sym is })) ∙ s.others h off;
   }
 
   -- The next place prepares it too.
-  pub next_stores : (v w : View) (at : ℕ) (ops : List (Op × Answer)) (op : Op) (image : Option (List ℕ)) (h : ℕ) → Stores v at image op ops → at < length (replicas start key) → h ≡ replica_host start key at
+  pub next_stores : (v w : View) (at : ℕ) (ops : List (Op × Answer)) (op : Op) (image : Option (List ℕ)) (h : ℕ)
+      → Stores v at image op ops → at < length (replicas start key) → h ≡ replica_host start key at
       → w.made ≡ v.made → w.ended ≡ v.ended → HasIt image (w.rec h) → ((g : ℕ) → g ≢ h → w.rec g ≡ v.rec g)
       → Stores w (at + 1) image op ops
   next_stores v w at ops op image h s inside place made ended has rec = record {
     made = made ∙ s.made;
     alive = ended ∙ s.alive;
     prepared = λ j low. which j low (cases_eq (replica_host start key j) h);
-    others = λ g off. rec g (λ is. off (record { at = at; inside = inside; host_is = sym place ∙ sym is })) ∙ s.others g off;
+    others = λ g off. rec g (λ is. off (record { at = at; inside = inside; host_is = sym place ∙ sym is }))
+        ∙ s.others g off;
   }
     where
-      which : (j : ℕ) → j < at + 1 → (replica_host start key j ≡ h) ⊎ (replica_host start key j ≢ h) → HasIt image (w.rec (replica_host start key j))
+      which : (j : ℕ) → j < at + 1 → (replica_host start key j ≡ h) ⊎ (replica_host start key j ≢ h)
+          → HasIt image (w.rec (replica_host start key j))
       which j low (inl is) = subst (λ g. HasIt image (w.rec g)) (sym is) has
-      which j low (inr off) = has_as image (v.rec (replica_host start key j)) (w.rec (replica_host start key j)) (rec (replica_host start key j) off) (s.prepared j (below (cases_eq j at)))
+      which j low (inr off) = has_as image (v.rec (replica_host start key j)) (w.rec (replica_host start key j))
+          (rec (replica_host start key j) off) (s.prepared j (below (cases_eq j at)))
         where
           below : (j ≡ at) ⊎ (j ≢ at) → j < at
           below (inl same) = absurd (off (ap (replica_host start key) same ∙ sym place))
           below (inr differs) = omega (arith, low, differs)
 
   -- At the last place the write is done.
-  pub last_settles : (v : View) (at : ℕ) (ops : List (Op × Answer)) (op : Op) (image : Option (List ℕ)) → Stores v at image op ops → same_key (key_of op) key ≡ true → 0 < at → length (replicas start key) ≤ at
+  pub last_settles : (v : View) (at : ℕ) (ops : List (Op × Answer)) (op : Op) (image : Option (List ℕ))
+      → Stores v at image op ops → same_key (key_of op) key ≡ true → 0 < at → length (replicas start key) ≤ at
       → Settles v (ops ++ (op, Done) ∷ [])
   last_settles v at ops op image s here some past = record {
     made = s.made;
     alive = s.alive;
-    agreed = λ h is. both_have image (v.rec (primary_host start key)) (v.rec h) first (subst (λ g. HasIt image (v.rec g)) is.host_is (s.prepared is.at (omega (arith, is.inside, past))));
+    agreed = λ h is. both_have image (v.rec (primary_host start key)) (v.rec h) first
+        (subst (λ g. HasIt image (v.rec g)) is.host_is (s.prepared is.at (omega (arith, is.inside, past))));
     others = s.others;
-    written = ap is_some first.there ∙ sym (any_own ops op Done here ∙ or_true (list_any (λ (op : Op × Answer). is_done op.1) (ops_on key ops)) true refl);
+    written = ap is_some first.there ∙ sym
+        (any_own ops op Done here ∙ or_true (list_any (λ (op : Op × Answer). is_done op.1) (ops_on key ops)) true refl);
   }
     where
       first : HasIt image (v.rec (primary_host start key))

@@ -35,10 +35,12 @@ module _ (tx : TxId) where
   kind_silent : (sends : List Outgoing) → are_of is_api_kind sends ≡ true → AreSilent tx sends
   kind_silent sends kind = plain_silent tx sends (of_kind is_api_kind is_plain api_plain sends kind)
 
-  move_silent : (s : ApiState) (body : Body) (after : View × List OpenTransaction) (sends : List Outgoing) → ApiMove s body after sends → AreSilent tx sends
+  move_silent : (s : ApiState) (body : Body) (after : View × List OpenTransaction) (sends : List Outgoing)
+      → ApiMove s body after sends → AreSilent tx sends
   move_silent s body after sends (rests is kind void) = kind_silent sends kind
   move_silent s body after sends (opens other at op new request is told) = subst (AreSilent tx) (sym told) (refl, tt)
-  move_silent s body after sends (begun_as other one front t u back about passes begun was is kind) = kind_silent sends kind
+  move_silent s body after sends (begun_as other one front t u back about passes begun was is kind) =
+      kind_silent sends kind
   move_silent s body after sends (goes front t u back go void was is kind) = kind_silent sends kind
   move_silent s body after sends (ends one front t back about passes was is kind) = kind_silent sends kind
   move_silent s body after sends (refuses other front t back about passes was is kind) = kind_silent sends kind
@@ -47,4 +49,5 @@ module _ (tx : TxId) where
   api_silent s body = move_silent s body _ _ (api_moves s body)
 
   pub dih_silent : (s : DihState) (body : Body) → AreSilent tx (dih_table s body).effects.sends
-  dih_silent s body = plain_silent tx (dih_table s body).effects.sends (of_kind is_dih_kind is_plain dih_plain (dih_table s body).effects.sends (dih_kinds s body))
+  dih_silent s body = plain_silent tx (dih_table s body).effects.sends
+      (of_kind is_dih_kind is_plain dih_plain (dih_table s body).effects.sends (dih_kinds s body))

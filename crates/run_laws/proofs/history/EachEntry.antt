@@ -28,9 +28,11 @@ module _ (P : Entry → Type 0) where
   each_all [] into holds all = all
   each_all (a ∷ more) into holds all = each_insert a (insert_all more into) holds.0 (each_all more into holds.1 all)
 
-  pub each_entry : (n : ℕ) (logs : ℕ → List HostStep) → ((h : ℕ) → Each P (entries_of h (logs h))) → Each P (entries n logs)
+  pub each_entry : (n : ℕ) (logs : ℕ → List HostStep) → ((h : ℕ) → Each P (entries_of h (logs h)))
+      → Each P (entries n logs)
   each_entry zero logs holds = tt
   each_entry (suc n) logs holds = each_all (entries_of n (logs n)) (entries n logs) (holds n) (each_entry n logs holds)
 
-  pub each_kept : (n : ℕ) (logs : ℕ → List HostStep) → ((h : ℕ) → Each P (entries_of h (logs h))) → Each P (history n logs)
+  pub each_kept : (n : ℕ) (logs : ℕ → List HostStep) → ((h : ℕ) → Each P (entries_of h (logs h)))
+      → Each P (history n logs)
   each_kept n logs holds = each_filter P (is_kept n logs) (entries n logs) (each_entry n logs holds)

@@ -14,5 +14,6 @@ keys_serial start inside logs pos is keys = record {
   strict = histories_strict start inside logs is;
   epochs = epochs_ordered start inside logs is;
   viable = view_viable start inside logs pos is;
-  rows = λ key rest member live. keys.rows key rest member live ∙ sym (rows_join (rows_of start.rows) (history (hosts start) inside) key);
+  rows = λ key rest member live. keys.rows key rest member live
+      ∙ sym (rows_join (rows_of start.rows) (history (hosts start) inside) key);
 }

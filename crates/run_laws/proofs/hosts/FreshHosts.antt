@@ -26,16 +26,40 @@ pub record IsUnasked (s : LqhState) : Type 0 where
   pub pending : rows.pending ≡ []
   pub is : s ≡ unasked_yet node layout rows journal
 
-part_unasked : (p : Part) (member : Member) (layout : Layout) (epoch : ℕ) (rows : List (List ℕ × List ℕ)) → IsUnasked (lqh_of (fresh_part p member layout epoch rows))
+part_unasked : (p : Part) (member : Member) (layout : Layout) (epoch : ℕ) (rows : List (List ℕ × List ℕ))
+    → IsUnasked (lqh_of (fresh_part p member layout epoch rows))
 unfolding fresh_part
-part_unasked part.Main member layout epoch rows = record { node = _; layout = _; rows = _; journal = _; pending = refl; is = refl }
-part_unasked part.Tc member layout epoch rows = record { node = _; layout = _; rows = _; journal = _; pending = refl; is = refl }
-part_unasked part.Ldm member layout epoch rows = record { node = _; layout = _; rows = _; journal = _; pending = started_pending no_rows (own_rows layout.shape member.node rows) epoch; is = refl }
+part_unasked part.Main member layout epoch rows = record {
+  node = _;
+  layout = _;
+  rows = _;
+  journal = _;
+  pending = refl;
+  is = refl;
+}
+part_unasked part.Tc member layout epoch rows = record {
+  node = _;
+  layout = _;
+  rows = _;
+  journal = _;
+  pending = refl;
+  is = refl;
+}
+part_unasked part.Ldm member layout epoch rows = record {
+  node = _;
+  layout = _;
+  rows = _;
+  journal = _;
+  pending = started_pending no_rows
+      (own_rows layout.shape member.node rows) epoch;
+  is = refl;
+}
 
 pub started_unasked : (start : Start) (h : ℕ) → IsUnasked (lqh_of (started start h))
 unfolding started fresh_shell
 started_unasked start zero = record { node = _; layout = _; rows = _; journal = _; pending = refl; is = refl }
-started_unasked start (suc h) = part_unasked (part_by (h % 3)) (member_at (made start) (suc h)) (first_layout start.shape) start.epoch start.rows
+started_unasked start (suc h) =
+    part_unasked (part_by (h % 3)) (member_at (made start) (suc h)) (first_layout start.shape) start.epoch start.rows
 
 -- no key has a record
 pub none_pending : (start : Start) (h : ℕ) (key : List ℕ) → (key_in key (started start h)).cell.pending ≡ []

@@ -13,7 +13,8 @@ use Rattle.node_core.specs.Row.{row}
 use Rattle.node_core.proofs.HostCases.{BlockCase, IsTcStep, api_takes, block_case, dih_takes, none_takes, rows_take, runs, tc_takes}
 use Rattle.host_laws.specs.Ways.{sends_for, tc_sends}
 
-pub tc_speaks : (s : Host) (x : Signal) → has_tc s ≡ true → x.to.block ≡ block.Tc → tc_sends s x ≡ (tc_row (tc_of s) x).effects.sends
+pub tc_speaks : (s : Host) (x : Signal) → has_tc s ≡ true → x.to.block ≡ block.Tc
+    → tc_sends s x ≡ (tc_row (tc_of s) x).effects.sends
 tc_speaks (Tc p) x on at = ap (λ b. sends_for p b x) at
 tc_speaks _ x on at = absurd cc
 
@@ -28,7 +29,8 @@ tc_silent _ x off = refl
 
 -- or the host doesn't run its block
 pub idle_silent : (s : Host) (x : Signal) → runs s x.to.block ≡ false → tc_sends s x ≡ []
-idle_silent (Tc p) x off = not_for p x x.to.block (λ at. let both : true ≡ false = sym (ap (runs (Tc p)) at) ∙ off in cc)
+idle_silent (Tc p) x off =
+    not_for p x x.to.block (λ at. let both : true ≡ false = sym (ap (runs (Tc p)) at) ∙ off in cc)
 idle_silent _ x off = refl
 
 pub data TcSays (s : Host) (x : Signal) (t : Step Host) : Type 0 where
@@ -36,10 +38,13 @@ pub data TcSays (s : Host) (x : Signal) (t : Step Host) : Type 0 where
   rests : tc_of t.state ≡ tc_of s → tc_sends s x ≡ [] → TcSays s x t
 
 says_by : (s : Host) (x : Signal) (t : Step Host) → BlockCase s x t → TcSays s x t
-says_by s x t (api_takes step) = rests step.tc (tc_silent s x (λ at. let both : block.Api ≡ block.Tc = sym step.at ∙ at in cc))
+says_by s x t (api_takes step) =
+    rests step.tc (tc_silent s x (λ at. let both : block.Api ≡ block.Tc = sym step.at ∙ at in cc))
 says_by s x t (tc_takes step) = takes step (tc_speaks s x step.runs step.at)
-says_by s x t (dih_takes step) = rests step.tc (tc_silent s x (λ at. let both : block.Dih ≡ block.Tc = sym step.at ∙ at in cc))
-says_by s x t (rows_take step) = rests step.tc (tc_silent s x (λ at. let both : block.Lqh ≡ block.Tc = sym step.at ∙ at in cc))
+says_by s x t (dih_takes step) =
+    rests step.tc (tc_silent s x (λ at. let both : block.Dih ≡ block.Tc = sym step.at ∙ at in cc))
+says_by s x t (rows_take step) =
+    rests step.tc (tc_silent s x (λ at. let both : block.Lqh ≡ block.Tc = sym step.at ∙ at in cc))
 says_by s x t (none_takes step) = rests (ap (λ (u : Step Host). tc_of u.state) step.is) (idle_silent s x step.runs)
 
 pub tc_says : (s : Host) (x : Signal) → TcSays s x (row s x)

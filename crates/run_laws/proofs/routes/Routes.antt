@@ -54,7 +54,8 @@ module _ (start : Start) where
   request_plain _ e = refl
 
   api_sent : (s : ApiState) (body : Body) → AreSent start (api_table s body).effects.sends
-  api_sent s body = api_each (λ o. IsSent start o) (λ o is. plain_sent start o.to o.body (api_plain o.body is)) (λ name node. record { routed = tt; block = tt }) s body
+  api_sent s body = api_each (λ o. IsSent start o) (λ o is. plain_sent start o.to o.body (api_plain o.body is))
+      (λ name node. record { routed = tt; block = tt }) s body
 
   dih_sent : (s : DihState) (body : Body) → AreSent start (dih_table s body).effects.sends
   dih_sent s body =

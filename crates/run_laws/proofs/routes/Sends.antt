@@ -31,9 +31,11 @@ abbrev pub AreSent : Start → List Outgoing → Type 0
 AreSent start sends = Each (λ (o : Outgoing). IsSent start o) sends
 
 -- what holds of the signals of each item of a list, where something holds of each item
-pub each_flat_of : {A B : Type 0} (R : A → Type 0) (P : B → Type 0) (f : A → List B) (xs : List A) → ((x : A) → R x → Each P (f x)) → Each R xs → Each P (flat_map f xs)
+pub each_flat_of : {A B : Type 0} (R : A → Type 0) (P : B → Type 0) (f : A → List B) (xs : List A)
+    → ((x : A) → R x → Each P (f x)) → Each R xs → Each P (flat_map f xs)
 each_flat_of R P f [] holds all = tt
-each_flat_of R P f (x ∷ xs) holds all = each_append P (f x) (flat_map f xs) (holds x all.0) (each_flat_of R P f xs holds all.1)
+each_flat_of R P f (x ∷ xs) holds all =
+    each_append P (f x) (flat_map f xs) (holds x all.0) (each_flat_of R P f xs holds all.1)
 
 -- a signal about no row
 module _ (start : Start) where
@@ -50,12 +52,14 @@ module _ (start : Start) where
 
 module _ (start : Start) (some : (key : List ℕ) → 0 < length (replicas start key)) (tx : TxId) where
   -- where a commit goes
-  along_of : (t : Touched) (b : Bool) → t.written ≡ b → t.chain ≡ (if b then replicas start t.key else primary_of (replicas start t.key))
+  along_of : (t : Touched) (b : Bool) → t.written ≡ b
+      → t.chain ≡ (if b then replicas start t.key else primary_of (replicas start t.key))
       → (t.chain ≡ replicas start t.key) ⊎ (t.chain ≡ primary_of (replicas start t.key))
   along_of t true e is = inl is
   along_of t false e is = inr is
 
-  some_of : (t : Touched) → (t.chain ≡ replicas start t.key) ⊎ (t.chain ≡ primary_of (replicas start t.key)) → 0 < length t.chain
+  some_of : (t : Touched) → (t.chain ≡ replicas start t.key) ⊎ (t.chain ≡ primary_of (replicas start t.key))
+      → 0 < length t.chain
   some_of t (inl is) = omega (arith, ap length is, some t.key)
   some_of t (inr is) = omega (arith, ap length is, primary_length (replicas start t.key) (some t.key))
 
@@ -63,24 +67,39 @@ module _ (start : Start) (some : (key : List ℕ) → 0 < length (replicas start
   commit_sent epoch t is =
       let along = along_of t t.written refl is in
       record {
-        routed = record { along = along; sent = record { inside = last_inside t.chain (some_of t along); node_is = refl } };
+        routed = record {
+          along = along;
+          sent = record { inside = last_inside t.chain (some_of t along); node_is = refl };
+        };
         block = refl;
       }
 
   complete_sent : (t : Touched) → t.chain ≡ replicas start t.key → IsSent start (complete_of tx t)
   complete_sent t is = record {
-    routed = record { along = is; sent = record { inside = last_inside t.chain (omega (arith, ap length is, some t.key)); node_is = refl } };
+    routed = record {
+      along = is;
+      sent = record {
+        inside = last_inside t.chain (omega (arith, ap length is, some t.key));
+        node_is = refl;
+      };
+    };
     block = refl;
   }
 
-  complete_if_sent : (t : Touched) (b : Bool) → t.chain ≡ (if b then replicas start t.key else primary_of (replicas start t.key)) → AreSent start (complete_if tx t b)
+  complete_if_sent : (t : Touched) (b : Bool)
+      → t.chain ≡ (if b then replicas start t.key else primary_of (replicas start t.key))
+      → AreSent start (complete_if tx t b)
   complete_if_sent t true is = (complete_sent t is, tt)
   complete_if_sent t false is = tt
 
   pub aborts_sent : (key : List ℕ) (chain : List Member) → AreSent start (aborts_of tx key chain)
-  aborts_sent key chain = each_mapped (λ (o : Outgoing). IsSent start o) (abort_of tx key) chain (λ r. record { routed = tt; block = refl })
+  aborts_sent key chain = each_mapped (λ (o : Outgoing). IsSent start o) (abort_of tx key) chain (λ r. record {
+    routed = tt;
+    block = refl;
+  })
 
-  key_sent : (layout : Layout) (phase : Phase) (t : Touched) → IsTouchedRouted start t → AreSent start (key_sends layout tx phase t)
+  key_sent : (layout : Layout) (phase : Phase) (t : Touched) → IsTouchedRouted start t
+      → AreSent start (key_sends layout tx phase t)
   unfolding key_sends
   key_sent layout Open t is = tt
   key_sent layout Verifying t is = tt
@@ -96,8 +115,11 @@ module _ (start : Start) (some : (key : List ℕ) → 0 < length (replicas start
   front_sent (Completing epoch awaited) = (record { routed = tt; block = tt }, tt)
   front_sent (Aborting why verifying awaited) = tt
 
-  pub phase_sent : (layout : Layout) (phase : Phase) (touched : List Touched) → Each (IsTouchedRouted start) touched → AreSent start (phase_sends layout tx phase touched)
+  pub phase_sent : (layout : Layout) (phase : Phase) (touched : List Touched) → Each (IsTouchedRouted start) touched
+      → AreSent start (phase_sends layout tx phase touched)
   unfolding phase_sends
   phase_sent layout phase touched all =
-      each_append (λ (o : Outgoing). IsSent start o) (front_sends tx phase) (flat_map (key_sends layout tx phase) touched) (front_sent phase)
-      (each_flat_of (IsTouchedRouted start) (λ (o : Outgoing). IsSent start o) (key_sends layout tx phase) touched (λ t is. key_sent layout phase t is) all)
+      each_append (λ (o : Outgoing). IsSent start o) (front_sends tx phase)
+      (flat_map (key_sends layout tx phase) touched) (front_sent phase)
+      (each_flat_of (IsTouchedRouted start) (λ (o : Outgoing). IsSent start o) (key_sends layout tx phase) touched
+      (λ t is. key_sent layout phase t is) all)

@@ -45,7 +45,8 @@ module _ (start : Start) (tx : TxId) where
   free (Chain (LqhKeyRef other key cause)) e = absurd cc
   free _ e = refl
 
-  module _ (es : List HostStep) (e : HostStep) (before between : List Addressed) (come : Comes start es e) (takes : Takes e before between) where
+  module _ (es : List HostStep) (e : HostStep) (before between : List Addressed) (come : Comes start es e)
+      (takes : Takes e before between) where
     abbrev h : ℕ
     h = e.host
 
@@ -100,7 +101,8 @@ module _ (start : Start) (tx : TxId) where
     waiting_now =
         omega (
           arith,
-          total_one (hosts start) (λ k. waiting_in tx (after start k (was k))) (λ k. waiting_in tx (after start k (now k))) h (comes_below start es e come)
+          total_one (hosts start) (λ k. waiting_in tx (after start k (was k)))
+              (λ k. waiting_in tx (after start k (now k))) h (comes_below start es e come)
               (λ k off. ap (λ log. waiting_in tx (after start k log)) (other_log k off)),
           ap (λ log. waiting_in tx (after start h log)) own_log,
         )
@@ -109,21 +111,40 @@ module _ (start : Start) (tx : TxId) where
     waiting_some = total_at (hosts start) (λ k. waiting_in tx (after start k (was k))) h (comes_below start es e come)
 
     kept : Kept tx (sent_ways start back_by h (was h)) (after start h (was h)) e.step.taken
-    kept = host_kept tx (sent_ways start back_by h (was h)) (after start h (was h)) e.step.taken (log_sound start h (was h))
+    kept = host_kept tx (sent_ways start back_by h (was h)) (after start h (was h)) e.step.taken
+        (log_sound start h (was h))
 
     abbrev budget_here : ℕ → List HostStep → ℕ
-    budget_here k log = budget_by (list_any (same_tx tx) (sent_ways start back_by k log)) (of_host tx (after start k log))
+    budget_here k log =
+        budget_by (list_any (same_tx tx) (sent_ways start back_by k log)) (of_host tx (after start k log))
 
     step_one : tokens start was before tx ≤ budget start was tx → tokens start now joined_now tx ≤ budget start now tx
     step_one low = by (cases_eq (home start tx) h)
       where
         by : (home start tx ≡ h) ⊎ (home start tx ≢ h) → tokens start now joined_now tx ≤ budget start now tx
-        by (inr off) = omega (arith, low, in_before, in_now, waiting_now, kept.away (λ runs own. off (sym (own_home start es e come tx runs own))), ap (budget_here (home start tx)) (other_log (home start tx) off))
+        by (inr off) = omega (
+          arith,
+          low,
+          in_before,
+          in_now,
+          waiting_now,
+          kept.away
+              (λ runs own. off (sym (own_home start es e come tx runs own))),
+          ap (budget_here (home start tx)) (other_log (home start tx) off),
+        )
         by (inl at) =
             let here : budget start was tx ≡ budget_here h (was h) = ap (λ k. budget_here k (was k)) at in
-            let there : budget start now tx ≡ budget_here h (e ∷ was h) = ap (λ k. budget_here k (now k)) at ∙ ap (budget_here h) own_log in
+            let there : budget start now tx ≡ budget_here h (e ∷ was h) =
+            ap (λ k. budget_here k (now k)) at ∙ ap (budget_here h) own_log in
             let rest : ℕ = tokens_in tx between + (waiting_all start was tx - waits_was) in
-            omega (arith, kept.home rest (omega (arith, low, in_before, here, waiting_some)), in_now, waiting_now, waiting_some, there)
+            omega (
+              arith,
+              kept.home rest (omega (arith, low, in_before, here, waiting_some)),
+              in_now,
+              waiting_now,
+              waiting_some,
+              there,
+            )
 
   pub none_waits_first : (k : ℕ) → waiting_in tx (after start k []) ≡ 0
   none_waits_first k = ap (tally (λ (q : Request). same_tx q.tx tx)) (first_waiting start k)
@@ -137,5 +158,6 @@ module _ (start : Start) (tx : TxId) where
 
 pub one_at_a_time : OneAtATime
 one_at_a_time start es xs tx run is =
-    along_transit start (λ es xs. tokens start (logs_of start es) xs tx ≤ budget start (logs_of start es) tx) (none_first start tx)
+    along_transit start (λ es xs. tokens start (logs_of start es) xs tx ≤ budget start (logs_of start es) tx)
+    (none_first start tx)
     (λ es e before between come transit low takes. step_one start tx es e before between come takes low) es xs run is

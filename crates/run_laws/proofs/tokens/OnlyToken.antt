@@ -40,30 +40,36 @@ early_stays (Completing epoch awaited) is = absurd cc
 early_stays (Aborting why verifying awaited) is = absurd cc
 
 module _ (tx : TxId) (key : List ℕ) where
-  filtered_none : (xs : List Request) → tally (λ (q : Request). same_tx q.tx tx) xs ≡ 0 → filter (is_by tx) (filter (asks_for key) xs) ≡ []
+  filtered_none : (xs : List Request) → tally (λ (q : Request). same_tx q.tx tx) xs ≡ 0
+      → filter (is_by tx) (filter (asks_for key) xs) ≡ []
   filtered_none [] none = refl
   filtered_none (q ∷ xs) none = by (same_tx q.tx tx) refl (asks_for key q) (filtered_none xs)
     where
-      by : (b : Bool) → same_tx q.tx tx ≡ b → (c : Bool) → (tally (λ (q : Request). same_tx q.tx tx) xs ≡ 0 → filter (is_by tx) (filter (asks_for key) xs) ≡ [])
+      by : (b : Bool) → same_tx q.tx tx ≡ b → (c : Bool)
+          → (tally (λ (q : Request). same_tx q.tx tx) xs ≡ 0 → filter (is_by tx) (filter (asks_for key) xs) ≡ [])
           → filter (is_by tx) (cond c (q ∷ filter (asks_for key) xs) (filter (asks_for key) xs)) ≡ []
       by true e c more = absurd (omega (arith, none, ap one_if e))
-      by false e true more = ap (λ b. cond b (q ∷ filter (is_by tx) (filter (asks_for key) xs)) (filter (is_by tx) (filter (asks_for key) xs))) e ∙ more (omega (arith, none, ap one_if e))
+      by false e true more = ap (λ b. cond b (q ∷ filter (is_by tx) (filter (asks_for key) xs))
+          (filter (is_by tx) (filter (asks_for key) xs))) e ∙ more (omega (arith, none, ap one_if e))
       by false e false more = more (omega (arith, none, ap one_if e))
 
   host_none : (s : Host) → waiting_in tx s ≡ 0 → waits_of tx (key_in key s) ≡ []
   host_none s none = filtered_none (lqh_of s).waiting none
 
   module _ (start : Start) (es : List HostStep) (run : IsRun start es) where
-    none_wait : waiting_all start (logs_of start es) tx ≡ 0 → (h : ℕ) → (view_of start (logs_of start es) tx key).waits h ≡ []
+    none_wait : waiting_all start (logs_of start es) tx ≡ 0 → (h : ℕ)
+        → (view_of start (logs_of start es) tx key).waits h ≡ []
     none_wait none h = by (nat_lt h (hosts start)) refl
       where
         none_begun : (h : ℕ) → waits_of tx (key_in key (after start h [])) ≡ []
         none_begun h = ap (λ waiting. filter (is_by tx) (filter (asks_for key) waiting)) (first_waiting start h)
 
-        by : (b : Bool) → nat_lt h (hosts start) ≡ b → waits_of tx (key_in key (after start h (logs_of start es h))) ≡ []
+        by : (b : Bool) → nat_lt h (hosts start) ≡ b
+            → waits_of tx (key_in key (after start h (logs_of start es h))) ≡ []
         by true e =
             let few : waiting_in tx (after start h (logs_of start es h)) ≤ waiting_all start (logs_of start es) tx =
-            total_at (hosts start) (λ h. waiting_in tx (after start h (logs_of start es h))) h (grind (arith, nat_tests, e)) in
+            total_at (hosts start) (λ h. waiting_in tx (after start h (logs_of start es h))) h
+            (grind (arith, nat_tests, e)) in
             host_none (after start h (logs_of start es h)) (omega (arith, few, none))
         by false e =
             let high : hosts start ≤ h = grind (arith, nat_tests, e) in
@@ -72,14 +78,17 @@ module _ (tx : TxId) (key : List ℕ) where
     module _ (xs : List Addressed) (transit : AreInTransit start es xs) (t : Transaction)
         (live : live_at start (logs_of start es) tx ≡ Some t) (early : is_early t.phase ≡ true) where
       allowed : budget start (logs_of start es) tx ≡ one_if (is_some t.asked)
-      allowed = ap (budget_by (is_given_up start (logs_of start es) tx)) live ∙ by (is_given_up start (logs_of start es) tx) ∙ ap (λ b. if b then 1 else one_if (is_some t.asked)) (early_stays t.phase early)
+      allowed = ap (budget_by (is_given_up start (logs_of start es) tx)) live
+          ∙ by (is_given_up start (logs_of start es) tx)
+          ∙ ap (λ b. if b then 1 else one_if (is_some t.asked)) (early_stays t.phase early)
         where
           by : (b : Bool) → budget_by b (Some t) ≡ budget_of t
           by true = refl
           by false = refl
 
       bound : tokens_in tx xs + waiting_all start (logs_of start es) tx ≤ one_if (is_some t.asked)
-      bound = subst (λ n. tokens_in tx xs + waiting_all start (logs_of start es) tx ≤ n) allowed (one_at_a_time start es xs tx run transit)
+      bound = subst (λ n. tokens_in tx xs + waiting_all start (logs_of start es) tx ≤ n) allowed
+          (one_at_a_time start es xs tx run transit)
 
       -- none where nothing is asked
       pub record NoTokens : Type 0 where
@@ -125,7 +134,9 @@ module _ (tx : TxId) (key : List ℕ) where
         → is_given_up start (logs_of start es) tx ≡ false → NoneAtAll xs
     none_live xs transit none kept =
         let zero_is : budget start (logs_of start es) tx ≡ 0 = λ i. budget_by (kept i) (none i) in
-        let bound : tokens_in tx xs + waiting_all start (logs_of start es) tx ≤ 0 = subst (λ n. tokens_in tx xs + waiting_all start (logs_of start es) tx ≤ n) zero_is (one_at_a_time start es xs tx run transit) in
+        let bound : tokens_in tx xs + waiting_all start (logs_of start es) tx
+        ≤ 0 = subst (λ n. tokens_in tx xs + waiting_all start (logs_of start es) tx ≤ n) zero_is
+        (one_at_a_time start es xs tx run transit) in
         record {
           signals = none_passes (λ (x : Addressed). is_token tx x.signal.body) xs (omega (arith, bound));
           waits = none_wait (omega (arith, bound));

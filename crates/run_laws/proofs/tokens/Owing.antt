@@ -61,7 +61,8 @@ module _ (start : Start) (es : List HostStep) (e : HostStep) (key : List ℕ) (c
   expires_owed None = tt
   expires_owed (Some wait) = owed_if wait.1 _ (λ own. tt)
 
-  asked : (tx : TxId) (w : RowWork) (chain : List Member) (at : ℕ) (refused : Bool) → e.step.taken.body ≡ body.Chain (LqhKeyReq tx w chain at) → work_key w ≡ key
+  asked : (tx : TxId) (w : RowWork) (chain : List Member) (at : ℕ) (refused : Bool)
+      → e.step.taken.body ≡ body.Chain (LqhKeyReq tx w chain at) → work_key w ≡ key
       → Owed (asks (record { tx = tx; work = w; chain = chain; at = at }) refused)
   asked tx w chain at refused is own =
       let parts = requests_are_for_replicas start es e tx w chain at come is in
@@ -71,11 +72,16 @@ module _ (start : Start) (es : List HostStep) (e : HostStep) (key : List ℕ) (c
           operation = λ here. parts.0 (here ∙ ap (primary_host start) (sym own));
           image = λ off. parts.1 (λ here. off (here ∙ ap (primary_host start) own));
         },
-        (none_wait_beside start es e tx key e.host come plain token, comers_are_undecided start es e tx come plain token),
+        (
+          none_wait_beside start es e tx key e.host come plain token,
+          comers_are_undecided start es e tx come plain token,
+        ),
       )
 
-  committed : (tx : TxId) (epoch : ℕ) (chain : List Member) (at : ℕ) → e.step.taken.body ≡ body.Chain (Commit tx key epoch chain at) → Owed (commits tx (at == 0))
-  committed tx epoch chain at is = by (at == 0) refl (commits_are_of_carried_out start es e tx key epoch chain at come is)
+  committed : (tx : TxId) (epoch : ℕ) (chain : List Member) (at : ℕ)
+      → e.step.taken.body ≡ body.Chain (Commit tx key epoch chain at) → Owed (commits tx (at == 0))
+  committed tx epoch chain at is =
+      by (at == 0) refl (commits_are_of_carried_out start es e tx key epoch chain at come is)
     where
       here : (e.host == primary_host start key) ≡ (at == 0)
       here = sym (commits_end_at_primary start es e tx key epoch chain at come is)
@@ -86,7 +92,13 @@ module _ (start : Start) (es : List HostStep) (e : HostStep) (key : List ℕ) (c
       by : (b : Bool) → (at == 0) ≡ b → is_carried_out start (logs_of start es) tx ≡ true → Owed (commits tx b)
       by true at_first out = (
         eqb-true e.host (primary_host start key) (here ∙ at_first),
-        (none_wait_where_carried_out start es tx key e.host come.before out, record { decided = commits_are_decided start es e tx key epoch chain at come is; carried = out }),
+        (
+          none_wait_where_carried_out start es tx key e.host come.before out,
+          record {
+            decided = commits_are_decided start es e tx key epoch chain at come is;
+            carried = out;
+          },
+        ),
       )
       by false later out = (
         (λ same. true≢false (sym (equal e.host (primary_host start key) same) ∙ (here ∙ later))),
@@ -94,14 +106,19 @@ module _ (start : Start) (es : List HostStep) (e : HostStep) (key : List ℕ) (c
       )
 
   at_block : (s : LqhState) (at_one : BlockId) (b : Body) → e.step.taken.body ≡ b → Owed (event_for key s at_one b)
-  at_block s Lqh (body.Chain (LqhKeyReq tx w chain at)) is = owed_if (work_key w) _ (asked tx w chain at (is_refused (storage_of s) (record { tx = tx; work = w; chain = chain; at = at })) is)
+  at_block s Lqh (body.Chain (LqhKeyReq tx w chain at)) is = owed_if (work_key w) _
+      (asked tx w chain at (is_refused (storage_of s) (record { tx = tx; work = w; chain = chain; at = at })) is)
   at_block s Lqh (body.Host (Continue Granted at)) is = served s (first (is_granted s.locks) s.waiting)
   at_block s Lqh (body.Chain (Commit tx own epoch chain at)) is =
       owed_if own _ (λ same. committed tx epoch chain at (is ∙ ap (λ k. body.Chain (Commit tx k epoch chain at)) same))
   at_block s Lqh (body.Chain (Complete tx own chain at)) is =
-      owed_if own _ (λ same. let now = is ∙ ap (λ k. body.Chain (Complete tx k chain at)) same in
-      (none_wait_where_carried_out start es tx key e.host come.before (completions_are_of_carried_out start es e tx key chain at come now), completions_follow_commits start es e tx key chain at come now))
-  at_block s Lqh (body.Chain (Abort tx own)) is = owed_if own _ (λ same. aborts_are_of_given_up start es e tx own come is)
+      owed_if own _ (λ same. let now = is ∙ ap (λ k. body.Chain (Complete tx k chain at)) same in (
+        none_wait_where_carried_out start es tx key e.host come.before
+            (completions_are_of_carried_out start es e tx key chain at come now),
+        completions_follow_commits start es e tx key chain at come now,
+      ))
+  at_block s Lqh (body.Chain (Abort tx own)) is =
+      owed_if own _ (λ same. aborts_are_of_given_up start es e tx own come is)
   at_block s Lqh (body.Host Round) is = tt
   at_block s Lqh (body.Host (Continue Expired at)) is = expires_owed (expired s.locks)
   at_block s Lqh _ is = tt

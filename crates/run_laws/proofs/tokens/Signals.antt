@@ -49,9 +49,12 @@ is_home tx to = is_tc to.block && nat_eq to.node tx.tc
 
 -- such a signal of this transaction, on this key
 abbrev pub token_of : TxId → List ℕ → Place → Body → Option Token
-token_of tx key to (Chain (LqhKeyReq v work chain at)) = if is_rows to.block && (same_tx v tx && same_key (work_key work) key) then Some (performs work at) else None
-token_of tx key to (Chain (LqhKeyConf v own answer)) = if is_home v to && (same_tx v tx && same_key own key) then Some (answers answer) else None
-token_of tx key to (Chain (LqhKeyRef v own cause)) = if is_home v to && (same_tx v tx && same_key own key) then Some refuses else None
+token_of tx key to (Chain (LqhKeyReq v work chain at)) =
+    if is_rows to.block && (same_tx v tx && same_key (work_key work) key) then Some (performs work at) else None
+token_of tx key to (Chain (LqhKeyConf v own answer)) =
+    if is_home v to && (same_tx v tx && same_key own key) then Some (answers answer) else None
+token_of tx key to (Chain (LqhKeyRef v own cause)) =
+    if is_home v to && (same_tx v tx && same_key own key) then Some refuses else None
 token_of tx key to body = None
 
 abbrev pub put : Option Token → List Token → List Token
@@ -77,7 +80,8 @@ operated_token op chain at refused Done = stored_token (key_of op) (image_of op)
 operated_token op chain at refused answer = answers answer
 
 abbrev pub work_token : Cell → TxId → List Member → ℕ → Bool → RowWork → Token
-work_token c tx chain at refused (Operate op) = operated_token op chain at refused (answer_to op (seen_by c.row (found tx c.pending)))
+work_token c tx chain at refused (Operate op) =
+    operated_token op chain at refused (answer_to op (seen_by c.row (found tx c.pending)))
 work_token c tx chain at refused (Store key image) = stored_token key image chain at refused
 
 -- what a request that is performed sends
@@ -107,16 +111,20 @@ event_tokens tx (expires v) r = if_by tx v refuses
 event_tokens tx (ages wait) r = expired_tokens tx wait
 event_tokens tx event r = []
 
-pub tokens-append : (tx : TxId) (key : List ℕ) (xs ys : List Outgoing) → tokens_of tx key (xs ++ ys) ≡ tokens_of tx key xs ++ tokens_of tx key ys
+pub tokens-append : (tx : TxId) (key : List ℕ) (xs ys : List Outgoing)
+    → tokens_of tx key (xs ++ ys) ≡ tokens_of tx key xs ++ tokens_of tx key ys
 tokens-append tx key [] ys = refl
-tokens-append tx key (x ∷ xs) ys = ap (put (token_of tx key x.to x.body)) (tokens-append tx key xs ys) ∙ by (token_of tx key x.to x.body)
+tokens-append tx key (x ∷ xs) ys =
+    ap (put (token_of tx key x.to x.body)) (tokens-append tx key xs ys) ∙ by (token_of tx key x.to x.body)
   where
-    by : (o : Option Token) → put o (tokens_of tx key xs ++ tokens_of tx key ys) ≡ put o (tokens_of tx key xs) ++ tokens_of tx key ys
+    by : (o : Option Token)
+        → put o (tokens_of tx key xs ++ tokens_of tx key ys) ≡ put o (tokens_of tx key xs) ++ tokens_of tx key ys
     by None = refl
     by (Some t) = refl
 
 -- one signal
-pub put_if : (b : Bool) (t : Token) (rest : List Token) → put (if b then Some t else None) rest ≡ (if b then t ∷ rest else rest)
+pub put_if : (b : Bool) (t : Token) (rest : List Token)
+    → put (if b then Some t else None) rest ≡ (if b then t ∷ rest else rest)
 put_if true t rest = refl
 put_if false t rest = refl
 
@@ -124,7 +132,8 @@ put_if false t rest = refl
 pub home_is : (tx : TxId) → is_home tx (coordinator_of tx) ≡ true
 home_is tx = nat_eq_equiv.refl tx.tc
 
-pub put_home : (v : TxId) (b : Bool) (t : Token) (rest : List Token) → put (if is_home v (coordinator_of v) && b then Some t else None) rest ≡ (if b then t ∷ rest else rest)
+pub put_home : (v : TxId) (b : Bool) (t : Token) (rest : List Token)
+    → put (if is_home v (coordinator_of v) && b then Some t else None) rest ≡ (if b then t ∷ rest else rest)
 put_home v b t rest = ap (λ h. put (if h && b then Some t else None) rest) (home_is v) ∙ put_if b t rest
 
 -- a token is given by its signal

@@ -22,7 +22,8 @@ chosen p [] = []
 chosen p (x ∷ xs) = if p x then x ∷ chosen p xs else chosen p xs
 
 -- one that fails is left out anyway
-pub chosen_without : {A : Type 0} (p : A → Bool) (front : List A) (x : A) (back : List A) → p x ≡ false → chosen p (front ++ x ∷ back) ≡ chosen p (front ++ back)
+pub chosen_without : {A : Type 0} (p : A → Bool) (front : List A) (x : A) (back : List A) → p x ≡ false
+    → chosen p (front ++ x ∷ back) ≡ chosen p (front ++ back)
 chosen_without p [] x back fails = if_false (x ∷ chosen p back) (chosen p back) fails
 chosen_without p (y ∷ front) x back fails = ap (λ w. if p y then y ∷ w else w) (chosen_without p front x back fails)
 
@@ -33,14 +34,21 @@ pub record IsLast {A : Type 0} (p : A → Bool) (xs newer : List A) (x : A) : Ty
   pub is : xs ≡ front ++ x ∷ back
   pub left : chosen p (front ++ back) ≡ newer
 
-pub last_chosen : {A : Type 0} (p : A → Bool) (xs newer : List A) (x : A) → chosen p xs ≡ newer ++ x ∷ [] → IsLast p xs newer x
+pub last_chosen : {A : Type 0} (p : A → Bool) (xs newer : List A) (x : A) → chosen p xs ≡ newer ++ x ∷ []
+    → IsLast p xs newer x
 last_chosen p [] [] x is = absurd cc
 last_chosen p [] (n ∷ newer) x is = absurd cc
 last_chosen {A} p (y ∷ ys) newer x is = by (p y) refl newer is (last_chosen p ys)
   where
-    behind : (rest now : List A) → IsLast p ys rest x → ((zs : List A) → chosen p zs ≡ rest → chosen p (y ∷ zs) ≡ now) → IsLast p (y ∷ ys) now x
+    behind : (rest now : List A) → IsLast p ys rest x → ((zs : List A) → chosen p zs ≡ rest → chosen p (y ∷ zs) ≡ now)
+        → IsLast p (y ∷ ys) now x
     behind rest now more with_first =
-        record { front = y ∷ more.front; back = more.back; is = ap (λ w. y ∷ w) more.is; left = with_first (more.front ++ more.back) more.left }
+        record {
+          front = y ∷ more.front;
+          back = more.back;
+          is = ap (λ w. y ∷ w) more.is;
+          left = with_first (more.front ++ more.back) more.left;
+        }
 
     by : (b : Bool) → p y ≡ b → (now : List A) → (if b then y ∷ chosen p ys else chosen p ys) ≡ now ++ x ∷ []
         → ((rest : List A) (z : A) → chosen p ys ≡ rest ++ z ∷ [] → IsLast p ys rest z) → IsLast p (y ∷ ys) now x
@@ -67,14 +75,18 @@ and_false false b off = refl
 module _ (start : Start) where
   -- what is in transit on each link was sent on it behind what was taken
   pub record HaveLinks (logs : ℕ → List HostStep) (xs : List Addressed) : Type 0 where
-    pub links : (i j : ℕ) → sent (machine start) i j (logs i) ≡ chosen (is_on i j) xs ++ taken (machine start) i (logs j)
+    pub links : (i j : ℕ)
+        → sent (machine start) i j (logs i) ≡ chosen (is_on i j) xs ++ taken (machine start) i (logs j)
 
-  put_behind : (j : ℕ) (sends xs ys : List Addressed) → put (machine start) j sends (xs ++ ys) ≡ put (machine start) j sends xs ++ ys
+  put_behind : (j : ℕ) (sends xs ys : List Addressed)
+      → put (machine start) j sends (xs ++ ys) ≡ put (machine start) j sends xs ++ ys
   put_behind j [] xs ys = refl
   put_behind j (x ∷ sends) xs ys = by (x.to == j) (put_behind j sends (x ∷ xs) ys) (put_behind j sends xs ys)
     where
-      by : (b : Bool) → put (machine start) j sends (x ∷ (xs ++ ys)) ≡ put (machine start) j sends (x ∷ xs) ++ ys → put (machine start) j sends (xs ++ ys) ≡ put (machine start) j sends xs ++ ys
-          → put (machine start) j sends (if b then x ∷ (xs ++ ys) else xs ++ ys) ≡ put (machine start) j sends (if b then x ∷ xs else xs) ++ ys
+      by : (b : Bool) → put (machine start) j sends (x ∷ (xs ++ ys)) ≡ put (machine start) j sends (x ∷ xs) ++ ys
+          → put (machine start) j sends (xs ++ ys) ≡ put (machine start) j sends xs ++ ys
+          → put (machine start) j sends (if b then x ∷ (xs ++ ys) else xs ++ ys)
+          ≡ put (machine start) j sends (if b then x ∷ xs else xs) ++ ys
       by true one other = one
       by false one other = other
 
@@ -84,24 +96,31 @@ module _ (start : Start) where
   joined_own h j [] xs own = refl
   joined_own h j (x ∷ sends) xs own =
       joined_own h j sends (x ∷ xs) own.1
-      ∙ ap (λ b. put (machine start) j sends (if b && (x.to == j) then x ∷ chosen (is_on h j) xs else chosen (is_on h j) xs)) (eq-eqb x.signal.from.0 h own.0)
+      ∙ ap (λ b. put (machine start) j sends (if b && (x.to == j) then x ∷ chosen (is_on h j) xs else chosen (is_on h j)
+      xs)) (eq-eqb x.signal.from.0 h own.0)
 
-  joined_other : (h i j : ℕ) (sends xs : List Addressed) → h ≢ i → Each (λ (x : Addressed). x.signal.from.0 ≡ h) sends → chosen (is_on i j) (joined sends xs) ≡ chosen (is_on i j) xs
+  joined_other : (h i j : ℕ) (sends xs : List Addressed) → h ≢ i → Each (λ (x : Addressed). x.signal.from.0 ≡ h) sends
+      → chosen (is_on i j) (joined sends xs) ≡ chosen (is_on i j) xs
   joined_other h i j [] xs differs own = refl
   joined_other h i j (x ∷ sends) xs differs own =
       joined_other h i j sends (x ∷ xs) differs own.1
-      ∙ ap (λ b. if b && (x.to == j) then x ∷ chosen (is_on i j) xs else chosen (is_on i j) xs) (ne_eqb x.signal.from.0 i (λ is. differs (sym own.0 ∙ is)))
+      ∙ ap (λ b. if b && (x.to == j) then x ∷ chosen (is_on i j) xs else chosen (is_on i j) xs)
+      (ne_eqb x.signal.from.0 i (λ is. differs (sym own.0 ∙ is)))
 
-  headed_from : (who : Membership) (h stamp : ℕ) (count : ℕ → ℕ) (sends : List Outgoing) → Each (λ (x : Addressed). x.signal.from.0 ≡ h) (all_addressed who h stamp count sends)
+  headed_from : (who : Membership) (h stamp : ℕ) (count : ℕ → ℕ) (sends : List Outgoing)
+      → Each (λ (x : Addressed). x.signal.from.0 ≡ h) (all_addressed who h stamp count sends)
   headed_from who h stamp count [] = tt
   headed_from who h stamp count (o ∷ more) = (refl, headed_from who h stamp (counted (receiver who o.to) count) more)
 
   -- the part of a step that takes
   record IsBetween (es : List HostStep) (e : HostStep) (before between : List Addressed) : Type 0 where
     takes : Takes e before between
-    links : (i j : ℕ) → sent (machine start) i j (logs_of start es i) ≡ chosen (is_on i j) between ++ taken (machine start) i (logs_of start (e ∷ es) j)
+    links : (i j : ℕ)
+        → sent (machine start) i j (logs_of start es i)
+        ≡ chosen (is_on i j) between ++ taken (machine start) i (logs_of start (e ∷ es) j)
 
-  module _ (es : List HostStep) (e : HostStep) (come : Comes start es e) (before : List Addressed) (held : HaveLinks (logs_of start es) before) where
+  module _ (es : List HostStep) (e : HostStep) (come : Comes start es e) (before : List Addressed)
+      (held : HaveLinks (logs_of start es) before) where
     abbrev h : ℕ
     h = e.host
 
@@ -115,17 +134,23 @@ module _ (start : Start) where
     own_now = log_of-own (machine start) e es h refl
 
     -- what a host took from a link that the step took nothing from
-    taken_same : (i j : ℕ) → (h ≡ j → taken (machine start) i (e ∷ old h) ≡ taken (machine start) i (old h)) → taken (machine start) i (now j) ≡ taken (machine start) i (old j)
+    taken_same : (i j : ℕ) → (h ≡ j → taken (machine start) i (e ∷ old h) ≡ taken (machine start) i (old h))
+        → taken (machine start) i (now j) ≡ taken (machine start) i (old j)
     taken_same i j none = by (cases_eq h j)
       where
         by : (h ≡ j) ⊎ (h ≢ j) → taken (machine start) i (now j) ≡ taken (machine start) i (old j)
-        by (inl at) = subst (λ k. taken (machine start) i (now k) ≡ taken (machine start) i (old k)) at (ap (taken (machine start) i) own_now ∙ none at)
+        by (inl at) = subst (λ k. taken (machine start) i (now k) ≡ taken (machine start) i (old k)) at
+            (ap (taken (machine start) i) own_now ∙ none at)
         by (inr off) = ap (taken (machine start) i) (log_of-other (machine start) e es j off)
 
     asks : is_request e.step.taken.body ≡ true → IsBetween es e before before
     asks request = record {
-      takes = record { request = λ is. refl; signal = λ off. absurd (let both : true ≡ false = sym request ∙ off in cc) };
-      links = λ i j. held.links i j ∙ ap (λ w. chosen (is_on i j) before ++ w) (sym (taken_same i j (λ at. taken-asked (machine start) i e (old h) request)));
+      takes = record {
+        request = λ is. refl;
+        signal = λ off. absurd (let both : true ≡ false = sym request ∙ off in cc);
+      };
+      links = λ i j. held.links i j ∙ ap (λ w. chosen (is_on i j) before ++ w)
+          (sym (taken_same i j (λ at. taken-asked (machine start) i e (old h) request)));
     }
 
     abbrev from : ℕ
@@ -134,39 +159,55 @@ module _ (start : Start) where
     -- the signal is the oldest on its link
     module _ (signal : is_request e.step.taken.body ≡ false) where
       given : IsPast (taken_by e ∷ taken (machine start) from (old h)) (sent (machine start) from h (old from))
-      given = given_past start from h (old from) (taken_by e ∷ taken (machine start) from (old h)) (come.happens.takes signal)
+      given = given_past start from h (old from) (taken_by e ∷ taken (machine start) from (old h))
+          (come.happens.takes signal)
 
       oldest : chosen (is_on from h) before ≡ given.newer ++ taken_by e ∷ []
       oldest =
-          append_cancel_right (chosen (is_on from h) before) (given.newer ++ taken_by e ∷ []) (taken (machine start) from (old h))
-          (sym (held.links from h) ∙ (given.is ∙ sym (append_assoc given.newer (taken_by e ∷ []) (taken (machine start) from (old h)))))
+          append_cancel_right (chosen (is_on from h) before) (given.newer ++ taken_by e ∷ [])
+          (taken (machine start) from (old h))
+          (sym (held.links from h) ∙ (given.is ∙ sym (append_assoc given.newer (taken_by e ∷ [])
+          (taken (machine start) from (old h)))))
 
       found : IsLast (is_on from h) before given.newer (taken_by e)
       found = last_chosen (is_on from h) before given.newer (taken_by e) oldest
 
-      links_off : (i j : ℕ) → is_on i j (taken_by e) ≡ false → taken (machine start) i (now j) ≡ taken (machine start) i (old j)
-          → sent (machine start) i j (old i) ≡ chosen (is_on i j) (found.front ++ found.back) ++ taken (machine start) i (now j)
+      links_off : (i j : ℕ) → is_on i j (taken_by e) ≡ false
+          → taken (machine start) i (now j) ≡ taken (machine start) i (old j)
+          → sent (machine start) i j (old i)
+          ≡ chosen (is_on i j) (found.front ++ found.back) ++ taken (machine start) i (now j)
       links_off i j off same =
           held.links i j
           ∙ (ap (λ w. chosen (is_on i j) w ++ taken (machine start) i (old j)) found.is
-          ∙ (ap (λ w. w ++ taken (machine start) i (old j)) (chosen_without (is_on i j) found.front (taken_by e) found.back off)
+          ∙ (ap (λ w. w ++ taken (machine start) i (old j)) (chosen_without (is_on i j) found.front (taken_by e)
+          found.back off)
           ∙ ap (λ w. chosen (is_on i j) (found.front ++ found.back) ++ w) (sym same)))
 
-      links_on : sent (machine start) from h (old from) ≡ chosen (is_on from h) (found.front ++ found.back) ++ taken (machine start) from (now h)
+      links_on : sent (machine start) from h (old from)
+          ≡ chosen (is_on from h) (found.front ++ found.back) ++ taken (machine start) from (now h)
       links_on =
           given.is
           ∙ (ap (λ w. w ++ (taken_by e ∷ taken (machine start) from (old h))) (sym found.left)
-          ∙ ap (λ w. chosen (is_on from h) (found.front ++ found.back) ++ w) (sym (ap (taken (machine start) from) own_now ∙ taken-step (machine start) from e (old h) signal refl)))
+          ∙ ap (λ w. chosen (is_on from h) (found.front ++ found.back) ++ w)
+          (sym (ap (taken (machine start) from) own_now ∙ taken-step (machine start) from e (old h) signal refl)))
 
-      links_between : (i j : ℕ) → sent (machine start) i j (old i) ≡ chosen (is_on i j) (found.front ++ found.back) ++ taken (machine start) i (now j)
+      links_between : (i j : ℕ)
+          → sent (machine start) i j (old i)
+          ≡ chosen (is_on i j) (found.front ++ found.back) ++ taken (machine start) i (now j)
       links_between i j = by (cases_eq from i) (cases_eq h j)
         where
-          by : (from ≡ i) ⊎ (from ≢ i) → (h ≡ j) ⊎ (h ≢ j) → sent (machine start) i j (old i) ≡ chosen (is_on i j) (found.front ++ found.back) ++ taken (machine start) i (now j)
+          by : (from ≡ i) ⊎ (from ≢ i) → (h ≡ j) ⊎ (h ≢ j)
+              → sent (machine start) i j (old i)
+              ≡ chosen (is_on i j) (found.front ++ found.back) ++ taken (machine start) i (now j)
           by (inl is) (inl at) =
-              subst (λ k. sent (machine start) i k (old i) ≡ chosen (is_on i k) (found.front ++ found.back) ++ taken (machine start) i (now k)) at
-              (subst (λ k. sent (machine start) k h (old k) ≡ chosen (is_on k h) (found.front ++ found.back) ++ taken (machine start) k (now h)) is links_on)
-          by (inl is) (inr off) = links_off i j (and_false (from == i) (h == j) (ne_eqb h j off)) (taken_same i j (λ at. absurd (off at)))
-          by (inr off) there = links_off i j (ap (λ b. b && (h == j)) (ne_eqb from i off)) (taken_same i j (λ at. taken-other (machine start) i e (old h) off))
+              subst (λ k. sent (machine start) i k (old i) ≡ chosen (is_on i k) (found.front ++ found.back) ++ taken
+              (machine start) i (now k)) at
+              (subst (λ k. sent (machine start) k h (old k) ≡ chosen (is_on k h) (found.front ++ found.back) ++ taken
+              (machine start) k (now h)) is links_on)
+          by (inl is) (inr off) =
+              links_off i j (and_false (from == i) (h == j) (ne_eqb h j off)) (taken_same i j (λ at. absurd (off at)))
+          by (inr off) there = links_off i j (ap (λ b. b && (h == j)) (ne_eqb from i off))
+              (taken_same i j (λ at. taken-other (machine start) i e (old h) off))
 
       gives : IsBetween es e before (found.front ++ found.back)
       gives = record {
@@ -181,20 +222,26 @@ module _ (start : Start) where
     sends = signals_of start h (old h) e
 
     from_here : Each (λ (x : Addressed). x.signal.from.0 ≡ h) sends
-    from_here = headed_from (first_membership start) h e.step.stamp (sent_count start h (old h)) (step_after start h (old h) e).effects.sends
+    from_here = headed_from (first_membership start) h e.step.stamp (sent_count start h (old h))
+        (step_after start h (old h) e).effects.sends
 
     sends_join : (between : List Addressed) → IsBetween es e before between → HaveLinks now (joined sends between)
     sends_join between is = record { links = λ i j. by i j (cases_eq h i) }
       where
-        own : (j : ℕ) → sent (machine start) h j (now h) ≡ chosen (is_on h j) (joined sends between) ++ taken (machine start) h (now j)
+        own : (j : ℕ)
+            → sent (machine start) h j (now h)
+            ≡ chosen (is_on h j) (joined sends between) ++ taken (machine start) h (now j)
         own j =
             ap (sent (machine start) h j) own_now
             ∙ (ap (put (machine start) j sends) (is.links h j)
             ∙ (put_behind j sends (chosen (is_on h j) between) (taken (machine start) h (now j))
             ∙ ap (λ w. w ++ taken (machine start) h (now j)) (sym (joined_own h j sends between from_here))))
 
-        by : (i j : ℕ) → (h ≡ i) ⊎ (h ≢ i) → sent (machine start) i j (now i) ≡ chosen (is_on i j) (joined sends between) ++ taken (machine start) i (now j)
-        by i j (inl at) = subst (λ k. sent (machine start) k j (now k) ≡ chosen (is_on k j) (joined sends between) ++ taken (machine start) k (now j)) at (own j)
+        by : (i j : ℕ) → (h ≡ i) ⊎ (h ≢ i)
+            → sent (machine start) i j (now i)
+            ≡ chosen (is_on i j) (joined sends between) ++ taken (machine start) i (now j)
+        by i j (inl at) = subst (λ k. sent (machine start) k j (now k) ≡ chosen (is_on k j) (joined sends between) ++
+            taken (machine start) k (now j)) at (own j)
         by i j (inr off) =
             ap (sent (machine start) i j) (log_of-other (machine start) e es i off)
             ∙ (is.links i j
@@ -206,7 +253,8 @@ module _ (start : Start) where
     pub transit : AreInTransit start es xs
     pub links : HaveLinks (logs_of start es) xs
 
-  passes : (es : List HostStep) (e : HostStep) → Comes start es e → (was : HasTransit es) → (between : List Addressed) → IsBetween es e was.xs between → HasTransit (e ∷ es)
+  passes : (es : List HostStep) (e : HostStep) → Comes start es e → (was : HasTransit es) → (between : List Addressed)
+      → IsBetween es e was.xs between → HasTransit (e ∷ es)
   passes es e come was between is = record {
     xs = joined (signals_of start e.host (logs_of start es e.host) e) between;
     transit = (was.xs, (was.transit, record { between = between; takes = is.takes; is = refl }));

@@ -17,7 +17,8 @@ earlier start es e now =
     record {
       shape = now.shape;
       run = now.run.0;
-      within = λ h high. let past = log_of-past (machine start) e es h in older_nil past.newer (log_of (machine start) es h) (sym (now.within h high) ∙ past.is);
+      within = λ h high. let past = log_of-past (machine start) e es h in
+          older_nil past.newer (log_of (machine start) es h) (sym (now.within h high) ∙ past.is);
     }
 
 -- an event comes after those before it
@@ -26,10 +27,12 @@ comes start es e now = record { before = earlier start es e now; happens = now.r
 
 -- what holds at first and is kept by each event holds after every run
 pub along_transit : (start : Start) (P : List HostStep → List Addressed → Type 0) → P [] []
-    → ((es : List HostStep) (e : HostStep) (before between : List Addressed) → Comes start es e → AreInTransit start es before → P es before → Takes e before between
+    → ((es : List HostStep) (e : HostStep) (before between : List Addressed) → Comes start es e → AreInTransit start es
+    before → P es before → Takes e before between
     → P (e ∷ es) (joined (signals_of start e.host (logs_of start es e.host) e) between))
     → (es : List HostStep) (xs : List Addressed) → IsRun start es → AreInTransit start es xs → P es xs
 along_transit start P none next [] xs run is = subst (P []) (sym is) none
 along_transit start P none next (e ∷ es) xs run (before, (rest, passes)) =
     subst (P (e ∷ es)) (sym passes.is)
-    (next es e before passes.between (comes start es e run) rest (along_transit start P none next es before (earlier start es e run) rest) passes.takes)
+    (next es e before passes.between (comes start es e run) rest
+    (along_transit start P none next es before (earlier start es e run) rest) passes.takes)

@@ -64,7 +64,8 @@ module _ (shape : Shape) (is_shape : IsShape shape) (b : Ballots) (o : AreOrderl
         → IsPart one other
 
     -- by way of the set before
-    part_by : (high : ℕ) → ShrinkBelow high → (one other before : View) → IsChosen shape b one → one.number < other.number
+    part_by : (high : ℕ) → ShrinkBelow high → (one other before : View) → IsChosen shape b one
+        → one.number < other.number
         → other.number ≤ high → IsNext shape b before other → IsPart one other
     part_by high earlier one other before chosen less below next =
         by (cases_lt one.number before.number) (cases_lt before.number one.number)

@@ -70,7 +70,8 @@ parts_above me layout events (part.Main p) x now has e =
     main_above me layout events p x now x.to.block (cc (has)) e
 parts_above me layout events _ x now has e = absurd cc
 
-pub settled_above : (layout : Layout) (parts : Parts) (view : View) (x : Signal) (now : View) → Follows layout parts view
+pub settled_above : (layout : Layout) (parts : Parts) (view : View) (x : Signal) (now : View)
+    → Follows layout parts view
     → settled_at parts x ≡ Some now → view.number < now.number
 settled_above layout parts view x now (inl none) e = absurd (none_settle parts x now none e)
 settled_above layout parts view x now (inr runs) e =

@@ -72,7 +72,8 @@ part_above start Tc member _ = omega arith
 part_above start Ldm member block.Lqh = omega arith
 part_above start Ldm member _ = omega arith
 
-started_above : (start : Start) (h : ℕ) (at : BlockId) → IsNotBelow (started start h).standing.view (fence_seen at (started start h))
+started_above : (start : Start) (h : ℕ) (at : BlockId)
+    → IsNotBelow (started start h).standing.view (fence_seen at (started start h))
 unfolding started IsNotBelow
 started_above start zero at = omega arith
 started_above start (suc h) at = part_above start (part_by (h % 3)) (member_at (made start) (suc h)) at

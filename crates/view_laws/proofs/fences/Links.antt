@@ -564,5 +564,6 @@ requests_high_past start logs are me there at fenced log before number rank prom
 
 pub requests_are_high : RequestsAreHigh
 requests_are_high start logs are me there at fenced number rank promise many =
-    requests_high_past start logs are me there at fenced (logs (host_of (made start) (part_of at) me)) (past_self _) number
+    requests_high_past start logs are me there at fenced (logs (host_of (made start) (part_of at) me)) (past_self _)
+    number
     rank promise many

@@ -186,4 +186,5 @@ module _ (start : Start) (logs : ℕ → List HostStep) where
             let there : IsIn (m.signal e) (taken m i (e ∷ log)) =
             subst (IsIn (m.signal e)) (sym (taken-step m i e log (host_asked false asked) refl)) (inl refl) in
             subst (λ k. IsPromisedTo k e.step.taken) step.at
-            (given_promised i h (m.signal e) (taken m i (logs h)) (in_past (m.signal e) all there) (are.right.linked i h))
+            (given_promised i h (m.signal e) (taken m i (logs h)) (in_past (m.signal e) all there)
+            (are.right.linked i h))

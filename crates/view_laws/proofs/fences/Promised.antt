@@ -170,7 +170,8 @@ module _ (at : BlockId) where
           let x = e.step.taken in
           let events = events_at (is_block at) h s x in
           let taken = taken_in (events_of (is_block at) start h log) in
-          subst (λ v. IsKept v (fence_seen at (told h (step_by h s x))) (taken_in (events ++ events_of (is_block at) start h log)))
+          subst (λ v. IsKept v (fence_seen at (told h (step_by h s x)))
+          (taken_in (events ++ events_of (is_block at) start h log)))
           (sym (next_goes (is_block at) view_seen to_view (view_is_seen (is_block at)) h s x))
           (subst (λ f. IsKept (along to_view s.standing.view events) f
           (taken_in (events ++ events_of (is_block at) start h log)))

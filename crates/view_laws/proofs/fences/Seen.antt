@@ -35,7 +35,8 @@ abbrev pub fence_or : Option ℕ → ℕ → ℕ
 fence_or None number = number
 fence_or (Some fence) number = fence
 
-pub fence_is : (parts : Parts) (at : BlockId) (number : ℕ) → fence_at parts at number ≡ fence_or (own_fence parts at) number
+pub fence_is : (parts : Parts) (at : BlockId) (number : ℕ)
+    → fence_at parts at number ≡ fence_or (own_fence parts at) number
 fence_is (Tc p) block.Tc number = refl
 fence_is (Tc p) block.Dih number = refl
 fence_is (Tc p) _ number = refl

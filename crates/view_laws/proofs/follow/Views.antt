@@ -71,7 +71,8 @@ view_moves h s x =
     (steps_views is_membership s.parts s.standing.view x (events_at is_membership h s x) (steps_as is_membership h s x))
 
 -- a host without a membership settles on none
-pub none_settle : (parts : Parts) (x : Signal) (view : View) → membership_in parts ≡ None → settled_at parts x ≡ Some view
+pub none_settle : (parts : Parts) (x : Signal) (view : View) → membership_in parts ≡ None
+    → settled_at parts x ≡ Some view
     → ⊥
 none_settle (Main p) x view none e = absurd cc
 none_settle (Shell p) x view none e = absurd cc

@@ -93,7 +93,8 @@ no_grant shape (promotes member) set e whole = whole
 no_grant shape (joins member) set e whole = absurd cc
 
 -- an installation leaves the outstanding proposal, or has none
-pub left_outstanding : (k : Known) (view : View) → (installed_row k view).state.outstanding ≡ left_open view k.outstanding
+pub left_outstanding : (k : Known) (view : View)
+    → (installed_row k view).state.outstanding ≡ left_open view k.outstanding
 unfolding installed_row installing
 left_outstanding k view = (closed_like _).outstanding
 

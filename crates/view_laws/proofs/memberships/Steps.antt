@@ -1,4 +1,5 @@
--- What a signal, or an installation, changes of a membership: its last promise, its proposals, and what waits for fences.
+-- What a signal, or an installation, changes of a membership: its last promise, its proposals, and what waits for
+-- fences.
 use Rattle.std.proofs.Common.{◌≡◌, ◌≤◌, ◌<◌, ◌⊎◌, ℕ, zero, suc, Bool, true, false, nat_lt, List, [], ◌∷◌, ◌++◌, take, drop, slice_set, refl, sym, subst, ◌∙◌, arith, inl, inr, ap}
 use Rattle.std.proofs.lemmas.Bool.{and_parts, ltb-true}
 use Rattle.std.specs.Prelude.{if◌then◌else◌, Option, None, Some, slice_get}

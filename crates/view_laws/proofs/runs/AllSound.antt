@@ -33,7 +33,8 @@ module _ (start : Start) (is_shape : IsShape start.shape) where
   next : (es : List HostStep) (e : HostStep) → IsNext es e → AreSound (log_of (machine start) (e ∷ es))
   next es e come within =
       let before = within_less start e es within in
-      sound_next start is_shape es e within come.happens.step.fits (come.all.law before) (λ asked. come.told asked before)
+      sound_next start is_shape es e within come.happens.step.fits (come.all.law before)
+      (λ asked. come.told asked before)
 
   sends_next : (es : List HostStep) (e : HostStep) → IsNext es e
       → Each (λ x. IsTrueIn x (log_of (machine start) (e ∷ es)))
@@ -53,7 +54,8 @@ module _ (start : Start) (is_shape : IsShape start.shape) where
       all_within [] all = tt
       all_within (x ∷ xs) all = (λ within. (all within).0, all_within xs (λ within. (all within).1))
 
-  -- the closing of a host that has stopped has the view in which it stands or that of the signal that it took, and is no
+  -- the closing of a host that has stopped has the view in which it stands or that of the signal that it took, and is
+  -- no
   -- vote
   closing_next : (es : List HostStep) (e : HostStep) → IsNext es e → (j : ℕ)
       → IsTrueIn (closing start e.host (log_of (machine start) es e.host) e j) (log_of (machine start) (e ∷ es))
@@ -66,7 +68,8 @@ module _ (start : Start) (is_shape : IsShape start.shape) where
             of_greater (IsGood start new) (view_after start e.host (e ∷ old)) e.step.taken.view
             (subst (λ log. IsGood start new (view_after start e.host log)) (log_of-own (machine start) e es e.host refl)
             ((next es e come within).views e.host (host_there start e es within)))
-            (true_view start is_shape es e within come.happens.step.fits (come.all.law before) (λ asked. come.told asked before));
+            (true_view start is_shape es e within come.happens.step.fits (come.all.law before)
+            (λ asked. come.told asked before));
         says = λ me there at. tt;
         asks = λ at. tt;
       }

@@ -48,7 +48,8 @@ own_first me base set shrinks none plain made own = own
 own_first me base set (joins member) none plain made own = absurd cc
 own_first me base set (promotes member) none plain made own = absurd (subst (IsIn member) none made.allowed)
 
-first_is : (me other : Member) (full : List Member) → oldest full ≡ Some me → is_oldest_of other full ≡ true → other ≡ me
+first_is : (me other : Member) (full : List Member) → oldest full ≡ Some me → is_oldest_of other full ≡ true
+    → other ≡ me
 first_is me other [] own is = absurd (true≢false (sym is))
 first_is me other (member ∷ members) own is = same_is other member is ∙ cc own
 
@@ -69,7 +70,8 @@ settled_oldest start logs is_shape me events sound x view at other is =
     (own_first me p.base p.set p.change own.base.of.none own.plain own.right.made own.right.own)
     (subst (λ (v : View). is_oldest_of other v.full ≡ true) (sym settled.of.is) is)
 
--- Behind a step a host stands in the view in which it stood, or in that of the signal's header, or it runs the membership
+-- Behind a step a host stands in the view in which it stood, or in that of the signal's header, or it runs the
+-- membership
 -- of the oldest member of its view.
 abbrev pub ViewsComeRightly : Type 0
 ViewsComeRightly =
@@ -81,7 +83,8 @@ ViewsComeRightly =
     → main_of start me ≡ h))
 
 module _ (start : Start) (logs : ℕ → List HostStep) (are : AreOfCluster start logs) (me : Member)
-    (there : IsIn me (made start)) (log : List HostStep) (e : HostStep) (past : IsPast (e ∷ log) (logs (main_of start me)))
+    (there : IsIn me (made start)) (log : List HostStep) (e : HostStep)
+    (past : IsPast (e ∷ log) (logs (main_of start me)))
   where
     abbrev pub older : List Event
     older = events_of is_membership start (main_of start me) log
@@ -124,7 +127,8 @@ module _ (start : Start) (logs : ℕ → List HostStep) (are : AreOfCluster star
     abbrev pub Right : View → Type 0
     Right view = (view ≡ view_in older) ⊎ ((view ≡ e.step.taken.view) ⊎ IsOld view)
 
-    events_right : MembershipSteps (membership_of start me log) (membership_of start me log).known.layout.view e.step.taken new
+    events_right : MembershipSteps (membership_of start me log) (membership_of start me log).known.layout.view
+        e.step.taken new
         → Right (view_in (new ++ older))
     events_right (taken_plain taken) = by (takes_right older new taken sound)
       where

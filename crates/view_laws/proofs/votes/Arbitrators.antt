@@ -90,7 +90,8 @@ abbrev pub ArbitersTell : Type 0
 ArbitersTell =
     (start : Start) (log : List HostStep) (e : HostStep)
     → Each (λ sent. is_told sent.body ≡ true → IsSentByArbiter (members start.shape.nodes)
-    (taken_in (events_at is_arbiter 0 (after start 0 log) e.step.taken)) (taken_in (events_of is_arbiter start 0 log)) sent)
+    (taken_in (events_at is_arbiter 0 (after start 0 log) e.step.taken)) (taken_in (events_of is_arbiter start 0 log))
+    sent)
     (step_after start 0 log e).effects.sends
 
 pub arbiters_tell : ArbitersFollowTheirSignals → ArbitersTell
