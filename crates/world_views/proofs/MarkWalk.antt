@@ -39,7 +39,7 @@ module _ (P : Mark → Type 0) where
         → IsMarked x (parts_entered s.parts x.view).state
 
   -- whatever is sent
-  AnySent : Outgoing → Type 0
+  abbrev AnySent : Outgoing → Type 0
   AnySent sent = Unit {0}
 
   marking : {S : Type 0} (step : Step S) → Each P step.effects.marks → Does AnySent P step

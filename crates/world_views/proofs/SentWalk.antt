@@ -34,7 +34,7 @@ module _ (P : Outgoing → Type 0) where
         → IsSent x (parts_entered s.parts x.view).state
 
   -- whatever is marked
-  AnyMark : Mark → Type 0
+  abbrev AnyMark : Mark → Type 0
   AnyMark mark = Unit {0}
 
   sending : {S : Type 0} (step : Step S) → Each P step.effects.sends → Does P AnyMark step
