@@ -1,4 +1,4 @@
 pub mod known
 pub mod lives
 pub mod places
-pub mod steps
+pub mod plain_steps

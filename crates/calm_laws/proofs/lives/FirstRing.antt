@@ -21,7 +21,7 @@ use Rattle.qmgr_block.specs.Sets.{members_of, same_member}
 use Rattle.world_core.proofs.HostNumbers.{main_host, members_at, members_length, node_host}
 use Rattle.world_core.specs.Hosts.{member_at}
 use Rattle.world_core.specs.Start.{Start, made}
-use Rattle.calm_laws.proofs.steps.Resting.{ring}
+use Rattle.calm_laws.proofs.plain_steps.Resting.{ring}
 
 -- a member is itself, and no other
 pub same_self : (member : Member) → same_member member member ≡ true

@@ -41,15 +41,15 @@ use Rattle.calm_laws.specs.Alike.{AreAlike, IsAtEase}
 use Rattle.calm_laws.specs.Calm.{is_for, is_for_membership}
 use Rattle.calm_laws.specs.Resting.{IsRestingPart}
 use Rattle.calm_laws.specs.Steps.{ComesCalmly, IsPlainSend, besides, is_tick}
-use Rattle.calm_laws.proofs.steps.Ease.{has_calm_block, takes_calmly}
+use Rattle.calm_laws.proofs.plain_steps.Ease.{has_calm_block, takes_calmly}
 use Rattle.calm_laws.proofs.places.FineSends.{beating_block, besides_fine, besides_one, heartbeat_fine, heartbeat_one}
 use Rattle.calm_laws.proofs.places.FineSends.{plain_none}
 use Rattle.calm_laws.proofs.lives.FirstRing.{behind_low, front_low, same_self}
-use Rattle.calm_laws.proofs.steps.LoneRounds.{lone_round}
+use Rattle.calm_laws.proofs.plain_steps.LoneRounds.{lone_round}
 use Rattle.calm_laws.proofs.places.Main.{main_at, main_beats, main_low, main_member, none_beside, two_beside}
-use Rattle.calm_laws.proofs.steps.Rest.{HostRests, heartbeat_restores, heartbeat_rests, round_steps}
-use Rattle.calm_laws.proofs.steps.Resting.{beats}
-use Rattle.calm_laws.proofs.steps.SentStep.{IsFineSend, IsSince, goes_to, sent_length, since_next}
+use Rattle.calm_laws.proofs.plain_steps.Rest.{HostRests, heartbeat_restores, heartbeat_rests, round_steps}
+use Rattle.calm_laws.proofs.plain_steps.Resting.{beats}
+use Rattle.calm_laws.proofs.plain_steps.SentStep.{IsFineSend, IsSince, goes_to, sent_length, since_next}
 
 -- the main parts beside one in the ring
 abbrev pub behind : Start → ℕ → ℕ

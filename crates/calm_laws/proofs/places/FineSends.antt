@@ -31,8 +31,8 @@ use Rattle.calm_laws.specs.Calm.{has_block, is_calm, is_for, is_in}
 use Rattle.calm_laws.specs.Plain.{is_beating, is_main}
 use Rattle.calm_laws.specs.Steps.{IsPlainPlace, IsPlainSend, besides, is_of_parts, is_tick, round_for}
 use Rattle.calm_laws.proofs.places.Main.{main_at, main_beats, main_reached}
-use Rattle.calm_laws.proofs.steps.Rounds.{each_besides}
-use Rattle.calm_laws.proofs.steps.SentStep.{IsFineSend, goes_to}
+use Rattle.calm_laws.proofs.plain_steps.Rounds.{each_besides}
+use Rattle.calm_laws.proofs.plain_steps.SentStep.{IsFineSend, goes_to}
 
 -- the block of a main part
 main_has : (of : Part) (to : BlockId) → is_main of ≡ true → is_in of to ≡ true → to ≡ block.Qmgr

@@ -13,7 +13,7 @@ use Rattle.world_core.specs.Start.{Start, made}
 use Rattle.calm_laws.specs.Plain.{is_beating, is_main}
 use Rattle.calm_laws.proofs.lives.FirstMembers.{member_first}
 use Rattle.calm_laws.proofs.lives.FirstRing.{ring_alone, ring_many}
-use Rattle.calm_laws.proofs.steps.Resting.{ring}
+use Rattle.calm_laws.proofs.plain_steps.Resting.{ring}
 
 -- the host of the main part of the member at a place
 abbrev pub main_at : ℕ → ℕ

@@ -45,7 +45,7 @@ use Rattle.sig_core.specs.Step.{Step, sends_only, stay}
 use Rattle.world_core.specs.Start.{Start}
 use Rattle.world_views.specs.Machine.{replies_at, step_by, stops_by, told}
 use Rattle.calm_laws.specs.Alike.{IsAtEase, first}
-use Rattle.calm_laws.proofs.steps.Client.{some_runs}
+use Rattle.calm_laws.proofs.plain_steps.Client.{some_runs}
 use Rattle.peace_laws.specs.Alike.{AreNear, ArePartsNear, RestsOfClosings}
 use Rattle.peace_laws.specs.Parts.{plain_replies}
 use Rattle.peace_laws.specs.Peace.{asks_by, is_closing_request}

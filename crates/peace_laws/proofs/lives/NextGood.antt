@@ -31,7 +31,7 @@ use Rattle.calm_laws.proofs.lives.Arrivals.{arriving}
 use Rattle.calm_laws.proofs.places.FineSends.{plain_fine}
 use Rattle.calm_laws.proofs.places.Main.{main_at, main_beats}
 use Rattle.calm_laws.proofs.places.PlainSends.{plain_sends_calm}
-use Rattle.calm_laws.proofs.steps.SentStep.{IsFine, IsFineSend, IsSince, since_next}
+use Rattle.calm_laws.proofs.plain_steps.SentStep.{IsFine, IsFineSend, IsSince, since_next}
 use Rattle.calm_laws.proofs.lives.Steady.{IsGood, IsMainGood, main_next, shell_next, shell_since}
 use Rattle.level_laws.specs.Laws.{HostsAreLevel}
 use Rattle.level_laws.specs.Levels.{send_at}

@@ -35,7 +35,7 @@ use Rattle.calm_laws.proofs.lives.Arrivals.{arriving, given_running}
 use Rattle.calm_laws.proofs.lives.Asked.{IsAskedBehind, asked_behind, past_short}
 use Rattle.calm_laws.proofs.lives.Events.{host_there, none_before, within_before}
 use Rattle.calm_laws.proofs.places.Main.{main_at}
-use Rattle.calm_laws.proofs.steps.SentStep.{IsFine, IsSince}
+use Rattle.calm_laws.proofs.plain_steps.SentStep.{IsFine, IsSince}
 use Rattle.calm_laws.proofs.lives.Steady.{IsGood, IsShellSteady}
 use Rattle.peace_laws.specs.Laws.{GoOnBy}
 

@@ -14,7 +14,7 @@ use Rattle.world_views.specs.Hosts.{part_started, started}
 use Rattle.world_views.specs.Machine.{has_stopped, machine}
 use Rattle.world_views.specs.Quiet.{IsQuiet}
 use Rattle.calm_laws.specs.Resting.{AreResting}
-use Rattle.calm_laws.proofs.steps.Rest.{lives_begin_at_rest}
+use Rattle.calm_laws.proofs.plain_steps.Rest.{lives_begin_at_rest}
 use Rattle.peace_laws.specs.Peace.{ArePeaceful}
 use Rattle.peace_laws.specs.Rest.{AreAtRestIn, RestsIn}
 use Rattle.peace_laws.proofs.lives.NextSignals.{AllTaken}

@@ -23,7 +23,7 @@ use Rattle.world_views.specs.Machine.{after, machine, sender, sent_count, step_a
 use Rattle.world_views.specs.Sending.{addressed, all_addressed, is_asked, is_own_work, routed, routed_all, routed_if}
 use Rattle.calm_laws.specs.Alike.{IsAtEase}
 use Rattle.calm_laws.proofs.lives.Arrivals.{arriving}
-use Rattle.calm_laws.proofs.steps.SentAlike.{here, kept, plainly}
+use Rattle.calm_laws.proofs.plain_steps.SentAlike.{here, kept, plainly}
 use Rattle.peace_laws.specs.Moments.{IsTaken}
 
 -- what a signal says, and to which block

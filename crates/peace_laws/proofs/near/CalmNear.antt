@@ -29,9 +29,9 @@ use Rattle.calm_laws.specs.Plain.{is_beating}
 use Rattle.calm_laws.specs.Steps.{ComesCalmly, IsForViews, IsPlainSend, StepAlike, StepAside, besides}
 use Rattle.calm_laws.specs.Steps as calm
 use Rattle.calm_laws.proofs.lives.Asked.{IsAskedAlike}
-use Rattle.calm_laws.proofs.steps.Parts.{main_parts_step, parts_step}
-use Rattle.calm_laws.proofs.steps.Rounds.{each_besides}
-use Rattle.calm_laws.proofs.steps.Shell.{shells_step}
+use Rattle.calm_laws.proofs.plain_steps.Parts.{main_parts_step, parts_step}
+use Rattle.calm_laws.proofs.plain_steps.Rounds.{each_besides}
+use Rattle.calm_laws.proofs.plain_steps.Shell.{shells_step}
 use Rattle.level_laws.specs.Laws.{HostsAreLevel}
 use Rattle.level_laws.specs.Levels.{host_at}
 use Rattle.peace_laws.specs.Alike.{AreNear, RestsOfClosings}

@@ -27,8 +27,8 @@ use Rattle.calm_laws.specs.Calm.{is_calm, is_for, is_in}
 use Rattle.calm_laws.specs.Plain.{is_beating, is_main}
 use Rattle.calm_laws.specs.Steps.{ComesCalmly}
 use Rattle.calm_laws.proofs.lives.CalmSignals.{calm_block, calm_body}
-use Rattle.calm_laws.proofs.steps.Ease.{ease_parts}
-use Rattle.calm_laws.proofs.steps.Main.{membership_step}
+use Rattle.calm_laws.proofs.plain_steps.Ease.{ease_parts}
+use Rattle.calm_laws.proofs.plain_steps.Main.{membership_step}
 use Rattle.peace_laws.specs.Alike.{ArePartsNear, IsMasterNear}
 use Rattle.peace_laws.proofs.near.NearHosts.{has_main}
 

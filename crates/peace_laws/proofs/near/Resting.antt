@@ -27,7 +27,7 @@ use Rattle.world_views.specs.Machine.{step_by, told}
 use Rattle.calm_laws.specs.Alike.{AreAlike, ArePartsAlike}
 use Rattle.calm_laws.specs.Plain.{is_beating}
 use Rattle.calm_laws.specs.Steps.{ComesCalmly}
-use Rattle.calm_laws.proofs.steps.Ease.{blocks_alone, ease_row, has_calm_block}
+use Rattle.calm_laws.proofs.plain_steps.Ease.{blocks_alone, ease_row, has_calm_block}
 use Rattle.calm_laws.proofs.places.FineSends.{beating_block}
 use Rattle.peace_laws.specs.Alike.{ArePartsNear, RestsOfClosings}
 use Rattle.peace_laws.specs.Rest.{MasterRestsIn, RestsIn}

@@ -31,8 +31,8 @@ use Rattle.calm_laws.specs.Alike.{IsAtEase, first}
 use Rattle.calm_laws.specs.Plain.{is_beating}
 use Rattle.calm_laws.specs.Steps.{IsPlainSend, besides}
 use Rattle.calm_laws.proofs.places.Reached.{node_beats}
-use Rattle.calm_laws.proofs.steps.Rounds.{each_besides}
-use Rattle.calm_laws.proofs.steps.SentAlike.{here, plainly, routed_alike}
+use Rattle.calm_laws.proofs.plain_steps.Rounds.{each_besides}
+use Rattle.calm_laws.proofs.plain_steps.SentAlike.{here, plainly, routed_alike}
 use Rattle.level_laws.specs.Levels.{send_at, signal_at}
 use Rattle.peace_laws.specs.Steps.{IsForMaster}
 

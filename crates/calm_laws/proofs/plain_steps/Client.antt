@@ -44,7 +44,7 @@ use Rattle.calm_laws.specs.Calm.{is_calm_request, is_for_client}
 use Rattle.calm_laws.specs.Steps.{ComesCalmly, IsPlainSend, besides, plain_replies}
 use Rattle.calm_laws.proofs.places.PlainReplies.{AllPlain, KeepsPlain, keeps_plain, replies_plain}
 use Rattle.calm_laws.proofs.places.ShellSends.{marks_plain, sends_plain}
-use Rattle.calm_laws.proofs.steps.Rounds.{memberships_told, none_besides, rows_told}
+use Rattle.calm_laws.proofs.plain_steps.Rounds.{memberships_told, none_besides, rows_told}
 
 -- a cluster of some nodes of which none has stopped isn't down
 pub some_runs : (nodes : ℕ) → 1 ≤ nodes → list_any (still_runs []) (members nodes) ≡ true

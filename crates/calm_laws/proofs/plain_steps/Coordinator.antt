@@ -49,7 +49,7 @@ use Rattle.world_views.specs.Machine.{stops_by}
 use Rattle.calm_laws.specs.Alike.{ArePartsAlike, at_ease}
 use Rattle.calm_laws.specs.Calm.{is_for_coordinator}
 use Rattle.calm_laws.specs.Steps.{IsPlainSend}
-use Rattle.calm_laws.proofs.steps.PartsAlike.{PartsAlike}
+use Rattle.calm_laws.proofs.plain_steps.PartsAlike.{PartsAlike}
 
 -- a coordinator sends to the parts of nodes, and to the client
 module _ (h : ℕ) where

@@ -35,7 +35,7 @@ use Rattle.calm_laws.specs.Alike.{AreAlike, ArePartsAlike, first}
 use Rattle.calm_laws.specs.Calm.{has_block, is_calm, is_for, is_for_client, is_for_coordinator, is_for_epochs}
 use Rattle.calm_laws.specs.Calm.{is_for_membership, is_for_rows}
 use Rattle.calm_laws.specs.Steps.{ComesCalmly}
-use Rattle.calm_laws.proofs.steps.SameKinds.{by_kind}
+use Rattle.calm_laws.proofs.plain_steps.SameKinds.{by_kind}
 
 -- no block takes it in calm
 abbrev IsForNone : Body → Type 0

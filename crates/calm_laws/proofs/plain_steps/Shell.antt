@@ -34,8 +34,8 @@ use Rattle.world_views.specs.Machine.{replies_at, step_by, stops_by, told}
 use Rattle.calm_laws.specs.Alike.{AreAlike, first}
 use Rattle.calm_laws.specs.Calm.{has_block, is_for, is_for_client}
 use Rattle.calm_laws.specs.Steps.{ComesCalmly, IsPlainSend, ShellsStepAlike, StepAlike, besides, plain_replies}
-use Rattle.calm_laws.proofs.steps.Client.{ClientAlike, client_alike}
-use Rattle.calm_laws.proofs.steps.Ease.{ease_row}
+use Rattle.calm_laws.proofs.plain_steps.Client.{ClientAlike, client_alike}
+use Rattle.calm_laws.proofs.plain_steps.Ease.{ease_row}
 
 -- what the shell's host takes is for the client
 for_client : (block : BlockId) (body : Body) → (has_block 0 block && is_for block body) ≡ true

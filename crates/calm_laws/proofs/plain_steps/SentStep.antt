@@ -23,7 +23,7 @@ use Rattle.world_views.specs.Sending.{routed_if}
 use Rattle.calm_laws.specs.Alike.{IsAtEase}
 use Rattle.calm_laws.specs.Calm.{has_block, is_calm, is_for}
 use Rattle.calm_laws.specs.Plain.{is_beating}
-use Rattle.calm_laws.proofs.steps.SentAlike.{here, kept, plainly}
+use Rattle.calm_laws.proofs.plain_steps.SentAlike.{here, kept, plainly}
 
 -- A thing that host i sends: whoever is to take it takes it in calm; the shell alone tells main parts of rounds, and
 -- tells them of nothing else; and it is nothing that a host asks of itself alone.

@@ -33,13 +33,13 @@ use Rattle.calm_laws.specs.Calm.{is_for, is_for_membership, is_in}
 use Rattle.calm_laws.specs.Known.{IsOfFirst, txs_in}
 use Rattle.calm_laws.specs.Plain.{is_main}
 use Rattle.calm_laws.specs.Steps.{MainPartsStepAside, PartsStepAlike, is_of_parts}
-use Rattle.calm_laws.proofs.steps.Ease.{has_calm_block, takes_calmly}
-use Rattle.calm_laws.proofs.steps.Epochs.{epoch_step}
-use Rattle.calm_laws.proofs.steps.SameKinds.{by_kind}
-use Rattle.calm_laws.proofs.steps.Main.{membership_step}
-use Rattle.calm_laws.proofs.steps.PartsAlike.{PartsAlike, PartsAside, parts_stay, step_alike, step_aside}
-use Rattle.calm_laws.proofs.steps.Rows.{row_step}
-use Rattle.calm_laws.proofs.steps.Coordinator.{tc_step}
+use Rattle.calm_laws.proofs.plain_steps.Ease.{has_calm_block, takes_calmly}
+use Rattle.calm_laws.proofs.plain_steps.Epochs.{epoch_step}
+use Rattle.calm_laws.proofs.plain_steps.SameKinds.{by_kind}
+use Rattle.calm_laws.proofs.plain_steps.Main.{membership_step}
+use Rattle.calm_laws.proofs.plain_steps.PartsAlike.{PartsAlike, PartsAside, parts_stay, step_alike, step_aside}
+use Rattle.calm_laws.proofs.plain_steps.Rows.{row_step}
+use Rattle.calm_laws.proofs.plain_steps.Coordinator.{tc_step}
 
 -- a main part takes what is for the membership, and the other parts take what is for their blocks
 main_block : (of : Part) (to : BlockId) → is_main of ≡ true → is_in of to ≡ true → block.Qmgr ≡ to

@@ -25,8 +25,8 @@ use Rattle.world_views.specs.Machine.{step_by}
 use Rattle.calm_laws.specs.Alike.{AreAlike}
 use Rattle.calm_laws.specs.Resting.{IsResting, IsRestingPart}
 use Rattle.calm_laws.specs.Steps.{ComesCalmly}
-use Rattle.calm_laws.proofs.steps.Ease.{ease_parts}
-use Rattle.calm_laws.proofs.steps.Resting.{ring, same_ring}
+use Rattle.calm_laws.proofs.plain_steps.Ease.{ease_parts}
+use Rattle.calm_laws.proofs.plain_steps.Resting.{ring, same_ring}
 
 module _ (start : Start) (h most : ℕ) (x : Signal) (none : ring start h ≡ record { next = None; before = None })
     (to : x.to.block ≡ Qmgr) (is : x.body ≡ Host Round) where

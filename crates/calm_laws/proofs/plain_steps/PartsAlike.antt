@@ -15,7 +15,7 @@ use Rattle.world_core.specs.Start.{Start}
 use Rattle.world_views.specs.Machine.{step_by, stops_by, told}
 use Rattle.calm_laws.specs.Alike.{AreAlike, ArePartsAlike}
 use Rattle.calm_laws.specs.Steps.{ComesCalmly, IsForViews, IsPlainSend, StepAlike, StepAside}
-use Rattle.calm_laws.proofs.steps.Ease.{ease_parts}
+use Rattle.calm_laws.proofs.plain_steps.Ease.{ease_parts}
 
 -- the parts of a host behind the shell's do what the plain host does, which goes on and sends what such a host may send
 pub record PartsAlike (start : Start) (h : ℕ) (one : Step Parts) (other : Step plain.Host) : Type 0 where

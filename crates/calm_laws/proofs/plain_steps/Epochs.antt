@@ -35,7 +35,7 @@ use Rattle.world_views.specs.Machine.{stops_by}
 use Rattle.calm_laws.specs.Alike.{AreEpochsAlike, ArePartsAlike, tx_of}
 use Rattle.calm_laws.specs.Calm.{is_for_epochs}
 use Rattle.calm_laws.specs.Steps.{IsPlainSend}
-use Rattle.calm_laws.proofs.steps.PartsAlike.{PartsAlike}
+use Rattle.calm_laws.proofs.plain_steps.PartsAlike.{PartsAlike}
 
 -- a place in a list, and the list without that one, where each is made into another
 position_mapped : {A B : Type 0} (p : B → Bool) (f : A → B) (xs : List A)

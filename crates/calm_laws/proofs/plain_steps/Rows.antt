@@ -42,7 +42,7 @@ use Rattle.calm_laws.specs.Alike.{ArePartsAlike, first}
 use Rattle.calm_laws.specs.Calm.{is_for_rows}
 use Rattle.calm_laws.specs.Known.{IsOfFirst, txs_in}
 use Rattle.calm_laws.specs.Steps.{IsPlainSend}
-use Rattle.calm_laws.proofs.steps.PartsAlike.{PartsAlike}
+use Rattle.calm_laws.proofs.plain_steps.PartsAlike.{PartsAlike}
 
 -- the coordinator of a member that began the life is a full member of the first view
 begun_by_one : (tx : TxId) (n : ℕ) → 1 ≤ tx.tc → tx.tc ≤ n → tx.start ≡ 0

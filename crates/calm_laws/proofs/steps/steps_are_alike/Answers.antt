@@ -1,6 +1,0 @@
-use Rattle.calm_laws.proofs.steps.Parts.{main_parts_step, parts_step}
-use Rattle.calm_laws.proofs.steps.Shell.{shells_step}
-use Rattle.calm_laws.proofs.steps.steps_are_alike.Goals as goal
-
-pub returns : goal.returns
-returns c = record { shell = shells_step; main_parts = main_parts_step; parts = parts_step }
