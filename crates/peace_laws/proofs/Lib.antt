@@ -1,4 +1,4 @@
-pub mod closing
+pub mod closings
 pub mod lives
 pub mod near
 pub mod plain

@@ -46,7 +46,7 @@ use Rattle.level_laws.specs.Levels.{signal_at}
 use Rattle.peace_laws.specs.Parts.{plain_part}
 use Rattle.peace_laws.specs.Peace.{is_closing, is_for_closing}
 use Rattle.peace_laws.specs.Steps.{ComesForClosing, asks_master}
-use Rattle.peace_laws.proofs.closing.Signals.{IsPlainKind, calm_apart, closing_body, closing_given, closing_links}
+use Rattle.peace_laws.proofs.closings.Signals.{IsPlainKind, calm_apart, closing_body, closing_given, closing_links}
 use Rattle.peace_laws.proofs.near.Signals.{calm_level, request_level}
 use Rattle.peace_laws.proofs.near.Mirrored.{IsMirrored}
 use Rattle.peace_laws.proofs.plain.Calm.{sent_calm}

@@ -49,18 +49,18 @@ use Rattle.peace_laws.specs.Laws.{GoOnBy, IsTold, is_spent}
 use Rattle.peace_laws.specs.Moments.{IsStill, Moment}
 use Rattle.peace_laws.specs.Peace.{ArePeaceful, asks_closing, is_closing, is_closing_request, is_peaceful}
 use Rattle.peace_laws.specs.Rest.{AreAtRestIn}
-use Rattle.peace_laws.proofs.closing.AskedMoment as first
-use Rattle.peace_laws.proofs.closing.AskingSteps.{closing_of}
-use Rattle.peace_laws.proofs.closing.Ends.{closings_end}
-use Rattle.peace_laws.proofs.closing.Moments.{Links, moment}
-use Rattle.peace_laws.proofs.closing.Runs.{AreOn, IsOn, each_host, fits, is_on_next}
+use Rattle.peace_laws.proofs.closings.AskedMoment as first
+use Rattle.peace_laws.proofs.closings.AskingSteps.{closing_of}
+use Rattle.peace_laws.proofs.closings.Ends.{closings_end}
+use Rattle.peace_laws.proofs.closings.Moments.{Links, moment}
+use Rattle.peace_laws.proofs.closings.Runs.{AreOn, IsOn, each_host, fits, is_on_next}
 use Rattle.peace_laws.proofs.lives.FirstAsked as opening
-use Rattle.peace_laws.proofs.closing.Letters.{IsFit}
+use Rattle.peace_laws.proofs.closings.Letters.{IsFit}
 use Rattle.peace_laws.proofs.lives.NextSignals.{AllTaken}
 use Rattle.peace_laws.proofs.lives.RestAgain.{all_rest, logs_later}
 use Rattle.peace_laws.proofs.lives.Served.{ClosesOn, ClosingGoesOn}
-use Rattle.peace_laws.proofs.closing.ShellOwns.{ShellOwns}
-use Rattle.peace_laws.proofs.closing.SpentEpochs.{none_takes}
+use Rattle.peace_laws.proofs.closings.ShellOwns.{ShellOwns}
+use Rattle.peace_laws.proofs.closings.SpentEpochs.{none_takes}
 use Rattle.peace_laws.proofs.lives.Stands.{AreBelow, IsBelow, Rests, Stands, taken_by_all}
 use Rattle.peace_laws.proofs.lives.UnderWay.{said}
 

@@ -40,7 +40,7 @@ use Rattle.calm_laws.proofs.lives.Events.{none_before}
 use Rattle.peace_laws.specs.Laws.{GoOnBy}
 use Rattle.peace_laws.specs.Parts.{is_beside, levelled, plain_part, plain_parts}
 use Rattle.peace_laws.specs.Peace.{is_closing}
-use Rattle.peace_laws.proofs.closing.Signals.{closing_asks, closing_body}
+use Rattle.peace_laws.proofs.closings.Signals.{closing_asks, closing_body}
 use Rattle.peace_laws.proofs.near.Signals.{request_level}
 use Rattle.peace_laws.proofs.lives.NextSignals.{AllTaken}
 use Rattle.peace_laws.proofs.plain.Events.{part_next}

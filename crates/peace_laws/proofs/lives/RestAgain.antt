@@ -32,7 +32,7 @@ use Rattle.peace_laws.proofs.near.CalmNear.{inner_main}
 use Rattle.peace_laws.proofs.near.Mirrored.{IsMirrored}
 use Rattle.peace_laws.proofs.near.NearHosts.{has_main}
 use Rattle.peace_laws.proofs.near.PartKinds.{first_member, first_presides}
-use Rattle.peace_laws.proofs.closing.ShellOwns.{ShellOwns}
+use Rattle.peace_laws.proofs.closings.ShellOwns.{ShellOwns}
 use Rattle.peace_laws.proofs.lives.Stands.{AreBelow, IsBelow}
 
 -- who was decided in no later epoch than this wasn't in one later than the next

@@ -20,7 +20,7 @@ use Rattle.peace_laws.specs.Alike.{RestsOfClosings}
 use Rattle.peace_laws.specs.Parts.{levelled}
 use Rattle.peace_laws.proofs.lives.Arrivals.{Arrives, beats_unasked, main_comes, seen}
 use Rattle.peace_laws.proofs.near.CalmNear.{main_marks, part_alike}
-use Rattle.peace_laws.proofs.closing.Signals.{IsPlainKind, calm_apart, calm_kind, calm_links, not_closing}
+use Rattle.peace_laws.proofs.closings.Signals.{IsPlainKind, calm_apart, calm_kind, calm_links, not_closing}
 use Rattle.peace_laws.proofs.near.Mirrored.{IsMirrored}
 use Rattle.peace_laws.proofs.lives.NextGood.{IsNextInCalm}
 use Rattle.peace_laws.proofs.near.PeaceNext.{IsCalmNext, calm_next}

@@ -36,7 +36,7 @@ use Rattle.level_laws.specs.Laws.{HostsAreLevel}
 use Rattle.level_laws.specs.Levels.{host_at}
 use Rattle.peace_laws.specs.Alike.{AreNear, RestsOfClosings}
 use Rattle.peace_laws.specs.Parts.{levelled, plain_part, plain_replies, shows}
-use Rattle.peace_laws.proofs.closing.Signals.{calm_apart, not_closing}
+use Rattle.peace_laws.proofs.closings.Signals.{calm_apart, not_closing}
 use Rattle.peace_laws.proofs.near.MainNear.{master_kept, near_main}
 use Rattle.peace_laws.proofs.near.Mirrored.{IsLeftOut, IsMirrored, IsPlainStep, level_step}
 use Rattle.peace_laws.proofs.near.NearHosts.{has_main, main_beats, main_level, main_stays, near_alike}

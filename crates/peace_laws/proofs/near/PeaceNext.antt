@@ -13,7 +13,7 @@ use Rattle.level_laws.specs.Laws.{HostsAreLevel}
 use Rattle.peace_laws.specs.Alike.{RestsOfClosings}
 use Rattle.peace_laws.proofs.lives.Arrivals.{beats_unasked, main_comes}
 use Rattle.peace_laws.proofs.near.CalmNear.{main_left, main_marks, main_rests, part_alike, part_rests, part_step}
-use Rattle.peace_laws.proofs.closing.Signals.{IsPlainKind, calm_apart, calm_kind, calm_links, not_closing}
+use Rattle.peace_laws.proofs.closings.Signals.{IsPlainKind, calm_apart, calm_kind, calm_links, not_closing}
 use Rattle.peace_laws.proofs.near.Mirrored.{IsMirrored}
 use Rattle.peace_laws.proofs.plain.Events.{left_beating}
 use Rattle.peace_laws.proofs.near.Runs.{IsKept, arrival, fine, known, later, left_next, plain_next}

@@ -43,7 +43,7 @@ use Rattle.peace_laws.specs.Alike.{AreNear, IsMasterNear, IsPhaseNear}
 use Rattle.peace_laws.specs.Parts.{levelled, plain_part}
 use Rattle.peace_laws.specs.Peace.{is_closing}
 use Rattle.peace_laws.proofs.lives.Arrivals.{Arrives, arrives}
-use Rattle.peace_laws.proofs.closing.Signals.{IsPlainKind}
+use Rattle.peace_laws.proofs.closings.Signals.{IsPlainKind}
 use Rattle.peace_laws.proofs.near.Signals.{fine_level, txs_level}
 use Rattle.peace_laws.proofs.near.Mirrored.{IsLeftOut, IsMirrored, IsPlainStep, left_mirrored, level_step, plain_mirrored}
 use Rattle.peace_laws.proofs.near.NearHosts.{begin_level, resting_main}

@@ -50,7 +50,7 @@ use Rattle.peace_laws.specs.Alike.{ArePartsNear}
 use Rattle.peace_laws.specs.Parts.{is_beside, levelled, levelled_replies, plain_part, plain_parts, plain_replies}
 use Rattle.peace_laws.specs.Peace.{is_closing, is_for_closing}
 use Rattle.peace_laws.proofs.near.CalmNear.{inner_api}
-use Rattle.peace_laws.proofs.closing.Signals.{closing_body}
+use Rattle.peace_laws.proofs.closings.Signals.{closing_body}
 use Rattle.peace_laws.proofs.near.Mirrored.{IsMirrored}
 use Rattle.peace_laws.proofs.plain.Events.{events_are, no_part, none_part, plain_events}
 use Rattle.peace_laws.proofs.near.Runs.{IsKept}

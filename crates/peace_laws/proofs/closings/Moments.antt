@@ -36,12 +36,12 @@ use Rattle.peace_laws.specs.Parts.{plain_replies}
 use Rattle.peace_laws.specs.Peace.{has_closer, is_closing, is_for_closing}
 use Rattle.peace_laws.specs.Steps.{ComesForClosing, IsOfClosing, StepsNear}
 use Rattle.peace_laws.proofs.lives.Arrivals.{closing_comes, seen}
-use Rattle.peace_laws.proofs.closing.Marks.{does, goes_on, step_marks}
-use Rattle.peace_laws.proofs.closing.Next.{closing_next}
-use Rattle.peace_laws.proofs.closing.Signals.{closing_given}
-use Rattle.peace_laws.proofs.closing.Steps.{closings_step_near}
-use Rattle.peace_laws.proofs.closing.Letters.{IsFit}
-use Rattle.peace_laws.proofs.closing.MasterNear.{IsClosingMark}
+use Rattle.peace_laws.proofs.closings.Marks.{does, goes_on, step_marks}
+use Rattle.peace_laws.proofs.closings.Next.{closing_next}
+use Rattle.peace_laws.proofs.closings.Signals.{closing_given}
+use Rattle.peace_laws.proofs.closings.Steps.{closings_step_near}
+use Rattle.peace_laws.proofs.closings.Letters.{IsFit}
+use Rattle.peace_laws.proofs.closings.MasterNear.{IsClosingMark}
 use Rattle.peace_laws.proofs.near.Mirrored.{IsMirrored}
 use Rattle.peace_laws.proofs.lives.NextSignals.{AllTaken}
 use Rattle.peace_laws.proofs.near.Runs.{IsKept}

@@ -16,8 +16,8 @@ use Rattle.peace_laws.specs.Closing.{Course, main}
 use Rattle.peace_laws.specs.Moments.{Moment}
 use Rattle.peace_laws.specs.UnderWay.{Closes, Commits, CommittedAt, Copies, IsAt, IsMaster, IsOwed, IsTrue, IsUnsent, Prepares}
 use Rattle.peace_laws.specs.UnderWay.{Saves, Stage, blocks_of, heard_count, is_later, is_ordered, is_saving, order_of, order_to, phase_of}
-use Rattle.peace_laws.proofs.closing.OrderLists.{list_goes, reaches, stage_in, stage_list, stage_listed}
-use Rattle.peace_laws.proofs.closing.Voices.{each_is_in}
+use Rattle.peace_laws.proofs.closings.OrderLists.{list_goes, reaches, stage_in, stage_list, stage_listed}
+use Rattle.peace_laws.proofs.closings.Voices.{each_is_in}
 
 some_blocks : (stage : Stage) → 1 ≤ blocks_of stage
 some_blocks Prepares = omega arith

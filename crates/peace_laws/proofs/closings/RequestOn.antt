@@ -35,10 +35,10 @@ use Rattle.peace_laws.specs.Closing.{ShellWaits, host_in, main, next_of}
 use Rattle.peace_laws.specs.Moments.{Moment, Takes, behind, told_by}
 use Rattle.peace_laws.specs.UnderWay.{GoingOn, HasMember, IsClient, IsLetter, IsMaster, IsUnderWay, Prepares, ShellHas}
 use Rattle.peace_laws.specs.UnderWay.{run_of}
-use Rattle.peace_laws.proofs.closing.MainOn.{main_row_is, told_same}
-use Rattle.peace_laws.proofs.closing.OrderLists.{IsListed, IsSent, all_letters, in_back, stage_listed}
-use Rattle.peace_laws.proofs.closing.StageBegins.{stage_begins}
-use Rattle.peace_laws.proofs.closing.WayOn.{main_apart}
+use Rattle.peace_laws.proofs.closings.MainOn.{main_row_is, told_same}
+use Rattle.peace_laws.proofs.closings.OrderLists.{IsListed, IsSent, all_letters, in_back, stage_listed}
+use Rattle.peace_laws.proofs.closings.StageBegins.{stage_begins}
+use Rattle.peace_laws.proofs.closings.WayOn.{main_apart}
 
 -- a master at rest, by who it is, and what it has heard of the last closing
 abbrev resting : Start → ℕ → List Voice → MasterState

@@ -24,10 +24,10 @@ use Rattle.peace_laws.specs.UnderWay.{AnOrder, Closes, Commits, CommittedAt, Cop
 use Rattle.peace_laws.specs.UnderWay.{IsAnswer, IsAnswered, IsAt, IsLeft, IsLetter, IsOrder, IsOver, IsOwed, IsTrue, IsUnderWay}
 use Rattle.peace_laws.specs.UnderWay.{Prepares, Saves, Stage, answer, answer_of, going_on, is_ordered, order_of}
 use Rattle.peace_laws.specs.UnderWay.{order_to, report_of}
-use Rattle.peace_laws.proofs.closing.MemberMoves.{HasBlock, PartsMove, answers, parts_move}
-use Rattle.peace_laws.proofs.closing.OrderLists.{main_reached}
-use Rattle.peace_laws.proofs.closing.WayOn.{answered_stays, behind_part, client_stays, committed_on, letters_on}
-use Rattle.peace_laws.proofs.closing.WayOn.{main_apart, shell_apart, stays_true, stepped, told_stays}
+use Rattle.peace_laws.proofs.closings.MemberMoves.{HasBlock, PartsMove, answers, parts_move}
+use Rattle.peace_laws.proofs.closings.OrderLists.{main_reached}
+use Rattle.peace_laws.proofs.closings.WayOn.{answered_stays, behind_part, client_stays, committed_on, letters_on}
+use Rattle.peace_laws.proofs.closings.WayOn.{main_apart, shell_apart, stays_true, stepped, told_stays}
 
 -- an order of a stage is one of the closing, and is answered
 stage_order : (start : Start) (c : Course) (stage : Stage) → IsOrder c (order_of start c stage)

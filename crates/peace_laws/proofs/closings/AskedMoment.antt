@@ -60,14 +60,14 @@ use Rattle.peace_laws.specs.Parts.{plain_replies}
 use Rattle.peace_laws.specs.Peace.{asks_by, asks_closing, is_closing_request}
 use Rattle.peace_laws.specs.Rest.{AreAtRestIn}
 use Rattle.peace_laws.specs.Steps.{RequestsNear}
-use Rattle.peace_laws.proofs.closing.AskingSteps.{asks_for, closing_of, closings_are_asked_near, table_is}
+use Rattle.peace_laws.proofs.closings.AskingSteps.{asks_for, closing_of, closings_are_asked_near, table_is}
 use Rattle.peace_laws.proofs.near.CalmNear.{inner_api}
-use Rattle.peace_laws.proofs.closing.Ease.{near_parts_by, near_row, requests_for_blocks}
-use Rattle.peace_laws.proofs.closing.Moments.{Links, moment}
-use Rattle.peace_laws.proofs.closing.Next.{request_goes_on, request_next}
-use Rattle.peace_laws.proofs.closing.Steps.{seen}
+use Rattle.peace_laws.proofs.closings.Ease.{near_parts_by, near_row, requests_for_blocks}
+use Rattle.peace_laws.proofs.closings.Moments.{Links, moment}
+use Rattle.peace_laws.proofs.closings.Next.{request_goes_on, request_next}
+use Rattle.peace_laws.proofs.closings.Steps.{seen}
 use Rattle.peace_laws.proofs.near.Mirrored.{IsMirrored}
-use Rattle.peace_laws.proofs.closing.OrderLists.{main_reached}
+use Rattle.peace_laws.proofs.closings.OrderLists.{main_reached}
 use Rattle.peace_laws.proofs.near.PartKinds.{epochs_rest, first_member, has_rows, main_rests}
 use Rattle.peace_laws.proofs.near.Resting.{rests_stays, stays_closeless}
 use Rattle.peace_laws.proofs.near.Runs.{IsKept}

@@ -50,8 +50,8 @@ use Rattle.peace_laws.specs.Alike.{AreNear, ArePartsNear, RestsOfClosings}
 use Rattle.peace_laws.specs.Parts.{plain_replies}
 use Rattle.peace_laws.specs.Peace.{asks_by, is_closing_request}
 use Rattle.peace_laws.specs.Steps.{ClosingsAreAskedNear, IsForMaster, IsOfClosing}
-use Rattle.peace_laws.proofs.closing.Ease.{near_parts_by, requests_for_blocks}
-use Rattle.peace_laws.proofs.closing.Steps.{row_at, row_is, seen}
+use Rattle.peace_laws.proofs.closings.Ease.{near_parts_by, requests_for_blocks}
+use Rattle.peace_laws.proofs.closings.Steps.{row_at, row_is, seen}
 
 -- the president of the first view is of a node, if it has one
 abbrev IsNodeOf : Option ℕ → Type 0

@@ -32,7 +32,7 @@ use Rattle.peace_laws.specs.Peace.{asks_closing, is_closing}
 use Rattle.peace_laws.specs.Steps.{ClosingsAreAskedNear, ClosingsStepNear, IsForMaster, IsOfClosing, StepsNear}
 use Rattle.peace_laws.proofs.lives.Arrivals.{closing_comes, closing_unasked, from_main, of_member}
 use Rattle.peace_laws.proofs.near.CalmNear.{replies_next}
-use Rattle.peace_laws.proofs.closing.Signals.{IsPlainKind, asks_kind, closing_asks, closing_body, not_closing}
+use Rattle.peace_laws.proofs.closings.Signals.{IsPlainKind, asks_kind, closing_asks, closing_body, not_closing}
 use Rattle.peace_laws.proofs.near.Mirrored.{IsLeftOut, IsMirrored, IsPlainStep}
 use Rattle.peace_laws.proofs.plain.Events.{left_closing, part_next, part_same, plain_events, plain_within}
 use Rattle.peace_laws.proofs.near.Runs.{IsKept, arrival, fine, later, left_next, plain_next}

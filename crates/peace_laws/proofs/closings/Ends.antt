@@ -20,14 +20,14 @@ use Rattle.peace_laws.specs.Moments.{GoesOn, IsStill, Moment, Takes}
 use Rattle.peace_laws.specs.UnderWay.{AnAnswer, Closes, Commits, Copies, GoingOn, HasCommitted, HasMember}
 use Rattle.peace_laws.specs.UnderWay.{IsAnswered, IsAt, IsClient, IsLeft, IsLetter, IsOver, IsOwed, IsUnderWay, Prepares}
 use Rattle.peace_laws.specs.UnderWay.{Saves, ShellHas, Stage, blocks_of, report_of, voice_of}
-use Rattle.peace_laws.proofs.closing.AnswerOn as answer
-use Rattle.peace_laws.proofs.closing.ListOn as list
-use Rattle.peace_laws.proofs.closing.MemberOn.{member_on}
-use Rattle.peace_laws.proofs.closing.NextEpochs.{next_is}
-use Rattle.peace_laws.proofs.closing.RequestOn.{request_on}
-use Rattle.peace_laws.proofs.closing.ShellOn.{shell_on}
-use Rattle.peace_laws.proofs.closing.Voices.{all_are_in, both_heard, one_heard}
-use Rattle.peace_laws.proofs.closing.WayOn.{letter}
+use Rattle.peace_laws.proofs.closings.AnswerOn as answer
+use Rattle.peace_laws.proofs.closings.ListOn as list
+use Rattle.peace_laws.proofs.closings.MemberOn.{member_on}
+use Rattle.peace_laws.proofs.closings.NextEpochs.{next_is}
+use Rattle.peace_laws.proofs.closings.RequestOn.{request_on}
+use Rattle.peace_laws.proofs.closings.ShellOn.{shell_on}
+use Rattle.peace_laws.proofs.closings.Voices.{all_are_in, both_heard, one_heard}
+use Rattle.peace_laws.proofs.closings.WayOn.{letter}
 
 -- whatever is taken, the closing goes on
 pub goes_on : (start : Start) → IsShape start.shape → (c : Course) → next_of c.kind c.epoch ≡ Some c.next

@@ -34,16 +34,16 @@ use Rattle.peace_laws.specs.UnderWay.{AnAnswer, Closes, Commits, CommittedAt, Co
 use Rattle.peace_laws.specs.UnderWay.{IsMaster, IsOver, IsOwed, IsTrue, IsUnderWay, Prepares, Saves, Stage}
 use Rattle.peace_laws.specs.UnderWay.{answer, answer_of, blocks_of, ended_by, ended_of, going_on, is_later, order_of}
 use Rattle.peace_laws.specs.UnderWay.{order_to, phase_of, report_of, voice_of}
-use Rattle.peace_laws.proofs.closing.ListOn.{ReportGoes, report_goes, told_master}
-use Rattle.peace_laws.proofs.closing.MainOn.{arrive, committed, main_goes, over_stays, sent_letter, stays_coming, t, told_same}
-use Rattle.peace_laws.proofs.closing.MasterAnswers.{Ends, Enters, answer_is, answered, completed, completes, is_answer, is_gcp}
-use Rattle.peace_laws.proofs.closing.MasterAnswers.{none_counts, over_at}
-use Rattle.peace_laws.proofs.closing.OrderLists.{IsListed, all_letters, over_list, over_listed, report_stands}
-use Rattle.peace_laws.proofs.closing.OrderLists.{stage_listed}
-use Rattle.peace_laws.proofs.closing.StageBegins.{stage_begins}
-use Rattle.peace_laws.proofs.closing.Voices.{counts_or_heard, counts_unheard, each_is_in, few_on, heard_now, heard_on}
-use Rattle.peace_laws.proofs.closing.Voices.{member_in, voice_found}
-use Rattle.peace_laws.proofs.closing.WayOn.{main_apart}
+use Rattle.peace_laws.proofs.closings.ListOn.{ReportGoes, report_goes, told_master}
+use Rattle.peace_laws.proofs.closings.MainOn.{arrive, committed, main_goes, over_stays, sent_letter, stays_coming, t, told_same}
+use Rattle.peace_laws.proofs.closings.MasterAnswers.{Ends, Enters, answer_is, answered, completed, completes, is_answer, is_gcp}
+use Rattle.peace_laws.proofs.closings.MasterAnswers.{none_counts, over_at}
+use Rattle.peace_laws.proofs.closings.OrderLists.{IsListed, all_letters, over_list, over_listed, report_stands}
+use Rattle.peace_laws.proofs.closings.OrderLists.{stage_listed}
+use Rattle.peace_laws.proofs.closings.StageBegins.{stage_begins}
+use Rattle.peace_laws.proofs.closings.Voices.{counts_or_heard, counts_unheard, each_is_in, few_on, heard_now, heard_on}
+use Rattle.peace_laws.proofs.closings.Voices.{member_in, voice_found}
+use Rattle.peace_laws.proofs.closings.WayOn.{main_apart}
 
 -- who answers a stage is known by its host
 record SameMember (place other : ℕ) (rows of : Bool) : Type 0 where

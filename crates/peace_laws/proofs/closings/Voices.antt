@@ -23,7 +23,7 @@ use Rattle.calm_laws.specs.Alike.{first}
 use Rattle.calm_laws.proofs.lives.FirstMembers.{member_first, member_known}
 use Rattle.peace_laws.specs.Closing.{host_in}
 use Rattle.peace_laws.specs.UnderWay.{heard_count, voice_of}
-use Rattle.peace_laws.proofs.closing.OrderLists.{in_members}
+use Rattle.peace_laws.proofs.closings.OrderLists.{in_members}
 
 -- who was heard still is, and a new voice is heard
 pub heard_on : (voices : List Voice) (more voice : Voice) → is_heard voices voice ≡ true

@@ -66,8 +66,8 @@ use Rattle.peace_laws.specs.Alike.{AreEpochsNear, AreNear, ArePartsNear}
 use Rattle.peace_laws.specs.Parts.{plain_replies}
 use Rattle.peace_laws.specs.Peace.{has_closer, is_closer, is_for_closing, is_order}
 use Rattle.peace_laws.specs.Steps.{ClosingsStepNear, ComesForClosing, IsForMaster, IsOfClosing, asks_master}
-use Rattle.peace_laws.proofs.closing.Ease.{closings_for_blocks, has_its_block, near_parts, takes_it}
-use Rattle.peace_laws.proofs.closing.MasterNear.{IsClosingMark, master_steps}
+use Rattle.peace_laws.proofs.closings.Ease.{closings_for_blocks, has_its_block, near_parts, takes_it}
+use Rattle.peace_laws.proofs.closings.MasterNear.{IsClosingMark, master_steps}
 
 -- a step of a host that is near its plain one behind it, at a signal from a member of this node
 pub record HostNear (start : Start) (h : ℕ) (given : List ApiReply) (from : ℕ) (t : Step host.Host) (other : plain.Host)

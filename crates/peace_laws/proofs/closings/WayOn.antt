@@ -16,7 +16,7 @@ use Rattle.peace_laws.specs.Closing.{Course, host_in, main}
 use Rattle.peace_laws.specs.Moments.{Moment, Takes, behind, told_by}
 use Rattle.peace_laws.specs.UnderWay.{CommittedAt, HasCommitted, IsAnswer, IsAnswered, IsClient, IsLetter, IsUnderWay}
 use Rattle.peace_laws.specs.UnderWay.{IsUntold, ShellHas}
-use Rattle.peace_laws.proofs.closing.OrderLists.{in_back}
+use Rattle.peace_laws.proofs.closings.OrderLists.{in_back}
 
 -- hosts that differ
 pub main_apart : (place : ℕ) (rows : Bool) → main ≢ host_in place rows

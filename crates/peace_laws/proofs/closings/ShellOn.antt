@@ -30,8 +30,8 @@ use Rattle.peace_laws.specs.Moments.{IsTaken, Moment, Takes, behind, told_by}
 use Rattle.peace_laws.specs.UnderWay.{AReport, Commits, CommittedAt, HasCommitted, HasMember, IsAnswered, IsAt, IsClient, IsLeft}
 use Rattle.peace_laws.specs.UnderWay.{IsOver, IsOwed, IsTrue, IsUnderWay, ShellHas, Stage}
 use Rattle.peace_laws.specs.UnderWay.{report_by, report_of}
-use Rattle.peace_laws.proofs.closing.Steps.{row_at, row_is, seen}
-use Rattle.peace_laws.proofs.closing.WayOn.{committed_on, letters_on, shell_apart, stays_true, stepped}
+use Rattle.peace_laws.proofs.closings.Steps.{row_at, row_is, seen}
+use Rattle.peace_laws.proofs.closings.WayOn.{committed_on, letters_on, shell_apart, stays_true, stepped}
 
 -- what the client's side does at the report
 report_row : (s : ClientState) (x : Signal) (c : Course) → s.api.view ≡ x.view → x.body ≡ (report_of c).body

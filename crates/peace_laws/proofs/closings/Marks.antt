@@ -18,9 +18,9 @@ use Rattle.world_views.specs.Machine.{step_by, stops_by}
 use Rattle.peace_laws.specs.Alike.{AreNear}
 use Rattle.peace_laws.specs.Laws.{is_spent}
 use Rattle.peace_laws.specs.Steps.{ComesForClosing}
-use Rattle.peace_laws.proofs.closing.Ease.{closings_for_blocks, near_parts_by, near_row}
-use Rattle.peace_laws.proofs.closing.Steps.{parts_near}
-use Rattle.peace_laws.proofs.closing.MasterNear.{IsClosingMark}
+use Rattle.peace_laws.proofs.closings.Ease.{closings_for_blocks, near_parts_by, near_row}
+use Rattle.peace_laws.proofs.closings.Steps.{parts_near}
+use Rattle.peace_laws.proofs.closings.MasterNear.{IsClosingMark}
 use Rattle.peace_laws.proofs.lives.Stands.{IsBelow}
 
 stop_spent : (m : Mark) → IsClosingMark m → is_stop m ≡ is_spent m

@@ -9,7 +9,7 @@ use Rattle.api_views.specs.declared.closings.Closing.TheVariants.{Gcp, Micro}
 use Rattle.gcp_master.specs.declared.numbers.TheConstants.{MICROS}
 use Rattle.gcp_master.specs.Numbers.{is_first}
 use Rattle.peace_laws.specs.Closing.{next_of}
-use Rattle.peace_laws.proofs.closing.MasterAnswers.{is_gcp}
+use Rattle.peace_laws.proofs.closings.MasterAnswers.{is_gcp}
 
 first_of_checkpoint : (k : ℕ) → is_first (k * MICROS) ≡ true
 first_of_checkpoint k =

@@ -30,7 +30,7 @@ use Rattle.sig_core.specs.Place.{checkpoints}
 use Rattle.sig_core.specs.Step.{Step, joined, sending, sends_only, to_place}
 use Rattle.peace_laws.specs.Closing.{Course, HasRows}
 use Rattle.peace_laws.specs.UnderWay.{HasCommitted, HasGoneOn, HasMember, IsAnswer, IsMember, IsOrder, answer, block_of}
-use Rattle.peace_laws.proofs.closing.Steps.{row_at, row_is}
+use Rattle.peace_laws.proofs.closings.Steps.{row_at, row_is}
 
 -- what a block of a member answers to an order
 abbrev pub answers : Bool → Order → List EpochSignal

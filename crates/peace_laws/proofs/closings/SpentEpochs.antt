@@ -36,9 +36,9 @@ use Rattle.world_views.specs.Sending.{is_asked}
 use Rattle.level_laws.specs.Laws.{HostsAreLevel}
 use Rattle.peace_laws.specs.Closing.{Course, IsAskedFor, MainRests, PresidentRests, main, next_of}
 use Rattle.peace_laws.specs.Laws.{is_spent}
-use Rattle.peace_laws.proofs.closing.Moments as moments
-use Rattle.peace_laws.proofs.closing.Moments.{Links, moment}
-use Rattle.peace_laws.proofs.closing.Runs.{AreOn, asked_fits, asked_is}
+use Rattle.peace_laws.proofs.closings.Moments as moments
+use Rattle.peace_laws.proofs.closings.Moments.{Links, moment}
+use Rattle.peace_laws.proofs.closings.Runs.{AreOn, asked_fits, asked_is}
 use Rattle.peace_laws.proofs.lives.NextSignals.{AllTaken}
 
 module _ (start : Start) (epoch : ℕ) (s : MasterState) (rests : PresidentRests start epoch s) where

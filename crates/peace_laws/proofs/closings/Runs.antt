@@ -36,15 +36,15 @@ use Rattle.peace_laws.specs.Laws.{is_spent}
 use Rattle.peace_laws.specs.Moments.{GoesOn, Moment, Takes, behind, newest}
 use Rattle.peace_laws.specs.Peace.{ArePeaceful, asks_closing, has_closer, is_closer, is_closing, is_peaceful}
 use Rattle.peace_laws.specs.UnderWay.{IsUnderWay}
-use Rattle.peace_laws.proofs.closing.Ends as ends
-use Rattle.peace_laws.proofs.closing.Marks.{all_below}
-use Rattle.peace_laws.proofs.closing.Moments as moments
-use Rattle.peace_laws.proofs.closing.Moments.{Links, moment}
-use Rattle.peace_laws.proofs.closing.Letters.{IsFit, fit_at, letter_fits, request_fits}
+use Rattle.peace_laws.proofs.closings.Ends as ends
+use Rattle.peace_laws.proofs.closings.Marks.{all_below}
+use Rattle.peace_laws.proofs.closings.Moments as moments
+use Rattle.peace_laws.proofs.closings.Moments.{Links, moment}
+use Rattle.peace_laws.proofs.closings.Letters.{IsFit, fit_at, letter_fits, request_fits}
 use Rattle.peace_laws.proofs.lives.NextSignals.{AllTaken}
-use Rattle.peace_laws.proofs.closing.RequestOn.{request_on}
+use Rattle.peace_laws.proofs.closings.RequestOn.{request_on}
 use Rattle.peace_laws.proofs.near.Runs.{IsKept}
-use Rattle.peace_laws.proofs.closing.ShellOwns.{ShellOwns, owns_next, resting_next}
+use Rattle.peace_laws.proofs.closings.ShellOwns.{ShellOwns, owns_next, resting_next}
 use Rattle.peace_laws.proofs.lives.Stands.{AreBelow}
 use Rattle.peace_laws.proofs.lives.UnderWay.{said}
 
