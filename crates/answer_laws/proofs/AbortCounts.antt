@@ -19,18 +19,18 @@ use Rattle.sig_core.specs.declared.signal.host.Work.TheVariants as work
 use Rattle.sig_core.specs.Same.{same_tx}
 use Rattle.world_core.specs.Hosts.{home, host_for, hosts}
 use Rattle.world_core.specs.Start.{Start}
-use Rattle.run_laws.proofs.AlongSteps.{home_place}
-use Rattle.host_laws.proofs.BlocksAlong.{reaches}
-use Rattle.host_laws.proofs.LinkCounts.{to_host}
-use Rattle.host_laws.proofs.LqhOps.{is_lqh, is_node, left_of, right_of, true_and}
+use Rattle.run_laws.proofs.hosts.AlongSteps.{home_place}
+use Rattle.host_laws.proofs.hosts.BlocksAlong.{reaches}
+use Rattle.host_laws.proofs.hosts.LinkCounts.{to_host}
+use Rattle.host_laws.proofs.rows.Operations.{is_lqh, is_node, left_of, right_of, true_and}
 use Rattle.run_theory.proofs.Tally.{and_few}
 use Rattle.run_theory.specs.Counts.{one_if}
 use Rattle.answer_laws.proofs.TcAborts.{aborted_body, is_abort}
-use Rattle.host_laws.proofs.PartCounts.{is_cont}
-use Rattle.host_laws.proofs.TcMoves.{same_tx-is}
-use Rattle.host_laws.proofs.TcSends.{eqb-self}
+use Rattle.host_laws.proofs.hosts.PartCounts.{is_cont}
+use Rattle.host_laws.proofs.coordinator.Moves.{same_tx-is}
+use Rattle.host_laws.proofs.coordinator.Sends.{eqb-self}
 use Rattle.tc_block.proofs.TurnRows.{tx_in, is_turn}
-use Rattle.host_laws.proofs.Wishes.{is_tc, sends_of}
+use Rattle.host_laws.proofs.api.Wishes.{is_tc, sends_of}
 
 -- what came to the rows of a node
 abbrev pub abort_body : TxId → Body → Bool

@@ -33,22 +33,22 @@ use Rattle.world_core.specs.Steps.{HostStep}
 use Rattle.run_theory.specs.Counts.{one_if}
 use Rattle.answer_laws.proofs.AbortCounts.{abort_low, answer_turn, cont_place, cont_turn, few_answers, few_rows}
 use Rattle.answer_laws.proofs.AbortCounts.{lqh_aborts, none_at}
-use Rattle.run_laws.proofs.AlongSteps.{Goes, addressed, along, at_home, at_tc, first_none, heard_rows, home_place}
-use Rattle.run_laws.proofs.AlongSteps.{live_tx, no_transaction, other_turn, the_transaction, turn_at, tx_at}
-use Rattle.run_laws.proofs.Always.{few_touched}
+use Rattle.run_laws.proofs.hosts.AlongSteps.{Goes, addressed, along, at_home, at_tc, first_none, heard_rows, home_place}
+use Rattle.run_laws.proofs.hosts.AlongSteps.{live_tx, no_transaction, other_turn, the_transaction, turn_at, tx_at}
+use Rattle.run_laws.proofs.hosts.Always.{few_touched}
 use Rattle.answer_laws.proofs.FirstChains.{good_chain}
-use Rattle.host_laws.proofs.BlocksAlong.{IsHome, tc_layout}
-use Rattle.host_laws.proofs.HostTurns.{HostTurn, IsAside, aside, in_rows, starting, turning}
-use Rattle.host_laws.proofs.LinkCounts.{signals}
-use Rattle.host_laws.proofs.LqhOps.{is_good, is_lqh, is_node, left_of}
-use Rattle.host_laws.proofs.PartCounts.{cont_block, is_cont}
+use Rattle.host_laws.proofs.hosts.BlocksAlong.{IsHome, tc_layout}
+use Rattle.host_laws.proofs.coordinator.HostTurns.{HostTurn, IsAside, aside, in_rows, starting, turning}
+use Rattle.host_laws.proofs.hosts.LinkCounts.{signals}
+use Rattle.host_laws.proofs.rows.Operations.{is_good, is_lqh, is_node, left_of}
+use Rattle.host_laws.proofs.hosts.PartCounts.{cont_block, is_cont}
 use Rattle.answer_laws.proofs.TcAborts.{AbortMove, abort_move, aborted_body, begins, continues, is_abort, waits}
 use Rattle.host_laws.specs.Live.{of_live}
-use Rattle.host_laws.proofs.TcSteps.{live_home}
+use Rattle.host_laws.proofs.coordinator.Steps.{live_home}
 use Rattle.tc_block.proofs.TurnRows.{tx_in, is_turn}
 use Rattle.answer_laws.proofs.SentInParts.{HomeStep, IsOwed, begun_owed, continued_owed, home_step, none_owed, s_more}
 use Rattle.answer_laws.proofs.SentInParts.{stays_owed, t_more, waits_owed}
-use Rattle.host_laws.proofs.Wishes.{is_tc, sends_of}
+use Rattle.host_laws.proofs.api.Wishes.{is_tc, sends_of}
 use Rattle.answer_laws.specs.Answered.{AreQuiet, NoAbortIsAwaited}
 use Rattle.tc_block.specs.Phases.{is_aborting}
 

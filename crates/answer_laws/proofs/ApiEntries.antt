@@ -27,18 +27,18 @@ use Rattle.api_block.specs.Opened.{asked_for, has_tx, is_beginning, is_tx}
 use Rattle.api_block.specs.Api.{api_table}
 use Rattle.api_block.specs.State.{ApiState}
 use Rattle.node_core.specs.Row.{shell_row}
-use Rattle.host_laws.proofs.ApiBegins.{AreGood, IsGood, each_at}
+use Rattle.host_laws.proofs.api.Begins.{AreGood, IsGood, each_at}
 use Rattle.answer_laws.proofs.ApiSteps.{ApiStep, Changes, IsUnheard, Unheard, absent, answered_last, answered_ready}
 use Rattle.answer_laws.proofs.ApiSteps.{api_step, begins_ready, begins_working, changes, commits, drops, idle, is_calm}
 use Rattle.answer_laws.proofs.ApiSteps.{notes, opens, rests, works}
-use Rattle.host_laws.proofs.SendKinds.{are_of, none_of}
+use Rattle.host_laws.proofs.hosts.SendKinds.{are_of, none_of}
 use Rattle.run_theory.proofs.Tally.{none_if, tally_append, tally_between, tally_in}
 use Rattle.run_theory.specs.Counts.{one_if, tally}
-use Rattle.host_laws.proofs.TcKeys.{answer_of, is_key, key_of_tx}
-use Rattle.host_laws.proofs.TcLives.{start_of}
-use Rattle.host_laws.proofs.TcMoves.{same_tx-is}
-use Rattle.host_laws.proofs.TcSends.{eqb-self}
-use Rattle.host_laws.proofs.Wishes.{and_false, is_tc, second_fails, sends_of, to_node}
+use Rattle.host_laws.proofs.coordinator.Keys.{answer_of, is_key, key_of_tx}
+use Rattle.host_laws.proofs.coordinator.Lives.{start_of}
+use Rattle.host_laws.proofs.coordinator.Moves.{same_tx-is}
+use Rattle.host_laws.proofs.coordinator.Sends.{eqb-self}
+use Rattle.host_laws.proofs.api.Wishes.{and_false, is_tc, second_fails, sends_of, to_node}
 use Rattle.answer_laws.specs.Answered.{is_operating}
 
 -- the commit of the transaction is asked for

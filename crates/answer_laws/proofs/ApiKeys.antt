@@ -26,9 +26,9 @@ use Rattle.api_block.proofs.ApiTurns.{ApiRequestForms, ApiSignalForms, api_turns
 use Rattle.run_theory.proofs.Focus.{IsFocus}
 use Rattle.run_theory.proofs.Tally.{tally_append, tally_between}
 use Rattle.run_theory.specs.Counts.{one_if, tally}
-use Rattle.host_laws.proofs.TcKeys.{answer_of, is_key}
-use Rattle.host_laws.proofs.TcMoves.{end_of, same_tx-is}
-use Rattle.host_laws.proofs.Wishes.{sends_of}
+use Rattle.host_laws.proofs.coordinator.Keys.{answer_of, is_key}
+use Rattle.host_laws.proofs.coordinator.Moves.{end_of, same_tx-is}
+use Rattle.host_laws.proofs.api.Wishes.{sends_of}
 use Rattle.answer_laws.specs.Answered.{is_operating}
 
 -- the transaction's operation was sent and isn't answered

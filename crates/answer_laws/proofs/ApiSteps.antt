@@ -27,10 +27,10 @@ use Rattle.api_block.specs.Members.{everyone, telling_all}
 use Rattle.api_block.specs.Opened.{asked_for, begins_at, has_tx, is_beginning, same_name}
 use Rattle.api_block.specs.State.{ApiState, about}
 use Rattle.api_block.proofs.ApiTurns.{IsStray, ApiRequestForms, ApiSignalForms, api_turns}
-use Rattle.host_laws.proofs.LqhOps.{left_of}
+use Rattle.host_laws.proofs.rows.Operations.{left_of}
 use Rattle.run_theory.specs.Counts.{tally}
-use Rattle.host_laws.proofs.SendKinds.{are_of}
-use Rattle.host_laws.proofs.TcKeys.{answer_of}
+use Rattle.host_laws.proofs.hosts.SendKinds.{are_of}
+use Rattle.host_laws.proofs.coordinator.Keys.{answer_of}
 use Rattle.answer_laws.specs.Answered.{is_operating}
 
 -- what asks neither for an operation nor for a commit

@@ -32,25 +32,25 @@ use Rattle.world_core.specs.Machine.{after, machine, step_after}
 use Rattle.world_core.specs.Start.{Start}
 use Rattle.world_core.specs.Steps.{HostStep}
 use Rattle.sig_core.proofs.Keys.{same_tx-self}
-use Rattle.host_laws.proofs.LqhOps.{right_of}
-use Rattle.run_laws.proofs.AlongSteps.{few_taken}
+use Rattle.host_laws.proofs.rows.Operations.{right_of}
+use Rattle.run_laws.proofs.hosts.AlongSteps.{few_taken}
 use Rattle.answer_laws.proofs.ApiKeys.{api_keys, keys_in, operates}
-use Rattle.host_laws.proofs.ApiMoves.{ApiMove, api_moves, begun_as, ends, goes, is_api_kind, opens, refuses, rests}
-use Rattle.host_laws.proofs.DihSends.{dih_kinds}
-use Rattle.host_laws.proofs.ShellHost.{opened_next, shell_after, shell_sends}
-use Rattle.host_laws.proofs.BlocksAlong.{first_live, no_api}
-use Rattle.host_laws.proofs.LinkCounts.{all_three, few_sends, sent_signals, shell_signals, signals, steps, steps_from, taken_signals, to_host}
+use Rattle.host_laws.proofs.api.Moves.{ApiMove, api_moves, begun_as, ends, goes, is_api_kind, opens, refuses, rests}
+use Rattle.host_laws.proofs.hosts.DihSends.{dih_kinds}
+use Rattle.host_laws.proofs.hosts.ShellHost.{opened_next, shell_after, shell_sends}
+use Rattle.host_laws.proofs.hosts.BlocksAlong.{first_live, no_api}
+use Rattle.host_laws.proofs.hosts.LinkCounts.{all_three, few_sends, sent_signals, shell_signals, signals, steps, steps_from, taken_signals, to_host}
 use Rattle.answer_laws.proofs.Lives.{holds_at, once_started}
-use Rattle.host_laws.proofs.LqhSends.{lqh_kinds}
-use Rattle.host_laws.proofs.SendKinds.{are_of, is_dih_kind, is_lqh_kind, is_tc_kind, none_of}
+use Rattle.host_laws.proofs.rows.Sends.{lqh_kinds}
+use Rattle.host_laws.proofs.hosts.SendKinds.{are_of, is_dih_kind, is_lqh_kind, is_tc_kind, none_of}
 use Rattle.run_theory.proofs.Tally.{Counted, counted, none_if, only_one, tally_in}
 use Rattle.run_theory.specs.Counts.{one_if, tally}
-use Rattle.host_laws.proofs.TcKeys.{answer_of, answers_in, is_answer, is_asked, is_key, key_of_tx, tc_fair}
-use Rattle.host_laws.proofs.TcMoves.{end_of, is_end}
+use Rattle.host_laws.proofs.coordinator.Keys.{answer_of, answers_in, is_answer, is_asked, is_key, key_of_tx, tc_fair}
+use Rattle.host_laws.proofs.coordinator.Moves.{end_of, is_end}
 use Rattle.answer_laws.proofs.Totals.{spread_few}
-use Rattle.host_laws.proofs.Sums.{total_add, total_at, total_le, total_same}
+use Rattle.host_laws.proofs.hosts.Sums.{total_add, total_at, total_le, total_same}
 use Rattle.run_theory.specs.Counts.{total}
-use Rattle.host_laws.proofs.Wishes.{and_false, is_api, is_tc, second_fails, sends_of, to_node, tc_none}
+use Rattle.host_laws.proofs.api.Wishes.{and_false, is_api, is_tc, second_fails, sends_of, to_node, tc_none}
 use Rattle.answer_laws.specs.Answered.{AreQuiet, EachAsksWhereOperating, is_operating}
 use Rattle.host_laws.specs.OpenedAfter.{opened_after, opened_in}
 

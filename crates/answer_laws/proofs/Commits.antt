@@ -43,21 +43,21 @@ use Rattle.world_core.specs.Start.{Start}
 use Rattle.world_core.specs.Steps.{HostStep}
 use Rattle.run_theory.proofs.Tally.{and_few}
 use Rattle.run_theory.specs.Counts.{one_if}
-use Rattle.run_laws.proofs.AlongSteps.{Goes, addressed, along, at_home, at_tc, heard_rows, home_place, live_tx, tx_at}
+use Rattle.run_laws.proofs.hosts.AlongSteps.{Goes, addressed, along, at_home, at_tc, heard_rows, home_place, live_tx, tx_at}
 use Rattle.answer_laws.proofs.FirstChains.{chain_some, good_chain}
-use Rattle.host_laws.proofs.BlocksAlong.{IsHome, first_live, reaches, tc_layout}
-use Rattle.host_laws.proofs.HostTurns.{rows_turn, tc_turn}
-use Rattle.host_laws.proofs.LinkCounts.{signals}
-use Rattle.host_laws.proofs.LqhOps.{is_good, is_lqh, is_node, left_of, right_of, true_and}
+use Rattle.host_laws.proofs.hosts.BlocksAlong.{IsHome, first_live, reaches, tc_layout}
+use Rattle.host_laws.proofs.coordinator.HostTurns.{rows_turn, tc_turn}
+use Rattle.host_laws.proofs.hosts.LinkCounts.{signals}
+use Rattle.host_laws.proofs.rows.Operations.{is_good, is_lqh, is_node, left_of, right_of, true_and}
 use Rattle.answer_laws.proofs.NodeOwes.{OwesOf, StepOwes, tc_owes}
-use Rattle.host_laws.proofs.PartCounts.{IsPart, cont_block, is_cont}
-use Rattle.host_laws.proofs.TcCommits.{chain_at, is_chain, is_commit}
-use Rattle.host_laws.proofs.TcMoves.{same_tx-is}
-use Rattle.host_laws.proofs.TcOwes.{at_if, begins, came_in, cont_in, goes_on, IsKnown, Owes, waits}
-use Rattle.host_laws.proofs.TcSends.{eqb-self}
+use Rattle.host_laws.proofs.hosts.PartCounts.{IsPart, cont_block, is_cont}
+use Rattle.host_laws.proofs.coordinator.Commits.{chain_at, is_chain, is_commit}
+use Rattle.host_laws.proofs.coordinator.Moves.{same_tx-is}
+use Rattle.host_laws.proofs.coordinator.Owes.{at_if, begins, came_in, cont_in, goes_on, IsKnown, Owes, waits}
+use Rattle.host_laws.proofs.coordinator.Sends.{eqb-self}
 use Rattle.answer_laws.proofs.SentInParts.{HomeStep, IsOwed, begun_owed, continued_owed, home_step, none_owed, s_more}
 use Rattle.answer_laws.proofs.SentInParts.{stays_owed, t_more, waits_owed}
-use Rattle.host_laws.proofs.Wishes.{is_tc, sends_of}
+use Rattle.host_laws.proofs.api.Wishes.{is_tc, sends_of}
 use Rattle.answer_laws.specs.Answered.{AreQuiet, IsLiveAs, NoCommitIsAwaited}
 use Rattle.tc_block.specs.Phases.{is_committing}
 

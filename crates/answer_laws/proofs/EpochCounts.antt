@@ -18,12 +18,12 @@ use Rattle.world_core.specs.Hosts.{first_membership, host_for}
 use Rattle.world_core.specs.Machine.{addressed, all_addressed, counted as one_counted, machine}
 use Rattle.world_core.specs.Start.{Start}
 use Rattle.world_core.specs.Steps.{Addressed}
-use Rattle.run_laws.proofs.AlongSteps.{is_dih}
+use Rattle.run_laws.proofs.hosts.AlongSteps.{is_dih}
 use Rattle.run_theory.proofs.Focus.{IsFocus, absent, found}
-use Rattle.host_laws.proofs.SendKinds.{are_of}
+use Rattle.host_laws.proofs.hosts.SendKinds.{are_of}
 use Rattle.run_theory.proofs.Tally.{tally_between}
 use Rattle.run_theory.specs.Counts.{one_if, tally}
-use Rattle.host_laws.proofs.TcMoves.{same_tx-is}
+use Rattle.host_laws.proofs.coordinator.Moves.{same_tx-is}
 
 -- what the block of epochs makes of the transactions that it counts
 abbrev pub with_asked : List TxId → TxId → Bool → List TxId

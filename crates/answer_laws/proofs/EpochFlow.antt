@@ -22,17 +22,17 @@ use Rattle.tc_block.specs.Sends.{verify_end}
 use Rattle.tc_block.specs.State.{TcState}
 use Rattle.tc_block.specs.Tc.{tc_table}
 use Rattle.world_core.specs.Machine.{after}
-use Rattle.run_laws.proofs.AlongSteps.{is_dih}
-use Rattle.host_laws.proofs.ApiMoves.{ApiMove, begun_as, ends, goes, is_api_kind, opens, refuses, rests}
+use Rattle.run_laws.proofs.hosts.AlongSteps.{is_dih}
+use Rattle.host_laws.proofs.api.Moves.{ApiMove, begun_as, ends, goes, is_api_kind, opens, refuses, rests}
 use Rattle.answer_laws.proofs.EpochCounts.{counts_by, ended_by, is_epochless, with_asked}
 use Rattle.answer_laws.proofs.EpochLives.{TurnCounts, asking, ending, gone, unchanged, turn_counts}
-use Rattle.host_laws.proofs.SendKinds.{are_of, is_dih_kind, is_lqh_kind, is_tc_kind, none_of, of_kind}
+use Rattle.host_laws.proofs.hosts.SendKinds.{are_of, is_dih_kind, is_lqh_kind, is_tc_kind, none_of, of_kind}
 use Rattle.run_theory.proofs.Tally.{and_few, none_if, tally_append}
 use Rattle.run_theory.specs.Counts.{one_if}
 use Rattle.tc_block.proofs.TurnRows as turns
 use Rattle.tc_block.proofs.TurnRows.{begins, misses, takes, tc_step, TcStep, turn_row, tx_in}
-use Rattle.host_laws.proofs.TcTurns.{turn_moves}
-use Rattle.host_laws.proofs.Wishes.{and_false, is_tc, second_fails, sends_of, tc_none}
+use Rattle.host_laws.proofs.coordinator.Turns.{turn_moves}
+use Rattle.host_laws.proofs.api.Wishes.{and_false, is_tc, second_fails, sends_of, tc_none}
 
 -- a transaction asks for an epoch, and is given one
 abbrev pub is_req : TxId → Place → Body → Bool

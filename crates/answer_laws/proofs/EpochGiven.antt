@@ -35,20 +35,20 @@ use Rattle.world_core.specs.Machine.{after, machine, sent_count, step_after}
 use Rattle.world_core.specs.Start.{Start}
 use Rattle.world_core.specs.Steps.{Addressed, HostStep}
 use Rattle.run_theory.specs.Counts.{one_if}
-use Rattle.run_laws.proofs.AlongSteps.{at_tc, few_taken, is_dih}
-use Rattle.host_laws.proofs.ApiMoves.{api_moves}
-use Rattle.host_laws.proofs.DihSends.{dih_kinds}
+use Rattle.run_laws.proofs.hosts.AlongSteps.{at_tc, few_taken, is_dih}
+use Rattle.host_laws.proofs.api.Moves.{api_moves}
+use Rattle.host_laws.proofs.hosts.DihSends.{dih_kinds}
 use Rattle.answer_laws.proofs.EpochCounts.{AreFew, SendsFew, counted_of, counts_by, counts_if, is_epochless, is_request}
 use Rattle.answer_laws.proofs.EpochCounts.{plain_counts, put_counts, put_few, sends_count}
 use Rattle.answer_laws.proofs.EpochFlow.{at_place, dih_counts, dih_few, dih_gives, dih_plain, dih_stays, is_conf}
 use Rattle.answer_laws.proofs.EpochFlow.{is_epoch, is_req, lqh_plain, move_epochs, plain_none, req_body, tc_confless}
 use Rattle.answer_laws.proofs.EpochFlow.{tc_epochs}
 use Rattle.answer_laws.proofs.EpochLives.{AreCounted, step_counts}
-use Rattle.host_laws.proofs.BlocksAlong.{IsAtNode, at_own_node}
-use Rattle.host_laws.proofs.LinkCounts.{all_three, sent_signals, signals, taken_signals}
-use Rattle.host_laws.proofs.LqhSends.{lqh_kinds}
-use Rattle.host_laws.proofs.SendKinds.{are_of, is_dih_kind, is_lqh_kind, of_kind}
-use Rattle.host_laws.proofs.Wishes.{second_fails, sends_of}
+use Rattle.host_laws.proofs.hosts.BlocksAlong.{IsAtNode, at_own_node}
+use Rattle.host_laws.proofs.hosts.LinkCounts.{all_three, sent_signals, signals, taken_signals}
+use Rattle.host_laws.proofs.rows.Sends.{lqh_kinds}
+use Rattle.host_laws.proofs.hosts.SendKinds.{are_of, is_dih_kind, is_lqh_kind, of_kind}
+use Rattle.host_laws.proofs.api.Wishes.{second_fails, sends_of}
 
 -- a host of a coordinator runs nothing else than that and epochs
 pub tc_no_api : (s : Host) → has_tc s ≡ true → has_api s ≡ true → ⊥

@@ -9,19 +9,24 @@ use Rattle.frag_map.proofs.FirstReplicas.{first_length, first_nodes}
 use Rattle.frag_map.specs.Laws.{first_chain}
 use Rattle.frag_map.specs.Layout.{chain_of, first_layout}
 use Rattle.frag_map.specs.Shape.{IsShape}
-use Rattle.host_laws.proofs.LqhOps.{is_good, is_node, true_and}
+use Rattle.host_laws.proofs.rows.Operations.{is_good, is_node, true_and}
 
 pub node_in : (n node : ℕ) → 1 ≤ node → node < n → is_node n node ≡ true
-node_in n node some low = true_and (nat_lt 0 node) (nat_lt node n) (grind (arith, nat_tests, some)) (grind (arith, nat_tests, low))
+node_in n node some low =
+    true_and (nat_lt 0 node) (nat_lt node n) (grind (arith, nat_tests, some)) (grind (arith, nat_tests, low))
 
 -- a chain is of nodes where each of its places is one
-good_places : (n : ℕ) (chain : List Member) → ((at : ℕ) → at < length chain → is_node n (node_at chain at) ≡ true) → is_good n chain ≡ true
+good_places : (n : ℕ) (chain : List Member) → ((at : ℕ) → at < length chain → is_node n (node_at chain at) ≡ true)
+    → is_good n chain ≡ true
 good_places n [] each = refl
-good_places n (m ∷ chain) each = true_and (is_node n m.node) (is_good n chain) (each 0 (omega arith)) (good_places n chain (λ at inside. each (suc at) (omega (arith, inside))))
+good_places n (m ∷ chain) each = true_and (is_node n m.node) (is_good n chain) (each 0 (omega arith))
+    (good_places n chain (λ at inside. each (suc at) (omega (arith, inside))))
 
 module _ (shape : Shape) (is : IsShape shape) (key : List ℕ) where
-  node_place : (at : ℕ) → at < length (first_chain shape key) → is_node (shape.nodes + 1) (node_at (first_chain shape key) at) ≡ true
-  node_place at inside = let there = first_nodes shape is key at inside in node_in (shape.nodes + 1) (node_at (first_chain shape key) at) there.0 (omega (arith, there.1))
+  node_place : (at : ℕ) → at < length (first_chain shape key)
+      → is_node (shape.nodes + 1) (node_at (first_chain shape key) at) ≡ true
+  node_place at inside = let there = first_nodes shape is key at inside in
+      node_in (shape.nodes + 1) (node_at (first_chain shape key) at) there.0 (omega (arith, there.1))
 
   pub good_chain : is_good (shape.nodes + 1) (chain_of (first_layout shape) key) ≡ true
   good_chain = good_places (shape.nodes + 1) (first_chain shape key) node_place

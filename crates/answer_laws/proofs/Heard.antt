@@ -33,29 +33,29 @@ use Rattle.world_core.specs.Hosts.{home, hosts}
 use Rattle.world_core.specs.Machine.{after, machine, step_after}
 use Rattle.world_core.specs.Start.{Start}
 use Rattle.world_core.specs.Steps.{HostStep}
-use Rattle.run_laws.proofs.AlongSteps.{Goes, along, at_tc, first_none, no_transaction, the_transaction, turn_at, tx_at}
-use Rattle.run_laws.proofs.Always.{Touches, turn_touches}
+use Rattle.run_laws.proofs.hosts.AlongSteps.{Goes, along, at_tc, first_none, no_transaction, the_transaction, turn_at, tx_at}
+use Rattle.run_laws.proofs.hosts.Always.{Touches, turn_touches}
 use Rattle.answer_laws.proofs.ApiEntries.{IsEntryRight, is_commit_req, of_opened, shell_entry}
 use Rattle.answer_laws.proofs.Begins.{wish_part}
-use Rattle.host_laws.proofs.ShellHost.{opened_first, opened_next, shell_after, shell_sends}
-use Rattle.host_laws.proofs.BlocksAlong.{sent_to_tc}
-use Rattle.host_laws.proofs.HostTurns.{HostTurn, IsAside, IsBorn, IsTurned, aside, in_rows, starting, turning}
-use Rattle.host_laws.proofs.LinkCounts.{sent_signals, shell_signals, signals, steps}
-use Rattle.run_laws.proofs.Begun.{keeps}
-use Rattle.host_laws.proofs.LqhSends.{lqh_kinds}
+use Rattle.host_laws.proofs.hosts.ShellHost.{opened_first, opened_next, shell_after, shell_sends}
+use Rattle.host_laws.proofs.hosts.BlocksAlong.{sent_to_tc}
+use Rattle.host_laws.proofs.coordinator.HostTurns.{HostTurn, IsAside, IsBorn, IsTurned, aside, in_rows, starting, turning}
+use Rattle.host_laws.proofs.hosts.LinkCounts.{sent_signals, shell_signals, signals, steps}
+use Rattle.run_laws.proofs.causes.Begun.{keeps}
+use Rattle.host_laws.proofs.rows.Sends.{lqh_kinds}
 use Rattle.answer_laws.proofs.Missed.{api_is, commit_at, commit_turn, key_turn, missed_commit, missed_key, none_asked}
 use Rattle.answer_laws.proofs.Missed.{shell_stays, some_held}
 use Rattle.answer_laws.proofs.OpenTurns.{OpenTurn, commit_body, is_asked, is_told, open_turn, stays_open}
 use Rattle.answer_laws.proofs.Strangers.{answers_asked, answers_few, aside_answers, commits_few, keys_few, lqh_answers}
 use Rattle.answer_laws.proofs.Strangers.{starts_few, starts_once}
-use Rattle.host_laws.proofs.TcKeys.{answer_of, answers_in, is_answer, is_key, key_of_tx}
-use Rattle.host_laws.proofs.TcLives.{is_start, start_of}
+use Rattle.host_laws.proofs.coordinator.Keys.{answer_of, answers_in, is_answer, is_key, key_of_tx}
+use Rattle.host_laws.proofs.coordinator.Lives.{is_start, start_of}
 use Rattle.host_laws.specs.Live.{of_live}
-use Rattle.host_laws.proofs.TcSteps.{live_early}
+use Rattle.host_laws.proofs.coordinator.Steps.{live_early}
 use Rattle.tc_block.proofs.EachTurn.{IsMissed}
 use Rattle.tc_block.proofs.TurnRows.{tx_in, is_turn}
 use Rattle.answer_laws.proofs.Wants.{IsAsking, all_right, entry_next, held_few}
-use Rattle.host_laws.proofs.Wishes.{is_api, is_tc, second_fails, sends_of, to_node}
+use Rattle.host_laws.proofs.api.Wishes.{is_api, is_tc, second_fails, sends_of, to_node}
 use Rattle.host_laws.specs.OpenedAfter.{opened_in}
 use Rattle.run_theory.specs.Counts.{one_if, tally}
 

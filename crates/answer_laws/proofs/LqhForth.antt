@@ -8,9 +8,9 @@ use Rattle.sig_core.specs.declared.signal.chain.ChainSignal.TheVariants.{Commit,
 use Rattle.sig_core.specs.Same.{same_tx}
 use Rattle.lqh_block.specs.Lqh.{lqh_table}
 use Rattle.lqh_block.specs.State.{LqhState}
-use Rattle.host_laws.proofs.LqhOther.{is_own_kind, lqh_passes}
-use Rattle.host_laws.proofs.LqhWaits.{is_forth}
-use Rattle.host_laws.proofs.SendKinds.{SendsOnly, of_each}
+use Rattle.host_laws.proofs.rows.Other.{is_own_kind, lqh_passes}
+use Rattle.host_laws.proofs.rows.Waits.{is_forth}
+use Rattle.host_laws.proofs.hosts.SendKinds.{SendsOnly, of_each}
 
 -- all but a commit or a completion of the transaction
 abbrev pub is_back : TxId → Body → Bool

@@ -27,11 +27,11 @@ use Rattle.tc_block.specs.Touched.{fits, place_of}
 use Rattle.answer_laws.proofs.ApiEntries.{is_commit_req, of_opened}
 use Rattle.answer_laws.proofs.OpenTurns.{commit_body}
 use Rattle.run_theory.specs.Counts.{one_if, tally}
-use Rattle.host_laws.proofs.TcKeys.{key_of_tx}
-use Rattle.host_laws.proofs.TcMoves.{same_tx-is}
+use Rattle.host_laws.proofs.coordinator.Keys.{key_of_tx}
+use Rattle.host_laws.proofs.coordinator.Moves.{same_tx-is}
 use Rattle.tc_block.proofs.EachTurn.{IsMissed}
 use Rattle.tc_block.proofs.TurnRows.{tx_in, is_turn}
-use Rattle.host_laws.proofs.Wishes.{is_api, is_tc}
+use Rattle.host_laws.proofs.api.Wishes.{is_api, is_tc}
 
 pub some_held : (tx : TxId) (opened : List OpenTransaction) (t : OpenTransaction) → of_opened tx opened ≡ Some t
     → 1 ≤ tally (has_tx tx) opened

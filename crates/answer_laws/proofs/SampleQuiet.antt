@@ -21,10 +21,28 @@ local : (h : ℕ) → IsLog (machine lone) h (sample h)
 unfolding receiver started row shell_row request_row begin_row begun_row tc_part_row tc.begin_row fresh_shell fresh_part
 local zero = (
   record { at = refl; stamped = omega arith; runs = refl; fits = record { marks = refl; asked_at = 0; asked = tt } },
-  (record { at = refl; stamped = omega arith; runs = tt; fits = record { marks = refl; asked_at = 0; asked = record { request = Begin 7 (Some 1); shell = refl; is = refl } } }, tt),
+  (
+    record {
+      at = refl;
+      stamped = omega arith;
+      runs = tt;
+      fits = record
+          { marks = refl; asked_at = 0; asked = record { request = Begin 7 (Some 1); shell = refl; is = refl } };
+    },
+    tt,
+  ),
 )
 local (suc zero) = tt
-local (suc (suc zero)) = (record { at = refl; stamped = omega arith; runs = tt; fits = record { marks = refl; asked_at = 0; asked = tt } }, tt)
+local (suc (suc zero)) = (
+  record {
+    at = refl;
+    stamped = omega arith;
+    runs = tt;
+    fits = record
+        { marks = refl; asked_at = 0; asked = tt };
+  },
+  tt,
+)
 local (suc (suc (suc h))) = tt
 
 -- nothing passes a test that fails
@@ -74,7 +92,11 @@ sample_quiet = record {
       fragments_some = omega arith;
       fragments_few = omega arith;
     };
-    right = record { local = local; there = λ h has. inl refl; linked = λ i j. inl (record { newer = []; is = sym (linked i j) }) };
+    right = record {
+      local = local;
+      there = λ h has. inl refl;
+      linked = λ i j. inl (record { newer = []; is = sym (linked i j) });
+    };
     within = within;
     quiet = λ i j low under. linked i j;
   };

@@ -13,12 +13,12 @@ use Rattle.world_core.specs.Machine.{machine, step_after}
 use Rattle.world_core.specs.Start.{Start}
 use Rattle.world_core.specs.Steps.{HostStep}
 use Rattle.run_theory.specs.Counts.{one_if}
-use Rattle.host_laws.proofs.LinkCounts.{sent_signals, signals, taken_signals}
-use Rattle.host_laws.proofs.PartCounts.{IsPart, is_cont}
-use Rattle.host_laws.proofs.Sums.{total_le, total_same}
+use Rattle.host_laws.proofs.hosts.LinkCounts.{sent_signals, signals, taken_signals}
+use Rattle.host_laws.proofs.hosts.PartCounts.{IsPart, is_cont}
+use Rattle.host_laws.proofs.hosts.Sums.{total_le, total_same}
 use Rattle.run_theory.proofs.Tally.{and_few}
-use Rattle.host_laws.proofs.Wishes.{sends_of}
-use Rattle.run_laws.proofs.AlongSteps.{Goes, few_taken}
+use Rattle.host_laws.proofs.api.Wishes.{sends_of}
+use Rattle.run_laws.proofs.hosts.AlongSteps.{Goes, few_taken}
 use Rattle.answer_laws.proofs.AbortCounts.{conts_few}
 use Rattle.answer_laws.proofs.Totals.{Grown, sent_all, sent_more, taken_all, taken_more}
 use Rattle.answer_laws.specs.Answered.{AreQuiet}

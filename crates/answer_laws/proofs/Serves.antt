@@ -15,6 +15,7 @@ each_served start logs t quiet inside tx is =
       live = l.live;
       unreported = l.unreported;
       uncommitted = no_commit start logs (home start tx) tx l.transaction quiet low l.live;
-      operating = λ asked asks. each_asks_where_operating start logs t quiet inside tx l.transaction asked is l.live asks;
+      operating =
+          λ asked asks. each_asks_where_operating start logs t quiet inside tx l.transaction asked is l.live asks;
       waiting = λ asked asks. operations_wait start logs (home start tx) tx l.transaction asked quiet low l.live asks;
     }

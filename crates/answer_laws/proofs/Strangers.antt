@@ -26,20 +26,20 @@ use Rattle.world_core.specs.Hosts.{home, hosts, tc_host}
 use Rattle.world_core.specs.Machine.{after, machine, step_after}
 use Rattle.world_core.specs.Start.{Start}
 use Rattle.world_core.specs.Steps.{HostStep}
-use Rattle.run_laws.proofs.AlongSteps.{at_home, few_taken, none_else, turn_at}
+use Rattle.run_laws.proofs.hosts.AlongSteps.{at_home, few_taken, none_else, turn_at}
 use Rattle.answer_laws.proofs.ApiEntries.{is_commit_req}
 use Rattle.answer_laws.proofs.Asks.{host_asked, host_silent, plain_answer, plain_key}
-use Rattle.host_laws.proofs.DihSends.{dih_kinds}
-use Rattle.host_laws.proofs.BlocksAlong.{at_own_node, no_api}
-use Rattle.host_laws.proofs.HostTurns.{HostTurn, aside, in_rows, is_aside, starting, turning}
-use Rattle.host_laws.proofs.LinkCounts.{few_sends, sent_signals, shell_signals, signals, steps, steps_from}
-use Rattle.run_laws.proofs.Begun.{keeps, plain_start, silent_start}
-use Rattle.host_laws.proofs.LqhOps.{right_of}
-use Rattle.host_laws.proofs.LqhSends.{lqh_kinds}
-use Rattle.host_laws.proofs.SendKinds.{are_of, is_dih_kind, is_lqh_kind, is_tc_kind, none_of}
-use Rattle.host_laws.proofs.TcKeys.{answer_of, answers_in, is_answer, is_key, key_of_tx}
-use Rattle.host_laws.proofs.TcLives.{is_start, start_of}
-use Rattle.host_laws.proofs.Wishes.{and_false, is_api, is_tc, sends_of, to_node, tc_none}
+use Rattle.host_laws.proofs.hosts.DihSends.{dih_kinds}
+use Rattle.host_laws.proofs.hosts.BlocksAlong.{at_own_node, no_api}
+use Rattle.host_laws.proofs.coordinator.HostTurns.{HostTurn, aside, in_rows, is_aside, starting, turning}
+use Rattle.host_laws.proofs.hosts.LinkCounts.{few_sends, sent_signals, shell_signals, signals, steps, steps_from}
+use Rattle.run_laws.proofs.causes.Begun.{keeps, plain_start, silent_start}
+use Rattle.host_laws.proofs.rows.Operations.{right_of}
+use Rattle.host_laws.proofs.rows.Sends.{lqh_kinds}
+use Rattle.host_laws.proofs.hosts.SendKinds.{are_of, is_dih_kind, is_lqh_kind, is_tc_kind, none_of}
+use Rattle.host_laws.proofs.coordinator.Keys.{answer_of, answers_in, is_answer, is_key, key_of_tx}
+use Rattle.host_laws.proofs.coordinator.Lives.{is_start, start_of}
+use Rattle.host_laws.proofs.api.Wishes.{and_false, is_api, is_tc, sends_of, to_node, tc_none}
 
 -- what isn't said of the transaction answers none of its operations
 pub aside_answers : (tx : TxId) (sends : List Outgoing) → are_of (is_aside tx) sends ≡ true → answers_in tx sends ≡ 0

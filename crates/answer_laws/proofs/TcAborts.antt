@@ -30,16 +30,16 @@ use Rattle.tc_block.specs.Part.{part_effects}
 use Rattle.tc_block.specs.Sends.{aborts_of, entering, front_sends, key_sends, phase_sends}
 use Rattle.tc_block.specs.State.{TcState}
 use Rattle.tc_block.specs.Turn.{Turn}
-use Rattle.lqh_block.proofs.IndexLemmas.{same as same_key-is}
+use Rattle.row_records.proofs.KeyLemmas.{same as same_key-is}
 use Rattle.sig_core.proofs.Keys.{same_tx-self}
-use Rattle.host_laws.proofs.LqhOps.{is_good, is_lqh, is_node, left_of, right_of, true_and}
+use Rattle.host_laws.proofs.rows.Operations.{is_good, is_lqh, is_node, left_of, right_of, true_and}
 use Rattle.run_theory.specs.Counts.{one_if}
-use Rattle.host_laws.proofs.PartCounts.{IsPart, all_counted, is_cont, part_is}
+use Rattle.host_laws.proofs.hosts.PartCounts.{IsPart, all_counted, is_cont, part_is}
 use Rattle.tc_block.proofs.EachTurn.{IsAnswered, IsMissed}
-use Rattle.host_laws.proofs.TcTurns.{abort_ends, aborted, aborts, all_completed, answers, asked_to, asks, commits}
-use Rattle.host_laws.proofs.TcTurns.{committed, completed, completes, decides, ends, entered_phase, gives_up, GivesUp}
-use Rattle.host_laws.proofs.TcTurns.{goes_on, is_row_answer, keeps, late, over_not, refused, TurnMove}
-use Rattle.host_laws.proofs.Wishes.{is_tc, sends_of}
+use Rattle.host_laws.proofs.coordinator.Turns.{abort_ends, aborted, aborts, all_completed, answers, asked_to, asks, commits}
+use Rattle.host_laws.proofs.coordinator.Turns.{committed, completed, completes, decides, ends, entered_phase, gives_up, GivesUp}
+use Rattle.host_laws.proofs.coordinator.Turns.{goes_on, is_row_answer, keeps, late, over_not, refused, TurnMove}
+use Rattle.host_laws.proofs.api.Wishes.{is_tc, sends_of}
 use Rattle.tc_block.specs.Phases.{is_aborting}
 
 -- an abort of the transaction on its way to a replica, or its answer

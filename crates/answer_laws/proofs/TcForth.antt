@@ -1,9 +1,10 @@
--- What a turn of a transaction sends to replicas: operations where it is open, commits and completions where it is decided.
+-- What a turn of a transaction sends to replicas: operations where it is open, commits and completions where it is
+-- decided.
 use Rattle.std.proofs.Common.{◌≡◌, ◌⊎◌, ℕ, ◌+◌, ◌≤◌, List, ◌++◌, Bool, true, false, refl, ap, sym, ◌∙◌, arith, inl, inr}
 use Rattle.std.specs.Prelude.{◌&&◌, Option, Some}
 use Rattle.std.specs.List.{flat_map}
 use Rattle.std.proofs.lemmas.Bool.{false≢true}
-use Rattle.lqh_block.proofs.IndexLemmas.{same as same_key-is}
+use Rattle.row_records.proofs.KeyLemmas.{same as same_key-is}
 use Rattle.sig_core.specs.declared.member.TxId.{TxId}
 use Rattle.sig_core.specs.declared.outcome.AbortCause.{AbortCause}
 use Rattle.sig_core.specs.declared.outs.Outgoing.{Outgoing}
@@ -28,13 +29,13 @@ use Rattle.tc_block.specs.Turn.{Turn}
 use Rattle.tc_block.specs.Phases.{is_decided}
 use Rattle.sig_core.proofs.Keys.{same_tx-self}
 use Rattle.answer_laws.proofs.LqhForth.{is_back}
-use Rattle.host_laws.proofs.LqhWaits.{hops, is_hop}
-use Rattle.host_laws.proofs.PartKinds.{IsPartKind, entering_of, parts_of}
-use Rattle.host_laws.proofs.PhaseSends.{part_of}
-use Rattle.host_laws.proofs.SendKinds.{are_of, none_of, of_append, of_flat, of_kind, of_map}
+use Rattle.host_laws.proofs.rows.Waits.{hops, is_hop}
+use Rattle.host_laws.proofs.hosts.PartKinds.{IsPartKind, entering_of, parts_of}
+use Rattle.host_laws.proofs.coordinator.PhaseSends.{part_of}
+use Rattle.host_laws.proofs.hosts.SendKinds.{are_of, none_of, of_append, of_flat, of_kind, of_map}
 use Rattle.run_theory.specs.Counts.{one_if}
-use Rattle.host_laws.proofs.TcOps.{asks_key}
-use Rattle.host_laws.proofs.TcTurns.{abort_ends, aborted, aborts, all_completed, answers, asked_to, asks, commits, committed, completed, completes, decides, ends, entered_phase, gives_up, GivesUp, goes_on, is_wait_kind, keeps, late, over_not, refused, TurnMove}
+use Rattle.host_laws.proofs.coordinator.Operations.{asks_key}
+use Rattle.host_laws.proofs.coordinator.Turns.{abort_ends, aborted, aborts, all_completed, answers, asked_to, asks, commits, committed, completed, completes, decides, ends, entered_phase, gives_up, GivesUp, goes_on, is_wait_kind, keeps, late, over_not, refused, TurnMove}
 use Rattle.tc_block.specs.Phases.{is_aborting}
 
 -- neither a request for an operation nor an answer to one
@@ -44,7 +45,8 @@ is_hopless (Chain (LqhKeyConf other at answer)) = false
 is_hopless (Chain (LqhKeyRef other at why)) = false
 is_hopless _ = true
 
-pub hopless_none : (tx : TxId) (key : List ℕ) (sends : List Outgoing) → are_of is_hopless sends ≡ true → hops tx key sends ≡ 0
+pub hopless_none : (tx : TxId) (key : List ℕ) (sends : List Outgoing) → are_of is_hopless sends ≡ true
+    → hops tx key sends ≡ 0
 hopless_none tx key sends kind = none_of is_hopless (is_hop tx key) fails sends kind
   where
     fails : (to : Place) (b : Body) → is_hopless b ≡ true → is_hop tx key to b ≡ false
@@ -75,7 +77,8 @@ wait_back tx _ e = refl
 
 -- a transaction that isn't decided sends no commit, and no completion
 module _ (node : ℕ) (layout : Layout) (tx : TxId) where
-  back_key : (phase : Phase) (t : Touched) → is_decided phase ≡ false → are_of (is_back tx) (key_sends layout tx phase t) ≡ true
+  back_key : (phase : Phase) (t : Touched) → is_decided phase ≡ false
+      → are_of (is_back tx) (key_sends layout tx phase t) ≡ true
   unfolding key_sends
   back_key Open t off = refl
   back_key Verifying t off = refl
@@ -91,13 +94,16 @@ module _ (node : ℕ) (layout : Layout) (tx : TxId) where
   back_front (Committing epoch k) off = absurd (false≢true (sym off))
   back_front (Completing epoch k) off = absurd (false≢true (sym off))
 
-  back_parts : (phase : Phase) (touched : List Touched) (at : ℕ) → is_decided phase ≡ false → are_of (is_back tx) (part_effects node tx (phase_sends layout tx phase touched) at).sends ≡ true
+  back_parts : (phase : Phase) (touched : List Touched) (at : ℕ) → is_decided phase ≡ false
+      → are_of (is_back tx) (part_effects node tx (phase_sends layout tx phase touched) at).sends ≡ true
   unfolding phase_sends
   back_parts phase touched at off =
       part_of (is_back tx) tx (λ a. refl) node (front_sends tx phase ++ flat_map (key_sends layout tx phase) touched) at
-      (of_append (is_back tx) (front_sends tx phase) (flat_map (key_sends layout tx phase) touched) (back_front phase off) (of_flat (is_back tx) (key_sends layout tx phase) touched (λ t. back_key phase t off)))
+      (of_append (is_back tx) (front_sends tx phase) (flat_map (key_sends layout tx phase) touched)
+      (back_front phase off) (of_flat (is_back tx) (key_sends layout tx phase) touched (λ t. back_key phase t off)))
 
-  back_entering : (t : Transaction) (phase : Phase) → is_decided phase ≡ false → are_of (is_back tx) (entering node layout tx t phase).effects.sends ≡ true
+  back_entering : (t : Transaction) (phase : Phase) → is_decided phase ≡ false
+      → are_of (is_back tx) (entering node layout tx t phase).effects.sends ≡ true
   unfolding entering
   back_entering t phase off = back_parts phase t.touched 0 off
 
@@ -111,30 +117,44 @@ module _ (s : TcState) (tx : TxId) (key : List ℕ) (t : Transaction) (body : Bo
   -- what a turn sends for operations on the key
   pub record HopTurn : Type 0 where
     pub opened : turn.over ≡ false → turn.step.state.phase ≡ Open
-        → (t.phase ≡ Open) × (one_if (asks_key key t.asked) + hops tx key turn.step.effects.sends ≤ one_if (asks_key key turn.step.state.asked) + answer_came tx key body)
-    pub few : (hops tx key turn.step.effects.sends ≡ 0) ⊎ ((t.phase ≡ Open) × ((asks_key key t.asked ≡ false) × (hops tx key turn.step.effects.sends ≤ 1)))
+        → (t.phase ≡ Open) × (one_if (asks_key key t.asked) + hops tx key turn.step.effects.sends ≤ one_if
+        (asks_key key turn.step.state.asked) + answer_came tx key body)
+    pub few : (hops tx key turn.step.effects.sends ≡ 0)
+        ⊎ ((t.phase ≡ Open) × ((asks_key key t.asked ≡ false) × (hops tx key turn.step.effects.sends ≤ 1)))
 
   -- and for commits
   pub record BackTurn : Type 0 where
-    pub undecided : turn.over ≡ false → is_decided turn.step.state.phase ≡ false → (is_decided t.phase ≡ false) × (are_of (is_back tx) turn.step.effects.sends ≡ true)
+    pub undecided : turn.over ≡ false → is_decided turn.step.state.phase ≡ false
+        → (is_decided t.phase ≡ false) × (are_of (is_back tx) turn.step.effects.sends ≡ true)
 
   phase_is : (other : Turn) → turn ≡ other → turn.step.state.phase ≡ other.step.state.phase
   phase_is other is = ap (λ (x : Turn). x.step.state.phase) is
 
   -- it stays as it is, or closes, and sends nothing of the kind
   quiet_hops : (other : Turn) → turn ≡ other → are_of is_hopless other.step.effects.sends ≡ true
-      → ((other.over ≡ true) ⊎ ((other.step.state.phase ≡ Open → ⊥) ⊎ ((other.step.state.phase ≡ t.phase) × (other.step.state.asked ≡ t.asked)))) → HopTurn
+      → ((other.over ≡ true) ⊎ ((other.step.state.phase ≡ Open → ⊥) ⊎
+      ((other.step.state.phase ≡ t.phase) × (other.step.state.asked ≡ t.asked)))) → HopTurn
   quiet_hops other is kind why = record { opened = λ over p. by why over p; few = inl none }
     where
       none : hops tx key turn.step.effects.sends ≡ 0
       none = ap (λ (x : Turn). hops tx key x.step.effects.sends) is ∙ hopless_none tx key other.step.effects.sends kind
 
-      by : ((other.over ≡ true) ⊎ ((other.step.state.phase ≡ Open → ⊥) ⊎ ((other.step.state.phase ≡ t.phase) × (other.step.state.asked ≡ t.asked)))) → turn.over ≡ false → turn.step.state.phase ≡ Open
-          → (t.phase ≡ Open) × (one_if (asks_key key t.asked) + hops tx key turn.step.effects.sends ≤ one_if (asks_key key turn.step.state.asked) + answer_came tx key body)
+      by : ((other.over ≡ true) ⊎ ((other.step.state.phase ≡ Open → ⊥) ⊎
+          ((other.step.state.phase ≡ t.phase) × (other.step.state.asked ≡ t.asked)))) → turn.over ≡ false
+          → turn.step.state.phase ≡ Open
+          → (t.phase ≡ Open) × (one_if (asks_key key t.asked) + hops tx key turn.step.effects.sends ≤ one_if
+          (asks_key key turn.step.state.asked) + answer_came tx key body)
       by (inl o) over p = over_not turn other is o over
       by (inr (inl closed)) over p = absurd (closed (sym (phase_is other is) ∙ p))
-      by (inr (inr same)) over p =
-          (sym same.0 ∙ (sym (phase_is other is) ∙ p), omega (arith, none, ap (λ (x : Turn). one_if (asks_key key x.step.state.asked)) is, ap (λ a. one_if (asks_key key a)) same.1))
+      by (inr (inr same)) over p = (
+        sym same.0 ∙ (sym (phase_is other is) ∙ p),
+        omega (
+          arith,
+          none,
+          ap (λ (x : Turn). one_if (asks_key key x.step.state.asked)) is,
+          ap (λ a. one_if (asks_key key a)) same.1,
+        ),
+      )
 
   aborting_no : (why : AbortCause) (v : Bool) (k : ℕ) → Aborting why v k ≡ Open → ⊥
   aborting_no why v k e = cc
@@ -148,7 +168,8 @@ module _ (s : TcState) (tx : TxId) (key : List ℕ) (t : Transaction) (body : Bo
   verifying_no : Verifying ≡ Open → ⊥
   verifying_no e = cc
 
-  entered_closed : (w : Transaction) (phase : Phase) → (phase ≡ Open → ⊥) → (entering s.node s.layout tx w phase).state.phase ≡ Open → ⊥
+  entered_closed : (w : Transaction) (phase : Phase) → (phase ≡ Open → ⊥)
+      → (entering s.node s.layout tx w phase).state.phase ≡ Open → ⊥
   entered_closed w phase closed e = closed (sym (entered_phase s.node s.layout tx w phase) ∙ e)
 
   end_hopless : (why : AbortCause) (b : Bool) → are_of is_hopless (abort.abort_end s.node tx why b) ≡ true
@@ -159,12 +180,22 @@ module _ (s : TcState) (tx : TxId) (key : List ℕ) (t : Transaction) (body : Bo
   asked_key o a e = ap (asks_key key) e
 
   pub hop_turn : TurnMove s tx t body turn → HopTurn
-  hop_turn (keeps sends is kind missed) = quiet_hops _ is (of_kind is_wait_kind is_hopless wait_hopless sends kind) (inr (inr (refl, refl)))
-  hop_turn (goes_on at about low is) = quiet_hops _ is (parts_of is_hopless tx (hopless_part tx) s.node s.layout t.phase t.touched at) (inr (inr (refl, refl)))
-  hop_turn (asks op about p q fit is) = record { opened = λ over e. (p, omega (arith, none, sent, now)); few = inr (p, (ap (asks_key key) q, omega (arith, sent, most (same_key (key_of op) key)))) }
+  hop_turn (keeps sends is kind missed) =
+      quiet_hops _ is (of_kind is_wait_kind is_hopless wait_hopless sends kind) (inr (inr (refl, refl)))
+  hop_turn (goes_on at about low is) = quiet_hops _ is
+      (parts_of is_hopless tx (hopless_part tx) s.node s.layout t.phase t.touched at) (inr (inr (refl, refl)))
+  hop_turn (asks op about p q fit is) = record {
+    opened = λ over e. (p, omega (arith, none, sent, now));
+    few = inr (p, (ap (asks_key key) q, omega (arith, sent, most (same_key (key_of op) key))));
+  }
     where
       sent : hops tx key turn.step.effects.sends ≤ one_if (same_key (key_of op) key)
-      sent = omega (arith, ap (λ (x : Turn). hops tx key x.step.effects.sends) is, few_one (same_tx tx tx) (same_key (key_of op) key))
+      sent = omega (
+        arith,
+        ap (λ (x : Turn). hops tx key x.step.effects.sends) is,
+        few_one (same_tx tx tx)
+            (same_key (key_of op) key),
+      )
         where
           few_one : (a b : Bool) → one_if (a && b) ≤ one_if b
           few_one true b = omega arith
@@ -181,37 +212,68 @@ module _ (s : TcState) (tx : TxId) (key : List ℕ) (t : Transaction) (body : Bo
       most false = omega arith
   hop_turn (answers at a asked about p q is) =
       record {
-        opened = λ over e. (p, omega (arith, ap (λ (x : Turn). hops tx key x.step.effects.sends) is, ap one_if (asked_key t.asked asked q.is), came));
+        opened = λ over e. (
+          p,
+          omega (
+            arith,
+            ap (λ (x : Turn). hops tx key x.step.effects.sends) is,
+            ap one_if
+                (asked_key t.asked asked q.is),
+            came,
+          ),
+        );
         few = inl (ap (λ (x : Turn). hops tx key x.step.effects.sends) is);
       }
     where
       came : one_if (same_key (key_of asked.op) key) ≤ answer_came tx key body
-      came = omega (arith, ap (answer_came tx key) about, ap (λ b. one_if (b && same_key at key)) (same_tx-self tx), ap (λ k. one_if (same_key k key)) (same_key-is (key_of asked.op) at q.on))
-  hop_turn (late at asked about p q is) = quiet_hops _ is (of_map is_hopless (abort_of tx at) (chain_of s.layout at) (λ r. refl)) (inr (inl closed))
+      came = omega (
+        arith,
+        ap (answer_came tx key) about,
+        ap (λ b. one_if (b && same_key at key)) (same_tx-self tx),
+        ap
+            (λ k. one_if (same_key k key)) (same_key-is (key_of asked.op) at q.on),
+      )
+  hop_turn (late at asked about p q is) =
+      quiet_hops _ is (of_map is_hopless (abort_of tx at) (chain_of s.layout at) (λ r. refl)) (inr (inl closed))
     where
       closed : t.phase ≡ Open → ⊥
       closed e = false≢true (sym (ap is_aborting e) ∙ p)
   hop_turn (decides about p q is) = quiet_hops _ is refl (inr (inl verifying_no))
-  hop_turn (aborts w why gives some is) = quiet_hops _ is (entering_of is_hopless tx (hopless_part tx) s.node s.layout w _) (inr (inl (entered_closed w _ (aborting_no why _ _))))
+  hop_turn (aborts w why gives some is) = quiet_hops _ is
+      (entering_of is_hopless tx (hopless_part tx) s.node s.layout w _)
+      (inr (inl (entered_closed w _ (aborting_no why _ _))))
   hop_turn (gives_up w why gives is none) = quiet_hops _ is (end_hopless why (abort.is_verifying w.phase)) (inl refl)
   hop_turn (aborted at why v k about p low is) = quiet_hops _ is refl (inr (inl (aborting_no why v _)))
   hop_turn (abort_ends at why v k about p low is) = quiet_hops _ is (end_hopless why v) (inl refl)
-  hop_turn (commits epoch about p is) = quiet_hops _ is (entering_of is_hopless tx (hopless_part tx) s.node s.layout t _) (inr (inl (entered_closed t _ (committing_no _ _))))
+  hop_turn (commits epoch about p is) = quiet_hops _ is
+      (entering_of is_hopless tx (hopless_part tx) s.node s.layout t _)
+      (inr (inl (entered_closed t _ (committing_no _ _))))
   hop_turn (committed epoch k p is) = quiet_hops _ is refl (inr (inl (committing_no _ _)))
-  hop_turn (completes epoch p is) = quiet_hops _ is (entering_of is_hopless tx (hopless_part tx) s.node s.layout t _) (inr (inl (entered_closed t _ (completing_no _ _))))
+  hop_turn (completes epoch p is) = quiet_hops _ is (entering_of is_hopless tx (hopless_part tx) s.node s.layout t _)
+      (inr (inl (entered_closed t _ (completing_no _ _))))
   hop_turn (ends epoch p is) = quiet_hops _ is refl (inl refl)
   hop_turn (completed epoch k p is) = quiet_hops _ is refl (inr (inl (completing_no _ _)))
   hop_turn (all_completed epoch k p is) = quiet_hops _ is refl (inl refl)
 
   -- one that is decided stays so
-  back_same : (other : Turn) → turn ≡ other → other.step.state.phase ≡ t.phase → (is_decided t.phase ≡ false → are_of (is_back tx) other.step.effects.sends ≡ true) → BackTurn
-  back_same other is same kind = record { undecided = λ over off. let was = ap is_decided (sym same) ∙ (sym (ap is_decided (phase_is other is)) ∙ off) in (was, ap (λ (x : Turn). are_of (is_back tx) x.step.effects.sends) is ∙ kind was) }
+  back_same : (other : Turn) → turn ≡ other → other.step.state.phase ≡ t.phase
+      → (is_decided t.phase ≡ false → are_of (is_back tx) other.step.effects.sends ≡ true) → BackTurn
+  back_same other is same kind = record {
+    undecided = λ over off. let was = ap is_decided (sym same) ∙ (sym (ap is_decided (phase_is other is)) ∙ off) in
+        (was, ap (λ (x : Turn). are_of (is_back tx) x.step.effects.sends) is ∙ kind was);
+  }
 
-  back_from : (other : Turn) → turn ≡ other → is_decided t.phase ≡ false → are_of (is_back tx) other.step.effects.sends ≡ true → BackTurn
-  back_from other is was kind = record { undecided = λ over off. (was, ap (λ (x : Turn). are_of (is_back tx) x.step.effects.sends) is ∙ kind) }
+  back_from : (other : Turn) → turn ≡ other → is_decided t.phase ≡ false
+      → are_of (is_back tx) other.step.effects.sends ≡ true → BackTurn
+  back_from other is was kind = record {
+    undecided = λ over off. (was, ap (λ (x : Turn). are_of (is_back tx) x.step.effects.sends) is ∙ kind);
+  }
 
-  back_never : (other : Turn) → turn ≡ other → (is_decided other.step.state.phase ≡ true) ⊎ (other.over ≡ true) → BackTurn
-  back_never other is (inl on) = record { undecided = λ over off. absurd (false≢true (sym off ∙ (ap is_decided (phase_is other is) ∙ on))) }
+  back_never : (other : Turn) → turn ≡ other → (is_decided other.step.state.phase ≡ true) ⊎ (other.over ≡ true)
+      → BackTurn
+  back_never other is (inl on) = record {
+    undecided = λ over off. absurd (false≢true (sym off ∙ (ap is_decided (phase_is other is) ∙ on)));
+  }
   back_never other is (inr o) = record { undecided = λ over off. over_not turn other is o over }
 
   given_undecided : (w : Transaction) → GivesUp t body w → is_decided t.phase ≡ false
@@ -227,13 +289,17 @@ module _ (s : TcState) (tx : TxId) (key : List ℕ) (t : Transaction) (body : Bo
   aborting_undecided (Completing epoch k) e = absurd (false≢true e)
 
   pub back_turn : TurnMove s tx t body turn → BackTurn
-  back_turn (keeps sends is kind missed) = back_same _ is refl (λ off. of_kind is_wait_kind (is_back tx) (wait_back tx) sends kind)
-  back_turn (goes_on at about low is) = back_same _ is refl (λ off. back_parts s.node s.layout tx t.phase t.touched at off)
+  back_turn (keeps sends is kind missed) =
+      back_same _ is refl (λ off. of_kind is_wait_kind (is_back tx) (wait_back tx) sends kind)
+  back_turn (goes_on at about low is) =
+      back_same _ is refl (λ off. back_parts s.node s.layout tx t.phase t.touched at off)
   back_turn (asks op about p q fit is) = back_same _ is refl (λ off. refl)
   back_turn (answers at a asked about p q is) = back_same _ is refl (λ off. refl)
-  back_turn (late at asked about p q is) = back_from _ is (aborting_undecided t.phase p) (of_map (is_back tx) (abort_of tx at) (chain_of s.layout at) (λ r. refl))
+  back_turn (late at asked about p q is) = back_from _ is (aborting_undecided t.phase p)
+      (of_map (is_back tx) (abort_of tx at) (chain_of s.layout at) (λ r. refl))
   back_turn (decides about p q is) = back_from _ is (ap is_decided p) refl
-  back_turn (aborts w why gives some is) = back_from _ is (given_undecided w gives) (back_entering s.node s.layout tx w _ refl)
+  back_turn (aborts w why gives some is) =
+      back_from _ is (given_undecided w gives) (back_entering s.node s.layout tx w _ refl)
   back_turn (gives_up w why gives is none) = back_never _ is (inr refl)
   back_turn (aborted at why v k about p low is) = back_from _ is (ap is_decided p) refl
   back_turn (abort_ends at why v k about p low is) = back_never _ is (inr refl)

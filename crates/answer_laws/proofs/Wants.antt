@@ -24,18 +24,18 @@ use Rattle.sig_core.specs.declared.signal.Signal.{Signal}
 use Rattle.sig_core.specs.Step.{Step}
 use Rattle.world_core.specs.Machine.{after}
 use Rattle.world_core.specs.Start.{Start}
-use Rattle.host_laws.proofs.ApiBegins.{each_changed, each_less}
+use Rattle.host_laws.proofs.api.Begins.{each_changed, each_less}
 use Rattle.answer_laws.proofs.ApiEntries.{EntryStep, IsEntryRight, Moves, asks_end, commits_to, goes, is_answered}
 use Rattle.answer_laws.proofs.ApiEntries.{is_answered_last, is_noted, keys_to, moves, starts_ready, starts_working}
 use Rattle.answer_laws.proofs.ApiEntries.{stays, works_on}
-use Rattle.host_laws.proofs.ApiHolds.{shell_holds}
+use Rattle.host_laws.proofs.api.Holds.{shell_holds}
 use Rattle.answer_laws.proofs.ApiSteps.{ApiStep, Changes, answered_last, answered_ready, api_step, begins_ready}
 use Rattle.answer_laws.proofs.ApiSteps.{begins_working, changes, commits, drops, notes, opens, rests, works}
-use Rattle.host_laws.proofs.ShellHost.{opened_first, opened_next, shell_after}
-use Rattle.host_laws.proofs.LinkCounts.{steps}
+use Rattle.host_laws.proofs.hosts.ShellHost.{opened_first, opened_next, shell_after}
+use Rattle.host_laws.proofs.hosts.LinkCounts.{steps}
 use Rattle.run_theory.specs.Counts.{one_if, tally}
-use Rattle.host_laws.proofs.TcKeys.{answer_of}
-use Rattle.host_laws.proofs.TcLives.{is_start, start_of}
+use Rattle.host_laws.proofs.coordinator.Keys.{answer_of}
+use Rattle.host_laws.proofs.coordinator.Lives.{is_start, start_of}
 use Rattle.answer_laws.specs.Answered.{is_operating}
 use Rattle.host_laws.specs.OpenedAfter.{opened_in}
 

@@ -83,7 +83,8 @@ pub record AreQuiet (start : Start) (logs : ℕ → List HostStep) : Type 0 wher
 
 -- a claim about each transaction of quiet logs
 abbrev pub EachAtQuiet : (Start → (ℕ → List HostStep) → OpenTransaction → Type 0) → Type 0
-EachAtQuiet Claim = (start : Start) (logs : ℕ → List HostStep) (t : OpenTransaction) → AreQuiet start logs → IsIn t (opened_after start logs) → Claim start logs t
+EachAtQuiet Claim = (start : Start) (logs : ℕ → List HostStep) (t : OpenTransaction) → AreQuiet start logs
+    → IsIn t (opened_after start logs) → Claim start logs t
 
 -- each command is answered, but for an operation that waits for a lock
 abbrev pub EachIsAnswered : Type 0
@@ -101,9 +102,11 @@ abbrev pub is_operating : Doing → Bool
 is_operating Operating = true
 is_operating _ = false
 
--- a transaction that has begun, and whose end isn't reported, is one of its coordinator, which hasn't reported it either
+-- a transaction that has begun, and whose end isn't reported, is one of its coordinator, which hasn't reported it
+-- either
 abbrev pub HasCoordinator : Start → (ℕ → List HostStep) → OpenTransaction → Type 0
-HasCoordinator start logs t = (tx : TxId) → t.tx ≡ Some tx → IsLiveAt tx (after start (home start tx) (logs (home start tx)))
+HasCoordinator start logs t =
+    (tx : TxId) → t.tx ≡ Some tx → IsLiveAt tx (after start (home start tx) (logs (home start tx)))
 
 abbrev pub EachHasCoordinator : Type 0
 EachHasCoordinator = EachAtQuiet HasCoordinator
@@ -132,13 +135,16 @@ pub record Waits (start : Start) (logs : ℕ → List HostStep) (tx : TxId) (key
 -- an operation that a coordinator's transaction has unanswered waits at a node
 abbrev pub EachOperationWaits : Type 0
 EachOperationWaits =
-    (start : Start) (logs : ℕ → List HostStep) (h : ℕ) (tx : TxId) (t : Transaction) (asked : Asked) → AreQuiet start logs → h < hosts start
+    (start : Start) (logs : ℕ → List HostStep) (h : ℕ) (tx : TxId) (t : Transaction) (asked : Asked)
+    → AreQuiet start logs → h < hosts start
     → IsLiveAs tx t (after start h (logs h)) → t.asked ≡ Some asked → Waits start logs tx (key_of asked.op)
 
 -- a transaction that has an operation unanswered at its coordinator is one whose operation was sent
 abbrev pub AsksWhereOperating : Start → (ℕ → List HostStep) → OpenTransaction → Type 0
 AsksWhereOperating start logs t =
-    (tx : TxId) (u : Transaction) (asked : Asked) → t.tx ≡ Some tx → IsLiveAs tx u (after start (home start tx) (logs (home start tx))) → u.asked ≡ Some asked → is_operating t.doing ≡ true
+    (tx : TxId) (u : Transaction) (asked : Asked) → t.tx ≡ Some tx
+    → IsLiveAs tx u (after start (home start tx) (logs (home start tx))) → u.asked ≡ Some asked
+    → is_operating t.doing ≡ true
 
 abbrev pub EachAsksWhereOperating : Type 0
 EachAsksWhereOperating = EachAtQuiet AsksWhereOperating
@@ -146,38 +152,45 @@ EachAsksWhereOperating = EachAtQuiet AsksWhereOperating
 -- no coordinator waits for keys of a transaction to be committed
 abbrev pub NoCommitIsAwaited : Type 0
 NoCommitIsAwaited =
-    (start : Start) (logs : ℕ → List HostStep) (h : ℕ) (tx : TxId) (t : Transaction) → AreQuiet start logs → h < hosts start
+    (start : Start) (logs : ℕ → List HostStep) (h : ℕ) (tx : TxId) (t : Transaction) → AreQuiet start logs
+    → h < hosts start
     → IsLiveAs tx t (after start h (logs h)) → is_committing t.phase ≡ false
 
 -- The coordinator of a transaction whose end isn't reported has it. It hasn't reported the end either, and doesn't wait
 -- for keys to be committed. If it has an operation unanswered, the API has sent that, and it waits at a node.
-pub record IsKeptByCoordinator (start : Start) (logs : ℕ → List HostStep) (t : OpenTransaction) (tx : TxId) : Type 0 where
-  pub transaction : Transaction
-  pub live : IsLiveAs tx transaction (after start (home start tx) (logs (home start tx)))
-  pub unreported : is_completing transaction.phase ≡ false
-  pub uncommitted : is_committing transaction.phase ≡ false
-  pub operating : (asked : Asked) → transaction.asked ≡ Some asked → is_operating t.doing ≡ true
-  pub waiting : (asked : Asked) → transaction.asked ≡ Some asked → Waits start logs tx (key_of asked.op)
+pub record IsKeptByCoordinator (start : Start) (logs : ℕ → List HostStep) (t : OpenTransaction) (tx : TxId) : Type 0
+  where
+    pub transaction : Transaction
+    pub live : IsLiveAs tx transaction (after start (home start tx) (logs (home start tx)))
+    pub unreported : is_completing transaction.phase ≡ false
+    pub uncommitted : is_committing transaction.phase ≡ false
+    pub operating : (asked : Asked) → transaction.asked ≡ Some asked → is_operating t.doing ≡ true
+    pub waiting : (asked : Asked) → transaction.asked ≡ Some asked → Waits start logs tx (key_of asked.op)
 
 abbrev pub EachIsKeptByCoordinator : Type 0
-EachIsKeptByCoordinator = EachAtQuiet (λ start logs t. (tx : TxId) → t.tx ≡ Some tx → IsKeptByCoordinator start logs t tx)
+EachIsKeptByCoordinator =
+    EachAtQuiet (λ start logs t. (tx : TxId) → t.tx ≡ Some tx → IsKeptByCoordinator start logs t tx)
 
 -- no transaction waits for its epoch
 abbrev pub NoEpochIsAwaited : Type 0
 NoEpochIsAwaited =
-    (start : Start) (logs : ℕ → List HostStep) (h : ℕ) (tx : TxId) (t : Transaction) → AreQuiet start logs → h < hosts start
+    (start : Start) (logs : ℕ → List HostStep) (h : ℕ) (tx : TxId) (t : Transaction) → AreQuiet start logs
+    → h < hosts start
     → IsLiveAs tx t (after start h (logs h)) → is_verifying t.phase ≡ false
 
 -- no transaction that has no operation unanswered waits for the end of its abort
 abbrev pub NoAbortIsAwaited : Type 0
 NoAbortIsAwaited =
-    (start : Start) (logs : ℕ → List HostStep) (h : ℕ) (tx : TxId) (t : Transaction) → AreQuiet start logs → h < hosts start
+    (start : Start) (logs : ℕ → List HostStep) (h : ℕ) (tx : TxId) (t : Transaction) → AreQuiet start logs
+    → h < hosts start
     → IsLiveAs tx t (after start h (logs h)) → t.asked ≡ None → is_aborting t.phase ≡ false
 
 -- A transaction whose operation was sent has it unanswered at its coordinator, where that has the transaction open.
 abbrev pub AskedWhereOperating : Start → (ℕ → List HostStep) → OpenTransaction → Type 0
 AskedWhereOperating start logs t =
-    (tx : TxId) (u : Transaction) → t.tx ≡ Some tx → t.doing ≡ Operating → IsLiveAs tx u (after start (home start tx) (logs (home start tx))) → u.phase ≡ phases.Open → is_some u.asked ≡ true
+    (tx : TxId) (u : Transaction) → t.tx ≡ Some tx → t.doing ≡ Operating
+    → IsLiveAs tx u (after start (home start tx) (logs (home start tx))) → u.phase ≡ phases.Open
+    → is_some u.asked ≡ true
 
 abbrev pub EachAskedWhereOperating : Type 0
 EachAskedWhereOperating = EachAtQuiet AskedWhereOperating
@@ -185,7 +198,8 @@ EachAskedWhereOperating = EachAtQuiet AskedWhereOperating
 -- One whose commit was asked for isn't open at its coordinator.
 abbrev pub ClosedWhereCommitting : Start → (ℕ → List HostStep) → OpenTransaction → Type 0
 ClosedWhereCommitting start logs t =
-    (tx : TxId) (u : Transaction) → t.tx ≡ Some tx → t.doing ≡ Committing → IsLiveAs tx u (after start (home start tx) (logs (home start tx))) → u.phase ≡ phases.Open → ⊥
+    (tx : TxId) (u : Transaction) → t.tx ≡ Some tx → t.doing ≡ Committing
+    → IsLiveAs tx u (after start (home start tx) (logs (home start tx))) → u.phase ≡ phases.Open → ⊥
 
 abbrev pub EachClosedWhereCommitting : Type 0
 EachClosedWhereCommitting = EachAtQuiet ClosedWhereCommitting
@@ -200,5 +214,6 @@ EachIsNumbered = EachAtQuiet (λ start logs t. IsNumbered t)
 -- an operation that a coordinator's transaction has unanswered waits in the queue of a lock
 abbrev pub EachOperationIsQueued : Type 0
 EachOperationIsQueued =
-    (start : Start) (logs : ℕ → List HostStep) (h : ℕ) (tx : TxId) (t : Transaction) (asked : Asked) → AreQuiet start logs → h < hosts start
+    (start : Start) (logs : ℕ → List HostStep) (h : ℕ) (tx : TxId) (t : Transaction) (asked : Asked)
+    → AreQuiet start logs → h < hosts start
     → IsLiveAs tx t (after start h (logs h)) → t.asked ≡ Some asked → WaitsForLock start logs tx

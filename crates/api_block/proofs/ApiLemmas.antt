@@ -38,7 +38,10 @@ given_request given s _ = refl
 
 -- what the API does at a signal doesn't depend on the replies that it gave
 pub given_row : (given : List ApiReply) (s : ApiState) (body : Body)
-    → api_table (in_given given s) body ≡ record { state = in_given given (api_table s body).state; effects = (api_table s body).effects }
+    → api_table (in_given given s) body ≡ record {
+      state = in_given given (api_table s body).state;
+      effects = (api_table s body).effects;
+    }
 given_row given s (Host (Continue (Request request) at)) = given_request given s request
 given_row given s (Client (TcBeginConf name tx)) = begun_given given s name tx
 given_row given s (Client (TcBeginRef name)) = ap (λ (state : ApiState). stay state) (refuse_given given s name)

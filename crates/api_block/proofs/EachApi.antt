@@ -36,7 +36,7 @@ use Rattle.api_block.proofs.ApiTurns.{ApiRequestForms, ApiSignalForms, api_turns
 
 -- K is of each transaction that is opened, P of each signal that is sent, and M of each mark. A transaction that is
 -- opened changes in all but its number, which it has once it has begun; and what is sent of one is of its number
-pub record ApiForms (K : OpenTransaction → Type 0) (P : Outgoing → Type 0) (M : Mark → Type 0)
+pub record EachForms (K : OpenTransaction → Type 0) (P : Outgoing → Type 0) (M : Mark → Type 0)
     (body : Body) : Type 0 where
   pub asked : (name : Option ℕ) (node : ℕ) (op : Option Op) → K (asked_for name node op)
   pub changed : (t u : OpenTransaction) → u.tx ≡ t.tx → K t → K u
@@ -67,7 +67,7 @@ pub record ApiEach (K : OpenTransaction → Type 0) (P : Outgoing → Type 0) (M
   pub marks : Each M step.effects.marks
 
 module _ (K : OpenTransaction → Type 0) (P : Outgoing → Type 0) (M : Mark → Type 0) (s : ApiState) (body : Body)
-    (forms : ApiForms K P M body) (all : Each K s.opened) where
+    (forms : EachForms K P M body) (all : Each K s.opened) where
   abbrev Fine : Step ApiState → Type 0
   Fine step = ApiEach K P M step
 
@@ -198,7 +198,7 @@ module _ (K : OpenTransaction → Type 0) (P : Outgoing → Type 0) (M : Mark �
 
 -- whatever the API takes
 pub api_each : (K : OpenTransaction → Type 0) (P : Outgoing → Type 0) (M : Mark → Type 0) (s : ApiState) (body : Body)
-    → ApiForms K P M body → Each K s.opened
+    → EachForms K P M body → Each K s.opened
     → ApiEach K P M (api_table s body)
 api_each K P M s body forms all =
     api_turns s (λ taken step. ApiEach K P M step) body (λ r at. requested K P M s body forms all r)

@@ -29,7 +29,8 @@ node_for view (Some node) = node
 
 -- a transaction is asked for at the coordinator of a node
 abbrev pub beginning : ApiState → Option ℕ → ℕ → Option Op → Step ApiState
-beginning s name node op = sending (about (opening s (asked_for name node op)) (Some (length s.opened))) (coordinator node) (Client (TcBeginReq name))
+beginning s name node op = sending (about (opening s (asked_for name node op)) (Some (length s.opened)))
+    (coordinator node) (Client (TcBeginReq name))
 
 abbrev pub begin_at : ApiState → ℕ → ℕ → Bool → Step ApiState
 begin_at s name node true = beginning s (Some name) node None
@@ -50,7 +51,8 @@ commit_by s name at t Ready (Some tx) =
 commit_by s name at t _ _ = refused s (Some name) Busy
 
 unfoldable pub commit_row : ApiState → ℕ → Step ApiState
-commit_row s name = where_at s.opened (refused s (Some name) NotOpen) (λ at t. commit_by s name at t t.doing t.tx) (place_named s (Some name))
+commit_row s name = where_at s.opened (refused s (Some name) NotOpen) (λ at t. commit_by s name at t t.doing t.tx)
+    (place_named s (Some name))
 
 -- the transaction is to be aborted, whatever it does. The command isn't about it: what its operation waits for was told
 abbrev pub abort_by : ApiState → ℕ → Option TxId → Step ApiState
@@ -58,7 +60,8 @@ abort_by s name None = refused s (Some name) Busy
 abort_by s name (Some tx) = sending (about s None) (coordinator_of tx) (Client (TcRollbackReq tx))
 
 unfoldable pub abort_row : ApiState → ℕ → Step ApiState
-abort_row s name = where_at s.opened (refused s (Some name) NotOpen) (λ at t. abort_by s name t.tx) (place_named s (Some name))
+abort_row s name =
+    where_at s.opened (refused s (Some name) NotOpen) (λ at t. abort_by s name t.tx) (place_named s (Some name))
 
 -- a round of time: the last one of a command is replied
 abbrev pub ticked_if : ApiState → ℕ → Bool → ApiState

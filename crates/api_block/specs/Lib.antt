@@ -11,3 +11,4 @@ pub mod Requests
 pub mod State
 pub mod Views
 pub mod Wait
+pub mod Words

@@ -74,27 +74,76 @@ is_left_open s = where_at s.opened false (λ at t. is_unanswered t.doing) (own_p
 
 -- a transaction that is asked for, with the operation that it is to perform where it has no name
 abbrev pub asked_for : Option ℕ → ℕ → Option Op → OpenTransaction
-asked_for name node op = record { name = name; node = node; tx = None; operations = 0; doing = Beginning op; ahead = None }
+asked_for name node op = record {
+  name = name;
+  node = node;
+  tx = None;
+  operations = 0;
+  doing = Beginning op;
+  ahead = None;
+}
 
 -- it takes commands
 abbrev pub begun : OpenTransaction → TxId → OpenTransaction
-begun t tx = record { name = t.name; node = t.node; tx = Some tx; operations = t.operations; doing = Ready; ahead = t.ahead }
+begun t tx = record {
+  name = t.name;
+  node = t.node;
+  tx = Some tx;
+  operations = t.operations;
+  doing = Ready;
+  ahead = t.ahead;
+}
 
 -- it performs the operation that it was asked for with
 abbrev pub begun_operating : OpenTransaction → TxId → OpenTransaction
-begun_operating t tx = record { name = t.name; node = t.node; tx = Some tx; operations = 1; doing = Operating; ahead = t.ahead }
+begun_operating t tx = record {
+  name = t.name;
+  node = t.node;
+  tx = Some tx;
+  operations = 1;
+  doing = Operating;
+  ahead = t.ahead;
+}
 
 -- it performs one more operation
 abbrev pub operating : OpenTransaction → OpenTransaction
-operating t = record { name = t.name; node = t.node; tx = t.tx; operations = t.operations + 1; doing = Operating; ahead = None }
+operating t = record {
+  name = t.name;
+  node = t.node;
+  tx = t.tx;
+  operations = t.operations + 1;
+  doing = Operating;
+  ahead = None;
+}
 
 -- its operation is answered, and it does this now
 abbrev pub answered : OpenTransaction → Doing → OpenTransaction
-answered t doing = record { name = t.name; node = t.node; tx = t.tx; operations = t.operations; doing = doing; ahead = None }
+answered t doing = record {
+  name = t.name;
+  node = t.node;
+  tx = t.tx;
+  operations = t.operations;
+  doing = doing;
+  ahead = None;
+}
 
 abbrev pub committing : OpenTransaction → OpenTransaction
-committing t = record { name = t.name; node = t.node; tx = t.tx; operations = t.operations; doing = Committing; ahead = t.ahead }
+committing t = record {
+  name = t.name;
+  node = t.node;
+  tx = t.tx;
+  operations = t.operations;
+  doing = Committing;
+  ahead = t.ahead;
+}
 
 -- it waits for that transaction, or it isn't known for which
 abbrev pub behind : OpenTransaction → Option TxId → OpenTransaction
-behind t ahead = record { name = t.name; node = t.node; tx = t.tx; operations = t.operations; doing = t.doing; ahead = ahead }
+behind t ahead = record {
+  name = t.name;
+  node = t.node;
+  tx = t.tx;
+  operations = t.operations;
+  doing = t.doing;
+  ahead = ahead;
+}

@@ -41,7 +41,8 @@ operate_by s name op at t _ _ = refused s (Some name) Busy
 
 unfoldable pub operate_row : ApiState → ℕ → Op → Step ApiState
 operate_row s name op =
-    where_at s.opened (refused s (Some name) NotOpen) (λ at t. operate_by s name op at t t.doing t.tx) (place_named s (Some name))
+    where_at s.opened (refused s (Some name) NotOpen) (λ at t. operate_by s name op at t t.doing t.tx)
+    (place_named s (Some name))
 
 -- a transaction has begun: the client is told of one with a name, and one without performs its operation
 abbrev pub begun_by : ApiState → TxId → ℕ → OpenTransaction → Option ℕ → Doing → Step ApiState
@@ -50,13 +51,16 @@ begun_by s tx at t None (Beginning (Some op)) = key_request (changing s at (begu
 begun_by s tx at t None doing = stay (changing s at (begun t tx))
 
 unfoldable pub begun_row : ApiState → Option ℕ → TxId → Step ApiState
-begun_row s name tx = where_at s.opened (stay s) (λ at t. begun_by s tx at t t.name t.doing) (position (begins_at name tx.tc) s.opened)
+begun_row s name tx =
+    where_at s.opened (stay s) (λ at t. begun_by s tx at t t.name t.doing) (position (begins_at name tx.tc) s.opened)
 
 -- an operation is answered: a transaction with a name takes commands again, and one without commits
 abbrev pub answer_by : ApiState → TxId → Answer → ℕ → OpenTransaction → Doing → Option ℕ → Step ApiState
-answer_by s tx answer at t Operating (Some name) = stay (replied (changing s at (answered t Ready)) (Answered (Some name) answer ∷ []))
+answer_by s tx answer at t Operating (Some name) =
+    stay (replied (changing s at (answered t Ready)) (Answered (Some name) answer ∷ []))
 answer_by s tx answer at t Operating None =
-    sending (replied (changing s at (answered t Committing)) (Answered None answer ∷ [])) (coordinator_of tx) (Client (TcCommitReq tx))
+    sending (replied (changing s at (answered t Committing)) (Answered None answer ∷ [])) (coordinator_of tx)
+    (Client (TcCommitReq tx))
 answer_by s tx answer at t _ name = stay s
 
 unfoldable pub answer_row : ApiState → TxId → Answer → Step ApiState

@@ -31,7 +31,10 @@ refuse_row s name = where_at s.opened s (λ at t. over s at (Refused name TooMan
 -- the transaction has this outcome, and these signals are sent
 abbrev pub ending : ApiState → TxId → Outcome → List Outgoing → ℕ → Option ℕ → Step ApiState
 ending s tx outcome sends at name =
-    record { state = over s at (Ended name outcome); effects = record { sends = sends; marks = Reported tx outcome ∷ [] } }
+    record {
+      state = over s at (Ended name outcome);
+      effects = record { sends = sends; marks = Reported tx outcome ∷ [] };
+    }
 
 abbrev pub unknown : ApiState → List Outgoing → Step ApiState
 unknown s sends = record { state = s; effects = record { sends = sends; marks = [] } }
@@ -42,7 +45,9 @@ acknowledging s tx = telling_all (news.Committed tx) (everyone s.view)
 
 unfoldable pub commit_report_row : ApiState → TxId → ℕ → Step ApiState
 commit_report_row s tx epoch =
-    where_at s.opened (unknown s (acknowledging s tx)) (λ at t. ending s tx (Committed epoch) (acknowledging s tx) at t.name) (place_of s tx)
+    where_at s.opened (unknown s (acknowledging s tx))
+    (λ at t. ending s tx (Committed epoch) (acknowledging s tx) at t.name) (place_of s tx)
 
 unfoldable pub abort_report_row : ApiState → TxId → AbortCause → Step ApiState
-abort_report_row s tx cause = where_at s.opened (stay s) (λ at t. ending s tx (Aborted cause) [] at t.name) (place_of s tx)
+abort_report_row s tx cause =
+    where_at s.opened (stay s) (λ at t. ending s tx (Aborted cause) [] at t.name) (place_of s tx)

@@ -9,8 +9,10 @@ use Rattle.sig_core.specs.Step.{Effects, Step, stay}
 use Rattle.api_block.specs.declared.dump.Dump.{Dump}
 use Rattle.api_block.specs.declared.opened.OpenTransaction.{OpenTransaction}
 
--- an API: its view; the transactions that were asked for and whose end isn't reported, in the order of asking; the place
--- of the one that the last command is about, if it is about one; the dump that is under way; the replies that weren't given
+-- an API: its view; the transactions that were asked for and whose end isn't reported, in the order of asking; the
+-- place
+-- of the one that the last command is about, if it is about one; the dump that is under way; the replies that weren't
+-- given
 pub record ApiState : Type 0 where
   pub view : View
   pub opened : List OpenTransaction

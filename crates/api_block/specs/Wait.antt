@@ -29,7 +29,8 @@ name_of s tx = where_at s.opened None (λ at t. t.name) (place_of s tx)
 
 -- the client is told. An operation alone isn't waited for any longer
 abbrev pub pending_by : ApiState → Option ℕ → Option ℕ → Option TxId → Step ApiState
-pending_by s holder None (Some tx) = sending (replied s (Pending None (HeldBy holder) ∷ [])) (coordinator_of tx) (Client (TcRollbackReq tx))
+pending_by s holder None (Some tx) =
+    sending (replied s (Pending None (HeldBy holder) ∷ [])) (coordinator_of tx) (Client (TcRollbackReq tx))
 pending_by s holder name _ = stay (replied s (Pending name (HeldBy holder) ∷ []))
 
 abbrev pub pending_if : ApiState → OpenTransaction → Bool → Option TxId → Step ApiState

@@ -6,6 +6,7 @@ mod api;
 mod commands;
 mod dump;
 mod gathered;
+mod laws;
 mod lists;
 mod members;
 mod opened;
@@ -15,9 +16,7 @@ mod views;
 mod wait;
 
 pub use api::Api;
+pub use laws::keeps_to_its_words;
 pub use opened::{
     Doing, OpenTransaction, is_beginning, is_unanswered, place_beginning_at, place_named,
 };
-
-#[cfg(test)]
-mod tests;

@@ -67,13 +67,17 @@ module _ (a : ApiState) (nodes : ℕ) (over : Option View) where
   pub begin_by : (name : ℕ) (node : Option ℕ) (taken full : Bool) → is_some (place_named a (Some name)) ≡ taken
       → is_full a.view (api.node_for a.view node) ≡ full
       → begin_if s name (api.node_for a.view node) (taken || full) ≡ within s (api.begin_if a name node taken)
-  begin_by name at true full is fits = ap (λ (r : Step ApiState). within s r) (api_begins name (api.node_for a.view at) true is)
-  begin_by name at false true is fits = ap (λ (r : Step ApiState). within s r) (api_begins name (api.node_for a.view at) false is)
+  begin_by name at true full is fits =
+      ap (λ (r : Step ApiState). within s r) (api_begins name (api.node_for a.view at) true is)
+  begin_by name at false true is fits =
+      ap (λ (r : Step ApiState). within s r) (api_begins name (api.node_for a.view at) false is)
   begin_by name at false false is fits = rw (fits) refl
 
-  pub begin_calm : (name : ℕ) (node : Option ℕ) → begin_row s name node ≡ within s (request_row a (request.Begin name node))
+  pub begin_calm : (name : ℕ) (node : Option ℕ)
+      → begin_row s name node ≡ within s (request_row a (request.Begin name node))
   unfolding begin_row serves has_stopped api.begin_row request_row lowest
-  begin_calm name (Some node) = begin_by name (Some node) (is_some (place_named a (Some name))) (is_full a.view node) refl refl
+  begin_calm name (Some node) =
+      begin_by name (Some node) (is_some (place_named a (Some name))) (is_full a.view node) refl refl
   begin_calm name None = rw (lowest_all a.view.full)
       (begin_by name None (is_some (place_named a (Some name))) (is_full a.view (api.node_for a.view None)) refl refl)
 
@@ -91,7 +95,8 @@ module _ (a : ApiState) (nodes : ℕ) (over : Option View) where
 
   -- waits
   pub waits_alike : (t : OpenTransaction) (unanswered : Bool) (ahead : Option TxId)
-      → pending_row a ≡ pending_if a t unanswered ahead → waits_by s t.name unanswered ahead ≡ within s (request_row a request.Pending)
+      → pending_row a ≡ pending_if a t unanswered ahead
+      → waits_by s t.name unanswered ahead ≡ within s (request_row a request.Pending)
   unfolding obstacle request_row
   waits_alike t true None is = rw (is) refl
   waits_alike t true (Some ahead) is = refl
@@ -145,8 +150,10 @@ module _ (a : ApiState) (nodes : ℕ) (over : Option View) where
   up_calm (request.Operate (Some name) op) served up = rw (up) refl
   up_calm (request.Commit name) served up = rw (up) refl
   up_calm (request.Abort name) served up = rw (up) refl
-  up_calm (request.Rows node) served up = rw (up) (rows_alike (request.Rows node) node false (is_full a.view node) refl (opened_rows node))
-  up_calm (request.Digest node) served up = rw (up) (rows_alike (request.Digest node) node true (is_full a.view node) refl (opened_digest node))
+  up_calm (request.Rows node) served up =
+      rw (up) (rows_alike (request.Rows node) node false (is_full a.view node) refl (opened_rows node))
+  up_calm (request.Digest node) served up =
+      rw (up) (rows_alike (request.Digest node) node true (is_full a.view node) refl (opened_digest node))
   up_calm request.Waits served up = refl
   up_calm request.Pending served up = pending_calm
   up_calm _ served up = cc
@@ -170,7 +177,8 @@ module _ (a : ApiState) (nodes : ℕ) (over : Option View) where
   calm x signal body = rw (signal.view) (body_calm x x.body refl body signal.up signal.known)
 
   -- a round of time
-  pub ticked_calm : (round of : ℕ) → ticked s round of ≡ calm_state (request_row a (request.Tick round of)).state nodes over
+  pub ticked_calm : (round of : ℕ)
+      → ticked s round of ≡ calm_state (request_row a (request.Tick round of)).state nodes over
   unfolding request_row api.tick_row
   ticked_calm round of = by (round == of)
     where
@@ -182,18 +190,21 @@ module _ (a : ApiState) (nodes : ℕ) (over : Option View) where
   abbrev pub ticked_to : ClientState → Step ClientState
   ticked_to now = record { state = now; effects = round_effects now }
 
-  pub asked_tick : (round of : ℕ) → is_down s ≡ false → asked_row s (request.Tick round of) ≡ ticked_to (ticked s round of)
+  pub asked_tick : (round of : ℕ) → is_down s ≡ false
+      → asked_row s (request.Tick round of) ≡ ticked_to (ticked s round of)
   unfolding asked_row command_row tick_row
   asked_tick round of up = rw (up) refl
 
-  pub calm_tick : (x : Signal) (at round of : ℕ) → IsCalmSignal s x → x.body ≡ Host (Continue (Request (request.Tick round of)) at)
+  pub calm_tick : (x : Signal) (at round of : ℕ) → IsCalmSignal s x
+      → x.body ≡ Host (Continue (Request (request.Tick round of)) at)
       → client_row s x ≡ ticked_to (calm_state (api_row a x).state nodes over)
   unfolding noted
   calm_tick x at round of signal is = rw (signal.view, is, asked_tick round of signal.up, ticked_calm round of) refl
 
   -- the view
   pub asked_view : is_down s ≡ false
-      → asked_row s request.View ≡ stay (telling (calm_state (request_row a request.View).state nodes over) (reply.View a.view))
+      → asked_row s request.View ≡ stay (telling (calm_state (request_row a request.View).state nodes over)
+      (reply.View a.view))
   unfolding asked_row command_row show_row request_row
   asked_view up = rw (up) refl
 

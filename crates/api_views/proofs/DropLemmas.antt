@@ -11,7 +11,8 @@ use Rattle.api_views.specs.Laws.{is_report}
 use Rattle.api_views.specs.State.{ClientState}
 
 -- by what the signal says
-pub dropped_body : (s : ClientState) (x : Signal) (body : Body) → x.body ≡ body → is_report body ≡ true → is_known s x ≡ false
+pub dropped_body : (s : ClientState) (x : Signal) (body : Body) → x.body ≡ body → is_report body ≡ true
+    → is_known s x ≡ false
     → client_table s x body ≡ stay s
 dropped_body s x (Client (TcCommitConf tx epoch)) is report known = rw (known, is) refl
 dropped_body s x (Client (TcRollbackRep tx cause)) is report known = rw (known, is) refl

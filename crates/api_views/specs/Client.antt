@@ -50,7 +50,8 @@ command_if s r false = up_row s r
 unfoldable pub command_row : ClientState → ApiReq → Step ClientState
 command_row s r = command_if s r (is_down s)
 
--- what the client's side does at each request. Starts, crashes, restarts, batches and local checkpoints are left to the API
+-- what the client's side does at each request. Starts, crashes, restarts, batches and local checkpoints are left to the
+-- API
 unfoldable pub asked_row : ClientState → ApiReq → Step ClientState
 asked_row s request.Waits = within s (request_row s.api request.Waits)
 asked_row s request.Pending = client_pending_row s
@@ -67,7 +68,8 @@ gone_row s name tx =
     where_at s.api.opened s (λ at t. with_api s (over s.api at (Refused name (refusal.NoMember tx.tc))))
     (position (begins_at name tx.tc) s.api.opened)
 
--- a signal of a coordinator or a takeover that may be gone. It is, where it isn't in the greatest view: what it says comes
+-- a signal of a coordinator or a takeover that may be gone. It is, where it isn't in the greatest view: what it says
+-- comes
 -- to nothing
 abbrev pub vouched_table : ClientState → Signal → Body → Bool → Step ClientState
 vouched_table s x (Client (TcBeginConf name tx)) false = stay (gone_row s name tx)

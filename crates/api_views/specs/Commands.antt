@@ -103,7 +103,8 @@ cut_body node = Host (Cut node (record { 0 = first_host node }))
 
 -- a signal for each host of a node
 abbrev pub to_hosts : ℕ → Body → List Outgoing
-to_hosts node body = to_place (membership node) body ∷ to_place (coordinator node) body ∷ to_place (rows_of node) body ∷ []
+to_hosts node body =
+    to_place (membership node) body ∷ to_place (coordinator node) body ∷ to_place (rows_of node) body ∷ []
 
 abbrev pub with_cut : ClientState → ℕ → ℕ → ClientState
 with_cut s one other = record s { cuts = s.cuts ++ record { one = one; other = other } ∷ [] }

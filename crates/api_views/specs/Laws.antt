@@ -35,7 +35,8 @@ is_vouched (Client (TcCommitConf tx epoch)) = true
 is_vouched (Client (TcRollbackRep tx cause)) = true
 is_vouched _ = false
 
--- A signal that brings no greater view, and comes from a member of the greatest one where only such may say it. That view
+-- A signal that brings no greater view, and comes from a member of the greatest one where only such may say it. That
+-- view
 -- has a full member that hasn't stopped.
 pub record IsCalmSignal (s : ClientState) (x : Signal) : Type 0 where
   pub view : nat_lt s.api.view.number x.view.number ≡ false

@@ -8,3 +8,4 @@ pub mod Reports
 pub mod Rounds
 pub mod State
 pub mod Stops
+pub mod Words

@@ -10,8 +10,10 @@ use Rattle.api_views.specs.declared.cuts.CutPair.{CutPair}
 use Rattle.api_views.specs.declared.stops.HostStop.{HostStop}
 
 -- A client's side: the API, whose view is the greatest that was seen; how many nodes the cluster has; the hosts whose
--- closing was taken and the pairs of nodes that were asked to be cut, each in order; the greatest view whose takeover is
--- complete, if one is; the closing of an epoch that is asked for and not answered; and whether the last command is that.
+-- closing was taken and the pairs of nodes that were asked to be cut, each in order; the greatest view whose takeover
+-- is
+-- complete, if one is; the closing of an epoch that is asked for and not answered; and whether the last command is
+-- that.
 pub record ClientState : Type 0 where
   pub api : ApiState
   pub nodes : ℕ

@@ -1,5 +1,6 @@
 //! What is true of the client's side under views.
 ghost use Rattle.api_views.specs.Laws.{CalmShows, CalmSteps, CalmTicks, DroppedChangesNothing, EndsAreToldOnce};
+ghost use Rattle.api_views.specs.Words.{ClientKeepsToItsWords};
 
 /// Where no host stopped, no node was cut and no closing of an epoch is asked for, a step at a
 /// signal that brings no greater view, which has a full member, is that of the API; but that a round
@@ -12,11 +13,20 @@ pub fn calm_steps()
 
 /// A signal that tells how a transaction ended, from a member that isn't in the greatest view,
 /// changes nothing but that its view was seen.
+#[tactic(auto, using(crate::proofs::DropLemmas::dropped))]
 pub fn dropped_changes_nothing()
     ensures { DroppedChangesNothing }
 {}
 
 /// A step reports the end of one transaction at most, which was open, and takes it out.
+#[tactic(auto, using(crate::proofs::OnceLemmas::told_once))]
 pub fn ends_are_told_once()
     ensures { EndsAreToldOnce }
+{}
+
+/// It sends only requests of transactions, of rows and of closings, rounds of time, deaths and cuts,
+/// acknowledgements, and work of its own, and marks only reports.
+#[tactic(auto, using(crate::proofs::Walk::client_words))]
+pub fn keeps_to_its_words()
+    ensures { ClientKeepsToItsWords }
 {}

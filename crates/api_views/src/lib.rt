@@ -16,10 +16,7 @@ mod stops;
 pub use client::Client;
 pub use closings::Closing;
 pub use cuts::CutPair;
-pub use laws::{calm_steps, dropped_changes_nothing, ends_are_told_once};
+pub use laws::{calm_steps, dropped_changes_nothing, ends_are_told_once, keeps_to_its_words};
 pub use members::is_member;
 pub use reports::Verdict;
 pub use stops::HostStop;
-
-#[cfg(test)]
-mod tests;

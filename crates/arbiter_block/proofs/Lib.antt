@@ -1,3 +1,4 @@
 mod GrantLemmas
 mod LawLemmas
 mod SetLemmas
+pub mod Walk

@@ -1,3 +1,4 @@
 pub mod Arbiter
 pub mod Laws
 pub mod Sets
+pub mod Words

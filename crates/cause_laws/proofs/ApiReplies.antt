@@ -35,7 +35,7 @@ use Rattle.api_block.specs.Opened.{is_named}
 use Rattle.api_block.specs.Outcome.{acknowledging}
 use Rattle.api_block.specs.State.{ApiState, about}
 use Rattle.api_block.proofs.ApiTurns.{ApiRequestForms, ApiSignalForms, api_turns, is_own_refusal}
-use Rattle.host_laws.proofs.ApiBegins.{same_name-is}
+use Rattle.host_laws.proofs.api.Begins.{same_name-is}
 use Rattle.run_theory.proofs.Focus.{IsFocus}
 use Rattle.cause_laws.specs.Causes.{IsEntered, IsWish}
 use Rattle.cause_laws.specs.TurnedAway.{AddsReplies, IsToldBy, RepliesAreTold}

@@ -12,10 +12,10 @@ use Rattle.world_core.specs.Hosts.{hosts}
 use Rattle.world_core.specs.Machine.{after, machine}
 use Rattle.world_core.specs.Start.{Start}
 use Rattle.world_core.specs.Steps.{HostStep}
-use Rattle.host_laws.proofs.BlocksAlong.{replies_are}
+use Rattle.host_laws.proofs.hosts.BlocksAlong.{replies_are}
 use Rattle.run_laws.specs.Laws.{IsClosedCut}
 use Rattle.run_laws.specs.Transit.{IsRun}
-use Rattle.run_laws.proofs.TransitRuns.{runs_have_transit}
+use Rattle.run_laws.proofs.transit.Runs.{runs_have_transit}
 use Rattle.cause_laws.specs.Causes.{AbortsAreCaused}
 use Rattle.cause_laws.specs.TurnedAway.{IsReplyCaused, RepliesAreCaused, TurnedAwayAreTooMany}
 use Rattle.cause_laws.proofs.CausesAlong.{AllTell, AreMarksCaused, IsMarkCaused, Tells, all_tell}

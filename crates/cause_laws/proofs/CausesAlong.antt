@@ -55,18 +55,18 @@ use Rattle.world_core.specs.Machine.{after, machine, signals_of, step_after}
 use Rattle.world_core.specs.Start.{Start, made}
 use Rattle.world_core.specs.Steps.{Addressed, HostStep}
 use Rattle.host_laws.specs.Ways.{back_by, sent_ways, way_of}
-use Rattle.host_laws.proofs.BlocksAlong.{first_live}
-use Rattle.host_laws.proofs.DihSends.{dih_kinds}
-use Rattle.host_laws.proofs.OneWay.{back_aborting}
-use Rattle.host_laws.proofs.SendKinds.{each_of, is_dih_kind}
-use Rattle.host_laws.proofs.TcLives.{IsOwn}
-use Rattle.host_laws.proofs.TcMarks.{tc_marks}
+use Rattle.host_laws.proofs.hosts.BlocksAlong.{first_live}
+use Rattle.host_laws.proofs.hosts.DihSends.{dih_kinds}
+use Rattle.host_laws.proofs.coordinator.OneWay.{back_aborting}
+use Rattle.host_laws.proofs.hosts.SendKinds.{each_of, is_dih_kind}
+use Rattle.host_laws.proofs.coordinator.Lives.{IsOwn}
+use Rattle.host_laws.proofs.coordinator.Marks.{tc_marks}
 use Rattle.run_laws.specs.GivenUp.{is_given_up}
 use Rattle.run_laws.specs.Transit.{AreInTransit, Comes, IsRun, Takes, joined, logs_of}
-use Rattle.run_laws.proofs.HomeSteps.{all_home, own_home}
-use Rattle.run_laws.proofs.Transit.{along_transit}
-use Rattle.run_laws.proofs.Ways.{IsTold, given_more, taken_told}
-use Rattle.run_laws.proofs.Weighing.{each_between, each_joins, each_taken}
+use Rattle.run_laws.proofs.hosts.HomeSteps.{all_home, own_home}
+use Rattle.run_laws.proofs.transit.Transit.{along_transit}
+use Rattle.run_laws.proofs.ways.Ways.{IsTold, given_more, taken_told}
+use Rattle.run_laws.proofs.transit.Weighing.{each_between, each_joins, each_taken}
 use Rattle.cause_laws.specs.Causes.{IsCaused, IsRefused, IsWish, IsWished}
 use Rattle.cause_laws.specs.Reasons.{IsReason}
 use Rattle.cause_laws.specs.TurnedAway.{IsReplyCaused, IsToldBy, IsTurnedAway}

@@ -41,7 +41,7 @@ use Rattle.row_locks.specs.declared.queue.TheConstants.{ROUNDS}
 use Rattle.row_locks.specs.Rounds.{expired, expired_in, first_expired, found_at, found_if, is_expired}
 use Rattle.row_locks.specs.Rows.{RowLock}
 use Rattle.row_locks.specs.Tables.{Locks, ahead_at, or_unlocked, unwaited_at}
-use Rattle.lqh_block.proofs.IndexLemmas.{same as same_key-is}
+use Rattle.row_records.proofs.KeyLemmas.{same as same_key-is}
 use Rattle.lqh_block.specs.Abort as abort
 use Rattle.lqh_block.specs.Commit as commit
 use Rattle.lqh_block.specs.Complete as complete
@@ -53,7 +53,7 @@ use Rattle.lqh_block.specs.Operate as operate
 use Rattle.lqh_block.specs.State.{LqhState, freed_lock, go_on_if, serve_granted, storage_of, with_lock, with_waiting}
 use Rattle.lqh_block.specs.Storage as storage
 use Rattle.lqh_block.specs.Wait as wait
-use Rattle.host_laws.proofs.QueueWaits.{R, below_none, first_T, second_T}
+use Rattle.host_laws.proofs.rows.QueueWaits.{R, below_none, first_T, second_T}
 use Rattle.cause_laws.specs.Reasons.{HasStood, IsLongWait, IsReason, OnlyLongWaitsExpire, locks_with}
 
 -- the first wait that is over stands in the queue, and has stood there for eight rounds

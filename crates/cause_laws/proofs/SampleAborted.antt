@@ -23,7 +23,8 @@ use Rattle.world_core.specs.Machine.{machine}
 use Rattle.cause_laws.specs.Sample.{SampleIsAborted, aborted, before_report, lone, report}
 
 local : (h : ℕ) → IsLog (machine lone) h (aborted h)
-unfolding receiver started row shell_row request_row api.begin_row api.abort_row begun_row abort_report_row tc_part_row tc.begin_row rollback_row aborted_for without fresh_shell fresh_part
+unfolding receiver started row shell_row request_row api.begin_row api.abort_row begun_row abort_report_row tc_part_row
+    tc.begin_row rollback_row aborted_for without fresh_shell fresh_part
 local zero = (
   record { at = refl; stamped = omega arith; runs = refl; fits = record { marks = refl; asked_at = 0; asked = tt } },
   (
@@ -31,10 +32,19 @@ local zero = (
       at = refl;
       stamped = omega arith;
       runs = refl;
-      fits = record { marks = refl; asked_at = 3; asked = record { request = request.Abort 7; shell = refl; is = refl } };
+      fits = record {
+        marks = refl;
+        asked_at = 3;
+        asked = record { request = request.Abort 7; shell = refl; is = refl };
+      };
     },
     (
-      record { at = refl; stamped = omega arith; runs = refl; fits = record { marks = refl; asked_at = 0; asked = tt } },
+      record {
+        at = refl;
+        stamped = omega arith;
+        runs = refl;
+        fits = record { marks = refl; asked_at = 0; asked = tt };
+      },
       (
         record {
           at = refl;
@@ -54,12 +64,16 @@ local zero = (
 local (suc zero) = tt
 local (suc (suc zero)) = (
   record { at = refl; stamped = omega arith; runs = refl; fits = record { marks = refl; asked_at = 0; asked = tt } },
-  (record { at = refl; stamped = omega arith; runs = tt; fits = record { marks = refl; asked_at = 0; asked = tt } }, tt),
+  (
+    record { at = refl; stamped = omega arith; runs = tt; fits = record { marks = refl; asked_at = 0; asked = tt } },
+    tt,
+  ),
 )
 local (suc (suc (suc h))) = tt
 
 linked : (i j : ℕ) → taken (machine lone) i (aborted j) ≡ sent (machine lone) i j (aborted i)
-unfolding receiver started row shell_row request_row api.begin_row api.abort_row begun_row abort_report_row tc_part_row tc.begin_row rollback_row aborted_for without fresh_shell fresh_part
+unfolding receiver started row shell_row request_row api.begin_row api.abort_row begun_row abort_report_row tc_part_row
+    tc.begin_row rollback_row aborted_for without fresh_shell fresh_part
 linked zero zero = refl
 linked zero (suc zero) = refl
 linked zero (suc (suc zero)) = refl

@@ -30,8 +30,8 @@ use Rattle.tc_block.specs.Sends.{abort_of, entering, front_sends, go_on_if, wait
 use Rattle.tc_block.specs.State.{TcState}
 use Rattle.tc_block.specs.Tc.{begin_if, begin_row, is_full, tc_table}
 use Rattle.tc_block.specs.Turn.{Turn, going}
-use Rattle.host_laws.proofs.PhaseSends.{HasChains, entering_of_kind, rest_of_kind}
-use Rattle.host_laws.proofs.SendKinds.{are_of, each_of}
+use Rattle.host_laws.proofs.coordinator.PhaseSends.{HasChains, entering_of_kind, rest_of_kind}
+use Rattle.host_laws.proofs.hosts.SendKinds.{are_of, each_of}
 use Rattle.cause_laws.specs.TurnedAway.{HasTooMany}
 
 -- a beginning is turned away, to the client, only where one of its name was asked for, and there are too many

@@ -31,8 +31,8 @@ use Rattle.tc_block.specs.Sends.{abort_of, entering, front_sends, go_on_if, wait
 use Rattle.tc_block.specs.State.{TcState}
 use Rattle.tc_block.specs.Tc.{next_tx, tc_table}
 use Rattle.tc_block.specs.Turn.{Turn, asking, going}
-use Rattle.host_laws.proofs.PhaseSends.{HasChains, entering_of_kind, rest_of_kind}
-use Rattle.host_laws.proofs.SendKinds.{are_of, each_of}
+use Rattle.host_laws.proofs.coordinator.PhaseSends.{HasChains, entering_of_kind, rest_of_kind}
+use Rattle.host_laws.proofs.hosts.SendKinds.{are_of, each_of}
 
 -- a signal that neither gives a cause nor wishes for an abort
 abbrev pub is_calm : Body → Bool

@@ -26,7 +26,7 @@ use Rattle.row_locks.specs.Rounds.{expired}
 use Rattle.row_locks.specs.Rows.{RowLock, asked}
 use Rattle.row_locks.specs.Tables.{lock_at, or_unlocked}
 use Rattle.api_block.proofs.EachApi.{api_marks_each}
-use Rattle.lqh_block.proofs.IndexLemmas.{same as same_key-is}
+use Rattle.row_records.proofs.KeyLemmas.{same as same_key-is}
 use Rattle.lqh_block.specs.declared.request.Request.{Request}
 use Rattle.lqh_block.specs.Expire.{aged}
 use Rattle.lqh_block.specs.Operate.{is_granted}
@@ -45,11 +45,11 @@ use Rattle.key_laws.proofs.LocksAt.{lock-aged}
 use Rattle.key_laws.specs.Replica.{Replica, asked_by, event_at, expired_by, expires_if, is_let_in, is_refused}
 use Rattle.key_laws.specs.Replica.{key_after, served_by, serves_if}
 use Rattle.key_laws.specs.Replica as at
-use Rattle.host_laws.proofs.Replicas.{logs_follow}
-use Rattle.host_laws.proofs.TcMarks.{tc_marks}
+use Rattle.host_laws.proofs.rows.Replicas.{logs_follow}
+use Rattle.host_laws.proofs.coordinator.Marks.{tc_marks}
 use Rattle.run_theory.specs.Counts.{one_if}
 use Rattle.host_laws.specs.ReplicaLaws.{event_for, event_in, key_in}
-use Rattle.run_laws.proofs.FreshHosts.{started_unasked}
+use Rattle.run_laws.proofs.hosts.FreshHosts.{started_unasked}
 use Rattle.cause_laws.specs.Reasons.{HasStood, IsLongWait, locks_with}
 use Rattle.cause_laws.specs.Waited.{HasWaited, IsAsking, IsOverAfter, TimeOutsTakeEightRounds, WaitsHaveTheirRounds}
 use Rattle.cause_laws.specs.Waited.{is_round}

@@ -33,12 +33,13 @@ pub record IsOver (start : Start) (logs : ℕ → List HostStep) (member : Membe
   pub number : signal.signal.view.number ≡ (current start logs).number
 
 -- An epoch is closed by the president of the current view: each full member has ended it, and takeover is over.
-pub record IsClosedBy (start : Start) (e : HostStep) (logs : ℕ → List HostStep) (epoch : ℕ) (member : Member) : Type 0 where
-  pub president : IsPresident start logs member
-  pub stands : IsStanding start logs member
-  pub host_is : e.host ≡ main_of start member
-  pub ended : EachFull start logs (HasEnded epoch)
-  pub over : (current start logs ≡ (first_layout start.shape).view) ⊎ IsOver start logs member
+pub record IsClosedBy (start : Start) (e : HostStep) (logs : ℕ → List HostStep) (epoch : ℕ) (member : Member) : Type 0
+  where
+    pub president : IsPresident start logs member
+    pub stands : IsStanding start logs member
+    pub host_is : e.host ≡ main_of start member
+    pub ended : EachFull start logs (HasEnded epoch)
+    pub over : (current start logs ≡ (first_layout start.shape).view) ⊎ IsOver start logs member
 
 pub record IsClosing (start : Start) (e : HostStep) (logs : ℕ → List HostStep) (epoch : ℕ) : Type 0 where
   pub member : Member

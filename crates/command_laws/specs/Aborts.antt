@@ -17,7 +17,8 @@ use Rattle.command_laws.specs.Served.{IsServedBetween, named_in, own_in, replies
 -- an abort of a transaction that takes commands ends in its being aborted at the client's request
 abbrev pub ReadyAbortsAreAnswered : Type 0
 ReadyAbortsAreAnswered =
-    (start : Start) (was now : ℕ → List HostStep) (name : ℕ) (t : OpenTransaction) (tx : TxId) → IsServedBetween start was now (Abort name)
+    (start : Start) (was now : ℕ → List HostStep) (name : ℕ) (t : OpenTransaction) (tx : TxId)
+    → IsServedBetween start was now (Abort name)
     → named_in (opened_after start was) name ≡ Some t → t.doing ≡ Ready → t.tx ≡ Some tx
     → IsIn (Ended (Some name) (Aborted cause.Request)) (replies_since start was now)
 

@@ -38,8 +38,10 @@ pub record WaitsAlone (start : Start) (was now : ℕ → List HostStep) : Type 0
   pub waits : WaitsForLock start now tx
   pub begun_since : Each (λ (t : OpenTransaction). has_tx tx t ≡ false) (opened_after start was)
 
--- an operation alone is answered, or refused for want of room or of time, or its transaction couldn't begin, or it waits for a lock
+-- an operation alone is answered, or refused for want of room or of time, or its transaction couldn't begin, or it
+-- waits for a lock
 abbrev pub LoneOperationsAreAnswered : Type 0
 LoneOperationsAreAnswered =
     (start : Start) (was now : ℕ → List HostStep) (op : Op) → IsServedBetween start was now (Operate None op)
-    → IsAnsweredAlone start was now ⊎ (IsRefusedAlone start was now ⊎ (IsTurnedAway start was now ⊎ WaitsAlone start was now))
+    → IsAnsweredAlone start was now ⊎ (IsRefusedAlone start was now ⊎
+    (IsTurnedAway start was now ⊎ WaitsAlone start was now))

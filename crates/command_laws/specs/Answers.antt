@@ -36,7 +36,8 @@ pub record IsLeftWaiting (start : Start) (now : ℕ → List HostStep) (name : �
   pub tx : TxId
   pub waits : StillWaits start now name tx
 
--- An operation of a transaction with a name is turned down or answered, or its transaction is aborted for want of room or of
+-- An operation of a transaction with a name is turned down or answered, or its transaction is aborted for want of room
+-- or of
 -- time, or it waits for a lock.
 abbrev pub OperationComesTo : Start → (was now : ℕ → List HostStep) → ℕ → Op → Type 0
 OperationComesTo start was now name op =
@@ -58,7 +59,8 @@ pub record IsDoneAlone (start : Start) (was now : ℕ → List HostStep) : Type 
   pub answered : IsAnsweredAlone start was now
   pub committed : IsCommittedAlone start was now
 
--- An operation alone is done, or its transaction is aborted for want of room or of time, or can't begin, or it waits for a lock.
+-- An operation alone is done, or its transaction is aborted for want of room or of time, or can't begin, or it waits
+-- for a lock.
 abbrev pub LoneComesTo : Start → (was now : ℕ → List HostStep) → Type 0
 LoneComesTo start was now =
     IsDoneAlone start was now ⊎ (IsRefusedAlone start was now ⊎ (IsTurnedAway start was now ⊎ WaitsAlone start was now))
@@ -82,18 +84,21 @@ pub record TakesOperations (start : Start) (logs : ℕ → List HostStep) (name 
 abbrev pub IsAbortedAs : Start → (was now : ℕ → List HostStep) → ℕ → Type 0
 IsAbortedAs start was now name = IsIn (Ended (Some name) (Aborted cause.Request)) (replies_since start was now)
 
--- What a request comes to between these two moments. A transaction that takes it isn't turned down, and at a commit or an
+-- What a request comes to between these two moments. A transaction that takes it isn't turned down, and at a commit or
+-- an
 -- abort no other reply has its name than that of its end. A command that left
 -- something of its own unanswered is asked about twice: the second time it is told who holds what it waits for.
 abbrev pub AnswersRequest : Start → (was now : ℕ → List HostStep) → ApiReq → Type 0
 AnswersRequest start was now (request.Operate (Some name) op) =
     OperationComesTo start was now name op
     ×
-    ((tx : TxId) → TakesOperations start was name tx → IsAnsweredAs start was now name ⊎ (IsRefusedAs start was now name ⊎ StillWaits start now name tx))
+    ((tx : TxId) → TakesOperations start was name tx
+    → IsAnsweredAs start was now name ⊎ (IsRefusedAs start was now name ⊎ StillWaits start now name tx))
 AnswersRequest start was now (request.Operate None op) = LoneComesTo start was now
 AnswersRequest start was now (request.Commit name) =
     CommitComesTo start was now name ×
-    ((tx : TxId) → TakesCommands start was name tx → IsToldCommitted start was now name tx × IsToldOnce start was now name)
+    ((tx : TxId) → TakesCommands start was name tx
+    → IsToldCommitted start was now name tx × IsToldOnce start was now name)
 AnswersRequest start was now (request.Abort name) =
     ((tx : TxId) → TakesCommands start was name tx → IsAbortedAs start was now name × IsToldOnce start was now name)
     ×
@@ -107,14 +112,17 @@ AnswersRequest start was now (request.Rows node) = DumpComesTo start was now (re
 AnswersRequest start was now (request.Digest node) = DumpComesTo start was now (request.Digest node) node true
 AnswersRequest start was now request = Unit {0}
 
--- The request that comes after `before` in the log of the shell's host is served between two quiet moments of these logs and
--- answered there: by a refusal, where it is turned down; and then each transaction whose end isn't reported takes commands, or
+-- The request that comes after `before` in the log of the shell's host is served between two quiet moments of these
+-- logs and
+-- answered there: by a refusal, where it is turned down; and then each transaction whose end isn't reported takes
+-- commands, or
 -- its operation waits for a lock.
-pub record IsAnsweredIn (start : Start) (logs : ℕ → List HostStep) (request : ApiReq) (before : List HostStep) : Type 0 where
-  pub moments : IsServedIn start logs request before
-  pub answers : AnswersRequest start moments.was moments.now request
-  pub turned_down : IsRefusedWhereDue start moments.was moments.now request
-  pub left : (t : OpenTransaction) → IsIn t (opened_after start moments.now) → IsAnswered start moments.now t
+pub record IsAnsweredIn (start : Start) (logs : ℕ → List HostStep) (request : ApiReq) (before : List HostStep) : Type 0
+  where
+    pub moments : IsServedIn start logs request before
+    pub answers : AnswersRequest start moments.was moments.now request
+    pub turned_down : IsRefusedWhereDue start moments.was moments.now request
+    pub left : (t : OpenTransaction) → IsIn t (opened_after start moments.now) → IsAnswered start moments.now t
 
 -- So it is of each request, if nothing is under way at the end or another request comes later.
 abbrev pub RequestsAreAnswered : Type 0

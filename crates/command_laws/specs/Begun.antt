@@ -29,7 +29,8 @@ pub record TakesCommands (start : Start) (logs : ℕ → List HostStep) (name : 
 abbrev pub coordinator_at : Start → (ℕ → List HostStep) → ℕ → TcState
 coordinator_at start logs node = tc_of (after start (tc_host start node) (logs (tc_host start node)))
 
--- The coordinator's next transaction has begun: that is replied, and nothing else. It is behind those that were open, and
+-- The coordinator's next transaction has begun: that is replied, and nothing else. It is behind those that were open,
+-- and
 -- takes commands.
 pub record IsBegun (start : Start) (was now : ℕ → List HostStep) (name node : ℕ) : Type 0 where
   pub told : replies_since start was now ≡ Begun name node ∷ []
@@ -42,7 +43,8 @@ pub record IsNotBegun (start : Start) (was now : ℕ → List HostStep) (name : 
   pub told : replies_since start was now ≡ Refused (Some name) TooManyOpen ∷ []
   pub same : opened_after start now ≡ opened_after start was
 
--- It begins just where the coordinator wasn't full. That is full where it has as many transactions as it may have that it
+-- It begins just where the coordinator wasn't full. That is full where it has as many transactions as it may have that
+-- it
 -- hasn't forgotten, or its numbers are used up.
 abbrev pub BeginsBy : Start → (was now : ℕ → List HostStep) → (name node : ℕ) → Bool → Type 0
 BeginsBy start was now name node true = IsNotBegun start was now name

@@ -13,12 +13,13 @@ use Rattle.world_core.specs.Start.{Start}
 use Rattle.command_laws.specs.Served.{IsServedBetween}
 
 -- The request is served between two quiet moments of these logs: host 0's log is `before` at the first of them.
-pub record IsServedIn (start : Start) (logs : ℕ → List HostStep) (request : ApiReq) (before : List HostStep) : Type 0 where
-  pub was : ℕ → List HostStep
-  pub now : ℕ → List HostStep
-  pub served : IsServedBetween start was now request
-  pub at : was 0 ≡ before
-  pub within : IsCut now logs
+pub record IsServedIn (start : Start) (logs : ℕ → List HostStep) (request : ApiReq) (before : List HostStep) : Type 0
+  where
+    pub was : ℕ → List HostStep
+    pub now : ℕ → List HostStep
+    pub served : IsServedBetween start was now request
+    pub at : was 0 ≡ before
+    pub within : IsCut now logs
 
 -- among these steps of host 0 is one that a request makes
 pub record IsAskedAgain (start : Start) (newer : List HostStep) : Type 0 where
@@ -32,7 +33,9 @@ pub record IsAskedAgain (start : Start) (newer : List HostStep) : Type 0 where
 -- another thing was asked for later, is served between two quiet moments.
 abbrev pub RequestsAreServed : Type 0
 RequestsAreServed =
-    (start : Start) (logs : ℕ → List HostStep) → IsShape start.shape → AreLogs (machine start) logs → IsWithin (hosts start) logs → AreAskedAtQuiet start logs
-    → (newer : List HostStep) (e : HostStep) (before : List HostStep) (request : ApiReq) → logs 0 ≡ newer ++ e ∷ before → request_in e.step.taken.body ≡ Some request
+    (start : Start) (logs : ℕ → List HostStep) → IsShape start.shape → AreLogs (machine start) logs
+    → IsWithin (hosts start) logs → AreAskedAtQuiet start logs
+    → (newer : List HostStep) (e : HostStep) (before : List HostStep) (request : ApiReq) → logs 0 ≡ newer ++ e ∷ before
+    → request_in e.step.taken.body ≡ Some request
     → IsQuiet (machine start) (hosts start) logs ⊎ IsAskedAgain start newer
     → IsServedIn start logs request before

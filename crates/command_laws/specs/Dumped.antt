@@ -19,7 +19,8 @@ abbrev pub AreRising : List (List ℕ × List ℕ) → Type 0
 AreRising [] = Unit {0}
 AreRising (row ∷ rows) = Each (λ (next : List ℕ × List ℕ). slice_cmp nat_cmp row.0 next.0 ≡ Less) rows × AreRising rows
 
--- The committed rows that the node had at the earlier moment are told, and nothing else is replied: each key once, in byte
+-- The committed rows that the node had at the earlier moment are told, and nothing else is replied: each key once, in
+-- byte
 -- order, with its value.
 pub record IsDumped (start : Start) (was now : ℕ → List HostStep) (node : ℕ) (digest : Bool) : Type 0 where
   pub rows : List (List ℕ × List ℕ)

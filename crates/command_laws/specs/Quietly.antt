@@ -13,5 +13,6 @@ use Rattle.answer_laws.specs.Answered.{AreQuiet, IsLiveAs}
 -- at quiet no transaction that is being aborted has an operation unanswered
 abbrev pub NoAbortWaits : Type 0
 NoAbortWaits =
-    (start : Start) (logs : ℕ → List HostStep) (h : ℕ) (tx : TxId) (t : Transaction) (asked : Asked) → AreQuiet start logs → h < hosts start
+    (start : Start) (logs : ℕ → List HostStep) (h : ℕ) (tx : TxId) (t : Transaction) (asked : Asked)
+    → AreQuiet start logs → h < hosts start
     → IsLiveAs tx t (after start h (logs h)) → t.asked ≡ Some asked → is_aborting t.phase ≡ false

@@ -21,14 +21,17 @@ use Rattle.command_laws.specs.Served.{IsServedBetween, named_in}
 abbrev pub marked : ℕ → ℕ → List Mark → Signal → HostStep
 marked h stamp marks x = record { host = h; step = record { stamp = stamp; taken = x; marks = marks } }
 
--- behind the quiet logs in which transaction 7 is open, it is committed: the client asks for that, the node's coordinator gets
+-- behind the quiet logs in which transaction 7 is open, it is committed: the client asks for that, the node's
+-- coordinator gets
 -- an epoch and tells the client, and the rows of the node hear that the client knows
 abbrev pub committed : ℕ → List HostStep
 committed zero =
-    marked 0 8 (Reported first_tx (Committed 1) ∷ []) (headed one 2 7 1 (to_place client (Client (TcCommitConf first_tx 1))))
+    marked 0 8 (Reported first_tx (Committed 1) ∷ [])
+    (headed one 2 7 1 (to_place client (Client (TcCommitConf first_tx 1))))
     ∷ takes 0 4 (request_signal one 3 (Commit 7))
     ∷ sample zero
-committed (suc (suc (suc zero))) = takes 3 9 (headed one 0 8 0 (to_place (rows_of 1) (Client (TcCommitAck first_tx)))) ∷ []
+committed (suc (suc (suc zero))) =
+    takes 3 9 (headed one 0 8 0 (to_place (rows_of 1) (Client (TcCommitAck first_tx)))) ∷ []
 committed (suc (suc zero)) =
     takes 2 8 (headed one 2 7 2 (to_place (epochs 1) (Epoch (DiVerifyEnd first_tx))))
     ∷ takes 2 7 (headed one 2 6 1 (to_place (coordinator 1) (Epoch (DiVerifyConf first_tx 1))))

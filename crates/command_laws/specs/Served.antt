@@ -38,7 +38,8 @@ use Rattle.world_core.specs.Start.{Start}
 use Rattle.answer_laws.specs.Answered.{AreQuiet, EachAtQuiet, IsLiveAs, WaitsForLock}
 use Rattle.host_laws.specs.OpenedAfter.{opened_after}
 
--- The shell asked for one more thing between two quiet moments: the later logs have those before, and of the shell's requests
+-- The shell asked for one more thing between two quiet moments: the later logs have those before, and of the shell's
+-- requests
 -- this one more.
 pub record IsServedBetween (start : Start) (was now : ℕ → List HostStep) (request : ApiReq) : Type 0 where
   pub before : AreQuiet start was
@@ -71,7 +72,8 @@ pub record IsToldCommitted (start : Start) (was now : ℕ → List HostStep) (na
 -- a commit of a transaction that takes commands ends in its being committed
 abbrev pub CommitsAreCommitted : Type 0
 CommitsAreCommitted =
-    (start : Start) (was now : ℕ → List HostStep) (name : ℕ) (t : OpenTransaction) (tx : TxId) → IsServedBetween start was now (Commit name)
+    (start : Start) (was now : ℕ → List HostStep) (name : ℕ) (t : OpenTransaction) (tx : TxId)
+    → IsServedBetween start was now (Commit name)
     → named_in (opened_after start was) name ≡ Some t → t.doing ≡ Ready → t.tx ≡ Some tx
     → IsToldCommitted start was now name tx
 
@@ -90,7 +92,8 @@ pub record IsCommittedAlone (start : Start) (was now : ℕ → List HostStep) : 
 -- an operation alone that is answered ends in its being committed
 abbrev pub LoneAreCommitted : Type 0
 LoneAreCommitted =
-    (start : Start) (was now : ℕ → List HostStep) (op : Op) → IsServedBetween start was now (Operate None op) → IsAnsweredAlone start was now
+    (start : Start) (was now : ℕ → List HostStep) (op : Op) → IsServedBetween start was now (Operate None op)
+    → IsAnsweredAlone start was now
     → IsCommittedAlone start was now
 
 -- the transaction that the last command is about, if it is about one that is there
@@ -101,7 +104,8 @@ own_in host = where_at (api_of host).opened None (λ at t. Some t) (own_place (a
 abbrev pub IsHeldUpAt : TxId → List ℕ → Host → Type 0
 IsHeldUpAt tx key host = is_some (ahead_at (lqh_of host).locks key tx) ≡ true
 
--- its coordinator has its operation unanswered, and at one of the nodes that this is sent along it is held up on the key
+-- its coordinator has its operation unanswered, and at one of the nodes that this is sent along it is held up on the
+-- key
 pub record IsHeldUp (start : Start) (logs : ℕ → List HostStep) (tx : TxId) : Type 0 where
   pub transaction : Transaction
   pub live : IsLiveAs tx transaction (after start (home start tx) (logs (home start tx)))
@@ -110,7 +114,8 @@ pub record IsHeldUp (start : Start) (logs : ℕ → List HostStep) (tx : TxId) :
   pub member : Member
   pub inside : IsIn member asked.chain
   pub low : member.node ≤ start.shape.nodes
-  pub held : IsHeldUpAt tx (key_of asked.op) (after start (rows_host start member.node) (logs (rows_host start member.node)))
+  pub held : IsHeldUpAt tx (key_of asked.op)
+      (after start (rows_host start member.node) (logs (rows_host start member.node)))
 
 -- so it is at quiet where its operation was sent
 abbrev pub EachIsHeldUp : Type 0
@@ -129,7 +134,8 @@ IsBehindAt tx ahead key host = IsBehind tx ahead key (lqh_of host).locks
 abbrev pub name_of_tx : List OpenTransaction → TxId → Option ℕ
 name_of_tx opened tx = where_at opened None (λ at t. t.name) (position (has_tx tx) opened)
 
--- the name of a transaction was told since then that holds, at a node, the lock of a key for which the own transaction waits
+-- the name of a transaction was told since then that holds, at a node, the lock of a key for which the own transaction
+-- waits
 pub record IsToldHolder (start : Start) (was mid now : ℕ → List HostStep) : Type 0 where
   pub own : OpenTransaction
   pub is : own_in (after start 0 (was 0)) ≡ Some own
@@ -145,7 +151,8 @@ pub record IsToldHolder (start : Start) (was mid now : ℕ → List HostStep) : 
 -- where a command left something of its own unanswered, the two questions about it tell for whom that waits
 abbrev pub HoldersAreTold : Type 0
 HoldersAreTold =
-    (start : Start) (was mid now : ℕ → List HostStep) → IsServedBetween start was mid request.Waits → IsServedBetween start mid now request.Pending → is_left_open (after start 0 (was 0)) ≡ true
+    (start : Start) (was mid now : ℕ → List HostStep) → IsServedBetween start was mid request.Waits
+    → IsServedBetween start mid now request.Pending → is_left_open (after start 0 (was 0)) ≡ true
     → IsToldHolder start was mid now
 
 -- there is no room or no time for an operation
@@ -175,9 +182,11 @@ pub record StillWaits (start : Start) (now : ℕ → List HostStep) (name : ℕ)
   pub does : item.doing ≡ Operating
   pub waits : WaitsForLock start now tx
 
--- an operation of a transaction that takes commands is answered, or refused for want of room or of time, or waits for a lock
+-- an operation of a transaction that takes commands is answered, or refused for want of room or of time, or waits for a
+-- lock
 abbrev pub OperationsAreAnswered : Type 0
 OperationsAreAnswered =
-    (start : Start) (was now : ℕ → List HostStep) (name : ℕ) (op : Op) (t : OpenTransaction) (tx : TxId) → IsServedBetween start was now (Operate (Some name) op)
+    (start : Start) (was now : ℕ → List HostStep) (name : ℕ) (op : Op) (t : OpenTransaction) (tx : TxId)
+    → IsServedBetween start was now (Operate (Some name) op)
     → named_in (opened_after start was) name ≡ Some t → t.doing ≡ Ready → t.tx ≡ Some tx → t.operations < OPERATIONS
     → IsAnsweredAs start was now name ⊎ (IsRefusedAs start was now name ⊎ StillWaits start now name tx)

@@ -49,7 +49,8 @@ abbrev pub none_to_serve : Option ℕ → Option Refusal
 none_to_serve None = Some (NoMember 0)
 none_to_serve (Some node) = None
 
--- Why the API, as it is before a request, turns that down: the first reason that stands. None where it takes the request.
+-- Why the API, as it is before a request, turns that down: the first reason that stands. None where it takes the
+-- request.
 abbrev pub turned_down_for : ApiState → ApiReq → Option Refusal
 turned_down_for s (Begin name at) =
     if is_some (place_named s (Some name)) then Some IsOpen

@@ -73,23 +73,27 @@ module _ (start : Start) (logs : ℕ → List HostStep) where
     pub held : (tx : TxId) → IsKept tx → is_known start logs tx ≡ false → (key : List ℕ) → HasWritten tx key
         → (member : Member) → IsReplicaOf start logs key member → HoldsImage member key tx
     -- records of it are of keys that it wrote, and have the image that it leaves
-    pub records : (tx : TxId) → IsKept tx → (member : Member) → IsIn member (made start) → (key : List ℕ) (r : PendingRecord)
+    pub records : (tx : TxId) → IsKept tx → (member : Member) → IsIn member (made start)
+        → (key : List ℕ) (r : PendingRecord)
         → record_at start logs member key tx ≡ Some r
         → HasWritten tx key × (r.image ≡ image_by (decided_ops start logs tx) key)
     -- what is committed, and what is remembered of a commit, is of a key that it wrote
-    pub written : (tx : TxId) (member : Member) → IsIn member (made start) → (key : List ℕ) → LeavesTraceOn member key tx
+    pub written : (tx : TxId) (member : Member) → IsIn member (made start) → (key : List ℕ)
+        → LeavesTraceOn member key tx
         → HasWritten tx key
     pub commits : (i j : ℕ)
         → Each (λ (x : Addressed). x.signal.view.number ≡ (current start logs).number → ComesFromTheEnd x.signal.body)
         (sent (sound_machine start) i j (logs i))
-    pub done : (i j : ℕ) → Each (λ (x : Addressed). ComesWhenDone x.signal.body) (sent (sound_machine start) i j (logs i))
+    pub done : (i j : ℕ)
+        → Each (λ (x : Addressed). ComesWhenDone x.signal.body) (sent (sound_machine start) i j (logs i))
     -- what was applied is committed
     pub applied : (tx : TxId) (key : List ℕ) → IsApplied start logs tx key → AreCommitted start logs tx key
     -- a marker stands alone when all is done
     pub alone : (member : Member) → IsIn member (members_now start logs) → (key : List ℕ) (tx : TxId)
         → has_marker_at start logs member key tx ≡ true → record_at start logs member key tx ≡ None → IsDone tx
     -- who is committed, and doesn't hold the lock any more, is committed at all
-    pub let_go : (member : Member) → IsIn member (members_now start logs) → (key : List ℕ) (tx : TxId) (r : PendingRecord)
+    pub let_go : (member : Member) → IsIn member (members_now start logs)
+        → (key : List ℕ) (tx : TxId) (r : PendingRecord)
         → record_at start logs member key tx ≡ Some r → r.committed ≡ true
         → holds_enough tx Exclusive (replica_at start logs member key).lock.holders ≡ false
         → IsCommittedAtAll start logs tx key

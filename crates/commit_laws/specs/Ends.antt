@@ -11,4 +11,5 @@ use Rattle.commit_laws.specs.Traces.{IsApplied}
 abbrev pub AppliedCommit : Type 0
 AppliedCommit =
     (start : Start) (all : ℕ → List HostStep) (es : List HostStep) → IsMoment start all es
-    → (tx : TxId) (key : List ℕ) → IsApplied start (logs_of start es) tx key → fate start (logs_of start es) tx ≡ commits
+    → (tx : TxId) (key : List ℕ) → IsApplied start (logs_of start es) tx key
+    → fate start (logs_of start es) tx ≡ commits

@@ -40,7 +40,8 @@ module _ (start : Start) (logs : ℕ → List HostStep) where
   pub record ForthIsKnown : Type 0 where
     pub signals : (i j : ℕ) → Each (λ (x : Addressed). TellsForth IsForth x.signal.body)
         (sent (sound_machine start) i j (logs i))
-    pub rows : (member : Member) → IsIn member (made start) → RowsKnow (λ tx epoch. IsForth tx) IsForth (rows_at start logs member)
+    pub rows : (member : Member) → IsIn member (made start)
+        → RowsKnow (λ tx epoch. IsForth tx) IsForth (rows_at start logs member)
     pub takeovers : (member : Member) → IsIn member (made start)
         → TakeoverKnows (λ tx epoch. IsForth tx) IsForth (takeover_after start member (logs (tc_of start member)))
     pub known : (tx : TxId) → is_known start logs tx ≡ true → IsForth tx

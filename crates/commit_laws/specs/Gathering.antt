@@ -28,7 +28,8 @@ pub record EndsGathering (start : Start) (e : HostStep) (es : List HostStep) (me
   pub sound : is_well_formed start.shape e.step.taken ≡ true
   pub header : e.step.taken.view.number ≡ (current start (logs_of start (e ∷ es))).number
   pub same : current start (logs_of start (e ∷ es)) ≡ current start (logs_of start es)
-  pub stands : view_after start (tc_of start member) (logs_of start es (tc_of start member)) ≡ current start (logs_of start es)
+  pub stands : view_after start (tc_of start member) (logs_of start es (tc_of start member))
+      ≡ current start (logs_of start es)
   pub awaited : ℕ
   pub gathers : (takeover_at start (logs_of start es) member).stage ≡ Gathering awaited
   pub last : nat_lt 1 awaited ≡ false
@@ -43,7 +44,8 @@ module _ (start : Start) (logs : ℕ → List HostStep) where
     pub there : record_at start logs member key tx ≡ Some own
     pub prepared : own.committed ≡ false
 
-  -- it was told of each key of which a full member has a record or a marker, and that each is committed of which one has
+  -- it was told of each key of which a full member has a record or a marker, and that each is committed of which one
+  -- has
   -- a marker; who wasn't told to be committed is prepared at a replica
   pub record AllIsTold (member : Member) : Type 0 where
     pub records : (one : Member) → IsIn one (current start logs).full → (tx : TxId) → IsOrphan (current start logs) tx

@@ -17,7 +17,8 @@ module _ (start : Start) (logs : ℕ → List HostStep) where
 
   abbrev pub AreRemembered : Type 0
   AreRemembered =
-      (member : Member) → IsIn member (made start) → Each (IsRemembered member) (rows_at start logs member).lqh.rows.pending
+      (member : Member) → IsIn member (made start)
+      → Each (IsRemembered member) (rows_at start logs member).lqh.rows.pending
 
 abbrev pub CommitsAreRemembered : Type 0
 CommitsAreRemembered =
@@ -30,4 +31,5 @@ TracesStay =
     (start : Start) (all : ℕ → List HostStep) (e : HostStep) (es : List HostStep) → IsMoment start all (e ∷ es)
     → (member : Member) → IsIn member (made start) → (tx : TxId)
     → leave_trace tx (rows_at start (logs_of start es) member) ≡ true
-    → (leave_trace tx (rows_at start (logs_of start (e ∷ es)) member) || is_known start (logs_of start (e ∷ es)) tx) ≡ true
+    → (leave_trace tx (rows_at start (logs_of start (e ∷ es)) member) || is_known start (logs_of start (e ∷ es)) tx)
+    ≡ true

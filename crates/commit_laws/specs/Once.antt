@@ -43,11 +43,12 @@ abbrev pub owners_sent : Start → (Signal → Bool) → (ℕ → List HostStep)
 owners_sent start p logs =
     total_of (made start) (λ (member : Member). sent_along start p (tc_of start member) (logs (tc_of start member)))
 
-pub record AreDrivenOnce (start : Start) (logs : ℕ → List HostStep) (number : ℕ) (tx : TxId) (key : List ℕ) : Type 0 where
-  pub commits_once : owners_sent start (in_number number (commits tx key)) logs ≤ 1
-  pub committed_once : all_sent start (in_number number (has_committed tx key)) logs ≤ 1
-  pub completes_once : owners_sent start (in_number number (completes tx key)) logs ≤ 1
-  pub completed_once : all_sent start (in_number number (has_completed tx key)) logs ≤ 1
+pub record AreDrivenOnce (start : Start) (logs : ℕ → List HostStep) (number : ℕ) (tx : TxId) (key : List ℕ) : Type 0
+  where
+    pub commits_once : owners_sent start (in_number number (commits tx key)) logs ≤ 1
+    pub committed_once : all_sent start (in_number number (has_committed tx key)) logs ≤ 1
+    pub completes_once : owners_sent start (in_number number (completes tx key)) logs ≤ 1
+    pub completed_once : all_sent start (in_number number (has_completed tx key)) logs ≤ 1
 
 abbrev pub KeysAreDrivenOnce : Type 0
 KeysAreDrivenOnce =

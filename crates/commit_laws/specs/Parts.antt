@@ -62,7 +62,8 @@ module _ (start : Start) (logs : ℕ → List HostStep) where
     pub undecided : is_undecided t.phase ≡ true
     pub full : is_led_by_full start logs tx ≡ true
     pub spared : is_lost start logs tx ≡ false
-    pub fresh : (t.asked ≡ None) ⊎ (asked_in start (coordinator_member tx) tx (own_log start logs tx) ≡ (current start logs).number)
+    pub fresh : (t.asked ≡ None) ⊎ (asked_in start (coordinator_member tx) tx (own_log start logs tx) ≡
+        (current start logs).number)
 
   module _ (key : List ℕ) (tx : TxId) (t : Transaction) where
     -- this operation is unanswered, and is on the key
@@ -108,10 +109,13 @@ module _ (start : Start) (logs : ℕ → List HostStep) where
   -- All parts that are under way in the current view tell the truth, and keys on which nothing is are settled.
   pub record PartsStand (xs : List Addressed) : Type 0 where
     pub signals : (tx : TxId) (t : Transaction) → IsHale tx t → (key : List ℕ)
-        → Each (λ (x : Addressed). x.signal.view.number ≡ (current start logs).number → Told key tx t (part_of tx key x.signal.body)) xs
-    pub waits : (tx : TxId) (t : Transaction) → IsHale tx t → (key : List ℕ) (member : Member) → IsIn member (made start)
+        → Each (λ (x : Addressed). x.signal.view.number ≡ (current start logs).number → Told key tx t
+        (part_of tx key x.signal.body)) xs
+    pub waits : (tx : TxId) (t : Transaction) → IsHale tx t → (key : List ℕ) (member : Member)
+        → IsIn member (made start)
         → (view_after start (ldm_of start member) (logs (ldm_of start member))).number ≡ (current start logs).number
-        → Each (λ (q : Request). same_tx q.tx tx ≡ true → same_key (work_key q.work) key ≡ true → Tells key tx t (performs q.work q.at))
+        → Each (λ (q : Request). same_tx q.tx tx ≡ true → same_key (work_key q.work) key ≡ true → Tells key tx t
+        (performs q.work q.at))
         (rows_at start logs member).lqh.waiting
     pub rests : (tx : TxId) (t : Transaction) → IsHale tx t → (key : List ℕ) → IsOff key tx t t.asked
         → IsSettledWith start logs key tx t.ops

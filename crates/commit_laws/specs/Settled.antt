@@ -44,10 +44,12 @@ module _ (start : Start) (logs : ℕ → List HostStep) (key : List ℕ) where
   row_behind primary ops = row_after_all (replica_at start logs primary key).cell.row (ops_on key ops)
 
   -- The answers of these operations are right from the primary's row on; each replica in the current view has the image
-  -- that they leave, if one took effect, and nobody else has any; and the transaction holds the lock at the primary as the
+  -- that they leave, if one took effect, and nobody else has any; and the transaction holds the lock at the primary as
+  -- the
   -- operations need it, if there are any.
   pub record IsSettledWith (tx : TxId) (ops : List (Op × Answer)) : Type 0 where
-    pub right : (primary : Member) → IsPrimary primary → AreRight (replica_at start logs primary key).cell.row (ops_on key ops)
+    pub right : (primary : Member) → IsPrimary primary
+        → AreRight (replica_at start logs primary key).cell.row (ops_on key ops)
     pub images : (primary : Member) → IsPrimary primary → (member : Member) → IsReplicaOf start logs key member
         → HasImageIf (is_written_by ops key) (row_behind primary ops) (record_at start logs member key tx)
     pub others : (member : Member) → IsIn member (made start) → (IsReplicaOf start logs key member → ⊥)

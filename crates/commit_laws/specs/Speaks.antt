@@ -38,12 +38,14 @@ pub record AreSpokenTruly (start : Start) (logs : ℕ → List HostStep) : Type 
   pub aborts_said : (i j : ℕ) → Each (λ (x : Addressed). SaysAbort (fate start logs) x.signal.body)
       (sent (sound_machine start) i j (logs i))
   pub commits_said : (i j : ℕ)
-      → Each (λ (x : Addressed). x.signal.view.number ≡ (current start logs).number → SaysCommit (fate start logs) x.signal.body)
+      → Each (λ (x : Addressed). x.signal.view.number ≡ (current start logs).number → SaysCommit (fate start logs)
+      x.signal.body)
       (sent (sound_machine start) i j (logs i))
 
 -- whoever is reported aborted, but for the going down of the cluster, aborts
 abbrev pub ReportedAbort : Type 0
 ReportedAbort =
-    (start : Start) (all : ℕ → List HostStep) (es : List HostStep) → IsMoment start all es → (tx : TxId) (cause : AbortCause)
+    (start : Start) (all : ℕ → List HostStep) (es : List HostStep) → IsMoment start all es
+    → (tx : TxId) (cause : AbortCause)
     → cause ≢ Down → IsMarked (Reported tx (ReportedAborted cause)) (logs_of start es 0)
     → fate start (logs_of start es) tx ≡ aborts

@@ -44,12 +44,14 @@ module _ (start : Start) (logs : ℕ → List HostStep) where
     pub telling : IsTelling tx key signal
     pub committed : Marked → told_epoch telling.told telling.epoch ≡ None → ⊥
 
-  -- In front of each end that the rows of this member sent to this takeover they told of each record and marker of orphans
+  -- In front of each end that the rows of this member sent to this takeover they told of each record and marker of
+  -- orphans
   -- that they have.
   abbrev pub ToldBeforeEnds : Member → Member → Type 0
   ToldBeforeEnds member one =
       (y : Addressed) (newer older : List Addressed)
-      → sent (sound_machine start) (ldm_of start one) (tc_of start member) (logs (ldm_of start one)) ≡ newer ++ y ∷ older
+      → sent (sound_machine start) (ldm_of start one) (tc_of start member) (logs (ldm_of start one))
+      ≡ newer ++ y ∷ older
       → IsEnd y → (tx : TxId) → IsOrphan (current start logs) tx → (key : List ℕ)
       → (is_some (record_at start logs one key tx) ≡ true → IsAmong tx key ⊥ older)
       × (has_marker_at start logs one key tx ≡ true → IsAmong tx key Unit older)
@@ -58,7 +60,8 @@ module _ (start : Start) (logs : ℕ → List HostStep) where
 abbrev pub EndsComeBehind : Type 0
 EndsComeBehind =
     (start : Start) (all : ℕ → List HostStep) (e : HostStep) (es : List HostStep) → IsMoment start all (e ∷ es)
-    → (member : Member) → EndsGathering start e es member → (one : Member) → IsIn one (current start (logs_of start es)).full
+    → (member : Member) → EndsGathering start e es member → (one : Member)
+    → IsIn one (current start (logs_of start es)).full
     → ToldBeforeEnds start (logs_of start es) member one
 
 -- then the end of each has been taken
@@ -71,7 +74,8 @@ pub record HasEnded (start : Start) (e : HostStep) (es : List HostStep) (member 
 abbrev pub AllHaveEnded : Type 0
 AllHaveEnded =
     (start : Start) (all : ℕ → List HostStep) (e : HostStep) (es : List HostStep) → IsMoment start all (e ∷ es)
-    → (member : Member) → EndsGathering start e es member → (one : Member) → IsIn one (current start (logs_of start es)).full
+    → (member : Member) → EndsGathering start e es member → (one : Member)
+    → IsIn one (current start (logs_of start es)).full
     → HasEnded start e es member one
 
 -- and what was told until then is gathered

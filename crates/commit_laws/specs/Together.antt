@@ -25,7 +25,8 @@ pub record AllStand (start : Start) (es : List HostStep) : Type 0 where
   pub commits : CommitsStand start (logs_of start es)
   pub parts : (xs : List Addressed) → AreInTransit start es xs → PartsStand start (logs_of start es) xs
 
--- how an event moves what becomes of a transaction: it aborts for ever, and commits as long as the current view is the same
+-- how an event moves what becomes of a transaction: it aborts for ever, and commits as long as the current view is the
+-- same
 pub record FatesMove (start : Start) (e : HostStep) (es : List HostStep) (tx : TxId) : Type 0 where
   pub aborting : fate start (logs_of start es) tx ≡ aborts → fate start (logs_of start (e ∷ es)) tx ≡ aborts
   pub committing : current start (logs_of start (e ∷ es)) ≡ current start (logs_of start es)
@@ -64,7 +65,8 @@ abbrev pub EventsKeepCommits : Type 0
 EventsKeepCommits =
     (start : Start) (all : ℕ → List HostStep) (e : HostStep) (es : List HostStep) → Follows start all e es
     → ((tx : TxId) → FatesMove start e es tx)
-    → ((i j : ℕ) → Each (λ (x : Addressed). IsAnswered start (logs_of start (e ∷ es)) x.signal.view.number x.signal.body)
+    → ((i j : ℕ) → Each (λ (x : Addressed). IsAnswered start (logs_of start (e ∷ es)) x.signal.view.number
+    x.signal.body)
     (sent (sound_machine start) i j (logs_of start (e ∷ es) i)))
     → CommitsStand start (logs_of start (e ∷ es))
 

@@ -1,4 +1,5 @@
--- What is in transit at a moment: signals that were sent and weren't taken. What a host that stopped, or was cut off, would
+-- What is in transit at a moment: signals that were sent and weren't taken. What a host that stopped, or was cut off,
+-- would
 -- have been sent stays among them.
 use Rattle.std.specs.Prelude.{◌≡◌, ℕ, Bool, true, false, List, [], ◌∷◌, ◌||◌}
 use Rattle.sig_core.specs.declared.signal.Body.{Body}
@@ -19,7 +20,8 @@ is_closing body = false
 -- a step takes its signal, unless that comes from no link
 pub record Takes (start : Start) (e : HostStep) (before after : List Addressed) : Type 0 where
   pub alone : ((sound_machine start).asked e || is_closing e.step.taken.body) ≡ true → after ≡ before
-  pub signal : ((sound_machine start).asked e || is_closing e.step.taken.body) ≡ false → IsTaken (taken_by e) before after
+  pub signal : ((sound_machine start).asked e || is_closing e.step.taken.body) ≡ false
+      → IsTaken (taken_by e) before after
 
 -- and puts what it sends among them
 pub record Passes (start : Start) (es : List HostStep) (e : HostStep) (before after : List Addressed) : Type 0 where
@@ -30,7 +32,8 @@ pub record Passes (start : Start) (es : List HostStep) (e : HostStep) (before af
 -- after these events these signals are in transit
 abbrev pub AreInTransit : Start → List HostStep → List Addressed → Type 0
 AreInTransit start [] xs = xs ≡ []
-AreInTransit start (e ∷ es) xs = (before : List Addressed) × (AreInTransit start es before × Passes start es e before xs)
+AreInTransit start (e ∷ es) xs =
+    (before : List Addressed) × (AreInTransit start es before × Passes start es e before xs)
 
 abbrev pub MomentsHaveTransit : Type 0
 MomentsHaveTransit =

@@ -3,3 +3,4 @@ pub mod Laws
 pub mod Orders
 pub mod State
 pub mod Verify
+pub mod Words

@@ -8,7 +8,6 @@ mod orders;
 mod verify;
 
 pub use dih::{Counted, Dih, Report, TRANSACTIONS};
-pub use laws::{epochs_never_fall, none_is_given_while_prepared, reports_are_true};
-
-#[cfg(test)]
-mod tests;
+pub use laws::{
+    epochs_never_fall, keeps_to_its_words, none_is_given_while_prepared, reports_are_true,
+};

@@ -1,24 +1,15 @@
 -- The epochs of a member stay sound, and the current one doesn't fall, where each order names a greater epoch to
 -- follow.
-use Rattle.std.proofs.Common.{◌≡◌, ◌==◌, ℕ, ◌+◌, ◌≤◌, ◌<◌, Bool, true, false, nat_le, nat_lt, length, refl, arith, inl, inr}
-use Rattle.std.proofs.lemmas.Bool.{leb-false}
-use Rattle.std.specs.Prelude.{Option, None, Some, position, slice_get}
+use Rattle.std.proofs.Common.{◌≡◌, ℕ, ◌≤◌, ◌<◌, refl, subst, arith, inl, inr}
 use Rattle.sig_core.specs.declared.member.TxId.{TxId}
 use Rattle.sig_core.specs.declared.signal.Body.{Body}
-use Rattle.sig_core.specs.declared.signal.Body.TheVariants.{Host, Membership, Epoch}
+use Rattle.sig_core.specs.declared.signal.Body.TheVariants.{Epoch}
 use Rattle.sig_core.specs.declared.signal.Signal.{Signal}
-use Rattle.sig_core.specs.declared.signal.epoch.EpochSignal.{EpochSignal}
-use Rattle.sig_core.specs.declared.signal.epoch.EpochSignal.TheVariants.{DiVerifyReq, DiVerifyEnd, GcpPrepare, GcpCommit, GcpClosed, CopyGciReq, GcpDone, GcpStateReq}
-use Rattle.sig_core.specs.declared.signal.host.HostSignal.TheVariants.{Continue}
-use Rattle.sig_core.specs.declared.signal.host.Work.TheVariants.{Held}
-use Rattle.sig_core.specs.declared.signal.membership.MembershipSignal.TheVariants.{FenceReq}
-use Rattle.sig_core.specs.Same.{same_tx}
-use Rattle.dih_node.specs.declared.dih.Report.{Report}
-use Rattle.dih_node.specs.declared.dih.TheConstants.{TRANSACTIONS}
-use Rattle.dih_node.specs.Dih.{dih_row, dih_table, epoch_table}
-use Rattle.dih_node.specs.Orders.{close_row, commit_if, commit_row, committed, copy_row, done_row, fence_row, install_row, prepare_row, prepared_if, state_row}
-use Rattle.dih_node.specs.State.{DihState, gives, is_unfinished}
-use Rattle.dih_node.specs.Verify.{end_row, ended, ended_by, given, held_by, is_of, report_by, report_if, reported, serve_by, serve_if, serve_row, take_if, verify_if, verify_row}
+use Rattle.sig_core.specs.declared.signal.epoch.EpochSignal.TheVariants.{GcpPrepare, GcpCommit}
+use Rattle.dih_node.specs.Dih.{dih_row}
+use Rattle.dih_node.specs.Orders.{committed, install_row}
+use Rattle.dih_node.specs.State.{DihState}
+use Rattle.dih_node.proofs.Walk.{IsEnded, ReportOutcomes, dih_outcomes, ordered, was_counted, was_held, was_unknown}
 use Rattle.epoch_laws.specs.Alike.{IsPast, IsSound}
 use Rattle.epoch_laws.proofs.DihMoves.{IsAt, Moves, Stays, dih_installs_stay, dih_moves}
 
@@ -32,97 +23,35 @@ Rises body = Unit {0}
 abbrev pub IsOrderPast : DihState → Type 0
 IsOrderPast s = IsPast s.order s.current
 
-verify_past : (s : DihState) (tx : TxId) → IsOrderPast s → IsOrderPast (verify_row s tx).state
-unfolding verify_row given
-verify_past s tx past = by (nat_lt (length s.counted + length s.held) TRANSACTIONS)
-  where
-    free : (b : Bool) → IsOrderPast (verify_if s tx b).state
-    free true = past
-    free false = past
+-- reports and ends
+pub still_past : (s : DihState) (tx : TxId) (now : DihState) → IsEnded s tx now → IsOrderPast s → IsOrderPast now
+still_past s tx _ (was_counted at is) past = past
+still_past s tx _ (was_held at none is) past = past
+still_past s tx _ (was_unknown none is) past = past
 
-    by : (b : Bool) → IsOrderPast (take_if s tx b).state
-    by true = free (gives s)
-    by false = past
+reports_past : (now : DihState) → IsOrderPast now → ReportOutcomes now (λ step. IsOrderPast step.state)
+reports_past now past =
+    record { unordered = λ none. past; waits = λ order there left. past; reports = λ order there none. tt }
 
-serve_past : (s : DihState) (number : ℕ) → IsOrderPast s → IsOrderPast (serve_row s number).state
-unfolding serve_row given
-serve_past s number past = by (number == s.number) (gives s)
-  where
-    first : (o : Option TxId) → IsOrderPast (serve_by s o).state
-    first None = past
-    first (Some tx) = past
-
-    by : (b c : Bool) → IsOrderPast (serve_if s b c).state
-    by true true = first (slice_get s.held 0)
-    by true false = past
-    by false c = past
-
-reported_past : (s : DihState) → IsOrderPast s → IsOrderPast (reported s).state
-unfolding reported
-reported_past s past = by s.order past
-  where
-    whether : (order : Report) → IsOrderPast s → (b : Bool) → IsOrderPast (report_if s order b).state
-    whether order all true = all
-    whether order all false = tt
-
-    by : (o : Option Report) → IsPast o s.current → IsOrderPast (report_by s o).state
-    by None own = past
-    by (Some order) own = whether order past (is_unfinished s.counted order.epoch)
-
-pub ended_past : (s : DihState) (tx : TxId) → IsOrderPast s → IsOrderPast (ended s tx)
-unfolding ended
-ended_past s tx past = by (position (is_of tx) s.counted)
-  where
-    held : (o : Option ℕ) → IsOrderPast (held_by s o)
-    held None = past
-    held (Some at) = past
-
-    by : (o : Option ℕ) → IsOrderPast (ended_by s tx o)
-    by None = held (position (same_tx tx) s.held)
-    by (Some at) = past
-
-end_past : (s : DihState) (tx : TxId) → IsOrderPast s → IsOrderPast (end_row s tx).state
-unfolding end_row
-end_past s tx past = reported_past (ended s tx) (ended_past s tx past)
-
-prepare_past : (s : DihState) (from epoch next : ℕ) → IsOrderPast s → IsOrderPast (prepare_row s from epoch next).state
-unfolding prepare_row
-prepare_past s from epoch next past = by (nat_le s.current epoch)
-  where
-    by : (b : Bool) → IsOrderPast (prepared_if s epoch next b)
-    by true = past
-    by false = past
-
-commit_past : (s : DihState) (from epoch next : ℕ) → epoch < next → IsOrderPast (commit_row s from epoch next).state
-unfolding commit_row
-commit_past s from epoch next rises = by (nat_le s.current epoch) refl
-  where
-    by : (b : Bool) → nat_le s.current epoch ≡ b → IsOrderPast (commit_if s from epoch next b).state
-    by true on =
-        reported_past (record (committed s epoch next) { order = Some (record { epoch = epoch; to = from }) }) rises
-    by false off =
-        reported_past (record s { order = Some (record { epoch = epoch; to = from }) }) (leb-false s.current epoch off)
-
-epochs_past : (s : DihState) (from : ℕ) (signal : EpochSignal) → Rises (Epoch signal) → IsOrderPast s
-    → IsOrderPast (epoch_table s from signal).state
-unfolding close_row copy_row done_row state_row
-epochs_past s from (DiVerifyReq tx ops) rises past = verify_past s tx past
-epochs_past s from (DiVerifyEnd tx) rises past = end_past s tx past
-epochs_past s from (GcpPrepare epoch next) rises past = prepare_past s from epoch next past
-epochs_past s from (GcpCommit epoch next) rises past = commit_past s from epoch next rises
-epochs_past s from (GcpClosed epoch) rises past = past
-epochs_past s from (CopyGciReq epoch mask) rises past = past
-epochs_past s from (GcpDone epoch) rises past = past
-epochs_past s from GcpStateReq rises past = past
-epochs_past s from _ rises past = past
-
-table_past : (s : DihState) (from number : ℕ) (body : Body) → Rises body → IsOrderPast s
-    → IsOrderPast (dih_table s from number body).state
-unfolding fence_row
-table_past s from number (Host (Continue Held at)) rises past = serve_past s number past
-table_past s from number (Membership (FenceReq proposal)) rises past = past
-table_past s from number (Epoch signal) rises past = epochs_past s from signal rises past
-table_past s from number _ rises past = past
+dih_past : (s : DihState) (x : Signal) → Rises x.body → IsOrderPast s → IsOrderPast (dih_row s x).state
+dih_past s x rises past =
+    dih_outcomes s x (λ step. IsOrderPast step.state) (record {
+      stays = past;
+      decides = λ tx ops is on. past;
+      holds = λ tx ops is off. past;
+      serves = λ at tx is own on first. past;
+      ends = λ tx now is done. reports_past now (still_past s tx now done past);
+      prepares = λ epoch next is ahead. past;
+      prepares_late = λ epoch next is late. past;
+      commits = λ epoch next is ahead.
+          reports_past (ordered (committed s epoch next) x.member.node epoch) (subst Rises is rises);
+      commits_late = λ epoch next is late. reports_past (ordered s x.member.node epoch) late;
+      closes = λ epoch is. past;
+      copies = λ epoch mask is. past;
+      notes = λ epoch is. past;
+      tells = λ is. past;
+      fences = λ proposal is. past;
+    })
 
 -- where it is, and what is sound of that
 record IsFine (current prepared next : ℕ) : Type 0 where
@@ -190,7 +119,7 @@ by_move s now body sound rises stays past = still_sound s now sound stays past
 pub dih_sound : (s : DihState) (x : Signal) → Rises x.body → IsSound s → IsSound (dih_row s x).state
 dih_sound s x rises sound =
     by_move s (dih_row s x).state x.body sound rises (dih_moves s x)
-    (table_past s x.member.node x.view.number x.body rises sound.order)
+    (dih_past s x rises sound.order)
 
 pub dih_installs_sound : (s : DihState) (number : ℕ) → IsSound s → IsSound (install_row s number).state
 unfolding install_row

@@ -24,7 +24,7 @@ use Rattle.world_views.specs.Machine.{after, machine, step_after, told}
 use Rattle.view_laws.specs.Order.{EntriesStandInOrder, by_views, decisions}
 use Rattle.run_theory.specs.Ranks.{in_order}
 use Rattle.view_laws.specs.Runs.{view_after}
-use Rattle.view_laws.proofs.EraSound.{each_filter}
+use Rattle.view_laws.proofs.eras.SoundLogs.{each_filter}
 use Rattle.epoch_laws.specs.Alike.{AreTogether, AreUpTo, GivesUpTo, IsAcross, Waits}
 use Rattle.epoch_laws.specs.Falls.{EpochsNeverFall, EpochsOfHistoriesNeverFall}
 use Rattle.epoch_laws.specs.Members.{dih_in, epochs_of}
@@ -61,8 +61,10 @@ each_turned P (x ∷ xs) all =
 ordered_behind : (xs : List Entry) (a : Entry) → AreEpochsOrdered xs → Each (λ (b : Entry). b.epoch ≤ a.epoch) xs
     → AreEpochsOrdered (xs ++ a ∷ [])
 ordered_behind [] a ordered low = (tt, tt)
-ordered_behind (x ∷ xs) a ordered low =
-    (each_append (λ (b : Entry). x.epoch ≤ b.epoch) xs (a ∷ []) ordered.0 (low.0, tt), ordered_behind xs a ordered.1 low.1)
+ordered_behind (x ∷ xs) a ordered low = (
+  each_append (λ (b : Entry). x.epoch ≤ b.epoch) xs (a ∷ []) ordered.0 (low.0, tt),
+  ordered_behind xs a ordered.1 low.1,
+)
 
 down_turned : (xs : List Entry) → AreDown xs → AreEpochsOrdered (reverse xs)
 down_turned [] down = tt
@@ -144,7 +146,8 @@ module _ (start : Start) (all : ℕ → List HostStep) where
       (given e.host) in
       in_low e.host e.step.stamp (e ∷ logs_of start es e.host) epoch e.step.marks (decisions start es) own.0
       (decided_low epoch es
-      (λ h. each_past (λ (e : HostStep). Each (GivesUpTo epoch) e.step.marks) (log_of-past (machine start) e es h) (given h)))
+      (λ h. each_past (λ (e : HostStep). Each (GivesUpTo epoch) e.step.marks) (log_of-past (machine start) e es h)
+      (given h)))
 
   module _ (e : HostStep) (es : List HostStep) (moment : IsMoment start all (e ∷ es))
       (stand : AllStand start (logs_of start es))
@@ -169,15 +172,25 @@ module _ (start : Start) (all : ℕ → List HostStep) where
           let gives = ready.gives in let is = ready.next_is in absurd (omega (arith, rest, rises, gives, is))
       last d rest epoch next rises (inr (inr gone, up)) = subst (AreUpTo start old) (sym gone.gives) up
 
-      together_of : (me : Member) → IsIn me (current start old).full → (epoch next : ℕ) → AreTogether start old epoch next
+      together_of : (me : Member) → IsIn me (current start old).full → (epoch next : ℕ)
+          → AreTogether start old epoch next
           → (Waits epoch next (epochs_of start old me) × AreUpTo start old epoch)
           ⊎ (IsAcross epoch next (epochs_of start old me) × AreUpTo start old next)
       together_of me inside epoch next (inl (each, up)) =
-          inl (each_in (λ member. Waits epoch next (epochs_of start old member)) me (current start old).full each inside, up)
+          inl (
+            each_in (λ member. Waits epoch next (epochs_of start old member)) me (current start old).full each
+                inside,
+            up,
+          )
       together_of me inside epoch next (inr (each, up)) =
-          inr (each_in (λ member. IsAcross epoch next (epochs_of start old member)) me (current start old).full each inside, up)
+          inr (
+            each_in (λ member. IsAcross epoch next (epochs_of start old member)) me (current start old).full each
+                inside,
+            up,
+          )
 
-      given_down : (me : Member) → IsIn me (current start old).full → (epochs_of start old me).next ≤ (epochs_of start old me).current
+      given_down : (me : Member) → IsIn me (current start old).full
+          → (epochs_of start old me).next ≤ (epochs_of start old me).current
           → Each (IsGivenBy (epochs_of start old me)) e.step.marks → AreDown (decisions start es)
           → AreDown (decisions start (e ∷ es))
       given_down me inside rest given down =
@@ -194,7 +207,8 @@ module _ (start : Start) (all : ℕ → List HostStep) where
         runs : RunsTc start e.host (old e.host)
         runs =
             runs_tc start e.host _
-            (ap (λ h. (started start h).parts) at ∙ ap (λ (s : node.Host). s.parts) (tc_started start me there)) (old e.host)
+            (ap (λ h. (started start h).parts) at ∙ ap (λ (s : node.Host). s.parts) (tc_started start me there))
+            (old e.host)
 
         epochs_are : epochs_of start old me ≡ runs.part.dih
         epochs_are =

@@ -3,19 +3,12 @@ pub mod DihRows
 pub mod DihSends
 pub mod FallAll
 mod FallMarks
-mod MarkClient
-mod MarkCoordinator
-mod MarkMaster
-mod MarkMembership
 mod MarkNone
-mod MarkRows
 pub mod MarkSteps
-mod MarkTakeover
 pub mod MasterHears
 pub mod MasterKeeps
 mod MasterKnows
 pub mod MasterMoves
-mod MasterResumes
 mod MasterResumption
 pub mod MasterRows
 pub mod MasterSends
@@ -26,7 +19,6 @@ pub mod MomentSteps
 mod OrderKeeps
 mod OrderMoves
 mod OrderOn
-mod SentArbiter
 pub mod SentKinds
 pub mod SentMembership
 pub mod SentNone

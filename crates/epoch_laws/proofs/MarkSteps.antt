@@ -1,22 +1,16 @@
 -- A step of a host with a coordinator gives the current epoch of its member, while that prepares for none; a step of
 -- another host gives none.
-use Rattle.std.proofs.Common.{◌≡◌, ◌∙◌, ◌≤◌, ℕ, Bool, true, false, List, [], refl, subst}
-use Rattle.std.specs.Prelude.{Option}
+use Rattle.std.proofs.Common.{◌≡◌, ◌∙◌, ◌≤◌, ℕ, Bool, true, false, List, refl, subst, sym}
 use Rattle.run_theory.specs.Lists.{Each}
-use Rattle.run_theory.proofs.Pasts.{each_append, each_map}
+use Rattle.run_theory.proofs.Pasts.{each_map}
 use Rattle.sig_core.specs.declared.mark.Mark.{Mark}
 use Rattle.sig_core.specs.declared.mark.Mark.TheVariants.{Decided}
-use Rattle.sig_core.specs.declared.member.Member.{Member}
 use Rattle.sig_core.specs.declared.place.BlockId.{BlockId}
 use Rattle.sig_core.specs.declared.place.BlockId.TheVariants as block
 use Rattle.sig_core.specs.declared.signal.Body.{Body}
-use Rattle.sig_core.specs.declared.signal.Body.TheVariants.{Membership}
 use Rattle.sig_core.specs.declared.signal.Signal.{Signal}
-use Rattle.sig_core.specs.declared.signal.membership.MembershipSignal.TheVariants.{ArbitReq}
 use Rattle.sig_core.specs.declared.view.View.{View}
-use Rattle.arbiter_block.specs.Arbiter.{ArbiterState, arbit_if, arbit_row, arbiter_row, arbiter_table, is_granted}
 use Rattle.dih_node.specs.Dih.{dih_row}
-use Rattle.dih_node.specs.Orders as dih
 use Rattle.dih_node.specs.State.{DihState}
 use Rattle.node_views.specs.Blocks.{parts_entered, parts_row}
 use Rattle.node_views.specs.declared.host.Host as hosts
@@ -27,64 +21,73 @@ use Rattle.node_views.specs.declared.parts.Parts.TheVariants.{Shell, Main, Tc, L
 use Rattle.node_views.specs.declared.shell_part.ShellPart.{ShellPart}
 use Rattle.node_views.specs.declared.tc_part.TcPart.{TcPart}
 use Rattle.node_views.specs.Parts.{ldm_row, main_row, shell_row, tc_entered, tc_row}
-use Rattle.tc_views.specs.Views as coordinator
 use Rattle.world_views.specs.Machine.{step_by}
 use Rattle.epoch_laws.proofs.DihMoves.{Stays, dih_installs_stay, rests}
 use Rattle.epoch_laws.proofs.DihSends.{IsGivenBy, dih_gives}
-use Rattle.epoch_laws.proofs.MarkClient.{client_decides_none}
-use Rattle.epoch_laws.proofs.MarkCoordinator.{coordinator_decides_none, coordinator_installs_decide_none}
-use Rattle.epoch_laws.proofs.MarkMaster.{master_decides_none}
-use Rattle.epoch_laws.proofs.MarkMembership.{membership_decides_none, membership_installs_decide_none}
 use Rattle.epoch_laws.proofs.MarkNone.{DecidesNone, IsNoDecision}
-use Rattle.epoch_laws.proofs.MarkRows.{rows_decide_none}
-use Rattle.epoch_laws.proofs.MarkTakeover.{takeover_decides_none}
 use Rattle.moment_laws.proofs.MomentHosts.{HasNoTc}
-use Rattle.moment_laws.proofs.MarkWalk.{IsMarked, IsOfHost, step_marks}
+use Rattle.world_views.proofs.MarkWalk.{IsMarked, IsOfHost, step_marks}
+use Rattle.step_forms.specs.Does.{IsAmong}
+use Rattle.api_views.specs.Words.{is_client_mark}
+use Rattle.api_views.proofs.Walk.{client_words}
+use Rattle.arbiter_block.specs.Words.{is_arbiter_mark}
+use Rattle.arbiter_block.proofs.Walk.{arbiter_words}
+use Rattle.gcp_master.specs.Words.{is_master_mark}
+use Rattle.gcp_master.proofs.Walk.{master_words}
+use Rattle.lqh_views.specs.Words.{is_replica_mark}
+use Rattle.lqh_views.proofs.Walk.{replica_words}
+use Rattle.qmgr_block.specs.Words.{is_qmgr_mark}
+use Rattle.qmgr_block.proofs.Walk.{qmgr_words}
+use Rattle.takeover_block.specs.Words.{is_takeover_mark}
+use Rattle.takeover_block.proofs.Walk.{takeover_words}
+use Rattle.tc_views.specs.Words.{is_coordinator_mark}
+use Rattle.tc_views.proofs.Walk.{coordinator_words}
+use Rattle.view_laws.proofs.eras.Parts.{entered_bare}
+
+-- what the marks of a block don't tell of decisions, none of its steps does
+unmarked : (marks : Mark → Bool) → ((mark : Mark) → marks mark ≡ true → IsNoDecision mark) → (made : List Mark)
+    → Each (IsAmong marks) made → Each IsNoDecision made
+unmarked marks none made all = each_map (IsAmong marks) IsNoDecision made none all
+
+of_client : (mark : Mark) → is_client_mark mark ≡ true → IsNoDecision mark
+of_client (Decided tx epoch) is = absurd cc
+of_client mark is = refl
+
+of_master : (mark : Mark) → is_master_mark mark ≡ true → IsNoDecision mark
+of_master (Decided tx epoch) is = absurd cc
+of_master mark is = refl
+
+of_qmgr : (mark : Mark) → is_qmgr_mark mark ≡ true → IsNoDecision mark
+of_qmgr (Decided tx epoch) is = absurd cc
+of_qmgr mark is = refl
+
+of_rows : (mark : Mark) → is_replica_mark mark ≡ true → IsNoDecision mark
+of_rows (Decided tx epoch) is = absurd cc
+of_rows mark is = refl
 
 entered_none : (parts : Parts) (view : View) → DecidesNone (parts_entered parts view)
-unfolding dih.install_row
-entered_none (Shell p) view = tt
-entered_none (Main p) view = membership_installs_decide_none p.qmgr view
-entered_none (Tc p) view =
-    each_append IsNoDecision (coordinator.install_row p.coordinator view).effects.marks []
-    (coordinator_installs_decide_none p.coordinator view) tt
-entered_none (Ldm p) view = tt
-
-asked_none : (s : ArbiterState) (node number : ℕ) (members : List Member) (joining : Option Member)
-    → DecidesNone (arbit_row s node number members joining)
-unfolding arbit_row
-asked_none s node number members joining = by (is_granted s number members joining)
-  where
-    by : (b : Bool) → DecidesNone (arbit_if s node number members b)
-    by true = tt
-    by false = tt
-
-arbiter_decides_none : (s : ArbiterState) (x : Signal) → DecidesNone (arbiter_row s x)
-arbiter_decides_none s x = by x.body
-  where
-    by : (body : Body) → DecidesNone (arbiter_table s x.member.node body)
-    by (Membership (ArbitReq number members joining)) = asked_none s x.member.node number members joining
-    by _ = tt
+entered_none parts view = subst (Each IsNoDecision) (sym (entered_bare parts view)) tt
 
 shell_none : (p : ShellPart) (b : BlockId) (x : Signal) → DecidesNone (shell_row p b x)
 unfolding shell_row
-shell_none p block.Api x = client_decides_none p.client x
-shell_none p block.Arbiter x = arbiter_decides_none p.arbiter x
+shell_none p block.Api x = unmarked is_client_mark of_client _ (client_words p.client x).1
+shell_none p block.Arbiter x = unmarked is_arbiter_mark (λ mark is. absurd cc) _ (arbiter_words p.arbiter x).1
 shell_none p _ x = tt
 
 main_none : (p : MainPart) (b : BlockId) (x : Signal) → DecidesNone (main_row p b x)
 unfolding main_row
-main_none p block.Qmgr x = membership_decides_none p.qmgr x
-main_none p block.GcpMaster x = master_decides_none p.master x
+main_none p block.Qmgr x = unmarked is_qmgr_mark of_qmgr _ (qmgr_words.at_signals p.qmgr x).1
+main_none p block.GcpMaster x = unmarked is_master_mark of_master _ (master_words p.master x).1
 main_none p _ x = tt
 
 ldm_none : (p : LdmPart) (b : BlockId) (x : Signal) → DecidesNone (ldm_row p b x)
 unfolding ldm_row
-ldm_none p block.Lqh x = rows_decide_none p.replica x
+ldm_none p block.Lqh x = unmarked is_replica_mark of_rows _ (replica_words.takes p.replica x).1
 ldm_none p _ x = tt
 
 other_none : (parts : Parts) (x : Signal) → HasNoTc parts → IsMarked IsNoDecision x parts
-other_none parts x other = record { row = by parts other; settles = λ view is. entered_none (parts_row parts x).state view }
+other_none parts x other =
+    record { row = by parts other; settles = λ view is. entered_none (parts_row parts x).state view }
   where
     by : (parts : Parts) → HasNoTc parts → DecidesNone (parts_row parts x)
     by (Shell p) other = shell_none p x.to.block x
@@ -126,9 +129,11 @@ module _ (x : Signal) (s : DihState) where
   tc_gives : (p : TcPart) → Stays s p.dih → (b : BlockId) → Each (IsGivenBy s) (tc_row p b x).effects.marks
   unfolding tc_row
   tc_gives p same block.Tc =
-      each_map IsNoDecision (IsGivenBy s) _ (none_gives s) (coordinator_decides_none p.coordinator x)
+      each_map IsNoDecision (IsGivenBy s) _ (none_gives s)
+      (unmarked is_coordinator_mark (λ mark is. absurd cc) _ (coordinator_words.takes p.coordinator x).1)
   tc_gives p same block.Takeover =
-      each_map IsNoDecision (IsGivenBy s) _ (none_gives s) (takeover_decides_none p.takeover x)
+      each_map IsNoDecision (IsGivenBy s) _ (none_gives s)
+      (unmarked is_takeover_mark (λ mark is. absurd cc) _ (takeover_words.takes p.takeover x).1)
   tc_gives p same block.Dih =
       each_map (IsGivenBy p.dih) (IsGivenBy s) (dih_row p.dih x).effects.marks (gives_from s p.dih same)
       (dih_gives p.dih x)
@@ -141,7 +146,8 @@ module _ (x : Signal) (s : DihState) where
 pub tc_steps_give : (h : ℕ) (s : hosts.Host) (x : Signal) (p : TcPart) → s.parts ≡ Tc p
     → Each (IsGivenBy p.dih) (step_by h s x).effects.marks
 tc_steps_give h s x p is =
-    step_marks (IsGivenBy p.dih) (record { stops = λ cause. tt; installs = λ view. tt; cuts = λ host. tt }) x h s (record {
+    step_marks (IsGivenBy p.dih) (record { stops = λ cause. tt; installs = λ view. tt; cuts = λ host. tt }) x h s
+    (record {
       goes = λ newer barred. by s.parts is;
       enters =
           each_map IsNoDecision (IsGivenBy p.dih) (parts_entered s.parts x.view).effects.marks (none_gives p.dih)
@@ -161,7 +167,8 @@ tc_steps_give h s x p is =
     behind (Tc q) is =
         let same : q ≡ p = cc in
         tc_marked x p.dih (tc_entered q x.view).state
-        (subst (λ (r : TcPart). Stays r.dih (tc_entered q x.view).state.dih) same (dih_installs_stay q.dih x.view.number))
+        (subst (λ (r : TcPart). Stays r.dih (tc_entered q x.view).state.dih) same
+        (dih_installs_stay q.dih x.view.number))
     behind (Main q) is = absurd cc
     behind (Ldm q) is = absurd cc
     behind (Shell q) is = absurd cc

@@ -22,8 +22,8 @@ use Rattle.world_core.specs.Steps.{Addressed, HostStep}
 use Rattle.world_views.specs.Machine.{after}
 use Rattle.view_laws.specs.Runs.{view_after}
 use Rattle.view_laws.specs.Votes.{main_of}
-use Rattle.view_laws.proofs.EraRises.{host_follows}
-use Rattle.view_laws.proofs.FenceViews.{fences_are_not_below}
+use Rattle.view_laws.proofs.eras.Rises.{host_follows}
+use Rattle.view_laws.proofs.fences.AboveViews.{fences_are_not_below}
 use Rattle.epoch_laws.specs.Alike.{IsSound}
 use Rattle.epoch_laws.specs.Members.{dih_in, epochs_of, master_in, master_of}
 use Rattle.moment_laws.specs.Places.{tc_of}
@@ -76,7 +76,8 @@ module _ (start : Start) (all : ℕ → List HostStep) (e : HostStep) (es : List
           → (IsSound (epochs_of start old member) → IsSound (epochs_of start new member)) → EpochsDo member
       take : e.host ≡ tc_of start member → IsTakenNow start all e es moment block.Dih
           → Moves (epochs_of start old member) x.body (epochs_of start new member)
-          → (Rises x.body → IsSound (epochs_of start old member) → IsSound (epochs_of start new member)) → EpochsDo member
+          → (Rises x.body → IsSound (epochs_of start old member) → IsSound (epochs_of start new member))
+          → EpochsDo member
 
     record IsEntered (s between : DihState) : Type 0 where
       stays : Stays s between
@@ -118,7 +119,8 @@ module _ (start : Start) (all : ℕ → List HostStep) (e : HostStep) (es : List
           h = tc_of start member
 
           own : (k : ℕ) → k ≡ h
-              → EpochsMove start.shape before_it x (view_after start k (e ∷ old k)) (dih_in fresh_epochs (after start h (e ∷ old h)).parts)
+              → EpochsMove start.shape before_it x (view_after start k (e ∷ old k))
+              (dih_in fresh_epochs (after start h (e ∷ old h)).parts)
           own k at =
               subst (λ k. EpochsMove start.shape before_it x (view_after start k (e ∷ old k))
               (dih_in fresh_epochs (after start h (e ∷ old h)).parts)) (sym at)
@@ -142,7 +144,8 @@ module _ (start : Start) (all : ℕ → List HostStep) (e : HostStep) (es : List
       unmoved : master_of start new member ≡ master_of start old member → MasterDoes member
       installs : e.host ≡ main_of start member
           → number_in start old (main_of start member) < number_in start new (main_of start member)
-          → (between : MasterState) → master_of start new member ≡ in_view between (view_after start e.host (e ∷ old e.host))
+          → (between : MasterState)
+          → master_of start new member ≡ in_view between (view_after start e.host (e ∷ old e.host))
           → MasterDoes member
       enters : e.host ≡ main_of start member
           → number_in start old (main_of start member) < number_in start new (main_of start member)
@@ -173,7 +176,8 @@ module _ (start : Start) (all : ℕ → List HostStep) (e : HostStep) (es : List
 
       master_did : e.host ≡ main_of start member
           → ((view_after start (main_of start member) (old (main_of start member))).number < stood.number → Rose)
-          → MasterMoves start.shape master_before (view_after start (main_of start member) (old (main_of start member))) x
+          → MasterMoves start.shape master_before (view_after start (main_of start member) (old (main_of start member)))
+          x
           stood master_behind → MasterDoes member
       master_did at rose moves = by moves.entered moves.comes
         where
@@ -206,7 +210,8 @@ module _ (start : Start) (all : ℕ → List HostStep) (e : HostStep) (es : List
 
           Comes : ℕ → List HostStep → Type 0
           Comes host log =
-              MasterMoves start.shape master_before (view_after start k (old k)) x (view_after start host (e ∷ old host))
+              MasterMoves start.shape master_before (view_after start k (old k)) x
+              (view_after start host (e ∷ old host))
               (master_in fresh (after start k log).parts)
 
           by : (e.host ≡ k) ⊎ (e.host ≢ k) → MasterDoes member
@@ -217,7 +222,8 @@ module _ (start : Start) (all : ℕ → List HostStep) (e : HostStep) (es : List
               ∙ ap (λ (k : ℕ). (view_after start k (e ∷ old k)).number) (sym at) in
               master_did at (λ above. omega (arith, above, number))
               (subst (Comes e.host) (sym log)
-              (subst (λ host. Comes host (e ∷ old k)) (sym at) (host_master start fresh k (part_some start Main member) (old k) e)))
+              (subst (λ host. Comes host (e ∷ old k)) (sym at)
+              (host_master start fresh k (part_some start Main member) (old k) e)))
           by (inr other) =
               unmoved (ap (λ log. master_in fresh (after start k log).parts) (other_log start all e es moment k other))
 

@@ -1,4 +1,5 @@
--- What a step of a host comes to for the epochs of a member, and for its master: views are installed, and they may take the
+-- What a step of a host comes to for the epochs of a member, and for its master: views are installed, and they may take
+-- the
 -- signal of the step.
 use Rattle.std.proofs.Common.{◌≡◌, ◌≤◌, ◌<◌, ◌⊎◌, ℕ, true, refl, sym, ap, subst, ◌∙◌, inl, inr, arith}
 use Rattle.std.specs.Prelude.{Some}
@@ -21,7 +22,7 @@ use Rattle.node_views.specs.declared.parts.Parts.TheVariants as part
 use Rattle.node_views.specs.declared.tc_part.TcPart.{TcPart}
 use Rattle.node_views.specs.Fence.{is_fenced}
 use Rattle.node_views.specs.Parts.{main_row, main_settled, tc_row}
-use Rattle.view_laws.proofs.EraRises.{Follows, entered_follows, settled_above}
+use Rattle.view_laws.proofs.eras.Rises.{Follows, entered_follows, settled_above}
 use Rattle.epoch_laws.specs.Members.{dih_in, master_in}
 use Rattle.moment_laws.proofs.MomentWalk.{Moves, Passes, entering, leaves, plainly, settles, takes}
 use Rattle.moment_laws.proofs.PartTaken.{IsTaken, passed_taken}
@@ -42,7 +43,8 @@ MasterTakes shape s view x seen now =
     ⊎ (((now ≡ in_view s seen) × (view.number < seen.number))
     ⊎ (IsTaken shape block.GcpMaster x seen × (now ≡ (master_row s x).state)))
 
-pub record MasterMoves (shape : Shape) (s : MasterState) (view : View) (x : Signal) (seen : View) (now : MasterState) : Type 0
+pub record MasterMoves (shape : Shape) (s : MasterState) (view : View) (x : Signal) (seen : View) (now : MasterState)
+    : Type 0
   where
     pub between : MasterState
     pub entered : (between ≡ s) ⊎ ((between ≡ in_view s x.view) × (view.number < seen.number))
@@ -92,11 +94,16 @@ module _ (other : DihState) where
     passes_epochs parts view now seen fenced (takes passed none is stands) = by (epochs_taken parts x)
       where
         by : (dih_in other (parts_row parts x).state ≡ dih_in other parts)
-            ⊎ ((x.to.block ≡ block.Dih) × (dih_in other (parts_row parts x).state ≡ (dih_row (dih_in other parts) x).state))
+            ⊎ ((x.to.block ≡ block.Dih) × (dih_in other (parts_row parts x).state ≡
+            (dih_row (dih_in other parts) x).state))
             → EpochsTake shape (dih_in other parts) x seen (dih_in other now)
         by (inl same) = inl (ap (dih_in other) is ∙ same)
         by (inr row) =
-            inr (passed_taken shape block.Dih parts view x seen stands fenced passed row.0, ap (dih_in other) is ∙ row.1)
+            inr (
+              passed_taken shape block.Dih parts view x seen stands fenced passed row.0,
+              ap (dih_in other) is ∙
+                  row.1,
+            )
 
     pub epochs_move : (parts : Parts) (view : View) (now : Parts) (seen : View)
         → view.number ≤ fence_at parts block.Dih view.number

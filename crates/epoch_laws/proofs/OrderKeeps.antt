@@ -1,4 +1,5 @@
--- All that is said of the members of the current view stays so, where one of them carries out an order of its president.
+-- All that is said of the members of the current view stays so, where one of them carries out an order of its
+-- president.
 use Rattle.std.proofs.Common.{◌≡◌, ◌<◌, ◌≤◌, ◌⊎◌, ℕ, List, sym, ◌∙◌, subst, inl, inr, arith}
 use Rattle.run_theory.specs.Lists.{Each, IsIn}
 use Rattle.run_theory.proofs.Pasts.{each_in, each_map}
@@ -32,7 +33,8 @@ module _ (start : Start) (logs : ℕ → List HostStep) where
   up_to_wider low high wider up =
       record {
         gives = λ member inside. let less = up.gives member inside in omega (arith, less, wider);
-        given = λ h. each_map _ _ (logs h) (λ e marks. each_map _ _ e.step.marks (gives_wider low high wider) marks) (up.given h);
+        given = λ h. each_map _ _ (logs h) (λ e marks. each_map _ _ e.step.marks (gives_wider low high wider) marks)
+            (up.given h);
       }
 
 -- what stays so
@@ -111,7 +113,13 @@ module _ (start : Start) (logs now : ℕ → List HostStep) (m : Member)
     commit_alike : EachFull start logs (IsAcross epoch next)
         → (IsAcross epoch next before → IsAcross epoch next after) → after.current ≤ next → AreAlike start now
     commit_alike each step low =
-        record { epoch = epoch; next = next; rises = rises; together = inr (across, up_to next below low (by alike.together)) }
+        record {
+          epoch =
+              epoch;
+          next = next;
+          rises = rises;
+          together = inr (across, up_to next below low (by alike.together));
+        }
       where
         own : IsAcross epoch next before
         own = each_in _ m _ each inside

@@ -1,53 +1,67 @@
--- A takeover, a coordinator and the client's side send no order of epochs, whatever they take.
-use Rattle.std.proofs.Common.{◌≡◌, true, false, refl, subst, sym, ⊎_elim}
+-- A takeover, a coordinator, the client's side and the arbitrator send no order of epochs, whatever they take.
+use Rattle.std.proofs.Common.{◌≡◌, true, false, refl}
+use Rattle.run_theory.proofs.Pasts.{each_map}
 use Rattle.sig_core.specs.declared.signal.Body.{Body}
 use Rattle.sig_core.specs.declared.signal.Body.TheVariants.{Epoch}
 use Rattle.sig_core.specs.declared.signal.Signal.{Signal}
 use Rattle.sig_core.specs.declared.signal.epoch.EpochSignal.TheVariants.{DiVerifyEnd, DiVerifyReq, GcpReq, MicroReq}
 use Rattle.sig_core.specs.declared.view.View.{View}
+use Rattle.step_forms.specs.Does.{IsWord}
 use Rattle.api_views.specs.Client.{client_row}
 use Rattle.api_views.specs.State.{ClientState}
+use Rattle.api_views.specs.Words.{is_client_word}
+use Rattle.api_views.proofs.Walk.{client_words}
+use Rattle.arbiter_block.specs.Arbiter.{ArbiterState, arbiter_row}
+use Rattle.arbiter_block.specs.Words.{is_arbiter_word}
+use Rattle.arbiter_block.proofs.Walk.{arbiter_words}
 use Rattle.takeover_block.specs.State.{TakeoverState}
 use Rattle.takeover_block.specs.Takeover.{takeover_row}
+use Rattle.takeover_block.specs.Words.{is_takeover_word}
+use Rattle.takeover_block.proofs.Walk.{takeover_words}
 use Rattle.tc_views.specs.Coordinator.{coordinator_row}
 use Rattle.tc_views.specs.State.{CoordinatorState}
 use Rattle.tc_views.specs.Views.{install_row}
-use Rattle.view_laws.proofs.KindsApi.{is_of_client}
-use Rattle.view_laws.proofs.KindsClient.{client_kinds}
-use Rattle.view_laws.proofs.KindsCoordinator.{coordinator_installs_kinds, coordinator_kinds}
-use Rattle.view_laws.proofs.KindsSent.{each_of_kinds}
-use Rattle.view_laws.proofs.KindsTakeover.{is_of_takeover, takeover_kinds}
-use Rattle.view_laws.proofs.KindsTurns.{is_of_coordinator}
-use Rattle.epoch_laws.proofs.SentNone.{AreNoOrders, SendsNoOrder, is_order}
+use Rattle.tc_views.specs.Words.{is_coordinator_word}
+use Rattle.tc_views.proofs.Walk.{coordinator_words}
+use Rattle.epoch_laws.proofs.SentNone.{IsNoOrder, SendsNoOrder, is_order}
 
-takeovers : (body : Body) → is_of_takeover body ≡ true → is_order body ≡ false
+takeovers : (body : Body) → is_takeover_word body ≡ true → is_order body ≡ false
 takeovers (Epoch signal) is = absurd cc
 takeovers body is = refl
 
-coordinators : (body : Body) → is_of_coordinator body ≡ true → is_order body ≡ false
+coordinators : (body : Body) → is_coordinator_word body ≡ true → is_order body ≡ false
 coordinators (Epoch (DiVerifyReq tx ops)) is = refl
 coordinators (Epoch (DiVerifyEnd tx)) is = refl
 coordinators (Epoch signal) is = absurd cc
 coordinators body is = refl
 
-clients : (body : Body) → is_of_client body ≡ true → is_order body ≡ false
+clients : (body : Body) → is_client_word body ≡ true → is_order body ≡ false
 clients (Epoch GcpReq) is = refl
 clients (Epoch MicroReq) is = refl
 clients (Epoch signal) is = absurd cc
 clients body is = refl
 
-pub takeover_none : (s : TakeoverState) (x : Signal) → SendsNoOrder (takeover_row s x)
-takeover_none s x = each_of_kinds is_of_takeover (λ body. is_order body ≡ false) _ takeovers (takeover_kinds s x)
+arbiters : (body : Body) → is_arbiter_word body ≡ true → is_order body ≡ false
+arbiters (Epoch signal) is = absurd cc
+arbiters body is = refl
 
--- where it confirms its fence, too
+pub takeover_none : (s : TakeoverState) (x : Signal) → SendsNoOrder (takeover_row s x)
+takeover_none s x =
+    each_map (IsWord is_takeover_word) IsNoOrder _ (λ send is. takeovers send.body is) (takeover_words.takes s x).0
+
 pub coordinator_none : (s : CoordinatorState) (x : Signal) → SendsNoOrder (coordinator_row s x)
 coordinator_none s x =
-    ⊎_elim (λ kinds. each_of_kinds is_of_coordinator (λ body. is_order body ≡ false) _ coordinators kinds)
-    (λ confirms. subst (λ sends. AreNoOrders sends) (sym confirms.1) (refl, tt)) (coordinator_kinds s x)
+    each_map (IsWord is_coordinator_word) IsNoOrder _ (λ send is. coordinators send.body is)
+    (coordinator_words.takes s x).0
 
 pub coordinator_installs_none : (s : CoordinatorState) (view : View) → SendsNoOrder (install_row s view)
 coordinator_installs_none s view =
-    each_of_kinds is_of_coordinator (λ body. is_order body ≡ false) _ coordinators (coordinator_installs_kinds s view)
+    each_map (IsWord is_coordinator_word) IsNoOrder _ (λ send is. coordinators send.body is)
+    (coordinator_words.installs s view).0
 
 pub client_none : (s : ClientState) (x : Signal) → SendsNoOrder (client_row s x)
-client_none s x = each_of_kinds is_of_client (λ body. is_order body ≡ false) _ clients (client_kinds s x)
+client_none s x = each_map (IsWord is_client_word) IsNoOrder _ (λ send is. clients send.body is) (client_words s x).0
+
+pub arbiter_none : (s : ArbiterState) (x : Signal) → SendsNoOrder (arbiter_row s x)
+arbiter_none s x =
+    each_map (IsWord is_arbiter_word) IsNoOrder _ (λ send is. arbiters send.body is) (arbiter_words s x).0

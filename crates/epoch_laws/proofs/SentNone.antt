@@ -1,13 +1,10 @@
 -- What the master of checkpoints and the epochs of members tell one another.
-use Rattle.std.proofs.Common.{◌≡◌, ℕ, Bool, true, false, List, refl}
+use Rattle.std.proofs.Common.{◌≡◌, Bool, true, false, List}
 use Rattle.run_theory.specs.Lists.{Each}
 use Rattle.sig_core.specs.declared.outs.Outgoing.{Outgoing}
-use Rattle.sig_core.specs.declared.place.Place.{Place}
 use Rattle.sig_core.specs.declared.signal.Body.{Body}
 use Rattle.sig_core.specs.declared.signal.Body.TheVariants.{Epoch}
 use Rattle.sig_core.specs.declared.signal.epoch.EpochSignal.TheVariants.{GcpClosed, GcpCommit, GcpNodeFinish, GcpOrd, GcpPrepare, GcpPrepareConf, GcpStateConf}
-use Rattle.sig_core.specs.declared.signal.host.Work.{Work}
-use Rattle.sig_core.specs.Portion.{rest_if}
 use Rattle.sig_core.specs.Step.{Step}
 
 -- an order of the master, or of its membership to it, or what a member answers
@@ -31,8 +28,3 @@ AreNoOrders sends = Each IsNoOrder sends
 -- a step sends none
 abbrev pub SendsNoOrder : {S : Type 0} → Step S → Type 0
 SendsNoOrder step = AreNoOrders step.effects.sends
-
--- an event that goes on with a list of sends later
-pub rest_none : (by : Place) (work : Work) (at : ℕ) (b : Bool) → AreNoOrders (rest_if by work at b)
-rest_none by work at true = (refl, tt)
-rest_none by work at false = tt

@@ -22,12 +22,11 @@ use Rattle.node_views.specs.declared.shell_part.ShellPart.{ShellPart}
 use Rattle.tc_views.specs.Views as coordinator
 use Rattle.world_views.specs.Machine.{step_by}
 use Rattle.epoch_laws.proofs.DihSends.{IsOwn, dih_installs_own}
-use Rattle.epoch_laws.proofs.SentArbiter.{arbiter_none}
-use Rattle.epoch_laws.proofs.SentKinds.{client_none, coordinator_installs_none}
+use Rattle.epoch_laws.proofs.SentKinds.{arbiter_none, client_none, coordinator_installs_none}
 use Rattle.epoch_laws.proofs.SentMembership.{membership_installs_none}
 use Rattle.epoch_laws.proofs.SentNone.{AreNoOrders, IsNoOrder, SendsNoOrder, is_order}
 use Rattle.epoch_laws.proofs.SentRows.{IsOfRows, SendsOfRows, replica_tell}
-use Rattle.moment_laws.proofs.SentWalk.{IsSent, step_sends}
+use Rattle.world_views.proofs.SentWalk.{IsSent, step_sends}
 
 -- what the epochs send themselves at an installation is none
 own_none : (send : Outgoing) → IsOwn send.body → IsNoOrder send

@@ -24,7 +24,8 @@ silent_or Unordered = inl tt
 silent_or (Gathering known) = inl tt
 silent_or _ = inr (λ silent. silent)
 
--- How members and president go on in one view: what was ordered is under way, or all are beyond it; nobody's epoch falls;
+-- How members and president go on in one view: what was ordered is under way, or all are beyond it; nobody's epoch
+-- falls;
 -- who has prepared keeps that, or goes on; and where nothing was ordered by now, each is where it was.
 pub record GoOn (start : Start) (logs now : ℕ → List HostStep) : Type 0 where
   pub full : (current start logs).full ≡ (current start now).full

@@ -23,8 +23,8 @@ use Rattle.world_core.specs.Steps.{HostStep}
 use Rattle.world_views.specs.Hosts.{started}
 use Rattle.world_views.specs.Machine.{after, step_by, told}
 use Rattle.view_laws.specs.Votes.{main_of}
-use Rattle.view_laws.proofs.FollowHosts.{main_started}
-use Rattle.view_laws.proofs.RunMade.{first_in}
+use Rattle.view_laws.proofs.follow.Hosts.{main_started}
+use Rattle.view_laws.proofs.runs.FirstMembers.{first_in}
 use Rattle.moment_laws.specs.Places.{ldm_of, tc_of}
 use Rattle.moment_laws.proofs.MomentHosts.{ldm_number, ldm_started, main_number, tc_number}
 use Rattle.moment_laws.proofs.MomentWalk.{Moves, Passes, entering, leaves, plainly, settles, step_moves, takes}
@@ -68,7 +68,8 @@ module _ (shape : Shape) (x : Signal) (now : Parts) (seen : View) where
 
 step_part : (h : ℕ) (s : node.Host) (x : Signal) → part_in (step_by h s x).state.parts ≡ part_in s.parts
 step_part h s x =
-    moves_part s.standing.shape x (step_by h s x).state.parts (step_by h s x).state.standing.view s.parts s.standing.view
+    moves_part s.standing.shape x (step_by h s x).state.parts (step_by h s x).state.standing.view s.parts
+    s.standing.view
     (step_moves x h s)
 
 next_part : (h : ℕ) (s : node.Host) (x : Signal) → part_in (told h (step_by h s x)).parts ≡ part_in s.parts

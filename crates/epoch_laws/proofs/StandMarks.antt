@@ -76,7 +76,8 @@ module _ (shape : Shape) (x : Signal) where
 
 step_none : (h : ℕ) (s : hosts.Host) (x : Signal) → HasNoTc s.parts → HasNoTc (step_by h s x).state.parts
 step_none h s x none =
-    moves_none s.standing.shape x s.parts s.standing.view (step_by h s x).state.parts (step_by h s x).state.standing.view
+    moves_none s.standing.shape x s.parts s.standing.view (step_by h s x).state.parts
+    (step_by h s x).state.standing.view
     none (step_moves x h s)
 
 next_none : (h : ℕ) (s : hosts.Host) (x : Signal) → HasNoTc s.parts → HasNoTc (told h (step_by h s x)).parts
@@ -125,16 +126,19 @@ module _ (start : Start) (all : ℕ → List HostStep) (e : HostStep) (es : List
       tc_given m there at =
           subst (λ h. Each (GivesUpTo epoch) (step_after start h (old h) e).effects.marks) (sym at)
           (each_map (IsGivenBy runs.part.dih) (GivesUpTo epoch) _ (up_to_own epoch runs.part.dih below)
-          (tc_steps_give (tc_of start m) (after start (tc_of start m) (old (tc_of start m))) e.step.taken runs.part runs.is))
+          (tc_steps_give (tc_of start m) (after start (tc_of start m) (old (tc_of start m))) e.step.taken runs.part
+          runs.is))
         where
           runs : RunsTc start (tc_of start m) (old (tc_of start m))
           runs = runs_epochs start old m there
 
           below : (runs_epochs start old m there).part.dih.current ≤ epoch
-          below = subst (λ (s : DihState). s.current ≤ epoch) (ap (dih_in (fresh_dih 0 0 0 0)) (runs_epochs start old m there).is) (low m at)
+          below = subst (λ (s : DihState). s.current ≤ epoch)
+              (ap (dih_in (fresh_dih 0 0 0 0)) (runs_epochs start old m there).is) (low m at)
 
       pub given_next : Each (GivesUpTo epoch) e.step.marks
-      given_next = subst (Each (GivesUpTo epoch)) (sym marks_are) (by (tc_host_is start e.host (host_low start all e es moment)))
+      given_next = subst (Each (GivesUpTo epoch)) (sym marks_are)
+          (by (tc_host_is start e.host (host_low start all e es moment)))
         where
           by : TcHost start e.host → Each (GivesUpTo epoch) (step_after start e.host (old e.host) e).effects.marks
           by (of_tc me there at) = tc_given me there at
@@ -160,7 +164,8 @@ module _ (start : Start) (all : ℕ → List HostStep) (e : HostStep) (es : List
         → EachFull start new P
     full_next P keep stays each =
         each_from _ (current start new).full
-        (λ member there. keep _ _ (stays member) (each_in _ member (current start old).full each (full_before member there)))
+        (λ member there. keep _ _ (stays member)
+        (each_in _ member (current start old).full each (full_before member there)))
 
     stay_alike : ((member : Member) → Stays (epochs_of start old member) (epochs_of start new member))
         → AreAlike start new
@@ -212,10 +217,12 @@ module _ (start : Start) (all : ℕ → List HostStep) (e : HostStep) (es : List
         by (prepares m at inside view epoch next rises ordered late moves) =
             let p = master_of start old ordered.president in
             (prepare_keeps start old new m (others_same start all e es moment stand m at)
-            (sym (ap (λ (v : View). v.full) view)) inside (marks_by m at) stand.alike epoch next rises late p.voices p.phase
+            (sym (ap (λ (v : View). v.full) view)) inside (marks_by m at) stand.alike epoch next rises late p.voices
+            p.phase
             (stand.president ordered.president ordered.is ordered.stands) ordered.far moves).alike
         by (commits m at inside view epoch next rises ordered late moves) =
             let p = master_of start old ordered.president in
             (commit_keeps start old new m (others_same start all e es moment stand m at)
-            (sym (ap (λ (v : View). v.full) view)) inside (marks_by m at) stand.alike epoch next rises late p.voices p.phase
+            (sym (ap (λ (v : View). v.full) view)) inside (marks_by m at) stand.alike epoch next rises late p.voices
+            p.phase
             (stand.president ordered.president ordered.is ordered.stands) ordered.far moves).alike

@@ -32,8 +32,8 @@ use Rattle.world_core.specs.Steps.{Addressed, HostStep}
 use Rattle.world_views.specs.Machine.{after}
 use Rattle.view_laws.specs.Runs.{view_after}
 use Rattle.view_laws.specs.Votes.{main_of}
-use Rattle.view_laws.proofs.FollowHosts.{main_started}
-use Rattle.view_laws.proofs.RunMade.{main_same}
+use Rattle.view_laws.proofs.follow.Hosts.{main_started}
+use Rattle.view_laws.proofs.runs.FirstMembers.{main_same}
 use Rattle.epoch_laws.specs.Masters.{IsRight, IsRightIn, IsSilent}
 use Rattle.epoch_laws.specs.Members.{IsFirst, IsPresident, IsStanding, epochs_of, master_in, master_of}
 use Rattle.moment_laws.specs.Places.{tc_of}
@@ -245,7 +245,8 @@ module _ (start : Start) (all : ℕ → List HostStep) (e : HostStep) (es : List
               let above = current_above start old h (main_low start p there) in
               let rises = current_rises start all e es moment in
               let here : number_in start new h ≡ current_number start new = stands in
-              stood (omega (arith, low, above, rises, here, number_rises start all e es moment h)) (kept (turn start all e es moment))
+              stood (omega (arith, low, above, rises, here, number_rises start all e es moment h))
+              (kept (turn start all e es moment))
             where
               kept : Turn start all e es moment → current start new ≡ current start old
               kept (keeps same stands) = same
@@ -338,7 +339,8 @@ module _ (start : Start) (all : ℕ → List HostStep) (e : HostStep) (es : List
           }
 
           still_right : (s : MasterState)
-              → ((member : Member) → Stays (epochs_of start old member) (epochs_of start new member)) → IsRight start old s
+              → ((member : Member) → Stays (epochs_of start old member) (epochs_of start new member))
+              → IsRight start old s
               → IsRight start new s
           still_right s stay right = right_stays start old new stay full_same s.voices s.phase right
 
@@ -364,8 +366,10 @@ module _ (start : Start) (all : ℕ → List HostStep) (e : HostStep) (es : List
           pub master_stays : e.host ≡ main_of start p → Carries start all e es moment stand → (member : Member)
               → Stays (epochs_of start old member) (epochs_of start new member)
           master_stays at (took.stay stay) = stay
-          master_stays at (took.prepares m at_too inside same epoch next rises order late goes) = absurd (not_tc at m at_too)
-          master_stays at (took.commits m at_too inside same epoch next rises order late goes) = absurd (not_tc at m at_too)
+          master_stays at (took.prepares m at_too inside same epoch next rises order late goes) =
+              absurd (not_tc at m at_too)
+          master_stays at (took.commits m at_too inside same epoch next rises order late goes) =
+              absurd (not_tc at m at_too)
 
           stood_right : MasterDoes start all e es moment p → IsRight start new is_now
           stood_right (unmoved is) =

@@ -176,11 +176,13 @@ module _ (start : Start) (all : ℕ → List HostStep) (e : HostStep) (es : List
       first_on : (p : Member) → IsPresident start old p → IsPresident start new p
       first_on p is = subst (IsFirst p) full is
 
-      right_on : (p : Member) → IsPresident start old p → IsStanding start old p → IsRight start new (master_of start new p)
+      right_on : (p : Member) → IsPresident start old p → IsStanding start old p
+          → IsRight start new (master_of start new p)
       right_on p is at = president_next start all e es moment stand p (first_on p is) (stands_on p at)
 
       -- where epochs take an order the masters stay
-      masters_same : (m : Member) → e.host ≡ tc_of start m → (p : Member) → master_of start old p ≡ master_of start new p
+      masters_same : (m : Member) → e.host ≡ tc_of start m → (p : Member)
+          → master_of start old p ≡ master_of start new p
       masters_same m at p = by (cases_eq e.host (main_of start p))
         where
           by : (e.host ≡ main_of start p) ⊎ (e.host ≢ main_of start p) → master_of start old p ≡ master_of start new p

@@ -42,14 +42,14 @@ use Rattle.view_laws.specs.HostEvents.{events_of, is_membership}
 use Rattle.view_laws.specs.Order.{is_sound}
 use Rattle.view_laws.specs.Runs.{view_after}
 use Rattle.view_laws.specs.Votes.{main_of, membership_in, membership_of}
-use Rattle.view_laws.proofs.EraShapes.{shape_stays}
-use Rattle.view_laws.proofs.EraSound.{each_filter}
-use Rattle.view_laws.proofs.FenceViews.{fences_are_not_below}
-use Rattle.view_laws.proofs.FollowHosts.{hosts_follow}
-use Rattle.view_laws.proofs.FollowSends.{IsSentBy, each_sent}
-use Rattle.view_laws.proofs.ProposalLemmas.{me_is}
-use Rattle.view_laws.proofs.RunMade.{member_main, node_some}
-use Rattle.view_laws.proofs.SetRows.{same_is}
+use Rattle.view_laws.proofs.eras.Shapes.{shape_stays}
+use Rattle.view_laws.proofs.eras.SoundLogs.{each_filter}
+use Rattle.view_laws.proofs.fences.AboveViews.{fences_are_not_below}
+use Rattle.view_laws.proofs.follow.Hosts.{hosts_follow}
+use Rattle.view_laws.proofs.follow.Senders.{IsSentBy, each_sent}
+use Rattle.view_laws.proofs.memberships.Proposals.{me_is}
+use Rattle.view_laws.proofs.runs.FirstMembers.{member_main, node_some}
+use Rattle.view_laws.proofs.memberships.SetTests.{same_is}
 use Rattle.epoch_laws.specs.Alike.{IsSound}
 use Rattle.epoch_laws.specs.Masters.{HasPrepared}
 use Rattle.epoch_laws.specs.Members.{IsFirst, IsPresident, IsStanding, dih_in, epochs_of, master_in, master_of}
@@ -182,7 +182,8 @@ module _ (start : Start) (logs : ℕ → List HostStep) (y : Addressed) where
   order_true k sent first (Epoch (GcpStateConf now prepared next closed saved durable)) none = absurd cc
   order_true k sent first body none = tt
 
--- what the host of a membership sends to the master of its own node comes to that of its own member, if this is the first
+-- what the host of a membership sends to the master of its own node comes to that of its own member, if this is the
+-- first
 reached_own : (start : Start) (me : Member) → IsIn me (made start) → (view : View) → IsFirst me view.full
     → reached (made start) (main_of start me) view (checkpoints me.node) ≡ main_of start me
 unfolding reached
@@ -221,7 +222,8 @@ module _ (start : Start) (all : ℕ → List HostStep) (e : HostStep) (es : List
       runs : RunsTc start e.host (old e.host)
       runs =
           runs_tc start e.host _
-          (ap (λ h. (started start h).parts) at ∙ ap (λ (s : node.Host). s.parts) (tc_started start me there)) (old e.host)
+          (ap (λ h. (started start h).parts) at ∙ ap (λ (s : node.Host). s.parts) (tc_started start me there))
+          (old e.host)
 
       step : IsStepOfTc s x runs.part stood (after start e.host (e ∷ old e.host)).parts sends
       step = tc_steps s x runs.part e.host runs.is
@@ -264,16 +266,19 @@ module _ (start : Start) (all : ℕ → List HostStep) (e : HostStep) (es : List
               (taken_prepared epoch step.part.dih done.taken
               (by (subst (λ body. Moves runs.part.dih body step.part.dih) done.is moves)))
             where
-              by : Moves runs.part.dih (Epoch (GcpPrepare epoch done.next)) step.part.dih → epoch ≤ step.part.dih.current
+              by : Moves runs.part.dih (Epoch (GcpPrepare epoch done.next)) step.part.dih
+                  → epoch ≤ step.part.dih.current
               by (inl (late, goes)) =
                   let fenced = fenced_is start all e es moment (GcpPrepare epoch done.next) done.is refl in
                   let told =
-                  order_told start all e es moment block.Dih taken (GcpPrepare epoch done.next) done.is fenced stand.signals in
+                  order_told start all e es moment block.Dih taken (GcpPrepare epoch done.next) done.is fenced
+                  stand.signals in
                   let inside = taker_full start all e es moment stand me at taken told.view in
                   let late_too : (epochs_of start old me).current ≤ epoch =
                   subst (λ (d : DihState). d.current ≤ epoch) (sym epochs_old) late in
                   let own : (epochs_of start old me).current ≡ epoch =
-                  ordered_own start all e es moment stand me inside epoch done.next told.is_true.0 late_too told.is_true.1 in
+                  ordered_own start all e es moment stand me inside epoch done.next told.is_true.0 late_too
+                  told.is_true.1 in
                   let same : (epochs_of start old me).current ≡ runs.part.dih.current =
                   ap (λ (d : DihState). d.current) epochs_old in
                   let gives = goes.current_is in
@@ -318,7 +323,8 @@ module _ (start : Start) (all : ℕ → List HostStep) (e : HostStep) (es : List
               absurd (subst (IsIn one.sent) (malformed_quiet e.host s x (sounds false bad)) one.there)
           by (inl sound) (inl left) =
               none_true start new y y.signal.body
-              (subst (λ body. is_order body ≡ false) (sym one.body) (each_in IsNoOrder one.sent sends left.none one.there))
+              (subst (λ body. is_order body ≡ false) (sym one.body)
+              (each_in IsNoOrder one.sent sends left.none one.there))
           by (inl sound) (inr reached) =
               let taken = taken_of sound reached.passed reached.to in
               let told =
@@ -326,7 +332,8 @@ module _ (start : Start) (all : ℕ → List HostStep) (e : HostStep) (es : List
               (subst IsSound epochs_old (stand.sound me there)) in
               tells_true taken reached.moves y one.from of y.signal.body
               (subst (TellsOf runs.part.dih x.body step.part.dih) (sym one.body)
-              (each_in (λ (sent : Outgoing). TellsOf runs.part.dih x.body step.part.dih sent.body) one.sent sends told one.there))
+              (each_in (λ (sent : Outgoing). TellsOf runs.part.dih x.body step.part.dih sent.body) one.sent sends told
+              one.there))
 
     -- the master of a member on this host
     module _ (me : Member) (there : IsIn me (made start)) (at : e.host ≡ main_of start me)
@@ -378,7 +385,8 @@ module _ (start : Start) (all : ℕ → List HostStep) (e : HostStep) (es : List
         first_new to order =
             oldest_first me (current start new).full
             (subst (λ (v : View). is_oldest_of me v.full ≡ true) known_view
-            (subst (λ (m : Member). is_oldest_of m main_step.part.qmgr.known.layout.view.full ≡ true) known_me order.oldest))
+            (subst (λ (m : Member). is_oldest_of m main_step.part.qmgr.known.layout.view.full ≡ true) known_me
+            order.oldest))
 
         module _ (y : Addressed) (one : IsSentBy (made start) e.host stood sends y) where
           main_of_me : y.signal.member ≡ me
@@ -461,7 +469,8 @@ module _ (start : Start) (all : ℕ → List HostStep) (e : HostStep) (es : List
         let of : y.signal.member ≡ me =
         one.member ∙ ap (member_at (made start)) at ∙ ldm_member start me there in
         rows_true start new y (one.from ∙ at ∙ ap (ldm_of start) (sym of)) y.signal.body
-        (subst IsOfRowsBy (sym one.body) (each_in IsOfRows one.sent sends (rows_send e.host s x runs.rows runs.is) one.there))
+        (subst IsOfRowsBy (sym one.body) (each_in IsOfRows one.sent sends (rows_send e.host s x runs.rows runs.is)
+        one.there))
 
     -- whoever sends it
     sent_true : stood ≡ current start new → (y : Addressed) → IsSentBy (made start) e.host stood sends y

@@ -16,8 +16,8 @@ use Rattle.world_core.specs.Hosts as world
 use Rattle.world_core.specs.Start.{Start, made}
 use Rattle.world_core.specs.Steps.{HostStep}
 use Rattle.world_views.specs.Hosts.{epoch_before}
-use Rattle.view_laws.proofs.FollowHosts.{main_started}
-use Rattle.view_laws.proofs.RunStep.{started_view}
+use Rattle.view_laws.proofs.follow.Hosts.{main_started}
+use Rattle.view_laws.proofs.runs.Step.{started_view}
 use Rattle.epoch_laws.specs.Alike.{AreAlike, IsSound, Rests, Waits}
 use Rattle.epoch_laws.specs.Masters.{IsRight, IsRightIn}
 use Rattle.epoch_laws.specs.Members.{IsFirst, IsPresident, dih_in, epochs_of, master_in, master_of}
@@ -46,11 +46,13 @@ module _ (start : Start) (all : ℕ → List HostStep) (some : 1 ≤ start.epoch
   first = (first_layout start.shape).view
 
   module _ (member : Member) (there : IsIn member (made start)) where
-    epochs_begin : epochs_of start logs member ≡ fresh_dih member.node first.number start.epoch (epoch_before start.epoch)
+    epochs_begin : epochs_of start logs member
+        ≡ fresh_dih member.node first.number start.epoch (epoch_before start.epoch)
     epochs_begin = ap (λ (s : hosts.Host). dih_in (fresh_dih 0 0 0 0) s.parts) (tc_started start member there)
 
     master_begins : master_of start logs member ≡ fresh_master member first start.epoch
-    master_begins = ap (λ (s : hosts.Host). master_in (fresh_master member first 0) s.parts) (main_started start member there)
+    master_begins =
+        ap (λ (s : hosts.Host). master_in (fresh_master member first 0) s.parts) (main_started start member there)
 
     sound_begun : IsSound (fresh_dih member.node first.number start.epoch (epoch_before start.epoch))
     sound_begun = record {
@@ -117,14 +119,16 @@ module _ (start : Start) (all : ℕ → List HostStep) (some : 1 ≤ start.epoch
     where
       by : (b : Bool) → is_president member first ≡ b → first_phase start.epoch b ≡ Unordered
       by true is =
-          absurd (other (subst (λ (v : View). IsFirst member v.full) (sym current_first) (first_is member first.full is)))
+          absurd (other (subst (λ (v : View). IsFirst member v.full) (sym current_first)
+          (first_is member first.full is)))
       by false is = refl
 
   pub stands_first : AllStand start logs
   stands_first = record {
     sound = sound;
     alike = alike;
-    president = λ member is stands. right member (full_made member (president_made (current start logs).full member is));
+    president =
+        λ member is stands. right member (full_made member (president_made (current start logs).full member is));
     others = λ member there other stands. unordered member there other;
     signals = λ i j. tt;
   }

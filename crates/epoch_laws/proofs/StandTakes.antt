@@ -134,7 +134,8 @@ module _ (start : Start) (all : ℕ → List HostStep) (e : HostStep) (es : List
         by : (member : Member) → (e.host ≡ tc_of start member) ⊎ (e.host ≢ tc_of start member)
             → Stays (epochs_of start old member) (epochs_of start new member)
         by member (inl at_too) =
-            subst (λ (k : Member). Stays (epochs_of start old k) (epochs_of start new k)) (sym (one_taker m member at at_too))
+            subst (λ (k : Member). Stays (epochs_of start old k) (epochs_of start new k))
+            (sym (one_taker m member at at_too))
             stays
         by member (inr other) = left_stays member other
 
@@ -171,7 +172,8 @@ module _ (start : Start) (all : ℕ → List HostStep) (e : HostStep) (es : List
         did at (leave stays sound) = all_stay (member_at (made start) e.host) at stays
         did at (take at_too taken moves sound) = carried (member_at (made start) e.host) at taken x.body refl moves
 
-        by : (e.host ≡ tc_of start (member_at (made start) e.host)) ⊎ (e.host ≢ tc_of start (member_at (made start) e.host))
+        by : (e.host ≡ tc_of start (member_at (made start) e.host))
+            ⊎ (e.host ≢ tc_of start (member_at (made start) e.host))
             → Carries
         by (inl at) = did at (epochs_do start all e es moment (member_at (made start) e.host))
         by (inr other) =

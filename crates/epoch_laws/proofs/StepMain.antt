@@ -24,7 +24,7 @@ use Rattle.world_views.specs.Machine.{step_by, told}
 use Rattle.epoch_laws.proofs.SentMembership.{Orders, membership_installs_none, membership_orders, nothing_orders, settling_none}
 use Rattle.epoch_laws.proofs.SentNone.{AreNoOrders, IsNoOrder}
 use Rattle.epoch_laws.proofs.StepTc.{IsPassed}
-use Rattle.moment_laws.proofs.StepWalk.{IsTaken, IsWalked, Saying, next_comes}
+use Rattle.world_views.proofs.StepWalk.{IsTaken, IsWalked, Saying, next_comes}
 
 -- the host installed this view, with the master
 pub record IsInstalled (s now : MasterState) (stood : View) : Type 0 where

@@ -30,9 +30,10 @@ use Rattle.epoch_laws.proofs.DihSends.{TellsOf, dih_tells}
 use Rattle.epoch_laws.proofs.SentKinds.{coordinator_none, takeover_none}
 use Rattle.epoch_laws.proofs.SentNone.{AreNoOrders, IsNoOrder, is_order}
 use Rattle.epoch_laws.proofs.SentParts.{entered_none}
-use Rattle.moment_laws.proofs.StepWalk.{IsTaken, IsWalked, Saying, next_comes}
+use Rattle.world_views.proofs.StepWalk.{IsTaken, IsWalked, Saying, next_comes}
 
--- The blocks of a host take the signal, where it stands in this view behind it: the signal's own, which is greater, or the
+-- The blocks of a host take the signal, where it stands in this view behind it: the signal's own, which is greater, or
+-- the
 -- one before, where the signal isn't below their fence.
 abbrev pub IsPassed : hosts.Host → Signal → View → Type 0
 IsPassed s x stood =
@@ -45,11 +46,12 @@ pub record IsLeft (s now : DihState) (sends : List Outgoing) : Type 0 where
   pub none : AreNoOrders sends
 
 -- they take the signal
-pub record IsReached (host : hosts.Host) (x : Signal) (stood : View) (s now : DihState) (sends : List Outgoing) : Type 0 where
-  pub passed : IsPassed host x stood
-  pub to : x.to.block ≡ block.Dih
-  pub moves : Moves s x.body now
-  pub tells : Rises x.body → IsSound s → Each (λ sent. TellsOf s x.body now sent.body) sends
+pub record IsReached (host : hosts.Host) (x : Signal) (stood : View) (s now : DihState) (sends : List Outgoing) : Type 0
+  where
+    pub passed : IsPassed host x stood
+    pub to : x.to.block ≡ block.Dih
+    pub moves : Moves s x.body now
+    pub tells : Rises x.body → IsSound s → Each (λ sent. TellsOf s x.body now sent.body) sends
 
 pub record IsStepOfTc (host : hosts.Host) (x : Signal) (p : TcPart) (stood : View) (now : Parts) (sends : List Outgoing)
     : Type 0 where
@@ -210,7 +212,8 @@ module _ (host : hosts.Host) (x : Signal) (p : TcPart) where
         subst (λ (parts : Parts). IsTaken SaysTc x host.standing.view parts []) (sym is)
         (taken host.standing.view p [] unmoved tt (inr (newer, refl, barred)));
     enters = λ newer among.
-        subst (λ (parts : Parts). SaysTc x.view (parts_entered parts x.view).state (parts_entered parts x.view).effects.sends)
+        subst (λ (parts : Parts). SaysTc x.view (parts_entered parts x.view).state
+        (parts_entered parts x.view).effects.sends)
         (sym is)
         (quiet x.view (tc_entered p x.view).state (tc_entered p x.view).state []
         (tc_entered p x.view).effects.sends entered refl tt (entered_none (Tc p) x.view));

@@ -1,4 +1,5 @@
--- How far the members of the current view are: each gives the same epoch, or some have prepared for the next one or gone on
+-- How far the members of the current view are: each gives the same epoch, or some have prepared for the next one or
+-- gone on
 -- to it.
 use Rattle.std.specs.Prelude.{◌≡◌, ◌≤◌, ◌<◌, ◌⊎◌, ℕ, List, Option, None, Some}
 use Rattle.run_theory.specs.Lists.{Each, IsIn}
@@ -17,7 +18,8 @@ abbrev pub IsPast : Option Report → ℕ → Type 0
 IsPast None epoch = Unit {0}
 IsPast (Some order) epoch = order.epoch < epoch
 
--- What is so of one member by itself: a prepared epoch isn't below the current one, and the next is above it; where none is
+-- What is so of one member by itself: a prepared epoch isn't below the current one, and the next is above it; where
+-- none is
 -- prepared the next is the current one, and the last order was for one before it.
 pub record IsSound (s : DihState) : Type 0 where
   pub some : 1 ≤ s.current
@@ -67,7 +69,8 @@ module _ (start : Start) (logs : ℕ → List HostStep) where
 
   -- all members of the current view give the epoch, or all have prepared for the next one or gone on to it
   abbrev pub AreTogether : ℕ → ℕ → Type 0
-  AreTogether epoch next = (EachFull (Waits epoch next) × AreUpTo epoch) ⊎ (EachFull (IsAcross epoch next) × AreUpTo next)
+  AreTogether epoch next =
+      (EachFull (Waits epoch next) × AreUpTo epoch) ⊎ (EachFull (IsAcross epoch next) × AreUpTo next)
 
   pub record AreAlike : Type 0 where
     pub epoch : ℕ

@@ -12,7 +12,7 @@ use Rattle.sig_core.proofs.Firsts.{place_by, position-cons}
 use Rattle.tuple_pages.specs.Free.{first_free}
 use Rattle.frag_store.specs.HeldPlaces.{AreHeld, HeldState, held_at, records_on}
 use Rattle.frag_store.proofs.PlaceLemmas.{at-same, at-within, free-there, get-placed, nowhere, one_place, placed_place, there}
-use Rattle.frag_store.proofs.SameLemmas.{same}
+use Rattle.row_records.proofs.KeyLemmas.{same}
 
 -- a test that lists pass at the same places is passed first at the same place
 same_positions : {X : Type 0} (p : X → Bool) (d : X) → p d ≡ false → (xs ys : List X)
@@ -72,7 +72,8 @@ module _ (slots : List (Option Slot)) (held : List ℕ) (are : AreHeld slots hel
           apart ∙ sym free
       by i false e = refl
 
-  pub claimed_records : (q : List ℕ) → held_at held (place_of (with_place slots key) q) ≡ held_at held (place_of slots q)
+  pub claimed_records : (q : List ℕ)
+      → held_at held (place_of (with_place slots key) q) ≡ held_at held (place_of slots q)
   claimed_records q = by (place_of slots key) refl
     where
       by : (o : Option ℕ) → place_of slots key ≡ o
@@ -108,7 +109,8 @@ module _ (slots : List (Option Slot)) (held : List ℕ) (are : AreHeld slots hel
       → at < length held
   claimed_within at wide is = by (place_of slots key) refl is
     where
-      by : (o : Option ℕ) → place_of slots key ≡ o → place_of (with_place_by slots key o) key ≡ Some at → at < length held
+      by : (o : Option ℕ) → place_of slots key ≡ o → place_of (with_place_by slots key o) key ≡ Some at
+          → at < length held
       by (Some other) e here =
           omega (arith, at-within slots key at (there (is_at key) None slots at here), are.long)
       by None e here =
@@ -127,12 +129,14 @@ module _ (slots : List (Option Slot)) (held : List ℕ) (key : List ℕ) (at : �
     where
       by : (o : Option ℕ) → place_of slots q ≡ o → held_at (set held at count) o ≡ held_at held o
       by None e = refl
-      by (Some i) e = get_or-set_other held at i count 0 (λ one. clash (ap (λ n. is_at q (get_or slots n None)) (sym one)
+      by (Some i) e =
+          get_or-set_other held at i count 0 (λ one. clash (ap (λ n. is_at q (get_or slots n None)) (sym one)
           ∙ there (is_at q) None slots i e))
         where
           clash : is_at q (get_or slots at None) ≡ true → ⊥
           clash here =
-              false≢true (sym apart ∙ sym (at-same key q (get_or slots at None) (there (is_at key) None slots at is)) ∙ here)
+              false≢true (sym apart ∙ sym (at-same key q (get_or slots at None) (there (is_at key) None slots at is)) ∙
+              here)
 
   pub more_held : get_or held at 0 + 1 ≡ count → (q : List ℕ)
       → held_at (set held at count) (place_of slots q) ≡ held_at held (place_of slots q) + cond (same_key key q) 1 0
@@ -250,7 +254,8 @@ module _ (slots after : List (Option Slot)) (held : List ℕ) (are : AreHeld slo
       by i (inl one) =
           ap (λ n. is_at q (get_or (set slots at None) n None)) one
           ∙ ap (is_at q) (get_or-set_same slots at None None (at-within slots key at here))
-          ∙ sym apart ∙ sym (at-same key q (get_or slots at None) here) ∙ ap (λ n. is_at q (get_or slots n None)) (sym one)
+          ∙ sym apart ∙ sym (at-same key q (get_or slots at None) here)
+          ∙ ap (λ n. is_at q (get_or slots n None)) (sym one)
       by i (inr other) = ap (is_at q) (get_or-set_other slots at i None None other)
 
   pub freed_records : (q : List ℕ) → held_at held (place_of after q) ≡ held_at held (place_of slots q)

@@ -27,7 +27,8 @@ itself-removed index key =
     map.get-remove nat_list_cmp_total index key key
     ∙ ap (λ b. cond b None (map.get index key)) (tied-same_key key key ∙ same_key-self key)
 
-pub itself-inserted : (index : linear_hash.PlaceMap) (key : List ℕ) (at : ℕ) → map.get (map.insert index key at) key ≡ Some at
+pub itself-inserted : (index : linear_hash.PlaceMap) (key : List ℕ) (at : ℕ)
+    → map.get (map.insert index key at) key ≡ Some at
 itself-inserted index key at =
     map.get-insert nat_list_cmp_total index key at key
     ∙ ap (λ b. cond b (Some at) (map.get index key)) (tied-same_key key key ∙ same_key-self key)

@@ -17,7 +17,7 @@ use Rattle.sig_core.proofs.Keys.{same_key-self}
 use Rattle.tuple_pages.specs.Free.{first_free}
 use Rattle.tuple_pages.specs.Places.{rewritten}
 use Rattle.frag_store.specs.Places.{IsIndexed, ahead_of, is_spare}
-use Rattle.frag_store.proofs.SameLemmas.{same}
+use Rattle.row_records.proofs.KeyLemmas.{same}
 
 -- the first item that passes a test, by its place
 module _ {X : Type 0} (p : X → Bool) (d : X) where
@@ -64,7 +64,8 @@ module _ {X : Type 0} (p : X → Bool) (d : X) where
       by false passes None found e (suc n) further = further n off found
 
 -- a place that a key is at is among the others, and taken by it
-pub at-within : (slots : List (Option Slot)) (key : List ℕ) (at : ℕ) → is_at key (get_or slots at None) ≡ true → at < length slots
+pub at-within : (slots : List (Option Slot)) (key : List ℕ) (at : ℕ) → is_at key (get_or slots at None) ≡ true
+    → at < length slots
 at-within [] key at is = cc
 at-within (slot ∷ slots) key zero is = omega arith
 at-within (slot ∷ slots) key (suc at) is = omega (arith, at-within slots key at is)
@@ -99,7 +100,8 @@ get-placed [] slot zero = refl
 get-placed [] slot (suc i) = sym (ap (λ b. cond b (Some slot) None) (zero-suc i))
 get-placed (None ∷ slots) slot zero = refl
 get-placed (None ∷ slots) slot (suc i) = sym (ap (λ b. cond b (Some slot) (get_or slots i None)) (zero-suc i))
-get-placed (Some other ∷ slots) slot zero = sym (ap (λ b. cond b (Some slot) (Some other)) (suc-zero (first_free slots)))
+get-placed (Some other ∷ slots) slot zero =
+    sym (ap (λ b. cond b (Some slot) (Some other)) (suc-zero (first_free slots)))
 get-placed (Some other ∷ slots) slot (suc i) =
     get-placed slots slot i ∙ sym (ap (λ b. cond b (Some slot) (get_or slots i None)) (suc-eq (first_free slots) i))
 
@@ -121,7 +123,8 @@ pub at-same : (key q : List ℕ) (slot : Option Slot) → is_at key slot ≡ tru
 at-same key q None is = cc
 at-same key q (Some slot) is = ap (λ k. same_key k q) (same slot.key key is)
 
-module _ (slots : List (Option Slot)) (index : linear_hash.PlaceMap) (spare : Option (List ℕ)) (is : IsIndexed slots index spare) where
+module _ (slots : List (Option Slot)) (index : linear_hash.PlaceMap) (spare : Option (List ℕ))
+    (is : IsIndexed slots index spare) where
   pub found_there : (key : List ℕ) (at : ℕ) → Some at ≡ map.get index key → is_at key (get_or slots at None) ≡ true
       → Some at ≡ place_of slots key
   found_there key at leads here =
@@ -129,7 +132,8 @@ module _ (slots : List (Option Slot)) (index : linear_hash.PlaceMap) (spare : Op
 
   pub found_elsewhere : (key : List ℕ) (at : ℕ) → Some at ≡ map.get index key → is_at key (get_or slots at None) ≡ false
       → None ≡ place_of slots key
-  found_elsewhere key at leads away = sym (nowhere (is_at key) None slots (λ i. by i (is_at key (get_or slots i None)) refl))
+  found_elsewhere key at leads away =
+      sym (nowhere (is_at key) None slots (λ i. by i (is_at key (get_or slots i None)) refl))
     where
       by : (i : ℕ) (b : Bool) → is_at key (get_or slots i None) ≡ b → is_at key (get_or slots i None) ≡ false
       by i true e =
@@ -187,7 +191,8 @@ module _ (slots : List (Option Slot)) (index : linear_hash.PlaceMap) (spare : Op
       by q at leads false e = is.no_other q at (ap (λ s. is_spare s q) one ∙ e) (sym (others q e) ∙ leads)
 
   -- the spare key has a place
-  pub spare_placed : (key : List ℕ) (at : ℕ) → place_of slots key ≡ Some at → spare ≡ Some key → IsIndexed slots index None
+  pub spare_placed : (key : List ℕ) (at : ℕ) → place_of slots key ≡ Some at → spare ≡ Some key
+      → IsIndexed slots index None
   spare_placed key at there one = record {
     leads = is.leads;
     no_other = λ q i apart leads. by q i leads (same_key key q) refl;
@@ -207,7 +212,8 @@ module _ (slots : List (Option Slot)) (index : linear_hash.PlaceMap) (spare : Op
   placed_indexed : (key : List ℕ) → map.get index key ≡ Some (first_free slots)
       → IsIndexed (placed (no_row key) slots) index spare
   placed_indexed key leads = record {
-    leads = λ q at here. by q at (nat_eq (first_free slots) at) refl (sym (ap (is_at q) (get-placed slots (no_row key) at)) ∙ here);
+    leads = λ q at here. by q at (nat_eq (first_free slots) at) refl
+        (sym (ap (is_at q) (get-placed slots (no_row key) at)) ∙ here);
     no_other = λ q at apart led. ap (is_at q) (get-placed slots (no_row key) at)
         ∙ other q at (is.no_other q at apart led) (nat_eq (first_free slots) at) refl;
   }
@@ -218,7 +224,8 @@ module _ (slots : List (Option Slot)) (index : linear_hash.PlaceMap) (spare : Op
           ap (map.get index) (sym (same key q here)) ∙ leads ∙ ap (λ n. Some n) (eqb-true (first_free slots) at e)
       by q at false e here = is.leads q at here
 
-      other : (q : List ℕ) (at : ℕ) → is_at q (get_or slots at None) ≡ true → (b : Bool) → nat_eq (first_free slots) at ≡ b
+      other : (q : List ℕ) (at : ℕ) → is_at q (get_or slots at None) ≡ true → (b : Bool)
+          → nat_eq (first_free slots) at ≡ b
           → is_at q (cond b (Some (no_row key)) (get_or slots at None)) ≡ true
       other q at here true e =
           let free : is_at q (get_or slots at None) ≡ false =
@@ -244,7 +251,8 @@ module _ (slots : List (Option Slot)) (index : linear_hash.PlaceMap) (spare : Op
           let place : first_free slots ≡ at =
           one_place (first_free slots) at (sym leads ∙ ap (map.get index) (same key q e) ∙ led) in
           ap (is_at q) (get-placed slots (no_row key) at)
-          ∙ ap (λ b. is_at q (cond b (Some (no_row key)) (get_or slots at None))) (eq-self (first_free slots) at place) ∙ e
+          ∙ ap (λ b. is_at q (cond b (Some (no_row key)) (get_or slots at None))) (eq-self (first_free slots) at place)
+          ∙ e
       by q at led false e = (placed_indexed key leads).no_other q at (ap (λ s. is_spare s q) one ∙ e) led
 
   -- where no key is spare, one without a place is led nowhere
@@ -273,17 +281,20 @@ module _ (slots : List (Option Slot)) (index : linear_hash.PlaceMap) (spare : Op
 
   -- its row is written
   at-written : (key q : List ℕ) (at i : ℕ) (row : Option (List ℕ)) (epoch : ℕ) → place_of slots key ≡ Some at
-      → is_at q (get_or (set slots at (rewritten (get_or slots at None) row epoch)) i None) ≡ is_at q (get_or slots i None)
+      → is_at q (get_or (set slots at (rewritten (get_or slots at None) row epoch)) i None)
+      ≡ is_at q (get_or slots i None)
   at-written key q at i row epoch e = by (cases_eq i at)
     where
       by : (i ≡ at) ⊎ (i ≢ at)
-          → is_at q (get_or (set slots at (rewritten (get_or slots at None) row epoch)) i None) ≡ is_at q (get_or slots i None)
+          → is_at q (get_or (set slots at (rewritten (get_or slots at None) row epoch)) i None)
+          ≡ is_at q (get_or slots i None)
       by (inl one) =
           ap (λ n. is_at q (get_or (set slots at (rewritten (get_or slots at None) row epoch)) n None)) one
           ∙ ap (is_at q) (get_or-set_same slots at (rewritten (get_or slots at None) row epoch) None
           (at-within slots key at (is_there key at e)))
           ∙ at-rewritten key q (get_or slots at None) row epoch ∙ ap (λ n. is_at q (get_or slots n None)) (sym one)
-      by (inr other) = ap (is_at q) (get_or-set_other slots at i (rewritten (get_or slots at None) row epoch) None other)
+      by (inr other) =
+          ap (is_at q) (get_or-set_other slots at i (rewritten (get_or slots at None) row epoch) None other)
 
   pub rewritten_indexed : (key : List ℕ) (at : ℕ) (row : Option (List ℕ)) (epoch : ℕ) → place_of slots key ≡ Some at
       → IsIndexed (set slots at (rewritten (get_or slots at None) row epoch)) index spare
@@ -330,7 +341,8 @@ module _ (slots : List (Option Slot)) (index : linear_hash.PlaceMap) (spare : Op
               absurd (other (one_place i at (sym (is.leads q i was) ∙ ap (map.get index) (sym (same key q s)) ∙ leads)))
           apart q i was other false s = others q s ∙ is.leads q i was
 
-      kept : (q : List ℕ) (i : ℕ) → is_spare spare q ≡ false → map.get after q ≡ Some i → (b : Bool) → same_key key q ≡ b
+      kept : (q : List ℕ) (i : ℕ) → is_spare spare q ≡ false → map.get after q ≡ Some i → (b : Bool)
+          → same_key key q ≡ b
           → is_at q (get_or (set slots at None) i None) ≡ true
       kept q i apart leads true s =
           let both : Some i ≡ None = sym leads ∙ ap (map.get after) (sym (same key q s)) ∙ gone in cc
@@ -364,7 +376,8 @@ pub placed_place : (slots : List (Option Slot)) (key : List ℕ) → place_of sl
     → place_of (placed (no_row key) slots) key ≡ Some (first_free slots)
 placed_place slots key none =
     alone (is_at key) None (placed (no_row key) slots) (first_free slots) refl here
-    (λ i there. only i (nat_eq (first_free slots) i) refl (sym (ap (is_at key) (get-placed slots (no_row key) i)) ∙ there))
+    (λ i there. only i (nat_eq (first_free slots) i) refl
+    (sym (ap (is_at key) (get-placed slots (no_row key) i)) ∙ there))
   where
     here : is_at key (get_or (placed (no_row key) slots) (first_free slots) None) ≡ true
     here =
@@ -397,7 +410,8 @@ pub freed-free : (slots : List (Option Slot)) (at : ℕ) (idle : Bool) (place : 
 freed-free slots at idle place e free bare =
     by (row_in (get_or slots at None)) idle free bare ∙ ap (freed_by slots idle) e
   where
-    by : (row : Option (List ℕ)) (b : Bool) → b ≡ true → is_some row ≡ false → set slots at None ≡ freed_if slots at row b
+    by : (row : Option (List ℕ)) (b : Bool) → b ≡ true → is_some row ≡ false
+        → set slots at None ≡ freed_if slots at row b
     by None true f e = refl
     by (Some row) b f e = cc
     by None false f e = cc
@@ -421,14 +435,16 @@ freed-busy slots at idle place e busy = by (row_in (get_or slots at None)) idle 
     by (Some row) true e = cc
     by (Some row) false e = refl
 
-pub freed-none : (slots : List (Option Slot)) (idle : Bool) (place : Option ℕ) → None ≡ place → slots ≡ freed_by slots idle place
+pub freed-none : (slots : List (Option Slot)) (idle : Bool) (place : Option ℕ) → None ≡ place
+    → slots ≡ freed_by slots idle place
 freed-none slots idle place e = ap (freed_by slots idle) e
 
 pub placed-new : (slots : List (Option Slot)) (key : List ℕ) → place_of slots key ≡ None
     → placed (no_row key) slots ≡ with_place slots key
 placed-new slots key none = ap (with_place_by slots key) (sym none)
 
-pub placed-old : (slots : List (Option Slot)) (key : List ℕ) → is_some (place_of slots key) ≡ true → slots ≡ with_place slots key
+pub placed-old : (slots : List (Option Slot)) (key : List ℕ) → is_some (place_of slots key) ≡ true
+    → slots ≡ with_place slots key
 placed-old slots key some = by (place_of slots key) some
   where
     by : (o : Option ℕ) → is_some o ≡ true → slots ≡ with_place_by slots key o
@@ -439,7 +455,18 @@ pub ruleset founds = (found_there, found_elsewhere, found_nowhere)
 
 pub ruleset claims = (placed-new, placed-old, placed-found)
 
-pub ruleset indexes = (led_indexed, left_indexed, spare_placed, claimed_indexed, freed_indexed, freed_gone, alone_absent, placed_place, is_taken, placed-new)
+pub ruleset indexes = (
+  led_indexed,
+  left_indexed,
+  spare_placed,
+  claimed_indexed,
+  freed_indexed,
+  freed_gone,
+  alone_absent,
+  placed_place,
+  is_taken,
+  placed-new,
+)
 
 pub ruleset writes = (rewritten_indexed, row_written, is_taken, is_there)
 

@@ -13,10 +13,11 @@ is_spare None q = false
 is_spare (Some key) q = same_key key q
 
 -- the index leads the key of each place there, and no other key but maybe the spare one
-pub record IsIndexed (slots : List (Option Slot)) (index : linear_hash.PlaceMap) (spare : Option (List ℕ)) : Type 0 where
-  pub leads : (q : List ℕ) (at : ℕ) → is_at q (slice_index_or slots at None) ≡ true → map.get index q ≡ Some at
-  pub no_other : (q : List ℕ) (at : ℕ) → is_spare spare q ≡ false → map.get index q ≡ Some at
-      → is_at q (slice_index_or slots at None) ≡ true
+pub record IsIndexed (slots : List (Option Slot)) (index : linear_hash.PlaceMap) (spare : Option (List ℕ)) : Type 0
+  where
+    pub leads : (q : List ℕ) (at : ℕ) → is_at q (slice_index_or slots at None) ≡ true → map.get index q ≡ Some at
+    pub no_other : (q : List ℕ) (at : ℕ) → is_spare spare q ≡ false → map.get index q ≡ Some at
+        → is_at q (slice_index_or slots at None) ≡ true
 
 -- where the index leads a key
 abbrev pub ahead_of : linear_hash.PlaceMap → Option (List ℕ) → Option ℕ

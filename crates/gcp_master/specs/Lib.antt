@@ -10,3 +10,4 @@ pub mod Resume
 pub mod Sends
 pub mod State
 pub mod Voices
+pub mod Words

@@ -15,12 +15,11 @@ mod sends;
 mod voices;
 
 pub use known::{Known, Told};
-pub use laws::{outsiders_confirm_nothing, requests_are_kept, twice_confirmed_counts_once};
+pub use laws::{
+    keeps_to_its_words, outsiders_confirm_nothing, requests_are_kept, twice_confirmed_counts_once,
+};
 pub use master::GcpMaster;
 pub use numbers::{MICROS, next_global, next_micro};
 pub use orders::{Ended, Order};
 pub use phase::{Asked, Phase, Run};
 pub use voices::{VOICES, Voice, Voices};
-
-#[cfg(test)]
-mod tests;

@@ -6,7 +6,8 @@ use Rattle.sig_core.specs.declared.signal.chain.ChainSignal.TheVariants.{Commit}
 use Rattle.sig_core.specs.declared.signal.client.ClientSignal.TheVariants.{TcBeginConf, TcCommitReq, TcCommitConf}
 use Rattle.sig_core.specs.declared.signal.epoch.EpochSignal.TheVariants.{DiVerifyReq, DiVerifyConf}
 
--- A transaction has begun, is to commit, asks for an epoch, is decided, has its rows committed, is committed; or none of
+-- A transaction has begun, is to commit, asks for an epoch, is decided, has its rows committed, is committed; or none
+-- of
 -- these is said.
 pub data Kind : Type 0 where
   begun : TxId → Kind

@@ -32,7 +32,8 @@ pub record IsWell (s : LqhState) : Type 0 where
 
 -- a signal does to a key what its event there says
 abbrev pub SignalsAreEvents : Type 0
-SignalsAreEvents = (s : LqhState) (body : Body) (key : List ℕ) → IsWell s → at_key key (lqh_table s body).state ≡ key_after (event_at key s body) (at_key key s)
+SignalsAreEvents = (s : LqhState) (body : Body) (key : List ℕ) → IsWell s
+    → at_key key (lqh_table s body).state ≡ key_after (event_at key s body) (at_key key s)
 
 -- and leaves the replica well
 abbrev pub SignalsKeepWell : Type 0
@@ -57,7 +58,8 @@ key_in key host = at_key key (lqh_of host)
 -- at first each key of a node's group has its row of the start, and nothing is at work on it
 abbrev pub KeysBeginAtRest : Type 0
 KeysBeginAtRest =
-    (member : Member) (layout : Layout) (epoch : ℕ) (rows : List (List ℕ × List ℕ)) (key : List ℕ) → holds layout.shape member.node key ≡ true
+    (member : Member) (layout : Layout) (epoch : ℕ) (rows : List (List ℕ × List ℕ)) (key : List ℕ)
+    → holds layout.shape member.node key ≡ true
     → key_in key (fresh_part part.Ldm member layout epoch rows) ≡ at_rest (map.get (rows_of rows) key)
 
 -- what a signal is to the key: only those for the rows of the node are events
@@ -73,7 +75,8 @@ event_in key host x = rests
 abbrev pub LogsFollowEvents : Type 0
 LogsFollowEvents =
     (start : Start) (h : ℕ) (log : List HostStep) (e : HostStep) (key : List ℕ)
-    → key_in key (after start h (e ∷ log)) ≡ key_after (event_in key (after start h log) e.step.taken) (key_in key (after start h log))
+    → key_in key (after start h (e ∷ log))
+    ≡ key_after (event_in key (after start h log) e.step.taken) (key_in key (after start h log))
 
 -- at a node of its group the key is at rest at first, with its row of the start
 abbrev pub NodesBeginAtRest : Type 0

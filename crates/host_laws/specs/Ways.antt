@@ -21,7 +21,8 @@ use Rattle.node_core.specs.declared.host.Host.{Host}
 use Rattle.world_core.specs.Machine.{after}
 use Rattle.world_core.specs.Start.{Start}
 
--- a signal commits a row of the transaction or tells its client that it is committed, aborts one or tells that it is aborted,
+-- a signal commits a row of the transaction or tells its client that it is committed, aborts one or tells that it is
+-- aborted,
 -- completes one, or does none of these
 pub data Way : Type 0 where
   forth : TxId → Way
@@ -88,4 +89,5 @@ AreSaid host cs bs sends = Each (λ (o : Outgoing). IsSaid (tc_of host).node cs 
 abbrev pub CoordinatorsSay : Type 0
 CoordinatorsSay =
     (start : Start) (h : ℕ) (log : List HostStep) (e : HostStep)
-    → AreSaid (after start h log) (sent_ways start forth_by h (e ∷ log)) (sent_ways start back_by h (e ∷ log)) (tc_sends (after start h log) e.step.taken)
+    → AreSaid (after start h log) (sent_ways start forth_by h (e ∷ log)) (sent_ways start back_by h (e ∷ log))
+    (tc_sends (after start h log) e.step.taken)

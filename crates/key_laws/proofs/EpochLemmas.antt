@@ -40,7 +40,8 @@ stored-epochless r (x ∷ xs) = by (same_tx x.tx r.tx) (stored-epochless r xs)
 abbrev pub AreAlike : (PendingRecord → Option PendingRecord) → (PendingRecord → Option PendingRecord) → Type 0
 AreAlike f g = (r : PendingRecord) → without (f r) ≡ g (without_epoch r)
 
-pub edited-epochless : (f g : PendingRecord → Option PendingRecord) → AreAlike f g → (tx : TxId) (xs : List PendingRecord)
+pub edited-epochless : (f g : PendingRecord → Option PendingRecord) → AreAlike f g
+    → (tx : TxId) (xs : List PendingRecord)
     → epochless (edited f tx xs) ≡ edited g tx (epochless xs)
 edited-epochless f g alike tx [] = refl
 edited-epochless f g alike tx (x ∷ xs) = by (same_tx x.tx tx) (edited-epochless f g alike tx xs)
@@ -56,7 +57,8 @@ edited-epochless f g alike tx (x ∷ xs) = by (same_tx x.tx tx) (edited-epochles
     by false more = ap (λ w. without_epoch x ∷ w) more
 
 -- the row after a commit is told by the record without its epoch
-pub committed_row-without : (row : Option (List ℕ)) (o : Option PendingRecord) → committed_row row o ≡ committed_row row (without o)
+pub committed_row-without : (row : Option (List ℕ)) (o : Option PendingRecord)
+    → committed_row row o ≡ committed_row row (without o)
 committed_row-without row None = refl
 committed_row-without row (Some r) = refl
 

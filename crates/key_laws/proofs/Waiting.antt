@@ -19,7 +19,8 @@ each-drop_first {A} P p (x ∷ xs) all = by (p x) (each-drop_first P p xs all.1)
     by true more = all.1
     by false more = (all.0, more)
 
-pub each-first_item : {A : Type 0} (P : A → Type 0) (p : A → Bool) (xs : List A) (x : A) → Each P xs → first p xs ≡ Some x → P x
+pub each-first_item : {A : Type 0} (P : A → Type 0) (p : A → Bool) (xs : List A) (x : A) → Each P xs
+    → first p xs ≡ Some x → P x
 each-first_item P p [] x all is = absurd cc
 each-first_item {A} P p (y ∷ xs) x all is = by (p y) is (each-first_item P p xs x all.1)
   where
@@ -37,14 +38,17 @@ alone-drop_first p (q ∷ xs) alone = by (p q) (alone-drop_first p xs alone.1)
 
 pub alone-end : (xs : List Request) (q : Request) → AreAlone xs → NoneOf q.tx xs → AreAlone (xs ++ q ∷ [])
 alone-end [] q alone none = (tt, tt)
-alone-end (x ∷ xs) q alone none =
-    (each_append (λ (y : Request). same_tx y.tx x.tx ≡ false) xs (q ∷ []) alone.0 (same_tx-swap q.tx x.tx ∙ none.0, tt), alone-end xs q alone.1 none.1)
+alone-end (x ∷ xs) q alone none = (
+  each_append (λ (y : Request). same_tx y.tx x.tx ≡ false) xs (q ∷ []) alone.0 (same_tx-swap q.tx x.tx ∙ none.0, tt),
+  alone-end xs q alone.1 none.1,
+)
 
 -- once a transaction's request is taken out the rest are of others
 pub none-dropped : (tx : TxId) (xs : List Request) → AreAlone xs → NoneOf tx (drop_first (is_by tx) xs)
 none-dropped tx [] alone = tt
 none-dropped tx (q ∷ xs) alone = by (same_tx q.tx tx) refl (none-dropped tx xs alone.1)
   where
-    by : (b : Bool) → same_tx q.tx tx ≡ b → NoneOf tx (drop_first (is_by tx) xs) → NoneOf tx (if b then xs else q ∷ drop_first (is_by tx) xs)
+    by : (b : Bool) → same_tx q.tx tx ≡ b → NoneOf tx (drop_first (is_by tx) xs)
+        → NoneOf tx (if b then xs else q ∷ drop_first (is_by tx) xs)
     by true e more = subst (λ t. NoneOf t xs) (same_tx-is q.tx tx e) alone.0
     by false e more = (e, more)

@@ -18,7 +18,8 @@ pub record Backup : Type 0 where
   pub pending : List PendingRecord
   pub holders : List Holder
 
--- The key is in good order: each record is of a transaction that holds the lock exclusive, until it is done with, and what
+-- The key is in good order: each record is of a transaction that holds the lock exclusive, until it is done with, and
+-- what
 -- is committed here is decided.
 pub record IsSound (decided : TxId → Bool) (b : Backup) : Type 0 where
   pub once : AreOnce b.pending
@@ -45,11 +46,19 @@ let_in b holders = record { row = b.row; pending = b.pending; holders = holders 
 
 -- a holder's image is prepared
 abbrev pub prepared_at : Backup → TxId → List ℕ → Option (List ℕ) → Backup
-prepared_at b tx key image = record { row = b.row; pending = stored (prepared tx key image) b.pending; holders = b.holders }
+prepared_at b tx key image = record {
+  row = b.row;
+  pending = stored (prepared tx key image) b.pending;
+  holders = b.holders;
+}
 
 -- a commit lets go of nothing here
 abbrev pub committed_at : Backup → TxId → Backup
-committed_at b tx = record { row = committed_row b.row (found tx b.pending); pending = edited as_committed tx b.pending; holders = b.holders }
+committed_at b tx = record {
+  row = committed_row b.row (found tx b.pending);
+  pending = edited as_committed tx b.pending;
+  holders = b.holders;
+}
 
 -- a completion and an abort do
 abbrev pub completed_at : Backup → TxId → List Holder → Backup

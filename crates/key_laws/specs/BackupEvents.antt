@@ -34,7 +34,8 @@ pub record IsInOrderAt (decided : TxId → Bool) (r : Replica) : Type 0 where
   pub alone : AreAlone r.waiting
   pub images : Each IsImage r.waiting
 
--- What the rest of the machine owes a backup: images one at a time, of transactions that aren't decided; commits of those
+-- What the rest of the machine owes a backup: images one at a time, of transactions that aren't decided; commits of
+-- those
 -- that are; completions behind the commit, of those that are kept in the end; aborts of those that aren't decided.
 abbrev pub IsFairAt : (decided final : TxId → Bool) → Replica → Event → Type 0
 IsFairAt decided final r (asks q refused) = IsImage q × NoneOf q.tx r.waiting × (decided q.tx ≡ false)
@@ -42,14 +43,16 @@ IsFairAt decided final r (serves refused) = Each (λ (q : Request). decided q.tx
 IsFairAt decided final r (commits tx true) = ⊥
 IsFairAt decided final r (commits tx false) = HasPrepared tx r.cell.pending → decided tx ≡ true
 IsFairAt decided final r (completes tx) =
-    ((x : PendingRecord) → found tx r.cell.pending ≡ Some x → (x.committed ≡ true) × (final tx ≡ true)) × NoneOf tx r.waiting
+    ((x : PendingRecord) → found tx r.cell.pending ≡ Some x → (x.committed ≡ true) × (final tx ≡ true))
+    × NoneOf tx r.waiting
 IsFairAt decided final r (aborts tx) = decided tx ≡ false
 IsFairAt decided final r event = Unit {0}
 
 -- what an event leaves: the key in order, and led to the same value as before
 pub record KeepsAt (decided final : TxId → Bool) (before after : Replica) : Type 0 where
   pub order : IsInOrderAt decided after
-  pub led : (value : Option (List ℕ)) → IsLedUnlessSpoilt decided final value (backup_of before) → IsLedUnlessSpoilt decided final value (backup_of after)
+  pub led : (value : Option (List ℕ)) → IsLedUnlessSpoilt decided final value (backup_of before)
+      → IsLedUnlessSpoilt decided final value (backup_of after)
 
 abbrev pub FairEventsKeepAt : Type 0
 FairEventsKeepAt =

@@ -11,15 +11,18 @@ use Rattle.key_laws.specs.Primary.{HasPrepared, HoldOn, ended_too}
 use Rattle.key_laws.specs.PrimaryLaws.{nobody_gone}
 use Rattle.key_laws.specs.Records.{found}
 
--- What an event leaves: the key is in good order, and led to the same value as before, with what is decided and kept in the end.
+-- What an event leaves: the key is in good order, and led to the same value as before, with what is decided and kept in
+-- the end.
 pub record Moves (decided final : TxId → Bool) (before after : Backup) : Type 0 where
   pub sound : IsSound decided after
-  pub led : (value : Option (List ℕ)) → IsLedUnlessSpoilt decided final value before → IsLedUnlessSpoilt decided final value after
+  pub led : (value : Option (List ℕ)) → IsLedUnlessSpoilt decided final value before
+      → IsLedUnlessSpoilt decided final value after
 
 -- more holders
 abbrev pub GrantsMove : Type 0
 GrantsMove =
-    (decided final : TxId → Bool) (b : Backup) (holders : List Holder) → IsSound decided b → HoldOn nobody_gone b.holders holders
+    (decided final : TxId → Bool) (b : Backup) (holders : List Holder) → IsSound decided b
+    → HoldOn nobody_gone b.holders holders
     → Moves decided final b (let_in b holders)
 
 -- an image of a transaction that holds the lock exclusive, and isn't decided
@@ -32,20 +35,23 @@ ImagesMove =
 -- a commit, of a transaction that is decided if it has something to commit
 abbrev pub CommitsMove : Type 0
 CommitsMove =
-    (decided final : TxId → Bool) (b : Backup) (tx : TxId) → IsSound decided b → (HasPrepared tx b.pending → decided tx ≡ true)
+    (decided final : TxId → Bool) (b : Backup) (tx : TxId) → IsSound decided b
+    → (HasPrepared tx b.pending → decided tx ≡ true)
     → Moves decided final b (committed_at b tx)
 
 -- a completion, behind the commit, of a transaction that is kept in the end if it has something to complete
 abbrev pub CompletionsMove : Type 0
 CompletionsMove =
     (decided final : TxId → Bool) (b : Backup) (tx : TxId) (holders : List Holder) → IsSound decided b
-    → ((r : PendingRecord) → found tx b.pending ≡ Some r → (r.committed ≡ true) × (final tx ≡ true)) → HoldOn (same_tx tx) b.holders holders
+    → ((r : PendingRecord) → found tx b.pending ≡ Some r → (r.committed ≡ true) × (final tx ≡ true))
+    → HoldOn (same_tx tx) b.holders holders
     → Moves decided final b (completed_at b tx holders)
 
 -- an abort, of a transaction that isn't decided
 abbrev pub AbortsMove : Type 0
 AbortsMove =
-    (decided final : TxId → Bool) (b : Backup) (tx : TxId) (holders : List Holder) → IsSound decided b → decided tx ≡ false
+    (decided final : TxId → Bool) (b : Backup) (tx : TxId) (holders : List Holder) → IsSound decided b
+    → decided tx ≡ false
     → HoldOn (same_tx tx) b.holders holders
     → Moves decided final b (aborted_at b tx holders)
 
@@ -54,16 +60,20 @@ pub record IsDecidedTo (decided final : TxId → Bool) (b : Backup) (value : Opt
   pub sound : IsSound decided b
   pub led : IsLedUnlessSpoilt decided final value b
 
--- A transaction is decided that is kept in the end: where it has an image prepared, that is the new value; else the value stays.
+-- A transaction is decided that is kept in the end: where it has an image prepared, that is the new value; else the
+-- value stays.
 abbrev pub DecisionsMove : Type 0
 DecisionsMove =
-    (decided final : TxId → Bool) (b : Backup) (tx : TxId) (before after : Option (List ℕ)) → IsSound decided b → IsLedUnlessSpoilt decided final before b
-    → decided tx ≡ false → final tx ≡ true → HasImage tx after b.pending ⊎ ((found tx b.pending ≡ None) × (after ≡ before))
+    (decided final : TxId → Bool) (b : Backup) (tx : TxId) (before after : Option (List ℕ)) → IsSound decided b
+    → IsLedUnlessSpoilt decided final before b
+    → decided tx ≡ false → final tx ≡ true
+    → HasImage tx after b.pending ⊎ ((found tx b.pending ≡ None) × (after ≡ before))
     → IsDecidedTo (ended_too decided tx) final b after
 
 -- the decision of one that isn't kept in the end changes nothing
 abbrev pub UnkeptDecisionsMove : Type 0
 UnkeptDecisionsMove =
-    (decided final : TxId → Bool) (b : Backup) (tx : TxId) (value : Option (List ℕ)) → IsSound decided b → IsLedUnlessSpoilt decided final value b
+    (decided final : TxId → Bool) (b : Backup) (tx : TxId) (value : Option (List ℕ)) → IsSound decided b
+    → IsLedUnlessSpoilt decided final value b
     → final tx ≡ false
     → IsDecidedTo (ended_too decided tx) final b value

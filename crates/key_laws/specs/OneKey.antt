@@ -32,7 +32,8 @@ ops_on key ops = filter (λ op. same_key (key_of op.0) key) ops
 -- entry after entry, every stored answer on the key is the one that its operation gets
 abbrev pub IsRightAt : List ℕ → Option (List ℕ) → List Entry → Type 0
 IsRightAt key row [] = Unit {0}
-IsRightAt key row (entry ∷ rest) = AreRight row (ops_on key entry.ops) × IsRightAt key (row_after_all row (ops_on key entry.ops)) rest
+IsRightAt key row (entry ∷ rest) =
+    AreRight row (ops_on key entry.ops) × IsRightAt key (row_after_all row (ops_on key entry.ops)) rest
 
 -- the row of the key after the entries
 abbrev pub row_at_end : List ℕ → Option (List ℕ) → List Entry → Option (List ℕ)

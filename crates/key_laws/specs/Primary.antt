@@ -1,4 +1,5 @@
--- One key of its primary replica: its row, the records and the holders of its lock, and what it answered each transaction.
+-- One key of its primary replica: its row, the records and the holders of its lock, and what it answered each
+-- transaction.
 use Rattle.std.specs.Prelude.{◌≡◌, ◌⊎◌, if◌then◌else◌, ◌||◌, ℕ, Bool, true, false, List, [], ◌∷◌, ◌++◌, Option, Some}
 use Rattle.run_theory.specs.Lists.{Each}
 use Rattle.sig_core.specs.declared.member.TxId.{TxId}
@@ -32,8 +33,10 @@ seen_at p tx = seen_by p.row (found tx p.pending)
 abbrev pub IsOwned : List Holder → PendingRecord → Type 0
 IsOwned holders r = (r.committed ≡ true) ⊎ (holds_enough r.tx Exclusive holders ≡ true)
 
--- The key is in good order: of each transaction that hasn't ended the answers are right from the row on, and lead to the
--- row as it sees it; records are of exclusive holders until they are committed; who doesn't hold the lock was answered nothing.
+-- The key is in good order: of each transaction that hasn't ended the answers are right from the row on, and lead to
+-- the
+-- row as it sees it; records are of exclusive holders until they are committed; who doesn't hold the lock was answered
+-- nothing.
 pub record IsGood (p : Primary) : Type 0 where
   pub right : (v : TxId) → p.ended v ≡ false → AreRight p.row (p.made v)
   pub leads : (v : TxId) → p.ended v ≡ false → row_after_all p.row (p.made v) ≡ seen_at p v
@@ -43,11 +46,13 @@ pub record IsGood (p : Primary) : Type 0 where
   pub none : (v : TxId) → p.ended v ≡ false → holds v p.holders ≡ false → p.made v ≡ []
   pub agreed : are_agreed p.holders ≡ true
 
--- Of holders that agree come others that agree: who held the lock holds it still, and so exclusive, but for those that are gone.
+-- Of holders that agree come others that agree: who held the lock holds it still, and so exclusive, but for those that
+-- are gone.
 pub record HoldOn (gone : TxId → Bool) (before after : List Holder) : Type 0 where
   pub agreed : are_agreed after ≡ true
   pub held : (v : TxId) → gone v ≡ false → holds v before ≡ true → holds v after ≡ true
-  pub exclusive : (v : TxId) → gone v ≡ false → holds_enough v Exclusive before ≡ true → holds_enough v Exclusive after ≡ true
+  pub exclusive : (v : TxId) → gone v ≡ false → holds_enough v Exclusive before ≡ true
+      → holds_enough v Exclusive after ≡ true
 
 -- more transactions come to hold the lock
 abbrev pub granted : Primary → List Holder → Primary
@@ -64,7 +69,13 @@ stored_by answer tx op pending = pending
 -- an operation of a holder is performed, and answered
 abbrev pub answered : Primary → TxId → Op → Answer → Primary
 answered p tx op answer =
-    record { row = p.row; pending = stored_by answer tx op p.pending; holders = p.holders; made = noted p.made tx (op, answer); ended = p.ended }
+    record {
+      row = p.row;
+      pending = stored_by answer tx op p.pending;
+      holders = p.holders;
+      made = noted p.made tx (op, answer);
+      ended = p.ended;
+    }
 
 abbrev pub performed : Primary → TxId → Op → Primary
 performed p tx op = answered p tx op (answer_to op (seen_at p tx))
@@ -73,9 +84,16 @@ abbrev pub ended_too : (TxId → Bool) → TxId → TxId → Bool
 ended_too ended tx v = same_tx tx v || ended v
 
 -- a transaction ends here: its record is edited, and these hold the lock then
-abbrev pub ended_with : Primary → TxId → Option (List ℕ) → (PendingRecord → Option PendingRecord) → List Holder → Primary
+abbrev pub ended_with : Primary → TxId → Option (List ℕ) → (PendingRecord → Option PendingRecord) → List Holder
+    → Primary
 ended_with p tx row f holders =
-    record { row = row; pending = edited f tx p.pending; holders = holders; made = p.made; ended = ended_too p.ended tx }
+    record {
+      row = row;
+      pending = edited f tx p.pending;
+      holders = holders;
+      made = p.made;
+      ended = ended_too p.ended tx;
+    }
 
 abbrev pub committed : Primary → TxId → List Holder → Primary
 committed p tx holders = ended_with p tx (committed_row p.row (found tx p.pending)) as_committed holders

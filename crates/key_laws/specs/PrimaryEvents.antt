@@ -43,7 +43,8 @@ noted_unless made tx op Done true = made
 noted_unless made tx op answer refused = noted made tx (op, answer)
 
 abbrev pub made_by : (TxId → List (Op × Answer)) → Cell → TxId → Bool → RowWork → TxId → List (Op × Answer)
-made_by made c tx refused (Operate op) = noted_unless made tx op (answer_to op (seen_by c.row (found tx c.pending))) refused
+made_by made c tx refused (Operate op) =
+    noted_unless made tx op (answer_to op (seen_by c.row (found tx c.pending))) refused
 made_by made c tx refused (Store key image) = made
 
 abbrev pub made_if : AtPrimary → Request → Bool → Lock → TxId → List (Op × Answer)
@@ -67,7 +68,11 @@ ended_after (aborts tx) p = ended_too p.ended tx
 ended_after event p = p.ended
 
 abbrev pub primary_after : Event → AtPrimary → AtPrimary
-primary_after event p = record { replica = key_after event p.replica; made = made_after event p; ended = ended_after event p }
+primary_after event p = record {
+  replica = key_after event p.replica;
+  made = made_after event p;
+  ended = ended_after event p;
+}
 
 -- the requests are of other transactions
 abbrev pub NoneOf : TxId → List Request → Type 0
@@ -94,7 +99,8 @@ pub record IsInOrder (p : AtPrimary) : Type 0 where
   pub alone : AreAlone p.replica.waiting
   pub operations : Each IsOperation p.replica.waiting
 
--- What the rest of the machine owes the primary: operations of one transaction one at a time, no commit or completion of one
+-- What the rest of the machine owes the primary: operations of one transaction one at a time, no commit or completion
+-- of one
 -- that still waits, and no completion before the commit.
 abbrev pub IsFair : AtPrimary → Event → Type 0
 IsFair p (asks q refused) = IsOperation q × NoneOf q.tx p.replica.waiting
@@ -107,7 +113,8 @@ IsFair p event = Unit {0}
 abbrev pub FairEventsKeepOrder : Type 0
 FairEventsKeepOrder = (event : Event) (p : AtPrimary) → IsInOrder p → IsFair p event → IsInOrder (primary_after event p)
 
--- And it owes what is kept: what is asked and served is of transactions that aren't kept, a commit that has something to
+-- And it owes what is kept: what is asked and served is of transactions that aren't kept, a commit that has something
+-- to
 -- commit is of one that is, and an abort of one that isn't.
 abbrev pub IsTimely : (TxId → Bool) → AtPrimary → Event → Type 0
 IsTimely kept p (asks q refused) = kept q.tx ≡ false
@@ -119,6 +126,7 @@ IsTimely kept p event = Unit {0}
 -- a timely event moves nothing of what the row is led to
 abbrev pub TimelyEventsKeepValue : Type 0
 TimelyEventsKeepValue =
-    (event : Event) (p : AtPrimary) (kept : TxId → Bool) (value : Option (List ℕ)) → IsInOrder p → IsFair p event → IsTimely kept p event
+    (event : Event) (p : AtPrimary) (kept : TxId → Bool) (value : Option (List ℕ)) → IsInOrder p → IsFair p event
+    → IsTimely kept p event
     → IsLedTo kept value p.replica.cell.row p.replica.cell.pending
     → IsLedTo kept value (primary_after event p).replica.cell.row (primary_after event p).replica.cell.pending

@@ -74,9 +74,14 @@ abbrev pub asks_for : List ℕ → Request → Bool
 asks_for key q = same_key (work_key q.work) key
 
 abbrev pub at_key : List ℕ → LqhState → Replica
-at_key key s = record { cell = cell_at key s.rows; lock = lock_at s.locks key; waiting = filter (asks_for key) s.waiting }
+at_key key s = record {
+  cell = cell_at key s.rows;
+  lock = lock_at s.locks key;
+  waiting = filter (asks_for key) s.waiting;
+}
 
--- What happens to one key of a replica. A request and the serving of one may be refused, where the journal or the rows are full.
+-- What happens to one key of a replica. A request and the serving of one may be refused, where the journal or the rows
+-- are full.
 pub data Event : Type 0 where
   rests : Event
   asks : Request → Bool → Event
@@ -92,7 +97,11 @@ pub data Event : Type 0 where
 
 -- a request comes, and the lock answers it
 abbrev pub asked_by : Replica → RowLock → Request → Bool → lock.Lock → Replica
-asked_by r now q refused grant.Granted = record { cell = worked r.cell q.tx refused q.work; lock = now; waiting = r.waiting }
+asked_by r now q refused grant.Granted = record {
+  cell = worked r.cell q.tx refused q.work;
+  lock = now;
+  waiting = r.waiting;
+}
 asked_by r now q refused (grant.Queued ahead) = record { cell = r.cell; lock = now; waiting = r.waiting ++ q ∷ [] }
 
 abbrev pub after_request : Replica → Request → Bool → Replica
@@ -106,7 +115,11 @@ is_let_in now q = not (waits q.tx now.queue)
 -- the first request that is let in is performed
 abbrev pub served_by : Replica → Bool → Option Request → Replica
 served_by r refused None = r
-served_by r refused (Some q) = record { cell = worked r.cell q.tx refused q.work; lock = r.lock; waiting = drop_first (is_let_in r.lock) r.waiting }
+served_by r refused (Some q) = record {
+  cell = worked r.cell q.tx refused q.work;
+  lock = r.lock;
+  waiting = drop_first (is_let_in r.lock) r.waiting;
+}
 
 -- the lock is let go of, or its queue loses a wait
 abbrev pub letting_go : Replica → Cell → TxId → Replica
@@ -129,14 +142,19 @@ key_after (serves refused) r = served_by r refused (first (is_let_in r.lock) r.w
 key_after (commits tx true) r = letting_go r (committing r.cell tx) tx
 key_after (commits tx false) r = record { cell = committing r.cell tx; lock = r.lock; waiting = r.waiting }
 key_after (completes tx) r = letting_go r (completing r.cell tx) tx
-key_after (aborts tx) r = letting_go (record { cell = r.cell; lock = r.lock; waiting = drop_first (is_by tx) r.waiting }) (aborting r.cell tx) tx
+key_after (aborts tx) r = letting_go (record {
+  cell = r.cell;
+  lock = r.lock;
+  waiting = drop_first (is_by tx) r.waiting;
+}) (aborting r.cell tx) tx
 key_after (expires tx) r = expiring r tx
 key_after (ages None) r = ageing r
 key_after (ages (Some tx)) r = expiring (ageing r) tx
 
 -- the journal or the rows are too full for what the request stores
 abbrev pub is_refused : StorageState → Request → Bool
-is_refused s q = is_log_full s.journal (need_of q.tx (work_key q.work) (work_image q.work)) || is_full s.rows (work_key q.work)
+is_refused s q =
+    is_log_full s.journal (need_of q.tx (work_key q.work) (work_image q.work)) || is_full s.rows (work_key q.work)
 
 -- an event of one key is none of another
 abbrev pub if_on : List ℕ → List ℕ → Event → Event
@@ -157,7 +175,8 @@ expired_by key (Some wait) = if same_key wait.1 key then Some wait.0 else None
 -- what a signal does to the key
 abbrev pub event_at : List ℕ → LqhState → Body → Event
 event_at key s (Chain (LqhKeyReq tx work chain at)) =
-    if_on (work_key work) key (asks (record { tx = tx; work = work; chain = chain; at = at }) (is_refused (storage_of s) (record { tx = tx; work = work; chain = chain; at = at })))
+    if_on (work_key work) key (asks (record { tx = tx; work = work; chain = chain; at = at })
+    (is_refused (storage_of s) (record { tx = tx; work = work; chain = chain; at = at })))
 event_at key s (Host (Continue Granted at)) = serves_if key s (first (is_granted s.locks) s.waiting)
 event_at key s (Chain (Commit tx own epoch chain at)) = if_on own key (commits tx (at == 0))
 event_at key s (Chain (Complete tx own chain at)) = if_on own key (completes tx)

@@ -20,15 +20,19 @@ row_place s from at is small = by (position has_row (drop from s.places)) refl i
         record { row = ap has_row (sym here) ∙ passes; small = small }
 
 -- so many rows are listed, and the next place is known
-pub record IsListed (s : RowsState) (start : Dumped) (n : ℕ) (rows : List (List ℕ × List ℕ)) (next : Option ℕ) : Type 0 where
-  pub listed : dumped rows next ≡ more s n start
-  pub place : IfSome next (IsRowPlace s)
+pub record IsListed (s : RowsState) (start : Dumped) (n : ℕ) (rows : List (List ℕ × List ℕ)) (next : Option ℕ) : Type 0
+  where
+    pub listed : dumped rows next ≡ more s n start
+    pub place : IfSome next (IsRowPlace s)
 
-pub none_listed : (s : RowsState) (rows : List (List ℕ × List ℕ)) (next : Option ℕ) → IfSome next (IsRowPlace s) → IsListed s (dumped rows next) 0 rows next
+pub none_listed : (s : RowsState) (rows : List (List ℕ × List ℕ)) (next : Option ℕ) → IfSome next (IsRowPlace s)
+    → IsListed s (dumped rows next) 0 rows next
 none_listed s rows next place = record { listed = refl; place = place }
 
-pub one_listed : (s : RowsState) (start : Dumped) (n : ℕ) (rows after : List (List ℕ × List ℕ)) (next then_next : Option ℕ) → IsListed s start n rows next
-    → dumped after then_next ≡ one_more s (dumped rows next) → IfSome then_next (IsRowPlace s) → IsListed s start (n + 1) after then_next
+pub one_listed : (s : RowsState) (start : Dumped) (n : ℕ) (rows after : List (List ℕ × List ℕ))
+    (next then_next : Option ℕ) → IsListed s start n rows next
+    → dumped after then_next ≡ one_more s (dumped rows next) → IfSome then_next (IsRowPlace s)
+    → IsListed s start (n + 1) after then_next
 one_listed s start n rows after next then_next is added place =
     let further : more s (suc n) start ≡ more s (n + 1) start = ap (λ m. more s m start) (sym (add-one n)) in
     record { listed = added ∙ ap (one_more s) is.listed ∙ further; place = place }

@@ -46,7 +46,8 @@ abort_row s tx key =
     record {
       state = unlocked (given_up (unasked s tx key) tx key (record_state s.rows tx key)) tx key;
       effects = record {
-        sends = refused_by tx key (waits_at s tx key) ++ (to_place (coordinator_of tx) (Chain (Aborted tx key)) ∷ serve_granted s.node (freed_lock s tx key));
+        sends = refused_by tx key (waits_at s tx key)
+            ++ (to_place (coordinator_of tx) (Chain (Aborted tx key)) ∷ serve_granted s.node (freed_lock s tx key));
         marks = given_up_marks tx key (record_state s.rows tx key);
       };
     }

@@ -15,7 +15,8 @@ use Rattle.lqh_block.specs.State.{LqhState, freed_lock, serve_granted, unlocked,
 -- the completion is told: at the primary to the coordinator, and else to the place in front
 abbrev pub completed_by : TxId → List ℕ → List Member → ℕ → Bool → Outgoing
 completed_by tx key chain at true = to_place (coordinator_of tx) (Chain (Completed tx key))
-completed_by tx key chain at false = to_place (rows_of (node_at chain (at - 1))) (Chain (Complete tx key chain (at - 1)))
+completed_by tx key chain at false =
+    to_place (rows_of (node_at chain (at - 1))) (Chain (Complete tx key chain (at - 1)))
 
 -- a record is to be completed, at a place of its chain
 unfoldable pub complete_row : LqhState → TxId → List ℕ → List Member → ℕ → Step LqhState

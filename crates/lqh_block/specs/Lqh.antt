@@ -26,15 +26,36 @@ use Rattle.lqh_block.specs.Wait.{acknowledged, wait_row}
 -- a node's rows before the first signal
 abbrev pub unasked_yet : ℕ → Layout → RowsState → JournalState → LqhState
 unasked_yet node layout rows journal =
-    record { node = node; layout = layout; rows = rows; journal = journal; locks = map.empty; waiting = []; markers = [] }
+    record {
+      node = node;
+      layout = layout;
+      rows = rows;
+      journal = journal;
+      locks = map.empty;
+      waiting = [];
+      markers = [];
+    }
 
 -- another view is installed
 abbrev pub in_view : LqhState → View → LqhState
-in_view s view = record { node = s.node; layout = layouts.in_view s.layout view; rows = s.rows; journal = s.journal; locks = s.locks; waiting = s.waiting; markers = s.markers }
+in_view s view = record {
+  node = s.node;
+  layout = layouts.in_view s.layout view;
+  rows = s.rows;
+  journal = s.journal;
+  locks = s.locks;
+  waiting = s.waiting;
+  markers = s.markers;
+}
 
 -- what the block does, by what a signal says. It leaves the others alone
 abbrev pub lqh_table : LqhState → Body → Step LqhState
-lqh_table s (Chain (LqhKeyReq tx work chain at)) = request_row s (record { tx = tx; work = work; chain = chain; at = at })
+lqh_table s (Chain (LqhKeyReq tx work chain at)) = request_row s (record {
+  tx = tx;
+  work = work;
+  chain = chain;
+  at = at;
+})
 lqh_table s (Host (Continue Granted at)) = granted_row s
 lqh_table s (Chain (Commit tx key epoch chain at)) = commit_row s tx key epoch chain at
 lqh_table s (Chain (Complete tx key chain at)) = complete_row s tx key chain at

@@ -52,7 +52,10 @@ abbrev pub granted_on : LqhState → Request → Step LqhState
 granted_on s r =
     record {
       state = (performed s r).state;
-      effects = record { sends = (performed s r).effects.sends ++ more_granted s; marks = (performed s r).effects.marks };
+      effects = record {
+        sends = (performed s r).effects.sends ++ more_granted s;
+        marks = (performed s r).effects.marks;
+      };
     }
 
 abbrev pub granted_value : LqhState → ℕ → Option Request → Step LqhState

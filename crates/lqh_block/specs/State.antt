@@ -32,19 +32,59 @@ abbrev pub storage_of : LqhState → StorageState
 storage_of s = storage s.rows s.journal
 
 abbrev pub with_storage : LqhState → StorageState → LqhState
-with_storage s st = record { node = s.node; layout = s.layout; rows = st.rows; journal = st.journal; locks = s.locks; waiting = s.waiting; markers = s.markers }
+with_storage s st = record {
+  node = s.node;
+  layout = s.layout;
+  rows = st.rows;
+  journal = st.journal;
+  locks = s.locks;
+  waiting = s.waiting;
+  markers = s.markers;
+}
 
 abbrev pub with_rows : LqhState → RowsState → LqhState
-with_rows s rows = record { node = s.node; layout = s.layout; rows = rows; journal = s.journal; locks = s.locks; waiting = s.waiting; markers = s.markers }
+with_rows s rows = record {
+  node = s.node;
+  layout = s.layout;
+  rows = rows;
+  journal = s.journal;
+  locks = s.locks;
+  waiting = s.waiting;
+  markers = s.markers;
+}
 
 abbrev pub with_locks : LqhState → Locks → LqhState
-with_locks s locks = record { node = s.node; layout = s.layout; rows = s.rows; journal = s.journal; locks = locks; waiting = s.waiting; markers = s.markers }
+with_locks s locks = record {
+  node = s.node;
+  layout = s.layout;
+  rows = s.rows;
+  journal = s.journal;
+  locks = locks;
+  waiting = s.waiting;
+  markers = s.markers;
+}
 
 abbrev pub with_waiting : LqhState → List Request → LqhState
-with_waiting s waiting = record { node = s.node; layout = s.layout; rows = s.rows; journal = s.journal; locks = s.locks; waiting = waiting; markers = s.markers }
+with_waiting s waiting = record {
+  node = s.node;
+  layout = s.layout;
+  rows = s.rows;
+  journal = s.journal;
+  locks = s.locks;
+  waiting = waiting;
+  markers = s.markers;
+}
 
 abbrev pub with_markers : LqhState → List Marker → LqhState
-with_markers s markers = record { node = s.node; layout = s.layout; rows = s.rows; journal = s.journal; locks = s.locks; waiting = s.waiting; markers = markers }
+with_markers s markers = record {
+  node = s.node;
+  layout = s.layout;
+  rows = s.rows;
+  journal = s.journal;
+  locks = s.locks;
+  waiting = s.waiting;
+  markers = markers;
+}
 
 -- a step of the rows and the journal
 abbrev pub in_storage : LqhState → Step StorageState → Step LqhState

@@ -86,11 +86,23 @@ is_log_full j need = nat_lt JOURNAL_BYTES (j.used + j.reserved + need)
 
 abbrev pub store_if : StorageState → TxId → List ℕ → Option (List ℕ) → List Member → ℕ → Bool → Bool → Step StorageState
 store_if s tx key image chain at true full =
-    record { state = s; effects = record { sends = refusal tx key (LogFull s.journal.used s.journal.reserved (need_of tx key image)) ∷ []; marks = [] } }
+    record {
+      state = s;
+      effects = record {
+        sends = refusal tx key (LogFull s.journal.used s.journal.reserved (need_of tx key image)) ∷ [];
+        marks = [];
+      };
+    }
 store_if s tx key image chain at false true =
     record { state = s; effects = record { sends = refusal tx key (TableFull (taken s.rows.places)) ∷ []; marks = [] } }
 store_if s tx key image chain at false false =
-    record { state = prepared_in s tx key image; effects = record { sends = passed_on tx key image chain at ∷ []; marks = Prepared tx key ∷ [] } }
+    record {
+      state = prepared_in s tx key image;
+      effects = record {
+        sends = passed_on tx key image chain at ∷ [];
+        marks = Prepared tx key ∷ [];
+      };
+    }
 
 -- an image is to be prepared, at a place of its chain
 unfoldable pub store_row : StorageState → TxId → List ℕ → Option (List ℕ) → List Member → ℕ → Step StorageState
@@ -100,7 +112,10 @@ store_row s tx key image chain at =
 -- an operation is answered; a write that takes effect is prepared first
 abbrev pub operate_by : StorageState → TxId → Op → List Member → ℕ → Answer → Step StorageState
 operate_by s tx op chain at Done = store_row s tx (key_of op) (image_of op) chain at
-operate_by s tx op chain at answer = record { state = s; effects = record { sends = confirmed tx (key_of op) answer ∷ []; marks = [] } }
+operate_by s tx op chain at answer = record {
+  state = s;
+  effects = record { sends = confirmed tx (key_of op) answer ∷ []; marks = [] };
+}
 
 abbrev pub perform_by : StorageState → TxId → List Member → ℕ → RowWork → Step StorageState
 perform_by s tx chain at (Operate op) = operate_by s tx op chain at (answer_to op (seen s.rows tx (key_of op)))
@@ -110,10 +125,14 @@ perform_by s tx chain at (Store key image) = store_row s tx key image chain at
 unfoldable pub perform : StorageState → Request → Step StorageState
 perform s r = perform_by s r.tx r.chain r.at r.work
 
--- the transaction's prepared image of the row is committed, and the journal told so in the bytes that it kept free for that
+-- the transaction's prepared image of the row is committed, and the journal told so in the bytes that it kept free for
+-- that
 unfoldable pub committed_in : StorageState → TxId → List ℕ → ℕ → StorageState
-committed_in s tx key epoch = storage (commit_record s.rows tx key epoch) (appending s.journal (size_of (redo.Commit tx epoch key)))
+committed_in s tx key epoch =
+    storage (commit_record s.rows tx key epoch) (appending s.journal (size_of (redo.Commit tx epoch key)))
 
--- the transaction's prepared image of the row is given up, and the journal told so in those bytes, of which eight are left over
+-- the transaction's prepared image of the row is given up, and the journal told so in those bytes, of which eight are
+-- left over
 unfoldable pub aborted_in : StorageState → TxId → List ℕ → StorageState
-aborted_in s tx key = storage (abort_record s.rows tx key) (unreserving (appending s.journal (size_of (redo.Abort tx key))) 8)
+aborted_in s tx key =
+    storage (abort_record s.rows tx key) (unreserving (appending s.journal (size_of (redo.Abort tx key))) 8)

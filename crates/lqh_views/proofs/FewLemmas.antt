@@ -112,7 +112,8 @@ forms s = record {
   };
   aborts = λ tx key. record {
     none = λ had st gives none. aborts_few s tx key s.waiting st had [] (omega arith);
-    some = λ had st gives at r there here. aborts_few s tx key (remove s.waiting at) st had (refusal tx key cause.Request ∷ []) (omega arith);
+    some = λ had st gives at r there here. aborts_few s tx key (remove s.waiting at) st had
+        (refusal tx key cause.Request ∷ []) (omega arith);
   };
   acknowledges = λ tx markers. omega arith;
   waits = λ tx key. record {

@@ -16,7 +16,8 @@ pub record IsThere {X : Type 0} (p : X → Bool) (xs : List X) (found : ℕ × X
   pub there : slice_get xs found.0 ≡ Some found.1
   pub passes : p found.1 ≡ true
 
-pub last-there : {X : Type 0} (p : X → Bool) (xs : List X) (before : ℕ) → IfSome (last_before p xs before) (IsThere p xs)
+pub last-there : {X : Type 0} (p : X → Bool) (xs : List X) (before : ℕ)
+    → IfSome (last_before p xs before) (IsThere p xs)
 last-there p xs zero = tt
 last-there {X} p xs (suc n) = by (slice_get xs n) refl (last-there p xs n)
   where

@@ -167,11 +167,27 @@ reporting_truly s r =
     record_if : (at : ℕ) (one : PendingRecord) → IsThere orphaned s.lqh.rows.pending (at, one) → (b : Bool)
         → one.committed ≡ b → TellsTruly s (told_record_if r.to one b).body
     record_if at one is true same = (
-      record { at = at; one = one; there = is.there; orphaned = is.passes; is_tx = refl; is_key = refl; is_committed = same },
+      record {
+        at = at;
+        one = one;
+        there = is.there;
+        orphaned = is.passes;
+        is_tx = refl;
+        is_key = refl;
+        is_committed = same;
+      },
       refl,
     )
     record_if at one is false same = (
-      record { at = at; one = one; there = is.there; orphaned = is.passes; is_tx = refl; is_key = refl; is_committed = same },
+      record {
+        at = at;
+        one = one;
+        there = is.there;
+        orphaned = is.passes;
+        is_tx = refl;
+        is_key = refl;
+        is_committed = same;
+      },
       refl,
     )
 
@@ -183,7 +199,8 @@ reporting_truly s r =
     by : (found : Option (ℕ × PendingRecord)) → IfSome found (IsThere orphaned s.lqh.rows.pending)
         → Truly s (record_by s r found).effects.sends
     by None is =
-        by_marker (last_before orphaned_marker s.lqh.markers r.markers) (last-there orphaned_marker s.lqh.markers r.markers)
+        by_marker (last_before orphaned_marker s.lqh.markers r.markers)
+        (last-there orphaned_marker s.lqh.markers r.markers)
     by (Some found) is = (record_if found.0 found.1 is found.1.committed refl, (tt, tt))
 
 go_on_truly : (s : ReplicaState) (own : Bool) (report : Option Report) → Truly s (go_on_by s own report).effects.sends

@@ -5,3 +5,4 @@ pub mod Replica
 pub mod Report
 pub mod State
 pub mod WholeReports
+pub mod Words

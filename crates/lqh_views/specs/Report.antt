@@ -84,7 +84,8 @@ next_marker s r = marker_by s r (last_before (is_orphaned_marker s.lqh.layout.vi
 
 abbrev pub record_by : ReplicaState → Report → Option (ℕ × PendingRecord) → Step ReplicaState
 record_by s r None = next_marker s r
-record_by s r (Some (at, one)) = telling s (record { to = r.to; records = at; markers = r.markers }) (told_record r.to one)
+record_by s r (Some (at, one)) =
+    telling s (record { to = r.to; records = at; markers = r.markers }) (told_record r.to one)
 
 -- the last record that is left is told, and where there is none the last marker
 unfoldable pub reporting : ReplicaState → Report → Step ReplicaState

@@ -8,11 +8,8 @@ mod replica;
 mod report;
 
 pub use laws::{
-    calm_steps, installations_end_waits, reports_are_true, reports_leave_nothing_out,
-    reports_tell_each_once,
+    calm_steps, installations_end_waits, keeps_to_its_words, reports_are_true,
+    reports_leave_nothing_out, reports_tell_each_once,
 };
 pub use replica::Replica;
 pub use report::Report;
-
-#[cfg(test)]
-mod tests;

@@ -1,4 +1,3 @@
-pub mod MarkWalk
 pub mod MomentHosts
 pub mod MomentMembers
 pub mod MomentRuns
@@ -9,5 +8,3 @@ pub mod MomentWalk
 pub mod PartKinds
 pub mod PartSteps
 pub mod PartTaken
-pub mod SentWalk
-pub mod StepWalk

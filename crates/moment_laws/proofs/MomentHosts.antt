@@ -16,9 +16,9 @@ use Rattle.world_core.specs.Hosts.{host_at, host_of, hosts, member_at, part_by}
 use Rattle.world_core.specs.Start.{Start, made}
 use Rattle.world_views.specs.Hosts.{part_started, started}
 use Rattle.view_laws.specs.Votes.{main_of}
-use Rattle.view_laws.proofs.FenceHosts.{any_found, block_host, number_some}
-use Rattle.view_laws.proofs.FollowHosts.{first_of, started_behind}
-use Rattle.view_laws.proofs.RunMade.{first_in, made_tested, node_low, node_some}
+use Rattle.view_laws.proofs.fences.Hosts.{any_found, block_host, number_some}
+use Rattle.view_laws.proofs.follow.Hosts.{first_of, started_behind}
+use Rattle.view_laws.proofs.runs.FirstMembers.{first_in, made_tested, node_low, node_some}
 use Rattle.moment_laws.specs.Places.{ldm_of, tc_of}
 
 -- none is the shell's
@@ -114,7 +114,8 @@ tc_host_is start (suc k) low = by (k % 3) refl
   where
     by : (left : ℕ) → k % 3 ≡ left → TcHost start (suc k)
     by zero e =
-        of_none (subst (λ (left : ℕ). HasNoTc (part_started start (part_by left) (member_at (made start) (suc k))).parts) (sym e) tt)
+        of_none (subst (λ (left : ℕ). HasNoTc (part_started start (part_by left)
+        (member_at (made start) (suc k))).parts) (sym e) tt)
     by (suc zero) e =
         let enough : 1 ≤ k / 3 + 1 = omega arith in
         let few : k / 3 + 1 ≤ start.shape.nodes = omega (arith, low) in
@@ -122,7 +123,8 @@ tc_host_is start (suc k) low = by (k % 3) refl
         let is = tc_number start (first_start (k / 3 + 1)) there in
         of_tc (first_start (k / 3 + 1)) there (omega (arith, e, is))
     by (suc (suc left)) e =
-        of_none (subst (λ (left : ℕ). HasNoTc (part_started start (part_by left) (member_at (made start) (suc k))).parts) (sym e) tt)
+        of_none (subst (λ (left : ℕ). HasNoTc (part_started start (part_by left)
+        (member_at (made start) (suc k))).parts) (sym e) tt)
 
 -- the part that runs its rows
 pub ldm_started : (start : Start) (me : Member) → IsIn me (made start)

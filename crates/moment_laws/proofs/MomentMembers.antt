@@ -11,15 +11,15 @@ use Rattle.world_core.specs.Steps.{HostStep}
 use Rattle.view_laws.specs.Ballots.{IsChosen}
 use Rattle.view_laws.specs.Runs.{AreOfCluster, WasInstalled, ballots_of, events_in, view_after}
 use Rattle.view_laws.specs.Sets.{AreApart, IsPart, all_of}
-use Rattle.view_laws.proofs.RunGrowth.{from_flat}
-use Rattle.view_laws.proofs.RunKept.{have_orderly, logs_sound}
-use Rattle.view_laws.proofs.RunMade.{first_set}
-use Rattle.view_laws.proofs.RunOrderly.{own_proposal}
-use Rattle.view_laws.proofs.RunShrink.{views_shrink}
-use Rattle.view_laws.proofs.RunSound.{IsOfMade, proposed_in}
-use Rattle.view_laws.proofs.RunViews.{installed_chosen}
-use Rattle.view_laws.proofs.SetLemmas.{made_full}
-use Rattle.view_laws.proofs.StandingMembers.{are_of_views}
+use Rattle.view_laws.proofs.runs.Growth.{from_flat}
+use Rattle.view_laws.proofs.runs.AllSound.{have_orderly, logs_sound}
+use Rattle.view_laws.proofs.runs.FirstMembers.{first_set}
+use Rattle.view_laws.proofs.runs.OrderlyBallots.{own_proposal}
+use Rattle.view_laws.proofs.runs.ViewsShrink.{views_shrink}
+use Rattle.view_laws.proofs.runs.Sound.{IsOfMade, proposed_in}
+use Rattle.view_laws.proofs.runs.ChosenViews.{installed_chosen}
+use Rattle.view_laws.proofs.ballots.MadeSets.{made_full}
+use Rattle.view_laws.proofs.standing.Members.{are_of_views}
 use Rattle.moment_laws.specs.Moments.{IsMoment, current, logs_of}
 use Rattle.moment_laws.proofs.MomentViews.{current_number, moment_installed, moment_less}
 

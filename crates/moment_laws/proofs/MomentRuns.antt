@@ -10,8 +10,8 @@ use Rattle.world_core.specs.Steps.{HostStep}
 use Rattle.view_laws.specs.Order.{ActsInGreatest, by_views, era, sound_machine}
 use Rattle.run_theory.specs.Ranks.{IsByRank, in_order}
 use Rattle.view_laws.specs.Runs.{AreOfCluster, view_after}
-use Rattle.view_laws.proofs.EraOrder.{act_in_greatest, run_in_views}
-use Rattle.view_laws.proofs.RunStep.{started_view}
+use Rattle.view_laws.proofs.eras.Order.{act_in_greatest, run_in_views}
+use Rattle.view_laws.proofs.runs.Step.{started_view}
 use Rattle.moment_laws.specs.Found.{LogsAreMoments}
 use Rattle.moment_laws.specs.Moments.{IsInOrder, IsMoment, current, logs_of}
 use Rattle.moment_laws.proofs.MomentViews.{IsSome, current_is, current_number}

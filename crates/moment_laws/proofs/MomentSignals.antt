@@ -1,4 +1,5 @@
--- Signals at an event: what was sent before has no greater view than the current one, what is sent has that of its host,
+-- Signals at an event: what was sent before has no greater view than the current one, what is sent has that of its
+-- host,
 -- and what is told of each that was sent is told of the one that the event takes.
 use Rattle.std.proofs.Common.{◌≡◌, ◌≢◌, ◌≤◌, ◌<◌, ◌⊎◌, ◌||◌, ℕ, Bool, true, false, filter, List, [], ◌∷◌, refl, sym, ap, subst, ◌∙◌, inl, inr, arith}
 use Rattle.std.proofs.lemmas.Bool.{cases_eq, cases_lt}
@@ -25,9 +26,9 @@ use Rattle.world_views.specs.Machine.{IsOwn, IsOwnWork, cause_in, comes_rightly,
 use Rattle.world_views.specs.Sending.{is_asked}
 use Rattle.view_laws.specs.Order.{is_sound, sound_machine}
 use Rattle.view_laws.specs.Runs.{view_after}
-use Rattle.view_laws.proofs.EraRises.{view_rises}
-use Rattle.view_laws.proofs.EraSound.{each_filter}
-use Rattle.view_laws.proofs.FollowSends.{each_sent}
+use Rattle.view_laws.proofs.eras.Rises.{view_rises}
+use Rattle.view_laws.proofs.eras.SoundLogs.{each_filter}
+use Rattle.view_laws.proofs.follow.Senders.{each_sent}
 use Rattle.moment_laws.specs.Moments.{IsMoment, logs_of}
 use Rattle.moment_laws.proofs.MomentViews.{current_above, current_number, moment_within}
 
@@ -113,7 +114,8 @@ module _ (start : Start) where
               let own : IsOwn start e.host (logs_of start es e.host) x =
               subst (λ asked. comes_rightly asked start e.host (logs_of start es e.host) x) is rightly in
               absurd (own_work own.work)
-          by false is rightly = told (link_told all (neither (is_asked e.host x) (is_well_formed start.shape x) is sound))
+          by false is rightly =
+              told (link_told all (neither (is_asked e.host x) (is_well_formed start.shape x) is sound))
 
       pub epoch_told : EachSent (logs_of start es) → is_well_formed start.shape x ≡ true → (signal : EpochSignal)
           → x.body ≡ Epoch signal → K (n.signal e)
@@ -136,7 +138,8 @@ module _ (start : Start) where
           by : (e.host ≡ i) ⊎ (e.host ≢ i) → Each K (sent n i j (logs_of start (e ∷ es) i))
           by (inl at) =
               subst (λ log. Each K (sent n i j log)) (sym (log_of-own n e es i at))
-              (put_each n K j (sent_by n i (logs_of start es i) e) (sent n i j (logs_of start es i)) (own i at) (old i j))
+              (put_each n K j (sent_by n i (logs_of start es i) e) (sent n i j (logs_of start es i)) (own i at)
+              (old i j))
           by (inr other) = subst (λ log. Each K (sent n i j log)) (sym (log_of-other n e es i other)) (old i j)
 
 -- nothing that was sent at a moment has a greater header than the current view

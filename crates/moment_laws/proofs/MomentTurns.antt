@@ -1,4 +1,5 @@
--- At an event the current view stays and the host of the event stands in it, or stops; or the host enters a greater one.
+-- At an event the current view stays and the host of the event stands in it, or stops; or the host enters a greater
+-- one.
 use Rattle.std.proofs.Common.{◌≡◌, ◌≢◌, ◌≤◌, ◌<◌, ◌⊎◌, ℕ, Bool, true, false, List, ◌∷◌, refl, sym, ap, subst, ◌∙◌, inl, inr, arith}
 use Rattle.std.proofs.lemmas.Bool.{cases_eq, cases_lt}
 use Rattle.std.specs.Prelude.{if◌then◌else◌}
@@ -11,11 +12,11 @@ use Rattle.world_core.specs.Steps.{HostStep}
 use Rattle.world_views.specs.Machine.{closing_view, machine, stops_by}
 use Rattle.view_laws.specs.Order.{era}
 use Rattle.view_laws.specs.Runs.{view_after}
-use Rattle.view_laws.proofs.EraCausal.{era_going}
-use Rattle.view_laws.proofs.EraRises.{view_rises}
-use Rattle.view_laws.proofs.RunKept.{have_orderly}
-use Rattle.view_laws.proofs.RunStep.{host_there}
-use Rattle.view_laws.proofs.RunViews.{of_greater, one_view}
+use Rattle.view_laws.proofs.eras.Causal.{era_going}
+use Rattle.view_laws.proofs.eras.Rises.{view_rises}
+use Rattle.view_laws.proofs.runs.AllSound.{have_orderly}
+use Rattle.view_laws.proofs.runs.Step.{host_there}
+use Rattle.view_laws.proofs.runs.ChosenViews.{of_greater, one_view}
 use Rattle.moment_laws.specs.Moments.{IsMoment, current, logs_of}
 use Rattle.moment_laws.proofs.MomentViews.{IsSome, current_above, current_is, current_number, first_below, moment_installed, moment_less, moment_within, number_in, stands_in_current}
 
@@ -125,7 +126,8 @@ module _ (start : Start) (all : ℕ → List HostStep) (e : HostStep) (es : List
     own_current same =
         sym own_behind ∙ stands_in_current start all (e ∷ es) moment e.host host_low (own_number_is ∙ same)
 
-    pub old_current : current_number start behind ≡ current_number start before → current start behind ≡ current start before
+    pub old_current : current_number start behind ≡ current_number start before
+        → current start behind ≡ current start before
     old_current same =
         one_view have_orderly start all moment.cluster (current start behind) (current start before)
         (moment_installed start all (e ∷ es) moment)

@@ -14,10 +14,10 @@ use Rattle.world_core.specs.Steps.{HostStep}
 use Rattle.world_views.proofs.SentFacts.{is_stamped}
 use Rattle.world_views.specs.Machine.{machine}
 use Rattle.view_laws.specs.Runs.{WasInstalled, view_after}
-use Rattle.view_laws.proofs.EraCausal.{greater_own, greater_taken}
-use Rattle.view_laws.proofs.RunKept.{have_orderly}
-use Rattle.view_laws.proofs.RunStep.{started_view}
-use Rattle.view_laws.proofs.RunViews.{of_greater, one_view}
+use Rattle.view_laws.proofs.eras.Causal.{greater_own, greater_taken}
+use Rattle.view_laws.proofs.runs.AllSound.{have_orderly}
+use Rattle.view_laws.proofs.runs.Step.{started_view}
+use Rattle.view_laws.proofs.runs.ChosenViews.{of_greater, one_view}
 use Rattle.moment_laws.specs.Moments.{IsMoment, current, greatest_of, logs_of}
 
 module _ (start : Start) where
@@ -71,7 +71,8 @@ module _ (start : Start) where
     greatest_is : (n : ℕ) → IsSome n (greatest n)
     greatest_is zero = inl refl
     greatest_is (suc n) =
-        of_greater (IsSome (suc n)) (greatest n) (view_after start n (logs n)) (some_more n (greatest n) (greatest_is n))
+        of_greater (IsSome (suc n)) (greatest n) (view_after start n (logs n))
+        (some_more n (greatest n) (greatest_is n))
         (inr (record { host = n; below = omega arith; is = refl }))
 
     pub current_above : (h : ℕ) → h < hosts start → number_in logs h ≤ current_number logs

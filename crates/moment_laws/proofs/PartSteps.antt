@@ -18,9 +18,9 @@ use Rattle.world_core.specs.Start.{Start}
 use Rattle.world_core.specs.Steps.{HostStep}
 use Rattle.world_views.specs.Machine.{after, own_stop, step_after, step_by, step_if}
 use Rattle.view_laws.specs.Runs.{view_after}
-use Rattle.view_laws.proofs.EraShapes.{shape_stays}
+use Rattle.view_laws.proofs.eras.Shapes.{shape_stays}
 use Rattle.moment_laws.specs.Parts.{Enters, IsPassed, PartsDo, enters, leaves, settles, stays, takes}
-use Rattle.moment_laws.proofs.StepWalk.{IsTaken, Saying, step_comes}
+use Rattle.world_views.proofs.StepWalk.{IsTaken, Saying, step_comes}
 
 -- what isn't barred is of no view below the fence, if it is of a kind that fences stop
 pub not_barred : (s : hosts.Host) (x : Signal) → is_barred s x ≡ false → is_fenced x ≡ true

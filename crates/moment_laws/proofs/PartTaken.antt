@@ -16,8 +16,8 @@ use Rattle.world_core.specs.Start.{Start}
 use Rattle.world_core.specs.Steps.{HostStep}
 use Rattle.world_views.specs.Machine.{after}
 use Rattle.view_laws.specs.Runs.{view_after}
-use Rattle.view_laws.proofs.FenceRows.{coordinator_enters, dih_enters}
-use Rattle.view_laws.proofs.FenceViews.{fences_are_not_below, greater_second}
+use Rattle.view_laws.proofs.fences.Rows.{coordinator_enters, dih_enters}
+use Rattle.view_laws.proofs.fences.AboveViews.{fences_are_not_below, greater_second}
 use Rattle.moment_laws.specs.Moments.{IsMoment, current, logs_of}
 use Rattle.moment_laws.specs.Parts.{Enters, IsPassed, enters, stays}
 use Rattle.moment_laws.specs.PartSteps.{Kind, PartEnters}

@@ -36,12 +36,14 @@ pub data HostCase (s : Host) (x : Signal) : Step Host → Type 0 where
   of_rows : (l : LqhState) → s ≡ Ldm l → x.to.block ≡ block.Lqh → HostCase s x (in_ldm (lqh_row l x))
   of_none : runs s x.to.block ≡ false → HostCase s x (stay s)
 
-shell_case : (a : ApiState) (x : Signal) (at : BlockId) → x.to.block ≡ at → HostCase (Shell a) x (in_shell (shell_row a at x))
+shell_case : (a : ApiState) (x : Signal) (at : BlockId) → x.to.block ≡ at
+    → HostCase (Shell a) x (in_shell (shell_row a at x))
 unfolding shell_row
 shell_case a x block.Api is = of_api a refl is
 shell_case a x at is = of_none (ap (runs (Shell a)) is)
 
-tc_case : (p : TcPart) (x : Signal) (at : BlockId) → x.to.block ≡ at → HostCase (Tc p) x (in_tc_part (tc_part_row p at x))
+tc_case : (p : TcPart) (x : Signal) (at : BlockId) → x.to.block ≡ at
+    → HostCase (Tc p) x (in_tc_part (tc_part_row p at x))
 unfolding tc_part_row
 tc_case p x block.Tc is = of_tc p refl is
 tc_case p x block.Dih is = of_dih p refl is
@@ -158,7 +160,8 @@ dih_step_by s x t (none_takes step) = inr (ap (λ (u : Step Host). dih_of u.stat
 pub dih_step : (s : Host) (x : Signal) → IsDihStep s x (row s x) ⊎ (dih_of (row s x).state ≡ dih_of s)
 dih_step s x = dih_step_by s x (row s x) (block_case s x)
 
-rows_step_by : (s : Host) (x : Signal) (t : Step Host) → BlockCase s x t → IsRowsStep s x t ⊎ (lqh_of t.state ≡ lqh_of s)
+rows_step_by : (s : Host) (x : Signal) (t : Step Host) → BlockCase s x t
+    → IsRowsStep s x t ⊎ (lqh_of t.state ≡ lqh_of s)
 rows_step_by s x t (api_takes step) = inr step.rows
 rows_step_by s x t (tc_takes step) = inr step.rows
 rows_step_by s x t (dih_takes step) = inr step.rows
@@ -169,21 +172,24 @@ pub rows_step : (s : Host) (x : Signal) → IsRowsStep s x (row s x) ⊎ (lqh_of
 rows_step s x = rows_step_by s x (row s x) (block_case s x)
 
 -- what a block's row keeps, a host keeps
-pub keeps_tc : (R : TcState → Type 0) → ((t : TcState) (x : Signal) → R t → R (tc_row t x).state) → (s : Host) (x : Signal) → R (tc_of s) → R (tc_of (row s x).state)
+pub keeps_tc : (R : TcState → Type 0) → ((t : TcState) (x : Signal) → R t → R (tc_row t x).state)
+    → (s : Host) (x : Signal) → R (tc_of s) → R (tc_of (row s x).state)
 keeps_tc R kept s x was = go (tc_step s x)
   where
     go : IsTcStep s x (row s x) ⊎ (tc_of (row s x).state ≡ tc_of s) → R (tc_of (row s x).state)
     go (inl step) = subst R (sym step.state) (kept (tc_of s) x was)
     go (inr same) = subst R (sym same) was
 
-pub keeps_dih : (R : DihState → Type 0) → ((d : DihState) (x : Signal) → R d → R (dih_row d x).state) → (s : Host) (x : Signal) → R (dih_of s) → R (dih_of (row s x).state)
+pub keeps_dih : (R : DihState → Type 0) → ((d : DihState) (x : Signal) → R d → R (dih_row d x).state)
+    → (s : Host) (x : Signal) → R (dih_of s) → R (dih_of (row s x).state)
 keeps_dih R kept s x was = go (dih_step s x)
   where
     go : IsDihStep s x (row s x) ⊎ (dih_of (row s x).state ≡ dih_of s) → R (dih_of (row s x).state)
     go (inl step) = subst R (sym step.state) (kept (dih_of s) x was)
     go (inr same) = subst R (sym same) was
 
-pub keeps_rows : (R : LqhState → Type 0) → ((l : LqhState) (x : Signal) → R l → R (lqh_row l x).state) → (s : Host) (x : Signal) → R (lqh_of s) → R (lqh_of (row s x).state)
+pub keeps_rows : (R : LqhState → Type 0) → ((l : LqhState) (x : Signal) → R l → R (lqh_row l x).state)
+    → (s : Host) (x : Signal) → R (lqh_of s) → R (lqh_of (row s x).state)
 keeps_rows R kept s x was = go (rows_step s x)
   where
     go : IsRowsStep s x (row s x) ⊎ (lqh_of (row s x).state ≡ lqh_of s) → R (lqh_of (row s x).state)
@@ -208,10 +214,12 @@ of_effects P s x none each = go (block_case s x)
     go (rows_take step) = subst P (sym step.effects) (each.rows step.runs step.at)
     go (none_takes step) = subst P (sym (ap (λ (u : Step Host). u.effects) step.is)) none
 
-pub each_send : (Q : Outgoing → Type 0) (s : Host) (x : Signal) → OfRows (λ f. Each Q f.sends) s x → Each Q (row s x).effects.sends
+pub each_send : (Q : Outgoing → Type 0) (s : Host) (x : Signal) → OfRows (λ f. Each Q f.sends) s x
+    → Each Q (row s x).effects.sends
 each_send Q s x each = of_effects (λ f. Each Q f.sends) s x tt each
 
-pub each_mark : (Q : Mark → Type 0) (s : Host) (x : Signal) → OfRows (λ f. Each Q f.marks) s x → Each Q (row s x).effects.marks
+pub each_mark : (Q : Mark → Type 0) (s : Host) (x : Signal) → OfRows (λ f. Each Q f.marks) s x
+    → Each Q (row s x).effects.marks
 each_mark Q s x each = of_effects (λ f. Each Q f.marks) s x tt each
 
 -- a host stays of its kind: it runs the same blocks

@@ -50,7 +50,8 @@ shell_grows s at x =
     let same : before.in_given s.replies bare ≡ s = ap (state.with_replies s) (append-nil s.replies) in
     record {
       more = (shell_row bare at x).state.replies;
-      is = ap (λ (t : ApiState). (shell_row t at x).state.replies) (sym same) ∙ ap (λ (t : Step ApiState). t.state.replies) (shell_given s.replies bare at x);
+      is = ap (λ (t : ApiState). (shell_row t at x).state.replies) (sym same)
+          ∙ ap (λ (t : Step ApiState). t.state.replies) (shell_given s.replies bare at x);
     }
 
 pub replies_grow : (s : Host) (x : Signal) → IsFront (replies_of s) (replies_of (row s x).state)

@@ -8,7 +8,8 @@ use Rattle.frag_map.specs.Layout.{holds}
 use Rattle.node_core.specs.Fresh.{own_rows, with_rows}
 
 -- the group's part of one row, and then of others
-own_more : (shape : Shape) (node : ℕ) (s : RowsState) (row : List ℕ × List ℕ) (rows : List (List ℕ × List ℕ)) (epoch : ℕ)
+own_more : (shape : Shape) (node : ℕ) (s : RowsState) (row : List ℕ × List ℕ) (rows : List (List ℕ × List ℕ))
+    (epoch : ℕ)
     → with_rows (with_rows s (own_rows shape node (row ∷ [])) epoch) (own_rows shape node rows) epoch
     ≡ with_rows s (own_rows shape node (row ∷ rows)) epoch
 own_more shape node s row rows epoch = go (holds shape node row.0)

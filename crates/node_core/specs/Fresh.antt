@@ -27,9 +27,16 @@ with_rows s (row ∷ rows) epoch = with_rows (put_row s row.0 row.1 epoch) rows 
 abbrev pub own_rows : Shape → ℕ → List (List ℕ × List ℕ) → List (List ℕ × List ℕ)
 own_rows shape node rows = filter (λ (row : List ℕ × List ℕ). holds shape node row.0) rows
 
--- a part of a member that begins a life in this layout and epoch, with its group's part of these rows, which are of that epoch
+-- a part of a member that begins a life in this layout and epoch, with its group's part of these rows, which are of
+-- that epoch
 unfoldable pub fresh_part : Part → Member → Layout → ℕ → List (List ℕ × List ℕ) → Host
 fresh_part part.Main member layout epoch rows = Main (record { member = member })
-fresh_part part.Tc member layout epoch rows = Tc (record { tc = tc.idle member.node member.start layout; dih = fresh_dih member.node epoch })
+fresh_part part.Tc member layout epoch rows = Tc (record {
+  tc = tc.idle member.node member.start layout;
+  dih = fresh_dih member.node epoch;
+})
 fresh_part part.Ldm member layout epoch rows =
-    Ldm (unasked_yet member.node layout (with_rows no_rows (own_rows layout.shape member.node rows) epoch) (record { used = 0; reserved = 0 }))
+    Ldm (unasked_yet member.node layout (with_rows no_rows (own_rows layout.shape member.node rows) epoch) (record {
+      used = 0;
+      reserved = 0;
+    }))

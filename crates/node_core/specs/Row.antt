@@ -21,7 +21,8 @@ in_tc p t = record { state = record { tc = t.state; dih = p.dih }; effects = t.e
 abbrev pub in_dih : TcPart → Step DihState → Step TcPart
 in_dih p t = record { state = record { tc = p.tc; dih = t.state }; effects = t.effects }
 
--- What each kind of host does: the block that the signal is for does what its row says. A block that the host doesn't run
+-- What each kind of host does: the block that the signal is for does what its row says. A block that the host doesn't
+-- run
 -- does nothing.
 unfoldable pub shell_row : ApiState → BlockId → Signal → Step ApiState
 shell_row s block.Api x = api_row s x

@@ -86,7 +86,8 @@ module _ (host : HostId) where
   counted_cut s x None was = headed_cut s x was
   counted_cut s x (Some zero) was = was
   counted_cut s x (Some (suc zero)) was = was
-  counted_cut s x (Some (suc (suc left))) was = headed_cut (standing_at s (killed_after s.standing (Some (suc left)))) x was
+  counted_cut s x (Some (suc (suc left))) was =
+      headed_cut (standing_at s (killed_after s.standing (Some (suc left)))) x was
 
   taken_cut : (s : hosts.Host) (x : Signal) (b : Bool) → Stays s (taken_if s x b)
   taken_cut s x true was = counted_cut s x s.standing.left was

@@ -1,4 +1,5 @@
--- A step by which the membership may settle on a view sends one signal at most, so there is room for what the installation
+-- A step by which the membership may settle on a view sends one signal at most, so there is room for what the
+-- installation
 -- sends.
 use Rattle.std.proofs.Common.{◌≡◌, ◌≤◌, ◌+◌, ℕ, Bool, true, false, List, [], ◌∷◌, Option, None, Some, length, ap, arith}
 use Rattle.std.specs.Prelude.{IfOk, IfSome, Result, Ok, Err}

@@ -56,7 +56,8 @@ abbrev pub is_shell : Parts → Bool
 is_shell (Shell p) = true
 is_shell parts = false
 
--- the effects leave room for what the blocks may send at a signal: at the shell's host a round of time takes all there is
+-- the effects leave room for what the blocks may send at a signal: at the shell's host a round of time takes all there
+-- is
 pub record HasRoomFor (parts : Parts) (out : Effects) : Type 0 where
   pub room : HasRoom out
   pub shell : is_shell parts ≡ true → out.sends ≡ []

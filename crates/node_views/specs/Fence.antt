@@ -9,7 +9,8 @@ use Rattle.sig_core.specs.declared.signal.epoch.EpochSignal.TheVariants.{DiVerif
 use Rattle.sig_core.specs.declared.signal.joining.JoiningSignal.{JoiningSignal}
 use Rattle.sig_core.specs.declared.signal.joining.JoiningSignal.TheVariants.{StartReq, StartRep, StartEnd, StartGone}
 
--- of epochs and checkpoints, by the nodes that a signal comes from and is for: what a coordinator asks for passes, and so
+-- of epochs and checkpoints, by the nodes that a signal comes from and is for: what a coordinator asks for passes, and
+-- so
 -- does what the shell, which is node 0, asks for and is answered
 abbrev pub is_epoch_fenced : ℕ → ℕ → EpochSignal → Bool
 is_epoch_fenced from to (DiVerifyReq tx ops) = false

@@ -34,7 +34,10 @@ abbrev pub fresh_shell : Layout → hosts.Host
 fresh_shell layout =
     record {
       standing = standing_in nobody layout;
-      parts = Shell (record { client = fresh_client layout.shape.nodes layout.view; arbiter = fresh_arbiter layout.view.full });
+      parts = Shell (record {
+        client = fresh_client layout.shape.nodes layout.view;
+        arbiter = fresh_arbiter layout.view.full;
+      });
     }
 
 -- the parts of a member: its main part, with its current epoch

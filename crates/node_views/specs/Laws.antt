@@ -44,4 +44,5 @@ MalformedSignalsChangeNothing =
 -- a host that was cut off stays so
 abbrev pub CutHostsStayCut : Type 0
 CutHostsStayCut =
-    (s : hosts.Host) (x : Signal) (host : HostId) → is_cut s.standing host ≡ true → is_cut (host_row s x).state.standing host ≡ true
+    (s : hosts.Host) (x : Signal) (host : HostId) → is_cut s.standing host ≡ true
+    → is_cut (host_row s x).state.standing host ≡ true

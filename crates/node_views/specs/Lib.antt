@@ -6,3 +6,4 @@ pub mod Parts
 pub mod Replies
 pub mod Row
 pub mod WellFormed
+pub mod Words

@@ -46,7 +46,8 @@ killed_after standing left = record standing { left = left }
 
 -- it stands in another view
 abbrev pub in_view : Standing → View → Standing
-in_view standing view = record standing { view = view; has_joined = standing.has_joined || is_member view standing.member }
+in_view standing view =
+    record standing { view = view; has_joined = standing.has_joined || is_member view standing.member }
 
 -- a view is installed: the host stands in it, and so does each block
 unfoldable pub entered : hosts.Host → View → Step hosts.Host
@@ -118,7 +119,8 @@ is_excluded standing view = standing.has_joined && not (is_member view standing.
 abbrev pub entering_if : hosts.Host → Signal → Bool → Step hosts.Host
 entering_if s x true = stopping s (Excluded x.view.number)
 entering_if s x false =
-    behind (joined (marks_only (Installed x.view ∷ [])) (entered s x.view).effects) (passed_row (entered s x.view).state x)
+    behind (joined (marks_only (Installed x.view ∷ [])) (entered s x.view).effects)
+    (passed_row (entered s x.view).state x)
 
 abbrev pub headed_if : hosts.Host → Signal → Bool → Step hosts.Host
 headed_if s x true = entering_if s x (is_excluded s.standing x.view)

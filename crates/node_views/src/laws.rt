@@ -1,23 +1,35 @@
 //! What is true of the steps of a host, whatever comes.
 ghost use Rattle.node_views.specs.Laws.{CalmHostsLeaveItToBlocks, CutHostsStayCut, MalformedSignalsChangeNothing, StoppingHostsAreSilent};
+ghost use Rattle.node_views.specs.Words.{HostsKeepToTheirWords};
 
 /// Where a host isn't to be killed, a signal from no greater view, which no fence stops and which isn't
 /// the host's own, is the blocks' alone.
+#[tactic(auto, using(crate::proofs::LawLemmas::calm_hosts_leave_it_to_blocks))]
 pub fn calm_hosts_leave_it_to_blocks()
     ensures { CalmHostsLeaveItToBlocks }
 {}
 
 /// A step that stops its host sends nothing.
+#[tactic(auto, using(crate::proofs::LawLemmas::stopping_hosts_are_silent))]
 pub fn stopping_hosts_are_silent()
     ensures { StoppingHostsAreSilent }
 {}
 
 /// A signal that isn't well formed changes nothing, sends nothing and marks nothing.
+#[tactic(auto, using(crate::proofs::LawLemmas::malformed_signals_change_nothing))]
 pub fn malformed_signals_change_nothing()
     ensures { MalformedSignalsChangeNothing }
 {}
 
 /// A host that was cut off stays so.
+#[tactic(auto, using(crate::proofs::CutLemmas::cut_hosts_stay_cut))]
 pub fn cut_hosts_stay_cut()
     ensures { CutHostsStayCut }
+{}
+
+/// Whatever comes, a host sends and marks only what the blocks of its part may, beside the marks that
+/// it makes itself.
+#[tactic(auto, using(crate::proofs::WordWalk::hosts_law))]
+pub fn hosts_keep_to_their_words()
+    ensures { HostsKeepToTheirWords }
 {}

@@ -15,7 +15,8 @@ mod well_formed;
 
 pub use host::Host;
 pub use laws::{
-    calm_hosts_leave_it_to_blocks, malformed_signals_change_nothing, stopping_hosts_are_silent,
+    calm_hosts_leave_it_to_blocks, hosts_keep_to_their_words, malformed_signals_change_nothing,
+    stopping_hosts_are_silent,
 };
 pub use ldm_part::LdmPart;
 pub use main_part::MainPart;
@@ -24,6 +25,3 @@ pub use shell_part::ShellPart;
 pub use standing::Standing;
 pub use tc_part::TcPart;
 pub use well_formed::is_well_formed;
-
-#[cfg(test)]
-mod tests;

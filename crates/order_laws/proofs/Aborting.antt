@@ -24,7 +24,7 @@ use Rattle.sig_core.specs.Same.{same_key, same_tx}
 use Rattle.sig_core.specs.Step.{Effects, Step}
 use Rattle.sig_core.specs.Work.{work_key}
 use Rattle.frag_map.specs.Layout.{Layout, first_layout}
-use Rattle.lqh_block.proofs.IndexLemmas as keys
+use Rattle.row_records.proofs.KeyLemmas as keys
 use Rattle.lqh_block.specs.Work.{is_for}
 use Rattle.tc_block.proofs.TurnRows.{turn_for}
 use Rattle.tc_block.specs.declared.transaction.Transaction.{Transaction}
@@ -41,12 +41,12 @@ use Rattle.world_core.specs.Machine.{after, signals_of, step_after}
 use Rattle.world_core.specs.Start.{Start}
 use Rattle.world_core.specs.Steps.{Addressed, HostStep}
 use Rattle.key_laws.specs.Replica.{rests}
-use Rattle.host_laws.proofs.BlocksAlong.{tc_layout}
-use Rattle.run_laws.proofs.KeyTokens.{is_rows}
-use Rattle.host_laws.proofs.LqhOps.{is_lqh}
-use Rattle.host_laws.proofs.TcLives.{IsOwn}
-use Rattle.host_laws.proofs.TcSteps.{left_of_turn}
-use Rattle.host_laws.proofs.Wishes.{is_tc}
+use Rattle.host_laws.proofs.hosts.BlocksAlong.{tc_layout}
+use Rattle.run_laws.proofs.tokens.Signals.{is_rows}
+use Rattle.host_laws.proofs.rows.Operations.{is_lqh}
+use Rattle.host_laws.proofs.coordinator.Lives.{IsOwn}
+use Rattle.host_laws.proofs.coordinator.Steps.{left_of_turn}
+use Rattle.host_laws.proofs.api.Wishes.{is_tc}
 use Rattle.host_laws.specs.Live.{of_live}
 use Rattle.host_laws.specs.ReplicaLaws.{event_in}
 use Rattle.host_laws.specs.Ways.{tc_sends}
@@ -54,15 +54,15 @@ use Rattle.run_laws.specs.GivenUp.{is_given_up}
 use Rattle.run_laws.specs.Live.{live_at, of_host}
 use Rattle.run_laws.specs.Routes.{replica_host, replicas}
 use Rattle.run_laws.specs.Transit.{AreInTransit, Comes, IsRun, Takes, joined, logs_of}
-use Rattle.run_laws.proofs.HomeSteps.{IsHome, all_home, here_now, here_was, own_home}
-use Rattle.run_laws.proofs.LiveOf.{of_each}
-use Rattle.run_laws.proofs.RowsEvents.{event_missed, event_off}
-use Rattle.run_laws.proofs.TcSaid.{idle_silent, tc_silent, tc_speaks}
-use Rattle.run_laws.proofs.Transit.{along_transit}
-use Rattle.run_laws.proofs.TxSteps.{next_number, none_of, runs_rows}
-use Rattle.run_laws.proofs.TxTurns as turn
-use Rattle.run_laws.proofs.TxTurns.{TcTurn, is_for as is_for_tx, tc_turn}
-use Rattle.run_laws.proofs.Weighing.{in_sends, in_transit}
+use Rattle.run_laws.proofs.hosts.HomeSteps.{IsHome, all_home, here_now, here_was, own_home}
+use Rattle.run_laws.proofs.hosts.LiveOf.{of_each}
+use Rattle.run_laws.proofs.circle.RowsEvents.{event_missed, event_off}
+use Rattle.run_laws.proofs.hosts.TcSaid.{idle_silent, tc_silent, tc_speaks}
+use Rattle.run_laws.proofs.transit.Transit.{along_transit}
+use Rattle.run_laws.proofs.hosts.TxSteps.{next_number, none_of, runs_rows}
+use Rattle.run_laws.proofs.hosts.TxTurns as turn
+use Rattle.run_laws.proofs.hosts.TxTurns.{TcTurn, is_for as is_for_tx, tc_turn}
+use Rattle.run_laws.proofs.transit.Weighing.{in_sends, in_transit}
 use Rattle.order_laws.specs.Aborting.{GivenUpHoldersWait, WaitsFrom}
 use Rattle.order_laws.specs.Awaited.{IsAwaited, list_length}
 use Rattle.order_laws.specs.Standing.{is_away}

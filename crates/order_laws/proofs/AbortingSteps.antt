@@ -27,7 +27,7 @@ use Rattle.sig_core.specs.Step.{Effects, Step}
 use Rattle.sig_core.specs.Work.{work_key}
 use Rattle.frag_map.proofs.FirstReplicas.{few_replicas}
 use Rattle.frag_map.specs.Layout.{Layout, first_layout}
-use Rattle.lqh_block.proofs.IndexLemmas as keys
+use Rattle.row_records.proofs.KeyLemmas as keys
 use Rattle.lqh_block.specs.State.{LqhState}
 use Rattle.tc_block.specs.Abort.{replica_count}
 use Rattle.tc_block.specs.declared.phase.Phase.{Phase}
@@ -48,25 +48,25 @@ use Rattle.world_core.specs.Machine.{after, machine, signals_of, step_after}
 use Rattle.world_core.specs.Start.{Start}
 use Rattle.world_core.specs.Steps.{Addressed, HostStep}
 use Rattle.key_laws.specs.Replica.{aborts, event_at, rests}
-use Rattle.host_laws.proofs.LqhOps.{is_lqh, true_and}
-use Rattle.host_laws.proofs.RequestCounts.{asked_by}
-use Rattle.host_laws.proofs.Sums.{total_one}
-use Rattle.host_laws.proofs.Wishes.{is_tc}
+use Rattle.host_laws.proofs.rows.Operations.{is_lqh, true_and}
+use Rattle.host_laws.proofs.rows.RequestCounts.{asked_by}
+use Rattle.host_laws.proofs.hosts.Sums.{total_one}
+use Rattle.host_laws.proofs.api.Wishes.{is_tc}
 use Rattle.host_laws.specs.Live.{of_live}
 use Rattle.host_laws.specs.ReplicaLaws.{event_in}
 use Rattle.run_laws.specs.GivenUp.{is_given_up}
 use Rattle.run_laws.specs.Live.{live_at, of_host}
 use Rattle.run_laws.specs.Routes.{IsForBlock, IsRequestRouted, IsRouted, replica_host, replicas}
 use Rattle.run_laws.specs.Transit.{AreInTransit, Comes, Takes, joined, logs_of}
-use Rattle.run_laws.proofs.Addressed.{comes_below, rows_addressed, tc_addressed}
-use Rattle.run_laws.proofs.Always.{few_touched}
-use Rattle.run_laws.proofs.HomeSteps.{IsHome, all_home, away, here_now, here_was}
-use Rattle.run_laws.proofs.RoutedEvents.{IsPlaced, coming_are_routed, placed, placed_runs}
-use Rattle.run_laws.proofs.RoutesChain.{hosts_are_apart}
-use Rattle.run_laws.proofs.RowsEvents.{event_rows}
-use Rattle.run_laws.proofs.TcSaid.{tc_silent}
-use Rattle.run_laws.proofs.TxTurns.{is_for as is_for_tx}
-use Rattle.run_laws.proofs.Weighing.{each_taken, in_sends, in_transit, joins_weigh, none_passes, takes_weigh, weigh}
+use Rattle.run_laws.proofs.routes.Addressed.{comes_below, rows_addressed, tc_addressed}
+use Rattle.run_laws.proofs.hosts.Always.{few_touched}
+use Rattle.run_laws.proofs.hosts.HomeSteps.{IsHome, all_home, away, here_now, here_was}
+use Rattle.run_laws.proofs.routes.Events.{IsPlaced, coming_are_routed, placed, placed_runs}
+use Rattle.run_laws.proofs.routes.Chain.{hosts_are_apart}
+use Rattle.run_laws.proofs.circle.RowsEvents.{event_rows}
+use Rattle.run_laws.proofs.hosts.TcSaid.{tc_silent}
+use Rattle.run_laws.proofs.hosts.TxTurns.{is_for as is_for_tx}
+use Rattle.run_laws.proofs.transit.Weighing.{each_taken, in_sends, in_transit, joins_weigh, none_passes, takes_weigh, weigh}
 use Rattle.order_laws.specs.Awaited.{due, due_in, list_length}
 use Rattle.order_laws.specs.Gone.{gone_by}
 use Rattle.order_laws.specs.Standing.{is_away}

@@ -25,7 +25,7 @@ use Rattle.sig_core.specs.Op.{key_of}
 use Rattle.sig_core.specs.Same.{same_key, same_tx}
 use Rattle.sig_core.specs.Step.{stay}
 use Rattle.frag_map.specs.Layout.{Layout, chain_of}
-use Rattle.lqh_block.proofs.IndexLemmas as keys
+use Rattle.row_records.proofs.KeyLemmas as keys
 use Rattle.tc_block.specs.Abort as abort
 use Rattle.tc_block.specs.Complete as complete
 use Rattle.tc_block.specs.declared.phase.Asked.{Asked}
@@ -44,17 +44,17 @@ use Rattle.tc_block.specs.Turn.{Turn, asking, at_phase, going}
 use Rattle.tc_block.proofs.EachTurn.{AbortForms, CommittedForms, IsMissed, IsRowAnswer, TurnFormsAt, by_conf}
 use Rattle.tc_block.proofs.EachTurn.{by_ref, is_onward, may_ask, ready_is, rows_at}
 use Rattle.tc_block.proofs.TurnRows.{is_turn, tx_in, turn_for}
-use Rattle.host_laws.proofs.LqhOps.{is_lqh, true_and}
-use Rattle.host_laws.proofs.TcSends.{eqb-self}
-use Rattle.run_laws.proofs.TxTurns.{is_for, turn_each}
-use Rattle.run_laws.proofs.Weighing.{in_sends}
+use Rattle.host_laws.proofs.rows.Operations.{is_lqh, true_and}
+use Rattle.host_laws.proofs.coordinator.Sends.{eqb-self}
+use Rattle.run_laws.proofs.hosts.TxTurns.{is_for, turn_each}
+use Rattle.run_laws.proofs.transit.Weighing.{in_sends}
 use Rattle.order_laws.specs.Awaited.{awaited_in, due, list_length}
 use Rattle.order_laws.specs.Unanswered.{is_on_key, is_part_on}
 use Rattle.order_laws.proofs.AwaitedTurns.{last_is}
 use Rattle.order_laws.proofs.UnansweredTurns.{end_none, enters_none, front_plain, is_plain, parts_out, plain_chains, plain_out}
 use Rattle.order_laws.proofs.UnansweredTurns.{AreUnbacked, is_backing}
-use Rattle.host_laws.proofs.PhaseSends.{aborts_of_kind, rest_of_kind}
-use Rattle.host_laws.proofs.SendKinds.{of_map}
+use Rattle.host_laws.proofs.coordinator.PhaseSends.{aborts_of_kind, rest_of_kind}
+use Rattle.host_laws.proofs.hosts.SendKinds.{of_map}
 use Rattle.order_laws.proofs.Leads.{any_sent, late_leads, lead, next_leads, part_leads, sent_leads}
 
 -- the signal has a replica, at this node, abort the transaction's row
@@ -309,7 +309,8 @@ module _ (node : ℕ) (layout : Layout) (tx : TxId) (key : List ℕ) (replica : 
       enters = λ some.
           begins off refl
           (part_leads tx (is_abort_to tx key replica) (onward_none tx key replica) node
-          (phase_sends layout tx (Aborting why (abort.is_verifying u.phase) (abort.aborts_awaited layout u)) u.touched) 0
+          (phase_sends layout tx (Aborting why (abort.is_verifying u.phase) (abort.aborts_awaited layout u)) u.touched)
+          0
           home
           (any_aborted layout tx key replica there why (abort.is_verifying u.phase) (abort.aborts_awaited layout u)
           u.touched (ap (has_touched key) same ∙ touched off)))

@@ -34,8 +34,8 @@ use Rattle.key_laws.specs.Replica.{Event, Replica, aborts, ages, asked_by, asks,
 use Rattle.key_laws.specs.Replica.{expired_by, expires, expires_if, if_on, is_let_in, is_refused, key_after, rests}
 use Rattle.key_laws.specs.Replica.{served_by, serves, serves_if}
 use Rattle.host_laws.specs.ReplicaLaws.{event_in, key_in}
-use Rattle.host_laws.proofs.Replicas.{logs_follow}
-use Rattle.run_laws.proofs.RowsEvents.{EventCase, event_case, no_event, of_rows}
+use Rattle.host_laws.proofs.rows.Replicas.{logs_follow}
+use Rattle.run_laws.proofs.circle.RowsEvents.{EventCase, event_case, no_event, of_rows}
 use Rattle.order_laws.proofs.Behind.{is_among, is_behind}
 use Rattle.order_laws.proofs.Lines.{AreInLine, IsLinedLock, aged_lined, asked_lined, released_lined, unwaited_lined}
 

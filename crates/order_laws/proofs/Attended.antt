@@ -29,14 +29,14 @@ use Rattle.key_laws.specs.Replica.{expiring, is_by, is_let_in, key_after, rests,
 use Rattle.key_laws.proofs.LockWaiting.{expiries_attend, queued_wait, releases_attend, requests_attend, rounds_attend}
 use Rattle.key_laws.proofs.Waiting.{alone-drop_first, alone-end, each-drop_first, none-dropped}
 use Rattle.host_laws.specs.ReplicaLaws.{event_in, key_in}
-use Rattle.host_laws.proofs.Replicas.{logs_follow, nodes_begin}
+use Rattle.host_laws.proofs.rows.Replicas.{logs_follow, nodes_begin}
 use Rattle.run_laws.specs.Circle.{at_host}
 use Rattle.run_laws.specs.Owed.{IsOwed}
 use Rattle.run_laws.specs.Routes.{replica_host, replicas}
 use Rattle.run_laws.specs.Transit.{IsRun, logs_of}
-use Rattle.run_laws.proofs.Owing.{events_owed}
-use Rattle.run_laws.proofs.RoutesChain.{replicas_are_nodes}
-use Rattle.run_laws.proofs.Transit.{comes, earlier}
+use Rattle.run_laws.proofs.tokens.Owing.{events_owed}
+use Rattle.run_laws.proofs.routes.Chain.{replicas_are_nodes}
+use Rattle.run_laws.proofs.transit.Transit.{comes, earlier}
 
 abbrev AreAttended : RowLock → List Request → Type 0
 AreAttended lock xs = Each (λ (q : Request). is_attended lock q.tx (work_mode q.work) ≡ true) xs

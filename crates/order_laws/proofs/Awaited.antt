@@ -32,23 +32,23 @@ use Rattle.world_core.specs.Hosts.{home}
 use Rattle.world_core.specs.Machine.{after, signals_of, step_after}
 use Rattle.world_core.specs.Start.{Start}
 use Rattle.world_core.specs.Steps.{Addressed, HostStep}
-use Rattle.host_laws.proofs.ApiMoves.{is_api_kind}
-use Rattle.host_laws.proofs.BlocksAlong.{first_live, tc_layout}
-use Rattle.host_laws.proofs.DihSends.{dih_kinds}
-use Rattle.host_laws.proofs.SendKinds.{each_of, is_dih_kind}
-use Rattle.host_laws.proofs.TcLives.{IsOwn, apart}
-use Rattle.host_laws.proofs.TcSteps.{left_of_turn}
-use Rattle.host_laws.proofs.TurnKinds.{OwnKinds, TurnOnly, own_kinds}
+use Rattle.host_laws.proofs.api.Moves.{is_api_kind}
+use Rattle.host_laws.proofs.hosts.BlocksAlong.{first_live, tc_layout}
+use Rattle.host_laws.proofs.hosts.DihSends.{dih_kinds}
+use Rattle.host_laws.proofs.hosts.SendKinds.{each_of, is_dih_kind}
+use Rattle.host_laws.proofs.coordinator.Lives.{IsOwn, apart}
+use Rattle.host_laws.proofs.coordinator.Steps.{left_of_turn}
+use Rattle.host_laws.proofs.coordinator.TurnKinds.{OwnKinds, TurnOnly, own_kinds}
 use Rattle.host_laws.specs.Live.{of_live}
 use Rattle.run_laws.specs.Live.{live_at, of_host}
 use Rattle.run_laws.specs.Transit.{Comes, Takes, joined, logs_of}
-use Rattle.run_laws.proofs.HomeSteps.{IsHome, all_home, away, here_now, here_was, own_home, unborn_absent}
-use Rattle.run_laws.proofs.LiveOf.{of_each}
-use Rattle.run_laws.proofs.Transit.{along_transit}
-use Rattle.run_laws.proofs.TxTurns as turn
-use Rattle.run_laws.proofs.TxTurns.{OthersSend, TcTurn, is_for, tc_turn, turn_each}
-use Rattle.run_laws.proofs.WaysPassed.{api_each}
-use Rattle.run_laws.proofs.Weighing.{in_transit, joins_weigh, takes_weigh}
+use Rattle.run_laws.proofs.hosts.HomeSteps.{IsHome, all_home, away, here_now, here_was, own_home, unborn_absent}
+use Rattle.run_laws.proofs.hosts.LiveOf.{of_each}
+use Rattle.run_laws.proofs.transit.Transit.{along_transit}
+use Rattle.run_laws.proofs.hosts.TxTurns as turn
+use Rattle.run_laws.proofs.hosts.TxTurns.{OthersSend, TcTurn, is_for, tc_turn, turn_each}
+use Rattle.run_laws.proofs.ways.Passed.{api_each}
+use Rattle.run_laws.proofs.transit.Weighing.{in_transit, joins_weigh, takes_weigh}
 use Rattle.order_laws.specs.Awaited.{AllIsAwaited, IsAwaited, due, due_in, list_length}
 use Rattle.order_laws.proofs.AwaitedSends.{is_due, lqh_weighs, none_due, off_due, off_weighs, request_due, weighs}
 use Rattle.order_laws.proofs.AwaitedTurns.{Awaits, ends, enters, goes, turn_awaits}
@@ -234,19 +234,29 @@ module _ (tx : TxId) where
           ap (λ n. due_in tx n later) same,
         ))
     turned node layout t turn (enters going come_all less) sent was =
-        let rest : due_in tx (list_length layout t.phase t.touched) between ≡ 0 = omega (arith, was, come_all, out (list_length layout t.phase t.touched)) in
+        let rest : due_in tx (list_length layout t.phase t.touched) between ≡ 0 =
+        omega (arith, was, come_all, out (list_length layout t.phase t.touched)) in
         subst (λ b. IsAwaited layout tx later (if b then None else Some turn.step.state)) (sym going)
         (omega (
           arith,
           less,
-          none_in (list_length layout t.phase t.touched) (list_length layout turn.step.state.phase turn.step.state.touched) between rest,
+          none_in (list_length layout t.phase t.touched)
+              (list_length layout turn.step.state.phase turn.step.state.touched) between rest,
           into (list_length layout turn.step.state.phase turn.step.state.touched),
           ap (weighs tx (list_length layout turn.step.state.phase turn.step.state.touched)) sent,
         ))
     turned node layout t turn (ends over come_all none) sent was =
-        let rest : due_in tx (list_length layout t.phase t.touched) between ≡ 0 = omega (arith, was, come_all, out (list_length layout t.phase t.touched)) in
+        let rest : due_in tx (list_length layout t.phase t.touched) between ≡ 0 =
+        omega (arith, was, come_all, out (list_length layout t.phase t.touched)) in
         subst (λ b. IsAwaited layout tx later (if b then None else Some turn.step.state)) (sym over)
-        (omega (arith, none, none_in (list_length layout t.phase t.touched) 0 between rest, into 0, ap (weighs tx 0) sent))
+        (omega (
+          arith,
+          none,
+          none_in (list_length layout t.phase t.touched) 0 between rest,
+          into 0,
+          ap (weighs tx 0)
+              sent,
+        ))
 
     abbrev Before : Option Transaction → Type 0
     Before o = IsAwaited (first_layout start.shape) tx before o
@@ -317,7 +327,8 @@ module _ (tx : TxId) where
             own : e.host ≡ home start tx
             own =
                 own_home start es e come tx step.runs
-                (of_each (λ one t. IsOwn (tc_of g).node (tc_of g).next_seq one) tx (tc_of g).live u facts.own there).home
+                (of_each (λ one t. IsOwn (tc_of g).node (tc_of g).next_seq one) tx (tc_of g).live u facts.own
+                there).home
 
             same_layout : (tc_of g).layout ≡ first_layout start.shape
             same_layout = tc_layout start e.host (logs_of start es e.host) step.runs

@@ -34,7 +34,7 @@ use Rattle.lqh_block.specs.declared.request.Request.{Request}
 use Rattle.lqh_block.specs.Lqh.{lqh_table}
 use Rattle.lqh_block.specs.State.{LqhState, freed_lock, go_on_if}
 use Rattle.node_core.specs.Requests.{is_request}
-use Rattle.run_laws.proofs.Weighing.{weigh, weigh_append, weigh_none}
+use Rattle.run_laws.proofs.transit.Weighing.{weigh, weigh_append, weigh_none}
 use Rattle.order_laws.specs.Awaited.{due, list_length}
 
 -- the signal stands for something

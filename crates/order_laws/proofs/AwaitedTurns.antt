@@ -23,7 +23,7 @@ use Rattle.sig_core.specs.Step.{sending, stay}
 use Rattle.sig_core.specs.Op.{key_of}
 use Rattle.sig_core.specs.Same.{same_tx}
 use Rattle.frag_map.specs.Layout.{Layout, chain_of}
-use Rattle.lqh_block.proofs.IndexLemmas as keys
+use Rattle.row_records.proofs.KeyLemmas as keys
 use Rattle.tc_block.specs.Abort as abort
 use Rattle.tc_block.specs.Complete as complete
 use Rattle.tc_block.specs.declared.phase.Asked.{Asked}
@@ -38,7 +38,7 @@ use Rattle.tc_block.specs.Sends.{abort_of, aborts_of, entering, go_on_if, phase_
 use Rattle.tc_block.specs.Turn.{Turn, asking, at_phase, going}
 use Rattle.tc_block.proofs.EachTurn.{AbortForms, CommittedForms, IsAnswered, TurnFormsAt, ready_is, rows_at}
 use Rattle.tc_block.proofs.TurnRows.{turn_for}
-use Rattle.run_laws.proofs.TxTurns.{is_for, turn_each}
+use Rattle.run_laws.proofs.hosts.TxTurns.{is_for, turn_each}
 use Rattle.order_laws.specs.Awaited.{awaited_in, due, list_length, owed_in}
 use Rattle.order_laws.proofs.AwaitedSends.{aborts_one, completions_weigh, is_due, off_weighs, part_weighs, phase_long}
 use Rattle.order_laws.proofs.AwaitedSends.{phase_one, weigh_ones, weighs}

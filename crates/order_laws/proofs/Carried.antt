@@ -31,13 +31,13 @@ use Rattle.run_laws.specs.Circle.{primary_along}
 use Rattle.run_laws.specs.GivenUp.{is_carried_out, is_given_up}
 use Rattle.run_laws.specs.Tokens.{is_token, tokens_in}
 use Rattle.run_laws.specs.Transit.{Comes, IsRun, logs_of}
-use Rattle.run_laws.proofs.GivenUp.{none_is_both}
-use Rattle.run_laws.proofs.RowsEvents.{EventCase, event_case, no_event, of_rows}
-use Rattle.run_laws.proofs.Transit.{comes, earlier}
-use Rattle.run_laws.proofs.TransitRuns.{taking}
-use Rattle.run_laws.proofs.Undecided.{carried_out_have_none}
-use Rattle.run_laws.proofs.Ways.{given_more}
-use Rattle.run_laws.proofs.Weighing.{each_taken, none_passes}
+use Rattle.run_laws.proofs.ways.GivenUp.{none_is_both}
+use Rattle.run_laws.proofs.circle.RowsEvents.{EventCase, event_case, no_event, of_rows}
+use Rattle.run_laws.proofs.transit.Transit.{comes, earlier}
+use Rattle.run_laws.proofs.transit.Runs.{taking}
+use Rattle.run_laws.proofs.causes.Undecided.{carried_out_have_none}
+use Rattle.run_laws.proofs.ways.Ways.{given_more}
+use Rattle.run_laws.proofs.transit.Weighing.{each_taken, none_passes}
 use Rattle.order_laws.specs.Carried.{CarriedOutStayOut}
 use Rattle.order_laws.specs.Gone.{gone_by, has_gone}
 use Rattle.order_laws.proofs.Gone.{who_has_gone_is_out}

@@ -39,20 +39,20 @@ use Rattle.world_core.specs.Start.{Start}
 use Rattle.world_core.specs.Steps.{Addressed, HostStep}
 use Rattle.key_laws.specs.PrimaryEvents.{AtPrimary, ended_after}
 use Rattle.key_laws.specs.Replica.{Event, completes, event_at, rests}
-use Rattle.host_laws.proofs.ApiMoves.{is_api_kind}
-use Rattle.host_laws.proofs.DihSends.{dih_kinds}
-use Rattle.host_laws.proofs.SendKinds.{each_of, is_dih_kind}
+use Rattle.host_laws.proofs.api.Moves.{is_api_kind}
+use Rattle.host_laws.proofs.hosts.DihSends.{dih_kinds}
+use Rattle.host_laws.proofs.hosts.SendKinds.{each_of, is_dih_kind}
 use Rattle.host_laws.specs.ReplicaLaws.{event_in}
 use Rattle.run_laws.specs.Circle.{primary_along}
 use Rattle.run_laws.specs.Routes.{IsCompletionRouted, IsRouted}
 use Rattle.run_laws.specs.Transit.{AreInTransit, Comes, IsRun, logs_of}
-use Rattle.run_laws.proofs.Addressed.{rows_addressed}
-use Rattle.run_laws.proofs.RoutedEvents.{coming_are_routed}
-use Rattle.run_laws.proofs.RoutesSends.{each_flat_of}
-use Rattle.run_laws.proofs.RowsEvents.{event_rows}
-use Rattle.run_laws.proofs.Transit.{along_transit}
-use Rattle.run_laws.proofs.WaysPassed.{api_each}
-use Rattle.run_laws.proofs.Weighing.{each_between, each_joins}
+use Rattle.run_laws.proofs.routes.Addressed.{rows_addressed}
+use Rattle.run_laws.proofs.routes.Events.{coming_are_routed}
+use Rattle.run_laws.proofs.routes.Sends.{each_flat_of}
+use Rattle.run_laws.proofs.circle.RowsEvents.{event_rows}
+use Rattle.run_laws.proofs.transit.Transit.{along_transit}
+use Rattle.run_laws.proofs.ways.Passed.{api_each}
+use Rattle.run_laws.proofs.transit.Weighing.{each_between, each_joins}
 use Rattle.order_laws.specs.LetGo.{has_let_go}
 use Rattle.order_laws.proofs.Passed.{ended_stays}
 

@@ -22,7 +22,7 @@ use Rattle.sig_core.specs.Chain.{node_at}
 use Rattle.sig_core.specs.Same.{same_key, same_tx}
 use Rattle.sig_core.specs.Step.{Effects}
 use Rattle.frag_map.specs.Layout.{Layout, first_layout}
-use Rattle.lqh_block.proofs.IndexLemmas as keys
+use Rattle.row_records.proofs.KeyLemmas as keys
 use Rattle.lqh_block.proofs.LqhForms.{complete_forms}
 use Rattle.lqh_block.specs.Lqh.{lqh_table}
 use Rattle.lqh_block.specs.State.{LqhState}
@@ -47,13 +47,13 @@ use Rattle.world_core.specs.Hosts.{home, host_for, hosts, rows_host, tc_host}
 use Rattle.world_core.specs.Machine.{after, signals_of, step_after}
 use Rattle.world_core.specs.Start.{Start}
 use Rattle.world_core.specs.Steps.{Addressed, HostStep}
-use Rattle.host_laws.proofs.BlocksAlong.{tc_layout}
-use Rattle.host_laws.proofs.LqhOps.{is_lqh}
-use Rattle.host_laws.proofs.OfLive.{each_found}
-use Rattle.host_laws.proofs.OneWay.{back_aborting, forth_decided}
-use Rattle.host_laws.proofs.TcLives.{IsOwn}
-use Rattle.host_laws.proofs.TcSteps.{left_of_turn}
-use Rattle.host_laws.proofs.Wishes.{is_tc}
+use Rattle.host_laws.proofs.hosts.BlocksAlong.{tc_layout}
+use Rattle.host_laws.proofs.rows.Operations.{is_lqh}
+use Rattle.host_laws.proofs.coordinator.OfLive.{each_found}
+use Rattle.host_laws.proofs.coordinator.OneWay.{back_aborting, forth_decided}
+use Rattle.host_laws.proofs.coordinator.Lives.{IsOwn}
+use Rattle.host_laws.proofs.coordinator.Steps.{left_of_turn}
+use Rattle.host_laws.proofs.api.Wishes.{is_tc}
 use Rattle.host_laws.specs.Live.{of_live}
 use Rattle.host_laws.specs.Ways.{back_by, forth_by, sent_ways}
 use Rattle.run_laws.specs.GivenUp.{is_carried_out, is_given_up}
@@ -61,21 +61,21 @@ use Rattle.run_laws.specs.Live.{live_at, of_host}
 use Rattle.run_laws.specs.Routes.{IsCompletionRouted, IsForBlock, IsRouted, replica_host, replicas}
 use Rattle.run_laws.specs.Tokens.{is_token}
 use Rattle.run_laws.specs.Transit.{AreInTransit, Comes, IsRun, Takes, joined, logs_of}
-use Rattle.run_laws.proofs.Addressed.{rows_addressed, tc_addressed}
-use Rattle.run_laws.proofs.Always.{few_touched}
-use Rattle.run_laws.proofs.CarryBegins.{carried_silent, said_silent}
-use Rattle.run_laws.proofs.HomeSteps.{IsHome, all_home, away, here_now, here_was, own_home, unborn_absent}
-use Rattle.run_laws.proofs.LiveOf.{of_each}
-use Rattle.run_laws.proofs.RoutedEvents.{coming_are_routed, placed, placed_runs}
-use Rattle.run_laws.proofs.TcOwn.{AreSilent}
-use Rattle.run_laws.proofs.TcSaid.{tc_silent}
-use Rattle.run_laws.proofs.Transit.{along_transit}
-use Rattle.run_laws.proofs.TxSignals.{is_next}
-use Rattle.run_laws.proofs.TxSteps as step
-use Rattle.run_laws.proofs.TxSteps.{IsMissed, TxStep, aside, rows, turns, tx_step}
-use Rattle.run_laws.proofs.TxTurns.{is_for}
-use Rattle.run_laws.proofs.Undecided.{carried_out_have_none}
-use Rattle.run_laws.proofs.Weighing.{each_taken, in_sends, in_transit, joins_weigh, takes_weigh}
+use Rattle.run_laws.proofs.routes.Addressed.{rows_addressed, tc_addressed}
+use Rattle.run_laws.proofs.hosts.Always.{few_touched}
+use Rattle.run_laws.proofs.carried.Begins.{carried_silent, said_silent}
+use Rattle.run_laws.proofs.hosts.HomeSteps.{IsHome, all_home, away, here_now, here_was, own_home, unborn_absent}
+use Rattle.run_laws.proofs.hosts.LiveOf.{of_each}
+use Rattle.run_laws.proofs.routes.Events.{coming_are_routed, placed, placed_runs}
+use Rattle.run_laws.proofs.hosts.TcOwn.{AreSilent}
+use Rattle.run_laws.proofs.hosts.TcSaid.{tc_silent}
+use Rattle.run_laws.proofs.transit.Transit.{along_transit}
+use Rattle.run_laws.proofs.fades.Signals.{is_next}
+use Rattle.run_laws.proofs.hosts.TxSteps as step
+use Rattle.run_laws.proofs.hosts.TxSteps.{IsMissed, TxStep, aside, rows, turns, tx_step}
+use Rattle.run_laws.proofs.hosts.TxTurns.{is_for}
+use Rattle.run_laws.proofs.causes.Undecided.{carried_out_have_none}
+use Rattle.run_laws.proofs.transit.Weighing.{each_taken, in_sends, in_transit, joins_weigh, takes_weigh}
 use Rattle.order_laws.specs.Awaited.{IsAwaited, awaited_in, due, due_in, list_length}
 use Rattle.order_laws.specs.Completing.{CompletedLetGo}
 use Rattle.order_laws.specs.LetGo.{has_let_go, lock_at_place}
@@ -349,7 +349,8 @@ module _ (start : Start) (tx : TxId) (key : List ℕ) (inside : 0 + 1 < length (
         by (Chain (Complete other own chain at)) is =
             completion other own chain at is (same_tx other tx) (same_key own key) refl refl
         by (Host (Continue (work.Transaction other) at)) is =
-            onward other at is (is_tc e.step.taken.to.block) (e.step.taken.to.node == tx.tc) (same_tx other tx) refl refl
+            onward other at is (is_tc e.step.taken.to.block) (e.step.taken.to.node == tx.tc) (same_tx other tx) refl
+            refl
             refl
         by _ is = refl
 
@@ -553,7 +554,8 @@ module _ (start : Start) (tx : TxId) (key : List ℕ) (inside : 0 + 1 < length (
           where
             number : tx.tc ≡ (tc_of g).node
             number =
-                (of_each (λ one t. IsOwn (tc_of g).node (tc_of g).next_seq one) tx (tc_of g).live u facts.own there).home
+                (of_each (λ one t. IsOwn (tc_of g).node (tc_of g).next_seq one) tx (tc_of g).live u facts.own
+                there).home
 
             own : e.host ≡ home start tx
             own = own_home start es e come tx step.runs number
@@ -623,7 +625,8 @@ completed_let_go start es xs key tx run still inside carried uncommitted =
             absurd (omega (
               arith,
               high,
-              replica_low start es xs run still own at (subst (λ (c : List Member). at < length c) routed.along routed.sent.inside) to
+              replica_low start es xs run still own at
+                  (subst (λ (c : List Member). at < length c) routed.along routed.sent.inside) to
                   (routed.sent.node_is ∙ ap (λ c. node_at c at) routed.along),
             ))
         at_place to (Host (Continue (work.Transaction other) at)) routed home high =

@@ -33,10 +33,10 @@ use Rattle.tc_block.specs.Touched.{fits, is_on}
 use Rattle.tc_block.specs.Turn.{Turn, asking, going}
 use Rattle.tc_block.proofs.EachTurn.{AbortForms, CommittedForms, TurnFormsAt, is_onward, ready_is, rows_at}
 use Rattle.tc_block.proofs.TurnRows.{is_turn, tx_in, turn_for}
-use Rattle.host_laws.proofs.LqhOps.{true_and}
-use Rattle.run_laws.proofs.TcOwn.{AreSilent}
-use Rattle.run_laws.proofs.TxTurns.{is_for, turn_each}
-use Rattle.run_laws.proofs.Weighing.{in_sends}
+use Rattle.host_laws.proofs.rows.Operations.{true_and}
+use Rattle.run_laws.proofs.hosts.TcOwn.{AreSilent}
+use Rattle.run_laws.proofs.hosts.TxTurns.{is_for, turn_each}
+use Rattle.run_laws.proofs.transit.Weighing.{in_sends}
 use Rattle.order_laws.specs.Awaited.{awaited_in, due, list_length}
 use Rattle.order_laws.proofs.AwaitedTurns.{last_is}
 use Rattle.order_laws.proofs.Leads.{any_sent, late_leads, lead, next_leads, part_leads}

@@ -13,8 +13,8 @@ use Rattle.world_core.specs.Machine.{after}
 use Rattle.world_core.specs.Start.{Start}
 use Rattle.world_core.specs.Steps.{HostStep}
 use Rattle.host_laws.specs.Ways.{back_by, forth_by, sent_ways}
-use Rattle.host_laws.proofs.OfLive.{each_found}
-use Rattle.host_laws.proofs.OneWay.{back_aborting, forth_decided}
+use Rattle.host_laws.proofs.coordinator.OfLive.{each_found}
+use Rattle.host_laws.proofs.coordinator.OneWay.{back_aborting, forth_decided}
 use Rattle.run_laws.specs.GivenUp.{is_carried_out, is_given_up}
 use Rattle.run_laws.specs.Live.{live_at}
 use Rattle.run_laws.specs.Routes.{replica_host}

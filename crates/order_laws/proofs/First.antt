@@ -41,34 +41,34 @@ use Rattle.world_core.specs.Hosts.{home, host_for, hosts, tc_host}
 use Rattle.world_core.specs.Machine.{after, machine, signals_of, step_after}
 use Rattle.world_core.specs.Start.{Start}
 use Rattle.world_core.specs.Steps.{Addressed, HostStep}
-use Rattle.host_laws.proofs.ApiMoves.{is_api_kind}
-use Rattle.host_laws.proofs.BlocksAlong.{tc_layout}
-use Rattle.host_laws.proofs.DihSends.{dih_kinds}
-use Rattle.host_laws.proofs.OfLive.{each_found}
-use Rattle.host_laws.proofs.SendKinds.{each_of, is_dih_kind}
-use Rattle.host_laws.proofs.TcLives.{IsOwn}
-use Rattle.host_laws.proofs.TcOps.{is_right}
-use Rattle.host_laws.proofs.TcSteps.{left_of_turn}
-use Rattle.host_laws.proofs.Wishes.{is_tc}
+use Rattle.host_laws.proofs.api.Moves.{is_api_kind}
+use Rattle.host_laws.proofs.hosts.BlocksAlong.{tc_layout}
+use Rattle.host_laws.proofs.hosts.DihSends.{dih_kinds}
+use Rattle.host_laws.proofs.coordinator.OfLive.{each_found}
+use Rattle.host_laws.proofs.hosts.SendKinds.{each_of, is_dih_kind}
+use Rattle.host_laws.proofs.coordinator.Lives.{IsOwn}
+use Rattle.host_laws.proofs.coordinator.Operations.{is_right}
+use Rattle.host_laws.proofs.coordinator.Steps.{left_of_turn}
+use Rattle.host_laws.proofs.api.Wishes.{is_tc}
 use Rattle.host_laws.specs.Live.{of_live}
 use Rattle.host_laws.specs.Ways.{back_by, sent_ways, tc_sends}
 use Rattle.run_laws.specs.GivenUp.{is_given_up}
 use Rattle.run_laws.specs.Live.{live_at, of_host}
 use Rattle.run_laws.specs.Routes.{replica_host, replicas}
 use Rattle.run_laws.specs.Transit.{AreInTransit, Comes, IsRun, Takes, joined, logs_of}
-use Rattle.run_laws.proofs.Addressed.{tc_addressed}
-use Rattle.run_laws.proofs.HomeSteps.{IsHome, all_home, away, here_now, here_was}
-use Rattle.run_laws.proofs.LiveOf.{of_each}
-use Rattle.run_laws.proofs.RoutesChain.{replicas_are_nodes, replicas_some}
-use Rattle.run_laws.proofs.TcSaid.{idle_silent, tc_silent, tc_speaks}
-use Rattle.run_laws.proofs.TcSound.{log_sound}
-use Rattle.run_laws.proofs.TcTokens.{IsOwned}
-use Rattle.run_laws.proofs.Transit.{along_transit}
-use Rattle.run_laws.proofs.TxSteps.{next_number, none_of}
-use Rattle.run_laws.proofs.TxTurns as turn
-use Rattle.run_laws.proofs.TxTurns.{TcTurn, is_for as is_for_tx, tc_turn}
-use Rattle.run_laws.proofs.WaysPassed.{api_each}
-use Rattle.run_laws.proofs.Weighing.{in_sends, in_transit, joins_weigh, takes_weigh, weigh_less}
+use Rattle.run_laws.proofs.routes.Addressed.{tc_addressed}
+use Rattle.run_laws.proofs.hosts.HomeSteps.{IsHome, all_home, away, here_now, here_was}
+use Rattle.run_laws.proofs.hosts.LiveOf.{of_each}
+use Rattle.run_laws.proofs.routes.Chain.{replicas_are_nodes, replicas_some}
+use Rattle.run_laws.proofs.hosts.TcSaid.{idle_silent, tc_silent, tc_speaks}
+use Rattle.run_laws.proofs.hosts.TcSound.{log_sound}
+use Rattle.run_laws.proofs.tokens.Coordinator.{IsOwned}
+use Rattle.run_laws.proofs.transit.Transit.{along_transit}
+use Rattle.run_laws.proofs.hosts.TxSteps.{next_number, none_of}
+use Rattle.run_laws.proofs.hosts.TxTurns as turn
+use Rattle.run_laws.proofs.hosts.TxTurns.{TcTurn, is_for as is_for_tx, tc_turn}
+use Rattle.run_laws.proofs.ways.Passed.{api_each}
+use Rattle.run_laws.proofs.transit.Weighing.{in_sends, in_transit, joins_weigh, takes_weigh, weigh_less}
 use Rattle.order_laws.specs.Awaited.{IsAwaited, list_length}
 use Rattle.order_laws.specs.First.{GivenUpAreOutAtFirst}
 use Rattle.order_laws.specs.Standing.{is_away}

@@ -26,14 +26,14 @@ use Rattle.world_core.specs.Hosts.{first_membership, home, host_for, rows_host}
 use Rattle.world_core.specs.Machine.{addressed, all_addressed, counted, machine, sent_count, step_after}
 use Rattle.world_core.specs.Start.{Start}
 use Rattle.world_core.specs.Steps.{Addressed, HostStep}
-use Rattle.host_laws.proofs.LqhOps.{is_lqh}
+use Rattle.host_laws.proofs.rows.Operations.{is_lqh}
 use Rattle.run_laws.specs.Live.{live_at}
 use Rattle.run_laws.specs.Routes.{replica_host, replicas}
 use Rattle.run_laws.specs.Transit.{AreInTransit, Comes, IsRun, logs_of}
-use Rattle.run_laws.proofs.Transit.{comes, earlier}
-use Rattle.run_laws.proofs.TransitRuns.{runs_have_transit}
-use Rattle.run_laws.proofs.TxTurns.{OthersSend}
-use Rattle.run_laws.proofs.Weighing.{in_sends, in_transit, joins_weigh, none_passes}
+use Rattle.run_laws.proofs.transit.Transit.{comes, earlier}
+use Rattle.run_laws.proofs.transit.Runs.{runs_have_transit}
+use Rattle.run_laws.proofs.hosts.TxTurns.{OthersSend}
+use Rattle.run_laws.proofs.transit.Weighing.{in_sends, in_transit, joins_weigh, none_passes}
 use Rattle.order_laws.specs.Unanswered.{asks_on, is_part_on}
 use Rattle.order_laws.proofs.AbortingTurns.{is_abort_to}
 use Rattle.order_laws.proofs.FirstTaken.{asks_last, last_by}

@@ -29,16 +29,16 @@ use Rattle.world_core.specs.Hosts.{Membership, first_membership, home, receiver}
 use Rattle.world_core.specs.Machine.{after, all_addressed, counted, sent_count, signals_of, step_after}
 use Rattle.world_core.specs.Start.{Start}
 use Rattle.world_core.specs.Steps.{Addressed, HostStep}
-use Rattle.host_laws.proofs.ApiMoves.{is_api_kind}
-use Rattle.host_laws.proofs.DihSends.{dih_kinds}
-use Rattle.host_laws.proofs.SendKinds.{SendsOnly, each_of, is_dih_kind}
-use Rattle.host_laws.proofs.TcLives.{IsOwn}
-use Rattle.host_laws.proofs.TurnKinds.{OwnKinds, own_kinds}
+use Rattle.host_laws.proofs.api.Moves.{is_api_kind}
+use Rattle.host_laws.proofs.hosts.DihSends.{dih_kinds}
+use Rattle.host_laws.proofs.hosts.SendKinds.{SendsOnly, each_of, is_dih_kind}
+use Rattle.host_laws.proofs.coordinator.Lives.{IsOwn}
+use Rattle.host_laws.proofs.coordinator.TurnKinds.{OwnKinds, own_kinds}
 use Rattle.run_laws.specs.Transit.{AreInTransit, Comes, IsRun, logs_of}
-use Rattle.run_laws.proofs.HomeSteps.{all_home, own_home}
-use Rattle.run_laws.proofs.Transit.{along_transit}
-use Rattle.run_laws.proofs.WaysPassed.{api_each}
-use Rattle.run_laws.proofs.Weighing.{each_between, joined_each}
+use Rattle.run_laws.proofs.hosts.HomeSteps.{all_home, own_home}
+use Rattle.run_laws.proofs.transit.Transit.{along_transit}
+use Rattle.run_laws.proofs.ways.Passed.{api_each}
+use Rattle.run_laws.proofs.transit.Weighing.{each_between, joined_each}
 
 -- an operation that is sent is of this transaction
 abbrev is_its : TxId → Body → Bool
@@ -81,7 +81,8 @@ module _ (start : Start) where
   dih_plain _ e = refl
 
   its_home : (h : ℕ) (one : TxId) → h ≡ home start one → (body : Body) → is_its one body ≡ true → IsFromHome h body
-  its_home h one here (Chain (LqhKeyReq tx work chain at)) is = λ first. here ∙ ap (home start) (sym (same_tx-is tx one is))
+  its_home h one here (Chain (LqhKeyReq tx work chain at)) is =
+      λ first. here ∙ ap (home start) (sym (same_tx-is tx one is))
   its_home h one here _ is = tt
 
   -- what a coordinator sends

@@ -17,7 +17,7 @@ use Rattle.sig_core.specs.declared.signal.chain.ChainSignal.TheVariants.{Abort, 
 use Rattle.sig_core.specs.Place.{coordinator_of}
 use Rattle.sig_core.specs.Same.{same_key, same_tx}
 use Rattle.sig_core.specs.Work.{work_key}
-use Rattle.lqh_block.proofs.IndexLemmas as keys
+use Rattle.row_records.proofs.KeyLemmas as keys
 use Rattle.node_core.specs.Blocks.{lqh_of}
 use Rattle.node_core.specs.declared.host.Host as host
 use Rattle.node_core.specs.Requests.{is_request}
@@ -29,14 +29,14 @@ use Rattle.key_laws.specs.Replica.{aborts, event_at, rests}
 use Rattle.host_laws.specs.ReplicaLaws.{event_in}
 use Rattle.run_laws.specs.Routes.{IsForBlock, IsRequestRouted, IsRouted, replica_host, replicas}
 use Rattle.run_laws.specs.Transit.{Comes, IsRun, logs_of}
-use Rattle.run_laws.proofs.Addressed.{rows_addressed}
-use Rattle.run_laws.proofs.KeyTokens.{is_rows}
-use Rattle.run_laws.proofs.RoutedEvents.{coming_are_routed, placed, placed_runs}
-use Rattle.run_laws.proofs.RoutesChain.{hosts_are_apart, replicas_some}
-use Rattle.run_laws.proofs.RowsEvents.{event_off, event_rows}
-use Rattle.run_laws.proofs.Transit.{comes, earlier}
-use Rattle.run_laws.proofs.TransitRuns.{taking}
-use Rattle.run_laws.proofs.Weighing.{each_taken}
+use Rattle.run_laws.proofs.routes.Addressed.{rows_addressed}
+use Rattle.run_laws.proofs.tokens.Signals.{is_rows}
+use Rattle.run_laws.proofs.routes.Events.{coming_are_routed, placed, placed_runs}
+use Rattle.run_laws.proofs.routes.Chain.{hosts_are_apart, replicas_some}
+use Rattle.run_laws.proofs.circle.RowsEvents.{event_off, event_rows}
+use Rattle.run_laws.proofs.transit.Transit.{comes, earlier}
+use Rattle.run_laws.proofs.transit.Runs.{taking}
+use Rattle.run_laws.proofs.transit.Weighing.{each_taken}
 use Rattle.order_laws.specs.Gone.{gone_by}
 use Rattle.order_laws.specs.Standing.{is_away}
 use Rattle.order_laws.specs.Unanswered.{is_part_on}
@@ -82,76 +82,77 @@ module _ (start : Start) (tx : TxId) (key : List ℕ) (some : 1 ≤ tx.tc) (low 
   at_home = home start tx
 
   -- what the first place has taken of its coordinator's host
-  module _ (es : List HostStep) (e : HostStep) (come : Comes start es e) (here : e.host ≡ replica_host start key 0) where
-    abbrev g : host.Host
-    g = after start e.host (logs_of start es e.host)
+  module _ (es : List HostStep) (e : HostStep) (come : Comes start es e) (here : e.host ≡ replica_host start key 0)
+    where
+      abbrev g : host.Host
+      g = after start e.host (logs_of start es e.host)
 
-    -- an abort of its row is an event of the key
-    abort_event : is_its_abort tx key e.step.taken.body ≡ true → event_in key g e.step.taken ≡ aborts tx
-    abort_event is = by e.step.taken.body refl (coming_are_routed start es e come).block is
-      where
-        first_inside : 0 < length (replicas start key)
-        first_inside = replicas_some start come.before.shape key
+      -- an abort of its row is an event of the key
+      abort_event : is_its_abort tx key e.step.taken.body ≡ true → event_in key g e.step.taken ≡ aborts tx
+      abort_event is = by e.step.taken.body refl (coming_are_routed start es e come).block is
+        where
+          first_inside : 0 < length (replicas start key)
+          first_inside = replicas_some start come.before.shape key
 
-        by : (body : Body) → e.step.taken.body ≡ body → IsForBlock e.step.taken.to e.step.taken.body
-            → is_its_abort tx key body ≡ true → event_in key g e.step.taken ≡ aborts tx
-        by (Chain (Abort other own)) is to its =
-            let both = and_parts (same_tx other tx) (same_key own key) its in
-            event_rows key g e.step.taken
-            (placed_runs start e.host key 0 (logs_of start es e.host) come.before.shape
-            (record { inside = first_inside; host_is = here }))
-            (subst (IsForBlock e.step.taken.to) is to)
-            ∙ ap (event_at key (lqh_of g)) is
-            ∙ ap (λ b. if b then aborts other else rests) both.1
-            ∙ ap (λ v. aborts v) (same_tx-is other tx both.0)
-        by _ is to its = absurd (false≢true its)
+          by : (body : Body) → e.step.taken.body ≡ body → IsForBlock e.step.taken.to e.step.taken.body
+              → is_its_abort tx key body ≡ true → event_in key g e.step.taken ≡ aborts tx
+          by (Chain (Abort other own)) is to its =
+              let both = and_parts (same_tx other tx) (same_key own key) its in
+              event_rows key g e.step.taken
+              (placed_runs start e.host key 0 (logs_of start es e.host) come.before.shape
+              (record { inside = first_inside; host_is = here }))
+              (subst (IsForBlock e.step.taken.to) is to)
+              ∙ ap (event_at key (lqh_of g)) is
+              ∙ ap (λ b. if b then aborts other else rests) both.1
+              ∙ ap (λ v. aborts v) (same_tx-is other tx both.0)
+          by _ is to its = absurd (false≢true its)
 
-    -- a request of it comes from there
-    request_home : e.step.taken.to.block ≡ block.Lqh → is_part_on tx key e.step.taken.body ≡ true
-        → (last_by tx key e.step.taken.body false ≡ true)
-        × ((is_request e.step.taken.body ≡ false) × (e.step.taken.from.0 ≡ home start tx))
-    request_home at_rows part = by e.step.taken.body refl (coming_are_routed start es e come).block part
-      where
-        not_tc : (v : TxId) → e.step.taken.to ≡ coordinator_of v → ⊥
-        not_tc v to = let both : block.Lqh ≡ block.Tc = sym at_rows ∙ ap (λ (p : Place). p.block) to in cc
+      -- a request of it comes from there
+      request_home : e.step.taken.to.block ≡ block.Lqh → is_part_on tx key e.step.taken.body ≡ true
+          → (last_by tx key e.step.taken.body false ≡ true)
+          × ((is_request e.step.taken.body ≡ false) × (e.step.taken.from.0 ≡ home start tx))
+      request_home at_rows part = by e.step.taken.body refl (coming_are_routed start es e come).block part
+        where
+          not_tc : (v : TxId) → e.step.taken.to ≡ coordinator_of v → ⊥
+          not_tc v to = let both : block.Lqh ≡ block.Tc = sym at_rows ∙ ap (λ (p : Place). p.block) to in cc
 
-        by : (body : Body) → e.step.taken.body ≡ body → IsForBlock e.step.taken.to e.step.taken.body
-            → is_part_on tx key body ≡ true
-            → (last_by tx key body false ≡ true)
-            × ((is_request e.step.taken.body ≡ false) × (e.step.taken.from.0 ≡ home start tx))
-        by (Chain (LqhKeyReq v work chain place)) is to its = (
-          ap (λ b. if b then true else false) its,
-          (ap is_request is, from_there),
-        )
-          where
-            both : (same_tx v tx ≡ true) × (same_key (work_key work) key ≡ true)
-            both = and_parts (same_tx v tx) (same_key (work_key work) key) its
+          by : (body : Body) → e.step.taken.body ≡ body → IsForBlock e.step.taken.to e.step.taken.body
+              → is_part_on tx key body ≡ true
+              → (last_by tx key body false ≡ true)
+              × ((is_request e.step.taken.body ≡ false) × (e.step.taken.from.0 ≡ home start tx))
+          by (Chain (LqhKeyReq v work chain place)) is to its = (
+            ap (λ b. if b then true else false) its,
+            (ap is_request is, from_there),
+          )
+            where
+              both : (same_tx v tx ≡ true) × (same_key (work_key work) key ≡ true)
+              both = and_parts (same_tx v tx) (same_key (work_key work) key) its
 
-            on : work_key work ≡ key
-            on = keys.same (work_key work) key both.1
+              on : work_key work ≡ key
+              on = keys.same (work_key work) key both.1
 
-            routed : IsRequestRouted start e.step.taken.to.node
-                (record { tx = v; work = work; chain = chain; at = place })
-            routed = subst (IsRouted start e.step.taken.to.node) is (coming_are_routed start es e come).routed
+              routed : IsRequestRouted start e.step.taken.to.node
+                  (record { tx = v; work = work; chain = chain; at = place })
+              routed = subst (IsRouted start e.step.taken.to.node) is (coming_are_routed start es e come).routed
 
-            first_place : place ≡ 0
-            first_place =
-                let there = placed start e.host e.step.taken.to.node key chain place
-                (rows_addressed start es e come at_rows) (routed.chain ∙ ap (replicas start) on) routed.sent in
-                hosts_are_apart start key place 0 come.before.shape there.inside
-                (replicas_some start come.before.shape key) (sym there.host_is ∙ here)
+              first_place : place ≡ 0
+              first_place =
+                  let there = placed start e.host e.step.taken.to.node key chain place
+                  (rows_addressed start es e come at_rows) (routed.chain ∙ ap (replicas start) on) routed.sent in
+                  hosts_are_apart start key place 0 come.before.shape there.inside
+                  (replicas_some start come.before.shape key) (sym there.host_is ∙ here)
 
-            from_there : e.step.taken.from.0 ≡ home start tx
-            from_there =
-                let t = taking start es e come in
-                let told : IsFromHome start e.step.taken.from.0 e.step.taken.body =
-                each_taken (λ (x : Addressed). IsFromHome start x.signal.from.0 x.signal.body) e t.before t.between
-                (ap is_request is) t.takes (homes_along start es t.before come.before t.transit) in
-                subst (IsFromHome start e.step.taken.from.0) is told first_place
-                ∙ ap (home start) (same_tx-is v tx both.0)
-        by (Chain (LqhKeyConf v own answer)) is to its = absurd (not_tc v (subst (IsForBlock e.step.taken.to) is to))
-        by (Chain (LqhKeyRef v own cause)) is to its = absurd (not_tc v (subst (IsForBlock e.step.taken.to) is to))
-        by _ is to its = absurd (false≢true its)
+              from_there : e.step.taken.from.0 ≡ home start tx
+              from_there =
+                  let t = taking start es e come in
+                  let told : IsFromHome start e.step.taken.from.0 e.step.taken.body =
+                  each_taken (λ (x : Addressed). IsFromHome start x.signal.from.0 x.signal.body) e t.before t.between
+                  (ap is_request is) t.takes (homes_along start es t.before come.before t.transit) in
+                  subst (IsFromHome start e.step.taken.from.0) is told first_place
+                  ∙ ap (home start) (same_tx-is v tx both.0)
+          by (Chain (LqhKeyConf v own answer)) is to its = absurd (not_tc v (subst (IsForBlock e.step.taken.to) is to))
+          by (Chain (LqhKeyRef v own cause)) is to its = absurd (not_tc v (subst (IsForBlock e.step.taken.to) is to))
+          by _ is to its = absurd (false≢true its)
 
   abbrev First : (ℕ → List HostStep) → Type 0
   First logs = is_away start key tx (replica_host start key 0) (logs (replica_host start key 0)) ≡ false
@@ -176,7 +177,8 @@ module _ (start : Start) (tx : TxId) (key : List ℕ) (some : 1 ≤ tx.tc) (low 
 
       by : (e.host ≡ h) ⊎ (e.host ≢ h)
           → (First (logs_of start es)
-          → asks_last tx key (taken (machine start) (home start tx) (logs_of start es (replica_host start key 0))) ≡ true)
+          → asks_last tx key (taken (machine start) (home start tx) (logs_of start es (replica_host start key 0)))
+          ≡ true)
           → asks_last tx key (taken (machine start) (home start tx)
           (logs_of start (e ∷ es) (replica_host start key 0))) ≡ true
       by (inr off) more =

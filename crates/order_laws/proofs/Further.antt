@@ -13,7 +13,7 @@ use Rattle.sig_core.specs.declared.signal.Body.TheVariants.{Chain}
 use Rattle.sig_core.specs.declared.signal.chain.ChainSignal.TheVariants.{LqhKeyConf, LqhKeyRef, LqhKeyReq}
 use Rattle.sig_core.specs.Same.{same_key, same_tx}
 use Rattle.sig_core.specs.Work.{work_key}
-use Rattle.lqh_block.proofs.IndexLemmas as keys
+use Rattle.row_records.proofs.KeyLemmas as keys
 use Rattle.lqh_block.proofs.LqhForms.{perform_forms}
 use Rattle.lqh_block.specs.declared.request.Request.{Request}
 use Rattle.lqh_block.specs.Lqh.{lqh_table}
@@ -21,7 +21,7 @@ use Rattle.lqh_block.specs.State.{LqhState}
 use Rattle.lqh_block.specs.Storage as storage
 use Rattle.lqh_block.specs.Storage.{StorageState}
 use Rattle.lqh_block.specs.Work.{is_for}
-use Rattle.host_laws.proofs.RequestCounts.{CountStep, asked_by, count_step, ends, is_work, performs, refuses, rests}
+use Rattle.host_laws.proofs.rows.RequestCounts.{CountStep, asked_by, count_step, ends, is_work, performs, refuses, rests}
 use Rattle.order_laws.specs.Unanswered.{is_part_on}
 
 -- a request for a place behind this one, or an answer

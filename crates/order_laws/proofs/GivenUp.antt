@@ -24,19 +24,19 @@ use Rattle.world_core.specs.Hosts.{home}
 use Rattle.world_core.specs.Machine.{after}
 use Rattle.world_core.specs.Start.{Start}
 use Rattle.world_core.specs.Steps.{HostStep}
-use Rattle.host_laws.proofs.OfLive.{each_found}
-use Rattle.host_laws.proofs.OneWay.{back_aborting}
-use Rattle.host_laws.proofs.SendKinds.{each_of}
-use Rattle.host_laws.proofs.TcLives.{apart}
-use Rattle.host_laws.proofs.TurnKinds.{OwnKinds, TurnOnly, own_kinds}
+use Rattle.host_laws.proofs.coordinator.OfLive.{each_found}
+use Rattle.host_laws.proofs.coordinator.OneWay.{back_aborting}
+use Rattle.host_laws.proofs.hosts.SendKinds.{each_of}
+use Rattle.host_laws.proofs.coordinator.Lives.{apart}
+use Rattle.host_laws.proofs.coordinator.TurnKinds.{OwnKinds, TurnOnly, own_kinds}
 use Rattle.host_laws.specs.Ways.{back_by, put_ways, sent_ways, tc_sends, way_of}
 use Rattle.run_laws.specs.GivenUp.{is_given_up}
 use Rattle.run_laws.specs.Live.{live_at}
 use Rattle.run_laws.specs.Transit.{Comes, logs_of}
-use Rattle.run_laws.proofs.StepFades.{now_other, now_own}
-use Rattle.run_laws.proofs.TcSound.{log_sound}
-use Rattle.run_laws.proofs.TcTokens.{IsOwned}
-use Rattle.run_laws.proofs.TxTurns.{OthersSend, turn_each}
+use Rattle.run_laws.proofs.fades.Steps.{now_other, now_own}
+use Rattle.run_laws.proofs.hosts.TcSound.{log_sound}
+use Rattle.run_laws.proofs.tokens.Coordinator.{IsOwned}
+use Rattle.run_laws.proofs.hosts.TxTurns.{OthersSend, turn_each}
 use Rattle.order_laws.proofs.UnansweredTurns.{AreUnbacked, is_backing}
 
 -- what takes no other transaction back

@@ -8,7 +8,7 @@ use Rattle.sig_core.specs.declared.signal.Body.{Body}
 use Rattle.sig_core.specs.declared.signal.Body.TheVariants.{Chain}
 use Rattle.sig_core.specs.declared.signal.chain.ChainSignal.TheVariants.{Commit, Complete, Abort}
 use Rattle.sig_core.specs.Chain.{node_at}
-use Rattle.lqh_block.proofs.IndexLemmas.{same}
+use Rattle.row_records.proofs.KeyLemmas.{same}
 use Rattle.node_core.specs.Blocks.{lqh_of}
 use Rattle.node_core.specs.Requests.{is_request}
 use Rattle.node_core.specs.Row.{row}
@@ -22,15 +22,15 @@ use Rattle.run_laws.specs.Circle.{primary_along}
 use Rattle.run_laws.specs.GivenUp.{is_carried_out, is_given_up}
 use Rattle.run_laws.specs.Routes.{IsCompletionRouted, IsForBlock, IsRouted, primary_host, replica_host, replicas}
 use Rattle.run_laws.specs.Transit.{Comes, IsRun, logs_of}
-use Rattle.run_laws.proofs.Addressed.{rows_addressed}
-use Rattle.run_laws.proofs.GivenUp.{aborts_are_of_given_up}
-use Rattle.run_laws.proofs.RoutedEvents.{coming_are_routed, commits_end_at_primary, placed}
-use Rattle.run_laws.proofs.RoutesChain.{hosts_are_apart, replicas_some}
-use Rattle.run_laws.proofs.RowsEvents.{EventCase, event_case, no_event, of_rows}
-use Rattle.run_laws.proofs.Transit.{comes, earlier}
-use Rattle.run_laws.proofs.TransitRuns.{taking}
-use Rattle.run_laws.proofs.Ways.{given_more}
-use Rattle.run_laws.proofs.Weighing.{each_taken}
+use Rattle.run_laws.proofs.routes.Addressed.{rows_addressed}
+use Rattle.run_laws.proofs.ways.GivenUp.{aborts_are_of_given_up}
+use Rattle.run_laws.proofs.routes.Events.{coming_are_routed, commits_end_at_primary, placed}
+use Rattle.run_laws.proofs.routes.Chain.{hosts_are_apart, replicas_some}
+use Rattle.run_laws.proofs.circle.RowsEvents.{EventCase, event_case, no_event, of_rows}
+use Rattle.run_laws.proofs.transit.Transit.{comes, earlier}
+use Rattle.run_laws.proofs.transit.Runs.{taking}
+use Rattle.run_laws.proofs.ways.Ways.{given_more}
+use Rattle.run_laws.proofs.transit.Weighing.{each_taken}
 use Rattle.order_laws.specs.LetGo.{LaterHoldersAreGivenUp, has_let_go}
 use Rattle.order_laws.proofs.Carried.{carried_out_stay_out}
 use Rattle.order_laws.proofs.Completed.{TellsBehind, let_go_more, tells_along}

@@ -22,10 +22,10 @@ use Rattle.sig_core.specs.declared.signal.host.Work.TheVariants as work
 use Rattle.sig_core.specs.Same.{same_tx}
 use Rattle.tc_block.proofs.EachTurn.{is_onward}
 use Rattle.tc_block.specs.Part.{part_effects, rest_if}
-use Rattle.host_laws.proofs.LqhOps.{is_lqh, true_and}
-use Rattle.host_laws.proofs.TcSends.{eqb-self}
-use Rattle.host_laws.proofs.Wishes.{is_tc}
-use Rattle.run_laws.proofs.Weighing.{in_sends, weigh, weigh_append}
+use Rattle.host_laws.proofs.rows.Operations.{is_lqh, true_and}
+use Rattle.host_laws.proofs.coordinator.Sends.{eqb-self}
+use Rattle.host_laws.proofs.api.Wishes.{is_tc}
+use Rattle.run_laws.proofs.transit.Weighing.{in_sends, weigh, weigh_append}
 
 -- only the coordinators' block passes its test, and only that of the rows
 pub tc_block_is : (b : BlockId) → is_tc b ≡ true → b ≡ block.Tc

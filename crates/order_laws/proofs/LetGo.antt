@@ -13,7 +13,7 @@ use Rattle.world_core.specs.Start.{Start}
 use Rattle.world_core.specs.Steps.{Addressed, HostStep}
 use Rattle.run_laws.specs.Routes.{replica_host, replicas}
 use Rattle.run_laws.specs.Transit.{IsRun, logs_of}
-use Rattle.run_laws.proofs.AlongSteps.{link}
+use Rattle.run_laws.proofs.hosts.AlongSteps.{link}
 use Rattle.order_laws.proofs.Behind.{is_among, is_behind}
 use Rattle.order_laws.specs.LetGo.{HoldersHaveLetGo}
 use Rattle.order_laws.proofs.Askers.{asker, came, lined_along}

@@ -16,10 +16,10 @@ use Rattle.host_laws.specs.Ways.{way_of}
 use Rattle.run_laws.specs.Circle.{primary_along}
 use Rattle.run_laws.specs.GivenUp.{is_carried_out, is_given_up}
 use Rattle.run_laws.specs.Transit.{Comes, IsRun, logs_of}
-use Rattle.run_laws.proofs.RowsEvents.{EventCase, event_case, no_event, of_rows}
-use Rattle.run_laws.proofs.Transit.{comes, earlier}
-use Rattle.run_laws.proofs.TransitRuns.{taking}
-use Rattle.run_laws.proofs.Ways.{IsTold, carried_more, given_more, taken_told}
+use Rattle.run_laws.proofs.circle.RowsEvents.{EventCase, event_case, no_event, of_rows}
+use Rattle.run_laws.proofs.transit.Transit.{comes, earlier}
+use Rattle.run_laws.proofs.transit.Runs.{taking}
+use Rattle.run_laws.proofs.ways.Ways.{IsTold, carried_more, given_more, taken_told}
 use Rattle.order_laws.proofs.Ends.{Ends, Told, body_ends}
 use Rattle.order_laws.specs.LetGo.{WhoLetsGoIsOver}
 

@@ -37,9 +37,9 @@ use Rattle.host_laws.specs.ReplicaLaws.{event_in, key_in}
 use Rattle.run_laws.specs.Circle.{at_host, primary_along}
 use Rattle.run_laws.specs.Routes.{replica_host, replicas}
 use Rattle.run_laws.specs.Transit.{IsRun, logs_of}
-use Rattle.run_laws.proofs.KeyMoves.{replica_along}
-use Rattle.run_laws.proofs.RoutedEvents.{placed_runs}
-use Rattle.run_laws.proofs.Transit.{earlier}
+use Rattle.run_laws.proofs.circle.KeyMoves.{replica_along}
+use Rattle.run_laws.proofs.routes.Events.{placed_runs}
+use Rattle.run_laws.proofs.transit.Transit.{earlier}
 use Rattle.order_laws.proofs.Behind.{is_among, is_behind}
 use Rattle.order_laws.proofs.Askers.{asker}
 use Rattle.order_laws.proofs.Attended.{IsServing, serving_along}

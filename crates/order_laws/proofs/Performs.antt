@@ -54,12 +54,12 @@ use Rattle.key_laws.proofs.LockHolding.{grants_hold}
 use Rattle.key_laws.proofs.LockWaiting.{attended_hold}
 use Rattle.key_laws.proofs.Waiting.{each-first_item}
 use Rattle.host_laws.specs.ReplicaLaws.{event_in, key_in}
-use Rattle.host_laws.proofs.Replicas.{logs_follow}
-use Rattle.run_laws.proofs.KeySends.{is_abort, lqh_tokens}
-use Rattle.run_laws.proofs.KeyTokens.{Token, asked_tokens, event_tokens, if_by, is_rows, operated_token}
-use Rattle.run_laws.proofs.KeyTokens.{performed_token, performs, put, refuses, served_tokens, token_of, tokens_of}
-use Rattle.run_laws.proofs.KeyTokens.{work_token}
-use Rattle.run_laws.proofs.RowsEvents.{event_rows}
+use Rattle.host_laws.proofs.rows.Replicas.{logs_follow}
+use Rattle.run_laws.proofs.circle.KeySends.{is_abort, lqh_tokens}
+use Rattle.run_laws.proofs.tokens.Signals.{Token, asked_tokens, event_tokens, if_by, is_rows, operated_token}
+use Rattle.run_laws.proofs.tokens.Signals.{performed_token, performs, put, refuses, served_tokens, token_of, tokens_of}
+use Rattle.run_laws.proofs.tokens.Signals.{work_token}
+use Rattle.run_laws.proofs.circle.RowsEvents.{event_rows}
 use Rattle.order_laws.proofs.Askers.{asker}
 use Rattle.order_laws.proofs.Attended.{IsServing}
 

@@ -36,14 +36,14 @@ use Rattle.key_laws.specs.Replica.{Cell, Event, Replica, aborts, ages, asked_by,
 use Rattle.key_laws.specs.Replica.{is_let_in, key_after, operated, rests, served_by, serves, storing, worked}
 use Rattle.key_laws.proofs.RecordLemmas.{KeepsTx, committed_keeps, found-edited, found-stored, if_keeps, unless_keeps}
 use Rattle.host_laws.specs.ReplicaLaws.{event_in, key_in}
-use Rattle.host_laws.proofs.Replicas.{logs_follow}
+use Rattle.host_laws.proofs.rows.Replicas.{logs_follow}
 use Rattle.run_laws.specs.Circle.{primary_along}
 use Rattle.run_laws.specs.Routes.{replica_host, replicas}
 use Rattle.run_laws.specs.Transit.{IsRun, logs_of}
-use Rattle.run_laws.proofs.KeyMoves.{replica_along}
-use Rattle.run_laws.proofs.KeyTokens.{asked_tokens, event_tokens, operated_token, performed_token, refuses}
-use Rattle.run_laws.proofs.KeyTokens.{served_tokens, stored_token, work_token}
-use Rattle.run_laws.proofs.RoutedEvents.{placed_runs}
+use Rattle.run_laws.proofs.circle.KeyMoves.{replica_along}
+use Rattle.run_laws.proofs.tokens.Signals.{asked_tokens, event_tokens, operated_token, performed_token, refuses}
+use Rattle.run_laws.proofs.tokens.Signals.{served_tokens, stored_token, work_token}
+use Rattle.run_laws.proofs.routes.Events.{placed_runs}
 use Rattle.order_laws.specs.LetGo.{has_let_go, lock_at_place}
 use Rattle.order_laws.specs.Records.{HoldersHaveRecords, has_record}
 use Rattle.order_laws.proofs.Askers.{asker, came, lined_along}

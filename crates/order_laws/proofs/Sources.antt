@@ -21,7 +21,7 @@ use Rattle.sig_core.specs.Same.{same_key}
 use Rattle.sig_core.specs.Step.{Step}
 use Rattle.sig_core.specs.Work.{work_key}
 use Rattle.lqh_block.proofs.EachLqh.{RequestSends, lqh_sends_each}
-use Rattle.lqh_block.proofs.IndexLemmas.{same}
+use Rattle.row_records.proofs.KeyLemmas.{same}
 use Rattle.lqh_block.specs.declared.request.Request.{Request}
 use Rattle.lqh_block.specs.Lqh.{lqh_table}
 use Rattle.lqh_block.specs.State.{LqhState}
@@ -38,21 +38,21 @@ use Rattle.world_core.specs.Hosts.{Membership, first_membership, receiver, rows_
 use Rattle.world_core.specs.Machine.{after, all_addressed, counted, machine, sent_count, signals_of, step_after}
 use Rattle.world_core.specs.Start.{Start}
 use Rattle.world_core.specs.Steps.{Addressed, HostStep}
-use Rattle.host_laws.proofs.ApiMoves.{is_api_kind}
-use Rattle.host_laws.proofs.DihSends.{dih_kinds}
-use Rattle.host_laws.proofs.SendKinds.{SendsOnly, are_of, each_of, is_dih_kind}
-use Rattle.host_laws.proofs.TurnKinds.{OwnKinds, own_kinds}
+use Rattle.host_laws.proofs.api.Moves.{is_api_kind}
+use Rattle.host_laws.proofs.hosts.DihSends.{dih_kinds}
+use Rattle.host_laws.proofs.hosts.SendKinds.{SendsOnly, are_of, each_of, is_dih_kind}
+use Rattle.host_laws.proofs.coordinator.TurnKinds.{OwnKinds, own_kinds}
 use Rattle.run_laws.specs.Routes.{IsForBlock, IsRequestRouted, IsRouted, replica_host, replicas}
 use Rattle.run_laws.specs.Transit.{AreInTransit, Comes, IsRun, logs_of}
-use Rattle.run_laws.proofs.Addressed.{comes_below, rows_addressed}
-use Rattle.run_laws.proofs.RoutedEvents.{coming_are_routed, placed}
-use Rattle.run_laws.proofs.Routes.{all_routed}
-use Rattle.run_laws.proofs.RoutesChain.{hosts_are_apart}
-use Rattle.run_laws.proofs.RowsNodes.{rows_come, rows_node}
-use Rattle.run_laws.proofs.Transit.{along_transit, comes, earlier}
-use Rattle.run_laws.proofs.TransitRuns.{taking}
-use Rattle.run_laws.proofs.WaysPassed.{api_each}
-use Rattle.run_laws.proofs.Weighing.{each_between, each_taken, joined_each}
+use Rattle.run_laws.proofs.routes.Addressed.{comes_below, rows_addressed}
+use Rattle.run_laws.proofs.routes.Events.{coming_are_routed, placed}
+use Rattle.run_laws.proofs.routes.Routes.{all_routed}
+use Rattle.run_laws.proofs.routes.Chain.{hosts_are_apart}
+use Rattle.run_laws.proofs.hosts.RowsNodes.{rows_come, rows_node}
+use Rattle.run_laws.proofs.transit.Transit.{along_transit, comes, earlier}
+use Rattle.run_laws.proofs.transit.Runs.{taking}
+use Rattle.run_laws.proofs.ways.Passed.{api_each}
+use Rattle.run_laws.proofs.transit.Weighing.{each_between, each_taken, joined_each}
 use Rattle.order_laws.proofs.Askers.{asker, came}
 
 module _ (start : Start) where

@@ -20,7 +20,7 @@ use Rattle.sig_core.specs.Same.{same_key, same_tx}
 use Rattle.sig_core.specs.Work.{work_key}
 use Rattle.frag_map.specs.Layout.{Layout}
 use Rattle.row_locks.specs.Rounds.{expired}
-use Rattle.lqh_block.proofs.IndexLemmas as keys
+use Rattle.row_records.proofs.KeyLemmas as keys
 use Rattle.lqh_block.specs.declared.request.Request.{Request}
 use Rattle.lqh_block.specs.Operate.{is_granted}
 use Rattle.lqh_block.specs.State.{LqhState, storage_of}
@@ -42,10 +42,10 @@ use Rattle.world_core.specs.Start.{Start}
 use Rattle.world_core.specs.Steps.{Addressed, HostStep}
 use Rattle.key_laws.specs.Replica.{Event, Replica, aborts, ages, asks, commits, completes, event_at, expires}
 use Rattle.key_laws.specs.Replica.{expires_if, if_on, is_refused, rests, serves, serves_if}
-use Rattle.host_laws.proofs.OfLive.{each_found}
-use Rattle.host_laws.proofs.Replicas.{logs_follow}
-use Rattle.host_laws.proofs.TcLives.{IsOwn}
-use Rattle.host_laws.proofs.TcSteps.{left_of_turn}
+use Rattle.host_laws.proofs.coordinator.OfLive.{each_found}
+use Rattle.host_laws.proofs.rows.Replicas.{logs_follow}
+use Rattle.host_laws.proofs.coordinator.Lives.{IsOwn}
+use Rattle.host_laws.proofs.coordinator.Steps.{left_of_turn}
 use Rattle.host_laws.specs.Live.{of_live}
 use Rattle.host_laws.specs.ReplicaLaws.{event_in, key_in}
 use Rattle.host_laws.specs.Ways.{back_by, sent_ways}
@@ -53,17 +53,17 @@ use Rattle.run_laws.specs.Keyed.{HasTouched, HasTouchedAsked}
 use Rattle.run_laws.specs.Live.{live_at, of_host}
 use Rattle.run_laws.specs.Routes.{replica_host}
 use Rattle.run_laws.specs.Transit.{Comes, IsRun, logs_of}
-use Rattle.run_laws.proofs.HomeSteps.{IsHome, all_home, away, here_now, here_was, own_home}
-use Rattle.run_laws.proofs.LiveOf.{of_each}
-use Rattle.run_laws.proofs.RowsEvents.{EventCase, event_case, no_event, of_rows}
-use Rattle.run_laws.proofs.TcSound.{log_sound}
-use Rattle.run_laws.proofs.TcTokens.{IsOwned}
-use Rattle.run_laws.proofs.TouchedLists.{touch_more, write_touched}
-use Rattle.run_laws.proofs.Transit.{comes, earlier}
-use Rattle.run_laws.proofs.TransitRuns.{taking}
-use Rattle.run_laws.proofs.TxSteps.{next_number, number_rises}
-use Rattle.run_laws.proofs.TxTurns.{is_for as is_for_tx, turn_each}
-use Rattle.run_laws.proofs.Weighing.{each_taken, none_passes}
+use Rattle.run_laws.proofs.hosts.HomeSteps.{IsHome, all_home, away, here_now, here_was, own_home}
+use Rattle.run_laws.proofs.hosts.LiveOf.{of_each}
+use Rattle.run_laws.proofs.circle.RowsEvents.{EventCase, event_case, no_event, of_rows}
+use Rattle.run_laws.proofs.hosts.TcSound.{log_sound}
+use Rattle.run_laws.proofs.tokens.Coordinator.{IsOwned}
+use Rattle.run_laws.proofs.tokens.TouchedLists.{touch_more, write_touched}
+use Rattle.run_laws.proofs.transit.Transit.{comes, earlier}
+use Rattle.run_laws.proofs.transit.Runs.{taking}
+use Rattle.run_laws.proofs.hosts.TxSteps.{next_number, number_rises}
+use Rattle.run_laws.proofs.hosts.TxTurns.{is_for as is_for_tx, turn_each}
+use Rattle.run_laws.proofs.transit.Weighing.{each_taken, none_passes}
 use Rattle.order_laws.specs.Gone.{gone_by}
 use Rattle.order_laws.specs.Standing.{WhoIsAwayIsOut, is_away}
 use Rattle.order_laws.specs.Unanswered.{asks_on, is_on_key, is_part_on}
@@ -111,7 +111,8 @@ module _ (tx : TxId) (key : List ℕ) where
   expires_off (Some wait) = other_off wait.1 (expires wait.0) refl
 
   -- what is no part of an operation of it on the key is no request of it there
-  rows_off : (s : LqhState) (body : Body) → is_part_on tx key body ≡ false → is_asked_by tx (event_at key s body) ≡ false
+  rows_off : (s : LqhState) (body : Body) → is_part_on tx key body ≡ false
+      → is_asked_by tx (event_at key s body) ≡ false
   rows_off s (Chain (LqhKeyReq v what chain at)) off = by (same_key (work_key what) key) off
     where
       q : Request
@@ -340,7 +341,8 @@ module _ (tx : TxId) (key : List ℕ) where
             here : e.host ≡ home start tx
             here =
                 own_home start es e come tx step.runs
-                (of_each (λ one t. IsOwn (tc_of g).node (tc_of g).next_seq one) tx (tc_of g).live u facts.own there).home
+                (of_each (λ one t. IsOwn (tc_of g).node (tc_of g).next_seq one) tx (tc_of g).live u facts.own
+                there).home
 
             its_turn : Turn
             its_turn = turn_for (tc_of g).node (tc_of g).layout tx e.step.taken.body u

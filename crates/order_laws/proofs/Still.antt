@@ -21,19 +21,19 @@ use Rattle.world_core.specs.Machine.{all_addressed, counted, machine, sent_count
 use Rattle.world_core.specs.Quiet.{IsQuiet}
 use Rattle.world_core.specs.Start.{Start}
 use Rattle.world_core.specs.Steps.{Addressed, HostStep}
-use Rattle.host_laws.proofs.TcSends.{eqb-self}
-use Rattle.host_laws.proofs.Wishes.{is_tc}
+use Rattle.host_laws.proofs.coordinator.Sends.{eqb-self}
+use Rattle.host_laws.proofs.api.Wishes.{is_tc}
 use Rattle.host_laws.specs.Ways.{back_by, forth_by, sent_ways}
 use Rattle.run_laws.specs.GivenUp.{is_carried_out, is_given_up}
 use Rattle.run_laws.specs.Routes.{IsForBlock, IsRouted, IsSentTo, replicas}
 use Rattle.run_laws.specs.Transit.{AreInTransit, Comes, IsRun, joined, logs_of}
-use Rattle.run_laws.proofs.Addressed.{comes_below}
-use Rattle.run_laws.proofs.AlongSteps.{home_place}
-use Rattle.run_laws.proofs.Routes.{signals_are_for_blocks, signals_are_routed}
-use Rattle.run_laws.proofs.RoutesChain.{replicas_are_nodes}
-use Rattle.run_laws.proofs.Transit.{along_transit}
-use Rattle.run_laws.proofs.TransitRuns.{HasTransit, chosen, has_transit, is_on}
-use Rattle.run_laws.proofs.Weighing.{each_between, in_transit, joined_each}
+use Rattle.run_laws.proofs.routes.Addressed.{comes_below}
+use Rattle.run_laws.proofs.hosts.AlongSteps.{home_place}
+use Rattle.run_laws.proofs.routes.Routes.{signals_are_for_blocks, signals_are_routed}
+use Rattle.run_laws.proofs.routes.Chain.{replicas_are_nodes}
+use Rattle.run_laws.proofs.transit.Transit.{along_transit}
+use Rattle.run_laws.proofs.transit.Runs.{HasTransit, chosen, has_transit, is_on}
+use Rattle.run_laws.proofs.transit.Weighing.{each_between, in_transit, joined_each}
 use Rattle.order_laws.specs.Still.{IsStill}
 
 module _ (start : Start) where
@@ -144,8 +144,14 @@ module _ (start : Start) where
 
   pub still_at_quiet : (es : List HostStep) → IsRun start es → IsQuiet (machine start) (hosts start) (logs_of start es)
       → (xs : List Addressed) × IsStill start es xs
-  still_at_quiet es run quiet =
-      (has.xs, record { transit = has.transit; absent = go has.xs (λ i j low under. off i j low under) (links_along es has.xs run has.transit) })
+  still_at_quiet es run quiet = (
+    has.xs,
+    record {
+      transit = has.transit;
+      absent = go has.xs (λ i j low under. off i j low under)
+          (links_along es has.xs run has.transit);
+    },
+  )
     where
       has : HasTransit start es
       has = has_transit start es run

@@ -39,30 +39,30 @@ use Rattle.world_core.specs.Hosts.{home, hosts}
 use Rattle.world_core.specs.Machine.{after, machine, signals_of, step_after}
 use Rattle.world_core.specs.Start.{Start}
 use Rattle.world_core.specs.Steps.{Addressed, HostStep}
-use Rattle.host_laws.proofs.ApiMoves.{is_api_kind}
-use Rattle.host_laws.proofs.BlocksAlong.{first_waiting, tc_layout}
-use Rattle.host_laws.proofs.DihSends.{dih_kinds}
-use Rattle.host_laws.proofs.OfLive.{each_found}
-use Rattle.host_laws.proofs.SendKinds.{each_of, is_dih_kind}
-use Rattle.host_laws.proofs.Sums.{total_one}
-use Rattle.host_laws.proofs.TcLives.{IsOwn, apart}
-use Rattle.host_laws.proofs.TcSteps.{left_of_turn}
-use Rattle.host_laws.proofs.TurnKinds.{OwnKinds, TurnOnly, own_kinds}
+use Rattle.host_laws.proofs.api.Moves.{is_api_kind}
+use Rattle.host_laws.proofs.hosts.BlocksAlong.{first_waiting, tc_layout}
+use Rattle.host_laws.proofs.hosts.DihSends.{dih_kinds}
+use Rattle.host_laws.proofs.coordinator.OfLive.{each_found}
+use Rattle.host_laws.proofs.hosts.SendKinds.{each_of, is_dih_kind}
+use Rattle.host_laws.proofs.hosts.Sums.{total_one}
+use Rattle.host_laws.proofs.coordinator.Lives.{IsOwn, apart}
+use Rattle.host_laws.proofs.coordinator.Steps.{left_of_turn}
+use Rattle.host_laws.proofs.coordinator.TurnKinds.{OwnKinds, TurnOnly, own_kinds}
 use Rattle.host_laws.specs.Live.{of_live}
 use Rattle.host_laws.specs.Ways.{back_by, sent_ways}
 use Rattle.run_laws.specs.Live.{live_at, of_host}
 use Rattle.run_laws.specs.Transit.{AreInTransit, Comes, Takes, joined, logs_of}
-use Rattle.run_laws.proofs.Addressed.{comes_below}
-use Rattle.run_laws.proofs.HomeSteps.{IsHome, all_home, away, here_now, here_was, own_home, unborn_absent}
-use Rattle.run_laws.proofs.LiveOf.{of_each}
-use Rattle.run_laws.proofs.RoutesChain.{replicas_some}
-use Rattle.run_laws.proofs.TcSound.{log_sound}
-use Rattle.run_laws.proofs.TcTokens.{IsOwned}
-use Rattle.run_laws.proofs.Transit.{along_transit}
-use Rattle.run_laws.proofs.TxTurns as turn
-use Rattle.run_laws.proofs.TxTurns.{OthersSend, TcTurn, is_for as is_for_tx, tc_turn, turn_each}
-use Rattle.run_laws.proofs.WaysPassed.{api_each}
-use Rattle.run_laws.proofs.Weighing.{in_transit, joins_weigh, takes_weigh, weigh}
+use Rattle.run_laws.proofs.routes.Addressed.{comes_below}
+use Rattle.run_laws.proofs.hosts.HomeSteps.{IsHome, all_home, away, here_now, here_was, own_home, unborn_absent}
+use Rattle.run_laws.proofs.hosts.LiveOf.{of_each}
+use Rattle.run_laws.proofs.routes.Chain.{replicas_some}
+use Rattle.run_laws.proofs.hosts.TcSound.{log_sound}
+use Rattle.run_laws.proofs.tokens.Coordinator.{IsOwned}
+use Rattle.run_laws.proofs.transit.Transit.{along_transit}
+use Rattle.run_laws.proofs.hosts.TxTurns as turn
+use Rattle.run_laws.proofs.hosts.TxTurns.{OthersSend, TcTurn, is_for as is_for_tx, tc_turn, turn_each}
+use Rattle.run_laws.proofs.ways.Passed.{api_each}
+use Rattle.run_laws.proofs.transit.Weighing.{in_transit, joins_weigh, takes_weigh, weigh}
 use Rattle.order_laws.specs.Awaited.{IsAwaited, list_length, owed_in}
 use Rattle.order_laws.specs.Unanswered.{PartsAreUnanswered, asks_on, is_on_key, is_part_on, parts_on, waiting_on}
 use Rattle.order_laws.proofs.Awaited as awaited

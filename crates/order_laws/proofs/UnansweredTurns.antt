@@ -18,7 +18,7 @@ use Rattle.sig_core.specs.Op.{key_of}
 use Rattle.sig_core.specs.Same.{same_key, same_tx}
 use Rattle.sig_core.specs.Work.{work_key}
 use Rattle.frag_map.specs.Layout.{Layout, chain_of}
-use Rattle.lqh_block.proofs.IndexLemmas as keys
+use Rattle.row_records.proofs.KeyLemmas as keys
 use Rattle.lqh_block.proofs.LqhForms.{perform_forms}
 use Rattle.lqh_block.specs.declared.request.Request.{Request}
 use Rattle.lqh_block.specs.Lqh.{lqh_table}
@@ -40,12 +40,12 @@ use Rattle.tc_block.specs.Turn.{Turn, asking}
 use Rattle.tc_block.proofs.EachTurn.{CommittedForms, IsAnswered, IsRowAnswer, TurnFormsAt, by_conf, by_ref, may_ask}
 use Rattle.tc_block.proofs.EachTurn.{ready_is, rows_at}
 use Rattle.tc_block.proofs.TurnRows.{turn_for}
-use Rattle.host_laws.proofs.PhaseSends.{HasChains, aborts_of_kind, entering_of_kind, rest_of_kind}
-use Rattle.host_laws.proofs.RequestCounts.{CountStep, asked_by, count_step, ends, is_work, performs, refuses, rests}
-use Rattle.host_laws.proofs.SendKinds.{are_of, each_of, of_map}
-use Rattle.host_laws.proofs.TcOps.{is_right}
-use Rattle.run_laws.proofs.LqhWaits.{WaitersAsk}
-use Rattle.run_laws.proofs.TxTurns.{is_for as is_for_tx, turn_each}
+use Rattle.host_laws.proofs.coordinator.PhaseSends.{HasChains, aborts_of_kind, entering_of_kind, rest_of_kind}
+use Rattle.host_laws.proofs.rows.RequestCounts.{CountStep, asked_by, count_step, ends, is_work, performs, refuses, rests}
+use Rattle.host_laws.proofs.hosts.SendKinds.{are_of, each_of, of_map}
+use Rattle.host_laws.proofs.coordinator.Operations.{is_right}
+use Rattle.run_laws.proofs.tokens.Waiting.{WaitersAsk}
+use Rattle.run_laws.proofs.hosts.TxTurns.{is_for as is_for_tx, turn_each}
 use Rattle.order_laws.specs.Awaited.{awaited_in, due, list_length}
 use Rattle.order_laws.specs.Unanswered.{is_on_key, is_part_on}
 use Rattle.order_laws.proofs.AwaitedTurns.{last_is}
@@ -198,7 +198,8 @@ module _ (tx : TxId) (key : List ℕ) where
       uncounted (Some asked) none = absurd (omega (arith, chains (key_of asked.op), none))
 
       -- the answer of the operation on its key
-      own_answer : (own : List ℕ) (asked : Asked) → IsAnswered t own asked → is_part_on tx key body ≡ (same_tx tx tx && same_key own key)
+      own_answer : (own : List ℕ) (asked : Asked) → IsAnswered t own asked
+          → is_part_on tx key body ≡ (same_tx tx tx && same_key own key)
           → one_if (is_on_key key t.asked) ≤ one_if (is_part_on tx key body)
       own_answer own asked on is =
           omega (
@@ -209,7 +210,8 @@ module _ (tx : TxId) (key : List ℕ) where
             ap (λ b. one_if (b && same_key own key)) (same_tx-self tx),
           )
 
-      row_answer : (own : List ℕ) → IsRowAnswer tx own body → is_part_on tx key body ≡ (same_tx tx tx && same_key own key)
+      row_answer : (own : List ℕ) → IsRowAnswer tx own body
+          → is_part_on tx key body ≡ (same_tx tx tx && same_key own key)
       row_answer own (by_conf answer is) = ap (is_part_on tx key) is
       row_answer own (by_ref why is) = ap (is_part_on tx key) is
 
@@ -230,7 +232,8 @@ module _ (tx : TxId) (key : List ℕ) where
             (plain_out (go_on_if node layout tx t at true).effects.sends
             (rest_of_kind is_plain layout tx plain_chains node t at (front_plain t.phase)));
         operates = λ op is can.
-            let opened = ready_is t.phase t.asked (and_parts (is_ready t.phase t.asked) (fits t.touched (key_of op)) can).0
+            let opened =
+            ready_is t.phase t.asked (and_parts (is_ready t.phase t.asked) (fits t.touched (key_of op)) can).0
             in
             asks refl opened.1 (omega (arith, ap (λ b. one_if (b && same_key (key_of op) key)) (same_tx-self tx)))
             (ap is_aborting opened.0) (refl, tt);
@@ -259,9 +262,11 @@ module _ (tx : TxId) (key : List ℕ) where
               (end_none _ (abort.is_verifying t.phase));
         };
         refuses = λ own why asked is on at. record {
-          enters = λ some. answered (own_answer own asked on (ap (is_part_on tx key) is)) (enters_none (asking t None) _);
+          enters =
+              λ some. answered (own_answer own asked on (ap (is_part_on tx key) is)) (enters_none (asking t None) _);
           ends = λ none.
-              answered (own_answer own asked on (ap (is_part_on tx key) is)) (end_none why (abort.is_verifying t.phase));
+              answered (own_answer own asked on (ap (is_part_on tx key) is))
+              (end_none why (abort.is_verifying t.phase));
         };
         aborted = λ own why verifying awaited is at more. same refl refl refl;
         aborted_all = λ own why verifying awaited is at last.

@@ -33,15 +33,15 @@ use Rattle.key_laws.specs.BackupEvents.{IsOfImage}
 use Rattle.key_laws.specs.Replica as replica
 use Rattle.key_laws.specs.Replica.{Event, Replica, aborts, ages, asks, commits, completes, expires, is_let_in, key_after}
 use Rattle.key_laws.specs.Replica.{rests, served_by, serves}
-use Rattle.host_laws.proofs.Replicas.{logs_follow}
+use Rattle.host_laws.proofs.rows.Replicas.{logs_follow}
 use Rattle.host_laws.specs.ReplicaLaws.{event_in, key_in}
 use Rattle.run_laws.specs.Circle.{at_host}
 use Rattle.run_laws.specs.Owed.{IsOwed}
 use Rattle.run_laws.specs.Routes.{primary_host, replica_host, replicas}
 use Rattle.run_laws.specs.Transit.{Comes, IsRun, logs_of}
-use Rattle.run_laws.proofs.Owing.{events_owed}
-use Rattle.run_laws.proofs.RoutesChain.{hosts_are_apart, replicas_some}
-use Rattle.run_laws.proofs.Transit.{comes, earlier}
+use Rattle.run_laws.proofs.tokens.Owing.{events_owed}
+use Rattle.run_laws.proofs.routes.Chain.{hosts_are_apart, replicas_some}
+use Rattle.run_laws.proofs.transit.Transit.{comes, earlier}
 use Rattle.order_laws.specs.LetGo.{lock_at_place}
 use Rattle.order_laws.specs.Writers.{HoldersBehindDontWait}
 use Rattle.order_laws.proofs.Attended.{first_idle, serving_along}
@@ -160,7 +160,8 @@ abbrev AsksToWrite : Event → Type 0
 AsksToWrite (asks q refused) = work_mode q.work ≡ Exclusive
 AsksToWrite event = Unit {0}
 
-writers_after : (event : Event) (r : Replica) → AsksToWrite event → AreWriters r.lock → AreWriters (key_after event r).lock
+writers_after : (event : Event) (r : Replica) → AsksToWrite event → AreWriters r.lock
+    → AreWriters (key_after event r).lock
 writers_after rests r fine was = was
 writers_after (asks q refused) r fine was =
     answered_write r q refused (asked r.lock q.tx (work_mode q.work)).lock
@@ -229,7 +230,8 @@ module _ (start : Start) (key : List ℕ) (at : ℕ) (inside : at + 1 < length (
           (writers_after (event_in key (after start h log) e.step.taken) (key_in key (after start h log))
           (owed_write (logs_of start es) (event_in key (after start h log) e.step.taken) behind
           (subst (λ k. IsOwed start (logs_of start es) key k
-          (event_in key (after start k (logs_of start es k)) e.step.taken)) here (events_owed start es e key come))) was)
+          (event_in key (after start k (logs_of start es k)) e.step.taken)) here (events_owed start es e key come)))
+          was)
 
 -- who holds a lock to write, and waits for it to write, has enough
 enough_held : (tx : TxId) (hs : List Holder) → Each (λ (h : Holder). h.mode ≡ Exclusive) hs → holds tx hs ≡ true

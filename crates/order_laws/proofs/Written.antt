@@ -38,7 +38,7 @@ use Rattle.tc_block.specs.Touched.{fits, is_on}
 use Rattle.tc_block.specs.Turn.{Turn, asking}
 use Rattle.tc_block.proofs.EachTurn.{AbortForms, TurnForms, may_ask, ready_is, rows_of}
 use Rattle.tc_block.proofs.TurnRows.{turn_for}
-use Rattle.lqh_block.proofs.IndexLemmas as keys
+use Rattle.row_records.proofs.KeyLemmas as keys
 use Rattle.node_core.proofs.HostCases.{IsTcStep, tc_step}
 use Rattle.node_core.specs.Blocks.{tc_of}
 use Rattle.node_core.specs.declared.host.Host.{Host}
@@ -50,8 +50,8 @@ use Rattle.world_core.specs.Start.{Start}
 use Rattle.world_core.specs.Steps.{Addressed, HostStep}
 use Rattle.key_laws.specs.OneKey.{ops_on}
 use Rattle.key_laws.specs.Records.{found}
-use Rattle.host_laws.proofs.OfLive.{each_found}
-use Rattle.host_laws.proofs.TcSteps.{left_of_turn}
+use Rattle.host_laws.proofs.coordinator.OfLive.{each_found}
+use Rattle.host_laws.proofs.coordinator.Steps.{left_of_turn}
 use Rattle.host_laws.specs.Live.{of_live}
 use Rattle.host_laws.specs.Ways.{back_by, sent_ways}
 use Rattle.run_laws.specs.Circle.{Agree, IsSettledFor, at_host, at_primary}
@@ -61,21 +61,21 @@ use Rattle.run_laws.specs.Live.{live_at, of_host}
 use Rattle.run_laws.specs.Routes.{replica_host, replicas}
 use Rattle.run_laws.specs.Tokens.{budget_by, is_token, tokens_in}
 use Rattle.run_laws.specs.Transit.{AreInTransit, Comes, IsRun, Passes, logs_of}
-use Rattle.run_laws.proofs.HomeSteps.{IsHome, all_home, away, here_now, here_was}
-use Rattle.run_laws.proofs.Keyed.{transactions_are_keyed}
-use Rattle.run_laws.proofs.OneAtATime.{one_at_a_time}
-use Rattle.run_laws.proofs.TcOwn.{beside_silent, others_silent}
-use Rattle.run_laws.proofs.TcSound.{log_sound}
-use Rattle.run_laws.proofs.TcTokens.{IsOwned}
-use Rattle.run_laws.proofs.TcTurns.{idle}
-use Rattle.run_laws.proofs.Transit.{comes, earlier}
-use Rattle.run_laws.proofs.TransitRuns.{runs_have_transit}
-use Rattle.run_laws.proofs.TxSignals.{is_sign}
-use Rattle.run_laws.proofs.TxTurns as turn
-use Rattle.run_laws.proofs.TxTurns.{TcTurn, is_for, tc_turn, turn_each}
-use Rattle.run_laws.proofs.VerifiedSettled.{verified_settled}
-use Rattle.run_laws.proofs.Ways.{given_more}
-use Rattle.run_laws.proofs.Weighing.{in_transit, joins_weigh, none_passes, none_weighs, weigh_none}
+use Rattle.run_laws.proofs.hosts.HomeSteps.{IsHome, all_home, away, here_now, here_was}
+use Rattle.run_laws.proofs.hosts.Keyed.{transactions_are_keyed}
+use Rattle.run_laws.proofs.tokens.OneAtATime.{one_at_a_time}
+use Rattle.run_laws.proofs.hosts.TcOwn.{beside_silent, others_silent}
+use Rattle.run_laws.proofs.hosts.TcSound.{log_sound}
+use Rattle.run_laws.proofs.tokens.Coordinator.{IsOwned}
+use Rattle.run_laws.proofs.tokens.Turns.{idle}
+use Rattle.run_laws.proofs.transit.Transit.{comes, earlier}
+use Rattle.run_laws.proofs.transit.Runs.{runs_have_transit}
+use Rattle.run_laws.proofs.fades.Signals.{is_sign}
+use Rattle.run_laws.proofs.hosts.TxTurns as turn
+use Rattle.run_laws.proofs.hosts.TxTurns.{TcTurn, is_for, tc_turn, turn_each}
+use Rattle.run_laws.proofs.circle.VerifiedSettled.{verified_settled}
+use Rattle.run_laws.proofs.ways.Ways.{given_more}
+use Rattle.run_laws.proofs.transit.Weighing.{in_transit, joins_weigh, none_passes, none_weighs, weigh_none}
 use Rattle.order_laws.specs.LetGo.{has_let_go}
 use Rattle.order_laws.specs.Records.{HasWritten, WhoCommitsHasWritten, has_record}
 use Rattle.order_laws.proofs.Askers.{asker}
@@ -143,7 +143,8 @@ module _ (node : ℕ) (layout : Layout) (tx : TxId) (u : Transaction) where
     stays = λ over is. still u is;
     goes_on = λ at over is. still u is;
     operates = λ op same can over is.
-        unless u Open (ready_is u.phase u.asked (and_parts (is_ready u.phase u.asked) (fits u.touched (key_of op)) can).0).0 refl is;
+        unless u Open (ready_is u.phase u.asked (and_parts (is_ready u.phase u.asked) (fits u.touched (key_of op))
+        can).0).0 refl is;
     answers = λ key answer asked same on at over is. unless u Open at refl is;
     late = λ key asked why verifying awaited on at over is. unless u (Aborting why verifying awaited) at refl is;
     waits = λ asked on over is. still u is;

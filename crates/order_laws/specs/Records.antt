@@ -45,7 +45,8 @@ pub record HasWritten (key : List ℕ) (t : Transaction) : Type 0 where
   pub answered : list_any (λ (op : Op × Answer). is_done op.1) (ops_on key t.ops) ≡ true
   pub touched : list_any (λ (u : Touched). is_on key u && u.written) t.touched ≡ true
 
--- a transaction whose commit was asked for, and that isn't given up, has written each key whose lock it holds behind the
+-- a transaction whose commit was asked for, and that isn't given up, has written each key whose lock it holds behind
+-- the
 -- first place
 abbrev pub WhoCommitsHasWritten : Type 0
 WhoCommitsHasWritten =

@@ -46,7 +46,8 @@ abbrev pub asks_on : List ℕ → Option Transaction → Bool
 asks_on key None = false
 asks_on key (Some t) = is_on_key key t.asked
 
--- A part of an operation is in transit or waits only where the coordinator has the transaction, with an operation on the
+-- A part of an operation is in transit or waits only where the coordinator has the transaction, with an operation on
+-- the
 -- key unanswered; and one at most.
 abbrev pub PartsAreUnanswered : Type 0
 PartsAreUnanswered =

@@ -10,3 +10,4 @@ pub mod Sets
 pub mod Starts
 pub mod State
 pub mod Suspects
+pub mod Words

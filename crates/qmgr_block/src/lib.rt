@@ -16,10 +16,7 @@ mod starts;
 mod suspects;
 
 pub use laws::{
-    last_promise_is_not_below_the_view, numbers_never_fall, proposals_are_new,
+    keeps_to_its_words, last_promise_is_not_below_the_view, numbers_never_fall, proposals_are_new,
     starts_are_not_forgotten,
 };
 pub use qmgr::Qmgr;
-
-#[cfg(test)]
-mod tests;

@@ -13,7 +13,8 @@ use Rattle.request_laws.specs.Ways.{entry_of, has_gone_back, has_gone_forth}
 -- one of them
 pub record GoesOneWay (start : Start) (member : Member) (tx : TxId) (log : List HostStep) : Type 0 where
   pub one_way : has_gone_forth start member tx log ≡ true → has_gone_back start member tx log ≡ false
-  pub forgotten : coordinator_member tx ≡ member → is_unborn (coordinator_after start member log) tx ≡ false → 1 ≤ tx.seq
+  pub forgotten : coordinator_member tx ≡ member → is_unborn (coordinator_after start member log) tx ≡ false
+      → 1 ≤ tx.seq
       → entry_of (coordinator_after start member log) tx ≡ None
       → (has_gone_forth start member tx log ≡ true) ⊎ (has_gone_back start member tx log ≡ true)
 

@@ -21,7 +21,8 @@ abbrev pub event_if : Event → Bool → Event
 event_if event true = rests
 event_if event false = event
 
--- what a signal does to the key: what it does within a view, but for fences, reports, epochs, and waits of an older view
+-- what a signal does to the key: what it does within a view, but for fences, reports, epochs, and waits of an older
+-- view
 abbrev pub event_by : List ℕ → ReplicaState → Signal → Body → Event
 event_by key s x (Membership (FenceReq proposal)) = rests
 event_by key s x (Takeover LqhTransReq) = rests

@@ -1,6 +1,7 @@
 -- Where signals about the rows of transactions go, in the view of their sender.
 --
--- Of a view three things are said of transactions: its coordinator asked for an operation of it in this view, it drives it
+-- Of a view three things are said of transactions: its coordinator asked for an operation of it in this view, it drives
+-- it
 -- there, so that it has sent commits of it, and it has given it up.
 use Rattle.std.specs.Prelude.{◌≡◌, ◌<◌, ◌⊎◌, ℕ, Bool, true, false, List, [], ◌∷◌, length, Option, None, Some}
 use Rattle.run_theory.specs.Lists.{Each}
@@ -31,7 +32,8 @@ use Rattle.lqh_block.specs.declared.request.Request.{Request}
 use Rattle.lqh_block.specs.Views.{is_coordinated}
 use Rattle.lqh_views.specs.State.{ReplicaState}
 
--- a request goes along the replicas of its key, to the rows of the one at its place: an operation to the first, an image
+-- a request goes along the replicas of its key, to the rows of the one at its place: an operation to the first, an
+-- image
 -- to each behind
 pub record IsRequestRouted (layout : Layout) (to : Place) (q : Request) : Type 0 where
   pub chain : q.chain ≡ chain_of layout (work_key q.work)
@@ -46,12 +48,14 @@ pub record IsCommitRouted (layout : Layout) (to : Place) (key : List ℕ) (chain
   pub place : to ≡ rows_of (node_at chain at)
 
 -- a completion along the replicas
-pub record IsCompletionRouted (layout : Layout) (to : Place) (key : List ℕ) (chain : List Member) (at : ℕ) : Type 0 where
-  pub along : chain ≡ chain_of layout key
-  pub inside : at < length chain
-  pub place : to ≡ rows_of (node_at chain at)
+pub record IsCompletionRouted (layout : Layout) (to : Place) (key : List ℕ) (chain : List Member) (at : ℕ) : Type 0
+  where
+    pub along : chain ≡ chain_of layout key
+    pub inside : at < length chain
+    pub place : to ≡ rows_of (node_at chain at)
 
--- what tells of the end of a transaction's part in a row goes to its coordinator where that is a full member, and else to
+-- what tells of the end of a transaction's part in a row goes to its coordinator where that is a full member, and else
+-- to
 -- the takeover of the oldest full member
 abbrev pub owner_if : List Member → TxId → Bool → Place
 owner_if full tx true = coordinator_of tx
@@ -101,7 +105,8 @@ module _ (layout : Layout) (A D : TxId → Type 0) (G : TxId → Type 0) where
   abbrev pub WaitsRouted : ReplicaState → Type 0
   WaitsRouted s = Each (λ (q : Request). IsRequestRouted layout (rows_of s.lqh.node) q × A q.tx) s.lqh.waiting
 
-  -- Of one that isn't doomed they are those of this view where none of its operations is unanswered, or the unanswered one
+  -- Of one that isn't doomed they are those of this view where none of its operations is unanswered, or the unanswered
+  -- one
   -- was asked for in this view; of one that is committed, where it is driven in this view; it isn't given up then.
   abbrev pub HasRoutesIn : CoordinatorState → TxId → Transaction → Phase → Type 0
   HasRoutesIn s tx t Open = (is_among s.doomed tx ≡ false) → ((t.asked ≡ None) ⊎ A tx) → HasRoutes layout t

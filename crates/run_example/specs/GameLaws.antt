@@ -39,4 +39,5 @@ PongsAnswerPings =
 
 -- right logs of the game, merged, are a run
 abbrev pub GameLogsRun : Type 0
-GameLogsRun = (made : ℕ → ℕ) (n : ℕ) (logs : ℕ → List Step) → IsWithin n logs → AreLogs (game made) logs → LogsRun (game made) n logs
+GameLogsRun = (made : ℕ → ℕ) (n : ℕ) (logs : ℕ → List Step) → IsWithin n logs → AreLogs (game made) logs
+    → LogsRun (game made) n logs

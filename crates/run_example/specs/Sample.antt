@@ -45,8 +45,10 @@ SampleRuns = Run (game sample_made) sample
 -- host 1 sent two pongs, of which host 0 took the first and then the closing: the second was lost
 abbrev pub SampleLosesPong : Type 0
 SampleLosesPong =
-    (sent (game sample_made) 1 0 (log_of (game sample_made) sample 1) ≡ signal 1 0 3 (Pong 8) ∷ signal 1 0 2 (Pong 7) ∷ [])
-    × (taken (game sample_made) 1 (log_of (game sample_made) sample 0) ≡ signal 1 0 4 Closed ∷ signal 1 0 2 (Pong 7) ∷ [])
+    (sent (game sample_made) 1 0 (log_of (game sample_made) sample 1)
+    ≡ signal 1 0 3 (Pong 8) ∷ signal 1 0 2 (Pong 7) ∷ [])
+    × (taken (game sample_made) 1 (log_of (game sample_made) sample 0) ≡ signal 1 0 4 Closed ∷ signal 1 0 2 (Pong 7) ∷
+    [])
 
 -- the cut that has the log of host 0 alone
 abbrev pub torn : ℕ → List Step

@@ -14,17 +14,20 @@ use Rattle.run_laws.specs.Transit.{Comes, IsRun, logs_of}
 -- no request of a transaction waits where another part of an operation of it comes, nor where it is carried out
 abbrev pub NoneWaitBeside : Type 0
 NoneWaitBeside =
-    (start : Start) (es : List HostStep) (e : HostStep) (tx : TxId) (key : List ℕ) (h : ℕ) → Comes start es e → is_request e.step.taken.body ≡ false
+    (start : Start) (es : List HostStep) (e : HostStep) (tx : TxId) (key : List ℕ) (h : ℕ) → Comes start es e
+    → is_request e.step.taken.body ≡ false
     → is_token tx e.step.taken.body ≡ true
     → NoneOf tx (at_host start (logs_of start es) key h).waiting
 
 abbrev pub NoneWaitWhereCarriedOut : Type 0
 NoneWaitWhereCarriedOut =
-    (start : Start) (es : List HostStep) (tx : TxId) (key : List ℕ) (h : ℕ) → IsRun start es → is_carried_out start (logs_of start es) tx ≡ true
+    (start : Start) (es : List HostStep) (tx : TxId) (key : List ℕ) (h : ℕ) → IsRun start es
+    → is_carried_out start (logs_of start es) tx ≡ true
     → NoneOf tx (at_host start (logs_of start es) key h).waiting
 
 -- no part of an operation of a decided transaction comes, unless that is given up
 abbrev pub ComersAreUndecided : Type 0
 ComersAreUndecided =
-    (start : Start) (es : List HostStep) (e : HostStep) (tx : TxId) → Comes start es e → is_request e.step.taken.body ≡ false → is_token tx e.step.taken.body ≡ true
+    (start : Start) (es : List HostStep) (e : HostStep) (tx : TxId) → Comes start es e
+    → is_request e.step.taken.body ≡ false → is_token tx e.step.taken.body ≡ true
     → IsUndecided start (logs_of start es) tx

@@ -30,7 +30,8 @@ use Rattle.run_laws.specs.Transit.{AreInTransit, IsRun, logs_of}
 -- one key of a host with this log, with what was answered there
 abbrev pub primary_along : Start → ℕ → List ℕ → List HostStep → AtPrimary
 primary_along start h key [] = record { replica = key_in key (started start h); made = λ v. []; ended = λ v. false }
-primary_along start h key (e ∷ log) = primary_after (event_in key (after start h log) e.step.taken) (primary_along start h key log)
+primary_along start h key (e ∷ log) =
+    primary_after (event_in key (after start h log) e.step.taken) (primary_along start h key log)
 
 -- the key at its primary
 abbrev pub at_primary : Start → (ℕ → List HostStep) → List ℕ → AtPrimary
@@ -52,14 +53,19 @@ pub record IsReplica (start : Start) (key : List ℕ) (h : ℕ) : Type 0 where
   pub inside : at < length (replicas start key)
   pub host_is : rows_host start (node_at (replicas start key) at) ≡ h
 
--- The key has what the transaction was answered: its primary made these answers, and neither committed nor aborted it; each
+-- The key has what the transaction was answered: its primary made these answers, and neither committed nor aborted it;
+-- each
 -- replica has the image of the primary, or none where that has none, which is so where no answer was `Done`.
-pub record IsSettledFor (start : Start) (logs : ℕ → List HostStep) (tx : TxId) (ops : List (Op × Answer)) (key : List ℕ) : Type 0 where
+pub record IsSettledFor (start : Start) (logs : ℕ → List HostStep) (tx : TxId) (ops : List (Op × Answer)) (key : List ℕ)
+    : Type 0 where
   pub made : (at_primary start logs key).made tx ≡ ops_on key ops
   pub alive : (at_primary start logs key).ended tx ≡ false
-  pub agreed : (h : ℕ) → IsReplica start key h → Agree (found tx (at_primary start logs key).replica.cell.pending) (found tx (at_host start logs key h).cell.pending)
+  pub agreed : (h : ℕ) → IsReplica start key h
+      → Agree (found tx (at_primary start logs key).replica.cell.pending)
+      (found tx (at_host start logs key h).cell.pending)
   pub others : (h : ℕ) → (IsReplica start key h → ⊥) → found tx (at_host start logs key h).cell.pending ≡ None
-  pub written : is_some (found tx (at_primary start logs key).replica.cell.pending) ≡ list_any (λ (op : Op × Answer). is_done op.1) (ops_on key ops)
+  pub written : is_some (found tx (at_primary start logs key).replica.cell.pending)
+      ≡ list_any (λ (op : Op × Answer). is_done op.1) (ops_on key ops)
 
 -- a transaction that waits for its epoch, and isn't given up, is settled for each key, and no operation is unanswered
 pub record IsSettled (start : Start) (logs : ℕ → List HostStep) (tx : TxId) (t : Transaction) : Type 0 where
@@ -68,8 +74,10 @@ pub record IsSettled (start : Start) (logs : ℕ → List HostStep) (tx : TxId) 
 
 abbrev pub VerifiedAreSettled : Type 0
 VerifiedAreSettled =
-    (start : Start) (es : List HostStep) (xs : List Addressed) (tx : TxId) (t : Transaction) → IsRun start es → AreInTransit start es xs
-    → is_given_up start (logs_of start es) tx ≡ false → live_at start (logs_of start es) tx ≡ Some t → t.phase ≡ Verifying
+    (start : Start) (es : List HostStep) (xs : List Addressed) (tx : TxId) (t : Transaction) → IsRun start es
+    → AreInTransit start es xs
+    → is_given_up start (logs_of start es) tx ≡ false → live_at start (logs_of start es) tx ≡ Some t
+    → t.phase ≡ Verifying
     → IsSettled start (logs_of start es) tx t
 
 -- it waits for its epoch, with these operations

@@ -15,14 +15,17 @@ use Rattle.run_laws.specs.Circle.{at_host}
 use Rattle.run_laws.specs.Routes.{primary_host}
 use Rattle.run_laws.specs.Transit.{Comes, logs_of}
 
--- no replica has a record of the transaction on the key prepared, and where one has a record the primary was marked to have
+-- no replica has a record of the transaction on the key prepared, and where one has a record the primary was marked to
+-- have
 -- applied it
 pub record IsCommittedAtAll (start : Start) (logs : ℕ → List HostStep) (tx : TxId) (key : List ℕ) : Type 0 where
   pub committed : (h : ℕ) → HasPrepared tx (at_host start logs key h).cell.pending → ⊥
-  pub applied : (h : ℕ) (r : PendingRecord) → found tx (at_host start logs key h).cell.pending ≡ Some r → has_mark (is_applied tx) (logs (primary_host start key)) ≡ true
+  pub applied : (h : ℕ) (r : PendingRecord) → found tx (at_host start logs key h).cell.pending ≡ Some r
+      → has_mark (is_applied tx) (logs (primary_host start key)) ≡ true
 
 abbrev pub CompletionsFollowCommits : Type 0
 CompletionsFollowCommits =
-    (start : Start) (es : List HostStep) (e : HostStep) (tx : TxId) (key : List ℕ) (chain : List Member) (at : ℕ) → Comes start es e
+    (start : Start) (es : List HostStep) (e : HostStep) (tx : TxId) (key : List ℕ) (chain : List Member) (at : ℕ)
+    → Comes start es e
     → e.step.taken.body ≡ Chain (Complete tx key chain at)
     → IsCommittedAtAll start (logs_of start es) tx key

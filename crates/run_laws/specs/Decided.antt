@@ -12,6 +12,7 @@ use Rattle.run_laws.specs.Transit.{Comes, logs_of}
 -- where a commit comes, the transaction was decided at the node of its coordinator
 abbrev pub CommitsAreDecided : Type 0
 CommitsAreDecided =
-    (start : Start) (es : List HostStep) (e : HostStep) (tx : TxId) (key : List ℕ) (epoch : ℕ) (chain : List Member) (at : ℕ) → Comes start es e
+    (start : Start) (es : List HostStep) (e : HostStep) (tx : TxId) (key : List ℕ) (epoch : ℕ) (chain : List Member)
+    (at : ℕ) → Comes start es e
     → e.step.taken.body ≡ Chain (Commit tx key epoch chain at)
     → is_decided start (logs_of start es) tx ≡ true

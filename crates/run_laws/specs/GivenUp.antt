@@ -23,24 +23,28 @@ is_carried_out start logs tx = list_any (same_tx tx) (sent_ways start forth_by (
 
 -- none is both
 abbrev pub NoneIsBoth : Type 0
-NoneIsBoth = (start : Start) (logs : ℕ → List HostStep) (tx : TxId) → is_carried_out start logs tx ≡ true → is_given_up start logs tx ≡ false
+NoneIsBoth = (start : Start) (logs : ℕ → List HostStep) (tx : TxId) → is_carried_out start logs tx ≡ true
+    → is_given_up start logs tx ≡ false
 
 -- a row is aborted of a transaction that is given up
 abbrev pub AbortsAreOfGivenUp : Type 0
 AbortsAreOfGivenUp =
-    (start : Start) (es : List HostStep) (e : HostStep) (tx : TxId) (key : List ℕ) → Comes start es e → e.step.taken.body ≡ Chain (Abort tx key)
+    (start : Start) (es : List HostStep) (e : HostStep) (tx : TxId) (key : List ℕ) → Comes start es e
+    → e.step.taken.body ≡ Chain (Abort tx key)
     → is_given_up start (logs_of start es) tx ≡ true
 
 -- and committed or completed of one that is carried out
 abbrev pub CommitsAreOfCarriedOut : Type 0
 CommitsAreOfCarriedOut =
-    (start : Start) (es : List HostStep) (e : HostStep) (tx : TxId) (key : List ℕ) (epoch : ℕ) (chain : _) (at : ℕ) → Comes start es e
+    (start : Start) (es : List HostStep) (e : HostStep) (tx : TxId) (key : List ℕ) (epoch : ℕ) (chain : _) (at : ℕ)
+    → Comes start es e
     → e.step.taken.body ≡ Chain (Commit tx key epoch chain at)
     → is_carried_out start (logs_of start es) tx ≡ true
 
 abbrev pub CompletionsAreOfCarriedOut : Type 0
 CompletionsAreOfCarriedOut =
-    (start : Start) (es : List HostStep) (e : HostStep) (tx : TxId) (key : List ℕ) (chain : _) (at : ℕ) → Comes start es e
+    (start : Start) (es : List HostStep) (e : HostStep) (tx : TxId) (key : List ℕ) (chain : _) (at : ℕ)
+    → Comes start es e
     → e.step.taken.body ≡ Chain (Complete tx key chain at)
     → is_carried_out start (logs_of start es) tx ≡ true
 
@@ -48,5 +52,6 @@ CompletionsAreOfCarriedOut =
 abbrev pub KeptAreNotGivenUp : Type 0
 KeptAreNotGivenUp =
     (start : Start) (es : List HostStep) (tx : TxId) → IsRun start es
-    → (have_mark (is_applied tx) (hosts start) (logs_of start es) || have_mark (is_reported tx) (hosts start) (logs_of start es)) ≡ true
+    → (have_mark (is_applied tx) (hosts start) (logs_of start es) || have_mark (is_reported tx) (hosts start)
+    (logs_of start es)) ≡ true
     → is_given_up start (logs_of start es) tx ≡ false

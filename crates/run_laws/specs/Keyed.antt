@@ -36,7 +36,8 @@ HasTouchedAsked touched (Some asked) = HasTouched touched (key_of asked.op)
 abbrev pub IsWrittenRightly : List (Op × Answer) → Touched → Type 0
 IsWrittenRightly ops t = t.written ≡ list_any (λ (op : Op × Answer). is_done op.1) (ops_on t.key ops)
 
--- No key was touched twice, that of each operation that was answered or is unanswered was, and what was written is known.
+-- No key was touched twice, that of each operation that was answered or is unanswered was, and what was written is
+-- known.
 pub record IsTouchedRightly (t : Transaction) : Type 0 where
   pub apart : AreApart t.touched
   pub answered : Each (λ (op : Op × Answer). HasTouched t.touched (key_of op.0)) t.ops
@@ -48,4 +49,5 @@ IsHostKeyed host = Each (λ (e : TxId × Transaction). IsTouchedRightly e.1) (tc
 
 -- so it is of each transaction that a coordinator has
 abbrev pub TransactionsAreKeyed : Type 0
-TransactionsAreKeyed = (start : Start) (es : List HostStep) (h : ℕ) → IsRun start es → IsHostKeyed (host_after start es h)
+TransactionsAreKeyed =
+    (start : Start) (es : List HostStep) (h : ℕ) → IsRun start es → IsHostKeyed (host_after start es h)

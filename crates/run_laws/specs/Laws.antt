@@ -35,12 +35,14 @@ pub record IsClosedCut (start : Start) (inside logs : ℕ → List HostStep) : T
 -- epochs never fall along the history of a closed cut
 abbrev pub EpochsNeverFall : Type 0
 EpochsNeverFall =
-    (start : Start) (inside logs : ℕ → List HostStep) → IsClosedCut start inside logs → AreEpochsOrdered (history (hosts start) inside)
+    (start : Start) (inside logs : ℕ → List HostStep) → IsClosedCut start inside logs
+    → AreEpochsOrdered (history (hosts start) inside)
 
 -- nobody installs another view than the first one, which is viable
 abbrev pub GreatestViewIsFirst : Type 0
 GreatestViewIsFirst =
-    (start : Start) (inside logs : ℕ → List HostStep) → IsClosedCut start inside logs → greatest_view start inside ≡ first_view start.shape.nodes
+    (start : Start) (inside logs : ℕ → List HostStep) → IsClosedCut start inside logs
+    → greatest_view start inside ≡ first_view start.shape.nodes
 
 abbrev pub GreatestViewIsViable : Type 0
 GreatestViewIsViable =
@@ -61,15 +63,18 @@ CommitsAreOfDecided =
     → e.step.taken.body ≡ Chain (Commit tx key epoch chain at)
     → IsDecidedBelow inside tx e.step.stamp
 
--- What is left of the serial law of a closed cut, key by key: the history is right for each key, and where a key is at rest
+-- What is left of the serial law of a closed cut, key by key: the history is right for each key, and where a key is at
+-- rest
 -- each live replica has the row that the history leaves.
 pub record AreKeysRight (start : Start) (inside : ℕ → List HostStep) : Type 0 where
   pub right : (key : List ℕ) → IsRightAt key (map.get (rows_of start.rows) key) (history (hosts start) inside)
   pub rows : (key : List ℕ) → IsAtRest start inside key → (member : Member) → IsLiveReplica start inside key member
-      → row_in start inside member.node key ≡ row_at_end key (map.get (rows_of start.rows) key) (history (hosts start) inside)
+      → row_in start inside member.node key
+      ≡ row_at_end key (map.get (rows_of start.rows) key) (history (hosts start) inside)
 
 -- with that the cut is serial
 abbrev pub KeysMakeSerial : Type 0
 KeysMakeSerial =
-    (start : Start) (inside logs : ℕ → List HostStep) → IsShape start.shape → IsClosedCut start inside logs → AreKeysRight start inside
+    (start : Start) (inside logs : ℕ → List HostStep) → IsShape start.shape → IsClosedCut start inside logs
+    → AreKeysRight start inside
     → IsSerial start inside

@@ -42,20 +42,25 @@ pub record IsForReplica (start : Start) (key : List ℕ) (h : ℕ) (q : Request)
   pub operation : h ≡ primary_host start key → IsOperation q
   pub image : h ≢ primary_host start key → IsImage q
 
--- Requests of a transaction come one at a time, and of none that is decided; a commit of one that is, to the primary last; a
+-- Requests of a transaction come one at a time, and of none that is decided; a commit of one that is, to the primary
+-- last; a
 -- completion when all replicas have committed; an abort of a transaction that is given up.
 abbrev pub IsOwed : Start → (ℕ → List HostStep) → List ℕ → ℕ → Event → Type 0
-IsOwed start logs key h (asks q refused) = IsForReplica start key h q × (NoneOf q.tx (at_host start logs key h).waiting × IsUndecided start logs q.tx)
-IsOwed start logs key h (commits tx true) = (h ≡ primary_host start key) × (NoneOf tx (at_host start logs key h).waiting × IsCarriedOut start logs tx)
+IsOwed start logs key h (asks q refused) =
+    IsForReplica start key h q × (NoneOf q.tx (at_host start logs key h).waiting × IsUndecided start logs q.tx)
+IsOwed start logs key h (commits tx true) =
+    (h ≡ primary_host start key) × (NoneOf tx (at_host start logs key h).waiting × IsCarriedOut start logs tx)
 IsOwed start logs key h (commits tx false) = (h ≢ primary_host start key) × IsCarriedOut start logs tx
-IsOwed start logs key h (completes tx) = NoneOf tx (at_host start logs key h).waiting × IsCommittedAtAll start logs tx key
+IsOwed start logs key h (completes tx) =
+    NoneOf tx (at_host start logs key h).waiting × IsCommittedAtAll start logs tx key
 IsOwed start logs key h (aborts tx) = is_given_up start logs tx ≡ true
 IsOwed start logs key h event = Unit {0}
 
 abbrev pub EventsAreOwed : Type 0
 EventsAreOwed =
     (start : Start) (es : List HostStep) (e : HostStep) (key : List ℕ) → Comes start es e
-    → IsOwed start (logs_of start es) key e.host (event_in key (after start e.host (logs_of start es e.host)) e.step.taken)
+    → IsOwed start (logs_of start es) key e.host
+    (event_in key (after start e.host (logs_of start es e.host)) e.step.taken)
 
 -- who waits at a replica isn't decided
 abbrev pub WaitersAreUndecided : Type 0
@@ -63,7 +68,8 @@ WaitersAreUndecided =
     (start : Start) (es : List HostStep) (key : List ℕ) (h : ℕ) → IsRun start es
     → Each (λ (q : Request). IsUndecided start (logs_of start es) q.tx) (at_host start (logs_of start es) key h).waiting
 
--- what a decision finds: the request for the epoch came to the coordinator's node, and the transaction is settled for each key
+-- what a decision finds: the request for the epoch came to the coordinator's node, and the transaction is settled for
+-- each key
 pub record IsDecidedWith (start : Start) (logs : ℕ → List HostStep) (e : HostStep) (tx : TxId) : Type 0 where
   pub ops : List (Op × Answer)
   pub request : e.step.taken.body ≡ Epoch (DiVerifyReq tx ops)
@@ -72,6 +78,7 @@ pub record IsDecidedWith (start : Start) (logs : ℕ → List HostStep) (e : Hos
 
 abbrev pub DecidedAreSettled : Type 0
 DecidedAreSettled =
-    (start : Start) (es : List HostStep) (e : HostStep) (tx : TxId) → Comes start es e → list_any (is_decision tx) e.step.marks ≡ true
+    (start : Start) (es : List HostStep) (e : HostStep) (tx : TxId) → Comes start es e
+    → list_any (is_decision tx) e.step.marks ≡ true
     → is_given_up start (logs_of start es) tx ≡ false
     → IsDecidedWith start (logs_of start es) e tx

@@ -43,7 +43,8 @@ pub record Passes (start : Start) (es : List HostStep) (e : HostStep) (before af
 -- after these events these signals are in transit
 abbrev pub AreInTransit : Start → List HostStep → List Addressed → Type 0
 AreInTransit start [] xs = xs ≡ []
-AreInTransit start (e ∷ es) xs = (before : List Addressed) × (AreInTransit start es before × Passes start es e before xs)
+AreInTransit start (e ∷ es) xs =
+    (before : List Addressed) × (AreInTransit start es before × Passes start es e before xs)
 
 -- a run of the hosts that there are
 pub record IsRun (start : Start) (es : List HostStep) : Type 0 where
@@ -59,7 +60,8 @@ pub record Comes (start : Start) (es : List HostStep) (e : HostStep) : Type 0 wh
 
 -- after every run of the hosts some signals are in transit
 abbrev pub RunsHaveTransit : Type 0
-RunsHaveTransit = (start : Start) (es : List HostStep) → IsRun start es → (xs : List Addressed) × AreInTransit start es xs
+RunsHaveTransit =
+    (start : Start) (es : List HostStep) → IsRun start es → (xs : List Addressed) × AreInTransit start es xs
 
 -- the host after its part of these events
 abbrev pub host_after : Start → List HostStep → ℕ → Host

@@ -16,33 +16,40 @@ module _ {E X : Type 0} (m : Machine E X) where
 
   taken_after : (i : ℕ) (newer log : List E) → IsPast (taken m i log) (taken m i (newer ++ log))
   taken_after i [] log = past_self (taken m i log)
-  taken_after i (e ∷ newer) log = past_trans (taken_after i newer log) (maybe_taken (is_from m i e) (m.signal e) (taken m i (newer ++ log)))
+  taken_after i (e ∷ newer) log =
+      past_trans (taken_after i newer log) (maybe_taken (is_from m i e) (m.signal e) (taken m i (newer ++ log)))
 
   -- what was taken by an older part of a log is an older part of what was taken
   pub taken_past : (i : ℕ) {log all : List E} → IsPast log all → IsPast (taken m i log) (taken m i all)
   taken_past i {log} p = subst (λ w. IsPast (taken m i log) (taken m i w)) (sym p.is) (taken_after i p.newer log)
 
   -- a step whose stamp isn't above the last one of an older part lies in that part
-  step_inside : (newer log before : List E) (step : E) → IsLog m 0 (newer ++ log) → m.stamp step ≤ last m 0 log → IsPast (step ∷ before) (newer ++ log) → IsPast (step ∷ before) log
+  step_inside : (newer log before : List E) (step : E) → IsLog m 0 (newer ++ log) → m.stamp step ≤ last m 0 log
+      → IsPast (step ∷ before) (newer ++ log) → IsPast (step ∷ before) log
   step_inside [] log before step l below p = p
-  step_inside (e ∷ newer) log before step l below p = go (λ q. step_inside newer log before step l.1 below q) (past_cases e p)
+  step_inside (e ∷ newer) log before step l below p =
+      go (λ q. step_inside newer log before step l.1 below q) (past_cases e p)
     where
-      go : (IsPast (step ∷ before) (newer ++ log) → IsPast (step ∷ before) log) → (e ∷ (newer ++ log) ≡ step ∷ before) ⊎ IsPast (step ∷ before) (newer ++ log) → IsPast (step ∷ before) log
+      go : (IsPast (step ∷ before) (newer ++ log) → IsPast (step ∷ before) log)
+          → (e ∷ (newer ++ log) ≡ step ∷ before) ⊎ IsPast (step ∷ before) (newer ++ log) → IsPast (step ∷ before) log
       go rest (inl is) =
           let same : e ≡ step = cc in
           absurd (omega (arith, ap m.stamp same, last_after m 0 newer log l.1, step_above m 0 (newer ++ log) e l.0))
       go rest (inr q) = rest q
 
-  pub made_inside : (h : ℕ) {log all : List E} → IsPast log all → IsLog m 0 all → m.made h ≤ last m 0 log → IsMade m h all → IsMade m h log
+  pub made_inside : (h : ℕ) {log all : List E} → IsPast log all → IsLog m 0 all → m.made h ≤ last m 0 log
+      → IsMade m h all → IsMade m h log
   made_inside h {log} p l below d = record {
     step = d.step;
     before = d.before;
-    past = step_inside p.newer log d.before d.step (subst (IsLog m 0) p.is l) (omega (arith, d.at)) (subst (IsPast (d.step ∷ d.before)) p.is d.past);
+    past = step_inside p.newer log d.before d.step (subst (IsLog m 0) p.is l) (omega (arith, d.at))
+        (subst (IsPast (d.step ∷ d.before)) p.is d.past);
     at = d.at;
     makes = d.makes;
   }
 
-  there_inside : (h : ℕ) {log all : List E} → IsPast log all → IsLog m 0 all → m.made h ≤ last m 0 log → IsThere m h all → IsThere m h log
+  there_inside : (h : ℕ) {log all : List E} → IsPast log all → IsLog m 0 all → m.made h ≤ last m 0 log → IsThere m h all
+      → IsThere m h log
   there_inside h p l below (inl z) = inl z
   there_inside h p l below (inr d) = inr (made_inside h p l below d)
 
@@ -53,14 +60,18 @@ module _ {E X : Type 0} (m : Machine E X) where
       (omega (arith, d.at, last_after m 0 d.past.newer (d.step ∷ d.before) (subst (IsLog m 0) d.past.is l)))
 
   module _ (stamped : IsStamped m) where
-    linked_inside : (inside logs : ℕ → List E) (i j : ℕ) → AreLogs m logs → IsCut inside logs → IsClosed m inside → IsGiven m i j (inside i) (taken m i (inside j))
+    linked_inside : (inside logs : ℕ → List E) (i j : ℕ) → AreLogs m logs → IsCut inside logs → IsClosed m inside
+        → IsGiven m i j (inside i) (taken m i (inside j))
     linked_inside inside logs i j a cut closed =
         let past = cut i in
-        given_after m stamped i j past.newer (inside i) (taken m i (inside j)) (subst (IsLog m i) past.is (a.local i)) (closed.signals i j)
-        (subst (λ w. IsGiven m i j w (taken m i (inside j))) past.is (given_less m i j (logs i) (taken_past i (cut j)) (a.linked i j)))
+        given_after m stamped i j past.newer (inside i) (taken m i (inside j)) (subst (IsLog m i) past.is (a.local i))
+        (closed.signals i j)
+        (subst (λ w. IsGiven m i j w (taken m i (inside j))) past.is
+        (given_less m i j (logs i) (taken_past i (cut j)) (a.linked i j)))
 
     -- a closed cut of right logs is right logs
-    pub logs_of_closed : (inside logs : ℕ → List E) → AreLogs m logs → IsCut inside logs → IsClosed m inside → AreLogs m inside
+    pub logs_of_closed : (inside logs : ℕ → List E) → AreLogs m logs → IsCut inside logs → IsClosed m inside
+        → AreLogs m inside
     logs_of_closed inside logs a cut closed = record {
       local = λ h. log_past m h (cut h) (a.local h);
       there = λ h has. there_inside h (cut 0) (a.local 0) (closed.hosts h has) (a.there h (entry_past (cut h) has));

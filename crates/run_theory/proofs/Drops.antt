@@ -24,7 +24,8 @@ module _ {E X : Type 0} (m : Machine E X) where
   whole-runs i j left [] runs = refl
   whole-runs i j left (e ∷ log) runs = if_false (m.closing i log e j ∷ left) (sent m i j (e ∷ log)) runs
 
-  whole-stops : (i j : ℕ) (left : List X) (e : E) (log : List E) → m.stops e ≡ true → whole i j left (e ∷ log) ≡ m.closing i log e j ∷ left
+  whole-stops : (i j : ℕ) (left : List X) (e : E) (log : List E) → m.stops e ≡ true
+      → whole i j left (e ∷ log) ≡ m.closing i log e j ∷ left
   whole-stops i j left e log stops = if_true (m.closing i log e j ∷ left) (sent m i j (e ∷ log)) stops
 
   -- what a stop leaves is some of what was sent, and serves for all that was taken
@@ -37,12 +38,14 @@ module _ {E X : Type 0} (m : Machine E X) where
   ServesStop i j left (e ∷ log) had = m.stops e ≡ true → Serves i j left e log had
 
   -- what was taken is an older part of the whole
-  had_whole : (i j : ℕ) (left : List X) (log : List E) (had : List X) → ServesStop i j left log had → IsGiven m i j log had → IsPast had (whole i j left log)
+  had_whole : (i j : ℕ) (left : List X) (log : List E) (had : List X) → ServesStop i j left log had
+      → IsGiven m i j log had → IsPast had (whole i j left log)
   had_whole i j left [] had serves (inl p) = p
   had_whole i j left [] had serves (inr c) = absurd c
   had_whole i j left (e ∷ log) had serves g = go (cases_Bool (m.stops e)) g
     where
-      go : (m.stops e ≡ true) ⊎ (m.stops e ≡ false) → IsGiven m i j (e ∷ log) had → IsPast had (whole i j left (e ∷ log))
+      go : (m.stops e ≡ true) ⊎ (m.stops e ≡ false) → IsGiven m i j (e ∷ log) had
+          → IsPast had (whole i j left (e ∷ log))
       go (inl stop) g = subst (IsPast had) (sym (whole-stops i j left e log stop)) (serves stop).gave
       go (inr run) (inl p) = subst (IsPast had) (sym (whole-runs i j left (e ∷ log) run)) p
       go (inr run) (inr c) = absurd (cc (run, c.stops))
@@ -52,7 +55,8 @@ module _ {E X : Type 0} (m : Machine E X) where
   AllServe left es = (i j : ℕ) → ServesStop i j (left i j) (log_of m es i) (taken m i (log_of m es j))
 
   -- it serves one event before: a host that had stopped then made no more steps
-  serves_taken : (es : List E) (e : E) (left : List X) (i j : ℕ) (had : List X) → Happens m es e → ServesStop i j left (log_of m (e ∷ es) i) had → ServesStop i j left (log_of m es i) had
+  serves_taken : (es : List E) (e : E) (left : List X) (i j : ℕ) (had : List X) → Happens m es e
+      → ServesStop i j left (log_of m (e ∷ es) i) had → ServesStop i j left (log_of m es i) had
   serves_taken es e left i j had happens serves = go (cases_eq (m.host e) i)
     where
       still : (log : List E) → IsRunning m log → ServesStop i j left log had
@@ -63,51 +67,71 @@ module _ {E X : Type 0} (m : Machine E X) where
       go (inl at) = still (log_of m es i) (subst (λ k. IsRunning m (log_of m es k)) at happens.step.runs)
       go (inr at) = subst (λ w. ServesStop i j left w had) (log_of-other m e es i at) serves
 
-  serves_less : (i j : ℕ) (left : List X) (log : List E) {had more : List X} → IsPast had more → ServesStop i j left log more → ServesStop i j left log had
+  serves_less : (i j : ℕ) (left : List X) (log : List E) {had more : List X} → IsPast had more
+      → ServesStop i j left log more → ServesStop i j left log had
   serves_less i j left [] p serves = tt
-  serves_less i j left (e ∷ log) p serves = λ stop. record { past = (serves stop).past; gave = past_trans p (serves stop).gave }
+  serves_less i j left (e ∷ log) p serves = λ stop. record {
+    past = (serves stop).past;
+    gave = past_trans p (serves stop).gave;
+  }
 
   -- what waits in the channels after a run
-  waits : (es : List E) (left : ℕ → ℕ → List X) → Run m es → AllServe left es → (i j : ℕ) → IsPast (taken m i (log_of m es j)) (whole i j (left i j) (log_of m es i))
-  waits es left run serves i j = had_whole i j (left i j) (log_of m es i) (taken m i (log_of m es j)) (serves i j) ((logs_of_run m es run).linked i j)
+  waits : (es : List E) (left : ℕ → ℕ → List X) → Run m es → AllServe left es → (i j : ℕ)
+      → IsPast (taken m i (log_of m es j)) (whole i j (left i j) (log_of m es i))
+  waits es left run serves i j = had_whole i j (left i j) (log_of m es i) (taken m i (log_of m es j)) (serves i j)
+      ((logs_of_run m es run).linked i j)
 
   -- and what waits once the next event has taken its signal
-  waits_between : (es : List E) (e : E) (left : ℕ → ℕ → List X) → Run m es → Happens m es e → AllServe left (e ∷ es) → (i j : ℕ) → IsPast (taken m i (log_of m (e ∷ es) j)) (whole i j (left i j) (log_of m es i))
+  waits_between : (es : List E) (e : E) (left : ℕ → ℕ → List X) → Run m es → Happens m es e → AllServe left (e ∷ es)
+      → (i j : ℕ) → IsPast (taken m i (log_of m (e ∷ es) j)) (whole i j (left i j) (log_of m es i))
   waits_between es e left run happens serves i j =
       let had = taken m i (log_of m (e ∷ es) j) in
-      had_whole i j (left i j) (log_of m es i) had (serves_taken es e (left i j) i j had happens (serves i j)) (given_taken m es e i j happens ((logs_of_run m es run).linked i j))
+      had_whole i j (left i j) (log_of m es i) had (serves_taken es e (left i j) i j had happens (serves i j))
+      (given_taken m es e i j happens ((logs_of_run m es run).linked i j))
 
-  all_serve_before : (es : List E) (e : E) (left : ℕ → ℕ → List X) → Happens m es e → AllServe left (e ∷ es) → AllServe left es
+  all_serve_before : (es : List E) (e : E) (left : ℕ → ℕ → List X) → Happens m es e → AllServe left (e ∷ es)
+      → AllServe left es
   all_serve_before es e left happens serves i j =
       let had = taken m i (log_of m (e ∷ es) j) in
-      serves_less i j (left i j) (log_of m es i) (taken_past m i (log_of-past m e es j)) (serves_taken es e (left i j) i j had happens (serves i j))
+      serves_less i j (left i j) (log_of m es i) (taken_past m i (log_of-past m e es j))
+      (serves_taken es e (left i j) i j had happens (serves i j))
 
   -- two lists in front of the same one
   takes_between : (es : List E) (e : E) (left : ℕ → ℕ → List X) (i j : ℕ)
-      → (p : IsPast (taken m i (log_of m es j)) (whole i j (left i j) (log_of m es i))) (q : IsPast (taken m i (log_of m (e ∷ es) j)) (whole i j (left i j) (log_of m es i)))
+      → (p : IsPast (taken m i (log_of m es j)) (whole i j (left i j) (log_of m es i)))
+      (q : IsPast (taken m i (log_of m (e ∷ es) j)) (whole i j (left i j) (log_of m es i)))
       → p.newer ≡ q.newer ++ took m i j e
   takes_between es e left i j p q =
       let had = taken m i (log_of m es j) in
       append_cancel_right p.newer (q.newer ++ took m i j e) had
-      (sym p.is ∙ (q.is ∙ (ap (λ w. q.newer ++ w) (taken-next m es e i j) ∙ sym (append_assoc q.newer (took m i j e) had))))
+      (sym p.is ∙ (q.is ∙ (ap (λ w. q.newer ++ w) (taken-next m es e i j) ∙ sym
+      (append_assoc q.newer (took m i j e) had))))
 
   module _ (stamped : IsStamped m) where
     -- the signals of a host that stops don't hold the closing
-    no_closing : (i j : ℕ) (e : E) (log : List E) (had left : List X) → IsLog m i (e ∷ log) → IsPast had (sent m i j log) → had ≡ m.closing i log e j ∷ left → ⊥
+    no_closing : (i j : ℕ) (e : E) (log : List E) (had left : List X) → IsLog m i (e ∷ log)
+        → IsPast had (sent m i j log) → had ≡ m.closing i log e j ∷ left → ⊥
     no_closing i j e log had left l p is =
-        let inside : IsIn (m.closing i log e j) (sent m i j log) = in_past (m.closing i log e j) p (subst (IsIn (m.closing i log e j)) (sym is) (inl refl)) in
-        let below : m.sent_at (m.closing i log e j) ≤ last m i log = each_in (λ y. m.sent_at y ≤ last m i log) (m.closing i log e j) (sent m i j log) (sent_below m stamped i j log l.1) inside in
+        let inside : IsIn (m.closing i log e j) (sent m i j log) =
+        in_past (m.closing i log e j) p (subst (IsIn (m.closing i log e j)) (sym is) (inl refl)) in
+        let below : m.sent_at (m.closing i log e j)
+        ≤ last m i log = each_in (λ y. m.sent_at y ≤ last m i log) (m.closing i log e j) (sent m i j log)
+        (sent_below m stamped i j log l.1) inside in
         omega (arith, below, stamped.closing i log e j, step_above m i log e l.0)
 
     -- the channel of a host that stops keeps what is left, and is closed
-    drops_at : (i j : ℕ) (e : E) (log : List E) (left had between after : List X) → IsLog m i (e ∷ log) → m.stops e ≡ true → Serves i j left e log had
+    drops_at : (i j : ℕ) (e : E) (log : List E) (left had between after : List X) → IsLog m i (e ∷ log)
+        → m.stops e ≡ true → Serves i j left e log had
         → sent m i j log ≡ between ++ had → m.closing i log e j ∷ left ≡ after ++ had → Drops m i log e j between after
-    drops_at i j e log left had between [] l stop serves is is' = absurd (no_closing i j e log had left l (record { newer = between; is = is }) (sym is'))
+    drops_at i j e log left had between [] l stop serves is is' =
+        absurd (no_closing i j e log had left l (record { newer = between; is = is }) (sym is'))
     drops_at i j e log left had between (x ∷ kept) l stop serves is is' =
         let same : x ≡ m.closing i log e j = cc (is') in
         let rest : left ≡ kept ++ had = cc (is') in
         let p = serves.past in
-        let all : between ++ had ≡ (p.newer ++ kept) ++ had = sym is ∙ (sym (sent-stops m i j log e stop) ∙ (p.is ∙ (ap (λ w. p.newer ++ w) rest ∙ sym (append_assoc p.newer kept had)))) in
+        let all : between ++ had ≡ (p.newer ++ kept)
+        ++ had = sym is ∙ (sym (sent-stops m i j log e stop) ∙
+        (p.is ∙ (ap (λ w. p.newer ++ w) rest ∙ sym (append_assoc p.newer kept had)))) in
         record {
           kept = kept;
           past = record { newer = p.newer; is = append_cancel_right between (p.newer ++ kept) had all };
@@ -115,10 +139,12 @@ module _ {E X : Type 0} (m : Machine E X) where
         }
 
     runs_at : (i j : ℕ) (e : E) (log : List E) (had between after : List X) → m.stops e ≡ false
-        → sent m i j log ≡ between ++ had → sent m i j (e ∷ log) ≡ after ++ had → after ≡ put m j (m.sends i log e) between
+        → sent m i j log ≡ between ++ had → sent m i j (e ∷ log) ≡ after ++ had
+        → after ≡ put m j (m.sends i log e) between
     runs_at i j e log had between after run is is' =
         append_cancel_right after (put m j (m.sends i log e) between) had
-        (sym is' ∙ (sent-runs m i j log e run ∙ (ap (put m j (m.sends i log e)) is ∙ put-append m j (m.sends i log e) between had)))
+        (sym is' ∙ (sent-runs m i j log e run ∙ (ap (put m j (m.sends i log e)) is ∙ put-append m j (m.sends i log e)
+        between had)))
 
     puts_at : (es : List E) (e : E) (left : ℕ → ℕ → List X) → Run m (e ∷ es) → AllServe left (e ∷ es)
         → (q : (i j : ℕ) → IsPast (taken m i (log_of m (e ∷ es) j)) (whole i j (left i j) (log_of m es i)))
@@ -156,11 +182,13 @@ module _ {E X : Type 0} (m : Machine E X) where
 
         stops : m.stops e ≡ true → (j : ℕ) → Drops m h log e j (q h j).newer (r h j).newer
         stops stop j =
-            let serve : Serves h j (left h j) e log (had j) = subst (λ w. ServesStop h j (left h j) w (had j)) own (serves h j) stop in
+            let serve : Serves h j (left h j) e log (had j) =
+            subst (λ w. ServesStop h j (left h j) w (had j)) own (serves h j) stop in
             drops_at h j e log (left h j) (had j) (q h j).newer (r h j).newer l stop serve (before j)
             (sym (whole-stops h j (left h j) e log stop) ∙ (ap (whole h j (left h j)) (sym own) ∙ (r h j).is))
 
-    leads_of_run : (es : List E) (left : ℕ → ℕ → List X) (run : Run m es) (serves : AllServe left es) → Leads m es (λ i j. (waits es left run serves i j).newer)
+    leads_of_run : (es : List E) (left : ℕ → ℕ → List X) (run : Run m es) (serves : AllServe left es)
+        → Leads m es (λ i j. (waits es left run serves i j).newer)
     leads_of_run [] left run serves = λ i j. none (waits [] left run serves i j)
       where
         none : (p : IsPast {A = X} [] []) → p.newer ≡ []
@@ -190,16 +218,25 @@ module _ {E X : Type 0} (m : Machine E X) where
     plan i j [] had (inr c) = absurd c
     plan i j (e ∷ log) had (inr c) = c.rest
 
-    plan_serves : (i j : ℕ) (log : List E) (had : List X) (g : IsGiven m i j log had) → ServesStop i j (plan i j log had g) log had
+    plan_serves : (i j : ℕ) (log : List E) (had : List X) (g : IsGiven m i j log had)
+        → ServesStop i j (plan i j log had g) log had
     unfolding plan
     plan_serves i j [] had g = tt
-    plan_serves i j (e ∷ log) had (inl p) = λ stop. record { past = past_self (sent m i j (e ∷ log)); gave = past_more (m.closing i log e j) p }
-    plan_serves i j (e ∷ log) had (inr c) = λ stop. record { past = c.past; gave = subst (λ w. IsPast w (m.closing i log e j ∷ c.rest)) (sym c.is) (past_self (m.closing i log e j ∷ c.rest)) }
+    plan_serves i j (e ∷ log) had (inl p) = λ stop. record {
+      past = past_self (sent m i j (e ∷ log));
+      gave = past_more (m.closing i log e j) p;
+    }
+    plan_serves i j (e ∷ log) had (inr c) = λ stop. record {
+      past = c.past;
+      gave = subst (λ w. IsPast w (m.closing i log e j ∷ c.rest)) (sym c.is)
+          (past_self (m.closing i log e j ∷ c.rest));
+    }
 
     -- the machine with channels admits every run
     pub channels_of_run : (es : List E) → Run m es → Admits m es
     channels_of_run es run =
         let a = logs_of_run m es run in
         let left : ℕ → ℕ → List X = λ i j. plan i j (log_of m es i) (taken m i (log_of m es j)) (a.linked i j) in
-        let serves : AllServe left es = λ i j. plan_serves i j (log_of m es i) (taken m i (log_of m es j)) (a.linked i j) in
+        let serves : AllServe left es =
+        λ i j. plan_serves i j (log_of m es i) (taken m i (log_of m es j)) (a.linked i j) in
         (λ i j. (waits es left run serves i j).newer, leads_of_run es left run serves)

@@ -16,14 +16,16 @@ each_drop P (suc n) [] all = tt
 each_drop P (suc n) (x ∷ xs) all = each_drop P n xs all.1
 
 pub each_removed : {A : Type 0} (P : A → Type 0) (xs : List A) (at : ℕ) → Each P xs → Each P (remove xs at)
-each_removed P xs at all = each_append P (take at xs) (drop (suc at) xs) (each_take P at xs all) (each_drop P (suc at) xs all)
+each_removed P xs at all =
+    each_append P (take at xs) (drop (suc at) xs) (each_take P at xs all) (each_drop P (suc at) xs all)
 
 pub each_get : {A : Type 0} (P : A → Type 0) (xs : List A) (at : ℕ) (x : A) → Each P xs → slice_get xs at ≡ Some x → P x
 each_get P [] at x all is = absurd cc
 each_get P (y ∷ xs) zero x all is = let one : y ≡ x = cc in subst P one all.0
 each_get P (y ∷ xs) (suc at) x all is = each_get P xs at x all.1 is
 
-pub each_set : {A : Type 0} (P : A → Type 0) (xs : List A) (at : ℕ) (x : A) → Each P xs → P x → Each P (slice_set xs at x)
+pub each_set : {A : Type 0} (P : A → Type 0) (xs : List A) (at : ℕ) (x : A) → Each P xs → P x
+    → Each P (slice_set xs at x)
 each_set P [] at x all own = all
 each_set P (y ∷ xs) zero x all own = (own, all.1)
 each_set P (y ∷ xs) (suc at) x all own = (all.0, each_set P xs at x all.1 own)
@@ -32,6 +34,7 @@ pub each_mapped : {A B : Type 0} (P : B → Type 0) (f : A → B) (xs : List A) 
 each_mapped P f [] all = tt
 each_mapped P f (x ∷ xs) all = (all x, each_mapped P f xs all)
 
-pub each_flat : {A B : Type 0} (P : B → Type 0) (f : A → List B) (xs : List A) → ((x : A) → Each P (f x)) → Each P (flat_map f xs)
+pub each_flat : {A B : Type 0} (P : B → Type 0) (f : A → List B) (xs : List A) → ((x : A) → Each P (f x))
+    → Each P (flat_map f xs)
 each_flat P f [] all = tt
 each_flat P f (x ∷ xs) all = each_append P (f x) (flat_map f xs) (all x) (each_flat P f xs all)

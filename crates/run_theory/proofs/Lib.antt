@@ -1,6 +1,7 @@
 pub mod Pasts
 pub mod Links
 pub mod Runs
+pub mod EventCases
 pub mod Cuts
 pub mod Orders
 pub mod Merging

@@ -84,8 +84,13 @@ past_whole {A} xs ys p le = go p.newer p.is
     go (n ∷ newer) is = absurd (omega (arith, le, ap length is, length-append newer xs))
 
 -- what is read off an older part is an older part of what is read off the whole
-pub past_map : {A B : Type 0} (f : A → Option B) (xs ys : List A) → IsPast xs ys → IsPast (filter_map f xs) (filter_map f ys)
-past_map f xs ys p = record { newer = filter_map f p.newer; is = ap (filter_map f) p.is ∙ filter_map-append f p.newer xs }
+pub past_map : {A B : Type 0} (f : A → Option B) (xs ys : List A) → IsPast xs ys
+    → IsPast (filter_map f xs) (filter_map f ys)
+past_map f xs ys p = record {
+  newer = filter_map f p.newer;
+  is = ap (filter_map f) p.is ∙ filter_map-append f p.newer xs;
+}
 
-pub filter_map_none : {A B : Type 0} (f : A → Option B) (x : A) (xs : List A) → f x ≡ None → filter_map f (x ∷ xs) ≡ filter_map f xs
+pub filter_map_none : {A B : Type 0} (f : A → Option B) (x : A) (xs : List A) → f x ≡ None
+    → filter_map f (x ∷ xs) ≡ filter_map f xs
 filter_map_none f x xs is = rw is refl

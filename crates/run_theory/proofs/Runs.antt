@@ -33,8 +33,10 @@ module _ {E X : Type 0} (m : Machine E X) where
       go (inr at) = rw (log_of-other e es h at) (past_self (log_of m es h))
 
   -- what a step adds to what was taken from a link
-  pub taken-step : (i : ℕ) (e : E) (log : List E) → m.asked e ≡ false → m.from (m.signal e) ≡ i → taken m i (e ∷ log) ≡ m.signal e ∷ taken m i log
-  taken-step i e log a f = if_true (m.signal e ∷ taken m i log) (taken m i log) (rw a (eq-eqb (m.from (m.signal e)) i f))
+  pub taken-step : (i : ℕ) (e : E) (log : List E) → m.asked e ≡ false → m.from (m.signal e) ≡ i
+      → taken m i (e ∷ log) ≡ m.signal e ∷ taken m i log
+  taken-step i e log a f =
+      if_true (m.signal e ∷ taken m i log) (taken m i log) (rw a (eq-eqb (m.from (m.signal e)) i f))
 
   pub taken-asked : (i : ℕ) (e : E) (log : List E) → m.asked e ≡ true → taken m i (e ∷ log) ≡ taken m i log
   taken-asked i e log a = if_false (m.signal e ∷ taken m i log) (taken m i log) (rw a refl)
@@ -48,13 +50,15 @@ module _ {E X : Type 0} (m : Machine E X) where
 
   -- what a host took from a link, one step later
   pub data TakenCases (i : ℕ) (e : E) (log : List E) : Type 0 where
-    took : m.asked e ≡ false → m.from (m.signal e) ≡ i → taken m i (e ∷ log) ≡ m.signal e ∷ taken m i log → TakenCases i e log
+    took : m.asked e ≡ false → m.from (m.signal e) ≡ i → taken m i (e ∷ log) ≡ m.signal e ∷ taken m i log
+        → TakenCases i e log
     same : taken m i (e ∷ log) ≡ taken m i log → TakenCases i e log
 
   pub taken_cases : (i : ℕ) (e : E) (log : List E) → TakenCases i e log
   taken_cases i e log = go (cases_Bool (m.asked e)) (cases_eq (m.from (m.signal e)) i)
     where
-      go : (m.asked e ≡ true) ⊎ (m.asked e ≡ false) → (m.from (m.signal e) ≡ i) ⊎ (m.from (m.signal e) ≢ i) → TakenCases i e log
+      go : (m.asked e ≡ true) ⊎ (m.asked e ≡ false) → (m.from (m.signal e) ≡ i) ⊎ (m.from (m.signal e) ≢ i)
+          → TakenCases i e log
       go (inl a) f = same (taken-asked i e log a)
       go (inr a) (inl f) = took a f (taken-step i e log a f)
       go (inr a) (inr f) = same (taken-other i e log f)
@@ -67,14 +71,16 @@ module _ {E X : Type 0} (m : Machine E X) where
   there_past h p (inr d) = inr (made_past h p d)
 
   -- after an event a host's log is a log of it, if it was one
-  local_more : (es : List E) (e : E) (h : ℕ) → Happens m es e → IsLog m h (log_of m es h) → IsLog m h (log_of m (e ∷ es) h)
+  local_more : (es : List E) (e : E) (h : ℕ) → Happens m es e → IsLog m h (log_of m es h)
+      → IsLog m h (log_of m (e ∷ es) h)
   local_more es e h happens l = go (cases_eq (m.host e) h)
     where
       go : (m.host e ≡ h) ⊎ (m.host e ≢ h) → IsLog m h (log_of m (e ∷ es) h)
       go (inl at) = rw (log_of-own e es h at) (subst (λ k. IsStep m k (log_of m es k) e) at happens.step, l)
       go (inr at) = rw (log_of-other e es h at) l
 
-  there_more : (es : List E) (e : E) (h : ℕ) → Happens m es e → (HasEntry (log_of m es h) → IsThere m h (log_of m es 0)) → HasEntry (log_of m (e ∷ es) h) → IsThere m h (log_of m (e ∷ es) 0)
+  there_more : (es : List E) (e : E) (h : ℕ) → Happens m es e → (HasEntry (log_of m es h) → IsThere m h (log_of m es 0))
+      → HasEntry (log_of m (e ∷ es) h) → IsThere m h (log_of m (e ∷ es) 0)
   there_more es e h happens t has = there_past h (log_of-past e es 0) (go (cases_eq (m.host e) h))
     where
       go : (m.host e ≡ h) ⊎ (m.host e ≢ h) → IsThere m h (log_of m es 0)
@@ -82,27 +88,36 @@ module _ {E X : Type 0} (m : Machine E X) where
       go (inr at) = t (subst HasEntry (log_of-other e es h at) has)
 
   -- what a link gave is what it gives after an event at its sender
-  given_next : (es : List E) (e : E) (i j : ℕ) (xs : List X) → Happens m es e → IsGiven m i j (log_of m es i) xs → IsGiven m i j (log_of m (e ∷ es) i) xs
+  given_next : (es : List E) (e : E) (i j : ℕ) (xs : List X) → Happens m es e → IsGiven m i j (log_of m es i) xs
+      → IsGiven m i j (log_of m (e ∷ es) i) xs
   given_next es e i j xs happens g = go (cases_eq (m.host e) i)
     where
       go : (m.host e ≡ i) ⊎ (m.host e ≢ i) → IsGiven m i j (log_of m (e ∷ es) i) xs
-      go (inl at) = rw (log_of-own e es i at) (given_more m i j (log_of m es i) e xs (subst (λ k. IsRunning m (log_of m es k)) at happens.step.runs) g)
+      go (inl at) = rw (log_of-own e es i at)
+          (given_more m i j (log_of m es i) e xs (subst (λ k. IsRunning m (log_of m es k)) at happens.step.runs) g)
       go (inr at) = rw (log_of-other e es i at) g
 
   -- what a host took from a link, after an event, the link gave before it
-  pub given_taken : (es : List E) (e : E) (i j : ℕ) → Happens m es e → IsGiven m i j (log_of m es i) (taken m i (log_of m es j)) → IsGiven m i j (log_of m es i) (taken m i (log_of m (e ∷ es) j))
+  pub given_taken : (es : List E) (e : E) (i j : ℕ) → Happens m es e
+      → IsGiven m i j (log_of m es i) (taken m i (log_of m es j))
+      → IsGiven m i j (log_of m es i) (taken m i (log_of m (e ∷ es) j))
   given_taken es e i j happens g = go (cases_eq (m.host e) j)
     where
-      at_own : m.host e ≡ j → TakenCases i e (log_of m es j) → IsGiven m i j (log_of m es i) (taken m i (e ∷ log_of m es j))
-      at_own at (took a f is) = rw is (subst₂ (λ k l. IsGiven m k l (log_of m es k) (m.signal e ∷ taken m k (log_of m es l))) f at (happens.takes a))
+      at_own : m.host e ≡ j → TakenCases i e (log_of m es j)
+          → IsGiven m i j (log_of m es i) (taken m i (e ∷ log_of m es j))
+      at_own at (took a f is) = rw is (subst₂ (λ k l. IsGiven m k l (log_of m es k)
+          (m.signal e ∷ taken m k (log_of m es l))) f at (happens.takes a))
       at_own at (same is) = rw is g
 
       go : (m.host e ≡ j) ⊎ (m.host e ≢ j) → IsGiven m i j (log_of m es i) (taken m i (log_of m (e ∷ es) j))
       go (inl at) = rw (log_of-own e es j at) (at_own at (taken_cases i e (log_of m es j)))
       go (inr at) = rw (log_of-other e es j at) g
 
-  linked_more : (es : List E) (e : E) (i j : ℕ) → Happens m es e → IsGiven m i j (log_of m es i) (taken m i (log_of m es j)) → IsGiven m i j (log_of m (e ∷ es) i) (taken m i (log_of m (e ∷ es) j))
-  linked_more es e i j happens g = given_next es e i j (taken m i (log_of m (e ∷ es) j)) happens (given_taken es e i j happens g)
+  linked_more : (es : List E) (e : E) (i j : ℕ) → Happens m es e
+      → IsGiven m i j (log_of m es i) (taken m i (log_of m es j))
+      → IsGiven m i j (log_of m (e ∷ es) i) (taken m i (log_of m (e ∷ es) j))
+  linked_more es e i j happens g =
+      given_next es e i j (taken m i (log_of m (e ∷ es) j)) happens (given_taken es e i j happens g)
 
   pub no_logs : AreLogs m (log_of m [])
   no_logs = record { local = λ h. tt; there = λ h has. absurd has; linked = λ i j. inl (past_self []) }

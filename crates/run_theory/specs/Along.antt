@@ -11,7 +11,8 @@ module _ {E X : Type 0} (m : Machine E X) (K : X → (ℕ → List E) → Type 0
   pub record AllHold (logs : ℕ → List E) : Type 0 where
     pub law : Q logs
     pub sent_hold : (i j : ℕ) → Each (λ x. K x logs) (sent m i j (logs i))
-    pub closing_hold : (i j : ℕ) (e : E) (log : List E) → logs i ≡ e ∷ log → m.stops e ≡ true → K (m.closing i log e j) logs
+    pub closing_hold : (i j : ℕ) (e : E) (log : List E) → logs i ≡ e ∷ log → m.stops e ≡ true
+        → K (m.closing i log e j) logs
 
   -- The event e comes after a run where all this holds, and K of the signal that e takes from a link.
   pub record Comes (es : List E) (e : E) : Type 0 where
@@ -25,8 +26,10 @@ module _ {E X : Type 0} (m : Machine E X) (K : X → (ℕ → List E) → Type 0
   pub record IsKept : Type 0 where
     pub start : Q (log_of m [])
     pub step : (es : List E) (e : E) → Comes es e → Q (log_of m (e ∷ es))
-    pub sends : (es : List E) (e : E) → Comes es e → m.stops e ≡ false → Each (λ x. K x (log_of m (e ∷ es))) (m.sends (m.host e) (log_of m es (m.host e)) e)
-    pub closing : (es : List E) (e : E) → Comes es e → m.stops e ≡ true → (j : ℕ) → K (m.closing (m.host e) (log_of m es (m.host e)) e j) (log_of m (e ∷ es))
+    pub sends : (es : List E) (e : E) → Comes es e → m.stops e ≡ false
+        → Each (λ x. K x (log_of m (e ∷ es))) (m.sends (m.host e) (log_of m es (m.host e)) e)
+    pub closing : (es : List E) (e : E) → Comes es e → m.stops e ≡ true → (j : ℕ)
+        → K (m.closing (m.host e) (log_of m es (m.host e)) e j) (log_of m (e ∷ es))
     pub stays : (es : List E) (e : E) (x : X) → Comes es e → K x (log_of m es) → K x (log_of m (e ∷ es))
 
 -- a run goes on by more events, to these logs

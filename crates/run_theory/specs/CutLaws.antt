@@ -16,7 +16,8 @@ CutsAreClosedWhereRight E X =
 
 -- right logs are a closed cut of themselves
 abbrev pub LogsAreClosed : (E X : Type 0) → Type 0
-LogsAreClosed E X = (t : TestMachine E X) → IsStamped (machine t) → (logs : ℕ → List E) → AreLogs (machine t) logs → IsCut logs logs × IsClosed (machine t) logs
+LogsAreClosed E X = (t : TestMachine E X) → IsStamped (machine t) → (logs : ℕ → List E) → AreLogs (machine t) logs
+    → IsCut logs logs × IsClosed (machine t) logs
 
 -- a closed cut of right logs, merged, is a run
 abbrev pub ClosedCutsRun : (E X : Type 0) → Type 0
@@ -38,7 +39,8 @@ ClosedCutsGrow E X =
 abbrev pub ClosedCutsKeep : (E X : Type 0) → Type 0
 ClosedCutsKeep E X =
     (t : TestMachine E X) → IsStamped (machine t) → (q : (ℕ → List E) → Bool)
-    → ((es : List E) (e : E) → Run (machine t) es → Happens (machine t) es e → IsTrue (q (log_of (machine t) es)) → IsTrue (q (log_of (machine t) (e ∷ es))))
+    → ((es : List E) (e : E) → Run (machine t) es → Happens (machine t) es e → IsTrue (q (log_of (machine t) es)) →
+    IsTrue (q (log_of (machine t) (e ∷ es))))
     → (n : ℕ) (small large logs : ℕ → List E) → IsWithin n logs → AreLogs (machine t) logs → IsCut large logs
     → IsClosed (machine t) large → IsCut small large → IsClosed (machine t) small
     → IsTrue (q small) → IsTrue (q large)

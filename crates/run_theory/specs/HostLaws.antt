@@ -10,7 +10,8 @@ use Rattle.run_theory.specs.Hosts.{AreKept}
 
 -- what running hosts and links keep are right logs
 abbrev pub HostsKeepRightLogs : (E X : Type 0) → Type 0
-HostsKeepRightLogs E X = (t : TestMachine E X) (own : ℕ → List E) (puts takes : ℕ → ℕ → List X) → AreKept (machine t) own puts takes → AreLogs (machine t) (λ h. reverse (own h))
+HostsKeepRightLogs E X = (t : TestMachine E X) (own : ℕ → List E) (puts takes : ℕ → ℕ → List X)
+    → AreKept (machine t) own puts takes → AreLogs (machine t) (λ h. reverse (own h))
 
 -- and so a run, in merged order
 abbrev pub HostsRun : (E X : Type 0) → Type 0
@@ -23,17 +24,20 @@ HostsRun E X =
 abbrev pub SendsBehind : (E X : Type 0) → Type 0
 SendsBehind E X =
     (t : TestMachine E X) (i j : ℕ) (log : List E) (e : E)
-    → reverse (sent (machine t) i j (e ∷ log)) ≡ reverse (sent (machine t) i j log) ++ filter (λ x. t.to x == j) (sent_by (machine t) i log e)
+    → reverse (sent (machine t) i j (e ∷ log))
+    ≡ reverse (sent (machine t) i j log) ++ filter (λ x. t.to x == j) (sent_by (machine t) i log e)
 
 -- and adds the signal that it took, if a link gave it, behind all that was taken from that link
 abbrev pub TakesBehind : (E X : Type 0) → Type 0
 TakesBehind E X =
     (t : TestMachine E X) (i : ℕ) (log : List E) (e : E)
-    → reverse (taken (machine t) i (e ∷ log)) ≡ reverse (taken (machine t) i log) ++ (if is_from (machine t) i e then t.signal e ∷ [] else [])
+    → reverse (taken (machine t) i (e ∷ log))
+    ≡ reverse (taken (machine t) i log) ++ (if is_from (machine t) i e then t.signal e ∷ [] else [])
 
 -- of each list the steps up to a length, turned round, are a cut
 abbrev pub LengthsCutLogs : (E : Type 0) → Type 0
-LengthsCutLogs E = (own : ℕ → List E) (lengths : ℕ → ℕ) → IsCut (λ h. reverse (take (lengths h) (own h))) (λ h. reverse (own h))
+LengthsCutLogs E =
+    (own : ℕ → List E) (lengths : ℕ → ℕ) → IsCut (λ h. reverse (take (lengths h) (own h))) (λ h. reverse (own h))
 
 -- and all right logs are kept by some hosts and links: those lists promise no more than right logs do
 abbrev pub RightLogsAreKept : (E X : Type 0) → Type 0

@@ -28,7 +28,8 @@ module _ {E X : Type 0} (m : Machine E X) where
     pub before : List E
     pub past : IsPast (step ∷ before) log
     pub at : m.stamp step ≡ m.sent_at x
-    pub sends : (IsIn x (sent_by m i before step) × (m.to x ≡ j)) ⊎ ((m.stops step ≡ true) × (x ≡ m.closing i before step j))
+    pub sends : (IsIn x (sent_by m i before step) × (m.to x ≡ j))
+        ⊎ ((m.stops step ≡ true) × (x ≡ m.closing i before step j))
 
 -- First in, first out: the k-th signal that was taken from a link is the k-th that was sent, but for the closing,
 -- and that is the last one taken.
@@ -36,7 +37,8 @@ abbrev pub FirstInFirstOut : (E X : Type 0) → Type 0
 FirstInFirstOut E X =
     (t : TestMachine E X) (logs : ℕ → List E) → AreLogs (machine t) logs → (i j k : ℕ) (x : X)
     → at_time (taken (machine t) i (logs j)) k ≡ Some x
-    → (at_time (sent (machine t) i j (logs i)) k ≡ Some x) ⊎ (IsClosingOf (machine t) i j (logs i) x × (suc k ≡ length (taken (machine t) i (logs j))))
+    → (at_time (sent (machine t) i j (logs i)) k ≡ Some x)
+    ⊎ (IsClosingOf (machine t) i j (logs i) x × (suc k ≡ length (taken (machine t) i (logs j))))
 
 -- nothing follows a step that stops
 abbrev pub NothingFollowsStop : (E X : Type 0) → Type 0
@@ -57,7 +59,8 @@ StampsRise E X =
     (t : TestMachine E X) → IsStamped (machine t) → (logs : ℕ → List E) → AreLogs (machine t) logs
     → (j : ℕ) (e : E) (older : List E)
     → IsPast (e ∷ older) (logs j) → t.asked e ≡ false
-    → (s : IsSentBy (machine t) (t.from (t.signal e)) j (logs (t.from (t.signal e))) (t.signal e)) × (t.stamp s.step < t.stamp e)
+    → (s : IsSentBy (machine t) (t.from (t.signal e)) j (logs (t.from (t.signal e))) (t.signal e))
+    × (t.stamp s.step < t.stamp e)
 
 -- a host that was made later makes its steps after the step of host 0 that made it
 abbrev pub HostsAreMadeFirst : (E X : Type 0) → Type 0

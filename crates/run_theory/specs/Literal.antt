@@ -29,7 +29,8 @@ module _ {E X : Type 0} (m : Machine E X) where
   -- the step puts what it sends on the channels of its host, or stops and closes them
   pub record Puts (log : List E) (e : E) (before after : Channels X) : Type 0 where
     pub others : (i j : ℕ) → m.host e ≢ i → after i j ≡ before i j
-    pub runs : m.stops e ≡ false → (j : ℕ) → after (m.host e) j ≡ put m j (m.sends (m.host e) log e) (before (m.host e) j)
+    pub runs : m.stops e ≡ false → (j : ℕ)
+        → after (m.host e) j ≡ put m j (m.sends (m.host e) log e) (before (m.host e) j)
     pub stops : m.stops e ≡ true → (j : ℕ) → Drops (m.host e) log e j (before (m.host e) j) (after (m.host e) j)
 
   -- after these events the machine makes the step e, and its channels change so

@@ -7,4 +7,5 @@ use Rattle.run_theory.specs.Literal.{Admits}
 
 -- both admit the same events, and so the same logs
 abbrev pub ChannelsAdmitRuns : (E X : Type 0) → Type 0
-ChannelsAdmitRuns E X = (t : TestMachine E X) → IsStamped (machine t) → (es : List E) → Admits (machine t) es ↔ Run (machine t) es
+ChannelsAdmitRuns E X =
+    (t : TestMachine E X) → IsStamped (machine t) → (es : List E) → Admits (machine t) es ↔ Run (machine t) es

@@ -31,7 +31,8 @@ module _ {E X : Type 0} (m : Machine E X) where
 
   -- e has the greater stamp, or the same one and the greater host
   abbrev pub is_after : E → E → Bool
-  is_after e before = nat_lt (m.stamp before) (m.stamp e) || ((m.stamp before == m.stamp e) && nat_lt (m.host before) (m.host e))
+  is_after e before =
+      nat_lt (m.stamp before) (m.stamp e) || ((m.stamp before == m.stamp e) && nat_lt (m.host before) (m.host e))
 
   -- the event at its place in the order of (stamp, host)
   abbrev pub insert : E → List E → List E

@@ -7,11 +7,13 @@ use Rattle.run_theory.specs.Orders.{HasLogs, IsByStamp, IsCausal, joined, merged
 
 -- a run leaves right logs
 abbrev pub RunsLeaveRightLogs : (E X : Type 0) → Type 0
-RunsLeaveRightLogs E X = (t : TestMachine E X) (es : List E) → Run (machine t) es → AreLogs (machine t) (log_of (machine t) es)
+RunsLeaveRightLogs E X =
+    (t : TestMachine E X) (es : List E) → Run (machine t) es → AreLogs (machine t) (log_of (machine t) es)
 
 -- a run keeps to causes
 abbrev pub RunsAreCausal : (E X : Type 0) → Type 0
-RunsAreCausal E X = (t : TestMachine E X) → IsStamped (machine t) → (es : List E) → Run (machine t) es → IsCausal (machine t) es
+RunsAreCausal E X =
+    (t : TestMachine E X) → IsStamped (machine t) → (es : List E) → Run (machine t) es → IsCausal (machine t) es
 
 -- right logs, merged in order of (stamp, host), are a run, and its logs are those again
 abbrev pub MergedLogsRun : (E X : Type 0) → Type 0

@@ -71,9 +71,12 @@ coordinator_steps =
     comes [] [] [] []
     ∷ comes [] (first_tx ∷ []) (to_place (epochs 1) (Epoch (DiVerifyEnd first_tx)) ∷ []) []
     ∷ comes (answered (Completing 1 1)) (first_tx ∷ [])
-    (to_place client (Client (TcCommitConf first_tx 1)) ∷ to_place (rows_of 2) (Chain (Complete first_tx key replicas 1)) ∷ []) []
-    ∷ comes (answered (Committing 1 1)) (first_tx ∷ []) (to_place (rows_of 2) (Chain (Commit first_tx key 1 replicas 1)) ∷ []) []
-    ∷ comes (answered Verifying) (first_tx ∷ []) (to_place (coordinator 1) (Epoch (DiVerifyConf first_tx 1)) ∷ []) (Decided first_tx 1 ∷ [])
+    (to_place client (Client (TcCommitConf first_tx 1)) ∷ to_place (rows_of 2)
+    (Chain (Complete first_tx key replicas 1)) ∷ []) []
+    ∷ comes (answered (Committing 1 1)) (first_tx ∷ [])
+    (to_place (rows_of 2) (Chain (Commit first_tx key 1 replicas 1)) ∷ []) []
+    ∷ comes (answered Verifying) (first_tx ∷ []) (to_place (coordinator 1) (Epoch (DiVerifyConf first_tx 1)) ∷ [])
+    (Decided first_tx 1 ∷ [])
     ∷ comes (answered Verifying) [] (to_place (epochs 1) (Epoch (DiVerifyReq first_tx ((write, Done) ∷ []))) ∷ []) []
     ∷ comes (answered Open) [] (to_place client (Client (TcKeyConf first_tx Done)) ∷ []) []
     ∷ operating replicas
@@ -81,7 +84,9 @@ coordinator_steps =
     ∷ []
 
 pub coordinator_do : Do two 2 coordination coordinator_steps
-unfolding started fresh_part row tc_part_row tc.begin_row operate.operate_row operate.answer_row commit.verify_row commit.commit_row commit.committed_row all_committed completed_row sends.entering sends.phase_sends sends.front_sends sends.key_sends part_effects without dih.decide_row dih.end_row
+unfolding started fresh_part row tc_part_row tc.begin_row operate.operate_row operate.answer_row commit.verify_row
+    commit.commit_row commit.committed_row all_committed completed_row sends.entering sends.phase_sends
+    sends.front_sends sends.key_sends part_effects without dih.decide_row dih.end_row
 coordinator_do = (
   record { at = refl; stamped = refl; does = refl; marks = refl; asked = tt },
   (

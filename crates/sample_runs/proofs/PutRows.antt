@@ -45,10 +45,13 @@ use Rattle.sample_runs.specs.Put.{backup, key, primary, replicas, two, value, wr
 -- a request for a key that nobody holds is performed at once
 granted : (s : LqhState) (r : Request) → map.get s.locks (work_key r.work) ≡ None
     → request_row s r
-    ≡ asked_by (with_locks s (map.insert s.locks (work_key r.work) (asked unlocked r.tx (work_mode r.work)).lock)) r (asked unlocked r.tx (work_mode r.work)).answer
+    ≡ asked_by (with_locks s (map.insert s.locks (work_key r.work) (asked unlocked r.tx (work_mode r.work)).lock)) r
+    (asked unlocked r.tx (work_mode r.work)).answer
 unfolding request_row
 granted s r none =
-    ap (λ found. asked_by (with_locks s (map.insert s.locks (work_key r.work) (asked (or_unlocked found) r.tx (work_mode r.work)).lock)) r (asked (or_unlocked found) r.tx (work_mode r.work)).answer) none
+    ap (λ found. asked_by (with_locks s (map.insert s.locks (work_key r.work)
+    (asked (or_unlocked found) r.tx (work_mode r.work)).lock)) r
+    (asked (or_unlocked found) r.tx (work_mode r.work)).answer) none
 
 -- the lock that the transaction has
 abbrev held : RowLock
@@ -93,7 +96,8 @@ prepared node =
 -- it is committed, with these locks and markers
 abbrev committed : ℕ → Locks → List Marker → LqhState
 committed node locks markers =
-    with_row node (Some value) 1 (rows.committed (rows.prepared first_tx key (Some value)) 1 ∷ []) (record { used = 48; reserved = 0 }) locks markers
+    with_row node (Some value) 1 (rows.committed (rows.prepared first_tx key (Some value)) 1 ∷ [])
+    (record { used = 48; reserved = 0 }) locks markers
 
 -- it is completed, with these locks
 abbrev completed : ℕ → Locks → LqhState
@@ -108,7 +112,8 @@ comes s sends marks = record { state = Ldm s; effects = record { sends = sends; 
 -- a row is committed at the primary, or completed: the lock is let go of
 abbrev lets_go : LqhState → Outgoing → Mark → Option RowLock → Step Host
 lets_go s send mark found =
-    comes (with_lock s key (released (or_unlocked found) first_tx)) (send ∷ serve_granted s.node (released (or_unlocked found) first_tx)) (mark ∷ [])
+    comes (with_lock s key (released (or_unlocked found) first_tx))
+    (send ∷ serve_granted s.node (released (or_unlocked found) first_tx)) (mark ∷ [])
 
 abbrev committed_told : Outgoing
 committed_told = to_place (coordinator 1) (Chain (told.Committed first_tx key))
@@ -121,7 +126,8 @@ primary_steps =
     comes (completed 1 nobody) (completed_told ∷ []) (Completed first_tx key ∷ [])
     ∷ comes (committed 1 nobody []) [] []
     ∷ comes (committed 1 nobody marker) (committed_told ∷ []) (Applied first_tx key ∷ [])
-    ∷ comes (prepared 1) (to_place (rows_of 2) (Chain (told.LqhKeyReq first_tx (Store key (Some value)) replicas 1)) ∷ []) (Prepared first_tx key ∷ [])
+    ∷ comes (prepared 1) (to_place (rows_of 2) (Chain (told.LqhKeyReq first_tx (Store key (Some value)) replicas 1)) ∷
+    []) (Prepared first_tx key ∷ [])
     ∷ []
 
 abbrev complete_primary : Outgoing
@@ -132,7 +138,8 @@ backup_steps =
     comes (completed 2 nobody) (complete_primary ∷ []) (Completed first_tx key ∷ [])
     ∷ comes (committed 2 holding []) [] []
     ∷ comes (committed 2 holding marker) (to_place (rows_of 1) (Chain (told.Commit first_tx key 1 replicas 0)) ∷ []) []
-    ∷ comes (prepared 2) (to_place (coordinator 1) (Chain (told.LqhKeyConf first_tx key Done)) ∷ []) (Prepared first_tx key ∷ [])
+    ∷ comes (prepared 2) (to_place (coordinator 1) (Chain (told.LqhKeyConf first_tx key Done)) ∷ [])
+    (Prepared first_tx key ∷ [])
     ∷ []
 
 -- the rows of a node that nobody asked for anything
@@ -148,7 +155,9 @@ unasked node = record {
 }
 
 pub primary_do : Do two 3 primary primary_steps
-unfolding started fresh_part row ldm_row perform answer_to store_row committed_in commit_row complete_row acknowledged size_of rows.row_of rows.record_of rows.seen rows.storing rows.is_full rows.commit_record rows.complete_record rows.record_state
+unfolding started fresh_part row ldm_row perform answer_to store_row committed_in commit_row complete_row acknowledged
+    size_of rows.row_of rows.record_of rows.seen rows.storing rows.is_full rows.commit_record rows.complete_record
+    rows.record_state
 primary_do = (
   record {
     at = refl;
@@ -173,7 +182,12 @@ primary_do = (
         record {
           at = refl;
           stamped = refl;
-          does = ap in_ldm (granted (unasked 1) (record { tx = first_tx; work = Operate write; chain = replicas; at = 0 }) free_at);
+          does = ap in_ldm (granted (unasked 1) (record {
+            tx = first_tx;
+            work = Operate write;
+            chain = replicas;
+            at = 0;
+          }) free_at);
           marks = refl;
           asked = tt;
         },
@@ -184,7 +198,9 @@ primary_do = (
 )
 
 pub backup_do : Do two 6 backup backup_steps
-unfolding started fresh_part row ldm_row perform answer_to store_row committed_in commit_row complete_row acknowledged size_of rows.row_of rows.record_of rows.seen rows.storing rows.is_full rows.commit_record rows.complete_record rows.record_state
+unfolding started fresh_part row ldm_row perform answer_to store_row committed_in commit_row complete_row acknowledged
+    size_of rows.row_of rows.record_of rows.seen rows.storing rows.is_full rows.commit_record rows.complete_record
+    rows.record_state
 backup_do = (
   record {
     at = refl;
@@ -202,7 +218,13 @@ backup_do = (
         record {
           at = refl;
           stamped = refl;
-          does = ap in_ldm (granted (unasked 2) (record { tx = first_tx; work = Store key (Some value); chain = replicas; at = 1 }) free_at);
+          does = ap in_ldm (granted (unasked 2) (record {
+            tx = first_tx;
+            work = Store key (Some value);
+            chain =
+                replicas;
+            at = 1;
+          }) free_at);
           marks = refl;
           asked = tt;
         },

@@ -48,13 +48,17 @@ shell_steps =
     comes [] None (Answered None Done ∷ Ended None (Committed 1) ∷ [])
     (to_place (rows_of 1) (Client (TcCommitAck first_tx)) ∷ to_place (rows_of 2) (Client (TcCommitAck first_tx)) ∷ [])
     (Reported first_tx (Committed 1) ∷ [])
-    ∷ comes (lone (Some first_tx) 1 Committing) (Some 0) (Answered None Done ∷ []) (to_place (coordinator 1) (Client (TcCommitReq first_tx)) ∷ []) []
-    ∷ comes (lone (Some first_tx) 1 Operating) (Some 0) [] (to_place (coordinator 1) (Client (TcKeyReq first_tx write)) ∷ []) []
-    ∷ comes (lone None 0 (Beginning (Some write))) (Some 0) [] (to_place (coordinator 1) (Client (TcBeginReq None)) ∷ []) []
+    ∷ comes (lone (Some first_tx) 1 Committing) (Some 0) (Answered None Done ∷ [])
+    (to_place (coordinator 1) (Client (TcCommitReq first_tx)) ∷ []) []
+    ∷ comes (lone (Some first_tx) 1 Operating) (Some 0) []
+    (to_place (coordinator 1) (Client (TcKeyReq first_tx write)) ∷ []) []
+    ∷ comes (lone None 0 (Beginning (Some write))) (Some 0) []
+    (to_place (coordinator 1) (Client (TcBeginReq None)) ∷ []) []
     ∷ []
 
 pub shell_do : Do two 0 shell shell_steps
-unfolding started fresh_shell row shell_row request_row lone_row least_node begun_row answer_row commit_report_row everyone
+unfolding started fresh_shell row shell_row request_row lone_row least_node begun_row answer_row commit_report_row
+    everyone
 shell_do = (
   record { at = refl; stamped = refl; does = refl; marks = refl; asked = tt },
   (

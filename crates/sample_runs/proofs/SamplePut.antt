@@ -75,11 +75,13 @@ local = each_host (λ h. IsLog (machine two) h (put h))
 from_shell : (j : ℕ) → taken (machine two) 0 (put j) ≡ told two 0 j shell shell_steps
 unfolding receiver
 from_shell = each_host (λ j. taken (machine two) 0 (put j) ≡ told two 0 j shell shell_steps) refl refl refl refl
-    (λ j idle. ap (taken (machine two) 0) idle.none ∙ rw (idle.not_coordination, idle.not_primary, idle.not_backup) refl)
+    (λ j idle. ap (taken (machine two) 0) idle.none
+    ∙ rw (idle.not_coordination, idle.not_primary, idle.not_backup) refl)
 
 from_coordination : (j : ℕ) → taken (machine two) 2 (put j) ≡ told two 2 j coordination coordinator_steps
 unfolding receiver
-from_coordination = each_host (λ j. taken (machine two) 2 (put j) ≡ told two 2 j coordination coordinator_steps) refl refl refl refl
+from_coordination =
+    each_host (λ j. taken (machine two) 2 (put j) ≡ told two 2 j coordination coordinator_steps) refl refl refl refl
     (λ j idle. ap (taken (machine two) 2) idle.none
     ∙ rw (idle.not_shell, idle.not_coordination, idle.not_primary, idle.not_backup) refl)
 
@@ -121,7 +123,11 @@ within (suc (suc (suc (suc (suc (suc zero)))))) high = absurd (omega (arith, hig
 within (suc (suc (suc (suc (suc (suc (suc h))))))) high = refl
 
 right : AreLogs (machine two) put
-right = record { local = local; there = λ h has. inl refl; linked = λ i j. inl (record { newer = []; is = sym (linked i j) }) }
+right = record {
+  local = local;
+  there = λ h has. inl refl;
+  linked = λ i j. inl (record { newer = []; is = sym (linked i j) });
+}
 
 shape : IsShape two.shape
 shape = record {
@@ -138,7 +144,8 @@ closed : IsClosed (machine two) put
 closed = closed_of_logs (machine two) (stamped two) put right
 
 -- what is so at both nodes is so at each that is live
-each_live : (P : Member → Type 0) → P (first_start 1) → P (first_start 2) → (member : Member) → IsIn member (live_nodes two put) → P member
+each_live : (P : Member → Type 0) → P (first_start 1) → P (first_start 2) → (member : Member)
+    → IsIn member (live_nodes two put) → P member
 each_live P one other member (inl is) = subst P (sym is) one
 each_live P one other member (inr (inl is)) = subst P (sym is) other
 each_live P one other member (inr (inr none)) = absurd none
@@ -162,7 +169,8 @@ settled_backup = settled key backup (
 rest : IsAtRest two put key
 unfolding receiver
 rest member replica =
-    each_live (λ (live : Member). IsSettled key (put (rows_host two live.node))) settled_primary settled_backup member replica.live
+    each_live (λ (live : Member). IsSettled key (put (rows_host two live.node))) settled_primary settled_backup member
+    replica.live
 
 row_primary : row_in two put 1 key ≡ Some value
 unfolding receiver row_at row_of
@@ -186,5 +194,6 @@ sample_put = record {
   at_primary = record { live = inl refl; holding = one_holds };
   at_backup = record { live = inr (inl refl); holding = two_holds };
   rows = λ member replica.
-      each_live (λ (live : Member). row_in two put live.node key ≡ Some value) row_primary row_backup member replica.live;
+      each_live (λ (live : Member). row_in two put live.node key ≡ Some value) row_primary row_backup member
+      replica.live;
 }

@@ -38,7 +38,12 @@ idle_above h = record {
 -- what is so of the three hosts that take steps, and of all others, is so of each
 each_host : (P : ℕ → Type 0) → P 0 → P 2 → P 3 → ((h : ℕ) → IsIdle h → P h) → (h : ℕ) → P h
 each_host P p q r idle zero = p
-each_host P p q r idle (suc zero) = idle 1 (record { none = refl; not_shell = refl; not_coordination = refl; not_rows = refl })
+each_host P p q r idle (suc zero) = idle 1 (record {
+  none = refl;
+  not_shell = refl;
+  not_coordination = refl;
+  not_rows = refl;
+})
 each_host P p q r idle (suc (suc zero)) = q
 each_host P p q r idle (suc (suc (suc zero))) = r
 each_host P p q r idle (suc (suc (suc (suc h)))) = idle _ (idle_above h)
@@ -58,7 +63,8 @@ from_shell = each_host (λ j. taken (machine lone) 0 (waited j) ≡ told lone 0 
 
 from_coordination : (j : ℕ) → taken (machine lone) 2 (waited j) ≡ told lone 2 j ordering ordering_steps
 unfolding receiver
-from_coordination = each_host (λ j. taken (machine lone) 2 (waited j) ≡ told lone 2 j ordering ordering_steps) refl refl refl
+from_coordination =
+    each_host (λ j. taken (machine lone) 2 (waited j) ≡ told lone 2 j ordering ordering_steps) refl refl refl
     (λ j idle. ap (taken (machine lone) 2) idle.none ∙ rw (idle.not_shell, idle.not_coordination, idle.not_rows) refl)
 
 from_rows : (j : ℕ) → taken (machine lone) 3 (waited j) ≡ told lone 3 j serving serving_steps
@@ -89,7 +95,11 @@ within (suc (suc (suc zero))) high = absurd (omega (arith, high))
 within (suc (suc (suc (suc h)))) high = refl
 
 right : AreLogs (machine lone) waited
-right = record { local = local; there = λ h has. inl refl; linked = λ i j. inl (record { newer = []; is = sym (linked i j) }) }
+right = record {
+  local = local;
+  there = λ h has. inl refl;
+  linked = λ i j. inl (record { newer = []; is = sym (linked i j) });
+}
 
 shape : IsShape lone.shape
 shape = record {
@@ -109,7 +119,8 @@ row_is = ap (λ host. row_at host key) (after_is lone 3 serving serving_steps se
 pub sample_wait : SampleIsGranted
 sample_wait = record {
   quiet = record { shape = shape; right = right; within = within; quiet = λ i j low under. linked i j };
-  waits = ap (λ host. (lqh_of host).waiting) (after_is lone 3 (drop 7 serving) (drop 7 serving_steps) serving_do.1.1.1.1.1.1.1);
+  waits = ap (λ host. (lqh_of host).waiting)
+      (after_is lone 3 (drop 7 serving) (drop 7 serving_steps) serving_do.1.1.1.1.1.1.1);
   none_waits = ap (λ host. (lqh_of host).waiting) (after_is lone 3 serving serving_steps serving_do);
   none_holds = ap (λ host. (lqh_of host).locks) (after_is lone 3 serving serving_steps serving_do);
   history_is = refl;

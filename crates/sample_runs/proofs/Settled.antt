@@ -24,4 +24,5 @@ ended_at key front (f ∷ newer) e older tx are prepared =
     (ended_at key (front ++ f ∷ []) newer e older tx are.1 prepared)
 
 pub settled : (key : List ℕ) (log : List HostStep) → AreEnded key [] log → IsSettled key log
-settled key log are newer e older tx is prepared = ended_at key [] newer e older tx (subst (AreEnded key []) is are) prepared
+settled key log are newer e older tx is prepared =
+    ended_at key [] newer e older tx (subst (AreEnded key []) is are) prepared

@@ -37,9 +37,11 @@ module _ (start : Start) (h : ℕ) where
   after_is [] (t ∷ steps) all = absurd all
   after_is (e ∷ log) [] all = absurd all
   after_is (e ∷ log) (t ∷ steps) all =
-      ap (λ host. (row host e.step.taken).state) (after_is log steps all.1) ∙ ap (λ (step : Step Host). step.state) all.0.does
+      ap (λ host. (row host e.step.taken).state) (after_is log steps all.1)
+      ∙ ap (λ (step : Step Host). step.state) all.0.does
 
-  step_is : (log : List HostStep) (steps : List (Step Host)) (e : HostStep) (t : Step Host) → Does log steps e t → Do log steps
+  step_is : (log : List HostStep) (steps : List (Step Host)) (e : HostStep) (t : Step Host) → Does log steps e t
+      → Do log steps
       → step_after start h log e ≡ t
   step_is log steps e t does all = ap (λ host. row host e.step.taken) (after_is log steps all) ∙ does.does
 
@@ -82,12 +84,15 @@ module _ (start : Start) (h : ℕ) where
   abbrev signals : List (Step Host) → HostStep → Step Host → List Addressed
   signals steps e t = all_addressed (first_membership start) h e.step.stamp (count steps) t.effects.sends
 
-  signals_is : (log : List HostStep) (steps : List (Step Host)) (e : HostStep) (t : Step Host) → Does log steps e t → Do log steps
+  signals_is : (log : List HostStep) (steps : List (Step Host)) (e : HostStep) (t : Step Host) → Does log steps e t
+      → Do log steps
       → signals_of start h log e ≡ signals steps e t
   signals_is log steps e t does all =
-      ap (λ (step : Step Host). all_addressed (first_membership start) h e.step.stamp (sent_count start h log) step.effects.sends)
+      ap (λ (step : Step Host). all_addressed (first_membership start) h e.step.stamp (sent_count start h log)
+      step.effects.sends)
       (step_is log steps e t does all)
-      ∙ ap (λ counts. all_addressed (first_membership start) h e.step.stamp counts t.effects.sends) (count_is log steps all)
+      ∙ ap (λ counts. all_addressed (first_membership start) h e.step.stamp counts t.effects.sends)
+      (count_is log steps all)
 
   -- all signals to a host
   abbrev pub told : ℕ → List HostStep → List (Step Host) → List Addressed

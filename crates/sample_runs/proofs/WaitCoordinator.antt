@@ -54,7 +54,8 @@ chain_is : chain_of (first_layout lone.shape) key ≡ alone
 unfolding chain_of
 chain_is = ap (replicas_of lone.shape (first_view 1)) fragment_is ∙ replicas_are
 
--- the coordinator with these transactions, before it begins the one of this number; those that have an epoch; what it sends
+-- the coordinator with these transactions, before it begins the one of this number; those that have an epoch; what it
+-- sends
 abbrev comes : ℕ → List (TxId × Transaction) → List TxId → List Outgoing → List Mark → Step Host
 comes next live counted sends marks = record {
   state = Tc (record {
@@ -106,18 +107,27 @@ ordering_steps =
     comes 3 [] [] [] []
     ∷ comes 3 [] (second_tx ∷ []) (to_place (epochs 1) (Epoch (DiVerifyEnd second_tx)) ∷ []) []
     ∷ comes 3 (second (Completing 1 1) ∷ []) (second_tx ∷ [])
-    (to_place client (Client (TcCommitConf second_tx 1)) ∷ to_place (rows_of 1) (Chain (Complete second_tx key alone 0)) ∷ []) []
-    ∷ comes 3 (second (Committing 1 1) ∷ []) (second_tx ∷ []) (to_place (rows_of 1) (Chain (Commit second_tx key 1 alone 0)) ∷ []) []
-    ∷ comes 3 (second Verifying ∷ []) (second_tx ∷ []) (to_place (coordinator 1) (Epoch (DiVerifyConf second_tx 1)) ∷ []) (Decided second_tx 1 ∷ [])
-    ∷ comes 3 (second Verifying ∷ []) [] (to_place (epochs 1) (Epoch (DiVerifyReq second_tx ((second_write, Done) ∷ []))) ∷ []) []
+    (to_place client (Client (TcCommitConf second_tx 1)) ∷ to_place (rows_of 1) (Chain (Complete second_tx key alone 0))
+    ∷ []) []
+    ∷ comes 3 (second (Committing 1 1) ∷ []) (second_tx ∷ [])
+    (to_place (rows_of 1) (Chain (Commit second_tx key 1 alone 0)) ∷ []) []
+    ∷ comes 3 (second Verifying ∷ []) (second_tx ∷ [])
+    (to_place (coordinator 1) (Epoch (DiVerifyConf second_tx 1)) ∷ []) (Decided second_tx 1 ∷ [])
+    ∷ comes 3 (second Verifying ∷ []) [] (to_place (epochs 1)
+    (Epoch (DiVerifyReq second_tx ((second_write, Done) ∷ []))) ∷ []) []
     ∷ comes 3 (second Open ∷ []) [] [] []
     ∷ comes 3 (second Open ∷ []) (first_tx ∷ []) (to_place (epochs 1) (Epoch (DiVerifyEnd first_tx)) ∷ []) []
-    ∷ comes 3 (first (Completing 1 1) ∷ second Open ∷ []) (first_tx ∷ []) (to_place client (Client (TcKeyConf second_tx Done)) ∷ []) []
+    ∷ comes 3 (first (Completing 1 1) ∷ second Open ∷ []) (first_tx ∷ [])
+    (to_place client (Client (TcKeyConf second_tx Done)) ∷ []) []
     ∷ comes 3 (first (Completing 1 1) ∷ behind ∷ []) (first_tx ∷ [])
-    (to_place client (Client (TcCommitConf first_tx 1)) ∷ to_place (rows_of 1) (Chain (Complete first_tx key alone 0)) ∷ []) []
-    ∷ comes 3 (first (Committing 1 1) ∷ behind ∷ []) (first_tx ∷ []) (to_place (rows_of 1) (Chain (Commit first_tx key 1 alone 0)) ∷ []) []
-    ∷ comes 3 (first Verifying ∷ behind ∷ []) (first_tx ∷ []) (to_place (coordinator 1) (Epoch (DiVerifyConf first_tx 1)) ∷ []) (Decided first_tx 1 ∷ [])
-    ∷ comes 3 (first Verifying ∷ behind ∷ []) [] (to_place (epochs 1) (Epoch (DiVerifyReq first_tx ((first_write, Done) ∷ []))) ∷ []) []
+    (to_place client (Client (TcCommitConf first_tx 1)) ∷ to_place (rows_of 1) (Chain (Complete first_tx key alone 0)) ∷
+    []) []
+    ∷ comes 3 (first (Committing 1 1) ∷ behind ∷ []) (first_tx ∷ [])
+    (to_place (rows_of 1) (Chain (Commit first_tx key 1 alone 0)) ∷ []) []
+    ∷ comes 3 (first Verifying ∷ behind ∷ []) (first_tx ∷ [])
+    (to_place (coordinator 1) (Epoch (DiVerifyConf first_tx 1)) ∷ []) (Decided first_tx 1 ∷ [])
+    ∷ comes 3 (first Verifying ∷ behind ∷ []) []
+    (to_place (epochs 1) (Epoch (DiVerifyReq first_tx ((first_write, Done) ∷ []))) ∷ []) []
     ∷ second_puts alone
     ∷ comes 3 (first Open ∷ (second_tx, begun) ∷ []) [] (to_place client (Client (TcBeginConf None second_tx)) ∷ []) []
     ∷ comes 2 (first Open ∷ []) [] (to_place client (Client (TcKeyConf first_tx Done)) ∷ []) []
@@ -126,7 +136,9 @@ ordering_steps =
     ∷ []
 
 pub ordering_do : Do lone 2 ordering ordering_steps
-unfolding started fresh_part row tc_part_row tc.begin_row operate.operate_row operate.answer_row commit.verify_row commit.commit_row commit.committed_row all_committed completed_row sends.entering sends.phase_sends sends.front_sends sends.key_sends part_effects without dih.decide_row dih.end_row
+unfolding started fresh_part row tc_part_row tc.begin_row operate.operate_row operate.answer_row commit.verify_row
+    commit.commit_row commit.committed_row all_committed completed_row sends.entering sends.phase_sends
+    sends.front_sends sends.key_sends part_effects without dih.decide_row dih.end_row
 ordering_do = (
   record { at = refl; stamped = refl; does = refl; marks = refl; asked = tt },
   (
@@ -154,13 +166,25 @@ ordering_do = (
                         (
                           record { at = refl; stamped = refl; does = refl; marks = refl; asked = tt },
                           (
-                            record { at = refl; stamped = refl; does = ap second_puts chain_is; marks = refl; asked = tt },
+                            record {
+                              at = refl;
+                              stamped = refl;
+                              does = ap second_puts chain_is;
+                              marks = refl;
+                              asked = tt;
+                            },
                             (
                               record { at = refl; stamped = refl; does = refl; marks = refl; asked = tt },
                               (
                                 record { at = refl; stamped = refl; does = refl; marks = refl; asked = tt },
                                 (
-                                  record { at = refl; stamped = refl; does = ap first_puts chain_is; marks = refl; asked = tt },
+                                  record {
+                                    at = refl;
+                                    stamped = refl;
+                                    does = ap first_puts chain_is;
+                                    marks = refl;
+                                    asked = tt;
+                                  },
                                   (
                                     record { at = refl; stamped = refl; does = refl; marks = refl; asked = tt },
                                     tt,

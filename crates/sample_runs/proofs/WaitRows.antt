@@ -125,7 +125,8 @@ first_prepared locks waiting = with_row None 0 (first_record ∷ []) 22 26 locks
 
 -- it is committed
 abbrev first_committed : Locks → LqhState
-first_committed locks = with_row (Some first_value) 1 (rows.committed first_record 1 ∷ []) 48 0 locks (waiter ∷ []) (marker first_tx)
+first_committed locks =
+    with_row (Some first_value) 1 (rows.committed first_record 1 ∷ []) 48 0 locks (waiter ∷ []) (marker first_tx)
 
 -- it is completed, behind the preparation of the second
 abbrev first_completed : Locks → List Marker → LqhState
@@ -133,7 +134,8 @@ first_completed locks markers = with_row (Some first_value) 1 (second_record ∷
 
 -- the second is committed, and completed
 abbrev second_committed : Locks → LqhState
-second_committed locks = with_row (Some second_value) 1 (rows.committed second_record 1 ∷ []) 96 0 locks [] (marker second_tx)
+second_committed locks =
+    with_row (Some second_value) 1 (rows.committed second_record 1 ∷ []) 96 0 locks [] (marker second_tx)
 
 abbrev second_completed : Locks → List Marker → LqhState
 second_completed locks markers = with_row (Some second_value) 1 [] 96 0 locks [] markers
@@ -144,11 +146,13 @@ comes s sends marks = record { state = Ldm s; effects = record { sends = sends; 
 -- a transaction lets go of the lock that is found
 abbrev lets_go : LqhState → TxId → Outgoing → Mark → Option RowLock → Step Host
 lets_go s tx send mark found =
-    comes (with_lock s key (released (or_unlocked found) tx)) (send ∷ serve_granted 1 (released (or_unlocked found) tx)) (mark ∷ [])
+    comes (with_lock s key (released (or_unlocked found) tx)) (send ∷ serve_granted 1 (released (or_unlocked found) tx))
+    (mark ∷ [])
 
 -- the requests whose lock is granted go on, where this lock is found
 abbrev goes_on : LqhState → Option RowLock → Step Host
-goes_on s found = in_ldm (granted_by s (position (λ (r : Request). not (is_some (ahead_of (or_unlocked found) r.tx))) s.waiting))
+goes_on s found =
+    in_ldm (granted_by s (position (λ (r : Request). not (is_some (ahead_of (or_unlocked found) r.tx))) s.waiting))
 
 abbrev confirmed : TxId → Outgoing
 confirmed tx = to_place (coordinator 1) (Chain (told.LqhKeyConf tx key Done))
@@ -166,7 +170,8 @@ serving_steps =
     ∷ comes (second_committed nobody) (committed_told second_tx ∷ []) (Applied second_tx key ∷ [])
     ∷ comes (first_completed still_holds []) [] []
     ∷ comes (first_completed still_holds (marker first_tx)) (completed_told first_tx ∷ []) (Completed first_tx key ∷ [])
-    ∷ comes (with_row (Some first_value) 1 (rows.committed first_record 1 ∷ second_record ∷ []) 70 26 second_holds [] (marker first_tx))
+    ∷ comes (with_row (Some first_value) 1 (rows.committed first_record 1 ∷ second_record ∷ []) 70 26 second_holds []
+    (marker first_tx))
     (confirmed second_tx ∷ []) (Prepared second_tx key ∷ [])
     ∷ comes (first_committed second_holds)
     (committed_told first_tx ∷ to_place (rows_of 1) (AnyHost (Continue Granted 0)) ∷ []) (Applied first_tx key ∷ [])
@@ -175,25 +180,85 @@ serving_steps =
     ∷ []
 
 pub serving_do : Do lone 3 serving serving_steps
-unfolding started fresh_part row ldm_row perform answer_to store_row committed_in commit_row complete_row acknowledged granted_row size_of rows.row_of rows.record_of rows.seen rows.storing rows.is_full rows.commit_record rows.complete_record rows.record_state
+unfolding started fresh_part row ldm_row perform answer_to store_row committed_in commit_row complete_row acknowledged
+    granted_row size_of rows.row_of rows.record_of rows.seen rows.storing rows.is_full rows.commit_record
+    rows.complete_record rows.record_state
 serving_do = (
   record { at = refl; stamped = refl; does = refl; marks = refl; asked = tt },
   (
-    record { at = refl; stamped = refl; does = ap (lets_go (second_completed nobody (marker second_tx)) second_tx (completed_told second_tx) (Completed second_tx key)) free_at ∙ ap (λ locks. comes (second_completed locks (marker second_tx)) (completed_told second_tx ∷ []) (Completed second_tx key ∷ [])) still_empty; marks = refl; asked = tt },
+    record {
+      at = refl;
+      stamped = refl;
+      does = ap
+          (lets_go (second_completed nobody (marker second_tx)) second_tx (completed_told second_tx)
+          (Completed second_tx key)) free_at
+          ∙ ap (λ locks. comes (second_completed locks (marker second_tx)) (completed_told second_tx ∷ [])
+          (Completed second_tx key ∷ [])) still_empty;
+      marks = refl;
+      asked = tt;
+    },
     (
-      record { at = refl; stamped = refl; does = ap (lets_go (second_committed still_holds) second_tx (committed_told second_tx) (Applied second_tx key)) (lock_at second_holds second_lock) ∙ ap (λ locks. comes (second_committed locks) (committed_told second_tx ∷ []) (Applied second_tx key ∷ [])) emptied; marks = refl; asked = tt },
+      record {
+        at = refl;
+        stamped = refl;
+        does = ap
+            (lets_go (second_committed still_holds) second_tx (committed_told second_tx) (Applied second_tx key))
+            (lock_at second_holds second_lock)
+            ∙ ap (λ locks. comes (second_committed locks) (committed_told second_tx ∷ [])
+            (Applied second_tx key ∷ [])) emptied;
+        marks = refl;
+        asked = tt;
+      },
       (
         record { at = refl; stamped = refl; does = refl; marks = refl; asked = tt },
         (
-          record { at = refl; stamped = refl; does = ap (lets_go (first_completed second_holds (marker first_tx)) first_tx (completed_told first_tx) (Completed first_tx key)) (lock_at second_waits second_lock); marks = refl; asked = tt },
+          record {
+            at = refl;
+            stamped = refl;
+            does = ap
+                (lets_go (first_completed second_holds (marker first_tx)) first_tx (completed_told first_tx)
+                (Completed first_tx key)) (lock_at second_waits second_lock);
+            marks = refl;
+            asked = tt;
+          },
           (
-            record { at = refl; stamped = refl; does = ap (goes_on (first_committed second_holds)) (lock_at second_waits second_lock); marks = refl; asked = tt },
+            record {
+              at = refl;
+              stamped = refl;
+              does = ap (goes_on (first_committed second_holds))
+                  (lock_at second_waits second_lock);
+              marks = refl;
+              asked = tt;
+            },
             (
-              record { at = refl; stamped = refl; does = ap (lets_go (first_committed second_waits) first_tx (committed_told first_tx) (Applied first_tx key)) (lock_at first_holds waited_lock); marks = refl; asked = tt },
+              record {
+                at = refl;
+                stamped = refl;
+                does = ap
+                    (lets_go (first_committed second_waits) first_tx (committed_told first_tx) (Applied first_tx key))
+                    (lock_at first_holds waited_lock);
+                marks = refl;
+                asked = tt;
+              },
               (
-                record { at = refl; stamped = refl; does = ap in_ldm (asks (first_prepared first_holds []) waiter (Some first_lock) (lock_at nobody first_lock)); marks = refl; asked = tt },
+                record {
+                  at = refl;
+                  stamped = refl;
+                  does = ap in_ldm
+                      (asks (first_prepared first_holds []) waiter (Some first_lock) (lock_at nobody first_lock));
+                  marks = refl;
+                  asked = tt;
+                },
                 (
-                  record { at = refl; stamped = refl; does = ap in_ldm (asks unasked (record { tx = first_tx; work = Operate first_write; chain = alone; at = 0 }) None free_at); marks = refl; asked = tt },
+                  record {
+                    at = refl;
+                    stamped = refl;
+                    does = ap in_ldm
+                        (asks unasked (record { tx = first_tx; work = Operate first_write; chain = alone; at = 0 })
+                        None free_at);
+                    marks = refl;
+                    asked = tt;
+                  },
                   tt,
                 ),
               ),

@@ -58,25 +58,31 @@ replied = Begun 1 1 ∷ Answered (Some 1) Done ∷ []
 abbrev pub asking_steps : List (Step Host)
 asking_steps =
     comes [] None
-    (Begun 1 1 ∷ Answered (Some 1) Done ∷ Ended (Some 1) (Committed 1) ∷ Answered None Done ∷ Ended None (Committed 1) ∷ [])
+    (Begun 1 1 ∷ Answered (Some 1) Done ∷ Ended (Some 1) (Committed 1) ∷ Answered None Done ∷ Ended None (Committed 1) ∷
+    [])
     (to_place (rows_of 1) (Client (TcCommitAck second_tx)) ∷ []) (Reported second_tx (Committed 1) ∷ [])
     ∷ comes (second Committing ∷ []) None
     (Begun 1 1 ∷ Answered (Some 1) Done ∷ Ended (Some 1) (Committed 1) ∷ Answered None Done ∷ [])
     (to_place (coordinator 1) (Client (TcCommitReq second_tx)) ∷ []) []
     ∷ comes (second Operating ∷ []) None (Begun 1 1 ∷ Answered (Some 1) Done ∷ Ended (Some 1) (Committed 1) ∷ [])
     (to_place (rows_of 1) (Client (TcCommitAck first_tx)) ∷ []) (Reported first_tx (Committed 1) ∷ [])
-    ∷ comes (first 1 Committing ∷ second Operating ∷ []) (Some 0) replied (to_place (coordinator 1) (Client (TcCommitReq first_tx)) ∷ []) []
-    ∷ comes (first 1 Ready ∷ second Operating ∷ []) (Some 1) replied (to_place (coordinator 1) (Client (TcKeyReq second_tx second_write)) ∷ []) []
+    ∷ comes (first 1 Committing ∷ second Operating ∷ []) (Some 0) replied
+    (to_place (coordinator 1) (Client (TcCommitReq first_tx)) ∷ []) []
+    ∷ comes (first 1 Ready ∷ second Operating ∷ []) (Some 1) replied
+    (to_place (coordinator 1) (Client (TcKeyReq second_tx second_write)) ∷ []) []
     ∷ comes (first 1 Ready ∷ opened None None 0 (Beginning (Some second_write)) ∷ []) (Some 1) replied
     (to_place (coordinator 1) (Client (TcBeginReq None)) ∷ []) []
     ∷ comes (first 1 Ready ∷ []) (Some 0) replied [] []
-    ∷ comes (first 1 Operating ∷ []) (Some 0) (Begun 1 1 ∷ []) (to_place (coordinator 1) (Client (TcKeyReq first_tx first_write)) ∷ []) []
+    ∷ comes (first 1 Operating ∷ []) (Some 0) (Begun 1 1 ∷ [])
+    (to_place (coordinator 1) (Client (TcKeyReq first_tx first_write)) ∷ []) []
     ∷ comes (first 0 Ready ∷ []) (Some 0) (Begun 1 1 ∷ []) [] []
-    ∷ comes (opened (Some 1) None 0 (Beginning None) ∷ []) (Some 0) [] (to_place (coordinator 1) (Client (TcBeginReq (Some 1))) ∷ []) []
+    ∷ comes (opened (Some 1) None 0 (Beginning None) ∷ []) (Some 0) []
+    (to_place (coordinator 1) (Client (TcBeginReq (Some 1))) ∷ []) []
     ∷ []
 
 pub asking_do : Do lone 0 asking asking_steps
-unfolding started fresh_shell row shell_row request_row api.begin_row api.commit_row lone_row operate_row least_node begun_row answer_row commit_report_row everyone
+unfolding started fresh_shell row shell_row request_row api.begin_row api.commit_row lone_row operate_row least_node
+    begun_row answer_row commit_report_row everyone
 asking_do = (
   record { at = refl; stamped = refl; does = refl; marks = refl; asked = tt },
   (
@@ -84,19 +90,59 @@ asking_do = (
     (
       record { at = refl; stamped = refl; does = refl; marks = refl; asked = tt },
       (
-        record { at = refl; stamped = refl; does = refl; marks = refl; asked = record { request = request.Commit 1; shell = refl; is = refl } },
+        record {
+          at = refl;
+          stamped = refl;
+          does = refl;
+          marks = refl;
+          asked = record {
+            request = request.Commit 1;
+            shell = refl;
+            is = refl;
+          };
+        },
         (
           record { at = refl; stamped = refl; does = refl; marks = refl; asked = tt },
           (
-            record { at = refl; stamped = refl; does = refl; marks = refl; asked = record { request = request.Operate None second_write; shell = refl; is = refl } },
+            record {
+              at = refl;
+              stamped = refl;
+              does = refl;
+              marks = refl;
+              asked = record {
+                request = request.Operate None second_write;
+                shell = refl;
+                is = refl;
+              };
+            },
             (
               record { at = refl; stamped = refl; does = refl; marks = refl; asked = tt },
               (
-                record { at = refl; stamped = refl; does = refl; marks = refl; asked = record { request = request.Operate (Some 1) first_write; shell = refl; is = refl } },
+                record {
+                  at = refl;
+                  stamped = refl;
+                  does = refl;
+                  marks = refl;
+                  asked = record {
+                    request = request.Operate (Some 1) first_write;
+                    shell = refl;
+                    is = refl;
+                  };
+                },
                 (
                   record { at = refl; stamped = refl; does = refl; marks = refl; asked = tt },
                   (
-                    record { at = refl; stamped = refl; does = refl; marks = refl; asked = record { request = request.Begin 1 (Some 1); shell = refl; is = refl } },
+                    record {
+                      at = refl;
+                      stamped = refl;
+                      does = refl;
+                      marks = refl;
+                      asked = record {
+                        request = request.Begin 1 (Some 1);
+                        shell = refl;
+                        is = refl;
+                      };
+                    },
                     tt,
                   ),
                 ),

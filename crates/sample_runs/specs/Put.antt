@@ -64,17 +64,20 @@ write = Put key value
 abbrev pub marked : ℕ → ℕ → List Mark → Signal → HostStep
 marked h stamp marks x = record { host = h; step = record { stamp = stamp; taken = x; marks = marks } }
 
--- the shell's host: the client asks for the put alone, at node 1, is told that its transaction has begun and what the put
+-- the shell's host: the client asks for the put alone, at node 1, is told that its transaction has begun and what the
+-- put
 -- answers, and that all is committed
 abbrev pub shell : List HostStep
 shell =
-    marked 0 15 (Reported first_tx (Committed 1) ∷ []) (headed both 2 14 2 (to_place client (Client (TcCommitConf first_tx 1))))
+    marked 0 15 (Reported first_tx (Committed 1) ∷ [])
+    (headed both 2 14 2 (to_place client (Client (TcCommitConf first_tx 1))))
     ∷ takes 0 8 (headed both 2 7 1 (to_place client (Client (TcKeyConf first_tx Done))))
     ∷ takes 0 3 (headed both 2 2 0 (to_place client (Client (TcBeginConf None first_tx))))
     ∷ takes 0 1 (request_signal both 0 (request.Operate None write))
     ∷ []
 
--- the coordinator and epochs of node 1: the transaction begins, performs its operation and is told of the answer, gets an
+-- the coordinator and epochs of node 1: the transaction begins, performs its operation and is told of the answer, gets
+-- an
 -- epoch, is committed, and is completed
 abbrev pub coordination : List HostStep
 coordination =
@@ -82,7 +85,8 @@ coordination =
     ∷ takes 2 19 (headed both 3 18 1 (to_place (coordinator 1) (Chain (rows.Completed first_tx key))))
     ∷ takes 2 14 (headed both 3 13 0 (to_place (coordinator 1) (Chain (rows.Committed first_tx key))))
     ∷ takes 2 11 (headed both 2 10 1 (to_place (coordinator 1) (Epoch (DiVerifyConf first_tx 1))))
-    ∷ marked 2 10 (Decided first_tx 1 ∷ []) (headed both 2 9 0 (to_place (epochs 1) (Epoch (DiVerifyReq first_tx ((write, Done) ∷ [])))))
+    ∷ marked 2 10 (Decided first_tx 1 ∷ [])
+    (headed both 2 9 0 (to_place (epochs 1) (Epoch (DiVerifyReq first_tx ((write, Done) ∷ [])))))
     ∷ takes 2 9 (headed both 0 8 2 (to_place (coordinator 1) (Client (TcCommitReq first_tx))))
     ∷ takes 2 7 (headed both 6 6 0 (to_place (coordinator 1) (Chain (rows.LqhKeyConf first_tx key Done))))
     ∷ takes 2 4 (headed both 0 3 1 (to_place (coordinator 1) (Client (TcKeyReq first_tx write))))
@@ -92,19 +96,25 @@ coordination =
 -- the rows of node 1, the primary: the put is prepared, committed and completed
 abbrev pub primary : List HostStep
 primary =
-    marked 3 18 (Completed first_tx key ∷ []) (headed both 6 17 1 (to_place (rows_of 1) (Chain (rows.Complete first_tx key replicas 0))))
+    marked 3 18 (Completed first_tx key ∷ [])
+    (headed both 6 17 1 (to_place (rows_of 1) (Chain (rows.Complete first_tx key replicas 0))))
     ∷ takes 3 16 (headed both 0 15 0 (to_place (rows_of 1) (Client (TcCommitAck first_tx))))
-    ∷ marked 3 13 (Applied first_tx key ∷ []) (headed both 6 12 0 (to_place (rows_of 1) (Chain (rows.Commit first_tx key 1 replicas 0))))
-    ∷ marked 3 5 (Prepared first_tx key ∷ []) (headed both 2 4 0 (to_place (rows_of 1) (Chain (rows.LqhKeyReq first_tx (Operate write) replicas 0))))
+    ∷ marked 3 13 (Applied first_tx key ∷ [])
+    (headed both 6 12 0 (to_place (rows_of 1) (Chain (rows.Commit first_tx key 1 replicas 0))))
+    ∷ marked 3 5 (Prepared first_tx key ∷ [])
+    (headed both 2 4 0 (to_place (rows_of 1) (Chain (rows.LqhKeyReq first_tx (Operate write) replicas 0))))
     ∷ []
 
--- the rows of node 2, the backup: its image is prepared behind the primary's, and committed and completed in front of it
+-- the rows of node 2, the backup: its image is prepared behind the primary's, and committed and completed in front of
+-- it
 abbrev pub backup : List HostStep
 backup =
-    marked 6 17 (Completed first_tx key ∷ []) (headed both 2 14 1 (to_place (rows_of 2) (Chain (rows.Complete first_tx key replicas 1))))
+    marked 6 17 (Completed first_tx key ∷ [])
+    (headed both 2 14 1 (to_place (rows_of 2) (Chain (rows.Complete first_tx key replicas 1))))
     ∷ takes 6 16 (headed both 0 15 0 (to_place (rows_of 2) (Client (TcCommitAck first_tx))))
     ∷ takes 6 12 (headed both 2 11 0 (to_place (rows_of 2) (Chain (rows.Commit first_tx key 1 replicas 1))))
-    ∷ marked 6 6 (Prepared first_tx key ∷ []) (headed both 3 5 0 (to_place (rows_of 2) (Chain (rows.LqhKeyReq first_tx (Store key (Some value)) replicas 1))))
+    ∷ marked 6 6 (Prepared first_tx key ∷ [])
+    (headed both 3 5 0 (to_place (rows_of 2) (Chain (rows.LqhKeyReq first_tx (Store key (Some value)) replicas 1))))
     ∷ []
 
 -- the logs of all hosts

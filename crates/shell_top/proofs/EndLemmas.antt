@@ -31,7 +31,7 @@ use Rattle.shell_top.specs.Served.{AreInPeace, IsServed}
 use Rattle.shell_top.specs.Session.{AreLinesDone, IsSession, IsUnderWay}
 use Rattle.shell_top.specs.Text.{down_line, fault_line}
 use Rattle.shell_top.specs.Told.{text_of}
-use Rattle.peace_laws.proofs.Peaceful.{closings_answered, lives_plain}
+use Rattle.peace_laws.proofs.lives.Peaceful.{closings_answered, lives_plain}
 use Rattle.shell_top.proofs.PeacefulLemmas.{peacefully_served}
 use Rattle.shell_top.proofs.PrintedLemmas.{prints_both}
 use Rattle.shell_top.proofs.SafeLemmas.{between_cuts, cuts_are_safe}
@@ -62,10 +62,12 @@ no_step : (start : Start) (h : ℕ) → logs_at (new_world start).logs h ≡ []
 no_step start h = go (cases_lt h (hosts start))
   where
     go : (h < hosts start) ⊎ (hosts start ≤ h) → logs_at (new_world start).logs h ≡ []
-    go (inl low) = ap (λ (log : HostLog). map (of_host h) (reverse log.steps)) (each_at (hosts start) no_steps h (no_steps 0) low)
+    go (inl low) =
+        ap (λ (log : HostLog). map (of_host h) (reverse log.steps)) (each_at (hosts start) no_steps h (no_steps 0) low)
     go (inr past) =
         ap (λ (log : HostLog). map (of_host h) (reverse log.steps))
-        (get_or_past (for_each (hosts start) no_steps) h (no_steps 0) (omega (arith, past, each_length (hosts start) no_steps)))
+        (get_or_past (for_each (hosts start) no_steps) h (no_steps 0)
+        (omega (arith, past, each_length (hosts start) no_steps)))
 
 -- so nothing is told
 still_as_it_was : (down : Bool) → down_line down down ≡ []
@@ -97,7 +99,8 @@ starts left written session lives opened =
       commands = [];
       read = subst (Consumes left left) (sym opened.reader) (Consumes-nil left);
       lines = λ ended more. ap (λ n. script_from shape.nodes ended n more) (sym opened.line);
-      printed = subst (λ (w : Whole). Appends written written (text_of (fresh shape) (logs_at w.logs 0))) (sym opened.world) (subst (Appends written written) (sym (fresh_text (fresh shape))) (Appends-nil written));
+      printed = subst (λ (w : Whole). Appends written written (text_of (fresh shape) (logs_at w.logs 0)))
+          (sym opened.world) (subst (Appends written written) (sym (fresh_text (fresh shape))) (Appends-nil written));
       served = subst (IsServed (fresh shape) []) (sym opened.world)
           (record {
             given = [];
@@ -115,7 +118,8 @@ starts left written session lives opened =
     }
 
 -- the one life that is handed back
-pub one_life : (lives before : List Life) (life last : Life) → lives ≡ before ++ life ∷ [] → before ≡ [] → life ≡ last → lives ≡ last ∷ []
+pub one_life : (lives before : List Life) (life last : Life) → lives ≡ before ++ life ∷ [] → before ≡ [] → life ≡ last
+    → lives ≡ last ∷ []
 one_life lives before life last are none is = are ∙ ap (λ ls. ls ++ life ∷ []) none ∙ ap (λ l. l ∷ []) is
 
 -- a count that rose and doesn't fall has risen
@@ -136,7 +140,8 @@ is_life shape sound e commands logs lived =
     record {
       begins = refl;
       lived = lived;
-      run = merged_run (machine (fresh shape)) (is_stamped (fresh shape)) (hosts (fresh shape)) (logs_at logs) lived.within lived.right;
+      run = merged_run (machine (fresh shape)) (is_stamped (fresh shape)) (hosts (fresh shape)) (logs_at logs)
+          lived.within lived.right;
       safe = cuts_are_safe (fresh shape) (logs_at logs) (omega arith) sound lived.within lived.right;
       between = between_cuts (fresh shape) (logs_at logs) (omega arith) sound lived.within lived.right;
       grows = λ small large inside cut. histories_grow (fresh shape) small large inside;
@@ -167,8 +172,10 @@ session_done shape sound left left_now written mid now ReadFailed WriteFailed me
       read_cause = read_cause;
       write_cause = write_cause;
       cut_short = cut_short;
-      told = prints_both (is_cut_short meant) (is_cut_short result) meant result refl refl written mid now (session_text (Some shape) (fresh_life logs ∷ []))
-          (subst (Prints meant meant written mid) (sym (append-nil (text_of (fresh shape) (logs_at logs 0)))) lines.told) last;
+      told = prints_both (is_cut_short meant) (is_cut_short result) meant result refl refl written mid now
+          (session_text (Some shape) (fresh_life logs ∷ []))
+          (subst (Prints meant meant written mid) (sym (append-nil (text_of (fresh shape) (logs_at logs 0))))
+          lines.told) last;
       lived = is_life shape sound meant (script_from shape.nodes lines.ended 1 lines.input).commands logs lines.lived;
       words_first = λ none. cc;
       words_refused = λ is. absurd (lines.no_words is);

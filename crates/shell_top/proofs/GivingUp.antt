@@ -108,6 +108,7 @@ pub none_stops : (start : Start) (logs : ℕ → List HostStep) → AreLogs (mac
 none_stops start logs right own wants =
     record {
       none = none_gives_up start logs right own wants;
-      unspent = λ h. each_map (λ e. list_any gives_up e.step.marks ≡ false) (λ e. list_any is_spent e.step.marks ≡ false)
+      unspent =
+          λ h. each_map (λ e. list_any gives_up e.step.marks ≡ false) (λ e. list_any is_spent e.step.marks ≡ false)
           (logs h) (λ e none. unspent e.step.marks none) (wants h);
     }

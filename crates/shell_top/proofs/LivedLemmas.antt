@@ -47,9 +47,11 @@ module _ (start : Start) where
   none_begun log None = refl
   none_begun log (Some c) = inl (record { part = 0; begun = sym (append-nil (requests log)) })
 
-  served_in_part : (done rest : List Command) (w : Whole) (commands : List Command) → IsServed start done w → commands ≡ done ++ rest → AreAskedInPart start commands (logs_at w.logs 0)
+  served_in_part : (done rest : List Command) (w : Whole) (commands : List Command) → IsServed start done w
+      → commands ≡ done ++ rest → AreAskedInPart start commands (logs_at w.logs 0)
   served_in_part done rest w commands was is =
-      let front : take (length done) commands ≡ done = ap (take (length done)) is ∙ take_at done rest (length done) refl in
+      let front : take (length done) commands ≡ done =
+      ap (take (length done)) is ∙ take_at done rest (length done) refl in
       record {
         count = length done;
         before = logs_at w.logs 0;
@@ -59,7 +61,8 @@ module _ (start : Start) where
       }
 
   -- these are all, unless the session was cut short
-  pub served_lived : (e : Ending) (done rest : List Command) (w : Whole) (commands : List Command) → IsServed start done w → commands ≡ done ++ rest
+  pub served_lived : (e : Ending) (done rest : List Command) (w : Whole) (commands : List Command)
+      → IsServed start done w → commands ≡ done ++ rest
       → (is_cut_short e ≡ false → rest ≡ []) → AreLived start e commands w.logs
   served_lived e done rest w commands was is last =
       record {
@@ -84,11 +87,14 @@ module _ (start : Start) where
           subst (λ cs. AreAsked start (reverse cs) (logs_at w.logs 0)) (sym all) was.asked
 
   -- memory was wanting while the next command was served
-  pub left_lived : (done : List Command) (c : Command) (rest : List Command) (w : Whole) (logs : List HostLog) (commands : List Command) → IsServed start done w → AreLeft start c w logs
+  pub left_lived : (done : List Command) (c : Command) (rest : List Command) (w : Whole) (logs : List HostLog)
+      (commands : List Command) → IsServed start done w → AreLeft start c w logs
       → commands ≡ done ++ c ∷ rest → AreLived start ending.NoMemory commands logs
   left_lived done c rest w logs commands was left is =
-      let front : take (length done) commands ≡ done = ap (take (length done)) is ∙ take_at done (c ∷ rest) (length done) refl in
-      let next : slice_get commands (length done) ≡ Some c = ap (λ cs. slice_get cs (length done)) is ∙ get_behind done rest c in
+      let front : take (length done) commands ≡ done =
+      ap (take (length done)) is ∙ take_at done (c ∷ rest) (length done) refl in
+      let next : slice_get commands (length done) ≡ Some c =
+      ap (λ cs. slice_get cs (length done)) is ∙ get_behind done rest c in
       record {
         labelled = left.left.labelled;
         right = left.left.right;
@@ -115,10 +121,17 @@ module _ (start : Start) where
       }
 
 -- as much as this text is printed, and the logs tell that and more
-pub told_front : (text more all : List ℕ) (written now : Option (List ℕ)) → all ≡ text ++ more → Appends written now text → AppendsPart written now all
+pub told_front : (text more all : List ℕ) (written now : Option (List ℕ)) → all ≡ text ++ more
+    → Appends written now text → AppendsPart written now all
 told_front text more all written now is printed =
-    record { count = length text; appended = subst (Appends written now) (sym (ap (take (length text)) is ∙ take_at text more (length text) refl)) printed }
+    record {
+      count = length text;
+      appended = subst (Appends written now)
+          (sym (ap (take (length text)) is ∙ take_at text more (length text) refl)) printed;
+    }
 
 -- or all before the last command, and a part of that
-pub told_part : (text more all : List ℕ) (written mid now : Option (List ℕ)) → all ≡ text ++ more → Appends written mid text → AppendsPart mid now more → AppendsPart written now all
-told_part text more all written mid now is printed part = subst (AppendsPart written now) (sym is) (part_behind written mid now text more printed part)
+pub told_part : (text more all : List ℕ) (written mid now : Option (List ℕ)) → all ≡ text ++ more
+    → Appends written mid text → AppendsPart mid now more → AppendsPart written now all
+told_part text more all written mid now is printed part =
+    subst (AppendsPart written now) (sym is) (part_behind written mid now text more printed part)

@@ -46,10 +46,12 @@ all_both p (x ∷ xs) ys e f = go (p x) e (λ all. all_both p xs ys all f)
     go true e later = later e
     go false e later = cc
 
-pub requests_front : (asked more : List ApiReq) → are_peaceful_requests (asked ++ more) ≡ true → are_peaceful_requests asked ≡ true
+pub requests_front : (asked more : List ApiReq) → are_peaceful_requests (asked ++ more) ≡ true
+    → are_peaceful_requests asked ≡ true
 requests_front asked more e = all_front is_peaceful_request asked more e
 
-pub requests_back : (asked more : List ApiReq) → are_peaceful_requests (asked ++ more) ≡ true → are_peaceful_requests more ≡ true
+pub requests_back : (asked more : List ApiReq) → are_peaceful_requests (asked ++ more) ≡ true
+    → are_peaceful_requests more ≡ true
 requests_back asked more e = all_back is_peaceful_request asked more e
 
 pub commands_front : (done rest : List Command) → are_peaceful (done ++ rest) ≡ true → are_peaceful done ≡ true
@@ -58,7 +60,8 @@ commands_front done rest e = all_front is_peaceful_command done rest e
 pub commands_back : (done rest : List Command) → are_peaceful (done ++ rest) ≡ true → are_peaceful rest ≡ true
 commands_back done rest e = all_back is_peaceful_command done rest e
 
-pub first_peaceful : (request : ApiReq) → are_peaceful_requests (request ∷ []) ≡ true → is_peaceful_request request ≡ true
+pub first_peaceful : (request : ApiReq) → are_peaceful_requests (request ∷ []) ≡ true
+    → is_peaceful_request request ≡ true
 first_peaceful request e = go (is_peaceful_request request) e
   where
     go : (b : Bool) → (b && true) ≡ true → b ≡ true
@@ -92,7 +95,8 @@ command_peaceful (command.Rows at) e = refl
 command_peaceful (command.Digest at) e = refl
 command_peaceful _ e = refl
 
-pub asked_peaceful : (c : Command) → is_peaceful_command c ≡ true → are_peaceful_requests (requests_of c ++ questions) ≡ true
+pub asked_peaceful : (c : Command) → is_peaceful_command c ≡ true
+    → are_peaceful_requests (requests_of c ++ questions) ≡ true
 asked_peaceful c e = all_both is_peaceful_request (requests_of c) questions (command_peaceful c e) refl
 
 -- who has stopped by no later moment hasn't by an earlier one

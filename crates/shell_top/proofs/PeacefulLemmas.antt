@@ -5,8 +5,8 @@ use Rattle.run_theory.proofs.Pasts.{past_self, past_trans}
 use Rattle.run_theory.specs.Cuts.{IsCut}
 use Rattle.sig_core.specs.declared.request.ApiReq.{ApiReq}
 use Rattle.cause_laws.proofs.Causes.{replies_caused}
-use Rattle.command_laws.proofs.RepliesLive.{replies_live}
-use Rattle.command_laws.proofs.RequestsAnswered.{requests_answered}
+use Rattle.command_laws.proofs.ends.RepliesLive.{replies_live}
+use Rattle.command_laws.proofs.quiet.RequestsAnswered.{requests_answered}
 use Rattle.command_laws.specs.Between.{IsAskedAgain}
 use Rattle.peace_laws.specs.Laws.{ArePlain, AreServedBy, ClosingsAreAnswered, GoOnBy, IsPeacefulLife}
 use Rattle.peace_laws.specs.Laws.{PeacefulLivesArePlain}

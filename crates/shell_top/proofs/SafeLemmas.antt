@@ -12,19 +12,19 @@ use Rattle.world_core.specs.Steps.{HostStep}
 use Rattle.world_views.proofs.SentFacts.{is_stamped}
 use Rattle.world_views.specs.Machine.{machine}
 use Rattle.view_laws.specs.Runs.{AreOfCluster}
-use Rattle.view_laws.proofs.EraEntries.{stand_in_order}
-use Rattle.view_laws.proofs.RunKept.{have_orderly}
-use Rattle.view_laws.proofs.RunViews.{one_view, past_none, viable}
+use Rattle.view_laws.proofs.eras.Entries.{stand_in_order}
+use Rattle.view_laws.proofs.runs.AllSound.{have_orderly}
+use Rattle.view_laws.proofs.runs.ChosenViews.{one_view, past_none, viable}
 use Rattle.epoch_laws.proofs.FallAll.{epochs_of_histories}
-use Rattle.outcome_laws.proofs.OnceDecided.{decided_once}
-use Rattle.outcome_laws.proofs.OnceDown.{none_down_decided}
-use Rattle.outcome_laws.proofs.OnceReported.{reported_once}
-use Rattle.outcome_laws.proofs.StrictOrder.{histories_in_strict_order}
+use Rattle.outcome_laws.proofs.once.DecidedOnce.{decided_once}
+use Rattle.outcome_laws.proofs.downfall.NeverDecided.{none_down_decided}
+use Rattle.outcome_laws.proofs.once.ReportedOnce.{reported_once}
+use Rattle.outcome_laws.proofs.order.ReportsBeforeAsks.{histories_in_strict_order}
 use Rattle.talk_laws.proofs.Told.{decided_as_told}
-use Rattle.closing_laws.proofs.Closings.{closed_stay_closed}
-use Rattle.closing_laws.proofs.DurableAll.{durable_were_closed}
-use Rattle.commit_laws.proofs.CutLaws.{aborts_effectless, commits_effective, histories_legal, records_alike, resting_rows}
-use Rattle.commit_laws.proofs.GreatestViews.{greatest_viable}
+use Rattle.closing_laws.proofs.settled.ClosedStayClosed.{closed_stay_closed}
+use Rattle.closing_laws.proofs.durable.All.{durable_were_closed}
+use Rattle.commit_laws.proofs.led.CutLaws.{aborts_effectless, commits_effective, histories_legal, records_alike, resting_rows}
+use Rattle.commit_laws.proofs.views.Greatest.{greatest_viable}
 use Rattle.shell_top.specs.Safe.{AreSafe, IsSafe}
 
 module _ (start : Start) (logs : ℕ → List HostStep) (some : 1 ≤ start.epoch) (shape : IsShape start.shape)

@@ -22,34 +22,41 @@ use Rattle.shell_top.specs.Session.{after}
 place-yes : (byte : ℕ) (bytes : List ℕ) → is_newline byte ≡ true → position_or_len is_newline (byte ∷ bytes) ≡ 0
 place-yes byte bytes is = ap (λ b. cond (not b) (1 + position_or_len is_newline bytes) 0) is
 
-place-no : (byte : ℕ) (bytes : List ℕ) → is_newline byte ≡ false → position_or_len is_newline (byte ∷ bytes) ≡ suc (position_or_len is_newline bytes)
+place-no : (byte : ℕ) (bytes : List ℕ) → is_newline byte ≡ false
+    → position_or_len is_newline (byte ∷ bytes) ≡ suc (position_or_len is_newline bytes)
 place-no byte bytes is =
     let one_more : 1 + position_or_len is_newline bytes ≡ suc (position_or_len is_newline bytes) = omega arith in
     ap (λ b. cond (not b) (1 + position_or_len is_newline bytes) 0) is ∙ one_more
 
 -- up to the newline at a place stands one part, and the others are those of what follows
 pub record SplitsAt (held : List ℕ) (at : ℕ) : Type 0 where
-  pub parts : (more : List ℕ) → slice_split is_newline (take (at + 1) held ++ more) ≡ take at held ∷ slice_split is_newline more
+  pub parts : (more : List ℕ)
+      → slice_split is_newline (take (at + 1) held ++ more) ≡ take at held ∷ slice_split is_newline more
 
 splits_here : (byte : ℕ) (bytes : List ℕ) → is_newline byte ≡ true → SplitsAt (byte ∷ bytes) 0
 splits_here byte bytes is = record { parts = λ more. slice_split-cons_yes is_newline byte more is }
 
-splits_later : (byte : ℕ) (bytes : List ℕ) (at : ℕ) → is_newline byte ≡ false → SplitsAt bytes at → SplitsAt (byte ∷ bytes) (suc at)
+splits_later : (byte : ℕ) (bytes : List ℕ) (at : ℕ) → is_newline byte ≡ false → SplitsAt bytes at
+    → SplitsAt (byte ∷ bytes) (suc at)
 splits_later byte bytes at is later = record {
   parts = λ more.
-      (let shift : suc at + 1 ≡ suc (at + 1) = omega arith in ap (λ n. slice_split is_newline (take n (byte ∷ bytes) ++ more)) shift)
+      (let shift : suc at + 1 ≡ suc (at + 1) = omega arith in
+      ap (λ n. slice_split is_newline (take n (byte ∷ bytes) ++ more)) shift)
       ∙ slice_split-cons_no is_newline byte (take (at + 1) bytes ++ more) is ∙ ap (onto_first byte) (later.parts more);
 }
 
-splits_by : (byte : ℕ) (bytes : List ℕ) (b : Bool) → is_newline byte ≡ b → position_or_len is_newline (byte ∷ bytes) < length (byte ∷ bytes)
+splits_by : (byte : ℕ) (bytes : List ℕ) (b : Bool) → is_newline byte ≡ b
+    → position_or_len is_newline (byte ∷ bytes) < length (byte ∷ bytes)
     → (position_or_len is_newline bytes < length bytes → SplitsAt bytes (position_or_len is_newline bytes))
     → SplitsAt (byte ∷ bytes) (position_or_len is_newline (byte ∷ bytes))
-splits_by byte bytes true is found later = subst (SplitsAt (byte ∷ bytes)) (sym (place-yes byte bytes is)) (splits_here byte bytes is)
+splits_by byte bytes true is found later =
+    subst (SplitsAt (byte ∷ bytes)) (sym (place-yes byte bytes is)) (splits_here byte bytes is)
 splits_by byte bytes false is found later =
     let place = place-no byte bytes is in
     subst (SplitsAt (byte ∷ bytes)) (sym place) (splits_later byte bytes _ is (later (omega (arith, place, found))))
 
-splits_found : (held : List ℕ) → position_or_len is_newline held < length held → SplitsAt held (position_or_len is_newline held)
+splits_found : (held : List ℕ) → position_or_len is_newline held < length held
+    → SplitsAt held (position_or_len is_newline held)
 splits_found [] found = absurd (omega arith)
 splits_found (byte ∷ bytes) found = splits_by byte bytes (is_newline byte) refl found (splits_found bytes)
 
@@ -60,13 +67,15 @@ found_at false n at e = cc
 
 pub splits_at : (held : List ℕ) (at : ℕ) → position is_newline held ≡ Some at → SplitsAt held at
 splits_at held at e =
-    let found = found_at (nat_lt (position_or_len is_newline held) (length held)) (position_or_len is_newline held) at e in
+    let found =
+    found_at (nat_lt (position_or_len is_newline held) (length held)) (position_or_len is_newline held) at e in
     let within : position_or_len is_newline held < length held = grind (arith, nat_tests, found.0) in
     subst (SplitsAt held) found.1 (splits_found held within)
 
 pub found_within : (held : List ℕ) (at : ℕ) → position is_newline held ≡ Some at → at < length held
 found_within held at e =
-    let found = found_at (nat_lt (position_or_len is_newline held) (length held)) (position_or_len is_newline held) at e in
+    let found =
+    found_at (nat_lt (position_or_len is_newline held) (length held)) (position_or_len is_newline held) at e in
     let within : position_or_len is_newline held < length held = grind (arith, nat_tests, found.0) in
     subst (λ n. n < length held) found.1 within
 
@@ -74,7 +83,8 @@ found_within held at e =
 pub record IsOnePart (held : List ℕ) : Type 0 where
   pub parts : slice_split is_newline held ≡ held ∷ []
 
-one_part_by : (byte : ℕ) (bytes : List ℕ) (b : Bool) → is_newline byte ≡ b → length (byte ∷ bytes) ≤ position_or_len is_newline (byte ∷ bytes)
+one_part_by : (byte : ℕ) (bytes : List ℕ) (b : Bool) → is_newline byte ≡ b
+    → length (byte ∷ bytes) ≤ position_or_len is_newline (byte ∷ bytes)
     → (length bytes ≤ position_or_len is_newline bytes → IsOnePart bytes) → IsOnePart (byte ∷ bytes)
 one_part_by byte bytes true is none later = absurd (omega (arith, place-yes byte bytes is, none))
 one_part_by byte bytes false is none later =
@@ -107,7 +117,8 @@ short_line line bytes low short = grind (arith, nat_tests)
 -- lines of a script for so many nodes
 module _ (nodes : ℕ) where
   -- so what is held without a newline is the last part of what was read
-  pub script-part : (ended : Bool) (line : ℕ) (held : List ℕ) → position is_newline held ≡ None → script_from nodes ended line held ≡ last_part nodes ended line held
+  pub script-part : (ended : Bool) (line : ℕ) (held : List ℕ) → position is_newline held ≡ None
+      → script_from nodes ended line held ≡ last_part nodes ended line held
   script-part ended line held e = ap (script_of nodes ended line) (one_part held e).parts
 
   -- a list of parts is never empty
@@ -120,42 +131,57 @@ module _ (nodes : ℕ) where
   script_of-line ended line part (next ∷ more) some = refl
 
   -- a line that is whole, and the script behind it
-  pub script-line : (ended : Bool) (line : ℕ) (held : List ℕ) (at : ℕ) (more : List ℕ) → position is_newline held ≡ Some at
-      → script_from nodes ended line (take (at + 1) held ++ more) ≡ whole_line nodes line (take at held) (script_from nodes ended (line + 1) more)
+  pub script-line : (ended : Bool) (line : ℕ) (held : List ℕ) (at : ℕ) (more : List ℕ)
+      → position is_newline held ≡ Some at
+      → script_from nodes ended line (take (at + 1) held ++ more)
+      ≡ whole_line nodes line (take at held) (script_from nodes ended (line + 1) more)
   script-line ended line held at more e =
       ap (script_of nodes ended line) ((splits_at held at e).parts more)
       ∙ script_of-line ended line (take at held) (slice_split is_newline more) (split_some more)
 
   -- the same, of all that is held
   pub script-held : (ended : Bool) (line : ℕ) (held : List ℕ) (at : ℕ) → position is_newline held ≡ Some at
-      → script_from nodes ended line held ≡ whole_line nodes line (take at held) (script_from nodes ended (line + 1) (drop (at + 1) held))
+      → script_from nodes ended line held
+      ≡ whole_line nodes line (take at held) (script_from nodes ended (line + 1) (drop (at + 1) held))
   script-held ended line held at e =
-      ap (script_from nodes ended line) (sym (take-append-drop (at + 1) held)) ∙ script-line ended line held at (drop (at + 1) held) e
+      ap (script_from nodes ended line) (sym (take-append-drop (at + 1) held))
+      ∙ script-line ended line held at (drop (at + 1) held) e
 
   -- a line that is too long, and one that isn't
-  pub whole_line-long : (line : ℕ) (bytes : List ℕ) (rest : Script) → is_too_long line bytes ≡ true → whole_line nodes line bytes rest ≡ ends_with (TooLong line)
-  whole_line-long line bytes rest long = ap (λ b. if b then ends_with (TooLong line) else follow line (parsed_line nodes bytes) rest) long
+  pub whole_line-long : (line : ℕ) (bytes : List ℕ) (rest : Script) → is_too_long line bytes ≡ true
+      → whole_line nodes line bytes rest ≡ ends_with (TooLong line)
+  whole_line-long line bytes rest long =
+      ap (λ b. if b then ends_with (TooLong line) else follow line (parsed_line nodes bytes) rest) long
 
-  pub whole_line-short : (line : ℕ) (bytes : List ℕ) (rest : Script) → is_too_long line bytes ≡ false → whole_line nodes line bytes rest ≡ follow line (parsed_line nodes bytes) rest
-  whole_line-short line bytes rest short = ap (λ b. if b then ends_with (TooLong line) else follow line (parsed_line nodes bytes) rest) short
+  pub whole_line-short : (line : ℕ) (bytes : List ℕ) (rest : Script) → is_too_long line bytes ≡ false
+      → whole_line nodes line bytes rest ≡ follow line (parsed_line nodes bytes) rest
+  whole_line-short line bytes rest short =
+      ap (λ b. if b then ends_with (TooLong line) else follow line (parsed_line nodes bytes) rest) short
 
   -- the last part of what was read
-  pub last_part-long : (ended : Bool) (line : ℕ) (held : List ℕ) → 0 < length held → is_too_long line held ≡ true → last_part nodes ended line held ≡ ends_with (TooLong line)
+  pub last_part-long : (ended : Bool) (line : ℕ) (held : List ℕ) → 0 < length held → is_too_long line held ≡ true
+      → last_part nodes ended line held ≡ ends_with (TooLong line)
   last_part-long ended line [] some long = absurd (omega arith)
   last_part-long true line (byte ∷ bytes) some long = whole_line-long line (byte ∷ bytes) nothing_more long
-  last_part-long false line (byte ∷ bytes) some long = ap (λ b. if b then ends_with (TooLong line) else nothing_more) long
+  last_part-long false line (byte ∷ bytes) some long =
+      ap (λ b. if b then ends_with (TooLong line) else nothing_more) long
 
-  pub last_part-partial : (line : ℕ) (held : List ℕ) → (0 < length held → is_too_long line held ≡ false) → last_part nodes false line held ≡ nothing_more
+  pub last_part-partial : (line : ℕ) (held : List ℕ) → (0 < length held → is_too_long line held ≡ false)
+      → last_part nodes false line held ≡ nothing_more
   last_part-partial line [] short = refl
-  last_part-partial line (byte ∷ bytes) short = ap (λ b. if b then ends_with (TooLong line) else nothing_more) (short (omega arith))
+  last_part-partial line (byte ∷ bytes) short =
+      ap (λ b. if b then ends_with (TooLong line) else nothing_more) (short (omega arith))
 
-  pub last_part-whole : (line : ℕ) (held : List ℕ) → 0 < length held → is_too_long line held ≡ false → last_part nodes true line held ≡ follow line (parsed_line nodes held) nothing_more
+  pub last_part-whole : (line : ℕ) (held : List ℕ) → 0 < length held → is_too_long line held ≡ false
+      → last_part nodes true line held ≡ follow line (parsed_line nodes held) nothing_more
   last_part-whole line [] some short = absurd (omega arith)
   last_part-whole line (byte ∷ bytes) some short = whole_line-short line (byte ∷ bytes) nothing_more short
 
 -- commands, and then others
-pub after-append : (first second : List Command) (script : Script) → after (first ++ second) script ≡ after first (after second script)
-after-append first second script = ap (λ commands. record { commands = commands; last = script.last }) (append_assoc first second script.commands)
+pub after-append : (first second : List Command) (script : Script)
+    → after (first ++ second) script ≡ after first (after second script)
+after-append first second script =
+    ap (λ commands. record { commands = commands; last = script.last }) (append_assoc first second script.commands)
 
 -- what a line asks for is served
 asked_served : (c asked : Command) → asked_as asked ≡ parsed.Ask c → is_served c ≡ true
@@ -174,14 +200,17 @@ asked_served c (command.Digest at) e = let same : command.Digest at ≡ c = cc i
 asked_served c command.Quit e = cc
 asked_served c _ e = cc
 
-line_served : (c : Command) (result : Result (Option Command) LineFault) → parsed_as result ≡ parsed.Ask c → is_served c ≡ true
+line_served : (c : Command) (result : Result (Option Command) LineFault) → parsed_as result ≡ parsed.Ask c
+    → is_served c ≡ true
 line_served c (Ok None) e = cc
 line_served c (Ok (Some asked)) e = asked_served c asked e
 line_served c (Err fault) e = cc
 
-pub command_served : (nodes : ℕ) (line : List ℕ) (c : Command) → parsed_line nodes line ≡ parsed.Ask c → is_served c ≡ true
+pub command_served : (nodes : ℕ) (line : List ℕ) (c : Command) → parsed_line nodes line ≡ parsed.Ask c
+    → is_served c ≡ true
 command_served nodes line c e = go (may_stand (first_word line)) e
   where
-    go : (b : Bool) → (if b then available nodes line else parsed.Fault UnknownCommand) ≡ parsed.Ask c → is_served c ≡ true
+    go : (b : Bool) → (if b then available nodes line else parsed.Fault UnknownCommand) ≡ parsed.Ask c
+        → is_served c ≡ true
     go true e = line_served c (whole_grammar false nodes line) e
     go false e = cc

@@ -47,11 +47,13 @@ next_longer before log all next past =
     record {
       newer = past.newer ++ next.newer;
       asking = next.asking;
-      is = past.is ∙ ap (λ l. past.newer ++ l) next.is ∙ sym (append_assoc past.newer next.newer (next.asking ∷ before));
+      is = past.is ∙ ap (λ l. past.newer ++ l) next.is
+          ∙ sym (append_assoc past.newer next.newer (next.asking ∷ before));
       asks = next.asks;
     }
 
-first_longer : (asked more : List ApiReq) (a b c : List HostStep) → AsksFirst asked a b → AsksFirst more b c → IsPast b c → AsksFirst (asked ++ more) a c
+first_longer : (asked more : List ApiReq) (a b c : List HostStep) → AsksFirst asked a b → AsksFirst more b c
+    → IsPast b c → AsksFirst (asked ++ more) a c
 first_longer [] more a b c one two past = subst (λ l. AsksFirst more l c) one two
 first_longer (r ∷ asked) more a b c one two past = next_longer a b c one past
 
@@ -86,10 +88,12 @@ module _ (start : Start) where
       }
 
   -- the step that asks for something is a request
-  asks_it : (request : ApiReq) (w u : Whole) (asked : HasAsked start request w u) → is_some (request_of asked.asking) ≡ true
+  asks_it : (request : ApiReq) (w u : Whole) (asked : HasAsked start request w u)
+      → is_some (request_of asked.asking) ≡ true
   asks_it request w u asked = go (request_of asked.asking) (append_cancel_left (requests (logs_at w.logs 0)) _ _ both)
     where
-      both : requests (logs_at w.logs 0) ++ option_to_list (request_of asked.asking) ≡ requests (logs_at w.logs 0) ++ request ∷ []
+      both : requests (logs_at w.logs 0) ++ option_to_list (request_of asked.asking)
+          ≡ requests (logs_at w.logs 0) ++ request ∷ []
       both = sym (ap requests asked.next) ∙ asked.requests
 
       go : (o : Option ApiReq) → option_to_list o ≡ request ∷ [] → is_some o ≡ true
@@ -106,7 +110,8 @@ module _ (start : Start) where
         more = λ h. past_trans (asked.more h) (drove.grown.more h);
         requests = drove.grown.requests ∙ asked.requests;
         next = next_longer (logs_at w.logs 0) (logs_at u.logs 0) (logs_at t.logs 0)
-            (record { newer = []; asking = asked.asking; is = asked.next; asks = asks_it request w u asked }) (drove.grown.more 0);
+            (record { newer = []; asking = asked.asking; is = asked.next; asks = asks_it request w u asked })
+            (drove.grown.more 0);
         at_quiet = λ still was. drove.grown.asked (asked.asked still was);
         quiet = λ still. quiet;
         unscheduled = λ was. own (asked.unscheduled was);
@@ -116,13 +121,16 @@ module _ (start : Start) where
       }
 
   -- one list of things, and then another
-  pub both_served : (asked more : List ApiReq) (w u t : Whole) → HasServed start asked w u → HasServed start more u t → HasServed start (asked ++ more) w t
+  pub both_served : (asked more : List ApiReq) (w u t : Whole) → HasServed start asked w u → HasServed start more u t
+      → HasServed start (asked ++ more) w t
   both_served asked more w u t one two =
       record {
         right = λ given was. two.right given (one.right given was);
         more = λ h. past_trans (one.more h) (two.more h);
-        requests = two.requests ∙ ap (λ rs. rs ++ more) one.requests ∙ append_assoc (requests (logs_at w.logs 0)) asked more;
-        next = first_longer asked more (logs_at w.logs 0) (logs_at u.logs 0) (logs_at t.logs 0) one.next two.next (two.more 0);
+        requests =
+            two.requests ∙ ap (λ rs. rs ++ more) one.requests ∙ append_assoc (requests (logs_at w.logs 0)) asked more;
+        next = first_longer asked more (logs_at w.logs 0) (logs_at u.logs 0) (logs_at t.logs 0) one.next two.next
+            (two.more 0);
         at_quiet = λ still was. two.at_quiet (one.quiet still) (one.at_quiet still was);
         quiet = λ still. two.quiet (one.quiet still);
         unscheduled = λ was. two.unscheduled (one.unscheduled was);
@@ -166,7 +174,8 @@ module _ (start : Start) where
         requests = grown.requests ∙ asked.requests;
         at_quiet = λ still was. grown.asked (asked.asked still was);
         begun = inr (next_longer (logs_at w.logs 0) (logs_at u.logs 0) (logs_at logs 0)
-            (record { newer = []; asking = asked.asking; is = asked.next; asks = asks_it request w u asked }) (grown.more 0));
+            (record { newer = []; asking = asked.asking; is = asked.next; asks = asks_it request w u asked })
+            (grown.more 0));
         unscheduled = λ was. own (asked.unscheduled was);
         peace = λ sound idle was peaceful none.
             one_peaceful start request w u sound idle was asked (logs_at logs) grown (first_peaceful request peaceful)
@@ -196,7 +205,8 @@ module _ (start : Start) where
         within = left.within;
         more = λ h. past_trans (served.more h) (left.more h);
         part = length asked + left.part;
-        requests = left.requests ∙ ap (λ rs. rs ++ take left.part more) served.requests ∙ append_assoc (requests (logs_at w.logs 0)) asked (take left.part more)
+        requests = left.requests ∙ ap (λ rs. rs ++ take left.part more) served.requests
+            ∙ append_assoc (requests (logs_at w.logs 0)) asked (take left.part more)
             ∙ ap (λ rs. requests (logs_at w.logs 0) ++ rs) (sym (take-append-add asked more left.part));
         at_quiet = λ still was. left.at_quiet (served.quiet still) (served.at_quiet still was);
         begun = begun_later asked more w u logs served left;
@@ -244,7 +254,8 @@ module _ (start : Start) where
           sym (append_assoc (requests before) (asked ∷ []) (requests next.newer))
           ∙ ap (λ o. (requests before ++ option_to_list o) ++ requests next.newer) (sym e)
           ∙ sym (requests_newer next.newer (next.asking ∷ before)) ∙ sym (ap requests next.is) ∙ are in
-          nothing asked (requests next.newer) (append_cancel_left (requests before) (asked ∷ requests next.newer) [] both)
+          nothing asked (requests next.newer)
+          (append_cancel_left (requests before) (asked ∷ requests next.newer) [] both)
         where
           nothing : (a : ApiReq) (xs : List ApiReq) → a ∷ xs ≡ [] → ⊥
           nothing a xs same = cc
@@ -256,12 +267,14 @@ module _ (start : Start) where
       ++ down_line (finds_down start before) (finds_down start log)
 
   -- the text of a log behind which some requests of a command were asked for
-  text_behind : (first : ApiReq) (rest : List ApiReq) (before log : List HostStep) → IsAskedNext before log → requests log ≡ requests before ++ first ∷ rest
+  text_behind : (first : ApiReq) (rest : List ApiReq) (before log : List HostStep) → IsAskedNext before log
+      → requests log ≡ requests before ++ first ∷ rest
       → (c : Command) (has : HasFirst c) → first ≡ has.first → none_heads rest ≡ true
       → text_of start log ≡ text_of start before ++ lines_of c before log
   text_behind first rest before log next are c has same none =
       let for = asks_for first rest before log next are in
-      one_more start has.first for.asking for.newer before log for.is (for.asks ∙ ap Some same) has.begins_it (subst (λ rs. none_heads rs ≡ true) (sym for.others) none)
+      one_more start has.first for.asking for.newer before log for.is (for.asks ∙ ap Some same) has.begins_it
+      (subst (λ rs. none_heads rs ≡ true) (sym for.others) none)
       ∙ ap
       (λ about.
       text_of start before
@@ -281,22 +294,27 @@ module _ (start : Start) where
       are : requests_of c ++ questions ≡ has.first ∷ (has.rest ++ questions)
       are = ap (λ rs. rs ++ questions) has.are
 
-      asked : (part : ℕ) → requests (logs_at logs 0) ≡ requests (logs_at w.logs 0) ++ take part (has.first ∷ (has.rest ++ questions)) → IsAskedNext (logs_at w.logs 0) (logs_at logs 0) → AreLeft start c w logs
+      asked : (part : ℕ)
+          → requests (logs_at logs 0) ≡ requests (logs_at w.logs 0) ++ take part (has.first ∷ (has.rest ++ questions))
+          → IsAskedNext (logs_at w.logs 0) (logs_at logs 0) → AreLeft start c w logs
       asked zero is next = absurd (none_asked (logs_at w.logs 0) (logs_at logs 0) next is)
       asked (suc part) is next =
           record {
             left = left;
             begun = begun;
             more = lines_of c (logs_at w.logs 0) (logs_at logs 0);
-            text = text_behind has.first (take part (has.rest ++ questions)) (logs_at w.logs 0) (logs_at logs 0) next is c has refl
+            text = text_behind has.first (take part (has.rest ++ questions)) (logs_at w.logs 0) (logs_at logs 0) next is
+                c has refl
                 (none_take part (has.rest ++ questions) (none_both has.rest questions has.none refl));
           }
 
-      go : (logs_at logs 0 ≡ logs_at w.logs 0) ⊎ IsAskedNext (logs_at w.logs 0) (logs_at logs 0) → AreLeft start c w logs
+      go : (logs_at logs 0 ≡ logs_at w.logs 0) ⊎ IsAskedNext (logs_at w.logs 0) (logs_at logs 0)
+          → AreLeft start c w logs
       go (inl same) =
           let text = ap (text_of start) same ∙ sym (append-nil (text_of start (logs_at w.logs 0))) in
           record { left = left; begun = begun; more = []; text = text }
-      go (inr next) = asked left.part (left.requests ∙ ap (λ rs. requests (logs_at w.logs 0) ++ take left.part rs) are) next
+      go (inr next) =
+          asked left.part (left.requests ∙ ap (λ rs. requests (logs_at w.logs 0) ++ take left.part rs) are) next
 
   -- all that was asked for behind a world: the command's first request, and others that begin none
   record Behind (c : Command) (has : HasFirst c) (w v : Whole) : Type 0 where
@@ -305,22 +323,26 @@ module _ (start : Start) where
     served : HasServed start (has.first ∷ rest) w v
 
   -- all that was asked for
-  all_served : (c : Command) (has : HasFirst c) (w u v : Whole) → HasServed start (requests_of c) w u → (open_now : Bool) → HasGoneOn start u v open_now
+  all_served : (c : Command) (has : HasFirst c) (w u v : Whole) → HasServed start (requests_of c) w u
+      → (open_now : Bool) → HasGoneOn start u v open_now
       → Behind c has w v
   all_served c has w u v own false same =
       record {
         rest = has.rest;
         none = has.none;
-        served = subst (HasServed start (has.first ∷ has.rest) w) (sym same) (subst (λ rs. HasServed start rs w u) has.are own);
+        served = subst (HasServed start (has.first ∷ has.rest) w) (sym same)
+            (subst (λ rs. HasServed start rs w u) has.are own);
       }
   all_served c has w u v own true asked =
       record {
         rest = has.rest ++ questions;
         none = none_both has.rest questions has.none refl;
-        served = subst (λ rs. HasServed start (rs ++ questions) w v) has.are (both_served (requests_of c) questions w u v own asked);
+        served = subst (λ rs. HasServed start (rs ++ questions) w v) has.are
+            (both_served (requests_of c) questions w u v own asked);
       }
 
-  on_log : (u v : Whole) (given : List ApiReply) → IsRight start given u → (b : Bool) → is_left_open u ≡ b → HasGoneOn start u v b
+  on_log : (u v : Whole) (given : List ApiReply) → IsRight start given u → (b : Bool) → is_left_open u ≡ b
+      → HasGoneOn start u v b
       → AsksOn (logs_at u.logs 0) (logs_at v.logs 0) (leaves_open start (logs_at u.logs 0))
   on_log u v given right b e on =
       subst (AsksOn (logs_at u.logs 0) (logs_at v.logs 0)) (sym e ∙ open_is start given u right) (go b on)
@@ -329,10 +351,12 @@ module _ (start : Start) where
       go false same = ap (λ (x : Whole). logs_at x.logs 0) same
       go true asked = (asked.next, asked.requests)
 
-  own_next : (c : Command) (has : HasFirst c) (w u : Whole) → HasServed start (requests_of c) w u → IsAskedNext (logs_at w.logs 0) (logs_at u.logs 0)
+  own_next : (c : Command) (has : HasFirst c) (w u : Whole) → HasServed start (requests_of c) w u
+      → IsAskedNext (logs_at w.logs 0) (logs_at u.logs 0)
   own_next c has w u own = subst (λ rs. AsksFirst rs (logs_at w.logs 0) (logs_at u.logs 0)) has.are own.next
 
-  pub serves : (c : Command) (w u v t : Whole) (text : List ℕ) → is_served c ≡ true → IsSound start w → HasServed start (requests_of c) w u → HasGoneOn start u v (is_left_open u)
+  pub serves : (c : Command) (w u v t : Whole) (text : List ℕ) → is_served c ≡ true → IsSound start w
+      → HasServed start (requests_of c) w u → HasGoneOn start u v (is_left_open u)
       → t ≡ record v { replies = [] }
       → text ≡ reply_lines (arranged (subject_in c) v.replies) ++ down_line (is_down w) (is_down t)
       → ServesCommand start c w t text
@@ -342,7 +366,11 @@ module _ (start : Start) where
         told = λ commands was.
             ap (λ (x : Whole). text_of start (logs_at x.logs 0)) taken ∙ told commands was;
         sound = subst (IsSound start) (sym taken)
-            (record { given = sound.given ++ v.replies; right = told_right start sound.given v (behind.served.right sound.given sound.right) });
+            (record {
+              given = sound.given ++ v.replies;
+              right = told_right start sound.given v
+                  (behind.served.right sound.given sound.right);
+            });
       }
     where
       has : HasFirst c
@@ -373,7 +401,8 @@ module _ (start : Start) where
               (own.peace sound was.quiet before (command_peaceful c one)
               (none_before (logs_at u.logs) (logs_at v.logs) asked.more none)) refl none
 
-      after_it : (commands : List Command) → IsServed start commands w → IsServed start (commands ++ c ∷ []) (record v { replies = [] })
+      after_it : (commands : List Command) → IsServed start commands w
+          → IsServed start (commands ++ c ∷ []) (record v { replies = [] })
       after_it commands was =
           record {
             given = was.given ++ v.replies;
@@ -396,20 +425,26 @@ module _ (start : Start) where
             peace = peace commands was;
           }
 
-      told : (commands : List Command) → IsServed start commands w → text_of start (logs_at v.logs 0) ≡ text_of start (logs_at w.logs 0) ++ text
+      told : (commands : List Command) → IsServed start commands w
+          → text_of start (logs_at v.logs 0) ≡ text_of start (logs_at w.logs 0) ++ text
       told commands was =
           let right = behind.served.right was.given was.right in
           let old : replies_in start 0 (logs_at w.logs 0) ≡ was.given =
           was.right.replies ∙ ap (λ rs. was.given ++ rs) was.none_left ∙ append-nil was.given in
-          let rest : drop (length (replies_in start 0 (logs_at w.logs 0))) (replies_in start 0 (logs_at v.logs 0)) ≡ v.replies =
-          ap (λ rs. drop (length rs) (replies_in start 0 (logs_at v.logs 0))) old ∙ ap (drop (length was.given)) right.replies ∙ drop_at was.given v.replies (length was.given) refl in
+          let rest : drop (length (replies_in start 0 (logs_at w.logs 0))) (replies_in start 0 (logs_at v.logs 0))
+          ≡ v.replies =
+          ap (λ rs. drop (length rs) (replies_in start 0 (logs_at v.logs 0))) old
+          ∙ ap (drop (length was.given)) right.replies ∙ drop_at was.given v.replies (length was.given) refl in
           let down_now : is_down t ≡ finds_down start (logs_at v.logs 0) =
           ap is_down taken ∙ down_is start was.given v right in
           let lines_by : List ApiReply → Bool → Bool → List ℕ =
-          λ rs before now. text_of start (logs_at w.logs 0) ++ (reply_lines (arranged (subject_in c) rs) ++ down_line before now) in
-          text_behind has.first behind.rest (logs_at w.logs 0) (logs_at v.logs 0) behind.served.next behind.served.requests c has refl behind.none
+          λ rs before now. text_of start (logs_at w.logs 0)
+          ++ (reply_lines (arranged (subject_in c) rs) ++ down_line before now) in
+          text_behind has.first behind.rest (logs_at w.logs 0) (logs_at v.logs 0) behind.served.next
+          behind.served.requests c has refl behind.none
           ∙ ap (λ rs. lines_by rs (finds_down start (logs_at w.logs 0)) (finds_down start (logs_at v.logs 0))) rest
-          ∙ ap (λ b. lines_by v.replies b (finds_down start (logs_at v.logs 0))) (sym (down_is start was.given w was.right))
+          ∙ ap (λ b. lines_by v.replies b (finds_down start (logs_at v.logs 0)))
+          (sym (down_is start was.given w was.right))
           ∙ ap (λ b. lines_by v.replies (is_down w) b) (sym down_now)
           ∙ ap (λ l. text_of start (logs_at w.logs 0) ++ l) (sym lines)
 
@@ -421,14 +456,17 @@ module _ (start : Start) (request : ApiReq) where
   pub asked_world : (w u : Whole) → IsSound start w → HasAsked start request w u → IsWorld u
   asked_world w u sound asked = record { start = start; sound = asked_sound w u sound asked }
 
-  pub asked_ok : (result : Result (Unit {0}) NoMemory) (w u t : Whole) → IsSound start w → HasAsked start request w u → (IsSound start u → OnOk result (IsDriven start u t)) → OnOk result (IsIdle t)
+  pub asked_ok : (result : Result (Unit {0}) NoMemory) (w u t : Whole) → IsSound start w → HasAsked start request w u
+      → (IsSound start u → OnOk result (IsDriven start u t)) → OnOk result (IsIdle t)
       → (IsSound start u → AreUnscheduled start (logs_at u.logs) → AreUnscheduled start (logs_at t.logs))
       → OnOk result (HasServed start (request ∷ []) w t)
   asked_ok (Ok done) w u t sound asked drove quiet own =
-      one_served start request w u t asked (drove (asked_sound w u sound asked)) quiet (own (asked_sound w u sound asked))
+      one_served start request w u t asked (drove (asked_sound w u sound asked)) quiet
+      (own (asked_sound w u sound asked))
   asked_ok (Err fault) w u t sound asked drove quiet own = tt
 
-  pub asked_err : (result : Result (Unit {0}) NoMemory) (w u : Whole) (logs : List HostLog) → IsSound start w → HasAsked start request w u
+  pub asked_err : (result : Result (Unit {0}) NoMemory) (w u : Whole) (logs : List HostLog) → IsSound start w
+      → HasAsked start request w u
       → (IsSound start u → OnErr result (HaveGrown start (logs_at u.logs) (logs_at logs)))
       → (IsSound start u → OnErr result (AreLabelled start logs))
       → (IsSound start u → AreUnscheduled start (logs_at u.logs) → AreUnscheduled start (logs_at logs))
@@ -440,7 +478,8 @@ module _ (start : Start) (request : ApiReq) where
 
 -- one list of requests was asked for, and then another
 module _ (start : Start) (asked more : List ApiReq) where
-  pub both_ok : (result : Result (Unit {0}) NoMemory) (w u t : Whole) → HasServed start asked w u → OnOk result (HasServed start more u t) → OnOk result (HasServed start (asked ++ more) w t)
+  pub both_ok : (result : Result (Unit {0}) NoMemory) (w u t : Whole) → HasServed start asked w u
+      → OnOk result (HasServed start more u t) → OnOk result (HasServed start (asked ++ more) w t)
   both_ok (Ok done) w u t one two = both_served start asked more w u t one two
   both_ok (Err fault) w u t one two = tt
 
@@ -458,7 +497,10 @@ record IsFrontOf (front all : List ApiReq) : Type 0 where
   is : all ≡ front ++ rest
 
 rounds_more : (rounds n m : ℕ) → IsFrontOf (rounds_behind rounds n) (rounds_behind rounds (m + n))
-rounds_more rounds n zero = let same : 0 + n ≡ n = omega arith in record { rest = []; is = ap (rounds_behind rounds) same ∙ sym (append-nil (rounds_behind rounds n)) }
+rounds_more rounds n zero = let same : 0 + n ≡ n = omega arith in record {
+  rest = [];
+  is = ap (rounds_behind rounds) same ∙ sym (append-nil (rounds_behind rounds n));
+}
 rounds_more rounds n (suc m) =
     let before = rounds_more rounds n m in
     let same : suc m + n ≡ suc (m + n) = omega arith in
@@ -475,10 +517,12 @@ rounds_front rounds n all low =
 
 -- rounds, one after the other
 module _ (start : Start) (rounds n : ℕ) where
-  pub round_served : (w u t : Whole) → HasServed start (rounds_behind rounds n) w u → HasServed start (Tick (n + 2) rounds ∷ []) u t → HasServed start (rounds_behind rounds (n + 1)) w t
+  pub round_served : (w u t : Whole) → HasServed start (rounds_behind rounds n) w u
+      → HasServed start (Tick (n + 2) rounds ∷ []) u t → HasServed start (rounds_behind rounds (n + 1)) w t
   round_served w u t before next =
       let same : suc n ≡ n + 1 = omega arith in
-      subst (λ k. HasServed start (rounds_behind rounds k) w t) same (both_served start (rounds_behind rounds n) (Tick (n + 2) rounds ∷ []) w u t before next)
+      subst (λ k. HasServed start (rounds_behind rounds k) w t) same
+      (both_served start (rounds_behind rounds n) (Tick (n + 2) rounds ∷ []) w u t before next)
 
   pub round_left : (all : ℕ) (w u : Whole) (logs : List HostLog) → n < all
       → HasServed start (rounds_behind rounds n) w u → AreLeftOff start (Tick (n + 2) rounds ∷ []) u logs
@@ -499,7 +543,8 @@ module _ (start : Start) (c : Command) (w : Whole) where
   pub own_sound : (u : Whole) → IsSound start w → HasServed start (requests_of c) w u → IsSound start u
   own_sound u sound own = served_sound start (requests_of c) w u own sound
 
-  pub gone_sound : (u v : Whole) → IsSound start w → HasServed start (requests_of c) w u → HasGoneOn start u v (is_left_open u) → IsSound start v
+  pub gone_sound : (u v : Whole) → IsSound start w → HasServed start (requests_of c) w u
+      → HasGoneOn start u v (is_left_open u) → IsSound start v
   gone_sound u v sound own on = go (is_left_open u) on
     where
       go : (b : Bool) → HasGoneOn start u v b → IsSound start v
@@ -525,7 +570,9 @@ module _ (start : Start) (c : Command) (w : Whole) where
         on = record { part = left.part; begun = left.requests };
       }))
 
-  pub left_gone : (u v : Whole) (logs : List HostLog) → is_served c ≡ true → IsSound start w → HasServed start (requests_of c) w u → HasGoneOn start u v (is_left_open u) → logs ≡ v.logs → AreLeft start c w logs
+  pub left_gone : (u v : Whole) (logs : List HostLog) → is_served c ≡ true → IsSound start w
+      → HasServed start (requests_of c) w u → HasGoneOn start u v (is_left_open u) → logs ≡ v.logs
+      → AreLeft start c w logs
   left_gone u v logs is sound own on same = go (is_left_open u) refl on
     where
       go : (b : Bool) → is_left_open u ≡ b → HasGoneOn start u v b → AreLeft start c w logs
@@ -553,19 +600,36 @@ down_behind replies text line all was is before now are same told then here =
     are ∙ ap (λ xs. xs ++ line) same ∙ ap (λ xs. replies ++ xs) (told ∙ ap₂ down_line then here)
 
 -- the text is printed
-pub prints_all : (start : Start) (c : Command) (w t : Whole) (text : List ℕ) (written written_now : Option (List ℕ)) → ServesCommand start c w t text → Appends written written_now text
+pub prints_all : (start : Start) (c : Command) (w t : Whole) (text : List ℕ) (written written_now : Option (List ℕ))
+    → ServesCommand start c w t text → Appends written written_now text
     → PrintsCommand start c w t None written written_now
 prints_all start c w t text written written_now serving all =
-    record { printed = λ commands was. record { text = text; told = serving.told commands was; all = all; served = serving.served commands was } }
+    record {
+      printed = λ commands was. record {
+        text = text;
+        told = serving.told commands was;
+        all = all;
+        served = serving.served commands was;
+      };
+    }
 
 -- or a first part of it
-pub prints_part : (start : Start) (c : Command) (w t : Whole) (text : List ℕ) (written written_now : Option (List ℕ)) → ServesCommand start c w t text → AppendsPart written written_now text
+pub prints_part : (start : Start) (c : Command) (w t : Whole) (text : List ℕ) (written written_now : Option (List ℕ))
+    → ServesCommand start c w t text → AppendsPart written written_now text
     → PrintsCommand start c w t (Some ending.WriteFault) written written_now
 prints_part start c w t text written written_now serving part =
-    record { printed = λ commands was. record { text = text; told = serving.told commands was; part = part; served = serving.served commands was } }
+    record {
+      printed = λ commands was. record {
+        text = text;
+        told = serving.told commands was;
+        part = part;
+        served = serving.served commands was;
+      };
+    }
 
 -- or nothing, for want of memory
-pub prints_nothing : (start : Start) (c : Command) (w t : Whole) (written : Option (List ℕ)) → AreLeft start c w t.logs → PrintsCommand start c w t (Some ending.NoMemory) written written
+pub prints_nothing : (start : Start) (c : Command) (w t : Whole) (written : Option (List ℕ)) → AreLeft start c w t.logs
+    → PrintsCommand start c w t (Some ending.NoMemory) written written
 prints_nothing start c w t written left = record { printed = λ commands was. (refl, left) }
 
 pub ruleset prints = (prints_all, prints_part, prints_nothing)

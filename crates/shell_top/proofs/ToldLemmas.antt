@@ -36,12 +36,14 @@ none_front : (xs ys : List ApiReq) → none_heads (xs ++ ys) ≡ true → none_h
 none_front [] ys e = refl
 none_front (x ∷ xs) ys e = go (is_some (heads_by x)) e (none_front xs ys)
   where
-    go : (b : Bool) → (if b then false else none_heads (xs ++ ys)) ≡ true → (none_heads (xs ++ ys) ≡ true → none_heads xs ≡ true) → (if b then false else none_heads xs) ≡ true
+    go : (b : Bool) → (if b then false else none_heads (xs ++ ys)) ≡ true
+        → (none_heads (xs ++ ys) ≡ true → none_heads xs ≡ true) → (if b then false else none_heads xs) ≡ true
     go true e later = cc
     go false e later = later e
 
 pub none_take : (n : ℕ) (xs : List ApiReq) → none_heads xs ≡ true → none_heads (take n xs) ≡ true
-none_take n xs e = none_front (take n xs) (drop n xs) (subst (λ all. none_heads all ≡ true) (sym (take-append-drop n xs)) e)
+none_take n xs e =
+    none_front (take n xs) (drop n xs) (subst (λ all. none_heads all ≡ true) (sym (take-append-drop n xs)) e)
 
 none_back : (xs ys : List ApiReq) → none_heads (xs ++ ys) ≡ true → none_heads ys ≡ true
 none_back [] ys e = e
@@ -55,7 +57,8 @@ pub none_both : (xs ys : List ApiReq) → none_heads xs ≡ true → none_heads 
 none_both [] ys p q = q
 none_both (x ∷ xs) ys p q = go (is_some (heads_by x)) p (λ r. none_both xs ys r q)
   where
-    go : (b : Bool) → (if b then false else none_heads xs) ≡ true → (none_heads xs ≡ true → none_heads (xs ++ ys) ≡ true) → (if b then false else none_heads (xs ++ ys)) ≡ true
+    go : (b : Bool) → (if b then false else none_heads xs) ≡ true
+        → (none_heads xs ≡ true → none_heads (xs ++ ys) ≡ true) → (if b then false else none_heads (xs ++ ys)) ≡ true
     go true p later = cc
     go false p later = later p
 
@@ -71,7 +74,8 @@ same_telling t replies down (Some asked) e = go (heads_by asked) e
     go (Some first) e = cc
 
 module _ (start : Start) where
-  telling_newer : (newer log : List HostStep) → none_heads (requests newer) ≡ true → telling start (newer ++ log) ≡ telling start log
+  telling_newer : (newer log : List HostStep) → none_heads (requests newer) ≡ true
+      → telling start (newer ++ log) ≡ telling start log
   telling_newer [] log e = refl
   telling_newer (step ∷ newer) log e =
       same_telling (telling start (newer ++ log)) (replies_in start 0 (newer ++ log)) (finds_down start (newer ++ log))
@@ -80,7 +84,8 @@ module _ (start : Start) where
       ∙ telling_newer newer log (none_front (requests newer) (option_to_list (request_of step)) e)
 
   -- the text of one more command: its first request is the step behind `before`, and no later one begins a command
-  pub one_more : (first : ApiReq) (asking : HostStep) (newer before log : List HostStep) → log ≡ newer ++ asking ∷ before
+  pub one_more : (first : ApiReq) (asking : HostStep) (newer before log : List HostStep)
+      → log ≡ newer ++ asking ∷ before
       → request_of asking ≡ Some first → heads_by first ≡ Some first → none_heads (requests newer) ≡ true
       → text_of start log
       ≡ text_of start before
@@ -102,7 +107,8 @@ pub record AsksFor (first : ApiReq) (rest : List ApiReq) (before log : List Host
   pub asks : request_of asking ≡ Some first
   pub others : requests newer ≡ rest
 
-pub asks_for : (first : ApiReq) (rest : List ApiReq) (before log : List HostStep) → IsAskedNext before log → requests log ≡ requests before ++ first ∷ rest → AsksFor first rest before log
+pub asks_for : (first : ApiReq) (rest : List ApiReq) (before log : List HostStep) → IsAskedNext before log
+    → requests log ≡ requests before ++ first ∷ rest → AsksFor first rest before log
 asks_for first rest before log next are = go (request_of next.asking) refl next.asks
   where
     all : requests log ≡ (requests before ++ option_to_list (request_of next.asking)) ++ requests next.newer
@@ -114,7 +120,8 @@ asks_for first rest before log next are = go (request_of next.asking) refl next.
         let both : requests before ++ (asked ∷ requests next.newer) ≡ requests before ++ first ∷ rest =
         sym (append_assoc (requests before) (asked ∷ []) (requests next.newer))
         ∙ ap (λ o. (requests before ++ option_to_list o) ++ requests next.newer) (sym e) ∙ sym all ∙ are in
-        let same : asked ∷ requests next.newer ≡ first ∷ rest = append_cancel_left (requests before) (asked ∷ requests next.newer) (first ∷ rest) both in
+        let same : asked ∷ requests next.newer ≡ first ∷ rest =
+        append_cancel_left (requests before) (asked ∷ requests next.newer) (first ∷ rest) both in
         record {
           asking = next.asking;
           newer = next.newer;
@@ -152,10 +159,38 @@ rounds_go_on rounds (suc n) =
     (ap (λ o. if is_some o then false else true) (no_first rounds n))
 
 pub has_first : (c : Command) → is_served c ≡ true → HasFirst c
-has_first (command.Begin name at) e = record { first = request.Begin name at; rest = []; are = refl; begins_it = refl; subject = refl; none = refl }
-has_first (command.Operate name op) e = record { first = request.Operate name op; rest = []; are = refl; begins_it = refl; subject = refl; none = refl }
-has_first (command.Commit name) e = record { first = request.Commit name; rest = []; are = refl; begins_it = refl; subject = refl; none = refl }
-has_first (command.Abort name) e = record { first = request.Abort name; rest = []; are = refl; begins_it = refl; subject = refl; none = refl }
+has_first (command.Begin name at) e = record {
+  first = request.Begin name at;
+  rest = [];
+  are = refl;
+  begins_it = refl;
+  subject = refl;
+  none = refl;
+}
+has_first (command.Operate name op) e = record {
+  first = request.Operate name op;
+  rest = [];
+  are = refl;
+  begins_it = refl;
+  subject = refl;
+  none = refl;
+}
+has_first (command.Commit name) e = record {
+  first = request.Commit name;
+  rest = [];
+  are = refl;
+  begins_it = refl;
+  subject = refl;
+  none = refl;
+}
+has_first (command.Abort name) e = record {
+  first = request.Abort name;
+  rest = [];
+  are = refl;
+  begins_it = refl;
+  subject = refl;
+  none = refl;
+}
 has_first (command.Kill at) e =
     record { first = request.Kill at; rest = []; are = refl; begins_it = refl; subject = refl; none = refl }
 has_first (command.Cut one other) e =
@@ -167,7 +202,28 @@ has_first command.Gcp e =
 has_first command.View e =
     record { first = request.View; rest = []; are = refl; begins_it = refl; subject = refl; none = refl }
 has_first (command.Tick rounds) e =
-    record { first = request.Tick 1 rounds; rest = rounds_behind rounds (rounds - 1); are = refl; begins_it = refl; subject = refl; none = rounds_go_on rounds (rounds - 1) }
-has_first (command.Rows at) e = record { first = request.Rows at; rest = []; are = refl; begins_it = refl; subject = refl; none = refl }
-has_first (command.Digest at) e = record { first = request.Digest at; rest = []; are = refl; begins_it = refl; subject = refl; none = refl }
+    record {
+      first = request.Tick 1 rounds;
+      rest = rounds_behind rounds (rounds - 1);
+      are = refl;
+      begins_it = refl;
+      subject = refl;
+      none = rounds_go_on rounds (rounds - 1);
+    }
+has_first (command.Rows at) e = record {
+  first = request.Rows at;
+  rest = [];
+  are = refl;
+  begins_it = refl;
+  subject = refl;
+  none = refl;
+}
+has_first (command.Digest at) e = record {
+  first = request.Digest at;
+  rest = [];
+  are = refl;
+  begins_it = refl;
+  subject = refl;
+  none = refl;
+}
 has_first _ e = absurd (true≢false (sym e))

@@ -15,12 +15,14 @@ pub record IsWriting (written written_now : Option (List ℕ)) (bytes rest : Lis
 pub writing_starts : (written : Option (List ℕ)) (bytes : List ℕ) → IsWriting written written bytes bytes
 writing_starts written bytes = record { done = []; appended = Appends-nil written; whole = refl }
 
-pub writing_goes_on : (written mid now : Option (List ℕ)) (bytes rest : List ℕ) (count : ℕ) → IsWriting written mid bytes rest
+pub writing_goes_on : (written mid now : Option (List ℕ)) (bytes rest : List ℕ) (count : ℕ)
+    → IsWriting written mid bytes rest
     → Appends mid now (take count rest) → IsWriting written now bytes (drop count rest)
 writing_goes_on written mid now bytes rest count is more = record {
   done = is.done ++ take count rest;
   appended = Appends-trans written mid now is.done (take count rest) is.appended more;
-  whole = is.whole ∙ ap (λ xs. is.done ++ xs) (sym (take-append-drop count rest)) ∙ sym (append_assoc is.done (take count rest) (drop count rest));
+  whole = is.whole ∙ ap (λ xs. is.done ++ xs) (sym (take-append-drop count rest))
+      ∙ sym (append_assoc is.done (take count rest) (drop count rest));
 }
 
 -- what was appended stays, where known bytes do
@@ -30,7 +32,8 @@ Appends-kept (Some x) None c bs p q = absurd p
 Appends-kept (Some x) (Some y) None bs p q = absurd q
 Appends-kept (Some x) (Some y) (Some z) bs p q = q ∙ p
 
-pub writing_fails : (written mid now : Option (List ℕ)) (bytes rest : List ℕ) → IsWriting written mid bytes rest → Keeps mid now → AppendsPart written now bytes
+pub writing_fails : (written mid now : Option (List ℕ)) (bytes rest : List ℕ) → IsWriting written mid bytes rest
+    → Keeps mid now → AppendsPart written now bytes
 writing_fails written mid now bytes rest is kept = record {
   count = length is.done;
   appended = subst (λ xs. Appends written now xs)
@@ -39,8 +42,10 @@ writing_fails written mid now bytes rest is kept = record {
 }
 
 -- nothing is left to write
-pub writing_ends : (written now : Option (List ℕ)) (bytes rest : List ℕ) → IsWriting written now bytes rest → length rest ≡ 0 → Appends written now bytes
-writing_ends written now bytes [] is e = subst (λ xs. Appends written now xs) (sym (is.whole ∙ append-nil is.done)) is.appended
+pub writing_ends : (written now : Option (List ℕ)) (bytes rest : List ℕ) → IsWriting written now bytes rest
+    → length rest ≡ 0 → Appends written now bytes
+writing_ends written now bytes [] is e =
+    subst (λ xs. Appends written now xs) (sym (is.whole ∙ append-nil is.done)) is.appended
 writing_ends written now bytes (x ∷ rest) is e = absurd (omega arith)
 
 pub ruleset writing = (writing_starts, writing_goes_on, writing_fails, writing_ends)

@@ -69,7 +69,8 @@ pub record IsAskedNext (served log : List HostStep) : Type 0 where
   pub is : log ≡ newer ++ asking ∷ served
   pub asks : is_some (request_of asking) ≡ true
 
--- The log went on from `served`, where a command's own requests were served, to its end: at once where nothing of its own
+-- The log went on from `served`, where a command's own requests were served, to its end: at once where nothing of its
+-- own
 -- was unanswered, and else the shell asked what it waits for, and then for its replies.
 abbrev pub AsksOn : List HostStep → List HostStep → Bool → Type 0
 AsksOn served log false = log ≡ served
@@ -83,7 +84,8 @@ pub record AsksCommand (start : Start) (command : Command) (before log : List Ho
   pub on : AsksOn served log (leaves_open start served)
 
 -- the commands before were asked for, and then this one
-pub record AsksAfter (start : Start) (command : Command) (log : List HostStep) (AreAskedBefore : List HostStep → Type 0) : Type 0 where
+pub record AsksAfter (start : Start) (command : Command) (log : List HostStep) (AreAskedBefore : List HostStep → Type 0)
+    : Type 0 where
   pub before : List HostStep
   pub earlier : AreAskedBefore before
   pub asks : AsksCommand start command before log

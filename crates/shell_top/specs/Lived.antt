@@ -39,7 +39,8 @@ AreAskedFor start ending commands log = AreAsked start (reverse commands) log
 
 -- The logs of a life in which the shell asked for the commands, each at quiet, as far as the session came. There is one
 -- for each host, and it says which host's it is. At its end nothing was under way, unless memory was wanting. No host
--- stopped by itself, unless for want of memory or of stamps, and then it had no stamp left, nor cut off a node. Where none
+-- stopped by itself, unless for want of memory or of stamps, and then it had no stamp left, nor cut off a node. Where
+-- none
 -- did so, and no command kills or cuts anything, the logs came about in peace.
 pub record AreLived (start : Start) (ending : Ending) (commands : List Command) (logs : List HostLog) : Type 0 where
   pub labelled : AreLabelled start logs
@@ -79,7 +80,8 @@ may_be_unborn Words = true
 may_be_unborn NoMemory = true
 may_be_unborn ending = false
 
--- The lives of a session whose words ask for this shape, if for any: one life; or none, where the words were refused, or
+-- The lives of a session whose words ask for this shape, if for any: one life; or none, where the words were refused,
+-- or
 -- memory was wanting, before anything was read.
 abbrev pub AreLives : Option Shape → Ending → List Command → List ℕ → List Life → Type 0
 AreLives asked ending commands input [] = (input ≡ []) × (may_be_unborn ending ≡ true)
@@ -88,5 +90,6 @@ AreLives asked ending commands input lives = ⊥
 
 -- the text of the logs of a session
 abbrev pub session_text : Option Shape → List Life → List ℕ
-session_text (Some shape) (life ∷ more) = text_of (start_of shape life) (logs_of life 0) ++ session_text (Some shape) more
+session_text (Some shape) (life ∷ more) =
+    text_of (start_of shape life) (logs_of life 0) ++ session_text (Some shape) more
 session_text asked lives = []

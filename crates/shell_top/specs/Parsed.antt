@@ -21,7 +21,8 @@ is_operation word =
 -- the other commands that the session serves by now: those on transactions, rows and the session
 abbrev pub is_order : List ℕ → Bool
 is_order word =
-    bytes_eq word (codes "begin") || bytes_eq word (codes "commit") || bytes_eq word (codes "abort") || bytes_eq word (codes "tick")
+    bytes_eq word (codes "begin") || bytes_eq word (codes "commit") || bytes_eq word (codes "abort")
+    || bytes_eq word (codes "tick")
     || bytes_eq word (codes "rows") || bytes_eq word (codes "digest") || bytes_eq word (codes "quit")
 
 -- and those on nodes and epochs

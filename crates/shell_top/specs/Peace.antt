@@ -22,7 +22,8 @@ use Rattle.world_views.specs.Quiet.{IsQuiet}
 use Rattle.world_views.specs.Requests.{requests}
 use Rattle.world_views.specs.Right.{replies_in}
 
--- Each request in these logs of a cluster in which nothing can fail is served between two quiet moments and answered there
+-- Each request in these logs of a cluster in which nothing can fail is served between two quiet moments and answered
+-- there
 -- as it should be; but for the last one, where memory was wanting.
 abbrev pub EachIsAnswered : Start → Ending → (ℕ → List HostStep) → Type 0
 EachIsAnswered start ending logs =
@@ -31,17 +32,19 @@ EachIsAnswered start ending logs =
     → (ending ≡ NoMemory → IsAskedAgain start newer)
     → IsAnsweredIn start logs request before
 
--- A closing was asked for behind these requests, and answered before the next one, between two quiet moments of these logs.
-pub record IsClosedIn (start : Start) (logs : ℕ → List HostStep) (earlier : List ApiReq) (request : ApiReq) : Type 0 where
-  pub was : ℕ → List HostStep
-  pub now : ℕ → List HostStep
-  pub before : IsCut was now
-  pub within : IsCut now logs
-  pub quiet_before : IsQuiet start was
-  pub quiet : IsQuiet start now
-  pub asked_before : requests (was 0) ≡ earlier
-  pub asked : requests (now 0) ≡ earlier ++ request ∷ []
-  pub answered : IsAnsweredBy start request was now
+-- A closing was asked for behind these requests, and answered before the next one, between two quiet moments of these
+-- logs.
+pub record IsClosedIn (start : Start) (logs : ℕ → List HostStep) (earlier : List ApiReq) (request : ApiReq) : Type 0
+  where
+    pub was : ℕ → List HostStep
+    pub now : ℕ → List HostStep
+    pub before : IsCut was now
+    pub within : IsCut now logs
+    pub quiet_before : IsQuiet start was
+    pub quiet : IsQuiet start now
+    pub asked_before : requests (was 0) ≡ earlier
+    pub asked : requests (now 0) ≡ earlier ++ request ∷ []
+    pub answered : IsAnsweredBy start request was now
 
 -- so it is of each, but for the last request, where memory was wanting
 abbrev pub EachIsClosed : Start → Ending → (ℕ → List HostStep) → Type 0
@@ -54,8 +57,10 @@ abbrev pub replied : Start → List HostStep → List ApiReply
 replied start log = replies_of (plain.after start 0 log)
 
 -- Peaceful logs, of a session that ended so. Their plain parts, which leave out what is done for closings and have all
--- epochs made one, are the logs of a cluster in which nothing can fail: its shell was replied the same, but for the views
--- that it was shown, the ends of closings, and epochs; each request is answered; each abort that is told has its cause in
+-- epochs made one, are the logs of a cluster in which nothing can fail: its shell was replied the same, but for the
+-- views
+-- that it was shown, the ends of closings, and epochs; each request is answered; each abort that is told has its cause
+-- in
 -- every closed cut; and no reply tells of a host that stopped. And each closing is answered in its own command.
 pub record IsPeacefullyServed (start : Start) (ending : Ending) (logs : ℕ → List HostStep) : Type 0 where
   pub peaceful : ArePeaceful logs

@@ -31,8 +31,10 @@ use Rattle.commit_laws.specs.Traces.{record_at}
 -- Two views of one number that hosts stood in are the same, and each has a full member in each group. The history is a
 -- serial one: each answer in it is right, what was reported before another transaction was asked for stands before it,
 -- epochs never fall along it, and a live replica of a key at rest has the row that it leaves. A transaction is decided
--- once at most, as its client asked for it and was answered, and reported once at most: where it is reported committed it
--- is in the history, with that epoch, and where it is reported aborted it isn't; since the cluster is down only where it
+-- once at most, as its client asked for it and was answered, and reported once at most: where it is reported committed
+-- it
+-- is in the history, with that epoch, and where it is reported aborted it isn't; since the cluster is down only where
+-- it
 -- wasn't decided. An epoch that is durable was closed.
 pub record IsSafe (start : Start) (inside : ℕ → List HostStep) : Type 0 where
   pub one_view : (one other : View) → WasInstalled start inside one → WasInstalled start inside other
@@ -42,7 +44,8 @@ pub record IsSafe (start : Start) (inside : ℕ → List HostStep) : Type 0 wher
   pub decided_once : AreOnce (entries (hosts start) inside)
   pub reported_once : (tx : TxId) → reports_in tx (inside 0) ≤ 1
   pub answered : (entry : Entry) → IsIn entry (entries (hosts start) inside)
-      → (asked_of start entry.tx (inside 0) ≡ operations_of entry) × (told_of start entry.tx (inside 0) ≡ answers_of entry)
+      → (asked_of start entry.tx (inside 0) ≡ operations_of entry)
+      × (told_of start entry.tx (inside 0) ≡ answers_of entry)
   pub committed : (tx : TxId) (epoch : ℕ) → IsMarked (Reported tx (Committed epoch)) (inside 0)
       → HasEntry tx epoch (history (hosts start) inside)
   pub aborted : (tx : TxId) (cause : AbortCause) → IsMarked (Reported tx (Aborted cause)) (inside 0)
@@ -51,7 +54,8 @@ pub record IsSafe (start : Start) (inside : ℕ → List HostStep) : Type 0 wher
       → Each (λ (entry : Entry). same_tx entry.tx tx ≡ false) (entries (hosts start) inside)
   pub durable : (h epoch : ℕ) → h < hosts start → IsMarked (Durable epoch) (inside h) → WasClosed start inside epoch
 
--- Of a closed cut and a larger one. Once an epoch is closed, or durable, whoever writes, and has that epoch or one before
+-- Of a closed cut and a larger one. Once an epoch is closed, or durable, whoever writes, and has that epoch or one
+-- before
 -- it in the larger one's history, is in that of the smaller one. Of a transaction that is in the larger one's history,
 -- members have the same image of a key in the smaller one, as far as they have a record of it on that key and no
 -- operation of it there is unanswered.

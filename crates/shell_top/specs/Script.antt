@@ -33,19 +33,22 @@ is_too_long line bytes = nat_lt 65536 line || nat_lt 512 (length bytes)
 
 -- a whole line of a script for so many nodes, and then the rest of it
 abbrev pub whole_line : ℕ → ℕ → List ℕ → Script → Script
-whole_line nodes line bytes rest = if is_too_long line bytes then ends_with (TooLong line) else follow line (parsed_line nodes bytes) rest
+whole_line nodes line bytes rest =
+    if is_too_long line bytes then ends_with (TooLong line) else follow line (parsed_line nodes bytes) rest
 
 -- what stands behind the last newline: no line if it is empty, a line if nothing more comes, and else a part of one
 abbrev pub last_part : ℕ → Bool → ℕ → List ℕ → Script
 last_part nodes ended line [] = nothing_more
 last_part nodes true line (byte ∷ bytes) = whole_line nodes line (byte ∷ bytes) nothing_more
-last_part nodes false line (byte ∷ bytes) = if is_too_long line (byte ∷ bytes) then ends_with (TooLong line) else nothing_more
+last_part nodes false line (byte ∷ bytes) =
+    if is_too_long line (byte ∷ bytes) then ends_with (TooLong line) else nothing_more
 
 -- the parts between newlines, of which the first is the line of this number
 abbrev pub script_of : ℕ → Bool → ℕ → List (List ℕ) → Script
 script_of nodes ended line [] = nothing_more
 script_of nodes ended line (part ∷ []) = last_part nodes ended line part
-script_of nodes ended line (part ∷ next ∷ more) = whole_line nodes line part (script_of nodes ended (line + 1) (next ∷ more))
+script_of nodes ended line (part ∷ next ∷ more) =
+    whole_line nodes line part (script_of nodes ended (line + 1) (next ∷ more))
 
 -- what these bytes ask for, from this line on; whether nothing more comes
 abbrev pub script_from : ℕ → Bool → ℕ → List ℕ → Script

@@ -60,7 +60,8 @@ pub record HasServed (start : Start) (asked : List ApiReq) (w t : Whole) : Type 
       → NoneStops (logs_at t.logs)
       → AreInPeace start (logs_at t.logs)
 
--- Memory was wanting while the world was asked for these requests: of the logs, a first part of them was asked for, each
+-- Memory was wanting while the world was asked for these requests: of the logs, a first part of them was asked for,
+-- each
 -- at quiet; where none was, the shell's host made no step. Peace goes on.
 pub record AreLeftOff (start : Start) (asked : List ApiReq) (w : Whole) (logs : List HostLog) : Type 0 where
   pub labelled : AreLabelled start logs
@@ -81,7 +82,8 @@ abbrev pub HasGoneOn : Start → Whole → Whole → Bool → Type 0
 HasGoneOn start w t false = t ≡ w
 HasGoneOn start w t true = HasServed start questions w t
 
--- The world is quiet. The shell asked for these commands, each at quiet, and has had all replies. Where they stop and cut
+-- The world is quiet. The shell asked for these commands, each at quiet, and has had all replies. Where they stop and
+-- cut
 -- off nobody, and no host gave up, the logs are peaceful.
 pub record IsServed (start : Start) (commands : List Command) (w : Whole) : Type 0 where
   pub given : List ApiReply
@@ -104,31 +106,38 @@ pub record AreLeft (start : Start) (command : Command) (w : Whole) (logs : List 
 -- a world that served some commands serves one more, and the text of its log goes on with this text
 pub record ServesCommand (start : Start) (command : Command) (w t : Whole) (text : List ℕ) : Type 0 where
   pub served : (commands : List Command) → IsServed start commands w → IsServed start (commands ++ command ∷ []) t
-  pub told : (commands : List Command) → IsServed start commands w → text_of start (logs_at t.logs 0) ≡ text_of start (logs_at w.logs 0) ++ text
+  pub told : (commands : List Command) → IsServed start commands w
+      → text_of start (logs_at t.logs 0) ≡ text_of start (logs_at w.logs 0) ++ text
   pub sound : IsSound start t
 
 -- the command was served, and a first part of its text was written
-pub record WrittenInPart (start : Start) (commands : List Command) (command : Command) (w t : Whole) (written written_now : Option (List ℕ)) : Type 0 where
+pub record WrittenInPart (start : Start) (commands : List Command) (command : Command) (w t : Whole)
+    (written written_now : Option (List ℕ)) : Type 0 where
   pub text : List ℕ
   pub told : text_of start (logs_at t.logs 0) ≡ text_of start (logs_at w.logs 0) ++ text
   pub part : AppendsPart written written_now text
   pub served : IsServed start (commands ++ command ∷ []) t
 
 -- the command was served, and its text was written
-pub record WrittenWhole (start : Start) (commands : List Command) (command : Command) (w t : Whole) (written written_now : Option (List ℕ)) : Type 0 where
+pub record WrittenWhole (start : Start) (commands : List Command) (command : Command) (w t : Whole)
+    (written written_now : Option (List ℕ)) : Type 0 where
   pub text : List ℕ
   pub told : text_of start (logs_at t.logs 0) ≡ text_of start (logs_at w.logs 0) ++ text
   pub all : Appends written written_now text
   pub served : IsServed start (commands ++ command ∷ []) t
 
 -- the session ends in a command: its text was written in part, or memory was wanting
-abbrev pub CommandEnds : Start → Ending → List Command → Command → Whole → Whole → Option (List ℕ) → Option (List ℕ) → Type 0
-CommandEnds start WriteFault commands command w t written written_now = WrittenInPart start commands command w t written written_now
-CommandEnds start NoMemory commands command w t written written_now = (written_now ≡ written) × AreLeft start command w t.logs
+abbrev pub CommandEnds : Start → Ending → List Command → Command → Whole → Whole → Option (List ℕ) → Option (List ℕ)
+    → Type 0
+CommandEnds start WriteFault commands command w t written written_now =
+    WrittenInPart start commands command w t written written_now
+CommandEnds start NoMemory commands command w t written written_now =
+    (written_now ≡ written) × AreLeft start command w t.logs
 CommandEnds start ending commands command w t written written_now = ⊥
 
 -- a world that served some commands serves one more and its text is printed, or the session ends
-pub record PrintsCommand (start : Start) (command : Command) (w t : Whole) (result : Option Ending) (written written_now : Option (List ℕ)) : Type 0 where
+pub record PrintsCommand (start : Start) (command : Command) (w t : Whole) (result : Option Ending)
+    (written written_now : Option (List ℕ)) : Type 0 where
   pub printed : (commands : List Command) → IsServed start commands w
       → MatchOption result (WrittenWhole start commands command w t written written_now)
       (λ ending. CommandEnds start ending commands command w t written written_now)

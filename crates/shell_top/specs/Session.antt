@@ -76,11 +76,13 @@ after commands script = record { commands = commands ++ script.commands; last = 
 
 -- The session is at this line: it read `consumed` and what is held, the world has served the commands of the lines
 -- before, and its text is printed.
-pub record IsUnderWay (shape : Shape) (left left_now written written_now : Option (List ℕ)) (line : ℕ) (held : List ℕ) (w : Whole) : Type 0 where
+pub record IsUnderWay (shape : Shape) (left left_now written written_now : Option (List ℕ)) (line : ℕ) (held : List ℕ)
+    (w : Whole) : Type 0 where
   pub consumed : List ℕ
   pub commands : List Command
   pub read : Consumes left left_now (consumed ++ held)
-  pub lines : (ended : Bool) (more : List ℕ) → script_from shape.nodes ended 1 (consumed ++ more) ≡ after commands (script_from shape.nodes ended line more)
+  pub lines : (ended : Bool) (more : List ℕ)
+      → script_from shape.nodes ended 1 (consumed ++ more) ≡ after commands (script_from shape.nodes ended line more)
   pub printed : Appends written written_now (text_of (fresh shape) (logs_at w.logs 0))
   pub served : IsServed (fresh shape) commands w
   pub line_low : line ≤ 65537
@@ -88,7 +90,8 @@ pub record IsUnderWay (shape : Shape) (left left_now written written_now : Optio
   pub consumed_short : length consumed + 513 ≤ 513 * line
 
 -- The lines are read, or can be read no further, and the text of the logs is printed, or printing was cut short.
-pub record AreLinesDone (shape : Shape) (left left_now written written_now : Option (List ℕ)) (ending : Ending) (logs : List HostLog) : Type 0 where
+pub record AreLinesDone (shape : Shape) (left left_now written written_now : Option (List ℕ)) (ending : Ending)
+    (logs : List HostLog) : Type 0 where
   pub input : List ℕ
   pub ended : Bool
   pub consumed : Consumes left left_now input
@@ -104,14 +107,16 @@ IsAt session left left_now written written_now =
     IsUnderWay session.shape left left_now written written_now session.line session.reader (whole_of session.world)
 
 -- a session that is under way goes on, or it ends with its lines done
-abbrev pub GoesOn : Session → Session → (left_old left_new written_old written_new : Option (List ℕ)) → Option Ending → Type 0
+abbrev pub GoesOn : Session → Session → (left_old left_new written_old written_new : Option (List ℕ)) → Option Ending
+    → Type 0
 GoesOn old new left_old left_new written_old written_new result =
     (left written : Option (List ℕ)) → IsAt old left left_old written written_old
     → MatchOption result ((new.shape ≡ old.shape) × IsAt new left left_new written written_new)
     (λ ending. AreLinesDone old.shape left left_new written written_new ending (whole_of new.world).logs)
 
 -- a session that is under way ends with its lines done
-abbrev pub GoesToEnd : Session → Session → (left_old left_new written_old written_new : Option (List ℕ)) → Ending → Type 0
+abbrev pub GoesToEnd : Session → Session → (left_old left_new written_old written_new : Option (List ℕ)) → Ending
+    → Type 0
 GoesToEnd old new left_old left_new written_old written_new ending =
     (left written : Option (List ℕ)) → IsAt old left left_old written written_old
     → AreLinesDone old.shape left left_new written written_new ending (whole_of new.world).logs

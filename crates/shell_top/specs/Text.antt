@@ -23,7 +23,8 @@ down_line before now = if now && not before then codes "down" ++ newline else []
 abbrev pub fault_line : Ending → List ℕ
 fault_line Finished = []
 fault_line Words = codes "words refused" ++ newline
-fault_line (Refused line fault) = codes "line " ++ decimal line ++ codes " refused " ++ decimal (code_of fault) ++ newline
+fault_line (Refused line fault) =
+    codes "line " ++ decimal line ++ codes " refused " ++ decimal (code_of fault) ++ newline
 fault_line ReadFault = codes "read fault" ++ newline
 fault_line WriteFault = []
 fault_line NoMemory = []

@@ -22,7 +22,8 @@ bare = record {
 
 -- `ndb`: three options, each at most once, in any order
 abbrev pub ndb : App
-ndb = with_rule (with_rule (with_rule bare (option (codes "nodes"))) (option (codes "replicas"))) (option (codes "fragments"))
+ndb = with_rule (with_rule (with_rule bare (option (codes "nodes"))) (option (codes "replicas")))
+    (option (codes "fragments"))
 
 -- the word `--`, which is no option
 abbrev pub is_separator : List ℕ → Bool

@@ -9,7 +9,8 @@ use Rattle.sig_core.specs.Step.{Effects, Step, joined}
 use Rattle.step_forms.specs.Does.{Does, Have, IsAmong, IsWord, Speaks}
 
 -- of two effects, one behind the other
-pub joined_have : (P : Outgoing → Type 0) (M : Mark → Type 0) (first second : Effects) → Have P M first → Have P M second
+pub joined_have : (P : Outgoing → Type 0) (M : Mark → Type 0) (first second : Effects) → Have P M first
+    → Have P M second
     → Have P M (joined first second)
 joined_have P M first second front behind = (
   each_append P first.sends second.sends front.0 behind.0,

@@ -8,3 +8,4 @@ pub mod Rule
 pub mod Sends
 pub mod State
 pub mod Takeover
+pub mod Words

@@ -14,9 +14,6 @@ mod takeover;
 
 pub use laws::{
     aborts_what_nobody_committed, commits_what_was_told, gathered_stand_in_order,
-    rules_when_all_have_ended, tells_when_all_have_answered,
+    keeps_to_its_words, rules_when_all_have_ended, tells_when_all_have_answered,
 };
 pub use takeover::Takeover;
-
-#[cfg(test)]
-mod tests;

@@ -21,12 +21,12 @@ use Rattle.node_views.specs.declared.parts.Parts.{Parts}
 use Rattle.node_views.specs.declared.parts.Parts.TheVariants as part
 use Rattle.outcome_laws.specs.Counts.{count_open, count_sent, count_unwished, is_begin, is_report, is_unwished, is_wish, one_if}
 use Rattle.outcome_laws.specs.Once.{takes_in}
-use Rattle.outcome_laws.proofs.ClientCounts.{noted_unwished, wishes_few}
-use Rattle.outcome_laws.proofs.OnceMarks.{IsOfClient, IsShell, client_light, in_client, of_client, reports_client}
-use Rattle.outcome_laws.proofs.OnceNone.{is_counted, uncounted_wish}
-use Rattle.outcome_laws.proofs.OnceParts.{no_body, no_mark, no_marks}
-use Rattle.outcome_laws.proofs.OnceWalk.{step_light}
-use Rattle.outcome_laws.proofs.TcLists.{count_more}
+use Rattle.outcome_laws.proofs.client.ReportsAndWishes.{noted_unwished, wishes_few}
+use Rattle.outcome_laws.proofs.once.DecidesAndReports.{IsOfClient, IsShell, client_light, in_client, of_client, reports_client}
+use Rattle.outcome_laws.proofs.once.Counted.{is_counted, uncounted_wish}
+use Rattle.outcome_laws.proofs.once.CoordinatorScale.{no_body, no_mark, no_marks}
+use Rattle.outcome_laws.proofs.once.Scales.{step_light}
+use Rattle.outcome_laws.proofs.coordinators.Lists.{count_more}
 use Rattle.report_laws.specs.Answered.{answers_among, is_answered}
 use Rattle.report_laws.specs.Asked.{asked_by, asked_in}
 use Rattle.report_laws.specs.Told.{answer_in}
@@ -182,7 +182,8 @@ module _ (tx : TxId) where
           (old : ClientLog log)
         where
           pays : Pays tx (opened_after start log) (length (asked_of start tx log)) (length (told_of start tx log))
-              (length (sent_of (wished_by tx) start 0 log)) (takes_in (is_begin tx) log) old.talked e.step.taken.body few
+              (length (sent_of (wished_by tx) start 0 log)) (takes_in (is_begin tx) log) old.talked e.step.taken.body
+              few
               (opened_after start (e ∷ log)) t.effects.sends replied
           pays =
               step_talks start e log
@@ -213,7 +214,8 @@ module _ (tx : TxId) where
               which answer that false = old.among
 
               by : (b : Body) → e.step.taken.body ≡ b
-                  → AreAmong ((if is_answered tx b then reverse (answers_among replied) else []) ++ told_of start tx log)
+                  → AreAmong ((if is_answered tx b then reverse (answers_among replied) else []) ++ told_of start tx
+                  log)
                   (cons_option (told_by tx b) (taken_of (told_by tx) log))
               by (Client (TcKeyConf one answer)) is = which answer (only one answer is) (same_tx one tx)
               by b is = old.among
@@ -226,7 +228,8 @@ module _ (tx : TxId) where
                   (IsPaid tx (count_sent (is_key tx) t.effects.sends + length (asked_of start tx log))
                   (news_of tx e.step.taken.body replied + length (told_of start tx log)))
                   (IsPaid tx (length (asked_of start tx (e ∷ log))) (length (told_of start tx (e ∷ log))))
-                  (opened_after start (e ∷ log)) (λ one paid has. omega (arith, paid has, asked_now, told_now)) pays.paid;
+                  (opened_after start (e ∷ log)) (λ one paid has. omega (arith, paid has, asked_now, told_now))
+                  pays.paid;
               open_few = omega (arith, open_below, old.talked.open_few);
               wish_few = omega (arith, unwished_below, wished_now, old.talked.wish_few);
               unbegun = λ none. omega (arith, asked_now, pays.unbegun none);

@@ -1,4 +1,5 @@
--- The client's side asks for one operation of a transaction at a time: while one is unanswered there is one answer fewer
+-- The client's side asks for one operation of a transaction at a time: while one is unanswered there is one answer
+-- fewer
 -- than it asked for, and none is missing where it has asked for the commit.
 use Rattle.std.proofs.Common.{◌≡◌, ◌≤◌, ◌+◌, ◌∙◌, ◌++◌, ◌&&◌, ℕ, Bool, true, false, List, [], ◌∷◌, length, ap, arith, refl, subst, sym}
 use Rattle.std.specs.List.{count_by}
@@ -23,10 +24,11 @@ use Rattle.api_block.specs.declared.opened.Doing.TheVariants as doing
 use Rattle.api_block.specs.declared.opened.OpenTransaction.{OpenTransaction}
 use Rattle.api_block.specs.Opened.{answered, asked_for, begins_at, begun as has_begun, begun_operating, behind, committing, has_tx}
 use Rattle.api_block.specs.Opened.{is_named, is_tx, operating}
+use Rattle.api_block.proofs.Walk.{own_is}
 use Rattle.report_laws.specs.Answered.{answers_among, is_answered}
 use Rattle.outcome_laws.specs.Counts.{count_sent, is_begin, is_committing, is_unwished, is_wish, one_if}
-use Rattle.outcome_laws.proofs.TcLists.{count_between, count_more, none_counted}
-use Rattle.talk_laws.proofs.ClientTalks.{ArePlain, IsPlain, Talk, TalkForms, is_plain, own_is}
+use Rattle.outcome_laws.proofs.coordinators.Lists.{count_between, count_more, none_counted}
+use Rattle.talk_laws.proofs.ClientTalks.{ArePlain, IsPlain, Talk, TalkForms, is_plain}
 use Rattle.talk_laws.proofs.ShellTalks.{HostForms}
 
 -- it asks for an operation of the transaction
@@ -64,7 +66,8 @@ module _ (tx : TxId) where
   abbrev pub IsPaid : ℕ → ℕ → OpenTransaction → Type 0
   IsPaid asked told t = has_tx tx t ≡ true → asked ≤ told + one_if (is_operating t.doing)
 
-  -- the client's side, with how many operations it asked for, answers it told, and commits it asked for, and how often it
+  -- the client's side, with how many operations it asked for, answers it told, and commits it asked for, and how often
+  -- it
   -- was told of the begin
   pub record ClientTalked (opened : List OpenTransaction) (asked told wished begun : ℕ) : Type 0 where
     pub paid : Each (IsPaid asked told) opened
@@ -106,7 +109,8 @@ module _ (tx : TxId) where
           → Pays now sends replies
       calm now sends replies no_key no_wish all = record {
         paid =
-            each_map (IsPaid asked told) (IsPaid (count_sent (is_key tx) sends + asked) (news_of tx body replies + told))
+            each_map (IsPaid asked told) (IsPaid (count_sent (is_key tx) sends + asked)
+            (news_of tx body replies + told))
             now (more_told sends replies no_key) all;
         unbegun = λ none. omega (arith, no_key, talked.unbegun (omega (arith, none)));
         wished_paid = λ some. omega (arith, no_key, talked.wished_paid (omega (arith, some, no_wish)));

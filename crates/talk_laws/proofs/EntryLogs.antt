@@ -25,7 +25,8 @@ in_step a h stamp log [] before there = inr there
 in_step a h stamp log (Decided tx epoch ∷ marks) before there =
     by (in_step a h stamp log marks (entry_of h stamp log tx epoch ∷ before) there)
   where
-    by : (IsIn (Decided a.tx a.epoch) marks × (a.ops ≡ ops_of a.tx log)) ⊎ IsIn a (entry_of h stamp log tx epoch ∷ before)
+    by : (IsIn (Decided a.tx a.epoch) marks × (a.ops ≡ ops_of a.tx log))
+        ⊎ IsIn a (entry_of h stamp log tx epoch ∷ before)
         → (IsIn (Decided a.tx a.epoch) (Decided tx epoch ∷ marks) × (a.ops ≡ ops_of a.tx log)) ⊎ IsIn a before
     by (inl found) = inl (inr found.0, found.1)
     by (inr (inl is)) =
@@ -84,7 +85,8 @@ inserted a b (c ∷ list) there = by (is_before b c) there (λ inside. inserted 
 
 all_inserted : (a : Entry) (more into : List Entry) → IsIn a (insert_all more into) → IsIn a more ⊎ IsIn a into
 all_inserted a [] into there = inr there
-all_inserted a (b ∷ more) into there = by (inserted a b (insert_all more into) there) (λ inside. all_inserted a more into inside)
+all_inserted a (b ∷ more) into there =
+    by (inserted a b (insert_all more into) there) (λ inside. all_inserted a more into inside)
   where
     by : (a ≡ b) ⊎ IsIn a (insert_all more into) → (IsIn a (insert_all more into) → IsIn a more ⊎ IsIn a into)
         → IsIn a (b ∷ more) ⊎ IsIn a into
@@ -119,7 +121,8 @@ module _ (tx : TxId) where
     where
       by : (body : Body) → 1 ≤ one_if (is_asking tx body) + takes_in (is_asking tx) log
           → (1 ≤ takes_in (is_asking tx) log → IsIn (ops_of tx log) (taken_of (verified_by tx) log))
-          → IsIn (else_of (verified_by tx body) (ops_of tx log)) (cons_option (verified_by tx body) (taken_of (verified_by tx) log))
+          → IsIn (else_of (verified_by tx body) (ops_of tx log))
+          (cons_option (verified_by tx body) (taken_of (verified_by tx) log))
       by (Epoch (DiVerifyReq other ops)) some old = which (same_tx other tx) some
         where
           which : (b : Bool) → 1 ≤ one_if b + takes_in (is_asking tx) log

@@ -20,8 +20,8 @@ use Rattle.world_views.specs.Hosts.{reached}
 use Rattle.world_views.specs.Machine.{after, machine, routed_after, sender, sent_count, signals_of, step_after}
 use Rattle.world_views.specs.Sending.{Routed, all_addressed, is_asked, is_kept_back, is_own_work, routed, routed_all, routed_if}
 use Rattle.outcome_laws.specs.Counts.{one_if}
-use Rattle.outcome_laws.proofs.OnceLogs.{count_on}
-use Rattle.outcome_laws.proofs.TcLists.{count_more}
+use Rattle.outcome_laws.proofs.once.AlongLogs.{count_on}
+use Rattle.outcome_laws.proofs.coordinators.Lists.{count_more}
 use Rattle.talk_laws.proofs.Among.{AreAmong, among_none, among_same, among_trans}
 use Rattle.talk_laws.proofs.Picks.{cons_both, cons_more, on_link, pick_sends, picked, picked_more, sent_of, taken_of}
 
@@ -95,7 +95,8 @@ module _ {A : Type 0} (f : Body → Option A) where
       where
         by : (b : Bool) → AreAmong (on_link f (sent (machine start) i j log)) (sent_of f start i log)
             → AreAmong
-            (on_link f (put (machine start) j (if b then [] else signals_of start i log e) (sent (machine start) i j log)))
+            (on_link f (put (machine start) j (if b then [] else signals_of start i log e)
+            (sent (machine start) i j log)))
             (sent_of f start i (e ∷ log))
         by true old =
             picked_more (λ (one : Outgoing). f one.body) (step_after start i log e).effects.sends

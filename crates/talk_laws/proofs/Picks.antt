@@ -1,4 +1,5 @@
--- What signals of a kind say, of those that a host takes and sends: of what a step sends, in front of what was sent before.
+-- What signals of a kind say, of those that a host takes and sends: of what a step sends, in front of what was sent
+-- before.
 use Rattle.std.proofs.Common.{◌≡◌, ◌∙◌, ℕ, List, [], ◌∷◌, ◌++◌, ap, inl, refl}
 use Rattle.std.specs.List.{cons_option}
 use Rattle.std.specs.Prelude.{Option, None, Some}

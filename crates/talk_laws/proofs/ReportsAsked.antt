@@ -15,7 +15,7 @@ use Rattle.sig_core.specs.Place.{coordinator_of}
 use Rattle.sig_core.specs.Step.{to_place}
 use Rattle.api_block.specs.declared.opened.OpenTransaction.{OpenTransaction}
 use Rattle.api_block.specs.Opened.{begins_at, begun_operating, is_named, operating}
-use Rattle.host_laws.proofs.ApiBegins.{same_name-is}
+use Rattle.host_laws.proofs.api.Begins.{same_name-is}
 use Rattle.report_laws.specs.Requested.{name_of_request}
 use Rattle.world_core.specs.Requests.{request_in}
 use Rattle.world_core.specs.Start.{Start}

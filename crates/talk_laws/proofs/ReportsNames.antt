@@ -10,7 +10,7 @@ use Rattle.sig_core.specs.declared.op.Op.{Op}
 use Rattle.sig_core.specs.declared.signal.Body.{Body}
 use Rattle.api_block.specs.declared.opened.OpenTransaction.{OpenTransaction}
 use Rattle.api_block.specs.Opened.{asked_for, is_named, same_name}
-use Rattle.host_laws.proofs.ApiBegins.{same_name-self}
+use Rattle.host_laws.proofs.api.Begins.{same_name-self}
 use Rattle.world_core.specs.Start.{Start}
 use Rattle.world_core.specs.Steps.{HostStep}
 use Rattle.talk_laws.specs.Reports.{IsOpenIn, opened_after}

@@ -19,8 +19,9 @@ use Rattle.sig_core.specs.Step.{to_place}
 use Rattle.api_block.specs.declared.opened.Doing.TheVariants as doing
 use Rattle.api_block.specs.declared.opened.OpenTransaction.{OpenTransaction}
 use Rattle.api_block.specs.Opened.{answered, asked_for, begins_at, begun, begun_operating, behind, committing, has_tx, is_named, is_tx, operating}
+use Rattle.api_block.proofs.Walk.{own_is}
 use Rattle.outcome_laws.specs.Counts.{count_sent, one_if}
-use Rattle.outcome_laws.proofs.TcLists.{count_between, count_both, count_more}
+use Rattle.outcome_laws.proofs.coordinators.Lists.{count_between, count_both, count_more}
 use Rattle.report_laws.specs.Answered.{answers_among, is_answered}
 use Rattle.world_core.specs.Start.{Start}
 use Rattle.world_core.specs.Steps.{HostStep}
@@ -28,7 +29,7 @@ use Rattle.world_views.specs.Machine.{replies_at, step_after}
 use Rattle.talk_laws.specs.Reports.{opened_after}
 use Rattle.talk_laws.specs.Talks.{asked_of, told_of}
 use Rattle.talk_laws.proofs.ClientLogs.{asked_count, news_count}
-use Rattle.talk_laws.proofs.ClientTalks.{IsMuteBehind, Talk, TalkForms, own_is}
+use Rattle.talk_laws.proofs.ClientTalks.{IsMuteBehind, Talk, TalkForms}
 use Rattle.talk_laws.proofs.ClientTrack.{is_key, is_operating, news_of}
 use Rattle.talk_laws.proofs.ReportsTold.{mute_answers}
 use Rattle.talk_laws.proofs.ShellLogs.{opened_first, step_talks}

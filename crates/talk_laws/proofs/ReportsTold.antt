@@ -15,13 +15,14 @@ use Rattle.sig_core.specs.declared.reply.ApiReply.TheVariants.{Answered, Ended}
 use Rattle.sig_core.specs.declared.signal.Body.{Body}
 use Rattle.api_block.specs.declared.opened.OpenTransaction.{OpenTransaction}
 use Rattle.api_block.specs.Opened.{has_tx}
+use Rattle.api_block.proofs.Walk.{own_is}
 use Rattle.report_laws.specs.Answered.{answers_among}
 use Rattle.report_laws.specs.Told.{answer_in, outcomes_marked, outcomes_told}
 use Rattle.world_core.specs.Start.{Start}
 use Rattle.world_core.specs.Steps.{HostStep}
 use Rattle.world_views.specs.Machine.{machine, replies_at, step_after}
 use Rattle.talk_laws.specs.Reports.{IsOfItsTransaction, IsOpenIn, opened_after}
-use Rattle.talk_laws.proofs.ClientTalks.{IsMute, IsMuteBehind, Talk, TalkForms, own_is}
+use Rattle.talk_laws.proofs.ClientTalks.{IsMute, IsMuteBehind, Talk, TalkForms}
 use Rattle.talk_laws.proofs.ShellLogs.{step_talks}
 use Rattle.talk_laws.proofs.ShellTalks.{AreUnreported, HostForms}
 

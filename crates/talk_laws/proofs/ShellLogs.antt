@@ -10,7 +10,7 @@ use Rattle.world_core.specs.Steps.{HostStep}
 use Rattle.world_views.specs.Hosts.{started}
 use Rattle.world_views.specs.Machine.{after, replies_at, step_after}
 use Rattle.moment_laws.proofs.PartKinds.{shell_after}
-use Rattle.outcome_laws.proofs.OnceMarks.{IsShell}
+use Rattle.outcome_laws.proofs.once.DecidesAndReports.{IsShell}
 use Rattle.talk_laws.specs.Reports.{opened_after, opened_in}
 use Rattle.talk_laws.proofs.ClientTalks.{Talk, TalkForms}
 use Rattle.talk_laws.proofs.ShellTalks.{HostForms, shell_talks}

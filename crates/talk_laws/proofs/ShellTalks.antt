@@ -33,10 +33,10 @@ use Rattle.node_views.specs.Parts.{shell_entered, shell_row}
 use Rattle.node_views.specs.Replies.{replies_in}
 use Rattle.node_views.specs.Row.{blocks_row, closed_if, counted_row, cut_if, entered, entering_if, headed_if, headed_row, host_row, host_table, in_view, is_barred, is_cut, is_excluded, is_stop, kill_row, killed_after, passed_if, passed_row, taken_if, unless_stopped}
 use Rattle.node_views.specs.WellFormed.{is_first, is_well_formed}
-use Rattle.outcome_laws.proofs.KnowNothing.{untold_uncounted}
-use Rattle.outcome_laws.proofs.KnowParts.{arbiter_tells_nothing}
-use Rattle.outcome_laws.proofs.OnceNone.{IsUncounted, is_counted}
-use Rattle.outcome_laws.proofs.RowsNone.{IsNoOutcome}
+use Rattle.outcome_laws.proofs.knowledge.TellsNothing.{untold_uncounted}
+use Rattle.outcome_laws.proofs.knowledge.Parts.{arbiter_tells_nothing}
+use Rattle.outcome_laws.proofs.once.Counted.{IsUncounted, is_counted}
+use Rattle.outcome_laws.proofs.knowledge.MarksOfNoOutcome.{IsNoOutcome}
 use Rattle.report_laws.specs.Told.{outcomes_marked}
 use Rattle.world_views.specs.Machine.{own_stop, step_by, step_if}
 use Rattle.talk_laws.specs.Reports.{opened_in}

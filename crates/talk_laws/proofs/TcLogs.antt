@@ -1,4 +1,5 @@
--- Along the log of a coordinator's host: what it gives with a request for an epoch are operations that it took, and their
+-- Along the log of a coordinator's host: what it gives with a request for an epoch are operations that it took, and
+-- their
 -- answers, all that it has told.
 use Rattle.std.proofs.Common.{◌≡◌, ◌≤◌, ◌+◌, ◌∙◌, ◌++◌, ◌⊎◌, ℕ, Bool, true, false, List, [], ◌∷◌, length, ap, arith, inl, inr, refl, subst, sym}
 use Rattle.std.specs.List.{cons_option}
@@ -42,11 +43,11 @@ use Rattle.moment_laws.specs.Places.{tc_of}
 use Rattle.moment_laws.proofs.MomentHosts.{tc_started}
 use Rattle.moment_laws.proofs.PartKinds.{tc_after}
 use Rattle.outcome_laws.specs.Counts.{IsCoordinatorOf, is_unborn, one_if}
-use Rattle.outcome_laws.proofs.OnceBegins.{tc_begins}
-use Rattle.outcome_laws.proofs.OnceNone.{AreUncounted, IsUncounted, is_counted}
-use Rattle.outcome_laws.proofs.OnceParts.{IsTcOf, dih_installs_none, dih_none}
-use Rattle.outcome_laws.proofs.OnceTakeover.{takeover_none}
-use Rattle.outcome_laws.proofs.TcCounts.{coordinator_of_installed, coordinator_of_stays}
+use Rattle.outcome_laws.proofs.once.Begins.{tc_begins}
+use Rattle.outcome_laws.proofs.once.Counted.{AreUncounted, IsUncounted, is_counted}
+use Rattle.outcome_laws.proofs.once.CoordinatorScale.{IsTcOf, dih_installs_none, dih_none}
+use Rattle.outcome_laws.proofs.takeovers.SendUncounted.{takeover_none}
+use Rattle.outcome_laws.proofs.coordinators.BeginsAndAsks.{coordinator_of_installed, coordinator_of_stays}
 use Rattle.talk_laws.proofs.Among.{AreAmong, among_none, among_same, among_trans}
 use Rattle.talk_laws.proofs.Picks.{pick_sends, picked_both, picked_more, picked_none, sent_of, taken_of}
 use Rattle.talk_laws.proofs.TcSteps.{gave_count, installs_talked, row_talked}
@@ -72,16 +73,18 @@ each_picked {A} P f (one ∷ sends) before all =
 
 module _ (tx : TxId) (me : Member) where
   -- the coordinator of a part, so far
-  pub record IsTalked (p : TcPart) (told : List Answer) (took : List Op) (gave : List (List (Op × Answer))) : Type 0 where
-    pub of : IsCoordinatorOf me p.coordinator
-    pub talked : Talked tx p.coordinator told took gave
+  pub record IsTalked (p : TcPart) (told : List Answer) (took : List Op) (gave : List (List (Op × Answer))) : Type 0
+    where
+      pub of : IsCoordinatorOf me p.coordinator
+      pub talked : Talked tx p.coordinator told took gave
 
   -- other operations are taken
   takes_more : (s : CoordinatorState) (told : List Answer) (took : List Op) (gave : List (List (Op × Answer)))
       (o : Option Op) → Talked tx s told took gave → Talked tx s told (cons_option o took) gave
   takes_more s told took gave o is = record {
     unborn = is.unborn;
-    fits = each_map (IsFit tx told took) (IsFit tx told (cons_option o took)) s.tc.live (more_took tx told took o) is.fits;
+    fits = each_map (IsFit tx told took) (IsFit tx told (cons_option o took)) s.tc.live (more_took tx told took o)
+        is.fits;
     gives = each_map (Gives told took) (Gives told (cons_option o took)) gave (more_gives tx told took o) is.gives;
     few = is.few;
   }
@@ -150,7 +153,8 @@ module _ (tx : TxId) (me : Member) where
       talked = row_talked tx told took gave me p.coordinator is.of is.talked x;
     }
     row_is p block.Takeover x is =
-        beside p (tc_row p block.Takeover x).state (tc_row p block.Takeover x).effects.sends (asked_by tx x.body) is refl
+        beside p (tc_row p block.Takeover x).state (tc_row p block.Takeover x).effects.sends (asked_by tx x.body) is
+        refl
         (takeover_none p.takeover x)
     row_is p block.Dih x is =
         beside p (tc_row p block.Dih x).state (tc_row p block.Dih x).effects.sends (asked_by tx x.body) is refl

@@ -1,4 +1,5 @@
--- A coordinator asks for no operations, and answers only those of its own transactions; so of the hosts only that of the
+-- A coordinator asks for no operations, and answers only those of its own transactions; so of the hosts only that of
+-- the
 -- coordinator which began a transaction answers its operations, and only the shell's asks for them.
 use Rattle.std.proofs.Common.{◌≡◌, ◌≢◌, ◌≤◌, ◌<◌, ◌⊎◌, ◌∙◌, ℕ, zero, suc, Bool, true, false, List, ◌∷◌, ap, arith, inl, inr, refl, subst, sym}
 use Rattle.std.proofs.lemmas.Bool.{cases_lt}
@@ -31,15 +32,15 @@ use Rattle.view_laws.specs.Runs.{AreOfCluster}
 use Rattle.moment_laws.specs.Places.{tc_of}
 use Rattle.moment_laws.proofs.MomentHosts.{TcHost, of_none, of_tc, tc_host_is}
 use Rattle.outcome_laws.specs.Counts.{IsCoordinatorOf, coordinator_member, count_sent}
-use Rattle.outcome_laws.proofs.OnceBegins.{no_tc_sends, none_fresh, none_taken, nowhere_sends, tc_begins}
-use Rattle.outcome_laws.proofs.OnceClient.{is_coordinators}
-use Rattle.outcome_laws.proofs.OnceDown.{beside_is}
-use Rattle.outcome_laws.proofs.OnceLogs.{log_light, sends_in}
-use Rattle.outcome_laws.proofs.OnceNobody.{IsBeside, beside_light, nothing, of_nobody}
-use Rattle.outcome_laws.proofs.OnceNone.{count_none, is_counted}
-use Rattle.outcome_laws.proofs.OnceParts.{IsTcOf, coordinator_light, of_coordinator}
-use Rattle.outcome_laws.proofs.OnceWalk.{AreLight}
-use Rattle.outcome_laws.proofs.TcWalk.{coordinator_each}
+use Rattle.outcome_laws.proofs.once.Begins.{no_tc_sends, none_fresh, none_taken, nowhere_sends, tc_begins}
+use Rattle.outcome_laws.proofs.client.SendsNoAnswers.{is_coordinators}
+use Rattle.outcome_laws.proofs.downfall.NeverDecided.{beside_is}
+use Rattle.outcome_laws.proofs.once.AlongLogs.{log_light, sends_in}
+use Rattle.outcome_laws.proofs.once.NobodyElse.{IsBeside, beside_light, nothing, of_nobody}
+use Rattle.outcome_laws.proofs.once.Counted.{count_none, is_counted}
+use Rattle.outcome_laws.proofs.once.CoordinatorScale.{IsTcOf, coordinator_light, of_coordinator}
+use Rattle.outcome_laws.proofs.once.Scales.{AreLight}
+use Rattle.outcome_laws.proofs.coordinators.Steps.{coordinator_each}
 use Rattle.talk_laws.proofs.ClientLogs.{uncounted_key}
 use Rattle.talk_laws.proofs.ClientTrack.{is_key}
 use Rattle.talk_laws.proofs.TcTalks.{AreMute, IsMute, Talks, answers, asks, is_talk, more_mute, operates, rests, resume_talks, turn_talks}

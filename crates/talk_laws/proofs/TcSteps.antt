@@ -23,9 +23,9 @@ use Rattle.tc_views.specs.State.{CoordinatorState, go_on_if}
 use Rattle.tc_views.specs.Views.{install_row}
 use Rattle.world_core.specs.Entries.{verified_by}
 use Rattle.outcome_laws.specs.Counts.{IsCoordinatorOf, count_sent, is_asking, one_if}
-use Rattle.outcome_laws.proofs.TcCounts.{asks_once}
-use Rattle.outcome_laws.proofs.TcLists.{count_more, keys_once}
-use Rattle.outcome_laws.proofs.TcWalk.{coordinator_each, inner}
+use Rattle.outcome_laws.proofs.coordinators.BeginsAndAsks.{asks_once}
+use Rattle.outcome_laws.proofs.coordinators.Lists.{count_more, keys_once}
+use Rattle.outcome_laws.proofs.coordinators.Steps.{coordinator_each, inner}
 use Rattle.talk_laws.proofs.Picks.{pick_sends, picked_both}
 use Rattle.talk_laws.proofs.TcTalks.{AreMute, Talks, more_mute, resume_talks, turn_talks}
 use Rattle.talk_laws.proofs.TcTrack.{Gives, IsFit, Says, SaysBy, Talked, begins_says, mute_picks, mute_told, mute_verified, quiet_says, told_by, turned_says}
@@ -83,65 +83,70 @@ module _ (tx : TxId) where
             ∙ mute_picks tx (verified_by tx) (mute_verified tx) (go_on_if node b)
             (pick_sends (verified_by tx) step.effects.sends gave) (more_mute node b)
 
-    module _ (me : Member) (s : CoordinatorState) (of : IsCoordinatorOf me s) (talked : Talked tx s told took gave) where
-      row_says : (x : Signal) → SaysBy tx told took gave x.body (inner (coordinator_row s x))
-      row_says x =
-          coordinator_each (λ u t turn. Talks s.tc.node u t x.body turn) (SaysBy tx told took gave x.body) s x (record {
-            calm = record {
-              turns = λ u t at split.
-                  rows_of s.tc.node s.tc.layout u t x.body (λ turn. Talks s.tc.node u t x.body turn)
-                  (turn_talks s.tc.node s.tc.layout u t x.body);
-              turned = λ u t at split turn talks.
-                  turned_says tx told took gave x.body s.tc talked.unborn talked.fits talked.gives talked.few u t at split
-                  (keys_once s.tc.live of.once) turn talks;
-              stays = quiet [] tt;
-              full = λ name. quiet _ (refl, tt);
-              begins = λ name.
-                  begins_says tx told took gave x.body s.tc talked.unborn talked.fits talked.gives talked.few of.begun name;
-              passes = λ u ahead. quiet _ (refl, tt);
-            };
-            resumes = λ u t at split. resume_talks s.tc.node s.tc.layout u t x.body;
-            promises = quiet _ (refl, tt);
-            goes_on = λ step node b says. goes_on_says x.body step node b says;
-          })
-        where
-          quiet : (sends : List Outgoing) → AreMute sends
-              → Says tx told took gave x.body s.tc.next_seq s.tc.live sends
-          quiet sends mute =
-              quiet_says tx told took gave x.body s.tc talked.unborn talked.fits talked.gives talked.few sends mute
+    module _ (me : Member) (s : CoordinatorState) (of : IsCoordinatorOf me s) (talked : Talked tx s told took gave)
+      where
+        row_says : (x : Signal) → SaysBy tx told took gave x.body (inner (coordinator_row s x))
+        row_says x =
+            coordinator_each (λ u t turn. Talks s.tc.node u t x.body turn) (SaysBy tx told took gave x.body) s x
+            (record {
+              calm = record {
+                turns = λ u t at split.
+                    rows_of s.tc.node s.tc.layout u t x.body (λ turn. Talks s.tc.node u t x.body turn)
+                    (turn_talks s.tc.node s.tc.layout u t x.body);
+                turned = λ u t at split turn talks.
+                    turned_says tx told took gave x.body s.tc talked.unborn talked.fits talked.gives talked.few u t at
+                    split
+                    (keys_once s.tc.live of.once) turn talks;
+                stays = quiet [] tt;
+                full = λ name. quiet _ (refl, tt);
+                begins = λ name.
+                    begins_says tx told took gave x.body s.tc talked.unborn talked.fits talked.gives talked.few of.begun
+                    name;
+                passes = λ u ahead. quiet _ (refl, tt);
+              };
+              resumes = λ u t at split. resume_talks s.tc.node s.tc.layout u t x.body;
+              promises = quiet _ (refl, tt);
+              goes_on = λ step node b says. goes_on_says x.body step node b says;
+            })
+          where
+            quiet : (sends : List Outgoing) → AreMute sends
+                → Says tx told took gave x.body s.tc.next_seq s.tc.live sends
+            quiet sends mute =
+                quiet_says tx told took gave x.body s.tc talked.unborn talked.fits talked.gives talked.few sends mute
 
-      pub row_talked : (x : Signal)
-          → Talked tx (coordinator_row s x).state
-          (pick_sends (told_by tx) (coordinator_row s x).effects.sends told) (cons_option (asked_by tx x.body) took)
-          (pick_sends (verified_by tx) (coordinator_row s x).effects.sends gave)
-      row_talked x = record {
-        unborn = (row_says x).unborn;
-        fits = (row_says x).fits;
-        gives = (row_says x).gives;
-        few =
-            omega (
-              arith,
-              asks_once me tx s x of,
-              gave_count (coordinator_row s x).effects.sends gave,
-              talked.few,
-            );
-      }
+        pub row_talked : (x : Signal)
+            → Talked tx (coordinator_row s x).state
+            (pick_sends (told_by tx) (coordinator_row s x).effects.sends told) (cons_option (asked_by tx x.body) took)
+            (pick_sends (verified_by tx) (coordinator_row s x).effects.sends gave)
+        row_talked x = record {
+          unborn = (row_says x).unborn;
+          fits = (row_says x).fits;
+          gives = (row_says x).gives;
+          few =
+              omega (
+                arith,
+                asks_once me tx s x of,
+                gave_count (coordinator_row s x).effects.sends gave,
+                talked.few,
+              );
+        }
 
-      pub installs_talked : (view : View)
-          → Talked tx (install_row s view).state (pick_sends (told_by tx) (install_row s view).effects.sends told) took
-          (pick_sends (verified_by tx) (install_row s view).effects.sends gave)
-      unfolding install_row
-      installs_talked view = by (go_on_if s.tc.node _) (more_mute s.tc.node _)
-        where
-          by : (sends : List Outgoing) → AreMute sends
-              → Talked tx (install_row s view).state (pick_sends (told_by tx) sends told) took
-              (pick_sends (verified_by tx) sends gave)
-          by sends mute =
-              subst (λ some. Talked tx (install_row s view).state some took (pick_sends (verified_by tx) sends gave))
-              (sym (mute_picks tx (told_by tx) (mute_told tx) sends told mute))
-              (subst (Talked tx (install_row s view).state told took)
-              (sym (mute_picks tx (verified_by tx) (mute_verified tx) sends gave mute))
-              (record { unborn = talked.unborn; fits = talked.fits; gives = talked.gives; few = talked.few }))
+        pub installs_talked : (view : View)
+            → Talked tx (install_row s view).state (pick_sends (told_by tx) (install_row s view).effects.sends told)
+            took
+            (pick_sends (verified_by tx) (install_row s view).effects.sends gave)
+        unfolding install_row
+        installs_talked view = by (go_on_if s.tc.node _) (more_mute s.tc.node _)
+          where
+            by : (sends : List Outgoing) → AreMute sends
+                → Talked tx (install_row s view).state (pick_sends (told_by tx) sends told) took
+                (pick_sends (verified_by tx) sends gave)
+            by sends mute =
+                subst (λ some. Talked tx (install_row s view).state some took (pick_sends (verified_by tx) sends gave))
+                (sym (mute_picks tx (told_by tx) (mute_told tx) sends told mute))
+                (subst (Talked tx (install_row s view).state told took)
+                (sym (mute_picks tx (verified_by tx) (mute_verified tx) sends gave mute))
+                (record { unborn = talked.unborn; fits = talked.fits; gives = talked.gives; few = talked.few }))
 
   pub installs_verify_none : (s : CoordinatorState) (view : View) (gave : List (List (Op × Answer)))
       → pick_sends (verified_by tx) (install_row s view).effects.sends gave ≡ gave

@@ -1,4 +1,5 @@
--- What a turn of a coordinator's transaction has to do with its operations: one is asked for, one is answered, or all go
+-- What a turn of a coordinator's transaction has to do with its operations: one is asked for, one is answered, or all
+-- go
 -- with the request for an epoch.
 use Rattle.std.proofs.Common.{◌≡◌, ◌⊎◌, ◌+◌, ◌&&◌, ℕ, Bool, true, false, List, [], ◌∷◌, ◌++◌, take, drop, length, nat_lt, refl, ap, inl, inr}
 use Rattle.std.specs.Prelude.{Option, None, Some}
@@ -33,7 +34,7 @@ use Rattle.tc_block.specs.declared.touched.Touched.{Touched}
 use Rattle.tc_block.specs.declared.transaction.Transaction.{Transaction}
 use Rattle.tc_block.proofs.EachTurn.{AbortForms, CommittedForms, TurnForms, ready_is}
 use Rattle.tc_views.specs.State.{go_on_if}
-use Rattle.outcome_laws.proofs.TcWalk.{ResumeForms}
+use Rattle.outcome_laws.proofs.coordinators.Steps.{ResumeForms}
 
 -- the signal asks for an operation or answers one, or asks for an epoch with them all
 abbrev pub is_talk : Body → Bool
@@ -159,7 +160,8 @@ module _ (node : ℕ) (layout : Layout) (tx : TxId) where
     goes_on = λ at.
         rests (part_mute (phase_sends layout tx t.phase t.touched) at (phase_mute t.phase t.touched)) (same t);
     operates = λ op is can.
-        operates (record { op = op; chain = chain_of layout (key_of op) }) is (refl, tt) (opens t.phase t.asked (fits t.touched (key_of op)) can) refl
+        operates (record { op = op; chain = chain_of layout (key_of op) }) is (refl, tt)
+        (opens t.phase t.asked (fits t.touched (key_of op)) can) refl
         refl;
     answers = λ key answer asked is on at. answers asked answer (ap is_open at) on refl refl refl;
     late = λ key asked why verifying awaited on at.

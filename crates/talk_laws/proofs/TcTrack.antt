@@ -1,4 +1,5 @@
--- A coordinator has each operation of an open transaction from its client, and each answer that it has given is of one of
+-- A coordinator has each operation of an open transaction from its client, and each answer that it has given is of one
+-- of
 -- them; and so it is with the operations with which it asks for an epoch, for good.
 use Rattle.std.proofs.Common.{◌≡◌, ◌≤◌, ◌<◌, ◌+◌, ◌∙◌, ◌⊎◌, ◌++◌, ◌&&◌, ℕ, Bool, true, false, List, [], ◌∷◌, length, ap, arith, inl, inr, refl, subst, sym}
 use Rattle.std.proofs.lemmas.Bool.{leb-false, leb-true}
@@ -32,7 +33,7 @@ use Rattle.tc_block.proofs.LiveSplit.{KeysOnce, Live, Split, once_back, once_fro
 use Rattle.tc_views.specs.State.{CoordinatorState}
 use Rattle.world_core.specs.Entries.{verified_by}
 use Rattle.outcome_laws.specs.Counts.{is_open_of, is_unborn, may_ask, one_if}
-use Rattle.outcome_laws.proofs.TcLists.{count_between, next_is_other, put_last}
+use Rattle.outcome_laws.proofs.coordinators.Lists.{count_between, next_is_other, put_last}
 use Rattle.talk_laws.proofs.Among.{AreAmong, among_more, among_same, among_trans}
 use Rattle.talk_laws.proofs.Picks.{cons_more, pick_sends, picked_none}
 use Rattle.talk_laws.proofs.TcTalks.{AreMute, IsMute, Rests, Talks, answers, asks, is_talk, operates, rests}
@@ -91,7 +92,8 @@ module _ (tx : TxId) where
   IsFit told took e = same_tx e.0 tx ≡ true → is_open e.1.phase ≡ true → Fits told took e.1
 
   -- the coordinator, with the answers that it gave, the operations that it was asked for, and the requests for epochs
-  pub record Talked (s : CoordinatorState) (told : List Answer) (took : List Op) (gave : List (List (Op × Answer))) : Type 0
+  pub record Talked (s : CoordinatorState) (told : List Answer) (took : List Op) (gave : List (List (Op × Answer)))
+      : Type 0
     where
       pub unborn : is_unborn s tx ≡ true → told ≡ []
       pub fits : Each (IsFit told took) s.tc.live
@@ -107,7 +109,8 @@ module _ (tx : TxId) where
         ops_are = cons_more o (with_asked e.1.asked (newest_ops e.1.ops [])) took is.ops_are;
       }
 
-  pub more_gives : (told : List Answer) (took : List Op) (o : Option Op) (ops : List (Op × Answer)) → Gives told took ops
+  pub more_gives : (told : List Answer) (took : List Op) (o : Option Op) (ops : List (Op × Answer))
+      → Gives told took ops
       → Gives told (cons_option o took) ops
   more_gives told took o ops gives =
       record { answers_are = gives.answers_are; ops_are = cons_more o (newest_ops ops []) took gives.ops_are }
@@ -142,7 +145,8 @@ module _ (tx : TxId) where
         (few : length gave + (one_if (nat_le s.next_seq tx.seq) + count_by (is_open_of tx) s.live) ≤ 1)
       where
         old_gives : Each (Gives told took_then) gave
-        old_gives = each_map (Gives told took) (Gives told took_then) gave (more_gives told took (asked_by tx body)) gives
+        old_gives =
+            each_map (Gives told took) (Gives told took_then) gave (more_gives told took (asked_by tx body)) gives
 
         old_fits : Each (IsFit told took_then) s.live
         old_fits =
@@ -237,7 +241,8 @@ module _ (tx : TxId) where
             counted =
                 ap (count_by (is_open_of tx)) split.is
                 ∙ count_between (is_open_of tx) split.front (u, t) split.back
-                ∙ ap (λ (b : Bool). count_by (is_open_of tx) split.front + (one_if b + count_by (is_open_of tx) split.back))
+                ∙ ap (λ (b : Bool). count_by (is_open_of tx) split.front +
+                (one_if b + count_by (is_open_of tx) split.back))
                 (ap (λ (b : Bool). b && is_open t.phase) same ∙ opened)
 
             -- it never asked for an epoch, and has begun
@@ -376,11 +381,13 @@ module _ (tx : TxId) where
 
             lower : (b : Bool) → nat_le s.next_seq tx.seq ≡ b → nat_le (s.next_seq + 1) tx.seq ≡ true → b ≡ true
             lower true is above = refl
-            lower false is above = absurd (omega (arith, leb-true (s.next_seq + 1) tx.seq above, leb-false s.next_seq tx.seq is))
+            lower false is above =
+                absurd (omega (arith, leb-true (s.next_seq + 1) tx.seq above, leb-false s.next_seq tx.seq is))
 
             at_first : same_tx (next_tx s) tx ≡ true → told ≡ []
             at_first same =
-                unborn (ap (λ (x : TxId). nat_le s.next_seq x.seq) (sym (same_tx-is (next_tx s) tx same)) ∙ same_below s.next_seq)
+                unborn (ap (λ (x : TxId). nat_le s.next_seq x.seq) (sym (same_tx-is (next_tx s) tx same)) ∙ same_below
+                s.next_seq)
 
             new : IsFit told took_then (next_tx s, fresh)
             new same opened = record {

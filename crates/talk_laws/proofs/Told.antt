@@ -1,4 +1,5 @@
--- Whoever is decided has the operations that its client asked for, and the answers that it was told: all, and no others.
+-- Whoever is decided has the operations that its client asked for, and the answers that it was told: all, and no
+-- others.
 use Rattle.std.proofs.Common.{◌≡◌, ◌≤◌, ◌<◌, ◌+◌, ◌⊎◌, ◌∙◌, ◌++◌, ℕ, zero, suc, Bool, true, false, List, [], ◌∷◌, length, map, reverse, ap, append-nil, arith, inl, inr, refl, subst, sym}
 use Rattle.std.proofs.lemmas.Bool.{cases_lt}
 use Rattle.std.specs.List.{count_by}
@@ -34,16 +35,16 @@ use Rattle.moment_laws.specs.Places.{tc_of}
 use Rattle.moment_laws.proofs.MomentHosts.{TcHost, of_none, of_tc, tc_host_is}
 use Rattle.outcome_laws.specs.Counts.{coordinator_member, is_asking, is_decision, is_wish, one_if}
 use Rattle.outcome_laws.specs.Once.{takes_in}
-use Rattle.outcome_laws.proofs.OnceBegins.{asks_elsewhere, begin_once, no_tc_sends, nowhere_sends, only_asks, tc_begins}
-use Rattle.outcome_laws.proofs.OnceDecided.{decides_asked}
-use Rattle.outcome_laws.proofs.OnceDown.{nodes_wish}
-use Rattle.outcome_laws.proofs.OnceNobody.{asking_coordinators}
-use Rattle.outcome_laws.proofs.OnceNone.{uncounted_asking}
-use Rattle.outcome_laws.proofs.OnceParts.{IsTcOf}
-use Rattle.outcome_laws.proofs.OnceWished.{asks_wished}
-use Rattle.outcome_laws.proofs.TcLists.{count_more}
-use Rattle.outcome_laws.proofs.OnceLinks.{takes_few}
-use Rattle.outcome_laws.proofs.OnceLogs.{link_count, sends_in}
+use Rattle.outcome_laws.proofs.once.Begins.{asks_elsewhere, begin_once, no_tc_sends, nowhere_sends, only_asks, tc_begins}
+use Rattle.outcome_laws.proofs.once.DecidedOnce.{decides_asked}
+use Rattle.outcome_laws.proofs.downfall.NeverDecided.{nodes_wish}
+use Rattle.outcome_laws.proofs.once.NobodyElse.{asking_coordinators}
+use Rattle.outcome_laws.proofs.once.Counted.{uncounted_asking}
+use Rattle.outcome_laws.proofs.once.CoordinatorScale.{IsTcOf}
+use Rattle.outcome_laws.proofs.once.AsksAreWished.{asks_wished}
+use Rattle.outcome_laws.proofs.coordinators.Lists.{count_more}
+use Rattle.outcome_laws.proofs.once.TakenFromLinks.{takes_few}
+use Rattle.outcome_laws.proofs.once.AlongLogs.{link_count, sends_in}
 use Rattle.talk_laws.specs.Talks.{DecidedAsAskedAndTold, asked_of, told_of}
 use Rattle.talk_laws.proofs.Among.{AreAmong, among_all, among_in, among_length, among_same, among_trans}
 use Rattle.talk_laws.proofs.Links.{none_on, takes_among}
@@ -76,7 +77,14 @@ all_told asked took told heard gave ops paid one two three four five = (
   sym (among_all (newest_ops ops []) asked asks
       (omega (arith, paid, among_length told (newest ops []) tells, newest_length ops [], newest_ops_length ops []))),
   among_all told (newest ops []) tells
-      (omega (arith, paid, among_length (newest_ops ops []) asked asks, newest_length ops [], newest_ops_length ops [])),
+      (omega (
+        arith,
+        paid,
+        among_length (newest_ops ops []) asked asks,
+        newest_length ops [],
+        newest_ops_length ops
+            [],
+      )),
 )
   where
     tells : AreAmong told (newest ops [])
@@ -163,7 +171,8 @@ module _ (tx : TxId) where
     heard : AreAmong (taken_of (told_by tx) (logs 0)) (sent_of (told_by tx) start c (logs c))
     heard =
         takes_among (told_by tx) only_told start c logs are.right 0
-        (λ i other. link_none (told_by tx) (is_answered tx) unanswered i 0 (others_answer_none start logs are tx i other))
+        (λ i other. link_none (told_by tx) (is_answered tx) unanswered i 0
+        (others_answer_none start logs are tx i other))
 
     took : (h : ℕ) → AreAmong (taken_of (asked_by tx) (logs h)) (asked_of start tx (logs 0))
     took h =
@@ -219,7 +228,8 @@ module _ (tx : TxId) where
                 heard)
                 gives.answers_are gives.ops_are (took (tc_of start me))
             by (inr none) =
-                let bare = asks_wished tx start me made_is (logs (tc_of start me)) (are.right.local (tc_of start me)) none in
+                let bare =
+                asks_wished tx start me made_is (logs (tc_of start me)) (are.right.local (tc_of start me)) none in
                 let same = ap (λ (h : ℕ). sends_in (is_asking tx) start h (logs h)) at in
                 absurd (omega (arith, some, bare, same))
 
@@ -273,7 +283,12 @@ module _ (tx : TxId) where
           older_takes (is_asking tx) is.past.newer (is.step ∷ is.before),
           ap (takes_in (is_asking tx)) is.past.is,
           takes_few (is_asking tx) (only_asks tx start logs are) start c logs are.right h
-              (λ i other. omega (arith, asks_elsewhere tx start logs are i other, link_count (is_asking tx) start i h (logs i))),
+              (λ i other. omega (
+                arith,
+                asks_elsewhere tx start logs are i other,
+                link_count (is_asking tx) start i h
+                    (logs i),
+              )),
           link_count (is_asking tx) start c h (logs c),
         )))
 

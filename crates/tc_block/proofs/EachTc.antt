@@ -20,7 +20,8 @@ use Rattle.tc_block.proofs.TurnRows.{PlacedStep, goes, idles, lacks, lost, opens
 pub record TcForms (s : TcState) (body : Body) (R : TxId → Transaction → Turn → Type 0)
     (S : Step TcState → Type 0) : Type 0
   where
-    pub turns : (tx : TxId) (t : Transaction) (at : ℕ) → Split tx t s.live at → RowsAre s.node s.layout tx t body (R tx t)
+    pub turns : (tx : TxId) (t : Transaction) (at : ℕ) → Split tx t s.live at
+        → RowsAre s.node s.layout tx t body (R tx t)
     pub turned : (tx : TxId) (t : Transaction) (at : ℕ) → Split tx t s.live at → (turn : Turn) → R tx t turn
         → S (turned s at turn)
     pub stays : S (stay s)

@@ -15,12 +15,14 @@ remove-set_value_at [] i w = refl
 remove-set_value_at (e ∷ es) zero w = refl
 remove-set_value_at (e ∷ es) (suc i) w = ap (λ rest. e ∷ rest) (remove-set_value_at es i w)
 
-pub without-set_value_at : (live : List (TxId × Transaction)) (at : ℕ) (w : Transaction) → without (set_value_at live at w) at ≡ without live at
+pub without-set_value_at : (live : List (TxId × Transaction)) (at : ℕ) (w : Transaction)
+    → without (set_value_at live at w) at ≡ without live at
 unfolding without
 without-set_value_at live at w = remove-set_value_at live at w
 
 -- what was there, written back, changes nothing
-pub set_value_at-same : {K X : Type 0} (es : List (K × X)) (i : ℕ) (w : X) → slice_get (values_of es) i ≡ Some w → set_value_at es i w ≡ es
+pub set_value_at-same : {K X : Type 0} (es : List (K × X)) (i : ℕ) (w : X) → slice_get (values_of es) i ≡ Some w
+    → set_value_at es i w ≡ es
 set_value_at-same [] i w is = refl
 set_value_at-same (e ∷ es) zero w is = let same : e.1 ≡ w = cc in ap (λ x. (e.0, x) ∷ es) (sym same)
 set_value_at-same (e ∷ es) (suc i) w is = ap (λ rest. e ∷ rest) (set_value_at-same es i w is)

@@ -52,7 +52,8 @@ abort_end node tx cause false = rolled_back tx cause ∷ []
 -- an abort begins, or has nothing to wait for
 abbrev pub abort_if : ℕ → Layout → TxId → Transaction → AbortCause → Bool → Turn
 abort_if node layout tx t cause true = ending t (sends_only (abort_end node tx cause (is_verifying t.phase)))
-abort_if node layout tx t cause false = going (entering node layout tx t (Aborting cause (is_verifying t.phase) (aborts_awaited layout t)))
+abort_if node layout tx t cause false =
+    going (entering node layout tx t (Aborting cause (is_verifying t.phase) (aborts_awaited layout t)))
 
 unfoldable pub aborted_for : ℕ → Layout → TxId → Transaction → AbortCause → Turn
 aborted_for node layout tx t cause = abort_if node layout tx t cause (aborts_awaited layout t == 0)
@@ -60,7 +61,8 @@ aborted_for node layout tx t cause = abort_if node layout tx t cause (aborts_awa
 -- an operation is refused
 abbrev pub refuse_by : ℕ → Layout → TxId → Transaction → List ℕ → AbortCause → Option Asked → Phase → Turn
 refuse_by node layout tx t key cause (Some asked) Open = aborted_for node layout tx (asking t None) cause
-refuse_by node layout tx t key cause (Some asked) (Aborting other verifying awaited) = going (late_answer layout tx t key)
+refuse_by node layout tx t key cause (Some asked) (Aborting other verifying awaited) =
+    going (late_answer layout tx t key)
 refuse_by node layout tx t key cause _ _ = going (stay t)
 
 unfoldable pub refuse_row : ℕ → Layout → TxId → Transaction → List ℕ → AbortCause → Turn
@@ -81,7 +83,8 @@ aborted_if node tx t cause verifying awaited true = going (stay (at_phase t (Abo
 aborted_if node tx t cause verifying awaited false = ending t (sends_only (abort_end node tx cause verifying))
 
 abbrev pub aborted_by : ℕ → TxId → Transaction → Phase → Turn
-aborted_by node tx t (Aborting cause verifying awaited) = aborted_if node tx t cause verifying awaited (nat_lt 1 awaited)
+aborted_by node tx t (Aborting cause verifying awaited) =
+    aborted_if node tx t cause verifying awaited (nat_lt 1 awaited)
 aborted_by node tx t _ = going (stay t)
 
 unfoldable pub aborted_row : ℕ → TxId → Transaction → Turn

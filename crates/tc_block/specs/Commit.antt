@@ -40,7 +40,8 @@ committed_if node layout tx t epoch awaited true = going (stay (at_phase t (Comm
 committed_if node layout tx t epoch awaited false = all_committed node layout tx t epoch
 
 abbrev pub committed_by : ℕ → Layout → TxId → Transaction → Phase → Turn
-committed_by node layout tx t (Committing epoch awaited) = committed_if node layout tx t epoch awaited (nat_lt 1 awaited)
+committed_by node layout tx t (Committing epoch awaited) =
+    committed_if node layout tx t epoch awaited (nat_lt 1 awaited)
 committed_by node layout tx t _ = going (stay t)
 
 unfoldable pub committed_row : ℕ → Layout → TxId → Transaction → Turn

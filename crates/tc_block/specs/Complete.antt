@@ -22,7 +22,8 @@ written_count (t ∷ touched) = one_if t.written + written_count touched
 -- all keys are committed: the client is told, and what was written is completed
 abbrev pub all_committed_if : ℕ → Layout → TxId → Transaction → ℕ → Bool → Turn
 all_committed_if node layout tx t epoch true = ending t (sends_only (reported tx epoch ∷ verify_end node tx ∷ []))
-all_committed_if node layout tx t epoch false = going (entering node layout tx t (Completing epoch (written_count t.touched)))
+all_committed_if node layout tx t epoch false =
+    going (entering node layout tx t (Completing epoch (written_count t.touched)))
 
 unfoldable pub all_committed : ℕ → Layout → TxId → Transaction → ℕ → Turn
 all_committed node layout tx t epoch = all_committed_if node layout tx t epoch (written_count t.touched == 0)

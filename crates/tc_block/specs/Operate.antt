@@ -42,7 +42,12 @@ can_operate t op = is_ready t.phase t.asked && fits t.touched (key_of op)
 abbrev pub operating : TxId → Transaction → Op → List Member → Step Transaction
 operating tx t op chain =
     sending
-    (record { ops = t.ops; touched = touch t.touched (key_of op) chain; asked = Some (record { op = op; chain = chain }); phase = t.phase })
+    (record {
+      ops = t.ops;
+      touched = touch t.touched (key_of op) chain;
+      asked = Some (record { op = op; chain = chain });
+      phase = t.phase;
+    })
     (rows_of (node_at chain 0)) (Chain (LqhKeyReq tx (Operate op) chain 0))
 
 abbrev pub operate_if : Layout → TxId → Transaction → Op → Bool → Step Transaction
@@ -84,7 +89,8 @@ late_answer layout tx t key =
 
 -- an operation is answered
 abbrev pub answer_by : Layout → TxId → Transaction → List ℕ → Answer → Option Asked → Phase → Step Transaction
-answer_by layout tx t key answer (Some asked) Open = sending (answered t asked answer) client (Client (TcKeyConf tx answer))
+answer_by layout tx t key answer (Some asked) Open =
+    sending (answered t asked answer) client (Client (TcKeyConf tx answer))
 answer_by layout tx t key answer (Some asked) (Aborting cause verifying awaited) = late_answer layout tx t key
 answer_by layout tx t key answer _ _ = stay t
 

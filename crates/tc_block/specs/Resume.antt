@@ -55,7 +55,8 @@ rechained layout t = rechained_if t t.written layout
 -- a decided transaction commits all its keys once more
 abbrev pub redriven : ℕ → Layout → TxId → Transaction → ℕ → Step Transaction
 redriven node layout tx t epoch =
-    entering node layout tx (record t { touched = map (rechained layout) t.touched }) (Committing epoch (length t.touched))
+    entering node layout tx (record t { touched = map (rechained layout) t.touched })
+    (Committing epoch (length t.touched))
 
 -- an abort begins anew, or has nothing to wait for
 abbrev pub anew_if : ℕ → Layout → TxId → Transaction → AbortCause → Bool → Bool → Turn
@@ -67,7 +68,8 @@ unfoldable pub aborted_anew : ℕ → Layout → TxId → Transaction → AbortC
 aborted_anew node layout tx t cause verifying =
     anew_if node layout tx t cause verifying (replica_count layout t.touched == 0)
 
--- A transaction does what is left to do for it, in the view of a number, where it has gone no other way since. The answer
+-- A transaction does what is left to do for it, in the view of a number, where it has gone no other way since. The
+-- answer
 -- of an operation of an older view doesn't come any more.
 abbrev pub resume_by : ℕ → Layout → TxId → Transaction → ℕ → Verdict → Phase → Turn
 resume_by node layout tx t number Fail Open = aborted_for node layout tx (asking t None) (NodeFail number)

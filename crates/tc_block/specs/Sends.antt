@@ -31,11 +31,13 @@ verify_end node tx = to_place (epochs node) (Epoch (DiVerifyEnd tx))
 
 -- a key is committed, from the last place of its chain on
 abbrev pub commit_of : TxId → ℕ → Touched → Outgoing
-commit_of tx epoch t = to_place (rows_of (node_at t.chain (last_place t.chain))) (Chain (Commit tx t.key epoch t.chain (last_place t.chain)))
+commit_of tx epoch t = to_place (rows_of (node_at t.chain (last_place t.chain)))
+    (Chain (Commit tx t.key epoch t.chain (last_place t.chain)))
 
 -- a key is completed, from the last place of its chain on
 abbrev pub complete_of : TxId → Touched → Outgoing
-complete_of tx t = to_place (rows_of (node_at t.chain (last_place t.chain))) (Chain (Complete tx t.key t.chain (last_place t.chain)))
+complete_of tx t =
+    to_place (rows_of (node_at t.chain (last_place t.chain))) (Chain (Complete tx t.key t.chain (last_place t.chain)))
 
 abbrev pub complete_if : TxId → Touched → Bool → List Outgoing
 complete_if tx t true = complete_of tx t ∷ []
@@ -78,12 +80,19 @@ phase_sends layout tx phase touched = front_sends tx phase ++ flat_map (key_send
 
 -- a transaction comes to a phase, and sends the first part of what it sends in it
 unfoldable pub entering : ℕ → Layout → TxId → Transaction → Phase → Step Transaction
-entering node layout tx t phase = record { state = at_phase t phase; effects = part_effects node tx (phase_sends layout tx phase t.touched) 0 }
+entering node layout tx t phase = record {
+  state = at_phase t phase;
+  effects = part_effects node tx (phase_sends layout tx phase t.touched) 0;
+}
 
--- the rest of what a transaction sends in its phase, from a place on. No list has more than 512 signals: `Abort` for 64 keys,
+-- the rest of what a transaction sends in its phase, from a place on. No list has more than 512 signals: `Abort` for 64
+-- keys,
 -- to eight replicas of each
 abbrev pub go_on_if : ℕ → Layout → TxId → Transaction → ℕ → Bool → Step Transaction
-go_on_if node layout tx t at true = record { state = t; effects = part_effects node tx (phase_sends layout tx t.phase t.touched) at }
+go_on_if node layout tx t at true = record {
+  state = t;
+  effects = part_effects node tx (phase_sends layout tx t.phase t.touched) at;
+}
 go_on_if node layout tx t at false = stay t
 
 unfoldable pub go_on_row : ℕ → Layout → TxId → Transaction → ℕ → Step Transaction

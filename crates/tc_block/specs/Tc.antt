@@ -66,7 +66,13 @@ pass_row s tx ahead = pass_if s tx ahead (is_some (place_in s tx))
 
 -- another view is installed
 abbrev pub in_view : TcState → View → TcState
-in_view s view = record { node = s.node; start = s.start; next_seq = s.next_seq; layout = layouts.in_view s.layout view; live = s.live }
+in_view s view = record {
+  node = s.node;
+  start = s.start;
+  next_seq = s.next_seq;
+  layout = layouts.in_view s.layout view;
+  live = s.live;
+}
 
 -- what the coordinator does, by what a signal says. It leaves the others alone
 abbrev pub tc_table : TcState → Body → Step TcState

@@ -17,6 +17,3 @@ mod transaction;
 
 pub use task::{Task, Verdict};
 pub use tc::{TRANSACTIONS, Tc};
-
-#[cfg(test)]
-mod tests;

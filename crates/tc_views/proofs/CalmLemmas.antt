@@ -21,7 +21,8 @@ quiet s step none =
     ap (λ doomed. record { state = record s { tc = step.state; doomed = doomed }; effects = step.effects })
     (ap (still_live step.state) none ∙ sym none)
 
-calm_table : (s : CoordinatorState) (number : ℕ) (body : Body) → s.doomed ≡ [] → s.left ≡ [] → IsCalm s.number number body
+calm_table : (s : CoordinatorState) (number : ℕ) (body : Body) → s.doomed ≡ [] → s.left ≡ []
+    → IsCalm s.number number body
     → coordinator_table s number body ≡ alone s (tc_table s.tc body)
 calm_table s number (Membership (FenceReq proposal)) none nothing calm = absurd calm
 calm_table s number (Host (Continue Installation at)) none nothing calm = absurd calm

@@ -167,11 +167,14 @@ module _ (tx : TxId) where
       by Fail Open is = failed _
       by Fail Verifying is = failed _
       by AbortAnew (Aborting cause verifying awaited) is = anew cause verifying
-      by Redrive (Committing epoch awaited) is = λ same. absurd (let both : true ≡ false = clash t.phase _ is (fine same) in cc)
-      by Redrive (Completing epoch awaited) is = λ same. absurd (let both : true ≡ false = clash t.phase _ is (fine same) in cc)
+      by Redrive (Committing epoch awaited) is =
+          λ same. absurd (let both : true ≡ false = clash t.phase _ is (fine same) in cc)
+      by Redrive (Completing epoch awaited) is =
+          λ same. absurd (let both : true ≡ false = clash t.phase _ is (fine same) in cc)
       by _ _ is = fine
 
-  resumed_fine : (s : TcState) (task : Task) (number : ℕ) → AllFine s.live → AllFine (resume_step s task number).state.live
+  resumed_fine : (s : TcState) (task : Task) (number : ℕ) → AllFine s.live
+      → AllFine (resume_step s task number).state.live
   unfolding resume_step resume_row
   resumed_fine s task number all = at_place (place_in s task.tx) refl
     where
@@ -233,7 +236,8 @@ module _ (tx : TxId) where
   table_fine s number (Membership (FenceReq proposal)) doomed fine = fine
   table_fine s number (Host (Continue work.Installation at)) doomed fine = goes_on s number fine
   table_fine s number (Host (Continue (work.Transaction one) at)) doomed fine =
-      unless_fine s (Host (Continue (work.Transaction one) at)) (nat_lt number s.number) (λ other epoch off is. absurd cc) fine
+      unless_fine s (Host (Continue (work.Transaction one) at)) (nat_lt number s.number)
+      (λ other epoch off is. absurd cc) fine
   table_fine s number (Client (TcKeyReq one op)) doomed fine =
       unless_fine s (Client (TcKeyReq one op)) (is_to_fail s.left one) (λ other epoch off is. absurd cc) fine
   table_fine s number (Client (TcRollbackReq one)) doomed fine =

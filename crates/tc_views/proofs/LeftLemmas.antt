@@ -54,7 +54,8 @@ none_is_left_twice s view apart = by (nat_lt view.number s.fence)
     by false = tasks_apart s.doomed s.tc.live apart
 
 module _ (node number : ℕ) (layout : Layout) (tx : TxId) where
-  open_fails : (t : Transaction) → FailsBy tx number node layout t (aborted_for node layout tx (asking t None) (NodeFail number))
+  open_fails : (t : Transaction)
+      → FailsBy tx number node layout t (aborted_for node layout tx (asking t None) (NodeFail number))
   unfolding aborted_for entering
   open_fails t = by (aborts_awaited layout (asking t None) == 0)
     where
@@ -63,7 +64,10 @@ module _ (node number : ℕ) (layout : Layout) (tx : TxId) where
 
       by : (b : Bool) → FailsBy tx number node layout t (abort_if node layout tx (asking t None) (NodeFail number) b)
       by true = record { ended = λ over. refl; goes_on = λ goes. absurd cc }
-      by false = record { ended = λ over. absurd cc; goes_on = λ goes. ap (Aborting (NodeFail number) (is_verifying t.phase)) all }
+      by false = record {
+        ended = λ over. absurd cc;
+        goes_on = λ goes. ap (Aborting (NodeFail number) (is_verifying t.phase)) all;
+      }
 
   fails : (t : Transaction) (phase : Phase) → is_undecided phase ≡ true
       → FailsBy tx number node layout t (resume_by node layout tx t number Fail phase)

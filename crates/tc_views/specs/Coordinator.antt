@@ -52,8 +52,10 @@ fails tx task = same_tx tx task.tx && is_failing task.verdict
 abbrev pub is_to_fail : List Task → TxId → Bool
 is_to_fail left tx = list_any (fails tx) left
 
--- What it does, by the number of the sender's view and what the signal says. A doomed transaction takes no epoch. A list of
--- sends that was begun in an older view has ended. Who is left to be aborted does nothing more: an abort could overtake an
+-- What it does, by the number of the sender's view and what the signal says. A doomed transaction takes no epoch. A
+-- list of
+-- sends that was begun in an older view has ended. Who is left to be aborted does nothing more: an abort could overtake
+-- an
 -- operation on its way to a replica, which would keep the record.
 abbrev pub coordinator_table : CoordinatorState → ℕ → Body → Step CoordinatorState
 coordinator_table s number (Membership (FenceReq proposal)) = fence_row s proposal

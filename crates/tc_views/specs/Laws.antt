@@ -28,7 +28,8 @@ use Rattle.tc_views.specs.Coordinator.{coordinator_row}
 use Rattle.tc_views.specs.State.{CoordinatorState}
 use Rattle.tc_views.specs.Views.{install_row}
 
--- By a signal from a view of this number a coordinator in a view of its own promises nothing, and goes on with nothing that
+-- By a signal from a view of this number a coordinator in a view of its own promises nothing, and goes on with nothing
+-- that
 -- an installation left to do, nor with a list of an older view.
 abbrev pub IsCalm : ℕ → ℕ → Body → Type 0
 IsCalm own number (Membership (FenceReq proposal)) = ⊥
@@ -70,7 +71,8 @@ AreLeftOnce (task ∷ left) = Each (λ other. same_tx task.tx other.tx ≡ false
 abbrev pub NoneIsLeftTwice : Type 0
 NoneIsLeftTwice = (s : CoordinatorState) (view : View) → AreOnce s.tc.live → AreLeftOnce (install_row s view).state.left
 
--- a transaction that is aborted since a node failed, by the number of the view: its end is told with that number, or it is
+-- a transaction that is aborted since a node failed, by the number of the view: its end is told with that number, or it
+-- is
 -- its cause
 pub record FailsBy (tx : TxId) (number : ℕ) (node : ℕ) (layout : Layout) (t : Transaction) (turn : Turn) : Type 0 where
   pub ended : turn.over ≡ true → turn.step.effects.sends ≡ abort_end node tx (NodeFail number) (is_verifying t.phase)

@@ -2,3 +2,4 @@ pub mod Coordinator
 pub mod Laws
 pub mod State
 pub mod Views
+pub mod Words

@@ -10,7 +10,8 @@ use Rattle.tc_block.specs.declared.task.Task.{Task}
 use Rattle.tc_block.specs.Live.{is_live}
 use Rattle.tc_block.specs.State.{TcState}
 
--- A coordinator within its view; the number of that view, and that below which it is fenced off; which of its transactions
+-- A coordinator within its view; the number of that view, and that below which it is fenced off; which of its
+-- transactions
 -- are doomed; and what the installation of the view left to do, in the order in which the transactions began.
 pub record CoordinatorState : Type 0 where
   pub tc : TcState

@@ -97,7 +97,8 @@ module _ (logs : List HostLog) (cut : List ℕ) where
     where
       go : (b : Bool) → is_outside logs cut h log e ≡ b
           → (if b then Some (record { host = log.host; step = n }) else fault_from logs cut h log (n + 1) steps) ≡ None
-          → (fault_from logs cut h log (n + 1) steps ≡ None → Each (Stands h log) steps) → Each (Stands h log) (e ∷ steps)
+          → (fault_from logs cut h log (n + 1) steps ≡ None → Each (Stands h log) steps)
+          → Each (Stands h log) (e ∷ steps)
       go true at is later = absurd (some_none (record { host = log.host; step = n }) is)
       go false at is later =
           let parts = neither (nat_lt (last_inside logs cut 0) log.made) (is_sent_outside logs cut h e) at in
@@ -108,7 +109,8 @@ module _ (logs : List HostLog) (cut : List ℕ) where
   stands_none h log n [] all = refl
   stands_none h log n (e ∷ steps) all =
       ap (λ b. if b then Some (record { host = log.host; step = n }) else fault_from logs cut h log (n + 1) steps)
-      (both_false (nat_lt (last_inside logs cut 0) log.made) (is_sent_outside logs cut h e) (above_not (last_inside logs cut 0) log.made all.0.0) all.0.1)
+      (both_false (nat_lt (last_inside logs cut 0) log.made) (is_sent_outside logs cut h e)
+      (above_not (last_inside logs cut 0) log.made all.0.0) all.0.1)
       ∙ stands_none h log (n + 1) steps all.1
 
   -- each of the steps of a log inside stands, where there is such a log
@@ -119,15 +121,20 @@ module _ (logs : List HostLog) (cut : List ℕ) where
       → (h : ℕ) → AllStand (n + h) (slice_index_or ls h (no_steps 0)) (slice_index_or cut (n + h) 0)
   unfolding fault_in
   all_stand [] n none h = subst (Each (Stands (n + h) (no_steps 0))) (sym (take_none (slice_index_or cut (n + h) 0))) tt
-  all_stand (log ∷ ls) n none h = go (fault_in logs cut n log (slice_index_or cut n 0)) refl none (λ is k. all_stand ls (n + 1) is k) h
+  all_stand (log ∷ ls) n none h =
+      go (fault_in logs cut n log (slice_index_or cut n 0)) refl none (λ is k. all_stand ls (n + 1) is k) h
     where
-      go : (o : Option CutFault) → fault_in logs cut n log (slice_index_or cut n 0) ≡ o → or_later o (first_fault logs cut ls (n + 1)) ≡ None
-          → (first_fault logs cut ls (n + 1) ≡ None → (k : ℕ) → AllStand ((n + 1) + k) (slice_index_or ls k (no_steps 0)) (slice_index_or cut ((n + 1) + k) 0))
+      go : (o : Option CutFault) → fault_in logs cut n log (slice_index_or cut n 0) ≡ o
+          → or_later o (first_fault logs cut ls (n + 1)) ≡ None
+          → (first_fault logs cut ls (n + 1) ≡ None → (k : ℕ) → AllStand ((n + 1) + k)
+          (slice_index_or ls k (no_steps 0)) (slice_index_or cut ((n + 1) + k) 0))
           → (h : ℕ) → AllStand (n + h) (slice_index_or (log ∷ ls) h (no_steps 0)) (slice_index_or cut (n + h) 0)
       go None at is later zero =
-          subst (λ k. AllStand k log (slice_index_or cut k 0)) (from_here n) (none_stands n log 0 (take (slice_index_or cut n 0) log.steps) at)
+          subst (λ k. AllStand k log (slice_index_or cut k 0)) (from_here n)
+          (none_stands n log 0 (take (slice_index_or cut n 0) log.steps) at)
       go None at is later (suc h) =
-          subst (λ k. AllStand k (slice_index_or ls h (no_steps 0)) (slice_index_or cut k 0)) (sym (from_next n h)) (later is h)
+          subst (λ k. AllStand k (slice_index_or ls h (no_steps 0)) (slice_index_or cut k 0)) (sym (from_next n h))
+          (later is h)
       go (Some fault) at is later h = absurd (some_none fault is)
 
   stand_all : (ls : List HostLog) (n : ℕ)
@@ -137,8 +144,10 @@ module _ (logs : List HostLog) (cut : List ℕ) where
   stand_all [] n all = refl
   stand_all (log ∷ ls) n all =
       ap (λ o. or_later o (first_fault logs cut ls (n + 1)))
-      (stands_none n log 0 (take (slice_index_or cut n 0) log.steps) (subst (λ k. AllStand k log (slice_index_or cut k 0)) (sym (from_here n)) (all zero)))
-      ∙ stand_all ls (n + 1) (λ h. subst (λ k. AllStand k (slice_index_or ls h (no_steps 0)) (slice_index_or cut k 0)) (from_next n h) (all (suc h)))
+      (stands_none n log 0 (take (slice_index_or cut n 0) log.steps)
+      (subst (λ k. AllStand k log (slice_index_or cut k 0)) (sym (from_here n)) (all zero)))
+      ∙ stand_all ls (n + 1) (λ h. subst (λ k. AllStand k (slice_index_or ls h (no_steps 0)) (slice_index_or cut k 0))
+      (from_next n h) (all (suc h)))
 
   module _ (start : Start) (made : ℕ → ℕ) (same : (h : ℕ) → made h ≡ made_at logs h) where
     abbrev m : Machine HostStep Addressed
@@ -155,9 +164,11 @@ module _ (logs : List HostLog) (cut : List ℕ) where
     last_at h = last_is h (newest_inside logs cut h)
 
     -- what steps took from a link was sent inside
-    taken_below : (i j : ℕ) (log : List LogStep) → Each (SentInside j) log → Each (Below i) (taken m i (map (of_host j) log))
+    taken_below : (i j : ℕ) (log : List LogStep) → Each (SentInside j) log
+        → Each (Below i) (taken m i (map (of_host j) log))
     taken_below i j [] all = tt
-    taken_below i j (e ∷ log) all = go (is_asked j e.taken) (e.taken.from.0 == i) refl refl all.0 (taken_below i j log all.1)
+    taken_below i j (e ∷ log) all =
+        go (is_asked j e.taken) (e.taken.from.0 == i) refl refl all.0 (taken_below i j log all.1)
       where
         x : Addressed
         x = record { to = j; signal = e.taken }
@@ -165,13 +176,18 @@ module _ (logs : List HostLog) (cut : List ℕ) where
         go : (asked own : Bool) → is_asked j e.taken ≡ asked → (e.taken.from.0 == i) ≡ own
             → (not asked && nat_lt (last_inside logs cut e.taken.from.0) e.taken.stamp) ≡ false
             → Each (Below i) (taken m i (map (of_host j) log))
-            → Each (Below i) (if not asked && own then x ∷ taken m i (map (of_host j) log) else taken m i (map (of_host j) log))
+            → Each (Below i) (if not asked && own then x ∷ taken m i (map (of_host j) log) else taken m i
+            (map (of_host j) log))
         go true own a o sent rest = rest
         go false false a o sent rest = rest
-        go false true a o sent rest =
-            (subst (λ k. e.taken.stamp ≤ last_inside logs cut k) (from_is e.taken.from.0 i o) (not_above (last_inside logs cut e.taken.from.0) e.taken.stamp sent), rest)
+        go false true a o sent rest = (
+          subst (λ k. e.taken.stamp ≤ last_inside logs cut k) (from_is e.taken.from.0 i o)
+              (not_above (last_inside logs cut e.taken.from.0) e.taken.stamp sent),
+          rest,
+        )
 
-    below_taken : (j : ℕ) (log : List LogStep) → ((i : ℕ) → Each (Below i) (taken m i (map (of_host j) log))) → Each (SentInside j) log
+    below_taken : (j : ℕ) (log : List LogStep) → ((i : ℕ) → Each (Below i) (taken m i (map (of_host j) log)))
+        → Each (SentInside j) log
     below_taken j [] all = tt
     below_taken j (e ∷ log) all = (
       head (is_asked j e.taken) refl (all e.taken.from.0),
@@ -182,16 +198,22 @@ module _ (logs : List HostLog) (cut : List ℕ) where
         x = record { to = j; signal = e.taken }
 
         head : (asked : Bool) → is_asked j e.taken ≡ asked
-            → Each (Below e.taken.from.0) (if not asked && (e.taken.from.0 == e.taken.from.0) then x ∷ taken m e.taken.from.0 (map (of_host j) log) else taken m e.taken.from.0 (map (of_host j) log))
+            → Each (Below e.taken.from.0)
+            (if not asked && (e.taken.from.0 == e.taken.from.0) then x ∷ taken m e.taken.from.0 (map (of_host j) log)
+            else taken m e.taken.from.0 (map (of_host j) log))
             → (not asked && nat_lt (last_inside logs cut e.taken.from.0) e.taken.stamp) ≡ false
         head true a all = refl
-        head false a all = above_not (last_inside logs cut e.taken.from.0) e.taken.stamp (first (subst (λ b. Each (Below e.taken.from.0) (if b then x ∷ taken m e.taken.from.0 (map (of_host j) log) else taken m e.taken.from.0 (map (of_host j) log))) (eq-eqb e.taken.from.0 e.taken.from.0 refl) all))
+        head false a all = above_not (last_inside logs cut e.taken.from.0) e.taken.stamp
+            (first (subst (λ b. Each (Below e.taken.from.0) (if b then x ∷ taken m e.taken.from.0 (map (of_host j) log)
+            else taken m e.taken.from.0 (map (of_host j) log))) (eq-eqb e.taken.from.0 e.taken.from.0 refl) all))
           where
-            first : Each (Below e.taken.from.0) (x ∷ taken m e.taken.from.0 (map (of_host j) log)) → e.taken.stamp ≤ last_inside logs cut e.taken.from.0
+            first : Each (Below e.taken.from.0) (x ∷ taken m e.taken.from.0 (map (of_host j) log))
+                → e.taken.stamp ≤ last_inside logs cut e.taken.from.0
             first both = both.0
 
         tail : (i : ℕ) (asked own : Bool)
-            → Each (Below i) (if not asked && own then x ∷ taken m i (map (of_host j) log) else taken m i (map (of_host j) log))
+            → Each (Below i) (if not asked && own then x ∷ taken m i (map (of_host j) log) else taken m i
+            (map (of_host j) log))
             → Each (Below i) (taken m i (map (of_host j) log))
         tail i true own all = all
         tail i false false all = all
@@ -200,41 +222,60 @@ module _ (logs : List HostLog) (cut : List ℕ) where
     closed : first_fault logs cut logs 0 ≡ None → IsClosed m (parts_at logs cut)
     closed none =
         record {
-          signals = λ i j. subst (λ k. Each (λ (x : Addressed). x.signal.stamp ≤ k) (taken m i (parts_at logs cut j))) (sym (last_at i)) (taken_below i j (newest_inside logs cut j) (newest j).1);
-          hosts = λ h has. subst (λ k. made h ≤ k) (sym (last_at 0)) (subst (λ k. k ≤ last_inside logs cut 0) (sym (same h)) (each_of_one (MadeInside (made_at logs h)) (newest_inside logs cut h) (map_has (of_host h) (newest_inside logs cut h) has) (newest h).0));
+          signals = λ i j. subst (λ k. Each (λ (x : Addressed). x.signal.stamp ≤ k) (taken m i (parts_at logs cut j)))
+              (sym (last_at i)) (taken_below i j (newest_inside logs cut j) (newest j).1);
+          hosts = λ h has. subst (λ k. made h ≤ k) (sym (last_at 0))
+              (subst (λ k. k ≤ last_inside logs cut 0) (sym (same h))
+              (each_of_one (MadeInside (made_at logs h)) (newest_inside logs cut h)
+              (map_has (of_host h) (newest_inside logs cut h) has) (newest h).0));
         }
       where
-        newest : (h : ℕ) → Each (λ e. MadeInside (made_at logs h)) (newest_inside logs cut h) × Each (SentInside h) (newest_inside logs cut h)
+        newest : (h : ℕ)
+            → Each (λ e. MadeInside (made_at logs h)) (newest_inside logs cut h)
+            × Each (SentInside h) (newest_inside logs cut h)
         newest h =
-            let oldest = both_each (λ e. MadeInside (made_at logs h)) (SentInside h) (take (slice_index_or cut h 0) (steps_of logs h)) (subst (λ k. AllStand k (slice_index_or logs h (no_steps 0)) (slice_index_or cut k 0)) (sym (from_front h)) (all_stand logs 0 none h)) in (
-              each_reverse (λ e. MadeInside (made_at logs h)) (take (slice_index_or cut h 0) (steps_of logs h)) oldest.0,
+            let oldest = both_each (λ e. MadeInside (made_at logs h)) (SentInside h)
+            (take (slice_index_or cut h 0) (steps_of logs h))
+            (subst (λ k. AllStand k (slice_index_or logs h (no_steps 0)) (slice_index_or cut k 0))
+            (sym (from_front h)) (all_stand logs 0 none h)) in (
+              each_reverse (λ e. MadeInside (made_at logs h)) (take (slice_index_or cut h 0) (steps_of logs h))
+                  oldest.0,
               each_reverse (SentInside h) (take (slice_index_or cut h 0) (steps_of logs h)) oldest.1,
             )
 
     unfaulted : IsClosed m (parts_at logs cut) → first_fault logs cut logs 0 ≡ None
-    unfaulted c = stand_all logs 0 (λ h. subst (λ k. AllStand k (slice_index_or logs h (no_steps 0)) (slice_index_or cut k 0)) (from_front h) (stands h))
+    unfaulted c = stand_all logs 0 (λ h. subst (λ k. AllStand k (slice_index_or logs h (no_steps 0))
+        (slice_index_or cut k 0)) (from_front h) (stands h))
       where
         sent : (h : ℕ) → Each (SentInside h) (newest_inside logs cut h)
-        sent h = below_taken h (newest_inside logs cut h) (λ i. subst (λ k. Each (λ (x : Addressed). x.signal.stamp ≤ k) (taken m i (parts_at logs cut h))) (last_at i) (c.signals i h))
+        sent h = below_taken h (newest_inside logs cut h)
+            (λ i. subst (λ k. Each (λ (x : Addressed). x.signal.stamp ≤ k) (taken m i (parts_at logs cut h)))
+            (last_at i) (c.signals i h))
 
-        join : (h : ℕ) (steps : List LogStep) → (HasEntry steps → MadeInside (made_at logs h)) → Each (SentInside h) steps → Each (Stands h (slice_index_or logs h (no_steps 0))) steps
+        join : (h : ℕ) (steps : List LogStep) → (HasEntry steps → MadeInside (made_at logs h))
+            → Each (SentInside h) steps → Each (Stands h (slice_index_or logs h (no_steps 0))) steps
         join h [] is all = tt
         join h (e ∷ steps) is all = ((is tt, all.0), join h steps (λ has. is tt) all.1)
 
         is_made : (h : ℕ) → HasEntry (parts_at logs cut h) → MadeInside (made_at logs h)
-        is_made h has = subst (λ k. k ≤ last_inside logs cut 0) (same h) (subst (λ k. made h ≤ k) (last_at 0) (c.hosts h has))
+        is_made h has =
+            subst (λ k. k ≤ last_inside logs cut 0) (same h) (subst (λ k. made h ≤ k) (last_at 0) (c.hosts h has))
 
         entry : (h : ℕ) (steps : List LogStep) → HasEntry steps → HasEntry (map (of_host h) (reverse steps))
         entry h [] has = absurd has
         entry h (e ∷ steps) has = has_map (of_host h) (reverse (e ∷ steps)) (has_reverse e steps)
 
-        stands : (h : ℕ) → Each (Stands h (slice_index_or logs h (no_steps 0))) (take (slice_index_or cut h 0) (steps_of logs h))
+        stands : (h : ℕ)
+            → Each (Stands h (slice_index_or logs h (no_steps 0))) (take (slice_index_or cut h 0) (steps_of logs h))
         stands h =
-            join h (take (slice_index_or cut h 0) (steps_of logs h)) (λ has. is_made h (entry h (take (slice_index_or cut h 0) (steps_of logs h)) has))
-            (subst (Each (SentInside h)) (reverse-reverse (take (slice_index_or cut h 0) (steps_of logs h))) (each_reverse (SentInside h) (newest_inside logs cut h) (sent h)))
+            join h (take (slice_index_or cut h 0) (steps_of logs h))
+            (λ has. is_made h (entry h (take (slice_index_or cut h 0) (steps_of logs h)) has))
+            (subst (Each (SentInside h)) (reverse-reverse (take (slice_index_or cut h 0) (steps_of logs h)))
+            (each_reverse (SentInside h) (newest_inside logs cut h) (sent h)))
 
     pub where_none : first_fault logs cut logs 0 ≡ None → (true ≡ true) ↔ IsClosed m (parts_at logs cut)
     where_none is = (λ ok. closed is, λ c. refl)
 
-    pub where_some : (fault : CutFault) → first_fault logs cut logs 0 ≡ Some fault → (false ≡ true) ↔ IsClosed m (parts_at logs cut)
+    pub where_some : (fault : CutFault) → first_fault logs cut logs 0 ≡ Some fault
+        → (false ≡ true) ↔ IsClosed m (parts_at logs cut)
     where_some fault is = (λ no. absurd (never no), λ c. absurd (some_none fault (sym is ∙ unfaulted c)))

@@ -40,7 +40,8 @@ is_outside logs cut h log e = nat_lt (last_inside logs cut 0) log.made || is_sen
 abbrev pub fault_from : List HostLog → List ℕ → ℕ → HostLog → ℕ → List LogStep → Option CutFault
 fault_from logs cut h log n [] = None
 fault_from logs cut h log n (e ∷ steps) =
-    if is_outside logs cut h log e then Some (record { host = log.host; step = n }) else fault_from logs cut h log (n + 1) steps
+    if is_outside logs cut h log e then Some (record { host = log.host; step = n }) else fault_from logs cut h log
+    (n + 1) steps
 
 -- the first one of a log, of which so many steps are inside
 unfoldable pub fault_in : List HostLog → List ℕ → ℕ → HostLog → ℕ → Option CutFault
@@ -54,7 +55,8 @@ or_later (Some fault) later = Some fault
 -- the first one of these logs, log after log, of which the first is that of host h
 abbrev pub first_fault : List HostLog → List ℕ → List HostLog → ℕ → Option CutFault
 first_fault logs cut [] h = None
-first_fault logs cut (log ∷ rest) h = or_later (fault_in logs cut h log (slice_index_or cut h 0)) (first_fault logs cut rest (h + 1))
+first_fault logs cut (log ∷ rest) h =
+    or_later (fault_in logs cut h log (slice_index_or cut h 0)) (first_fault logs cut rest (h + 1))
 
 -- a cut is closed where nothing stands against it
 abbrev pub cut_answer : Option CutFault → Result (Unit {0}) CutFault

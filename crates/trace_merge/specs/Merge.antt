@@ -22,7 +22,8 @@ all_stamped (log ∷ logs) = stamped_log log ++ all_stamped logs
 
 -- a step comes before another by its stamp, then by its host, then by its number
 abbrev pub is_before : Stamped → Stamped → Bool
-is_before a b = nat_lt a.stamp b.stamp || ((a.stamp == b.stamp) && (nat_lt a.host.0 b.host.0 || ((a.host.0 == b.host.0) && nat_lt a.step b.step)))
+is_before a b = nat_lt a.stamp b.stamp ||
+    ((a.stamp == b.stamp) && (nat_lt a.host.0 b.host.0 || ((a.host.0 == b.host.0) && nat_lt a.step b.step)))
 
 -- where a step is
 abbrev pub place_of : Stamped → RunStep

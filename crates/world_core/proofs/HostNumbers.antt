@@ -46,11 +46,14 @@ pub members_at : (n k : ℕ) (d : Member) → k < n → slice_index_or (members 
 members_at zero k d low = absurd (omega (arith, low))
 members_at (suc n) k d low = go (members_at n k d) (cases_lt k n)
   where
-    go : (k < n → slice_index_or (members n) k d ≡ first_start (k + 1)) → (k < n) ⊎ (n ≤ k) → slice_index_or (members n ++ first_start (n + 1) ∷ []) k d ≡ first_start (k + 1)
-    go before (inl below) = get_or_append_left (members n) (first_start (n + 1) ∷ []) d k (omega (arith, below, members_length n)) ∙ before below
+    go : (k < n → slice_index_or (members n) k d ≡ first_start (k + 1)) → (k < n) ⊎ (n ≤ k)
+        → slice_index_or (members n ++ first_start (n + 1) ∷ []) k d ≡ first_start (k + 1)
+    go before (inl below) = get_or_append_left (members n) (first_start (n + 1) ∷ []) d k
+        (omega (arith, below, members_length n)) ∙ before below
     go before (inr last) =
         let at : n ≡ k = omega (arith, last, low) in
-        get_or_push (members n) (first_start (n + 1)) d k (omega (arith, at, members_length n)) ∙ ap (λ i. first_start (i + 1)) at
+        get_or_push (members n) (first_start (n + 1)) d k (omega (arith, at, members_length n))
+        ∙ ap (λ i. first_start (i + 1)) at
 
 -- the place of a node among them
 apart_members : (node k : ℕ) → node ≢ k + 1 → is_member (first_start node) (first_start (k + 1)) ≡ false
@@ -61,17 +64,23 @@ apart_members node k apart = go (node == k + 1) refl
     go false e = refl
 
 place_of : (n node : ℕ) → 1 ≤ node → node ≤ n → position (is_member (first_start node)) (members n) ≡ Some (node - 1)
-place_of n node some low = ap (λ i. if nat_lt i (length (members n)) then Some i else None) at ∙ go (nat_lt (node - 1) (length (members n))) refl
+place_of n node some low = ap (λ i. if nat_lt i (length (members n)) then Some i else None) at
+    ∙ go (nat_lt (node - 1) (length (members n))) refl
   where
     at : position_or_len (is_member (first_start node)) (members n) ≡ node - 1
     at =
-        position_or_len_is (is_member (first_start node)) (members n) (node - 1) nobody (omega (arith, low, members_length n))
-        (λ k below. ap (is_member (first_start node)) (members_at n k nobody (omega (arith, below, low))) ∙ apart_members node k (λ same. absurd (omega (arith, same, below))))
+        position_or_len_is (is_member (first_start node)) (members n) (node - 1) nobody
+        (omega (arith, low, members_length n))
+        (λ k below. ap (is_member (first_start node)) (members_at n k nobody (omega (arith, below, low)))
+        ∙ apart_members node k (λ same. absurd (omega (arith, same, below))))
         (λ there.
         let own : node - 1 + 1 ≡ node = omega (arith, some) in
-        ap (is_member (first_start node)) (members_at n (node - 1) nobody (omega (arith, some, low)) ∙ ap first_start own) ∙ ap (λ b. b && true) (eq-eqb node node refl))
+        ap (is_member (first_start node))
+        (members_at n (node - 1) nobody (omega (arith, some, low)) ∙ ap first_start own)
+        ∙ ap (λ b. b && true) (eq-eqb node node refl))
 
-    go : (b : Bool) → nat_lt (node - 1) (length (members n)) ≡ b → (if b then Some (node - 1) else None) ≡ Some (node - 1)
+    go : (b : Bool) → nat_lt (node - 1) (length (members n)) ≡ b
+        → (if b then Some (node - 1) else None) ≡ Some (node - 1)
     go true e = refl
     go false e = absurd (grind (arith, nat_tests, e, some, low, members_length n))
 
@@ -79,7 +88,8 @@ place_of n node some low = ap (λ i. if nat_lt i (length (members n)) then Some 
 abbrev is_node : ℕ → Member → Bool
 is_node node member = member.node == node
 
-last_node : (n node : ℕ) (b : Bool) → (n + 1 == node) ≡ b → filter (is_node node) (first_start (n + 1) ∷ []) ≡ (if b then first_start (n + 1) ∷ [] else [])
+last_node : (n node : ℕ) (b : Bool) → (n + 1 == node) ≡ b
+    → filter (is_node node) (first_start (n + 1) ∷ []) ≡ (if b then first_start (n + 1) ∷ [] else [])
 last_node n node b e = ap (λ c. if c then first_start (n + 1) ∷ [] else []) e
 
 none_of : (n node : ℕ) → n < node → filter (is_node node) (members n) ≡ []
@@ -106,10 +116,12 @@ one_of (suc n) node some low =
         ∙ ap (λ ms. first_start node ∷ ms) (last_node n node false e)
 
 pub the_member : (n node : ℕ) → 1 ≤ node → node ≤ n → member_of (first_view n) node ≡ Some (first_start node)
-the_member n node some low = ap (λ ms. slice_get (filter (is_node node) ms) 0) (append-nil (members n)) ∙ ap (λ ms. slice_get ms 0) (one_of n node some low)
+the_member n node some low = ap (λ ms. slice_get (filter (is_node node) ms) 0) (append-nil (members n))
+    ∙ ap (λ ms. slice_get ms 0) (one_of n node some low)
 
 pub no_member : (n node : ℕ) → n < node → member_of (first_view n) node ≡ None
-no_member n node above = ap (λ ms. slice_get (filter (is_node node) ms) 0) (append-nil (members n)) ∙ ap (λ ms. slice_get ms 0) (none_of n node above)
+no_member n node above = ap (λ ms. slice_get (filter (is_node node) ms) 0) (append-nil (members n))
+    ∙ ap (λ ms. slice_get ms 0) (none_of n node above)
 
 -- parts by their numbers
 number_some : (of : Part) → 1 ≤ number_of of
@@ -132,17 +144,20 @@ module _ (start : Start) where
   unfolding receiver
   client_host = refl
 
-  by_member : (to : Place) → 1 ≤ to.node → host_for start to ≡ host_by (made start) (part_of to.block) (member_of (first_view start.shape.nodes) to.node)
+  by_member : (to : Place) → 1 ≤ to.node
+      → host_for start to ≡ host_by (made start) (part_of to.block) (member_of (first_view start.shape.nodes) to.node)
   unfolding receiver
   by_member to some = go (to.node == 0) refl
     where
       go : (b : Bool) → (to.node == 0) ≡ b
-          → (if b then 0 else host_by (made start) (part_of to.block) (member_of (first_view start.shape.nodes) to.node))
+          → (if b then 0 else host_by (made start) (part_of to.block)
+          (member_of (first_view start.shape.nodes) to.node))
           ≡ host_by (made start) (part_of to.block) (member_of (first_view start.shape.nodes) to.node)
       go true e = absurd (omega (arith, eqb-true to.node 0 e, some))
       go false e = refl
 
-  pub node_host : (to : Place) → 1 ≤ to.node → to.node ≤ start.shape.nodes → host_for start to ≡ (to.node - 1) * 3 + number_of (part_of to.block)
+  pub node_host : (to : Place) → 1 ≤ to.node → to.node ≤ start.shape.nodes
+      → host_for start to ≡ (to.node - 1) * 3 + number_of (part_of to.block)
   node_host to some low =
       by_member to some
       ∙ ap (host_by (made start) (part_of to.block)) (the_member start.shape.nodes to.node some low)
@@ -161,44 +176,70 @@ module _ (start : Start) where
   host_below to some low = omega (arith, node_host to some low, number_few (part_of to.block), some, low)
 
   -- two places of one host are places of one part of one node
-  pub same_node : (one other : Place) → 1 ≤ one.node → one.node ≤ start.shape.nodes → 1 ≤ other.node → other.node ≤ start.shape.nodes
+  pub same_node : (one other : Place) → 1 ≤ one.node → one.node ≤ start.shape.nodes → 1 ≤ other.node
+      → other.node ≤ start.shape.nodes
       → host_for start one ≡ host_for start other → one.node ≡ other.node
   same_node one other some low other_some other_low same =
-      omega (arith, same, node_host one some low, node_host other other_some other_low, number_some (part_of one.block), number_few (part_of one.block), number_some (part_of other.block), number_few (part_of other.block), some, other_some)
+      omega (
+        arith,
+        same,
+        node_host one some low,
+        node_host other other_some other_low,
+        number_some (part_of one.block),
+        number_few (part_of one.block),
+        number_some (part_of other.block),
+        number_few (part_of other.block),
+        some,
+        other_some,
+      )
 
   -- rows of two nodes have two hosts
-  pub rows_host_apart : (a b : ℕ) → 1 ≤ a → a ≤ start.shape.nodes → 1 ≤ b → b ≤ start.shape.nodes → rows_host start a ≡ rows_host start b → a ≡ b
-  rows_host_apart a b some low b_some b_low same = same_node (record { node = a; block = block.Lqh }) (record { node = b; block = block.Lqh }) some low b_some b_low same
+  pub rows_host_apart : (a b : ℕ) → 1 ≤ a → a ≤ start.shape.nodes → 1 ≤ b → b ≤ start.shape.nodes
+      → rows_host start a ≡ rows_host start b → a ≡ b
+  rows_host_apart a b some low b_some b_low same = same_node (record { node = a; block = block.Lqh })
+      (record { node = b; block = block.Lqh }) some low b_some b_low same
 
   -- hosts as they begin
   pub started_behind : (k : ℕ) → started start (suc k)
-      ≡ fresh_part (part_by (k % 3)) (slice_index_or (made start) (k / 3) nobody) (first_layout start.shape) start.epoch start.rows
+      ≡ fresh_part (part_by (k % 3)) (slice_index_or (made start) (k / 3) nobody) (first_layout start.shape) start.epoch
+      start.rows
   unfolding started
   started_behind k = refl
 
-  started_at : (node left : ℕ) → 1 ≤ node → node ≤ start.shape.nodes → left < 3 → started start (suc ((node - 1) * 3 + left))
+  started_at : (node left : ℕ) → 1 ≤ node → node ≤ start.shape.nodes → left < 3
+      → started start (suc ((node - 1) * 3 + left))
       ≡ fresh_part (part_by left) (first_start node) (first_layout start.shape) start.epoch start.rows
   started_at node left some low few =
       let own : node - 1 + 1 ≡ node = omega (arith, some) in
       started_behind ((node - 1) * 3 + left)
-      ∙ ap (λ r. fresh_part (part_by r) (slice_index_or (made start) (((node - 1) * 3 + left) / 3) nobody) (first_layout start.shape) start.epoch start.rows) (mod-mul-add (node - 1) 3 left few)
+      ∙ ap (λ r. fresh_part (part_by r) (slice_index_or (made start) (((node - 1) * 3 + left) / 3) nobody)
+      (first_layout start.shape) start.epoch start.rows) (mod-mul-add (node - 1) 3 left few)
       ∙ ap (λ m. fresh_part (part_by left) m (first_layout start.shape) start.epoch start.rows)
       (ap (λ i. slice_index_or (made start) i nobody) (div-mul-add (node - 1) 3 left few)
       ∙ members_at start.shape.nodes (node - 1) nobody (omega (arith, some, low)) ∙ ap first_start own)
 
-  pub main_started : (node : ℕ) → 1 ≤ node → node ≤ start.shape.nodes → started start (main_host node) ≡ fresh_part Main (first_start node) (first_layout start.shape) start.epoch start.rows
+  pub main_started : (node : ℕ) → 1 ≤ node → node ≤ start.shape.nodes
+      → started start (main_host node) ≡ fresh_part Main (first_start node) (first_layout start.shape) start.epoch
+      start.rows
   main_started node some low =
-      let at : main_host node ≡ suc ((node - 1) * 3 + 0) = omega (arith, node_host (record { node = node; block = block.Qmgr }) some low) in
+      let at : main_host node ≡ suc ((node - 1) * 3 + 0) =
+      omega (arith, node_host (record { node = node; block = block.Qmgr }) some low) in
       ap (started start) at ∙ started_at node 0 some low (omega arith)
 
-  pub tc_started : (node : ℕ) → 1 ≤ node → node ≤ start.shape.nodes → started start (tc_host start node) ≡ fresh_part Tc (first_start node) (first_layout start.shape) start.epoch start.rows
+  pub tc_started : (node : ℕ) → 1 ≤ node → node ≤ start.shape.nodes
+      → started start (tc_host start node)
+      ≡ fresh_part Tc (first_start node) (first_layout start.shape) start.epoch start.rows
   tc_started node some low =
-      let at : tc_host start node ≡ suc ((node - 1) * 3 + 1) = omega (arith, node_host (record { node = node; block = block.Tc }) some low) in
+      let at : tc_host start node ≡ suc ((node - 1) * 3 + 1) =
+      omega (arith, node_host (record { node = node; block = block.Tc }) some low) in
       ap (started start) at ∙ started_at node 1 some low (omega arith)
 
-  pub rows_started : (node : ℕ) → 1 ≤ node → node ≤ start.shape.nodes → started start (rows_host start node) ≡ fresh_part Ldm (first_start node) (first_layout start.shape) start.epoch start.rows
+  pub rows_started : (node : ℕ) → 1 ≤ node → node ≤ start.shape.nodes
+      → started start (rows_host start node)
+      ≡ fresh_part Ldm (first_start node) (first_layout start.shape) start.epoch start.rows
   rows_started node some low =
-      let at : rows_host start node ≡ suc ((node - 1) * 3 + 2) = omega (arith, node_host (record { node = node; block = block.Lqh }) some low) in
+      let at : rows_host start node ≡ suc ((node - 1) * 3 + 2) =
+      omega (arith, node_host (record { node = node; block = block.Lqh }) some low) in
       ap (started start) at ∙ started_at node 2 some low (omega arith)
 
 -- a node whose host this is
@@ -227,9 +268,27 @@ module _ (start : Start) where
       some = omega arith
 
       go : (left : ℕ) → k % 3 ≡ left → HostIs start (suc k)
-      go zero e = is_main (record { node = k / 3 + 1; some = some; low = few; is = omega (arith, e, node_host start (record { node = k / 3 + 1; block = block.Qmgr }) some few) })
-      go (suc zero) e = is_tc (record { node = k / 3 + 1; some = some; low = few; is = omega (arith, e, node_host start (record { node = k / 3 + 1; block = block.Tc }) some few) })
-      go (suc (suc zero)) e = is_rows (record { node = k / 3 + 1; some = some; low = few; is = omega (arith, e, node_host start (record { node = k / 3 + 1; block = block.Lqh }) some few) })
+      go zero e = is_main (record {
+        node = k / 3 + 1;
+        some = some;
+        low = few;
+        is = omega
+            (arith, e, node_host start (record { node = k / 3 + 1; block = block.Qmgr }) some few);
+      })
+      go (suc zero) e = is_tc (record {
+        node = k / 3 + 1;
+        some = some;
+        low = few;
+        is = omega
+            (arith, e, node_host start (record { node = k / 3 + 1; block = block.Tc }) some few);
+      })
+      go (suc (suc zero)) e = is_rows (record {
+        node = k / 3 + 1;
+        some = some;
+        low = few;
+        is = omega
+            (arith, e, node_host start (record { node = k / 3 + 1; block = block.Lqh }) some few);
+      })
       go (suc (suc (suc left))) e = absurd (omega (arith, e))
 
   -- a host runs the same blocks in every log
@@ -246,7 +305,8 @@ module _ (start : Start) where
   rows_after h (e ∷ log) = rows_stay (after start h log) e.step.taken ∙ rows_after h log
 
 -- which blocks a part runs
-part_api : (of : Part) (member : Member) (start : Start) → has_api (fresh_part of member (first_layout start.shape) start.epoch start.rows) ≡ false
+part_api : (of : Part) (member : Member) (start : Start)
+    → has_api (fresh_part of member (first_layout start.shape) start.epoch start.rows) ≡ false
 unfolding fresh_part
 part_api Main member start = refl
 part_api Tc member start = refl
@@ -260,20 +320,23 @@ abbrev is_rows_part : Part → Bool
 is_rows_part Ldm = true
 is_rows_part _ = false
 
-part_tc : (of : Part) (member : Member) (start : Start) → has_tc (fresh_part of member (first_layout start.shape) start.epoch start.rows) ≡ is_tc_part of
+part_tc : (of : Part) (member : Member) (start : Start)
+    → has_tc (fresh_part of member (first_layout start.shape) start.epoch start.rows) ≡ is_tc_part of
 unfolding fresh_part
 part_tc Main member start = refl
 part_tc Tc member start = refl
 part_tc Ldm member start = refl
 
-part_rows : (of : Part) (member : Member) (start : Start) → has_lqh (fresh_part of member (first_layout start.shape) start.epoch start.rows) ≡ is_rows_part of
+part_rows : (of : Part) (member : Member) (start : Start)
+    → has_lqh (fresh_part of member (first_layout start.shape) start.epoch start.rows) ≡ is_rows_part of
 unfolding fresh_part
 part_rows Main member start = refl
 part_rows Tc member start = refl
 part_rows Ldm member start = refl
 
 module _ (start : Start) where
-  shell_runs : (has_api (started start 0) ≡ true) × (has_tc (started start 0) ≡ false) × (has_lqh (started start 0) ≡ false)
+  shell_runs : (has_api (started start 0) ≡ true) × (has_tc (started start 0) ≡ false)
+      × (has_lqh (started start 0) ≡ false)
   unfolding started fresh_shell
   shell_runs = (refl, refl, refl)
 
@@ -284,13 +347,17 @@ module _ (start : Start) where
   pub api_found : (h : ℕ) (log : List HostStep) → has_api (after start h log) ≡ true → h ≡ 0
   api_found zero log runs = refl
   api_found (suc k) log runs =
-      absurd (false≢true (sym (api_after start (suc k) log ∙ ap has_api (started_behind start k) ∙ part_api (part_by (k % 3)) (slice_index_or (made start) (k / 3) nobody) start) ∙ runs))
+      absurd (false≢true (sym (api_after start (suc k) log ∙ ap has_api (started_behind start k) ∙ part_api
+      (part_by (k % 3)) (slice_index_or (made start) (k / 3) nobody) start) ∙ runs))
 
   -- the coordinating hosts run a coordinator, and no others do
-  pub tc_runs : (node : ℕ) (log : List HostStep) → 1 ≤ node → node ≤ start.shape.nodes → has_tc (after start (tc_host start node) log) ≡ true
-  tc_runs node log some low = tc_after start (tc_host start node) log ∙ ap has_tc (tc_started start node some low) ∙ part_tc Tc (first_start node) start
+  pub tc_runs : (node : ℕ) (log : List HostStep) → 1 ≤ node → node ≤ start.shape.nodes
+      → has_tc (after start (tc_host start node) log) ≡ true
+  tc_runs node log some low = tc_after start (tc_host start node) log ∙ ap has_tc (tc_started start node some low)
+      ∙ part_tc Tc (first_start node) start
 
-  pub tc_found : (h : ℕ) (log : List HostStep) → h < hosts start → has_tc (after start h log) ≡ true → IsNodes start (tc_host start) h
+  pub tc_found : (h : ℕ) (log : List HostStep) → h < hosts start → has_tc (after start h log) ≡ true
+      → IsNodes start (tc_host start) h
   tc_found h log low runs = go (host_is start h low)
     where
       as_begun : has_tc (started start h) ≡ true
@@ -299,40 +366,52 @@ module _ (start : Start) where
       go : HostIs start h → IsNodes start (tc_host start) h
       go (is_shell at) = absurd (false≢true (sym shell_runs.1 ∙ ap (λ n. has_tc (started start n)) (sym at) ∙ as_begun))
       go (is_tc of) = of
-      go (is_main of) = absurd (false≢true (sym (ap (λ n. has_tc (started start n)) of.is ∙ ap has_tc (main_started start of.node of.some of.low) ∙ part_tc Main (first_start of.node) start) ∙ as_begun))
-      go (is_rows of) = absurd (false≢true (sym (ap (λ n. has_tc (started start n)) of.is ∙ ap has_tc (rows_started start of.node of.some of.low) ∙ part_tc Ldm (first_start of.node) start) ∙ as_begun))
+      go (is_main of) = absurd (false≢true (sym (ap (λ n. has_tc (started start n)) of.is ∙ ap has_tc
+          (main_started start of.node of.some of.low) ∙ part_tc Main (first_start of.node) start) ∙ as_begun))
+      go (is_rows of) = absurd (false≢true (sym (ap (λ n. has_tc (started start n)) of.is ∙ ap has_tc
+          (rows_started start of.node of.some of.low) ∙ part_tc Ldm (first_start of.node) start) ∙ as_begun))
 
   -- the hosts of rows run rows, and no others do
-  pub rows_run : (node : ℕ) (log : List HostStep) → 1 ≤ node → node ≤ start.shape.nodes → has_lqh (after start (rows_host start node) log) ≡ true
-  rows_run node log some low = rows_after start (rows_host start node) log ∙ ap has_lqh (rows_started start node some low) ∙ part_rows Ldm (first_start node) start
+  pub rows_run : (node : ℕ) (log : List HostStep) → 1 ≤ node → node ≤ start.shape.nodes
+      → has_lqh (after start (rows_host start node) log) ≡ true
+  rows_run node log some low = rows_after start (rows_host start node) log
+      ∙ ap has_lqh (rows_started start node some low) ∙ part_rows Ldm (first_start node) start
 
-  pub rows_found : (h : ℕ) (log : List HostStep) → h < hosts start → has_lqh (after start h log) ≡ true → IsNodes start (rows_host start) h
+  pub rows_found : (h : ℕ) (log : List HostStep) → h < hosts start → has_lqh (after start h log) ≡ true
+      → IsNodes start (rows_host start) h
   rows_found h log low runs = go (host_is start h low)
     where
       as_begun : has_lqh (started start h) ≡ true
       as_begun = sym (rows_after start h log) ∙ runs
 
       go : HostIs start h → IsNodes start (rows_host start) h
-      go (is_shell at) = absurd (false≢true (sym shell_runs.2 ∙ ap (λ n. has_lqh (started start n)) (sym at) ∙ as_begun))
+      go (is_shell at) =
+          absurd (false≢true (sym shell_runs.2 ∙ ap (λ n. has_lqh (started start n)) (sym at) ∙ as_begun))
       go (is_rows of) = of
-      go (is_main of) = absurd (false≢true (sym (ap (λ n. has_lqh (started start n)) of.is ∙ ap has_lqh (main_started start of.node of.some of.low) ∙ part_rows Main (first_start of.node) start) ∙ as_begun))
-      go (is_tc of) = absurd (false≢true (sym (ap (λ n. has_lqh (started start n)) of.is ∙ ap has_lqh (tc_started start of.node of.some of.low) ∙ part_rows Tc (first_start of.node) start) ∙ as_begun))
+      go (is_main of) = absurd (false≢true (sym (ap (λ n. has_lqh (started start n)) of.is ∙ ap has_lqh
+          (main_started start of.node of.some of.low) ∙ part_rows Main (first_start of.node) start) ∙ as_begun))
+      go (is_tc of) = absurd (false≢true (sym (ap (λ n. has_lqh (started start n)) of.is ∙ ap has_lqh
+          (tc_started start of.node of.some of.low) ∙ part_rows Tc (first_start of.node) start) ∙ as_begun))
 
   -- what is sent goes to the host of its place
   abbrev pub IsAddressed : Addressed → Type 0
   IsAddressed x = host_for start x.signal.to ≡ x.to
 
-  all_to : (h stamp : ℕ) (count : ℕ → ℕ) (sends : List Outgoing) → Each IsAddressed (all_addressed (first_membership start) h stamp count sends)
+  all_to : (h stamp : ℕ) (count : ℕ → ℕ) (sends : List Outgoing)
+      → Each IsAddressed (all_addressed (first_membership start) h stamp count sends)
   all_to h stamp count [] = tt
-  all_to h stamp count (sent ∷ more) = (refl, all_to h stamp (counted (receiver (first_membership start) sent.to) count) more)
+  all_to h stamp count (sent ∷ more) =
+      (refl, all_to h stamp (counted (receiver (first_membership start) sent.to) count) more)
 
   pub sent_to : (i j : ℕ) (log : List HostStep) → Each IsAddressed (sent (machine start) i j log)
   sent_to i j [] = tt
-  sent_to i j (e ∷ log) = put_each (machine start) IsAddressed j (signals_of start i log e) (sent (machine start) i j log)
+  sent_to i j (e ∷ log) =
+      put_each (machine start) IsAddressed j (signals_of start i log e) (sent (machine start) i j log)
       (all_to i e.step.stamp (sent_count start i log) (step_after start i log e).effects.sends) (sent_to i j log)
 
   -- what was taken from a link is an older part of what was sent over it
-  pub given_past : (i j : ℕ) (log : List HostStep) (xs : List Addressed) → IsGiven (machine start) i j log xs → IsPast xs (sent (machine start) i j log)
+  pub given_past : (i j : ℕ) (log : List HostStep) (xs : List Addressed) → IsGiven (machine start) i j log xs
+      → IsPast xs (sent (machine start) i j log)
   given_past i j log xs (inl past) = past
   given_past i j [] xs (inr closing) = absurd closing
   given_past i j (e ∷ log) xs (inr closing) = absurd (false≢true closing.stops)
@@ -340,30 +419,39 @@ module _ (start : Start) where
   asked_at : (h stamp : ℕ) (e : HostStep) (b : Bool) → is_request e.step.taken.body ≡ b
       → asked_rightly (first_membership start) b h stamp e.step.taken → b ≡ true → host_for start e.step.taken.to ≡ h
   asked_at h stamp e false is rightly asks = absurd (false≢true asks)
-  asked_at h stamp e true is rightly asks = ap (λ (x : Signal). host_for start x.to) rightly.is ∙ client_host start ∙ sym rightly.shell
+  asked_at h stamp e true is rightly asks =
+      ap (λ (x : Signal). host_for start x.to) rightly.is ∙ client_host start ∙ sym rightly.shell
 
-  rest_to : (i : ℕ) (e : HostStep) (log : List HostStep) → Each IsAddressed (taken (machine start) i (e ∷ log)) → Each IsAddressed (taken (machine start) i log)
+  rest_to : (i : ℕ) (e : HostStep) (log : List HostStep) → Each IsAddressed (taken (machine start) i (e ∷ log))
+      → Each IsAddressed (taken (machine start) i log)
   rest_to i e log all = go (taken_cases (machine start) i e log)
     where
       go : TakenCases (machine start) i e log → Each IsAddressed (taken (machine start) i log)
       go (theory.took plain from is) = (subst (Each IsAddressed) is all).1
       go (theory.same is) = subst (Each IsAddressed) is all
 
-  steps_to : (h : ℕ) (log : List HostStep) → IsLog (machine start) h log → ((i : ℕ) → Each IsAddressed (taken (machine start) i log))
+  steps_to : (h : ℕ) (log : List HostStep) → IsLog (machine start) h log
+      → ((i : ℕ) → Each IsAddressed (taken (machine start) i log))
       → Each (λ e. host_for start e.step.taken.to ≡ h) log
   steps_to h [] local all = tt
-  steps_to h (e ∷ log) local all = (go (is_request e.step.taken.body) refl, steps_to h log local.1 (λ i. rest_to i e log (all i)))
+  steps_to h (e ∷ log) local all =
+      (go (is_request e.step.taken.body) refl, steps_to h log local.1 (λ i. rest_to i e log (all i)))
     where
       go : (b : Bool) → is_request e.step.taken.body ≡ b → host_for start e.step.taken.to ≡ h
       go true asks = asked_at h local.0.fits.asked_at e (is_request e.step.taken.body) refl local.0.fits.asked asks
       go false plain =
-          (subst (Each IsAddressed) (taken-step (machine start) e.step.taken.from.0 e log plain refl) (all e.step.taken.from.0)).0 ∙ local.0.at
+          (subst (Each IsAddressed) (taken-step (machine start) e.step.taken.from.0 e log plain refl)
+          (all e.step.taken.from.0)).0 ∙ local.0.at
 
   -- each step is at the host of its signal's place
-  pub addressed_rightly : (logs : ℕ → List HostStep) → AreLogs (machine start) logs → (h : ℕ) → Each (λ e. host_for start e.step.taken.to ≡ h) (logs h)
+  pub addressed_rightly : (logs : ℕ → List HostStep) → AreLogs (machine start) logs → (h : ℕ)
+      → Each (λ e. host_for start e.step.taken.to ≡ h) (logs h)
   addressed_rightly logs right h =
       steps_to h (logs h) (right.local h)
-      (λ i. each_past IsAddressed (given_past i h (logs i) (taken (machine start) i (logs h)) (right.linked i h)) (sent_to i h (logs i)))
+      (λ i. each_past IsAddressed (given_past i h (logs i) (taken (machine start) i (logs h)) (right.linked i h))
+      (sent_to i h (logs i)))
 
-  pub addressed_at : (logs : ℕ → List HostStep) → AreLogs (machine start) logs → (h : ℕ) (e : HostStep) → IsIn e (logs h) → host_for start e.step.taken.to ≡ h
-  addressed_at logs right h e in_log = each_in (λ d. host_for start d.step.taken.to ≡ h) e (logs h) (addressed_rightly logs right h) in_log
+  pub addressed_at : (logs : ℕ → List HostStep) → AreLogs (machine start) logs → (h : ℕ) (e : HostStep)
+      → IsIn e (logs h) → host_for start e.step.taken.to ≡ h
+  addressed_at logs right h e in_log =
+      each_in (λ d. host_for start d.step.taken.to ≡ h) e (logs h) (addressed_rightly logs right h) in_log

@@ -26,7 +26,8 @@ first_behind : (xs ys : List Member) → slice_get xs 0 ≡ None → slice_get (
 first_behind [] ys none = refl
 first_behind (x ∷ xs) ys none = cc
 
-pub member_in_full : (view : View) (node : ℕ) (m : Member) → slice_get (filter (is_node node) view.full) 0 ≡ Some m → member_of view node ≡ Some m
+pub member_in_full : (view : View) (node : ℕ) (m : Member) → slice_get (filter (is_node node) view.full) 0 ≡ Some m
+    → member_of view node ≡ Some m
 member_in_full view node m is =
     ap (λ ms. slice_get ms 0) (filter-append (is_node node) view.full view.starting)
     ∙ first_in (filter (is_node node) view.full) (filter (is_node node) view.starting) m is

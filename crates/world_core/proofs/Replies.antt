@@ -17,13 +17,17 @@ front_further : (xs ys zs : List ApiReply) → IsFront xs ys → IsFront ys zs �
 front_further xs ys zs a b =
     record { more = a.more ++ b.more; is = b.is ∙ ap (λ us. us ++ b.more) a.is ∙ append_assoc xs a.more b.more }
 
-newer_add : (start : Start) (newer log : List HostStep) → IsFront (reply.replies_of (after start 0 log)) (reply.replies_of (after start 0 (newer ++ log)))
+newer_add : (start : Start) (newer log : List HostStep)
+    → IsFront (reply.replies_of (after start 0 log)) (reply.replies_of (after start 0 (newer ++ log)))
 newer_add start [] log = front_itself (reply.replies_of (after start 0 log))
 newer_add start (e ∷ newer) log =
-    front_further (reply.replies_of (after start 0 log)) (reply.replies_of (after start 0 (newer ++ log))) (reply.replies_of (after start 0 (e ∷ (newer ++ log))))
+    front_further (reply.replies_of (after start 0 log)) (reply.replies_of (after start 0 (newer ++ log)))
+    (reply.replies_of (after start 0 (e ∷ (newer ++ log))))
     (newer_add start newer log) (host.replies_grow (after start 0 (newer ++ log)) e.step.taken)
 
 -- replies stand in longer logs as they did
-pub replies_grow : (start : Start) (log all : List HostStep) → IsPast log all → IsFront (reply.replies_of (after start 0 log)) (reply.replies_of (after start 0 all))
+pub replies_grow : (start : Start) (log all : List HostStep) → IsPast log all
+    → IsFront (reply.replies_of (after start 0 log)) (reply.replies_of (after start 0 all))
 replies_grow start log all past =
-    subst (λ l. IsFront (reply.replies_of (after start 0 log)) (reply.replies_of (after start 0 l))) (sym past.is) (newer_add start past.newer log)
+    subst (λ l. IsFront (reply.replies_of (after start 0 log)) (reply.replies_of (after start 0 l))) (sym past.is)
+    (newer_add start past.newer log)

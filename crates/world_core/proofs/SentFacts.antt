@@ -36,22 +36,26 @@ plain_rest : (b : Bool) (more : Bool) → (if b then false else more) ≡ true �
 plain_rest true more e = cc
 plain_rest false more e = e
 
-addressed_each : (who : Membership) (h stamp : ℕ) (count : ℕ → ℕ) (sends : List Outgoing) → asks_nothing sends ≡ true → Each (λ x. IsFrom h stamp x) (all_addressed who h stamp count sends)
+addressed_each : (who : Membership) (h stamp : ℕ) (count : ℕ → ℕ) (sends : List Outgoing) → asks_nothing sends ≡ true
+    → Each (λ x. IsFrom h stamp x) (all_addressed who h stamp count sends)
 addressed_each who h stamp count [] none = tt
 addressed_each who h stamp count (sent ∷ more) none = (
   record { from = refl; early = omega arith; plain = plain_first (is_request sent.body) (asks_nothing more) none },
-  addressed_each who h stamp (counted (receiver who sent.to) count) more (plain_rest (is_request sent.body) (asks_nothing more) none),
+  addressed_each who h stamp (counted (receiver who sent.to) count) more
+      (plain_rest (is_request sent.body) (asks_nothing more) none),
 )
 
 module _ (start : Start) where
-  put_between : (i j stamp : ℕ) (xs before : List Addressed) → Each (λ x. IsFrom i stamp x) xs → Each (λ x. IsBetween i j stamp x) before
+  put_between : (i j stamp : ℕ) (xs before : List Addressed) → Each (λ x. IsFrom i stamp x) xs
+      → Each (λ x. IsBetween i j stamp x) before
       → Each (λ x. IsBetween i j stamp x) (put (machine start) j xs before)
   put_between i j stamp [] before each rest = rest
   put_between i j stamp (x ∷ xs) before each rest =
       put_between i j stamp xs (if x.to == j then x ∷ before else before) each.1 (first (x.to == j) refl)
     where
       first : (b : Bool) → (x.to == j) ≡ b → Each (λ y. IsBetween i j stamp y) (if b then x ∷ before else before)
-      first true e = (record { from = each.0.from; to = eqb-true x.to j e; early = each.0.early; plain = each.0.plain }, rest)
+      first true e =
+          (record { from = each.0.from; to = eqb-true x.to j e; early = each.0.early; plain = each.0.plain }, rest)
       first false e = rest
 
   -- the newest stamp, as the theory has it
@@ -60,11 +64,21 @@ module _ (start : Start) where
   last_is h (e ∷ log) = refl
 
   -- all that a host sent another
-  pub sent_between : (i j : ℕ) (log : List HostStep) → IsLog (machine start) i log → Each (λ x. IsBetween i j (last_stamp log) x) (sent (machine start) i j log)
+  pub sent_between : (i j : ℕ) (log : List HostStep) → IsLog (machine start) i log
+      → Each (λ x. IsBetween i j (last_stamp log) x) (sent (machine start) i j log)
   sent_between i j [] local = tt
   sent_between i j (e ∷ log) local =
-      put_between i j e.step.stamp (all_addressed (first_membership start) i e.step.stamp (sent_count start i log) (step_after start i log e).effects.sends) (sent (machine start) i j log)
-      (addressed_each (first_membership start) i e.step.stamp (sent_count start i log) (step_after start i log e).effects.sends (rows_ask (after start i log) e.step.taken))
-      (each_map (λ x. IsBetween i j (last_stamp log) x) (λ x. IsBetween i j e.step.stamp x) (sent (machine start) i j log)
-      (λ x was. record { from = was.from; to = was.to; early = omega (arith, was.early, step_above (machine start) i log e local.0, last_is i log); plain = was.plain })
+      put_between i j e.step.stamp (all_addressed (first_membership start) i e.step.stamp (sent_count start i log)
+      (step_after start i log e).effects.sends) (sent (machine start) i j log)
+      (addressed_each (first_membership start) i e.step.stamp (sent_count start i log)
+      (step_after start i log e).effects.sends (rows_ask (after start i log) e.step.taken))
+      (each_map (λ x. IsBetween i j (last_stamp log) x) (λ x. IsBetween i j e.step.stamp x)
+      (sent (machine start) i j log)
+      (λ x was. record {
+        from = was.from;
+        to = was.to;
+        early = omega
+            (arith, was.early, step_above (machine start) i log e local.0, last_is i log);
+        plain = was.plain;
+      })
       (sent_between i j log local.1))

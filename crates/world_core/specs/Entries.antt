@@ -46,7 +46,8 @@ entry_of h stamp log tx epoch =
 -- the entries of these marks of the newest step of a log, in front of those before
 abbrev pub entries_in : ℕ → ℕ → List HostStep → List Mark → List Entry → List Entry
 entries_in h stamp log [] before = before
-entries_in h stamp log (Decided tx epoch ∷ marks) before = entries_in h stamp log marks (entry_of h stamp log tx epoch ∷ before)
+entries_in h stamp log (Decided tx epoch ∷ marks) before =
+    entries_in h stamp log marks (entry_of h stamp log tx epoch ∷ before)
 entries_in h stamp log (mark ∷ marks) before = entries_in h stamp log marks before
 
 -- the entries of a host's log, the newest first
@@ -57,7 +58,8 @@ entries_of h (e ∷ log) = entries_in h e.step.stamp (e ∷ log) e.step.marks (e
 -- the order of entries: by view, stamp and host
 abbrev pub is_before : Entry → Entry → Bool
 is_before a b =
-    nat_lt a.view b.view || ((a.view == b.view) && (nat_lt a.stamp b.stamp || ((a.stamp == b.stamp) && nat_lt a.host.0 b.host.0)))
+    nat_lt a.view b.view || ((a.view == b.view) && (nat_lt a.stamp b.stamp ||
+    ((a.stamp == b.stamp) && nat_lt a.host.0 b.host.0)))
 
 -- an entry at its place, the earliest first; behind those that it isn't before
 abbrev pub insert : Entry → List Entry → List Entry

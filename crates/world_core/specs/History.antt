@@ -33,7 +33,8 @@ is_reported tx mark = false
 
 -- an entry is kept: where it writes, if it was applied, and else if it was reported
 abbrev pub is_kept : ℕ → (ℕ → List HostStep) → Entry → Bool
-is_kept n logs entry = if writes entry then have_mark (is_applied entry.tx) n logs else have_mark (is_reported entry.tx) n logs
+is_kept n logs entry =
+    if writes entry then have_mark (is_applied entry.tx) n logs else have_mark (is_reported entry.tx) n logs
 
 -- the history of a cut of the hosts below n
 abbrev pub history : ℕ → (ℕ → List HostStep) → List Entry

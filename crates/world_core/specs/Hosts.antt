@@ -1,4 +1,5 @@
--- Hosts: which one runs what. Host 0 is the shell's. Behind it each member has three, one for each part, in the order in
+-- Hosts: which one runs what. Host 0 is the shell's. Behind it each member has three, one for each part, in the order
+-- in
 -- which members are made.
 use Rattle.std.specs.Prelude.{ℕ, zero, suc, ◌+◌, ◌*◌, ◌/◌, ◌%◌, ◌==◌, if◌then◌else◌, List, ◌++◌, filter, length, position, slice_get, slice_index_or, Option, None, Some}
 use Rattle.sig_core.specs.declared.member.Member.{Member}
@@ -51,7 +52,8 @@ abbrev pub host_by : List Member → Part → Option Member → ℕ
 host_by made part None = length made * 3 + 1
 host_by made part (Some member) = host_of made part member
 
--- Where a sender sends what is for a place: to the shell's host, or to that of the block's part of the node's member in the
+-- Where a sender sends what is for a place: to the shell's host, or to that of the block's part of the node's member in
+-- the
 -- view; to nobody where the view has none.
 unfoldable pub receiver : Membership → Place → ℕ
 receiver who to = if to.node == 0 then 0 else host_by who.made (part_of to.block) (member_of who.view to.node)
@@ -84,4 +86,5 @@ part_by (suc (suc left)) = Ldm
 -- a host as it begins
 unfoldable pub started : Start → ℕ → Host
 started start zero = fresh_shell (first_view start.shape.nodes)
-started start (suc h) = fresh_part (part_by (h % 3)) (member_at (made start) (suc h)) (first_layout start.shape) start.epoch start.rows
+started start (suc h) =
+    fresh_part (part_by (h % 3)) (member_at (made start) (suc h)) (first_layout start.shape) start.epoch start.rows

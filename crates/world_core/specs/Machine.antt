@@ -41,7 +41,8 @@ count_sends who (sent ∷ more) count = count_sends who more (counted (receiver 
 -- how many signals the steps of host h's log sent to each host
 abbrev pub sent_count : Start → ℕ → List HostStep → ℕ → ℕ
 sent_count start h [] = λ j. 0
-sent_count start h (e ∷ log) = count_sends (first_membership start) (step_after start h log e).effects.sends (sent_count start h log)
+sent_count start h (e ∷ log) =
+    count_sends (first_membership start) (step_after start h log e).effects.sends (sent_count start h log)
 
 -- a signal of host h with its header: it is the one of this number on its link
 abbrev pub headed : Membership → ℕ → ℕ → ℕ → Outgoing → Signal
@@ -64,15 +65,20 @@ addressed who h stamp number sent = record { to = receiver who sent.to; signal =
 abbrev pub all_addressed : Membership → ℕ → ℕ → (ℕ → ℕ) → List Outgoing → List Addressed
 all_addressed who h stamp count [] = []
 all_addressed who h stamp count (sent ∷ more) =
-    addressed who h stamp (count (receiver who sent.to)) sent ∷ all_addressed who h stamp (counted (receiver who sent.to) count) more
+    addressed who h stamp (count (receiver who sent.to)) sent ∷ all_addressed who h stamp
+    (counted (receiver who sent.to) count) more
 
 -- the signals that host h sends in a step
 abbrev pub signals_of : Start → ℕ → List HostStep → HostStep → List Addressed
-signals_of start h log e = all_addressed (first_membership start) h e.step.stamp (sent_count start h log) (step_after start h log e).effects.sends
+signals_of start h log e = all_addressed (first_membership start) h e.step.stamp (sent_count start h log)
+    (step_after start h log e).effects.sends
 
 -- the signal by which host 0 is asked for a request
 abbrev pub request_signal : Membership → ℕ → ApiReq → Signal
-request_signal who stamp request = headed who 0 stamp 0 (record { to = client; body = Host (Continue (Request request) 0) })
+request_signal who stamp request = headed who 0 stamp 0 (record {
+  to = client;
+  body = Host (Continue (Request request) 0);
+})
 
 -- a step that a request makes, at host 0
 pub record IsAsked (who : Membership) (h stamp : ℕ) (signal : Signal) : Type 0 where

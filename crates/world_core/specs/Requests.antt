@@ -22,7 +22,8 @@ abbrev pub requests : List HostStep → List ApiReq
 requests [] = []
 requests (e ∷ log) = requests log ++ option_to_list (request_in e.step.taken.body)
 
--- The cut of the logs before the step of host 0 that comes after `before`: it is right and quiet, so that it has of each
+-- The cut of the logs before the step of host 0 that comes after `before`: it is right and quiet, so that it has of
+-- each
 -- log all the steps that don't follow from that step, and no others.
 pub record QuietBefore (start : Start) (logs : ℕ → List HostStep) (before : List HostStep) : Type 0 where
   pub inside : ℕ → List HostStep
@@ -34,5 +35,6 @@ pub record QuietBefore (start : Start) (logs : ℕ → List HostStep) (before : 
 -- the cut before each request is quiet
 abbrev pub AreAskedAtQuiet : Start → (ℕ → List HostStep) → Type 0
 AreAskedAtQuiet start logs =
-    (newer : List HostStep) (e : HostStep) (before : List HostStep) → logs 0 ≡ newer ++ e ∷ before → (machine start).asked e ≡ true
+    (newer : List HostStep) (e : HostStep) (before : List HostStep) → logs 0 ≡ newer ++ e ∷ before
+    → (machine start).asked e ≡ true
     → QuietBefore start logs before

@@ -27,7 +27,8 @@ is_done_mark tx key mark = false
 -- in this log every preparation of a write of the key is followed by the end of the same transaction's part in it
 abbrev pub IsSettled : List ℕ → List HostStep → Type 0
 IsSettled key log =
-    (newer : List HostStep) (e : HostStep) (older : List HostStep) (tx : TxId) → log ≡ newer ++ e ∷ older → list_any (is_prepared tx key) e.step.marks ≡ true
+    (newer : List HostStep) (e : HostStep) (older : List HostStep) (tx : TxId) → log ≡ newer ++ e ∷ older
+    → list_any (is_prepared tx key) e.step.marks ≡ true
     → has_mark (is_done_mark tx key) newer ≡ true
 
 -- the member is a live replica of the key: a live node of the group that has it
@@ -37,4 +38,5 @@ pub record IsLiveReplica (start : Start) (logs : ℕ → List HostStep) (key : L
 
 -- the key is at rest: it is settled at the rows of each live replica
 abbrev pub IsAtRest : Start → (ℕ → List HostStep) → List ℕ → Type 0
-IsAtRest start logs key = (member : Member) → IsLiveReplica start logs key member → IsSettled key (logs (rows_host start member.node))
+IsAtRest start logs key =
+    (member : Member) → IsLiveReplica start logs key member → IsSettled key (logs (rows_host start member.node))

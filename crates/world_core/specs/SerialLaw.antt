@@ -37,5 +37,6 @@ pub record IsSerial (start : Start) (logs : ℕ → List HostStep) : Type 0 wher
 -- The history of every closed cut of right logs is a serial history.
 abbrev pub EveryCutIsSerial : Type 0
 EveryCutIsSerial =
-    (start : Start) (inside logs : ℕ → List HostStep) → IsShape start.shape → IsWithin (hosts start) logs → AreLogs (machine start) logs → IsCut inside logs
+    (start : Start) (inside logs : ℕ → List HostStep) → IsShape start.shape → IsWithin (hosts start) logs
+    → AreLogs (machine start) logs → IsCut inside logs
     → IsClosed (machine start) inside → IsSerial start inside

@@ -30,7 +30,8 @@ begins_there start name log e = list_any (λ (x : Addressed). is_begin name x.si
 -- no step of these does that, in front of a log
 abbrev pub NoneBegins : Start → Option ℕ → List HostStep → List HostStep → Type 0
 NoneBegins start name [] log = Unit {0}
-NoneBegins start name (e ∷ newer) log = (begins_there start name (newer ++ log) e ≡ false) × NoneBegins start name newer log
+NoneBegins start name (e ∷ newer) log =
+    (begins_there start name (newer ++ log) e ≡ false) × NoneBegins start name newer log
 
 -- In this log of host 0 the transaction is asked for in the step behind `before`: that asks for one of a name, and the
 -- next that is told to have begun by this name is the transaction.
@@ -55,5 +56,6 @@ pub record StandsBefore (a b : Entry) (list : List Entry) : Type 0 where
 -- an entry that was reported before another one's transaction was asked for stands before it
 abbrev pub IsStrictOrder : Start → List HostStep → List Entry → Type 0
 IsStrictOrder start log list =
-    (a b : Entry) (before : List HostStep) → IsIn a list → IsIn b list → IsAskedFor start b.tx log before → has_mark (is_reported a.tx) before ≡ true
+    (a b : Entry) (before : List HostStep) → IsIn a list → IsIn b list → IsAskedFor start b.tx log before
+    → has_mark (is_reported a.tx) before ≡ true
     → StandsBefore a b list

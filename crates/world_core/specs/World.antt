@@ -21,7 +21,8 @@ logs_at logs h = map (of_host h) (reverse (steps_of logs h))
 
 -- one more step of a host
 abbrev pub with_step : List HostLog → ℕ → LogStep → List HostLog
-with_step logs h e = slice_set logs h (record (slice_index_or logs h (no_steps 0)) { steps = steps_of logs h ++ e ∷ [] })
+with_step logs h e =
+    slice_set logs h (record (slice_index_or logs h (no_steps 0)) { steps = steps_of logs h ++ e ∷ [] })
 
 -- the stamp of the step in which a host takes a signal
 abbrev pub next_stamp : List ℕ → ℕ → ℕ → ℕ

@@ -53,7 +53,8 @@ module _ (start : Start) (given : List ApiReply) (w : Whole) (right : IsRight st
           }
       go (n ∷ newer) is =
           let rest : logs_at w.logs 0 ≡ newer ++ e ∷ before = cc in
-          quiet_before start (logs_at w.logs) (logs_at (asked w request).logs) before grows (was newer e before rest asks)
+          quiet_before start (logs_at w.logs) (logs_at (asked w request).logs) before grows
+          (was newer e before rest asks)
 
   pub has_asked : HasAsked start request w (asked w request)
   has_asked =

@@ -14,7 +14,8 @@ busy_found (l ∷ ls) =
     ∙ by (is_busy l) (position is_busy ls) (count_by is_busy ls) (busy_found ls)
     ∙ sym (ap is_some (position-cons is_busy l ls))
   where
-    by : (b : Bool) (at : Option ℕ) (n : ℕ) → nat_lt 0 n ≡ is_some at → nat_lt 0 (cond b 1 0 + n) ≡ is_some (place_by b at)
+    by : (b : Bool) (at : Option ℕ) (n : ℕ) → nat_lt 0 n ≡ is_some at
+        → nat_lt 0 (cond b 1 0 + n) ≡ is_some (place_by b at)
     by true at n same = grind (arith, nat_tests)
     by false None n same = ap (nat_lt 0) (zero-add n) ∙ same
     by false (Some at) n same = ap (nat_lt 0) (zero-add n) ∙ same

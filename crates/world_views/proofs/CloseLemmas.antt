@@ -15,7 +15,8 @@ is_left h standing to same = ap (λ b. b || is_cut standing (record { 0 = to }))
     equal : (m n : ℕ) → m ≡ n → (m == n) ≡ true
     equal m n is = grind (arith, nat_tests)
 
-pub is_left_cut : (h : ℕ) (standing : Standing) (to : ℕ) → is_cut standing (record { 0 = to }) ≡ true → is_unclosed h standing to ≡ true
+pub is_left_cut : (h : ℕ) (standing : Standing) (to : ℕ) → is_cut standing (record { 0 = to }) ≡ true
+    → is_unclosed h standing to ≡ true
 is_left_cut h standing to cut = either (to == h) (is_cut standing (record { 0 = to })) cut
   where
     either : (a b : Bool) → b ≡ true → (a || b) ≡ true
@@ -43,7 +44,8 @@ module _ (n : ℕ) (links before : Links) (from : ℕ) (stays : ℕ → Bool) (c
   one_left stay = sym (next true stay)
 
   -- one more link is closed
-  pub one_closed : (after : Links) (x : Signal) → stays n ≡ false → x ≡ closing n → after ≡ changed before from n (closed_by x)
+  pub one_closed : (after : Links) (x : Signal) → stays n ≡ false → x ≡ closing n
+      → after ≡ changed before from n (closed_by x)
       → after ≡ close_below (n + 1) links from stays closing
   one_closed after x stay is_x put =
       put ∙ ap (λ y. changed before from n (closed_by y)) is_x ∙ sym (next false stay)

@@ -131,7 +131,8 @@ module _ (start : Start) (given : List ApiReply) (w : Whole) (lost : ℕ) (x : A
       (lose (put_all w.links by (routed_all (made start) x.to standing sends)) x.to lost) x.to stays
       (last_in standing.view))
       silent
-      ∙ ap (λ (view : View). close_below (length (made start) * 3 + 1) shorter x.to stays (last_in view)) ready.step.view
+      ∙ ap (λ (view : View). close_below (length (made start) * 3 + 1) shorter x.to stays (last_in view))
+      ready.step.view
 
   shorter_are : AreLinks (hosts start) shorter
   shorter_are = lose_links (hosts start) w.links x.to lost ready.sizes.links

@@ -48,7 +48,8 @@ module _ (start : Start) (given : List ApiReply) (w : Whole) (new : Links) (i j 
           → IsLinked start k l (logs_at w.logs k) (logs_at w.logs l) (link new k l)
       go (inl same) (inl at) =
           record {
-            from = subst₂ (λ a b. Each (λ (x : Signal). x.from.0 ≡ a) (link new a b).signals) (sym same) (sym at) short.from;
+            from = subst₂ (λ a b. Each (λ (x : Signal). x.from.0 ≡ a) (link new a b).signals) (sym same) (sym at)
+                short.from;
             given = (right.linked k l k_low low).given;
             held = λ takes. absurd (closed (subst₂ (λ a b. IsOpen start a b (logs_at w.logs b)) same at takes));
           }

@@ -48,7 +48,8 @@ module _ (n m : ℕ) (h : ℕ) (stays : ℕ → Bool) (closing : ℕ → Signal)
   closed_links links are = close_links n m (lose links h 0) h stays closing (lose_links n links h 0 are)
 
   closed_other : (links : Links) (i j : ℕ) → i ≢ h → link (closed links) i j ≡ link links i j
-  closed_other links i j apart = close_other m (lose links h 0) h stays closing i j apart ∙ lose_other links h 0 i j apart
+  closed_other links i j apart =
+      close_other m (lose links h 0) h stays closing i j apart ∙ lose_other links h 0 i j apart
 
   closed_own : (links : Links) (j : ℕ) → AreLinks n links → j < n
       → link (closed links) h j ≡ closed_if (stays j) j (without 0 (link links h j))
@@ -57,7 +58,8 @@ module _ (n m : ℕ) (h : ℕ) (stays : ℕ → Bool) (closing : ℕ → Signal)
       ∙ ap (closed_if (stays j) j) (lose_own n links h 0 j are there low)
 
   -- a link to the host with fewer signals stays so
-  pub closing_shortens : (links new : Links) (i : ℕ) → AreLinks n links → i < n → stays h ≡ true → IsShortened n links new i h
+  pub closing_shortens : (links new : Links) (i : ℕ) → AreLinks n links → i < n → stays h ≡ true
+      → IsShortened n links new i h
       → IsShortened n (closed links) (closed new) i h
   closing_shortens links new i are i_low itself short =
       record {
@@ -88,18 +90,21 @@ module _ (n m : ℕ) (h : ℕ) (stays : ℕ → Bool) (closing : ℕ → Signal)
           (each_take (λ (x : Signal). x.from.0 ≡ i) (length (link new h h).signals - 0) (link new h h).signals
           (subst (λ k. Each (λ (x : Signal). x.from.0 ≡ i) (link new k h).signals) here short.from)))
       from (inr apart) =
-          subst (λ (l : LinkState). Each (λ (x : Signal). x.from.0 ≡ i) l.signals) (sym (closed_other new i h apart)) short.from
+          subst (λ (l : LinkState). Each (λ (x : Signal). x.from.0 ≡ i) l.signals) (sym (closed_other new i h apart))
+          short.from
 
       same : (k l : ℕ) → l < n → link new k l ≡ link links k l → (k ≡ h) ⊎ (k ≢ h)
           → link (closed new) k l ≡ link (closed links) k l
       same k l low was (inl here) =
           subst (λ a. link (closed new) a l ≡ link (closed links) a l) (sym here)
           (closed_own new l short.are low
-          ∙ ap (λ (s : LinkState). closed_if (stays l) l (without 0 s)) (subst (λ a. link new a l ≡ link links a l) here was)
+          ∙ ap (λ (s : LinkState). closed_if (stays l) l (without 0 s))
+          (subst (λ a. link new a l ≡ link links a l) here was)
           ∙ sym (closed_own links l are low))
       same k l low was (inr apart) = closed_other new k l apart ∙ was ∙ sym (closed_other links k l apart)
 
-module _ (start : Start) (given : List ApiReply) (w : Whole) (right : IsRight start given w) (h : ℕ) (there : h < hosts start)
+module _ (start : Start) (given : List ApiReply) (w : Whole) (right : IsRight start given w) (h : ℕ)
+    (there : h < hosts start)
     (runs : has_stopped (logs_at w.logs h) ≡ false) (some : 1 ≤ h) (cause : StopCause) (own : IsOwnCause cause) where
   -- no host but its own is what it wasn't
   module _ (left : Host) (cut : left.standing.cut ≡ (body_at w.bodies h).standing.cut)
@@ -133,9 +138,11 @@ module _ (start : Start) (given : List ApiReply) (w : Whole) (right : IsRight st
         entered_driven start given w bodies w.links 0 wish (stopping (body_at bodies h) cause) right fail_ready no_shell
 
     -- it has stopped then
-    stopped_then : has_stopped (logs_at (halted (with_body w h left) h (body_at w.bodies h).standing.view cause 0).logs h) ≡ true
+    stopped_then : has_stopped (logs_at (halted (with_body w h left) h (body_at w.bodies h).standing.view cause 0).logs
+        h) ≡ true
     stopped_then =
-        ap has_stopped (logs_are start given (with_body w h left) 0 wish (stopping (body_at bodies h) cause) (fail_ready given right) h)
+        ap has_stopped (logs_are start given (with_body w h left) 0 wish (stopping (body_at bodies h) cause)
+        (fail_ready given right) h)
         ∙ ap (λ b. has_stopped (if b then step ∷ logs_at w.logs h else logs_at w.logs h)) (eq-eqb h h refl)
       where
         step : HostStep
@@ -179,5 +186,6 @@ module _ (start : Start) (given : List ApiReply) (w : Whole) (right : IsRight st
   stop_driven lost =
       entered_driven start given w w.bodies w.links lost (asking w h (body.Host (Closed cause)))
       (stopping (body_at w.bodies h) cause) right
-      (λ others was. halt_ready start others w was h there runs w.bodies cause some own was.sizes.bodies (λ k low other. refl) refl refl)
+      (λ others was. halt_ready start others w was h there runs w.bodies cause some own was.sizes.bodies
+      (λ k low other. refl) refl refl)
       (λ shell. absurd (omega (arith, some, eqb-true h 0 shell)))

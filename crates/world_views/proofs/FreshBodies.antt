@@ -17,7 +17,8 @@ pub first_put : (none items : List Host) (host first : Host) → items ≡ none 
 first_put none items host first put are is = put ∙ ap (λ hosts. hosts ++ host ∷ []) are ∙ ap (λ h. h ∷ []) is
 
 module _ (start : Start) where
-  started_behind : (k : ℕ) → started start (suc k) ≡ part_started start (part_by (k % 3)) (member_at (made start) (suc k))
+  started_behind : (k : ℕ)
+      → started start (suc k) ≡ part_started start (part_by (k % 3)) (member_at (made start) (suc k))
   unfolding started
   started_behind k = refl
 
@@ -29,19 +30,22 @@ module _ (start : Start) where
 
   -- one of a member
   pub part_begins : (k : ℕ) (there : List Member) (layout : Layout) (part : Part) (member : Member) (body : Host)
-      → there ≡ made start → layout ≡ first_layout start.shape → part ≡ part_by (k % 3) → member ≡ member_at there (k + 1)
+      → there ≡ made start → layout ≡ first_layout start.shape → part ≡ part_by (k % 3)
+      → member ≡ member_at there (k + 1)
       → body ≡ part_started (record { shape = layout.shape; epoch = start.epoch; rows = start.rows }) part member
       → body ≡ started start (k + 1)
   part_begins k there layout part member body are first part_is member_is is =
       let next : k + 1 ≡ suc k = omega arith in
       is
-      ∙ ap (λ (l : Layout). part_started (record { shape = l.shape; epoch = start.epoch; rows = start.rows }) part member) first
+      ∙ ap (λ (l : Layout). part_started (record { shape = l.shape; epoch = start.epoch; rows = start.rows }) part
+      member) first
       ∙ ap (λ p. part_started start p member) part_is
       ∙ ap (part_started start (part_by (k % 3)))
       (member_is ∙ ap (λ n. member_at there n) next ∙ ap (λ ms. member_at ms (suc k)) are)
       ∙ sym (ap (started start) next ∙ started_behind k)
 
 -- no record is at work on rows that were put
-pub none_pending : (s : RowsState) (rows : List (List ℕ × List ℕ)) (epoch : ℕ) → (with_rows s rows epoch).pending ≡ s.pending
+pub none_pending : (s : RowsState) (rows : List (List ℕ × List ℕ)) (epoch : ℕ)
+    → (with_rows s rows epoch).pending ≡ s.pending
 none_pending s [] epoch = refl
 none_pending s (row ∷ rows) epoch = none_pending (put_row s row.0 row.1 epoch) rows epoch

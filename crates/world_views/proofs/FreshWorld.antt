@@ -41,16 +41,19 @@ module _ (start : Start) where
   no_log h = go (cases_lt h (hosts start))
     where
       go : (h < hosts start) ⊎ (hosts start ≤ h) → logs_at (new_world start).logs h ≡ []
-      go (inl low) = ap (λ (log : HostLog). map (of_host h) (reverse log.steps)) (each_at (hosts start) no_steps h (no_steps 0) low)
+      go (inl low) = ap (λ (log : HostLog). map (of_host h) (reverse log.steps))
+          (each_at (hosts start) no_steps h (no_steps 0) low)
       go (inr past) =
           ap (λ (log : HostLog). map (of_host h) (reverse log.steps))
-          (get_or_past (for_each (hosts start) no_steps) h (no_steps 0) (omega (arith, past, each_length (hosts start) no_steps)))
+          (get_or_past (for_each (hosts start) no_steps) h (no_steps 0)
+          (omega (arith, past, each_length (hosts start) no_steps)))
 
   no_inbox : (j : ℕ) → j < hosts start → inbox_of (new_world start).links j ≡ replicate (hosts start) new_link
   no_inbox j low = get_or-replicate (hosts start) j (replicate (hosts start) new_link) [] low
 
   no_signal : (i j : ℕ) → i < hosts start → j < hosts start → link (new_world start).links i j ≡ new_link
-  no_signal i j i_low low = ap (λ ls. link_from ls i) (no_inbox j low) ∙ get_or-replicate (hosts start) i new_link new_link i_low
+  no_signal i j i_low low =
+      ap (λ ls. link_from ls i) (no_inbox j low) ∙ get_or-replicate (hosts start) i new_link new_link i_low
 
   links_there : AreLinks (hosts start) (new_world start).links
   links_there =
@@ -64,9 +67,11 @@ module _ (start : Start) where
   new_linked i j = record { from = tt; given = inl (past_nil []); held = λ takes. refl }
 
   fresh_linked : (i j : ℕ) → i < hosts start → j < hosts start
-      → IsLinked start i j (logs_at (new_world start).logs i) (logs_at (new_world start).logs j) (link (new_world start).links i j)
+      → IsLinked start i j (logs_at (new_world start).logs i) (logs_at (new_world start).logs j)
+      (link (new_world start).links i j)
   fresh_linked i j i_low low =
-      subst (IsLinked start i j (logs_at (new_world start).logs i) (logs_at (new_world start).logs j)) (sym (no_signal i j i_low low))
+      subst (IsLinked start i j (logs_at (new_world start).logs i) (logs_at (new_world start).logs j))
+      (sym (no_signal i j i_low low))
       (subst (λ log. IsLinked start i j log (logs_at (new_world start).logs j) new_link) (sym (no_log i))
       (subst (λ log. IsLinked start i j [] log new_link) (sym (no_log j)) (new_linked i j)))
 
@@ -85,14 +90,18 @@ module _ (start : Start) where
         local = λ h low. subst (IsLog (machine start) h) (sym (no_log h)) tt;
         stamps = λ h low. get_or-replicate (hosts start) h 0 0 low ∙ ap last_stamp (sym (no_log h));
         labels = λ h low.
-            subst (IsLabelled h) (sym (each_at (hosts start) no_steps h (no_steps 0) low)) (record { host = refl; made = refl });
+            subst (IsLabelled h) (sym (each_at (hosts start) no_steps h (no_steps 0) low)) (record {
+              host = refl;
+              made = refl;
+            });
         stopped = λ h low. get_or-replicate (hosts start) h false _ low ∙ ap has_stopped (sym (no_log h));
         bodies = λ h low runs.
             each_at (hosts start) (started start) h
             (fresh_shell (first_layout (record { nodes = 0; replicas = 0; fragments = 0 }))) low
             ∙ ap (after start h) (sym (no_log h));
         counts = λ i j i_low low.
-            ap (λ (l : LinkState). l.sent) (no_signal i j i_low low) ∙ ap (λ log. sent_count start i log j) (sym (no_log i));
+            ap (λ (l : LinkState). l.sent) (no_signal i j i_low low)
+            ∙ ap (λ log. sent_count start i log j) (sym (no_log i));
         linked = fresh_linked;
         no_others = λ i j high. ap (taken (machine start) i) (no_log j);
         replies = ap (replies_in start 0) (no_log 0);
@@ -125,7 +134,8 @@ module _ (start : Start) where
 
 -- a world of what each part of it begins as
 pub begins : (start : Start) (made_now : List Member) (n : ℕ) (bodies : List Host) (stopped : List Bool) (links : Links)
-    (stamps : List ℕ) (logs : List HostLog) (replies : List ApiReply) → made_now ≡ made start → n ≡ length made_now * 3 + 1
+    (stamps : List ℕ) (logs : List HostLog) (replies : List ApiReply) → made_now ≡ made start
+    → n ≡ length made_now * 3 + 1
     → bodies ≡ for_each (hosts start) (started start) → stopped ≡ replicate n false
     → links ≡ replicate n (replicate n new_link) → stamps ≡ replicate n 0 → logs ≡ for_each n no_steps → replies ≡ []
     → record {
@@ -138,8 +148,10 @@ pub begins : (start : Start) (made_now : List Member) (n : ℕ) (bodies : List H
       logs = logs;
       replies = replies;
     } ≡ new_world start
-begins start made_now n bodies stopped links stamps logs replies are count bodies_are stopped_are links_are stamps_are logs_are none =
-    let all : n ≡ hosts start = count ∙ ap (λ ms. length ms * 3 + 1) are ∙ ap (λ k. k * 3 + 1) (members_length start.shape.nodes) in
+begins start made_now n bodies stopped links stamps logs replies are count bodies_are stopped_are links_are stamps_are
+    logs_are none =
+    let all : n ≡ hosts start =
+    count ∙ ap (λ ms. length ms * 3 + 1) are ∙ ap (λ k. k * 3 + 1) (members_length start.shape.nodes) in
     ap₂ (λ ms bs. record {
       shape = start.shape;
       made = ms;

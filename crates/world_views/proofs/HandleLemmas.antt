@@ -26,7 +26,8 @@ abbrev nobody : Host
 nobody = fresh_shell (first_layout (record { nodes = 0; replicas = 0; fragments = 0 }))
 
 -- what was read of the hosts
-pub body_read : (bodies : List Host) (h : ℕ) (s : Host) → h < length bodies → s ≡ get_or bodies h s → s ≡ body_at bodies h
+pub body_read : (bodies : List Host) (h : ℕ) (s : Host) → h < length bodies → s ≡ get_or bodies h s
+    → s ≡ body_at bodies h
 body_read bodies h s there is = get_or_read bodies h s there is nobody
 
 -- the world behind a step, where the hosts are these then
@@ -34,7 +35,8 @@ abbrev pub entered_in : Whole → ℕ → Addressed → Step Host → List Host 
 entered_in w lost x t bodies =
     logged
     (closing_if (stops_by t.effects.marks)
-    (sending (record w { bodies = bodies; replies = w.replies ++ replies_at x.to t }) x.to (step_made w x t).stamp t.effects.sends)
+    (sending (record w { bodies = bodies; replies = w.replies ++ replies_at x.to t }) x.to (step_made w x t).stamp
+    t.effects.sends)
     x.to (step_made w x t).stamp x.signal.view (cause_in t.effects.marks) lost) x t
 
 -- what a host was just before its step is forgotten by it
@@ -45,10 +47,12 @@ entered_over w lost x s t = ap (entered_in w lost x t) (set-set w.bodies x.to s 
 -- a host handled a signal that it didn't ask itself for so as to stop
 pub row_taken : (w : Whole) (x : Addressed) (s : Host) (out : Effects) → x.to < length w.bodies
     → IsTaken (host_row (body_at w.bodies x.to) x.signal) s nothing out → own_stop x.to x.signal ≡ None
-    → record { state = body_at (slice_set w.bodies x.to s) x.to; effects = out } ≡ step_by x.to (body_at w.bodies x.to) x.signal
+    → record { state = body_at (slice_set w.bodies x.to s) x.to; effects = out }
+    ≡ step_by x.to (body_at w.bodies x.to) x.signal
 row_taken w x s out there taken plain =
     ap (λ (b : Host). record { state = b; effects = out }) (get_or-set_same w.bodies x.to s nobody there ∙ taken.state)
-    ∙ ap (λ (e : Effects). record { state = (host_row (body_at w.bodies x.to) x.signal).state; effects = e }) taken.effects
+    ∙ ap (λ (e : Effects). record { state = (host_row (body_at w.bodies x.to) x.signal).state; effects = e })
+    taken.effects
     ∙ sym (ap (λ (o : Option StopCause). step_if (body_at w.bodies x.to) x.signal o) plain)
 
 -- there is a stamp for its step, just where the step before and the signal have lesser ones than the last that there is
@@ -59,8 +63,12 @@ stamp_is stamps h sent at is below = subst (λ n. nat_lt n (2 ^ 48) ≡ true) is
 -- where there is a stamp it has moved, or had no memory
 pub has_moved : (result : Result (Unit {0}) NoMemory) (w u : Whole) (x : Addressed) (s : Host) (out : Effects)
     → is_stamp (next_stamp w.stamps x.to x.signal.stamp) ≡ true
-    → x.to < length w.bodies → IsTaken (host_row (body_at w.bodies x.to) x.signal) s nothing out → own_stop x.to x.signal ≡ None
-    → OnOk result (u ≡ entered (with_body w x.to s) 0 x (record { state = body_at (slice_set w.bodies x.to s) x.to; effects = out }))
+    → x.to < length w.bodies → IsTaken (host_row (body_at w.bodies x.to) x.signal) s nothing out
+    → own_stop x.to x.signal ≡ None
+    → OnOk result (u ≡ entered (with_body w x.to s) 0 x (record {
+      state = body_at (slice_set w.bodies x.to s) x.to;
+      effects = out;
+    }))
     → OnOk result (HasHandled w x u)
 has_moved (Err fault) w u x s out stamp there taken plain is = tt
 has_moved (Ok done) w u x s out stamp there taken plain is =
@@ -94,7 +102,8 @@ pub has_no_memory : (result : Result (Unit {0}) NoMemory) (w u : Whole) (x : Add
 has_no_memory (Err fault) w u x left back there stamp seen cut some failed = tt
 has_no_memory (Ok done) w u x left back there stamp seen cut some failed =
     let h = x.to in
-    let over : slice_set (slice_set w.bodies h left) h back ≡ slice_set w.bodies h back = set-set w.bodies h left back in
+    let over : slice_set (slice_set w.bodies h left) h back ≡ slice_set w.bodies h back =
+    set-set w.bodies h left back in
     let stands : (body_at (slice_set w.bodies h back) h).standing.view ≡ (body_at w.bodies h).standing.view =
     ap (λ (b : Host). b.standing.view) (get_or-set_same w.bodies h back nobody there) ∙ seen in
     subst (λ b. handled_by b w x u) (sym stamp)
@@ -137,10 +146,12 @@ logged_is true w x t stamp cause lost = refl
 logged_is false w x t stamp cause lost = refl
 
 -- the links are closed for the cause that the marks tell
-closed_for : (b : Bool) (o : Option StopCause) (v u : Whole) (h stamp lost : ℕ) (view : View) (cause : StopCause) → is_some o ≡ b
+closed_for : (b : Bool) (o : Option StopCause) (v u : Whole) (h stamp lost : ℕ) (view : View) (cause : StopCause)
+    → is_some o ≡ b
     → IfSome o (λ c. c ≡ cause) → MatchOption o (u ≡ v) (λ c. u ≡ closing v h stamp view c lost)
     → u ≡ closing_if b v h stamp view cause lost
-closed_for true (Some c) v u h stamp lost view cause stops is closed = closed ∙ ap (λ d. closing v h stamp view d lost) is
+closed_for true (Some c) v u h stamp lost view cause stops is closed =
+    closed ∙ ap (λ d. closing v h stamp view d lost) is
 closed_for true None v u h stamp lost view cause stops is closed = absurd (true≢false (sym stops))
 closed_for false (Some c) v u h stamp lost view cause stops is closed = absurd (true≢false stops)
 closed_for false None v u h stamp lost view cause stops is closed = closed
@@ -155,10 +166,12 @@ pub has_entered : (w v u : Whole) (x : Addressed) (t : Step Host) (stamp lost : 
 has_entered w v u x t stamp lost cause at stops is closed same =
     same
     ∙ ap (λ (a : Whole). logged_as a x t stamp)
-    (closed_for (stops_by t.effects.marks) cause (sending (telling w x t) x.to stamp t.effects.sends) v x.to stamp lost x.signal.view
+    (closed_for (stops_by t.effects.marks) cause (sending (telling w x t) x.to stamp t.effects.sends) v x.to stamp lost
+    x.signal.view
     (cause_in t.effects.marks) stops is closed)
     ∙ ap (λ n. logged_as (closing_after (stops_by t.effects.marks) w x t n (cause_in t.effects.marks) lost) x t n) at
-    ∙ logged_is (stops_by t.effects.marks) w x t (next_stamp w.stamps x.to x.signal.stamp) (cause_in t.effects.marks) lost
+    ∙ logged_is (stops_by t.effects.marks) w x t (next_stamp w.stamps x.to x.signal.stamp) (cause_in t.effects.marks)
+    lost
 
 -- what is told depends on the state alone
 told_by_state : (h : ℕ) (t : Step Host) → told h (stay t.state) ≡ told h t
@@ -170,7 +183,8 @@ replies_by_state zero t = refl
 replies_by_state (suc h) t = refl
 
 -- the host is what the step leads to, and its replies are told
-pub has_told : (w : Whole) (x : Addressed) (t : Step Host) (host : Host) (replies : List ApiReply) → host ≡ told x.to (stay t.state)
+pub has_told : (w : Whole) (x : Addressed) (t : Step Host) (host : Host) (replies : List ApiReply)
+    → host ≡ told x.to (stay t.state)
     → replies ≡ w.replies ++ replies_at x.to (stay t.state)
     → record w { bodies = slice_set w.bodies x.to host; replies = replies } ≡ telling w x t
 has_told w x t host replies is told_all =
@@ -186,14 +200,24 @@ pub enters_ok : (result : Result (Unit {0}) NoMemory) (w s v : Whole) (x : Addre
     → s ≡ sending (telling w x t) x.to stamp t.effects.sends
     → MatchOption cause (v ≡ s) (λ c. v ≡ closing s x.to stamp x.signal.view c lost)
     → OnOk result (logs ≡ with_step v.logs x.to (record { stamp = stamp; taken = x.signal; marks = marks }))
-    → OnOk result (record v { stopped = slice_set v.stopped x.to b; stamps = slice_set v.stamps x.to stamp; logs = logs }
+    → OnOk result (record v {
+      stopped = slice_set v.stopped x.to b;
+      stamps = slice_set v.stamps x.to stamp;
+      logs = logs;
+    }
     ≡ entered w lost x t)
 enters_ok (Err fault) w s v x t stamp lost cause b marks logs at same stops is named sent closed added = tt
 enters_ok (Ok done) w s v x t stamp lost cause b marks logs at same stops is named sent closed added =
-    has_entered w v (record v { stopped = slice_set v.stopped x.to b; stamps = slice_set v.stamps x.to stamp; logs = logs }) x t stamp
+    has_entered w v (record v {
+      stopped = slice_set v.stopped x.to b;
+      stamps = slice_set v.stamps x.to stamp;
+      logs =
+          logs;
+    }) x t stamp
     lost cause at (stops ∙ ap stops_by same) (subst (λ ms. IfSome cause (λ c. c ≡ cause_in ms)) same is)
     (subst (λ (a : Whole). MatchOption cause (v ≡ a) (λ c. v ≡ closing a x.to stamp x.signal.view c lost)) sent closed)
-    (ap (λ ls. record v { stopped = slice_set v.stopped x.to b; stamps = slice_set v.stamps x.to stamp; logs = ls }) added
+    (ap (λ ls. record v { stopped = slice_set v.stopped x.to b; stamps = slice_set v.stamps x.to stamp; logs = ls })
+    added
     ∙ ap (λ f. record v {
       stopped = slice_set v.stopped x.to f;
       stamps = slice_set v.stamps x.to stamp;

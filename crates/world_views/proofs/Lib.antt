@@ -12,6 +12,7 @@ pub mod GivenFacts
 pub mod HandleLemmas
 pub mod LinkFacts
 pub mod LogFacts
+pub mod MarkWalk
 pub mod MoveRight
 pub mod OwnReady
 pub mod PutRight
@@ -20,8 +21,11 @@ pub mod Ready
 pub mod RouteLemmas
 pub mod ScheduleLemmas
 pub mod SentFacts
+pub mod SentWalk
 pub mod ShellLemmas
 pub mod StepDriven
+pub mod StepEach
+pub mod StepWalk
 pub mod TakeDriven
 pub mod TakeFacts
 pub mod TakeRight

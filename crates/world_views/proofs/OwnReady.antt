@@ -57,12 +57,14 @@ stopping_is (suc h) s left cause some cut view =
     record { effects = refl; cut = cut; view = view; same = λ runs. absurd (true≢false runs); replies = refl }
 
 pub stop_step : (h : ℕ) (s left : Host) (x : Signal) (cause : StopCause) → 1 ≤ h → left.standing.cut ≡ s.standing.cut
-    → left.standing.view ≡ s.standing.view → own_stop h x ≡ Some cause → IsStepOf h (step_by h s x) (stopping left cause)
+    → left.standing.view ≡ s.standing.view → own_stop h x ≡ Some cause
+    → IsStepOf h (step_by h s x) (stopping left cause)
 stop_step h s left x cause some cut view own =
     subst (λ (o : Option StopCause). IsStepOf h (step_if s x o) (stopping left cause)) (sym own)
     (stopping_is h s left cause some cut view)
 
-module _ (start : Start) (given : List ApiReply) (w : Whole) (right : IsRight start given w) (h : ℕ) (there : h < hosts start)
+module _ (start : Start) (given : List ApiReply) (w : Whole) (right : IsRight start given w) (h : ℕ)
+    (there : h < hosts start)
     (runs : has_stopped (logs_at w.logs h) ≡ false) where
   -- the host is what its log leads to
   pub body_is : body_at w.bodies h ≡ after start h (logs_at w.logs h)
@@ -96,7 +98,8 @@ module _ (start : Start) (given : List ApiReply) (w : Whole) (right : IsRight st
     next = host_step (with_bodies w bodies) wish t
 
     same_taken : (i j : ℕ)
-        → taken (machine start) i (log_with (with_bodies w bodies) wish t j) ≡ taken (machine start) i (logs_at w.logs j)
+        → taken (machine start) i (log_with (with_bodies w bodies) wish t j)
+        ≡ taken (machine start) i (logs_at w.logs j)
     same_taken i j = go (h == j)
       where
         go : (b : Bool) → taken (machine start) i (if b then next ∷ logs_at w.logs j else logs_at w.logs j)
@@ -105,14 +108,16 @@ module _ (start : Start) (given : List ApiReply) (w : Whole) (right : IsRight st
         go false = refl
 
     linked_own : (i j : ℕ) → i < hosts start → j < hosts start
-        → IsLinkedTo start i j (logs_at w.logs i) (logs_at w.logs j) (log_with (with_bodies w bodies) wish t j) (link w.links i j)
+        → IsLinkedTo start i j (logs_at w.logs i) (logs_at w.logs j) (log_with (with_bodies w bodies) wish t j)
+        (link w.links i j)
     linked_own i j i_low low =
         let was = right.linked i j i_low low in
         record {
           from = was.from;
           given = subst (IsGiven (machine start) i j (logs_at w.logs i)) (sym (same_taken i j)) was.given;
           held = λ takes.
-              subst (λ xs. IsHeld start i j (logs_at w.logs i) (on_link j (link w.links i j) ++ xs)) (sym (same_taken i j))
+              subst (λ xs. IsHeld start i j (logs_at w.logs i) (on_link j (link w.links i j) ++ xs))
+              (sym (same_taken i j))
               (was.held takes);
         }
 
@@ -157,7 +162,8 @@ module _ (start : Start) (given : List ApiReply) (w : Whole) (right : IsRight st
       → ((k : ℕ) → k < hosts start → (h == k) ≡ false → body_at bodies k ≡ body_at w.bodies k)
       → (body_at bodies h).standing.cut ≡ (body_at w.bodies h).standing.cut
       → (body_at bodies h).standing.view ≡ (body_at w.bodies h).standing.view
-      → IsReady start given (with_bodies w bodies) (asking w h (body.Host (Closed cause))) (stopping (body_at bodies h) cause)
+      → IsReady start given (with_bodies w bodies) (asking w h (body.Host (Closed cause)))
+      (stopping (body_at bodies h) cause)
   halt_ready bodies cause some own few others cut view =
       let x = (asking w h (body.Host (Closed cause))).signal in
       own_ready bodies few others (body.Host (Closed cause)) (some, own) (stopping (body_at bodies h) cause)

@@ -27,7 +27,8 @@ host_step w x t = of_host x.to (step_made w x t)
 abbrev pub log_with : Whole → Addressed → Step Host → ℕ → List HostStep
 log_with w x t h = if x.to == h then host_step w x t ∷ logs_at w.logs h else logs_at w.logs h
 
--- What host h did is the step that the machine makes; where it stops, so far as that tells: of a host that wanted memory it
+-- What host h did is the step that the machine makes; where it stops, so far as that tells: of a host that wanted
+-- memory it
 -- isn't known what is left, but for the hosts that it had cut off and its view.
 pub record IsStepOf (h : ℕ) (machine_step t : Step Host) : Type 0 where
   pub effects : t.effects ≡ machine_step.effects

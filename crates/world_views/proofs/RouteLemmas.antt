@@ -26,5 +26,6 @@ pub passed_on : (links after all : Links) (made : List Member) (h stamp : ℕ) (
 passed_on links after all made h stamp standing sent sends more are whole first =
     ap (λ (l : Links). all_on l made h stamp standing more) first
     ∙ one_first (is_kept_back h standing (reached made h standing.view sent.to) sent) links
-    (sender made h stamp standing.view) (routed (reached made h standing.view sent.to) sent) (routed_all made h standing more)
+    (sender made h stamp standing.view) (routed (reached made h standing.view sent.to) sent)
+    (routed_all made h standing more)
     ∙ sym (ap (λ (s : List Outgoing). all_on links made h stamp standing s) are) ∙ whole

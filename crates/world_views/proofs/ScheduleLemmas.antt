@@ -68,7 +68,8 @@ cuts_rightly start w h node sound some other =
     )
 
 -- it cuts it off, or stops for want of what that needs
-cut_driven : (start : Start) (w v : Whole) (h node : ℕ) → IsSound start w → h < hosts start → has_stopped (logs_at w.logs h) ≡ false
+cut_driven : (start : Start) (w v : Whole) (h node : ℕ) → IsSound start w → h < hosts start
+    → has_stopped (logs_at w.logs h) ≡ false
     → 1 ≤ h → IsOwnWork start h (cutting w h node).signal.body → HasHandled w (cutting w h node) v → IsDriven start w v
 cut_driven start w v h node sound low runs some own = by (is_stamp (next_stamp w.stamps h x.signal.stamp))
   where
@@ -85,7 +86,8 @@ cut_driven start w v h node sound low runs some own = by (is_stamp (next_stamp w
     by false failed = fail_driven start sound.given w sound.right h low runs some Clock tt v failed.1
 
 -- a pick drives a world
-pub pick_driven : (start : Start) (w v : Whole) (pick : Pick) → IsSound start w → may_be w pick ≡ true → HasPicked w pick v
+pub pick_driven : (start : Start) (w v : Whole) (pick : Pick) → IsSound start w → may_be w pick ≡ true
+    → HasPicked w pick v
     → IsDriven start w v
 pick_driven start w v (Take host from) sound may went =
     taken_driven start sound.given w sound.right went.arrived
@@ -95,7 +97,8 @@ pick_driven start w v (Stop host lost) sound may went =
     let low = running_low start w host.0 sound runs in
     let some = positive host.0 (and_parts (nat_lt 0 host.0) _ may).0 in
     subst (IsDriven start w) (sym went)
-    (stop_driven start sound.given w sound.right host.0 low (runs_there start w host.0 sound low runs) some Killed tt lost)
+    (stop_driven start sound.given w sound.right host.0 low (runs_there start w host.0 sound low runs) some Killed tt
+    lost)
 pick_driven start w v (Cut host node) sound may went =
     let runs = pick_runs w (Cut host node) may in
     let low = running_low start w host.0 sound runs in
@@ -117,7 +120,8 @@ pick_given w from to t is e =
     (taken_on (hosts is.start) w.links from to t is.sound.right.sizes.links e)
 
 -- one pick more
-further : (w u v : Whole) (picks : List Pick) (pick : Pick) → HavePicked w picks u → may_be u pick ≡ true → HasPicked u pick v
+further : (w u v : Whole) (picks : List Pick) (pick : Pick) → HavePicked w picks u → may_be u pick ≡ true
+    → HasPicked u pick v
     → HavePicked w (picks ++ pick ∷ []) v
 further w u v [] pick same may picked =
     record {
@@ -148,19 +152,22 @@ goes_further w u v picks at d inside here done =
       way = record {
         is = record {
           start = here.way.is.start;
-          sound = stays_sound here.way.is.start u v (pick_driven here.way.is.start u v pick here.way.is.sound done.0 done.1)
+          sound = stays_sound here.way.is.start u v
+              (pick_driven here.way.is.start u v pick here.way.is.sound done.0 done.1)
               here.way.is.sound;
         };
         driven = λ start sound.
             let before = here.way.driven start sound in
-            driven_further start w u v before (pick_driven start u v pick (stays_sound start w u before sound) done.0 done.1);
+            driven_further start w u v before
+            (pick_driven start u v pick (stays_sound start w u before sound) done.0 done.1);
       };
       led = subst (λ ps. HavePicked w ps v) (sym (take_more picks at d inside))
           (further w u v (take at picks) pick here.led done.0 done.1);
     }
 
 -- it couldn't be
-pub stops : (w u v : Whole) (picks : List Pick) (at k : ℕ) (d : Pick) (fault : ScheduleFault) → at < length picks → k ≡ at
+pub stops : (w u v : Whole) (picks : List Pick) (at k : ℕ) (d : Pick) (fault : ScheduleFault) → at < length picks
+    → k ≡ at
     → IsAt w picks at u → IsPicked u (get_or picks at d) k v (Err fault) → IsScheduled w picks v (Err fault)
 stops w u v picks at k d NoMemory inside same here e = tt
 stops w u v picks at k d (Empty place) inside same here e =
@@ -172,10 +179,12 @@ stops w u v picks at k d (Gone place) inside same here e =
     (subst (λ t. StopsAt (λ s p. IsGone s p) w picks t at) (sym e.1.0)
     (record { pick = get_or picks at d; is = slice_get-get_or picks at d inside; before = here.led; cannot = e.1.1 }))
 
-pub stops_right : (w u v : Whole) (picks : List Pick) (at k : ℕ) (pick : Pick) (fault : ScheduleFault) → IsAt w picks at u
+pub stops_right : (w u v : Whole) (picks : List Pick) (at k : ℕ) (pick : Pick) (fault : ScheduleFault)
+    → IsAt w picks at u
     → IsPicked u pick k v (Err fault) → (start : Start) → IsSound start w → LeavesRight start w v (Err fault)
 stops_right w u v picks at k pick NoMemory here e start sound =
-    subst (λ (logs : List HostLog). HaveGrown start (logs_at w.logs) (logs_at logs)) (sym e) (here.way.driven start sound).grown
+    subst (λ (logs : List HostLog). HaveGrown start (logs_at w.logs) (logs_at logs)) (sym e)
+    (here.way.driven start sound).grown
 stops_right w u v picks at k pick (Empty place) here e start sound =
     subst (IsDriven start w) (sym e.1.0) (here.way.driven start sound)
 stops_right w u v picks at k pick (Gone place) here e start sound =

@@ -29,7 +29,8 @@ use Rattle.world_views.proofs.Ready.{IsReady, host_step}
 
 module _ (start : Start) where
   -- the logs of a right world are right
-  pub right_logs : (given : List ApiReply) (w : Whole) → IsRight start given w → AreLogs (machine start) (logs_at w.logs)
+  pub right_logs : (given : List ApiReply) (w : Whole) → IsRight start given w
+      → AreLogs (machine start) (logs_at w.logs)
   right_logs given w right =
       record {
         local = λ h. local (cases_lt h (hosts start));
@@ -58,7 +59,8 @@ module _ (start : Start) where
   within given w right h high = logs_at_past w.logs h (omega (arith, high, right.sizes.logs))
 
   -- logs only grow by a step
-  pub log_grows : (given : List ApiReply) (w : Whole) (lost : ℕ) (x : Addressed) (t : Step Host) → IsReady start given w x t
+  pub log_grows : (given : List ApiReply) (w : Whole) (lost : ℕ) (x : Addressed) (t : Step Host)
+      → IsReady start given w x t
       → (h : ℕ) → IsPast (logs_at w.logs h) (logs_at (entered w lost x t).logs h)
   log_grows given w lost x t ready h =
       subst (IsPast (logs_at w.logs h)) (sym (logs_are start given w lost x t ready h)) (go (x.to == h))
@@ -104,13 +106,15 @@ module _ (start : Start) (given : List ApiReply) (w : Whole) (lost : ℕ) (x : A
       go : (b : Bool) → (x.to == 0) ≡ b
           → requests (if b then host_step w x t ∷ logs_at w.logs 0 else logs_at w.logs 0) ≡ requests (logs_at w.logs 0)
       go true e =
-          ap (λ b. requests (logs_at w.logs 0) ++ option_to_list (if b then request_in x.signal.body else None)) (plain e)
+          ap (λ b. requests (logs_at w.logs 0) ++ option_to_list (if b then request_in x.signal.body else None))
+          (plain e)
           ∙ append-nil (requests (logs_at w.logs 0))
       go false e = refl
 
   pub asked_kept : AreAskedAtQuiet start (logs_at w.logs) → AreAskedAtQuiet start (logs_at (entered w lost x t).logs)
   asked_kept was newer e before is asked =
-      quiet_before start (logs_at w.logs) (logs_at (entered w lost x t).logs) before (log_grows start given w lost x t ready)
+      quiet_before start (logs_at w.logs) (logs_at (entered w lost x t).logs) before
+      (log_grows start given w lost x t ready)
       (go (x.to == 0) refl newer (sym (logs_are start given w lost x t ready 0) ∙ is))
     where
       go : (b : Bool) → (x.to == 0) ≡ b → (newer : List HostStep)
@@ -131,7 +135,8 @@ with_both w bodies links = record w { bodies = bodies; links = links }
 -- a step by a signal that is on no link any more, whichever that is
 pub entered_driven : (start : Start) (given : List ApiReply) (w : Whole) (bodies : List Host) (links : Links) (lost : ℕ)
     (x : Addressed) (t : Step Host) → IsRight start given w
-    → ((others : List ApiReply) → IsRight start others w → IsReady start others (with_both w bodies links) x t) → IsNoWish x
+    → ((others : List ApiReply) → IsRight start others w → IsReady start others (with_both w bodies links) x t)
+    → IsNoWish x
     → IsDriven start w (entered (with_both w bodies links) lost x t)
 entered_driven start given w bodies links lost x t right ready plain =
     let u = with_both w bodies links in

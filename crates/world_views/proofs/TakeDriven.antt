@@ -50,7 +50,10 @@ module _ (start : Start) (given : List ApiReply) (w : Whole) (right : IsRight st
   -- it was discarded
   discard_driven : is_discarded (left_of w t) arrived ≡ true → IsDriven start w (left_of w t)
   discard_driven lost =
-      record { right = λ others was. discard_right start others w was t at lost; grown = grown_itself start given w right }
+      record {
+        right = λ others was. discard_right start others w was t at lost;
+        grown = grown_itself start given w right;
+      }
 
   abbrev pub step : Step node.Host
   step = step_by at.to (body_at w.bodies at.to) at.signal
@@ -68,9 +71,11 @@ module _ (start : Start) (given : List ApiReply) (w : Whole) (right : IsRight st
       → IsDriven start w u
   handle_driven u kept = by (is_stamp (next_stamp w.stamps at.to at.signal.stamp))
     where
-      lost : (cause : StopCause) → IsOwnCause cause → 1 ≤ at.to → HasFailed (left_of w t) at.to cause u → IsDriven start w u
+      lost : (cause : StopCause) → IsOwnCause cause → 1 ≤ at.to → HasFailed (left_of w t) at.to cause u
+          → IsDriven start w u
       lost cause own some failed =
-          lost_driven start given w right at.to at.to_low (on_open start given w right t at kept).runs some cause own t.left
+          lost_driven start given w right at.to at.to_low (on_open start given w right t at kept).runs some cause own
+          t.left
           at.from u at.from_low (taking_shortens start given w right t at) failed
 
       by : (b : Bool) → handled_by b (left_of w t) arrived u → IsDriven start w u

@@ -48,11 +48,13 @@ module _ (start : Start) (given : List ApiReply) (w : Whole) (right : IsRight st
 
   sender_is : at.signal.from.0 ≡ at.from
   sender_is =
-      (subst (Each (λ (x : Signal). x.from.0 ≡ at.from)) at.signals (right.linked at.from at.to at.from_low at.to_low).from).0
+      (subst (Each (λ (x : Signal). x.from.0 ≡ at.from)) at.signals
+      (right.linked at.from at.to at.from_low at.to_low).from).0
 
   rest_from : Each (λ (x : Signal). x.from.0 ≡ at.from) at.rest
   rest_from =
-      (subst (Each (λ (x : Signal). x.from.0 ≡ at.from)) at.signals (right.linked at.from at.to at.from_low at.to_low).from).1
+      (subst (Each (λ (x : Signal). x.from.0 ≡ at.from)) at.signals
+      (right.linked at.from at.to at.from_low at.to_low).from).1
 
   -- the link that it was taken from has the rest, and all others are as they were
   own_left : link t.left at.from at.to ≡ rest_on at.rest (link w.links at.from at.to)
@@ -61,8 +63,10 @@ module _ (start : Start) (given : List ApiReply) (w : Whole) (right : IsRight st
       ∙ changed_own (hosts start) w.links at.from at.to (rest_on at.rest) right.sizes.links at.from_low at.to_low
 
   other_left : (i j : ℕ) → (i ≢ at.from) ⊎ (j ≢ at.to) → link t.left i j ≡ link w.links i j
-  other_left i j (inl apart) = ap (λ ls. link ls i j) at.left ∙ changed_from w.links at.from at.to (rest_on at.rest) i j apart
-  other_left i j (inr away) = ap (λ ls. link ls i j) at.left ∙ changed_to w.links at.from at.to (rest_on at.rest) i j away
+  other_left i j (inl apart) =
+      ap (λ ls. link ls i j) at.left ∙ changed_from w.links at.from at.to (rest_on at.rest) i j apart
+  other_left i j (inr away) =
+      ap (λ ls. link ls i j) at.left ∙ changed_to w.links at.from at.to (rest_on at.rest) i j away
 
   pub taking_shortens : IsShortened (hosts start) w.links t.left at.from at.to
   taking_shortens =
@@ -118,7 +122,8 @@ module _ (start : Start) (given : List ApiReply) (w : Whole) (right : IsRight st
     abbrev before : List Addressed
     before = taken (machine start) at.from log
 
-    held : IsHeld start at.from at.to (logs_at w.logs at.from) (on_link at.to (link t.left at.from at.to) ++ (arrived ∷ before))
+    held : IsHeld start at.from at.to (logs_at w.logs at.from)
+        (on_link at.to (link t.left at.from at.to) ++ (arrived ∷ before))
     held =
         subst (IsHeld start at.from at.to (logs_at w.logs at.from)) (split before)
         ((right.linked at.from at.to at.from_low at.to_low).held (on_open kept))
@@ -128,11 +133,13 @@ module _ (start : Start) (given : List ApiReply) (w : Whole) (right : IsRight st
     fact =
         each_in (λ y. IsBetween at.from at.to (last_stamp (logs_at w.logs at.from)) y) arrived
         (on_link at.to (link t.left at.from at.to) ++ (arrived ∷ before))
-        (held_between start at.from at.to (logs_at w.logs at.from) (on_link at.to (link t.left at.from at.to) ++ (arrived ∷ before))
+        (held_between start at.from at.to (logs_at w.logs at.from)
+        (on_link at.to (link t.left at.from at.to) ++ (arrived ∷ before))
         (apart (cases_eq at.from at.to)) (right.local at.from at.from_low) held)
         (in_append arrived (on_link at.to (link t.left at.from at.to)) (arrived ∷ before) (inl refl))
       where
-        apart : (at.from ≡ at.to) ⊎ (at.from ≢ at.to) → (at.from ≢ at.to) ⊎ (has_stopped (logs_at w.logs at.from) ≡ false)
+        apart : (at.from ≡ at.to) ⊎ (at.from ≢ at.to)
+            → (at.from ≢ at.to) ⊎ (has_stopped (logs_at w.logs at.from) ≡ false)
         apart (inl same) = inr (subst (λ k. has_stopped (logs_at w.logs k) ≡ false) (sym same) (on_open kept).runs)
         apart (inr away) = inl away
 
@@ -157,11 +164,13 @@ module _ (start : Start) (given : List ApiReply) (w : Whole) (right : IsRight st
           record {
             from = taking_shortens.from;
             given = subst (IsGiven (machine start) at.from at.to (logs_at w.logs at.from)) (sym more) gives;
-            held = λ takes. subst (λ xs. IsHeld start at.from at.to (logs_at w.logs at.from) (all ++ xs)) (sym more) held;
+            held =
+                λ takes. subst (λ xs. IsHeld start at.from at.to (logs_at w.logs at.from) (all ++ xs)) (sym more) held;
           }
 
       -- another link
-      other_linked : (i j : ℕ) (log_next : List HostStep) → i < hosts start → j < hosts start → (i ≢ at.from) ⊎ (j ≢ at.to)
+      other_linked : (i j : ℕ) (log_next : List HostStep) → i < hosts start → j < hosts start
+          → (i ≢ at.from) ⊎ (j ≢ at.to)
           → taken (machine start) i log_next ≡ taken (machine start) i (logs_at w.logs j)
           → IsLinkedTo start i j (logs_at w.logs i) (logs_at w.logs j) log_next (link t.left i j)
       other_linked i j log_next i_low low o same =
@@ -171,18 +180,21 @@ module _ (start : Start) (given : List ApiReply) (w : Whole) (right : IsRight st
             from = was.from;
             given = subst (IsGiven (machine start) i j (logs_at w.logs i)) (sym same) was.given;
             held = λ takes.
-                subst (λ xs. IsHeld start i j (logs_at w.logs i) (on_link j (link w.links i j) ++ xs)) (sym same) (was.held takes);
+                subst (λ xs. IsHeld start i j (logs_at w.logs i) (on_link j (link w.links i j) ++ xs)) (sym same)
+                (was.held takes);
           })
 
       linked_left : (i j : ℕ) → i < hosts start → j < hosts start
-          → IsLinkedTo start i j (logs_at w.logs i) (logs_at w.logs j) (log_with (left_of w t) arrived step j) (link t.left i j)
+          → IsLinkedTo start i j (logs_at w.logs i) (logs_at w.logs j) (log_with (left_of w t) arrived step j)
+          (link t.left i j)
       linked_left i j i_low low = go (cases_eq i at.from) (at.to == j) refl
         where
           go : (i ≡ at.from) ⊎ (i ≢ at.from) → (b : Bool) → (at.to == j) ≡ b
               → IsLinkedTo start i j (logs_at w.logs i) (logs_at w.logs j)
               (if b then next ∷ logs_at w.logs j else logs_at w.logs j) (link t.left i j)
           go (inl same) true e =
-              subst₂ (λ a b. IsLinkedTo start a b (logs_at w.logs a) (logs_at w.logs b) (next ∷ logs_at w.logs b) (link t.left a b))
+              subst₂ (λ a b. IsLinkedTo start a b (logs_at w.logs a) (logs_at w.logs b) (next ∷ logs_at w.logs b)
+              (link t.left a b))
               (sym same) (eqb-true at.to j e) own_linked
           go (inr apart) true e =
               other_linked i j (next ∷ logs_at w.logs j) i_low low (inl apart)
@@ -191,7 +203,8 @@ module _ (start : Start) (given : List ApiReply) (w : Whole) (right : IsRight st
               other_linked i j (logs_at w.logs j) i_low low
               (inr (λ same. absurd (true≢false (sym (eq-eqb at.to j (sym same)) ∙ e)))) refl
 
-      no_others_left : (i j : ℕ) → hosts start ≤ i → taken (machine start) i (log_with (left_of w t) arrived step j) ≡ []
+      no_others_left : (i j : ℕ) → hosts start ≤ i
+          → taken (machine start) i (log_with (left_of w t) arrived step j) ≡ []
       no_others_left i j high = go (at.to == j)
         where
           go : (b : Bool) → taken (machine start) i (if b then next ∷ logs_at w.logs j else logs_at w.logs j) ≡ []
@@ -226,7 +239,8 @@ module _ (start : Start) (given : List ApiReply) (w : Whole) (right : IsRight st
             stopped = right.stopped;
             bodies = λ h low other. right.bodies h low;
             counts = λ i j i_low low.
-                counts_kept (hosts start) w.links t.left at.from at.to taking_shortens i j i_low low ∙ right.counts i j i_low low;
+                counts_kept (hosts start) w.links t.left at.from at.to taking_shortens i j i_low low
+                ∙ right.counts i j i_low low;
             linked = linked_left;
             no_others = no_others_left;
             replies = right.replies;

@@ -42,7 +42,8 @@ module _ (start : Start) (given : List ApiReply) (w : Whole) (lost : ℕ) (x : A
   given_still : (i j : ℕ) (xs : List Addressed) → IsGiven (machine start) i j (logs_at w.logs i) xs
       → IsGiven (machine start) i j (new i) xs
   given_still i j xs was =
-      subst (λ (log : List HostStep). IsGiven (machine start) i j log xs) (sym (logs_are start given w lost x t ready i))
+      subst (λ (log : List HostStep). IsGiven (machine start) i j log xs)
+      (sym (logs_are start given w lost x t ready i))
       (go (x.to == i) refl)
     where
       go : (b : Bool) → (x.to == i) ≡ b
@@ -127,7 +128,8 @@ module _ (start : Start) (given : List ApiReply) (w : Whole) (right : IsRight st
           → HasFailed (left_of w t) at.to cause u → AreUnscheduled start (logs_at u.logs)
       failed cause own wanted some is =
           subst (λ (v : Whole). AreUnscheduled start (logs_at v.logs)) (sym is.is)
-          (failed_unscheduled start given w right at.to at.to_low (on_open start given w right t at kept).runs some cause
+          (failed_unscheduled start given w right at.to at.to_low (on_open start given w right t at kept).runs some
+          cause
           own wanted is.left is.cut is.view was)
 
       -- there was no stamp for the step that takes it

@@ -75,7 +75,8 @@ not_stopped false runs is e = refl
 
 -- what the shell asks for
 pub wishes : (w : Whole) (view : View) (request : ApiReq) (s : Host) → view ≡ s.standing.view → s ≡ body_at w.bodies 0
-    → arriving 0 (own_signal w.made 0 (slice_index_or w.stamps 0 0) view (request_body request)) ≡ asking w 0 (request_body request)
+    → arriving 0 (own_signal w.made 0 (slice_index_or w.stamps 0 0) view (request_body request))
+    ≡ asking w 0 (request_body request)
 wishes w view request s seen is =
     ap (λ v. arriving 0 (own_signal w.made 0 (slice_index_or w.stamps 0 0) v (request_body request)))
     (seen ∙ ap (λ (b : Host). b.standing.view) is)
@@ -89,7 +90,8 @@ shell_handles w t x shell = by (is_stamp (next_stamp w.stamps x.to x.signal.stam
     by true (inr failed) = absurd (omega (arith, failed.0, shell))
     by false failed = absurd (omega (arith, failed.0, shell))
 
-has_asked : (start : Start) (w t : Whole) (request : ApiReq) → has_stopped_in w 0 ≡ false → IsSound start w → t ≡ asked w request
+has_asked : (start : Start) (w t : Whole) (request : ApiReq) → has_stopped_in w 0 ≡ false → IsSound start w
+    → t ≡ asked w request
     → HasAsked start request w t
 has_asked start w t request runs sound same =
     subst (HasAsked start request w) (sym same)
@@ -104,7 +106,8 @@ asked_ok (Ok done) w t x request runs is handled start sound =
     (shell_handles w t x (ap (λ (y : Addressed). y.to) is) handled ∙ ap (moved w 0) is)
 asked_ok (Err fault) w t x request runs is handled start sound = tt
 
-pub has_stepped : (w u : Whole) (t : Arrival) → take_first w.links ≡ Some t → HasTaken (left_of w t) t.taken u → (start : Start)
+pub has_stepped : (w u : Whole) (t : Arrival) → take_first w.links ≡ Some t → HasTaken (left_of w t) t.taken u
+    → (start : Start)
     → IsSound start w → IsStepped start w u true
 has_stepped w u t e taken start sound =
     taken_driven start sound.given w sound.right t (first_from w t start sound e) u taken
@@ -118,7 +121,8 @@ pub has_stayed : (w t : Whole) → take_first w.links ≡ None → t ≡ w → (
     → IsStepped start w t false
 has_stayed w t e same start sound = (same, none_taken w.links e)
 
-pub grown_further : (start : Start) (a b c : ℕ → List HostStep) → HaveGrown start a b → HaveGrown start b c → HaveGrown start a c
+pub grown_further : (start : Start) (a b c : ℕ → List HostStep) → HaveGrown start a b → HaveGrown start b c
+    → HaveGrown start a c
 grown_further start a b c first second =
     record {
       more = λ h. past_trans (first.more h) (second.more h);
@@ -166,7 +170,10 @@ pub goes_on : (w a b : Whole) (went : Bool) → went ≡ true → IsUnderWay w a
     → ((start : Start) → IsSound start a → IsStepped start a b went) → IsUnderWay w b
 goes_on w a b true is way stepped =
     record {
-      is = record { start = way.is.start; sound = stays_sound way.is.start a b (stepped way.is.start way.is.sound) way.is.sound };
+      is = record {
+        start = way.is.start;
+        sound = stays_sound way.is.start a b (stepped way.is.start way.is.sound) way.is.sound;
+      };
       driven = λ start sound.
           let here = way.driven start sound in
           driven_further start w a b here (stepped start (stays_sound start w a here sound));
@@ -178,13 +185,15 @@ abbrev pub StayUnscheduled : Whole → Whole → Type 0
 StayUnscheduled w t =
     (start : Start) → IsSound start w → AreUnscheduled start (logs_at w.logs) → AreUnscheduled start (logs_at t.logs)
 
-pub unscheduled_further : (w a b : Whole) → IsUnderWay w a → StayUnscheduled w a → StayUnscheduled a b → StayUnscheduled w b
+pub unscheduled_further : (w a b : Whole) → IsUnderWay w a → StayUnscheduled w a → StayUnscheduled a b
+    → StayUnscheduled w b
 unscheduled_further w a b way first second start sound was =
     second start (stays_sound start w a (way.driven start sound) sound) (first start sound was)
 
 -- no step was left
 pub has_ended : (w a b : Whole) (went : Bool) → went ≡ false → IsUnderWay w a
-    → ((start : Start) → IsSound start a → IsStepped start a b went) → (start : Start) → IsSound start w → IsDriven start w b
+    → ((start : Start) → IsSound start a → IsStepped start a b went) → (start : Start) → IsSound start w
+    → IsDriven start w b
 has_ended w a b true is way stepped start sound = absurd (true≢false is)
 has_ended w a b false is way stepped start sound =
     let here = way.driven start sound in
@@ -203,10 +212,12 @@ pub begun_world : (w : Whole) (start : Start) → w ≡ new_world start → IsWo
 begun_world w start same = record { start = start; sound = subst (IsSound start) (sym same) (fresh_sound start) }
 
 -- a world that was asked for something
-pub asked_sound : (start : Start) (request : ApiReq) (w t : Whole) → HasAsked start request w t → IsSound start w → IsSound start t
+pub asked_sound : (start : Start) (request : ApiReq) (w t : Whole) → HasAsked start request w t → IsSound start w
+    → IsSound start t
 asked_sound start request w t asked sound = record { given = sound.given; right = asked.right sound.given sound.right }
 
-pub asked_world : (request : ApiReq) (w t : Whole) → ((start : Start) → IsSound start w → HasAsked start request w t) → IsWorld w
+pub asked_world : (request : ApiReq) (w t : Whole) → ((start : Start) → IsSound start w → HasAsked start request w t)
+    → IsWorld w
     → IsWorld t
 asked_world request w t asked is =
     record { start = is.start; sound = asked_sound is.start request w t (asked is.start is.sound) is.sound }
@@ -225,7 +236,8 @@ driven_ok (Err fault) w t driven is = tt
 told_right : (start : Start) (given : List ApiReply) (w t : Whole) (reply : List ApiReply)
     → w ≡ record t { replies = reply ++ t.replies } → IsRight start given w → IsRight start (given ++ reply) t
 told_right start given w t reply same right =
-    let was : IsRight start given (record t { replies = reply ++ t.replies }) = subst (IsRight start given) same right in
+    let was : IsRight start given (record t { replies = reply ++ t.replies }) =
+    subst (IsRight start given) same right in
     record {
       shape = was.shape;
       made = was.made;
@@ -247,7 +259,8 @@ told_right start given w t reply same right =
       replies = was.replies ∙ sym (append_assoc given reply t.replies);
     }
 
-pub told_world : (w t : Whole) (reply : List ApiReply) → w ≡ record t { replies = reply ++ t.replies } → IsWorld w → IsWorld t
+pub told_world : (w t : Whole) (reply : List ApiReply) → w ≡ record t { replies = reply ++ t.replies } → IsWorld w
+    → IsWorld t
 told_world w t reply same is =
     record {
       start = is.start;

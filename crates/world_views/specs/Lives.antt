@@ -9,7 +9,8 @@ use Rattle.world_core.specs.Start.{Start}
 abbrev pub fresh : Shape → Start
 fresh shape = record { shape = shape; epoch = MICROS; rows = [] }
 
--- how a life of a cluster of this shape began: in the first epoch of the checkpoint number behind that of its start epoch,
+-- how a life of a cluster of this shape began: in the first epoch of the checkpoint number behind that of its start
+-- epoch,
 -- with its start rows
 abbrev pub start_of : Shape → Life → Start
 start_of shape life =

@@ -1,7 +1,9 @@
 -- The machine of a cluster that may fail: the shell's host and three for each node, each of which has a log.
 --
--- A step takes a signal and does what the row of its host says. Three kinds of signals no link gives: a request, a stop and
--- a cut, each of which a host asks of itself. A step that stops its host sends the closings of its links and nothing else,
+-- A step takes a signal and does what the row of its host says. Three kinds of signals no link gives: a request, a stop
+-- and
+-- a cut, each of which a host asks of itself. A step that stops its host sends the closings of its links and nothing
+-- else,
 -- and none follows it. The replies that a step of the shell makes are told with it, so none stays in the host.
 use Rattle.std.specs.Prelude.{◌≡◌, ◌≤◌, ℕ, zero, suc, ◌==◌, if◌then◌else◌, Bool, true, false, List, [], ◌∷◌, Option, None, Some}
 use Rattle.std.specs.List.{list_any}
@@ -118,7 +120,8 @@ abbrev pub closing_signal : List Member → View → HostStep → ℕ → Signal
 closing_signal made view e j =
     headed (sender made e.host e.step.stamp view) 0 (to_front made j (Host (Closed (cause_in e.step.marks))))
 
--- The view of the closings of host h: the one in which it stands behind its last step, or that of the signal which it took
+-- The view of the closings of host h: the one in which it stands behind its last step, or that of the signal which it
+-- took
 -- if that is greater, since the greater one may be what stopped it.
 abbrev pub closing_view : Start → ℕ → List HostStep → HostStep → View
 closing_view start h log e = greater_view (after start h (e ∷ log)).standing.view e.step.taken.view

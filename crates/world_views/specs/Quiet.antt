@@ -7,7 +7,8 @@ use Rattle.world_core.specs.Steps.{HostStep}
 use Rattle.world_views.specs.Machine.{machine}
 use Rattle.world_views.specs.Right.{IsHeld, IsOpen}
 
--- each host has taken all that its links hold for it: of a host that runs all that it sent, and of one that has stopped the
+-- each host has taken all that its links hold for it: of a host that runs all that it sent, and of one that has stopped
+-- the
 -- closing, unless either has cut off the other
 abbrev pub IsQuiet : Start → (ℕ → List HostStep) → Type 0
 IsQuiet start logs =

@@ -19,7 +19,8 @@ abbrev pub requests : List HostStep → List ApiReq
 requests [] = []
 requests (e ∷ log) = requests log ++ option_to_list (request_of e)
 
--- The cut of the logs before the step of host 0 that comes after `before`: it is right and quiet, so that it has of each
+-- The cut of the logs before the step of host 0 that comes after `before`: it is right and quiet, so that it has of
+-- each
 -- log all the steps that don't follow from that step, and no others.
 pub record QuietBefore (start : Start) (logs : ℕ → List HostStep) (before : List HostStep) : Type 0 where
   pub inside : ℕ → List HostStep

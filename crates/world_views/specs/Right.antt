@@ -25,7 +25,8 @@ pub record IsOpen (start : Start) (i j : ℕ) (log : List HostStep) : Type 0 whe
   pub runs : has_stopped log ≡ false
   pub takes : has_cut start j log i ≡ false
 
--- what a link has given, and still holds, of a host that stopped: an older part of what was sent, and the closing, which
+-- what a link has given, and still holds, of a host that stopped: an older part of what was sent, and the closing,
+-- which
 -- there is none of where the host had cut off the other one
 abbrev pub stopped_holds : Bool → Start → ℕ → ℕ → List HostStep → List Addressed → Type 0
 stopped_holds true start i j log xs = IsPast xs (sent (machine start) i j log)
@@ -43,7 +44,8 @@ IsHeld start i j log xs = holds_by (has_stopped log) start i j log xs
 abbrev pub on_link : ℕ → LinkState → List Addressed
 on_link j l = map (arriving j) (reverse l.signals)
 
--- A link from host i, with this log, to host j, with that log. What stands on it is from host i. What was taken from it was
+-- A link from host i, with this log, to host j, with that log. What stands on it is from host i. What was taken from it
+-- was
 -- given; and where host j still takes from it, that and what stands on it are all that it holds.
 pub record IsLinked (start : Start) (i j : ℕ) (sender taker : List HostStep) (l : LinkState) : Type 0 where
   pub from : Each (λ (x : Signal). x.from.0 ≡ i) l.signals

@@ -31,7 +31,8 @@ use Rattle.world_views.specs.Links.{AreIdle, AreLinks, Links, close_below, lose,
 use Rattle.world_views.specs.Machine.{cause_in, first_of, own_signal, replies_at, request_body, sender, step_by, stops_by, to_front, told}
 use Rattle.world_views.specs.Sending.{headed, routed_all}
 
--- the shape of the cluster, the members that were made, the hosts, which of them have stopped, the links to each, the stamp
+-- the shape of the cluster, the members that were made, the hosts, which of them have stopped, the links to each, the
+-- stamp
 -- of each host's last step, the log of each, and the replies that the shell hasn't had
 pub record Whole : Type 0 where
   pub shape : Shape
@@ -45,7 +46,11 @@ pub record Whole : Type 0 where
 
 -- a host of a world; where there is none, one that has done nothing
 abbrev pub body_at : List Host → ℕ → Host
-body_at bodies h = slice_index_or bodies h (fresh_shell (first_layout (record { nodes = 0; replicas = 0; fragments = 0 })))
+body_at bodies h = slice_index_or bodies h (fresh_shell (first_layout (record {
+  nodes = 0;
+  replicas = 0;
+  fragments = 0;
+})))
 
 -- a stamp that a step may have
 abbrev pub is_stamp : ℕ → Bool
@@ -67,7 +72,8 @@ sending w h stamp sends =
 abbrev pub last_view : Whole → ℕ → View → View
 last_view w h taken = greater_view (body_at w.bodies h).standing.view taken
 
--- a host that has stopped, by a step of this stamp which took a signal of this view, loses so many of the youngest signals of
+-- a host that has stopped, by a step of this stamp which took a signal of this view, loses so many of the youngest
+-- signals of
 -- each link from it, and closes its links
 abbrev pub closing : Whole → ℕ → ℕ → View → StopCause → ℕ → Whole
 closing w h stamp taken cause lost =
@@ -139,7 +145,8 @@ stopped w h cause lost = halted w h (body_at w.bodies h).standing.view cause los
 abbrev pub with_body : Whole → ℕ → Host → Whole
 with_body w h s = record w { bodies = slice_set w.bodies h s }
 
--- A host stopped for this cause, whatever was left of it: it still knows which hosts it had cut off, and stands in the view
+-- A host stopped for this cause, whatever was left of it: it still knows which hosts it had cut off, and stands in the
+-- view
 -- that it had before.
 pub record HasFailed (w : Whole) (h : ℕ) (cause : StopCause) (t : Whole) : Type 0 where
   pub left : Host

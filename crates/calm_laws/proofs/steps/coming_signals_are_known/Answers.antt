@@ -1,5 +1,5 @@
-use Rattle.calm_laws.proofs.KnownTxs.{coming_known}
-use Rattle.calm_laws.proofs.WellFormed.{coming_well_formed}
+use Rattle.calm_laws.proofs.known.Transactions.{coming_known}
+use Rattle.calm_laws.proofs.lives.WellFormed.{coming_well_formed}
 use Rattle.calm_laws.proofs.steps.coming_signals_are_known.Goals as goal
 
 pub returns : goal.returns

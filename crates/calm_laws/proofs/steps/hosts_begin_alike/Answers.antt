@@ -1,4 +1,4 @@
-use Rattle.calm_laws.proofs.Beginnings.{begin_alike}
+use Rattle.calm_laws.proofs.lives.Beginnings.{begin_alike}
 use Rattle.calm_laws.proofs.steps.hosts_begin_alike.Goals as goal
 
 pub returns : goal.returns

@@ -1,5 +1,5 @@
-use Rattle.calm_laws.proofs.PartSteps.{main_parts_step, parts_step}
-use Rattle.calm_laws.proofs.ShellSteps.{shells_step}
+use Rattle.calm_laws.proofs.plain_steps.Parts.{main_parts_step, parts_step}
+use Rattle.calm_laws.proofs.plain_steps.Shell.{shells_step}
 use Rattle.calm_laws.proofs.steps.steps_are_alike.Goals as goal
 
 pub returns : goal.returns

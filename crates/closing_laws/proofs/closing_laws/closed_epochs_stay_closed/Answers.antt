@@ -1,4 +1,4 @@
-use Rattle.closing_laws.proofs.Closings.{closed_stay_closed}
+use Rattle.closing_laws.proofs.settled.ClosedStayClosed.{closed_stay_closed}
 use Rattle.closing_laws.proofs.closing_laws.closed_epochs_stay_closed.Goals as goal
 
 pub returns : goal.returns

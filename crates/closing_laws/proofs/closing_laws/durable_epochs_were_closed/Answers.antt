@@ -1,4 +1,4 @@
-use Rattle.closing_laws.proofs.DurableAll.{durable_were_closed}
+use Rattle.closing_laws.proofs.durable.All.{durable_were_closed}
 use Rattle.closing_laws.proofs.closing_laws.durable_epochs_were_closed.Goals as goal
 
 pub returns : goal.returns

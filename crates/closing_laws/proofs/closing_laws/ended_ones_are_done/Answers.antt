@@ -1,5 +1,5 @@
-use Rattle.closing_laws.proofs.Counted.{uncounted_are_forgotten}
-use Rattle.closing_laws.proofs.Forgotten.{forgotten_are_done}
+use Rattle.closing_laws.proofs.counted.OrForgotten.{uncounted_are_forgotten}
+use Rattle.closing_laws.proofs.counted.ForgottenAreDone.{forgotten_are_done}
 use Rattle.closing_laws.proofs.closing_laws.ended_ones_are_done.Goals as goal
 
 pub returns-clause-uncounted : goal.returns-clause-uncounted

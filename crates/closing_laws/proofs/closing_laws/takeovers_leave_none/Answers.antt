@@ -1,4 +1,4 @@
-use Rattle.closing_laws.proofs.OverDone.{over_leaves}
+use Rattle.closing_laws.proofs.takeover.Done.{over_leaves}
 use Rattle.closing_laws.proofs.closing_laws.takeovers_leave_none.Goals as goal
 
 pub returns : goal.returns

@@ -1,4 +1,4 @@
-use Rattle.command_laws.proofs.SampleServed.{sample_served}
+use Rattle.command_laws.proofs.hosts.SampleServed.{sample_served}
 use Rattle.command_laws.proofs.commands.a_commit_is_served.Goals as goal
 
 pub returns : goal.returns

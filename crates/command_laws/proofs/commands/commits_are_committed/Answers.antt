@@ -1,5 +1,5 @@
 use Rattle.answer_laws.proofs.Answers.{each_answered}
-use Rattle.command_laws.proofs.Committed.{commits_committed}
+use Rattle.command_laws.proofs.ends.Committed.{commits_committed}
 use Rattle.command_laws.proofs.commands.commits_are_committed.Goals as goal
 
 pub returns : goal.returns

@@ -1,4 +1,4 @@
-use Rattle.command_laws.proofs.HeldUp.{each_held_up}
+use Rattle.command_laws.proofs.operations.HeldUp.{each_held_up}
 use Rattle.command_laws.proofs.commands.each_operation_is_held_up.Goals as goal
 
 pub returns : goal.returns

@@ -1,5 +1,5 @@
 use Rattle.answer_laws.proofs.Answers.{each_answered}
-use Rattle.command_laws.proofs.LoneAnswered.{lone_answered}
+use Rattle.command_laws.proofs.lone.Answered.{lone_answered}
 use Rattle.command_laws.proofs.commands.lone_operations_are_answered.Goals as goal
 
 pub returns : goal.returns

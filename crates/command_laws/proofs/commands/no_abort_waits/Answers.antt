@@ -1,4 +1,4 @@
-use Rattle.command_laws.proofs.NoAbortWaits.{no_abort_waits}
+use Rattle.command_laws.proofs.quiet.NoAbortWaits.{no_abort_waits}
 use Rattle.command_laws.proofs.commands.no_abort_waits.Goals as goal
 
 pub returns : goal.returns

@@ -1,4 +1,4 @@
-use Rattle.command_laws.proofs.RequestsAnswered.{requests_answered}
+use Rattle.command_laws.proofs.quiet.RequestsAnswered.{requests_answered}
 use Rattle.command_laws.proofs.commands.requests_are_answered.Goals as goal
 
 pub returns : goal.returns

@@ -1,4 +1,4 @@
-use Rattle.commit_laws.proofs.CutLaws.{commits_effective}
+use Rattle.commit_laws.proofs.led.CutLaws.{commits_effective}
 use Rattle.commit_laws.proofs.cut_laws.commits_take_effect.Goals as goal
 
 pub returns : goal.returns

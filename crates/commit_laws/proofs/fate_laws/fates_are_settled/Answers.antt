@@ -1,4 +1,4 @@
-use Rattle.commit_laws.proofs.FatesStay.{aborts_stay, commits_stay}
+use Rattle.commit_laws.proofs.fates.Stay.{aborts_stay, commits_stay}
 use Rattle.commit_laws.proofs.fate_laws.fates_are_settled.Goals as goal
 
 pub returns-clause-abort : goal.returns-clause-abort

@@ -1,4 +1,4 @@
-use Rattle.commit_laws.proofs.MarkerAll.{commits_are_remembered, traces_stay}
+use Rattle.commit_laws.proofs.markers.All.{commits_are_remembered, traces_stay}
 use Rattle.commit_laws.proofs.knowing_laws.commits_are_remembered.Goals as goal
 
 pub returns-clause-marked : goal.returns-clause-marked

@@ -1,4 +1,4 @@
-use Rattle.commit_laws.proofs.ForthAll.{forth_is_known}
+use Rattle.commit_laws.proofs.forth.All.{forth_is_known}
 use Rattle.commit_laws.proofs.knowing_laws.known_commits_went_forth.Goals as goal
 
 pub returns : goal.returns

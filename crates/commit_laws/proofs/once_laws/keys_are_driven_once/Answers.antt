@@ -1,4 +1,4 @@
-use Rattle.commit_laws.proofs.TogetherOnce.{keys_once}
+use Rattle.commit_laws.proofs.orders.Together.{keys_once}
 use Rattle.commit_laws.proofs.once_laws.keys_are_driven_once.Goals as goal
 
 pub returns : goal.returns

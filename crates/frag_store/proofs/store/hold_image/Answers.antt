@@ -3,9 +3,9 @@ use Rattle.std.specs.List.{count_by}
 use Rattle.std.proofs.lemmas.List.Sums.{count_by-le-length}
 use Rattle.sig_core.specs.Rows.{is_on, place_of}
 use Rattle.sig_core.specs.Same.{same_key}
-use Rattle.frag_store.proofs.CountLemmas.{made_counts, stored_counts, stored_some}
+use Rattle.row_records.proofs.CountLemmas.{made_counts, stored_counts, stored_some}
 use Rattle.frag_store.proofs.HeldLemmas.{held_placed}
-use Rattle.frag_store.proofs.RowLemmas.{placed_keeps}
+use Rattle.row_records.proofs.RowLemmas.{placed_keeps}
 use Rattle.frag_store.proofs.store.hold_image.Goals as goal
 
 pub hold-requires-clause-few : goal.hold-requires-clause-few
@@ -23,7 +23,8 @@ pub returns-then-put-clause-counted : goal.returns-then-put-clause-counted
 returns-then-put-clause-counted c = λ q.
     let key = c.args.key.now in
     c.hold.ensures.records q ∙ ap (λ n. n + cond (same_key key q) 1 0) (c.requires.counted q)
-    ∙ sym (made_counts c.args.records.now.pending c.args.tx key c.args.image.now (sym c.put.ensures.made ∙ c.if-put.true) q)
+    ∙ sym (made_counts c.args.records.now.pending c.args.tx key c.args.image.now
+    (sym c.put.ensures.made ∙ c.if-put.true) q)
     ∙ sym (ap (count_by (is_on q)) c.put.ensures.record)
 
 pub returns-else-put-clause-slots : goal.returns-else-put-clause-slots
@@ -32,7 +33,8 @@ returns-else-put-clause-slots c =
     let some = stored_some c.args.records.now.pending c.args.tx key c.args.image.now
     (sym c.put.ensures.made ∙ c.if-put.false) in
     placed_keeps c.args.places.now.places.slots key
-    (held_placed c.args.places.now.held (place_of c.args.places.now.places.slots key) (omega (arith, c.requires.counted key, some)))
+    (held_placed c.args.places.now.held (place_of c.args.places.now.places.slots key)
+    (omega (arith, c.requires.counted key, some)))
 
 pub returns-else-put-clause-counted : goal.returns-else-put-clause-counted
 returns-else-put-clause-counted c = λ q.

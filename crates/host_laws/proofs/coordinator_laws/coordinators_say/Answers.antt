@@ -1,4 +1,4 @@
-use Rattle.host_laws.proofs.OneWay.{coordinators_say}
+use Rattle.host_laws.proofs.coordinator.OneWay.{coordinators_say}
 use Rattle.host_laws.proofs.coordinator_laws.coordinators_say.Goals as goal
 
 pub returns : goal.returns

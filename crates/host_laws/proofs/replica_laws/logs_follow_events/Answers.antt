@@ -1,4 +1,4 @@
-use Rattle.host_laws.proofs.Replicas.{keys_have_rows, logs_follow, nodes_begin}
+use Rattle.host_laws.proofs.rows.Replicas.{keys_have_rows, logs_follow, nodes_begin}
 use Rattle.host_laws.proofs.replica_laws.logs_follow_events.Goals as goal
 
 pub returns-clause-steps : goal.returns-clause-steps

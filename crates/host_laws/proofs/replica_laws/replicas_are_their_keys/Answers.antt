@@ -1,4 +1,4 @@
-use Rattle.host_laws.proofs.Replicas.{keys_begin_at_rest, logs_keep_well, signals_are_events, signals_keep_well}
+use Rattle.host_laws.proofs.rows.Replicas.{keys_begin_at_rest, logs_keep_well, signals_are_events, signals_keep_well}
 use Rattle.host_laws.proofs.replica_laws.replicas_are_their_keys.Goals as goal
 
 pub returns-clause-events : goal.returns-clause-events

@@ -6,7 +6,8 @@ use Rattle.local_ckpt.proofs.passing.put_rows.Goals as goal
 pub loop-i-preserved : goal.loop-i-preserved
 loop-i-preserved g c =
     one_passed (g.R.Rows.state_of c.args.rows.now) c.args.from c.args.out.now.items c.loop-i._i c.loop-i.place
-    c.in-Some.at c.loop-i.out.items c.put_row_at.new.out.items c.loop-i.invariant (sym c.in-Some.ensures.next) c.in_ok-put_row_at-in-Some.ensures
+    c.in-Some.at c.loop-i.out.items c.put_row_at.new.out.items c.loop-i.invariant (sym c.in-Some.ensures.next)
+    c.in_ok-put_row_at-in-Some.ensures
 
 pub returns-clause-place : goal.returns-clause-place
 returns-clause-place g c =

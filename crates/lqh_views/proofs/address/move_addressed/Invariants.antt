@@ -5,7 +5,8 @@ use Rattle.lqh_views.proofs.address.move_addressed.Given as goal
 -- those that were moved, and what those that are left lead to, are all
 abbrev pub invariant-loop-send : goal.invariant-loop-send
 invariant-loop-send l = record {
-  all : l.to.sends ++ addressed_behind l.view l.passed l.from.sends ≡ addressed_behind l.view l.before l.initial.from.sends;
+  all : l.to.sends ++ addressed_behind l.view l.passed l.from.sends
+      ≡ addressed_behind l.view l.before l.initial.from.sends;
   many : length l.to.sends + length l.from.sends ≡ length l.initial.from.sends;
   marks : l.to.marks ≡ [];
   from_marks : l.from.marks ≡ l.initial.from.marks;

@@ -1,4 +1,4 @@
-use Rattle.outcome_laws.proofs.StrictOrder.{decisions_in_strict_order, histories_in_strict_order}
+use Rattle.outcome_laws.proofs.order.ReportsBeforeAsks.{decisions_in_strict_order, histories_in_strict_order}
 use Rattle.outcome_laws.proofs.decision_laws.decided_in_strict_order.Goals as goal
 
 pub returns-clause-decisions : goal.returns-clause-decisions

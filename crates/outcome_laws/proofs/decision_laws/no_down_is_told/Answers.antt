@@ -1,4 +1,4 @@
-use Rattle.outcome_laws.proofs.DownAll.{no_down_is_told}
+use Rattle.outcome_laws.proofs.downfall.NobodyIsTold.{no_down_is_told}
 use Rattle.outcome_laws.proofs.decision_laws.no_down_is_told.Goals as goal
 
 pub returns : goal.returns

@@ -1,4 +1,4 @@
-use Rattle.peace_laws.proofs.Peaceful.{closings_answered}
+use Rattle.peace_laws.proofs.lives.Peaceful.{closings_answered}
 use Rattle.peace_laws.proofs.peace_laws.closings_are_answered.Goals as goal
 
 pub returns : goal.returns

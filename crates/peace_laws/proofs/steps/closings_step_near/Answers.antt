@@ -1,5 +1,5 @@
-use Rattle.peace_laws.proofs.AskingSteps.{closings_are_asked_near}
-use Rattle.peace_laws.proofs.ClosingSteps.{closings_step_near}
+use Rattle.peace_laws.proofs.closings.AskingSteps.{closings_are_asked_near}
+use Rattle.peace_laws.proofs.closings.Steps.{closings_step_near}
 use Rattle.peace_laws.proofs.steps.closings_step_near.Goals as goal
 
 pub returns : goal.returns

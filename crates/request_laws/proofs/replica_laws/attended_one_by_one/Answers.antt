@@ -1,4 +1,4 @@
-use Rattle.request_laws.proofs.ReplicaWaits.{installed_are_attended, signals_keep_attended}
+use Rattle.request_laws.proofs.replicas.Waits.{installed_are_attended, signals_keep_attended}
 use Rattle.request_laws.proofs.replica_laws.attended_one_by_one.Goals as goal
 
 pub returns-clause-signals : goal.returns-clause-signals

@@ -1,4 +1,4 @@
-use Rattle.request_laws.proofs.ReplicaEvents.{installations_are_events, installations_keep_well, signals_are_events, signals_keep_well}
+use Rattle.request_laws.proofs.replicas.KeyEvents.{installations_are_events, installations_keep_well, signals_are_events, signals_keep_well}
 use Rattle.request_laws.proofs.replica_laws.keys_follow_events.Goals as goal
 
 pub returns-clause-signals : goal.returns-clause-signals

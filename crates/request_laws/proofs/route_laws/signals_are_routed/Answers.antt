@@ -1,4 +1,4 @@
-use Rattle.request_laws.proofs.RouteAll.{signals_are_routed}
+use Rattle.request_laws.proofs.routes.All.{signals_are_routed}
 use Rattle.request_laws.proofs.route_laws.signals_are_routed.Goals as goal
 
 pub returns : goal.returns

@@ -1,4 +1,4 @@
-use Rattle.request_laws.proofs.StrayNumbers.{have_the_number}
+use Rattle.request_laws.proofs.strays.Numbers.{have_the_number}
 use Rattle.request_laws.proofs.stray_laws.coordinators_have_the_number.Goals as goal
 
 pub returns : goal.returns

@@ -1,4 +1,4 @@
-use Rattle.request_laws.proofs.StrayFences.{fences_spare}
+use Rattle.request_laws.proofs.strays.FencesSpareNone.{fences_spare}
 use Rattle.request_laws.proofs.stray_laws.fences_spare_no_strays.Goals as goal
 
 pub returns : goal.returns

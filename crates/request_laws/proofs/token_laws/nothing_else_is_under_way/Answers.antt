@@ -1,4 +1,4 @@
-use Rattle.request_laws.proofs.TokenAlone.{quiet_unless_asked, taken_alone, waiting_alone}
+use Rattle.request_laws.proofs.tokens.Alone.{quiet_unless_asked, taken_alone, waiting_alone}
 use Rattle.request_laws.proofs.token_laws.nothing_else_is_under_way.Goals as goal
 
 pub returns-clause-takes : goal.returns-clause-takes

@@ -1,5 +1,5 @@
-use Rattle.request_laws.proofs.TokenMoments.{have_one}
-use Rattle.request_laws.proofs.TokenSums.{takes_are_few}
+use Rattle.request_laws.proofs.tokens.Moments.{have_one}
+use Rattle.request_laws.proofs.tokens.SumsOverHosts.{takes_are_few}
 use Rattle.request_laws.proofs.token_laws.one_at_a_time.Goals as goal
 
 pub returns-clause-few : goal.returns-clause-few

@@ -1,4 +1,4 @@
-use Rattle.run_laws.proofs.Epochs.{view_first, view_viable}
+use Rattle.run_laws.proofs.history.Epochs.{view_first, view_viable}
 use Rattle.run_laws.proofs.cut_laws.greatest_view_is_viable.Goals as goal
 
 pub returns-clause-first : goal.returns-clause-first

@@ -1,5 +1,5 @@
-use Rattle.run_laws.proofs.DecidedSettled.{decided_settled}
-use Rattle.run_laws.proofs.Owing.{events_owed}
+use Rattle.run_laws.proofs.circle.DecidedSettled.{decided_settled}
+use Rattle.run_laws.proofs.tokens.Owing.{events_owed}
 use Rattle.run_laws.proofs.owed_laws.keys_get_what_is_owed.Goals as goal
 
 pub returns-clause-events : goal.returns-clause-events

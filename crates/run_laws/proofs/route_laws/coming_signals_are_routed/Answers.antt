@@ -1,4 +1,4 @@
-use Rattle.run_laws.proofs.RoutedEvents.{coming_are_routed, commits_end_at_primary, requests_are_for_replicas}
+use Rattle.run_laws.proofs.routes.Events.{coming_are_routed, commits_end_at_primary, requests_are_for_replicas}
 use Rattle.run_laws.proofs.route_laws.coming_signals_are_routed.Goals as goal
 
 pub returns-clause-routed : goal.returns-clause-routed

@@ -1,5 +1,5 @@
 use Rattle.frag_map.proofs.FirstReplicas.{first_apart}
-use Rattle.run_laws.proofs.RoutesChain.{replicas_are_nodes}
+use Rattle.run_laws.proofs.routes.Chain.{replicas_are_nodes}
 use Rattle.run_laws.proofs.route_laws.replicas_are_nodes.Goals as goal
 
 pub returns-clause-apart : goal.returns-clause-apart

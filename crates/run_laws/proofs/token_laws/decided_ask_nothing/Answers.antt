@@ -1,4 +1,4 @@
-use Rattle.run_laws.proofs.Undecided.{carried_out_have_none, decided_have_none}
+use Rattle.run_laws.proofs.causes.Undecided.{carried_out_have_none, decided_have_none}
 use Rattle.run_laws.proofs.token_laws.decided_ask_nothing.Goals as goal
 
 pub returns-clause-decided : goal.returns-clause-decided

@@ -1,4 +1,4 @@
-use Rattle.run_laws.proofs.NoneWait.{none_wait_beside, none_wait_where_carried_out}
+use Rattle.run_laws.proofs.tokens.NoneWait.{none_wait_beside, none_wait_where_carried_out}
 use Rattle.run_laws.proofs.token_laws.requests_stand_alone.Goals as goal
 
 pub returns-clause-beside : goal.returns-clause-beside

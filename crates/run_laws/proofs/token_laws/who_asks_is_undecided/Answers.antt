@@ -1,4 +1,4 @@
-use Rattle.run_laws.proofs.NoneWait.{comers_are_undecided, waiters_are_undecided}
+use Rattle.run_laws.proofs.tokens.NoneWait.{comers_are_undecided, waiters_are_undecided}
 use Rattle.run_laws.proofs.token_laws.who_asks_is_undecided.Goals as goal
 
 pub returns-clause-waiting : goal.returns-clause-waiting

@@ -1,4 +1,4 @@
-use Rattle.run_laws.proofs.Decided.{commits_are_decided}
+use Rattle.run_laws.proofs.causes.Decided.{commits_are_decided}
 use Rattle.run_laws.proofs.way_laws.commits_are_decided.Goals as goal
 
 pub returns : goal.returns

@@ -11,4 +11,9 @@ pub returns-clause-run : goal.returns-clause-run
 returns-clause-run g c = λ t stamped. hosts_run (machine t) stamped
 
 pub returns-clause-exact : goal.returns-clause-exact
-returns-clause-exact g c = λ t logs a. (λ i j. reverse (taken (machine t) i (logs j)), λ i j. reverse (taken (machine t) i (logs j)), kept_of_logs (machine t) logs a)
+returns-clause-exact g c = λ t logs a. (
+  λ i j. reverse (taken (machine t) i (logs j)),
+  λ i j. reverse
+      (taken (machine t) i (logs j)),
+  kept_of_logs (machine t) logs a,
+)

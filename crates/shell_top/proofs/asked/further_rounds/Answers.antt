@@ -10,15 +10,19 @@ use Rattle.shell_top.proofs.asked.further_rounds.Goals as goal
 pub returns-in_err-ask-clause-err : goal.returns-in_err-ask-clause-err
 returns-in_err-ask-clause-err g c =
     on_err c.from_residual.result
-    (round_left g.start c.args.rounds c.loop-behind.behind (c.args.rounds - 1) (whole_of c.args.world.now) (whole_of c.loop-behind.world) c.ask.new.world.logs
-    (grind (arith, nat_tests, c.loop-behind-test.true, c.saturating_sub-behind-end.ensures)) c.loop-behind.invariant.served c.in_err-ask.ensures.err)
+    (round_left g.start c.args.rounds c.loop-behind.behind (c.args.rounds - 1) (whole_of c.args.world.now)
+    (whole_of c.loop-behind.world) c.ask.new.world.logs
+    (grind (arith, nat_tests, c.loop-behind-test.true, c.saturating_sub-behind-end.ensures))
+    c.loop-behind.invariant.served c.in_err-ask.ensures.err)
 
 pub loop-behind-preserved : goal.loop-behind-preserved
 loop-behind-preserved g c =
     record {
-      served = round_served g.start c.args.rounds c.loop-behind.behind (whole_of c.args.world.now) (whole_of c.loop-behind.world) (whole_of c.ask.new.world)
+      served = round_served g.start c.args.rounds c.loop-behind.behind (whole_of c.args.world.now)
+          (whole_of c.loop-behind.world) (whole_of c.ask.new.world)
           c.loop-behind.invariant.served c.in_ok-ask.ensures.ok;
-      sound = served_sound g.start (Tick (c.loop-behind.behind + 2) c.args.rounds ∷ []) (whole_of c.loop-behind.world) (whole_of c.ask.new.world) c.in_ok-ask.ensures.ok
+      sound = served_sound g.start (Tick (c.loop-behind.behind + 2) c.args.rounds ∷ []) (whole_of c.loop-behind.world)
+          (whole_of c.ask.new.world) c.in_ok-ask.ensures.ok
           c.loop-behind.invariant.sound;
     }
 

@@ -10,8 +10,10 @@ pub returns-in-Ok-Some-clause-session : goal.returns-in-Ok-Some-clause-session
 returns-in-Ok-Some-clause-session g c =
     let told : Some c.in-Ok-Some.shape ≡ asked_shape (map string_bytes c.args.words.now) =
     sym c.in-Ok-Some.field-0-is
-    ∙ subst (λ result. IfOk result (λ asked. asked ≡ asked_shape (map string_bytes c.args.words.now))) c.in-Ok-Some.is c.shape_asked.ensures.told in
-    subst (λ asked. IsSession asked (g.S.Source.left c.args.source.now) (g.S.Source.left c.run_shape.new.source) (g.K.Sink.written c.args.sink.now)
+    ∙ subst (λ result. IfOk result (λ asked. asked ≡ asked_shape (map string_bytes c.args.words.now))) c.in-Ok-Some.is
+    c.shape_asked.ensures.told in
+    subst (λ asked. IsSession asked (g.S.Source.left c.args.source.now) (g.S.Source.left c.run_shape.new.source)
+    (g.K.Sink.written c.args.sink.now)
     (g.K.Sink.written c.run_shape.new.sink)
     (Rose (g.S.Source.faults c.args.source.now) (g.S.Source.faults c.run_shape.new.source))
     (Rose (g.K.Sink.faults c.args.sink.now) (g.K.Sink.faults c.run_shape.new.sink)) c.run_shape.result.ending
@@ -21,7 +23,8 @@ pub returns-in-Ok-None-clause-session : goal.returns-in-Ok-None-clause-session
 returns-in-Ok-None-clause-session g c =
     let told : None ≡ asked_shape (map string_bytes c.args.words.now) =
     sym c.in-Ok-None.field-0-is
-    ∙ subst (λ result. IfOk result (λ asked. asked ≡ asked_shape (map string_bytes c.args.words.now))) c.in-Ok-None.is c.shape_asked.ensures.told in
+    ∙ subst (λ result. IfOk result (λ asked. asked ≡ asked_shape (map string_bytes c.args.words.now))) c.in-Ok-None.is
+    c.shape_asked.ensures.told in
     session_refused _ _ _ _ _ _ c.finish.result _ c.new.ensures.items (sym told) c.finish.ensures.printed
 
 pub returns-in-Err-clause-session : goal.returns-in-Err-clause-session

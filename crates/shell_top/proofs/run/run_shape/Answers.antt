@@ -7,7 +7,8 @@ use Rattle.shell_top.proofs.run.run_shape.Goals as goal
 
 pub returns-in-Ok-clause-session : goal.returns-in-Ok-clause-session
 returns-in-Ok-clause-session g c =
-    subst (λ shape. IsSession (Some shape) (g.S.Source.left c.args.source.now) (g.S.Source.left c.run_opened.new.source) (g.K.Sink.written c.args.sink.now)
+    subst (λ shape. IsSession (Some shape) (g.S.Source.left c.args.source.now) (g.S.Source.left c.run_opened.new.source)
+    (g.K.Sink.written c.args.sink.now)
     (g.K.Sink.written c.run_opened.new.sink)
     (Rose (g.S.Source.faults c.args.source.now) (g.S.Source.faults c.run_opened.new.source))
     (Rose (g.K.Sink.faults c.args.sink.now) (g.K.Sink.faults c.run_opened.new.sink)) c.run_opened.result.ending

@@ -9,10 +9,15 @@ use Rattle.shell_top.proofs.served.serve.Goals as goal
 
 pub returns-in_err-ask_own-clause-err : goal.returns-in_err-ask_own-clause-err
 returns-in_err-ask_own-clause-err g c =
-    on_err c.from_residual.result (left_own g.start c.args.command.now (whole_of c.args.world.now) c.ask_own.new.world.logs c.requires.1.1 c.in_err-ask_own.ensures.err)
+    on_err c.from_residual.result (left_own g.start c.args.command.now (whole_of c.args.world.now)
+    c.ask_own.new.world.logs c.requires.1.1 c.in_err-ask_own.ensures.err)
 
 pub ask_about-requires : goal.ask_about-requires
-ask_about-requires g c lives outlive = (outlive, own_sound g.start c.args.command.now (whole_of c.args.world.now) (whole_of c.ask_own.new.world) c.requires.1.0 c.in_ok-ask_own.ensures.ok)
+ask_about-requires g c lives outlive = (
+  outlive,
+  own_sound g.start c.args.command.now (whole_of c.args.world.now)
+      (whole_of c.ask_own.new.world) c.requires.1.0 c.in_ok-ask_own.ensures.ok,
+)
 
 pub returns-in_err-ask_about-clause-err : goal.returns-in_err-ask_about-clause-err
 returns-in_err-ask_about-clause-err g c =
@@ -23,7 +28,8 @@ returns-in_err-ask_about-clause-err g c =
 
 pub answers-requires : goal.answers-requires
 answers-requires g c =
-    gone_sound g.start c.args.command.now (whole_of c.args.world.now) (whole_of c.ask_own.new.world) (whole_of c.ask_about.new.world) c.requires.1.0 c.in_ok-ask_own.ensures.ok
+    gone_sound g.start c.args.command.now (whole_of c.args.world.now) (whole_of c.ask_own.new.world)
+    (whole_of c.ask_about.new.world) c.requires.1.0 c.in_ok-ask_own.ensures.ok
     c.in_ok-ask_about.ensures.ok
 
 pub returns-in_err-text-clause-err : goal.returns-in_err-text-clause-err

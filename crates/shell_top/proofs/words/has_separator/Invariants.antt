@@ -7,5 +7,6 @@ use Rattle.shell_top.proofs.words.has_separator.Given as goal
 -- those passed are no separators
 abbrev pub invariant-loop-word : goal.invariant-loop-word
 invariant-loop-word l = record {
-  left : list_any is_separator (map string_bytes (drop l.word-index l.words)) ≡ list_any is_separator (map string_bytes l.words);
+  left : list_any is_separator (map string_bytes (drop l.word-index l.words))
+      ≡ list_any is_separator (map string_bytes l.words);
 }

@@ -1,5 +1,5 @@
 use Rattle.std.proofs.Common.{suc, lt-suc_self}
-use Rattle.view_laws.proofs.Following.{chained}
+use Rattle.view_laws.proofs.ballots.OneOfANumber.{chained}
 use Rattle.view_laws.proofs.ballot_laws.views_are_a_chain.Goals as goal
 
 -- src/ballot_laws.rt:11:1

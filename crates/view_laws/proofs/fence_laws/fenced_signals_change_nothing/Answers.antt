@@ -1,4 +1,4 @@
-use Rattle.view_laws.proofs.FencedLemmas.{fenced_signals_change_nothing}
+use Rattle.view_laws.proofs.fences.Dropped.{fenced_signals_change_nothing}
 use Rattle.view_laws.proofs.fence_laws.fenced_signals_change_nothing.Goals as goal
 
 pub returns : goal.returns

@@ -1,4 +1,4 @@
-use Rattle.view_laws.proofs.HeardAsking.{ask_rightly}
+use Rattle.view_laws.proofs.memberships.Questions.{ask_rightly}
 use Rattle.view_laws.proofs.heard_laws.memberships_ask_rightly.Goals as goal
 
 pub returns : goal.returns

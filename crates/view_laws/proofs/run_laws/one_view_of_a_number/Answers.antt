@@ -1,5 +1,5 @@
-use Rattle.view_laws.proofs.RunKept.{have_orderly}
-use Rattle.view_laws.proofs.RunViews.{one_view}
+use Rattle.view_laws.proofs.runs.AllSound.{have_orderly}
+use Rattle.view_laws.proofs.runs.ChosenViews.{one_view}
 use Rattle.view_laws.proofs.run_laws.one_view_of_a_number.Goals as goal
 
 -- src/run_laws.rt:12:1

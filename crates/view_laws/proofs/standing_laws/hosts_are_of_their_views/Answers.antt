@@ -1,4 +1,4 @@
-use Rattle.view_laws.proofs.StandingMembers.{are_of_views}
+use Rattle.view_laws.proofs.standing.Members.{are_of_views}
 use Rattle.view_laws.proofs.standing_laws.hosts_are_of_their_views.Goals as goal
 
 pub returns : goal.returns

@@ -1,4 +1,4 @@
-use Rattle.view_laws.proofs.StandingNumbers.{never_fall}
+use Rattle.view_laws.proofs.standing.Numbers.{never_fall}
 use Rattle.view_laws.proofs.standing_laws.numbers_never_fall.Goals as goal
 
 pub returns : goal.returns

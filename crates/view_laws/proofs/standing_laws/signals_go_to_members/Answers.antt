@@ -1,4 +1,4 @@
-use Rattle.view_laws.proofs.FollowRoutes.{go_to_members}
+use Rattle.view_laws.proofs.follow.Routes.{go_to_members}
 use Rattle.view_laws.proofs.standing_laws.signals_go_to_members.Goals as goal
 
 -- src/standing_laws.rt:20:1

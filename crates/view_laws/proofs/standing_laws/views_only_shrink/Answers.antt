@@ -1,4 +1,4 @@
-use Rattle.view_laws.proofs.RunShrink.{views_shrink}
+use Rattle.view_laws.proofs.runs.ViewsShrink.{views_shrink}
 use Rattle.view_laws.proofs.standing_laws.views_only_shrink.Goals as goal
 
 -- src/standing_laws.rt:25:1

@@ -1,5 +1,5 @@
-use Rattle.view_laws.proofs.FollowHosts.{arbiters_follow}
-use Rattle.view_laws.proofs.VotesShell.{arbiters_vote}
+use Rattle.view_laws.proofs.follow.Hosts.{arbiters_follow}
+use Rattle.view_laws.proofs.votes.Arbitrators.{arbiters_vote}
 use Rattle.view_laws.proofs.vote_laws.arbiters_vote.Goals as goal
 
 pub returns : goal.returns

@@ -30,10 +30,12 @@ loop-before-preserved c =
       done = pushed
           ∙ ap (λ xs. xs ++ next ∷ []) c.loop-before.invariant.done
           ∙ ap (λ host. for_each (k + 1) (started start) ++ host ∷ [])
-          (part_begins start k c.args.there.now c.first-layout.result c.part_by-part.result c.member_at-member.result next
+          (part_begins start k c.args.there.now c.first-layout.result c.part_by-part.result c.member_at-member.result
+          next
           c.requires.there c.first-layout.ensures c.part_by-part.ensures c.member_at-member.ensures
           c.in_ok-part_started.ensures)
           ∙ sym (each_more (k + 1) (started start));
-      count = ap length pushed ∙ omega (arith, length_push c.loop-before.bodies.items next, c.loop-before.invariant.count);
+      count =
+          ap length pushed ∙ omega (arith, length_push c.loop-before.bodies.items next, c.loop-before.invariant.count);
       room = omega (arith, c.push_reserved-in-loop-before.ensures.capacity, c.loop-before.invariant.room);
     }

@@ -21,4 +21,5 @@ returns-clause-records c = λ q.
     let slots = c.self.inside.places.slots in
     let held = c.self.inside.held.items in
     ap (λ ps. held_at held (place_of ps q)) c.claim.ensures.slots
-    ∙ claimed_records slots held c.self.invariant c.args.key.now q ∙ ap (λ (h : HeldState). records_on h q) c.self.view_is
+    ∙ claimed_records slots held c.self.invariant c.args.key.now q
+    ∙ ap (λ (h : HeldState). records_on h q) c.self.view_is

@@ -26,7 +26,8 @@ invariant_of-self c =
     ap (λ ps. place_of ps key) same_slots ∙ sym c.in-Some.ensures in
     let P : List (Option Slot) → Type 0 = λ ps. IsIndexed ps index c.self.inside.spare in
     subst P (sym c.set.ensures.slots)
-    (rewritten_indexed slots index c.self.inside.spare c.self.invariant key c.in-Some.at c.args.row.now c.args.epoch there)
+    (rewritten_indexed slots index c.self.inside.spare c.self.invariant key c.in-Some.at c.args.row.now c.args.epoch
+    there)
 
 pub returns-in-Some : goal.returns-in-Some
 returns-in-Some c =

@@ -24,7 +24,8 @@ invariant_of-self c =
     let there : place_of slots key ≡ Some c.args.at = ap (λ ps. place_of ps key) same_slots ∙ c.requires in
     let P : List (Option Slot) → Type 0 = λ ps. IsIndexed ps c.leave.new.self.at c.self.inside.spare in
     subst P (sym c.free.ensures)
-    (freed_indexed slots index c.self.inside.spare c.self.invariant c.leave.new.self.at key c.args.at there c.leave.ensures.gone
+    (freed_indexed slots index c.self.inside.spare c.self.invariant c.leave.new.self.at key c.args.at there
+    c.leave.ensures.gone
     c.leave.ensures.others)
 
 pub returns-clause-gone : goal.returns-clause-gone

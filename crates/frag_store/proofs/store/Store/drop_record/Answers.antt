@@ -2,9 +2,9 @@ use Rattle.std.proofs.Common.{◌≡◌, ◌∙◌, ap, arith, refl, subst}
 use Rattle.std.specs.List.{count_by}
 use Rattle.sig_core.specs.Rows.{RowsState, drop_by, is_on, record_at, record_of}
 use Rattle.frag_store.specs.HeldPlaces.{records_on}
-use Rattle.frag_store.specs.Records.{record_by}
-use Rattle.frag_store.proofs.CountLemmas.{count-remove, count-some}
-use Rattle.frag_store.proofs.RowLemmas.{drop_found, drop_kept}
+use Rattle.row_records.specs.Records.{record_by}
+use Rattle.row_records.proofs.CountLemmas.{count-remove, count-some}
+use Rattle.row_records.proofs.RowLemmas.{drop_found, drop_kept}
 use Rattle.frag_store.proofs.store.Store.drop_record.Goals as goal
 
 pub let_go-requires : goal.let_go-requires
@@ -23,7 +23,8 @@ pub returns-then-version-committed : goal.returns-then-version-committed
 returns-then-version-committed c =
     let tx = c.args.tx in
     let key = c.args.key.now in
-    let s : RowsState = record { places = c.self.inside.places.places.slots; pending = c.self.inside.records.pending } in
+    let s : RowsState =
+    record { places = c.self.inside.places.places.slots; pending = c.self.inside.records.pending } in
     let view : s ≡ c.args.self.now.rows = ap (λ m. m.rows) c.self.view_is in
     let less = count-remove c.self.inside.records.pending c.in-Some.at (record_by tx key c.in-Some.version.now) key
     c.in-Some.ensures.record in
@@ -45,7 +46,8 @@ pub returns-else-version-committed : goal.returns-else-version-committed
 returns-else-version-committed c =
     let tx = c.args.tx in
     let key = c.args.key.now in
-    let s : RowsState = record { places = c.self.inside.places.places.slots; pending = c.self.inside.records.pending } in
+    let s : RowsState =
+    record { places = c.self.inside.places.places.slots; pending = c.self.inside.records.pending } in
     let view : s ≡ c.args.self.now.rows = ap (λ m. m.rows) c.self.view_is in
     let P : RowsState → Type 0 = λ rows. rows ≡ drop_by rows c.args.committed (record_at rows.pending tx key)
     (record_of rows tx key) in

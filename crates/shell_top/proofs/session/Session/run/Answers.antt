@@ -6,7 +6,8 @@ use Rattle.shell_top.proofs.session.Session.run.Goals as goal
 pub returns-in-Some-clause-done : goal.returns-in-Some-clause-done
 returns-in-Some-clause-done g c left written at =
     let before = c.lines.invariant.under_way left written at in
-    subst (λ shape. AreLinesDone shape left (g.S.Source.left c.next_line.new.source) written (g.K.Sink.written c.next_line.new.sink) c.in-Some.ending
+    subst (λ shape. AreLinesDone shape left (g.S.Source.left c.next_line.new.source) written
+    (g.K.Sink.written c.next_line.new.sink) c.in-Some.ending
     (whole_of c.next_line.new.self.world).logs) before.0 (c.in-Some.ensures.done left written before.1)
 
 pub lines-preserved : goal.lines-preserved

@@ -9,38 +9,53 @@ use Rattle.shell_top.proofs.session.Session.whole_line.Goals as goal
 
 pub returns-then-at-gt-LINE_BYTES-clause-done : goal.returns-then-at-gt-LINE_BYTES-clause-done
 returns-then-at-gt-LINE_BYTES-clause-done g c left_now left written u =
-    line_too_long c.args.self.now.shape left written left_now _ c.args.self.now.line c.args.self.now.reader _ u c.args.at c.requires.1.1.1.0 c.if-at-gt-LINE_BYTES.true
+    line_too_long c.args.self.now.shape left written left_now _ c.args.self.now.line c.args.self.now.reader _ u
+    c.args.at c.requires.1.1.1.0 c.if-at-gt-LINE_BYTES.true
 
 pub returns-in-Nothing-clause-done : goal.returns-in-Nothing-clause-done
 returns-in-Nothing-clause-done g c left_now left written u =
     let means : parsed_line c.args.self.now.shape.nodes (take c.args.at c.args.self.now.reader) ≡ parsed.Nothing =
-    ap (λ held. parsed_line c.args.self.now.shape.nodes (take c.args.at held)) (sym c.held.ensures) ∙ sym c.parse-parsed.ensures ∙ c.in-Nothing.is in
-    rw c.drop_front.ensures
-    (refl, goes_on c.args.self.now.shape left written left_now _ c.args.self.now.line c.args.self.now.reader _ u c.args.at c.requires.1.1.1.0 c.requires.1.1.1.1.0 c.if-at-gt-LINE_BYTES.false means)
+    ap (λ held. parsed_line c.args.self.now.shape.nodes (take c.args.at held)) (sym c.held.ensures)
+    ∙ sym c.parse-parsed.ensures ∙ c.in-Nothing.is in
+    rw c.drop_front.ensures (
+      refl,
+      goes_on c.args.self.now.shape left written left_now _ c.args.self.now.line c.args.self.now.reader _ u
+          c.args.at c.requires.1.1.1.0 c.requires.1.1.1.1.0 c.if-at-gt-LINE_BYTES.false means,
+    )
 
 pub returns-in-Ask-clause-done : goal.returns-in-Ask-clause-done
 returns-in-Ask-clause-done g c left_now left written u =
-    let means : parsed_line c.args.self.now.shape.nodes (take c.args.at c.args.self.now.reader) ≡ parsed.Ask c.in-Ask.command =
-    ap (λ held. parsed_line c.args.self.now.shape.nodes (take c.args.at held)) (sym c.held.ensures) ∙ sym c.parse-parsed.ensures ∙ c.in-Ask.is in
+    let means : parsed_line c.args.self.now.shape.nodes (take c.args.at c.args.self.now.reader)
+    ≡ parsed.Ask c.in-Ask.command =
+    ap (λ held. parsed_line c.args.self.now.shape.nodes (take c.args.at held)) (sym c.held.ensures)
+    ∙ sym c.parse-parsed.ensures ∙ c.in-Ask.is in
     rw c.drop_front.ensures
-    (line_asked c.args.self.now.shape left written left_now _ c.args.self.now.line c.args.self.now.reader _ u c.args.at c.requires.1.1.1.0 c.requires.1.1.1.1.0 c.if-at-gt-LINE_BYTES.false _ _ c.in-Ask.command
+    (line_asked c.args.self.now.shape left written left_now _ c.args.self.now.line c.args.self.now.reader _ u c.args.at
+    c.requires.1.1.1.0 c.requires.1.1.1.1.0 c.if-at-gt-LINE_BYTES.false _ _ c.in-Ask.command
     c.serve_command.result means (served_as c.requires.1.1.0 c.serve_command.ensures.printed))
 
 pub returns-in-Fault-clause-done : goal.returns-in-Fault-clause-done
 returns-in-Fault-clause-done g c left_now left written u =
-    let means : parsed_line c.args.self.now.shape.nodes (take c.args.at c.args.self.now.reader) ≡ parsed.Fault c.in-Fault.fault =
-    ap (λ held. parsed_line c.args.self.now.shape.nodes (take c.args.at held)) (sym c.held.ensures) ∙ sym c.parse-parsed.ensures ∙ c.in-Fault.is in
-    line_fault c.args.self.now.shape left written left_now _ c.args.self.now.line c.args.self.now.reader _ u c.args.at c.requires.1.1.1.0 c.requires.1.1.1.1.0 c.if-at-gt-LINE_BYTES.false c.in-Fault.fault means
+    let means : parsed_line c.args.self.now.shape.nodes (take c.args.at c.args.self.now.reader)
+    ≡ parsed.Fault c.in-Fault.fault =
+    ap (λ held. parsed_line c.args.self.now.shape.nodes (take c.args.at held)) (sym c.held.ensures)
+    ∙ sym c.parse-parsed.ensures ∙ c.in-Fault.is in
+    line_fault c.args.self.now.shape left written left_now _ c.args.self.now.line c.args.self.now.reader _ u c.args.at
+    c.requires.1.1.1.0 c.requires.1.1.1.1.0 c.if-at-gt-LINE_BYTES.false c.in-Fault.fault means
 
 pub returns-in-Quit-clause-done : goal.returns-in-Quit-clause-done
 returns-in-Quit-clause-done g c left_now left written u =
     let means : parsed_line c.args.self.now.shape.nodes (take c.args.at c.args.self.now.reader) ≡ parsed.Quit =
-    ap (λ held. parsed_line c.args.self.now.shape.nodes (take c.args.at held)) (sym c.held.ensures) ∙ sym c.parse-parsed.ensures ∙ c.in-Quit.is in
-    line_quit c.args.self.now.shape left written left_now _ c.args.self.now.line c.args.self.now.reader _ u c.args.at c.requires.1.1.1.0 c.requires.1.1.1.1.0 c.if-at-gt-LINE_BYTES.false means
+    ap (λ held. parsed_line c.args.self.now.shape.nodes (take c.args.at held)) (sym c.held.ensures)
+    ∙ sym c.parse-parsed.ensures ∙ c.in-Quit.is in
+    line_quit c.args.self.now.shape left written left_now _ c.args.self.now.line c.args.self.now.reader _ u c.args.at
+    c.requires.1.1.1.0 c.requires.1.1.1.1.0 c.if-at-gt-LINE_BYTES.false means
 
 pub serve_command-requires : goal.serve_command-requires
 serve_command-requires g c lives outlive =
-    let opened = subst (λ start. IsSound start (whole_of c.args.self.now.world)) (sym c.requires.1.1.0) c.requires.1.1.1.1.1 in
+    let opened =
+    subst (λ start. IsSound start (whole_of c.args.self.now.world)) (sym c.requires.1.1.0) c.requires.1.1.1.1.1 in
     let served = command_served c.args.self.now.shape.nodes (take c.args.at c.args.self.now.reader) c.in-Ask.command
-    (ap (λ held. parsed_line c.args.self.now.shape.nodes (take c.args.at held)) (sym c.held.ensures) ∙ sym c.parse-parsed.ensures ∙ c.in-Ask.is) in
+    (ap (λ held. parsed_line c.args.self.now.shape.nodes (take c.args.at held)) (sym c.held.ensures)
+    ∙ sym c.parse-parsed.ensures ∙ c.in-Ask.is) in
     (outlive.0, (outlive.1, (opened, served)))

@@ -5,4 +5,5 @@ use Rattle.world_views.proofs.logs.Logs.new.Given as goal
 
 -- the logs of the hosts before the next one, and room for the others
 abbrev pub invariant-loop-host : goal.invariant-loop-host
-invariant-loop-host l = (l.logs.items ≡ for_each l.host no_steps) × (length l.logs.items ≡ l.host) × (l.hosts ≤ vec_capacity l.logs)
+invariant-loop-host l =
+    (l.logs.items ≡ for_each l.host no_steps) × (length l.logs.items ≡ l.host) × (l.hosts ≤ vec_capacity l.logs)

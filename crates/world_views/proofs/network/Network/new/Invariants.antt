@@ -5,4 +5,5 @@ use Rattle.world_views.proofs.network.Network.new.Given as goal
 
 -- as many inboxes as turns, all empty, and room for the others
 abbrev pub invariant-loop : goal.invariant-loop
-invariant-loop l = (l.inboxes.items ≡ replicate l.counter (replicate l.hosts new_link)) × (l.hosts ≤ vec_capacity l.inboxes)
+invariant-loop l =
+    (l.inboxes.items ≡ replicate l.counter (replicate l.hosts new_link)) × (l.hosts ≤ vec_capacity l.inboxes)

@@ -13,5 +13,6 @@ returns-clause-ok c =
     let read = body_read w.bodies 0 c.index.result.now (first_there w c.requires).bodies c.index.ensures in
     asked_ok c.handle.result w (whole_of c.handle.new.self) x c.args.request
     (not_stopped (has_stopped_in w 0) c.runs.result c.runs.ensures c.if-not-runs.false)
-    (ap (arriving 0) c.in_ok-signal.ensures ∙ wishes w c.in_ok-view.view c.args.request c.index.result.now c.in_ok-view.ensures read)
+    (ap (arriving 0) c.in_ok-signal.ensures
+    ∙ wishes w c.in_ok-view.view c.args.request c.index.result.now c.in_ok-view.ensures read)
     c.handle.ensures.ok

@@ -7,11 +7,13 @@ loop-init g c = (under_way (whole_of c.args.self.now) c.requires, λ start sound
 
 pub returns-then-not-branch-clause-driven : goal.returns-then-not-branch-clause-driven
 returns-then-not-branch-clause-driven g c =
-    has_ended (whole_of c.args.self.now) (whole_of c.loop.self) (whole_of c.step.new.self) c.in_ok-step.field-0 c.if-not-branch.true c.loop.invariant.0 c.in_ok-step.ensures.ok
+    has_ended (whole_of c.args.self.now) (whole_of c.loop.self) (whole_of c.step.new.self) c.in_ok-step.field-0
+    c.if-not-branch.true c.loop.invariant.0 c.in_ok-step.ensures.ok
 
 pub returns-then-not-branch-clause-quiet : goal.returns-then-not-branch-clause-quiet
 returns-then-not-branch-clause-quiet g c =
-    is_quiet (whole_of c.args.self.now) (whole_of c.loop.self) (whole_of c.step.new.self) c.in_ok-step.field-0 c.if-not-branch.true c.loop.invariant.0 c.in_ok-step.ensures.ok
+    is_quiet (whole_of c.args.self.now) (whole_of c.loop.self) (whole_of c.step.new.self) c.in_ok-step.field-0
+    c.if-not-branch.true c.loop.invariant.0 c.in_ok-step.ensures.ok
 
 pub returns-in_err-step-clause-labels : goal.returns-in_err-step-clause-labels
 returns-in_err-step-clause-labels g c =
@@ -20,18 +22,22 @@ returns-in_err-step-clause-labels g c =
 
 pub returns-then-not-branch-clause-unscheduled : goal.returns-then-not-branch-clause-unscheduled
 returns-then-not-branch-clause-unscheduled g c =
-    unscheduled_further (whole_of c.args.self.now) (whole_of c.loop.self) (whole_of c.step.new.self) c.loop.invariant.0 c.loop.invariant.1
+    unscheduled_further (whole_of c.args.self.now) (whole_of c.loop.self) (whole_of c.step.new.self) c.loop.invariant.0
+    c.loop.invariant.1
     c.in_ok-step.ensures.unscheduled
 
 pub returns-in_err-step-clause-unscheduled : goal.returns-in_err-step-clause-unscheduled
 returns-in_err-step-clause-unscheduled g c =
-    unscheduled_further (whole_of c.args.self.now) (whole_of c.loop.self) (whole_of c.step.new.self) c.loop.invariant.0 c.loop.invariant.1
+    unscheduled_further (whole_of c.args.self.now) (whole_of c.loop.self) (whole_of c.step.new.self) c.loop.invariant.0
+    c.loop.invariant.1
     c.in_err-step.ensures.unscheduled
 
 pub loop-preserved : goal.loop-preserved
 loop-preserved g c = (
-  goes_on (whole_of c.args.self.now) (whole_of c.loop.self) (whole_of c.step.new.self) c.in_ok-step.field-0 c.if-not-branch.false c.loop.invariant.0 c.in_ok-step.ensures.ok,
-  unscheduled_further (whole_of c.args.self.now) (whole_of c.loop.self) (whole_of c.step.new.self) c.loop.invariant.0 c.loop.invariant.1
+  goes_on (whole_of c.args.self.now) (whole_of c.loop.self) (whole_of c.step.new.self) c.in_ok-step.field-0
+      c.if-not-branch.false c.loop.invariant.0 c.in_ok-step.ensures.ok,
+  unscheduled_further (whole_of c.args.self.now) (whole_of c.loop.self) (whole_of c.step.new.self) c.loop.invariant.0
+      c.loop.invariant.1
       c.in_ok-step.ensures.unscheduled,
   tt,
   tt,

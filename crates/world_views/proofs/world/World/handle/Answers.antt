@@ -17,12 +17,19 @@ returns-in-Ok-clause-ok c =
     let w = whole_of c.args.self.now in
     let h = c.args.host in
     let at = stamp_is w.stamps h c.args.signal.stamp (c.max-before.result + 1)
-    (omega (arith, c.max-before.ensures, get_or_read w.stamps h c.index.result.now c.requires.there.stamps c.index.ensures 0, ap (λ (x : Signal). x.stamp) c.get.ensures))
+    (omega (
+      arith,
+      c.max-before.ensures,
+      get_or_read w.stamps h c.index.result.now c.requires.there.stamps
+          c.index.ensures 0,
+      ap (λ (x : Signal). x.stamp) c.get.ensures,
+    ))
     (search rules) in
     let read = body_read w.bodies h c.index_mut.result.now c.requires.there.bodies c.index_mut.ensures.value in
     let taken =
     subst (λ (s : Host). IsTaken (host_row s c.args.signal) c.step.new.self nothing c.step.new.out) read
-    (subst (λ (x : Signal). IsTaken (host_row c.index_mut.result.now x) c.step.new.self nothing c.step.new.out) c.get-3.ensures
+    (subst (λ (x : Signal). IsTaken (host_row c.index_mut.result.now x) c.step.new.self nothing c.step.new.out)
+    c.get-3.ensures
     c.in-Ok.ensures.taken) in
     has_moved c.enter.result w (whole_of c.enter.new.self) (arriving h c.args.signal) c.step.new.self c.step.new.out at
     c.requires.there.bodies taken c.requires.given c.enter.ensures.ok
@@ -32,7 +39,13 @@ returns-in-Err-clause-ok c =
     let w = whole_of c.args.self.now in
     let h = c.args.host in
     let at = stamp_is w.stamps h c.args.signal.stamp (c.max-before.result + 1)
-    (omega (arith, c.max-before.ensures, get_or_read w.stamps h c.index.result.now c.requires.there.stamps c.index.ensures 0, ap (λ (x : Signal). x.stamp) c.get.ensures))
+    (omega (
+      arith,
+      c.max-before.ensures,
+      get_or_read w.stamps h c.index.result.now c.requires.there.stamps
+          c.index.ensures 0,
+      ap (λ (x : Signal). x.stamp) c.get.ensures,
+    ))
     (search rules) in
     let read = body_read w.bodies h c.index_mut.result.now c.requires.there.bodies c.index_mut.ensures.value in
     let seen = body_read w.bodies h c.index-2.result.now c.requires.there.bodies c.index-2.ensures in
@@ -40,7 +53,8 @@ returns-in-Err-clause-ok c =
     read_back w.bodies h c.step.new.self c.index_mut-in-Err.result.now c.requires.there.bodies
     c.index_mut-in-Err.ensures.value in
     let before = ap (λ (s : Host). s.standing.view) seen in
-    let view = stands_before c.in_ok-view.view (body_at w.bodies h).standing.view c.args.signal.view.number c.step.new.self
+    let view =
+    stands_before c.in_ok-view.view (body_at w.bodies h).standing.view c.args.signal.view.number c.step.new.self
     c.index_mut-in-Err.result.now c.put_back.new.host same
     (subst (λ (v : View). MatchOption c.in_ok-view.view (c.args.signal.view.number ≤ v.number) (λ k. k ≡ v)) before
     (subst (λ (x : Signal). MatchOption c.in_ok-view.view (x.view.number ≤ c.index-2.result.now.standing.view.number)
@@ -53,4 +67,5 @@ returns-in-Err-clause-ok c =
     has_no_memory c.fail-in-Err.result w (whole_of c.fail-in-Err.new.self) (arriving h c.args.signal) c.step.new.self
     c.put_back.new.host c.requires.there.bodies at view
     (c.put_back.ensures.kept ∙ ap (λ (s : Host). s.standing.cut) same
-    ∙ c.in-Err.ensures.kept ∙ ap (λ (s : Host). s.standing.cut) read) c.fail-in-Err.ensures.some c.fail-in-Err.ensures.ok
+    ∙ c.in-Err.ensures.kept ∙ ap (λ (s : Host). s.standing.cut) read) c.fail-in-Err.ensures.some
+    c.fail-in-Err.ensures.ok

@@ -12,20 +12,24 @@ returns-in_default-clause-ok c =
 
 pub take-requires-2-clause-there : goal.take-requires-2-clause-there
 take-requires-2-clause-there c =
-    can_take (whole_of c.args.self.now) (arrival c.in-Some.arrived.host c.in-Some.arrived.signal c.take.new.self) c.requires
+    can_take (whole_of c.args.self.now) (arrival c.in-Some.arrived.host c.in-Some.arrived.signal c.take.new.self)
+    c.requires
     c.in-Some.ensures.taken
 
 pub take-requires-2-clause-given : goal.take-requires-2-clause-given
 take-requires-2-clause-given c =
-    first_given (whole_of c.args.self.now) (arrival c.in-Some.arrived.host c.in-Some.arrived.signal c.take.new.self) c.requires
+    first_given (whole_of c.args.self.now) (arrival c.in-Some.arrived.host c.in-Some.arrived.signal c.take.new.self)
+    c.requires
     c.in-Some.ensures.taken
 
 pub returns-clause-ok : goal.returns-clause-ok
 returns-clause-ok c =
     has_stepped (whole_of c.args.self.now) (whole_of c.take-2.new.self)
-    (arrival c.in-Some.arrived.host c.in-Some.arrived.signal c.take.new.self) c.in-Some.ensures.taken c.in_ok-take.ensures.ok
+    (arrival c.in-Some.arrived.host c.in-Some.arrived.signal c.take.new.self) c.in-Some.ensures.taken
+    c.in_ok-take.ensures.ok
 
 pub returns-clause-unscheduled : goal.returns-clause-unscheduled
 returns-clause-unscheduled c =
     stepped_unscheduled (whole_of c.args.self.now) (whole_of c.take-2.new.self)
-    (arrival c.in-Some.arrived.host c.in-Some.arrived.signal c.take.new.self) c.in-Some.ensures.taken c.in_ok-take.ensures.ok
+    (arrival c.in-Some.arrived.host c.in-Some.arrived.signal c.take.new.self) c.in-Some.ensures.taken
+    c.in_ok-take.ensures.ok

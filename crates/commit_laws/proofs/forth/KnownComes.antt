@@ -1,0 +1,162 @@
+-- Whoever comes to be known to the client's side commits: a takeover tells of a commit that left traces, and
+-- coordinators are heard that are full members of the current view alone.
+use Rattle.std.proofs.Common.{◌≡◌, ◌≢◌, ◌⊎◌, ◌<◌, ◌||◌, ◌∙◌, ℕ, Bool, true, false, length, List, [], ◌∷◌, refl, sym, ap, subst, arith, inl, inr}
+use Rattle.std.proofs.lemmas.Bool.{cases_eq, or_cases, true≢false}
+use Rattle.std.specs.Prelude.{Option, None, Some}
+use Rattle.run_theory.specs.Lists.{IsIn}
+use Rattle.run_theory.proofs.Pasts.{each_in}
+use Rattle.run_theory.proofs.Runs.{log_of-other, log_of-own}
+use Rattle.frag_map.specs.Layout.{chain_of}
+use Rattle.sig_core.specs.declared.member.Member.{Member}
+use Rattle.sig_core.specs.declared.member.TxId.{TxId}
+use Rattle.sig_core.specs.declared.outs.Outgoing.{Outgoing}
+use Rattle.sig_core.specs.declared.rows.PendingRecord.{PendingRecord}
+use Rattle.sig_core.specs.declared.signal.Body.{Body}
+use Rattle.sig_core.specs.declared.signal.Body.TheVariants.{Client}
+use Rattle.sig_core.specs.declared.signal.client.ClientSignal.{ClientSignal}
+use Rattle.sig_core.specs.declared.signal.client.ClientSignal.TheVariants.{TcCommitAck, TcCommitConf, TcKeyFailConf}
+use Rattle.sig_core.proofs.TxLemmas.{same_tx-is}
+use Rattle.node_views.specs.WellFormed.{is_well_formed}
+use Rattle.world_core.specs.Start.{Start}
+use Rattle.world_core.specs.Steps.{Addressed, HostStep}
+use Rattle.world_views.specs.Hosts.{started}
+use Rattle.world_views.specs.Machine.{IsOwnWork, machine, step_after}
+use Rattle.moment_laws.specs.Moments.{IsMoment, current, logs_of}
+use Rattle.moment_laws.proofs.MomentSignals.{EachSent, taken_told}
+use Rattle.moment_laws.proofs.MomentViews.{moment_installed, moment_less}
+use Rattle.request_laws.specs.Routed.{layout_in}
+use Rattle.request_laws.specs.Ways.{is_sent}
+use Rattle.request_laws.proofs.routes.PartsOfTheFirst.{chains_in}
+use Rattle.commit_laws.specs.Commits.{ComesWhenDone}
+use Rattle.commit_laws.specs.Fates.{commits, fate, is_led_by_full}
+use Rattle.commit_laws.specs.Forth.{IsForth, TellsForth}
+use Rattle.commit_laws.specs.Going.{is_forth, is_lost}
+use Rattle.commit_laws.specs.Together.{Follows, KnownCommit}
+use Rattle.commit_laws.specs.Traces.{IsCommittedAtAll, IsReplicaOf, has_marker_at, has_sent, has_trace, is_acknowledgement, is_committed_by, is_known, members_now, record_at}
+use Rattle.commit_laws.proofs.commits.Step.{not_closing}
+use Rattle.commit_laws.proofs.gathering.EndsTold.{AreEnds, IsEnd, beside_ends}
+use Rattle.commit_laws.proofs.fates.Cases.{forth_commits}
+use Rattle.commit_laws.proofs.forth.All.{forth_is_known}
+use Rattle.commit_laws.proofs.forth.Client.{IsToldOf, by_coordinator, by_takeover}
+use Rattle.commit_laws.proofs.hosts.SomePasses.{passing}
+use Rattle.commit_laws.proofs.records.Replicas.{chain_replica, members_full}
+use Rattle.commit_laws.proofs.forth.TellersFull.{teller_full}
+use Rattle.commit_laws.proofs.markers.Traces.{marker_commits, record_commits}
+
+module _ (start : Start) (all : ℕ → List HostStep) (e : HostStep) (es : List HostStep)
+    (follows : Follows start all e es)
+  where
+    abbrev old : ℕ → List HostStep
+    old = logs_of start es
+
+    abbrev new : ℕ → List HostStep
+    new = logs_of start (e ∷ es)
+
+    abbrev moment : IsMoment start all (e ∷ es)
+    moment = follows.moment
+
+    abbrev before : IsMoment start all es
+    before = moment_less start all e es moment
+
+    abbrev sends : List Outgoing
+    sends = (step_after start 0 (old 0) e).effects.sends
+
+    -- the event takes word of the commit
+    record TakesWord (tx : TxId) : Type 0 where
+      sound : is_well_formed start.shape e.step.taken ≡ true
+      told : IsToldOf tx e.step.taken.body
+
+    ends : AreEnds TakesWord sends
+    unfolding started
+    ends = beside_ends start 0 tt TakesWord (old 0) e (λ sound tx told. record { sound = sound; told = told })
+
+    word_of : (tx : TxId) (body : Body) → IsEnd TakesWord body → is_acknowledgement tx body ≡ true → TakesWord tx
+    word_of tx (Client (TcCommitAck other)) is own = subst TakesWord (same_tx-is other tx own) is
+    word_of tx body is own = absurd (true≢false (sym own))
+
+    module _ (tx : TxId) (off : is_known start old tx ≡ false) where
+      -- whatever is committed at all replicas left a trace at one
+      module _ (key : List ℕ) (at_all : IsCommittedAtAll start old tx key) where
+        at_one : (member : Member) → IsReplicaOf start old key member → fate start old tx ≡ commits
+        at_one member is = by (record_at start old member key tx) refl (at_all.committed member is)
+          where
+            among : IsIn member (members_now start old)
+            among = subst (IsIn member) (sym (members_full start all es before)) is.full
+
+            remembered : (has_marker_at start old member key tx ≡ true) ⊎ (is_known start old tx ≡ true)
+                → fate start old tx ≡ commits
+            remembered (inl on) = marker_commits forth_is_known start all es before member among key tx on
+            remembered (inr known) = absurd (true≢false (sym known ∙ off))
+
+            by : (o : Option PendingRecord) → record_at start old member key tx ≡ o
+                → is_committed_by (has_marker_at start old member key tx || is_known start old tx) o ≡ true
+                → fate start old tx ≡ commits
+            by None none is =
+                remembered (or_cases (has_marker_at start old member key tx) (is_known start old tx) is)
+            by (Some r) there is = record_commits forth_is_known start all es before member among key tx r there is
+
+        traced : fate start old tx ≡ commits
+        traced =
+            by (chain_of (layout_in start (current start old)) key) refl
+            (chains_in start all moment.cluster (current start old) (moment_installed start all es before) key)
+          where
+            by : (chain : List Member) → chain_of (layout_in start (current start old)) key ≡ chain → 0 < length chain
+                → fate start old tx ≡ commits
+            by [] is some = absurd (omega (arith, some))
+            by (member ∷ chain) is some =
+                at_one member
+                (chain_replica start all es before key member (subst (IsIn member) (sym is) (inl refl)))
+
+      module _ (is : is_known start new tx ≡ true) where
+        at : e.host ≡ 0
+        at = by (cases_eq e.host 0)
+          where
+            by : (e.host ≡ 0) ⊎ (e.host ≢ 0) → e.host ≡ 0
+            by (inl same) = same
+            by (inr other) =
+                absurd (true≢false (sym is
+                ∙ (ap (has_sent start (is_acknowledgement tx) 0) (log_of-other (machine start) e es 0 other) ∙ off)))
+
+        acknowledges : is_sent (is_acknowledgement tx) sends ≡ true
+        acknowledges =
+            by (is_sent (is_acknowledgement tx) sends) refl
+            (subst (λ log. has_sent start (is_acknowledgement tx) 0 log ≡ true) (log_of-own (machine start) e es 0 at)
+            is)
+          where
+            by : (b : Bool) → is_sent (is_acknowledgement tx) sends ≡ b
+                → (b || has_sent start (is_acknowledgement tx) 0 (old 0)) ≡ true → b ≡ true
+            by true here is = refl
+            by false here is = absurd (true≢false (sym is ∙ off))
+
+        word : TakesWord tx
+        word =
+            let one = passing (λ (o : Outgoing). is_acknowledgement tx o.body) sends acknowledges in
+            word_of tx one.item.body (each_in (λ (o : Outgoing). IsEnd TakesWord o.body) one.item sends ends one.there)
+            one.is
+
+        -- what is told of all that was sent is told of it
+        told_of : (K : Body → Type 0) (signal : ClientSignal) → e.step.taken.body ≡ Client signal
+            → EachSent start (λ (y : Addressed). K y.signal.body) old → K (Client signal)
+        told_of K signal body_is sent =
+            subst K body_is
+            (taken_told start (λ (y : Addressed). K y.signal.body) all e es moment sent word.sound
+            (λ own. absurd (subst (IsOwnWork start e.host) body_is own))
+            (not_closing signal e.step.taken.body body_is))
+
+        comes : fate start old tx ≡ commits
+        comes = by word.told
+          where
+            by : IsToldOf tx e.step.taken.body → fate start old tx ≡ commits
+            by (by_coordinator epoch body_is) =
+                forth_commits (is_known start old tx) (is_led_by_full start old tx) (is_forth start old tx)
+                (is_lost start old tx) (has_trace start old tx)
+                (teller_full start all e es moment at word.sound tx epoch body_is acknowledges)
+                (told_of (TellsForth (IsForth start old)) (TcCommitConf tx epoch) body_is
+                (forth_is_known start all es before).signals)
+            by (by_takeover epoch body_is) =
+                let done =
+                told_of (ComesWhenDone start old) (TcKeyFailConf tx epoch) body_is follows.stood.commits.done in
+                traced done.1.key (done.0 done.1.key done.1.written)
+
+pub known_commit : KnownCommit
+known_commit start all e es follows tx is off = comes start all e es follows tx off is

@@ -1,0 +1,253 @@
+-- What becomes of the rows of a member at an event: nothing, or a view is installed, or they take the signal of the
+-- event, which then is of the current view, if it is of a kind that fences stop.
+use Rattle.std.proofs.Common.{◌≡◌, ◌≢◌, ◌⊎◌, ◌++◌, ◌∙◌, ℕ, false, List, [], ◌∷◌, append-nil, refl, sym, ap, subst, inl, inr, arith}
+use Rattle.std.proofs.lemmas.Bool.{cases_eq, true≢false}
+use Rattle.run_theory.specs.Lists.{IsIn}
+use Rattle.run_theory.proofs.Runs.{log_of-other, log_of-own}
+use Rattle.run_theory.specs.Runs.{Happens}
+use Rattle.sig_core.specs.declared.mark.Mark.{Mark}
+use Rattle.sig_core.specs.declared.member.Member.{Member}
+use Rattle.sig_core.specs.declared.outs.Outgoing.{Outgoing}
+use Rattle.sig_core.specs.declared.place.BlockId.{BlockId}
+use Rattle.sig_core.specs.declared.place.BlockId.TheVariants as block
+use Rattle.sig_core.specs.declared.place.Part.TheVariants.{Ldm}
+use Rattle.sig_core.specs.declared.signal.Signal.{Signal}
+use Rattle.sig_core.specs.declared.view.View.{View}
+use Rattle.sig_core.specs.Step.{Step}
+use Rattle.lqh_views.specs.Replica.{installed, replica_row}
+use Rattle.lqh_views.specs.State.{ReplicaState}
+use Rattle.node_views.specs.declared.host.Host as hosts
+use Rattle.node_views.specs.declared.ldm_part.LdmPart.{LdmPart}
+use Rattle.node_views.specs.declared.parts.Parts.TheVariants as part
+use Rattle.node_views.specs.Parts.{ldm_row}
+use Rattle.world_core.specs.Start.{Start, made}
+use Rattle.world_core.specs.Steps.{HostStep}
+use Rattle.world_views.specs.Machine.{after, machine, step_after, stops_by}
+use Rattle.view_laws.specs.Order.{sound_machine}
+use Rattle.view_laws.specs.Runs.{view_after}
+use Rattle.moment_laws.specs.Moments.{IsMoment, current, logs_of}
+use Rattle.moment_laws.specs.Parts.{IsPassed}
+use Rattle.moment_laws.specs.PartSteps.{PartEnters, installs, ldm_kind, remains}
+use Rattle.moment_laws.specs.Places.{ldm_of}
+use Rattle.moment_laws.proofs.MomentHosts.{part_some}
+use Rattle.moment_laws.proofs.MomentTurns.{taker_stands}
+use Rattle.moment_laws.proofs.PartKinds.{ldm_is}
+use Rattle.moment_laws.proofs.PartTaken.{IsTakenNow, handled_now}
+use Rattle.request_laws.specs.Blocks.{rows_after}
+use Rattle.request_laws.proofs.phases.AlongLogs.{told_some}
+use Rattle.request_laws.proofs.routes.PartSteps.{LdmStep, own_ldm, rows_are}
+use Rattle.commit_laws.specs.Traces.{rows_at}
+use Rattle.commit_laws.proofs.hosts.RowsGo.{AreUnapplied, Entering, Goes, StopsSilent, ldm_goes, leaves, takes}
+
+module _ (start : Start) (all : ℕ → List HostStep) (e : HostStep) (es : List HostStep)
+    (moment : IsMoment start all (e ∷ es)) (member : Member) (there : IsIn member (made start))
+  where
+    abbrev pub old : ℕ → List HostStep
+    old = logs_of start es
+
+    abbrev pub new : ℕ → List HostStep
+    new = logs_of start (e ∷ es)
+
+    abbrev pub x : Signal
+    x = e.step.taken
+
+    abbrev h : ℕ
+    h = ldm_of start member
+
+    -- the rows before the signal is taken: as they were, where their host stood in its view before, or with another
+    -- view
+    pub data IsBetween (s : ReplicaState) : Type 0 where
+      as_was : s ≡ rows_at start old member → view_after start h (e ∷ old h) ≡ view_after start h (old h) → IsBetween s
+      entered : (view : View) → s ≡ installed (rows_at start old member) view → IsBetween s
+
+    -- what the host of the rows sends is what these send, or nothing; and its marks are theirs, behind some that mark
+    -- nothing to be applied
+    pub record IsTakenAt (s : ReplicaState) : Type 0 where
+      pub at : e.host ≡ h
+      pub now : IsTakenNow start all e es moment block.Lqh
+      pub rows_are : rows_at start new member ≡ (replica_row s x).state
+      pub sent : ((step_after start h (old h) e).effects.sends ≡ (replica_row s x).effects.sends)
+          ⊎ ((step_after start h (old h) e).effects.sends ≡ [])
+      -- all of it, unless the host stops
+      pub goes : stops_by e.step.marks ≡ false
+          → (step_after start h (old h) e).effects.sends ≡ (replica_row s x).effects.sends
+      pub front : List Mark
+      pub unapplied : AreUnapplied front
+      pub marks_are : e.step.marks ≡ front ++ (replica_row s x).effects.marks
+
+    -- where the rows take nothing, their host sends nothing, and marks nothing to be applied
+    pub record IsQuiet : Type 0 where
+      pub sends : (step_after start h (old h) e).effects.sends ≡ []
+      pub marks : AreUnapplied e.step.marks
+
+    pub data RowsGo : Type 0 where
+      rest : rows_at start new member ≡ rows_at start old member → (e.host ≡ h → IsQuiet) → RowsGo
+      enter : (view : View) → rows_at start new member ≡ installed (rows_at start old member) view
+          → (e.host ≡ h → IsQuiet) → RowsGo
+      take : (s : ReplicaState) → IsBetween s → IsTakenAt s → RowsGo
+
+    -- the same, and which view it is: the current one
+    pub data RowsTurn : Type 0 where
+      rest_now : rows_at start new member ≡ rows_at start old member → (e.host ≡ h → IsQuiet)
+          → (e.host ≡ h → view_after start h (e ∷ old h) ≡ view_after start h (old h)) → RowsTurn
+      enter_now : rows_at start new member ≡ installed (rows_at start old member) (current start new)
+          → (e.host ≡ h → IsQuiet) → RowsTurn
+      take_now : (s : ReplicaState) → IsBetween s
+          → (s ≡ rows_at start old member) ⊎ (s ≡ installed (rows_at start old member) (current start new))
+          → IsTakenAt s → RowsTurn
+
+    forgets : RowsTurn → RowsGo
+    forgets (rest_now is quiet stays) = rest is quiet
+    forgets (enter_now is quiet) = enter (current start new) is quiet
+    forgets (take_now s between which taken) = take s between taken
+
+    module _ (at : e.host ≡ h) where
+      abbrev log : List HostStep
+      log = old h
+
+      abbrev step : Step hosts.Host
+      step = step_after start h log e
+
+      abbrev own : LdmStep start h log e
+      own = own_ldm start member there log e
+
+      abbrev p : LdmPart
+      p = own.own
+
+      abbrev view_was : View
+      view_was = view_after start h log
+
+      was : rows_at start old member ≡ p.replica
+      was = rows_are start member h log refl p own.runs
+
+      -- behind the step
+      behind_is : after start h (e ∷ log) ≡ step.state
+      behind_is = told_some h (part_some start Ldm member) step
+
+      now_is : (later : LdmPart) → step.state.parts ≡ part.Ldm later → rows_at start new member ≡ later.replica
+      now_is later is =
+          ap (rows_after start member) (log_of-own (machine start) e es h at)
+          ∙ rows_are start member h (e ∷ log) refl later (ap (λ (s : hosts.Host). s.parts) behind_is ∙ is)
+
+      view_is : (seen : View) → step.state.standing.view ≡ seen → view_after start h (e ∷ log) ≡ seen
+      view_is seen is = ap (λ (s : hosts.Host). s.standing.view) behind_is ∙ is
+
+      marks_of : e.step.marks ≡ step.effects.marks
+      marks_of =
+          let happens : Happens (sound_machine start) es e = moment.run.1 in
+          subst (λ k. e.step.marks ≡ (step_after start k (old k) e).effects.marks) at happens.step.fits.marks
+
+      between_is : (between : LdmPart) (seen : View) → Entering p view_was x between seen
+          → step.state.standing.view ≡ seen → IsBetween between.replica
+      between_is between seen (remains same stands none) stood =
+          as_was (ap (λ (q : LdmPart). q.replica) same ∙ sym was) (view_is seen stood ∙ stands)
+      between_is between seen (installs above same stands is) stood =
+          entered x.view (ap (λ (q : LdmPart). q.replica) same
+          ∙ ap (λ (s : ReplicaState). installed s x.view) (sym was))
+
+      -- a view that is installed is the current one
+      seen_now : view_after start h (e ∷ log) ≡ x.view → x.view ≡ current start new
+      seen_now stands =
+          let own : view_after start e.host (e ∷ old e.host) ≡ x.view =
+          ap (λ k. view_after start k (e ∷ old k)) at ∙ stands in
+          let number : (view_after start e.host (e ∷ old e.host)).number ≡ x.view.number =
+          ap (λ (v : View). v.number) own in
+          sym own ∙ taker_stands start all e es moment (omega (arith, number))
+
+      which_is : (between : LdmPart) (seen : View) → Entering p view_was x between seen
+          → step.state.standing.view ≡ seen
+          → (between.replica ≡ rows_at start old member)
+          ⊎ (between.replica ≡ installed (rows_at start old member) (current start new))
+      which_is between seen (remains same stands none) stood = inl (ap (λ (q : LdmPart). q.replica) same ∙ sym was)
+      which_is between seen (installs above same stands is) stood =
+          inr (ap (λ (q : LdmPart). q.replica) same
+          ∙ (λ i. installed (sym was i) (seen_now (view_is seen stood ∙ stands) i)))
+
+      -- the rows take nothing
+      idle : (between : LdmPart) (seen : View) → Entering p view_was x between seen
+          → step.state.standing.view ≡ seen → rows_at start new member ≡ between.replica → IsQuiet → RowsTurn
+      idle between seen (remains same stands none) stood now quiet =
+          rest_now (now ∙ (ap (λ (q : LdmPart). q.replica) same ∙ sym was)) (λ here. quiet)
+          (λ here. view_is seen stood ∙ stands)
+      idle between seen (installs above same stands is) stood now quiet =
+          enter_now
+          (now ∙ (ap (λ (q : LdmPart). q.replica) same
+          ∙ (λ i. installed (sym was i) (seen_now (view_is seen stood ∙ stands) i))))
+          (λ here. quiet)
+
+      passed_to : (between : LdmPart) (seen : View) → Entering p view_was x between seen
+          → step.state.standing.view ≡ seen → IsPassed start.shape (part.Ldm between) seen x → x.to.block ≡ block.Lqh
+          → IsTakenNow start all e es moment block.Lqh
+      passed_to between seen entering stood passed to =
+          handled_now start all e es moment ldm_kind ldm_is p
+          (subst (λ k. (after start k (old k)).parts ≡ part.Ldm p) (sym at) own.runs) between []
+          (subst (λ k. PartEnters ldm_kind p (view_after start k (old k)) x between (view_after start k (e ∷ old k)) [])
+          (sym at) (subst (λ (v : View). Entering p view_was x between v) (sym (view_is seen stood)) entering))
+          (subst (λ k. IsPassed start.shape (part.Ldm between) (view_after start k (e ∷ old k)) x) (sym at)
+          (subst (λ (v : View). IsPassed start.shape (part.Ldm between) v x) (sym (view_is seen stood)) passed))
+          block.Lqh to
+
+      own_turn : RowsTurn
+      unfolding ldm_row
+      own_turn = by (ldm_goes start h log e p own.runs)
+        where
+          taking : (between : LdmPart) (seen : View) → Entering p view_was x between seen
+              → IsPassed start.shape (part.Ldm between) seen x → step.state.standing.view ≡ seen → (b : BlockId)
+              → x.to.block ≡ b → step.state.parts ≡ part.Ldm (ldm_row between b x).state
+              → (step.effects.sends ≡ (ldm_row between b x).effects.sends) ⊎ StopsSilent step.effects
+              → (front : List Mark) → AreUnapplied front
+              → step.effects.marks ≡ front ++ (ldm_row between b x).effects.marks → RowsTurn
+          taking between seen entering passed stood block.Lqh to parts sends front none marks =
+              take_now between.replica (between_is between seen entering stood)
+              (which_is between seen entering stood) (record {
+                at = at;
+                now = passed_to between seen entering stood passed to;
+                rows_are = now_is (ldm_row between block.Lqh x).state parts;
+                sent = sent_or sends;
+                goes = λ on. sent_on on sends;
+                front = front;
+                unapplied = none;
+                marks_are = marks_of ∙ marks;
+              })
+            where
+              row_sends : List Outgoing
+              row_sends = (replica_row between.replica x).effects.sends
+
+              sent_or : (step.effects.sends ≡ row_sends) ⊎ StopsSilent step.effects
+                  → (step.effects.sends ≡ row_sends) ⊎ (step.effects.sends ≡ [])
+              sent_or (inl is) = inl is
+              sent_or (inr silent) = inr silent.sends
+
+              sent_on : stops_by e.step.marks ≡ false → (step.effects.sends ≡ row_sends) ⊎ StopsSilent step.effects
+                  → step.effects.sends ≡ row_sends
+              sent_on on (inl is) = is
+              sent_on on (inr silent) =
+                  absurd (true≢false (sym (ap stops_by marks_of ∙ silent.stops) ∙ on))
+          taking between seen entering passed stood _ to parts sends front none marks =
+              idle between seen entering stood (now_is between parts) (record {
+                sends = quiet sends;
+                marks = subst AreUnapplied (sym (marks_of ∙ (marks ∙ append-nil front))) none;
+              })
+            where
+              quiet : (step.effects.sends ≡ []) ⊎ StopsSilent step.effects → step.effects.sends ≡ []
+              quiet (inl is) = is
+              quiet (inr silent) = silent.sends
+
+          by : Goes start.shape p view_was x step → RowsTurn
+          by (leaves between seen entering parts stood sends marks) =
+              idle between seen entering stood (now_is between parts)
+              (record { sends = sends; marks = subst AreUnapplied (sym marks_of) marks })
+          by (takes between seen entering passed parts stood sends front none marks) =
+              taking between seen entering passed stood x.to.block refl parts sends front none marks
+
+    pub rows_turn : RowsTurn
+    rows_turn = by (cases_eq e.host h)
+      where
+        by : (e.host ≡ h) ⊎ (e.host ≢ h) → RowsTurn
+        by (inl at) = own_turn at
+        by (inr other) =
+            rest_now (ap (rows_after start member) (log_of-other (machine start) e es h other))
+            (λ here. absurd (other here)) (λ here. absurd (other here))
+
+    pub rows_go : RowsGo
+    rows_go = forgets rows_turn

@@ -1,0 +1,21 @@
+-- What a coordinator has, says and owes of its transactions: turn by turn, signal by signal, and along its log.
+pub mod Commits
+pub mod Goes
+pub mod HostTurns
+pub mod Keyless
+pub mod Keys
+pub mod Lives
+pub mod Marks
+pub mod Moves
+pub mod NodeOps
+pub mod Numbers
+pub mod OfLive
+pub mod OneWay
+pub mod Operations
+pub mod Owes
+pub mod PhaseSends
+pub mod Sends
+pub mod Steps
+pub mod TurnKinds
+pub mod Turns
+pub mod Ways

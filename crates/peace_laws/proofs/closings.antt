@@ -1,0 +1,29 @@
+-- A closing of an epoch in peace, moment by moment: the president's master asks all members, hears all, and goes on to
+-- the next stage, until its end is told. An induction over the moments of the closing, each host's step by itself.
+pub mod AnswerOn
+pub mod AskedMoment
+pub mod AskingSteps
+pub mod Ease
+pub mod Ends
+pub mod Letters
+pub mod ListOn
+pub mod MainOn
+pub mod Marks
+pub mod MasterAnswers
+pub mod MasterNear
+pub mod MemberMoves
+pub mod MemberOn
+pub mod Moments
+pub mod Next
+pub mod NextEpochs
+pub mod OrderLists
+pub mod RequestOn
+pub mod Runs
+pub mod ShellOn
+pub mod ShellOwns
+pub mod Signals
+pub mod SpentEpochs
+pub mod StageBegins
+pub mod Steps
+pub mod Voices
+pub mod WayOn

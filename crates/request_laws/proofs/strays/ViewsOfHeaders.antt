@@ -1,0 +1,96 @@
+-- The view of a signal that a host takes was installed before: in right logs in which the host is about to take it.
+use Rattle.std.proofs.Common.{◌≡◌, ◌≢◌, ◌⊎◌, ℕ, List, ◌∷◌, subst, inl, inr}
+use Rattle.std.proofs.lemmas.Bool.{cases_eq}
+use Rattle.frag_map.specs.Shape.{IsShape}
+use Rattle.run_theory.proofs.Along.{along_signals_of_logs}
+use Rattle.run_theory.proofs.Pasts.{past_cases}
+use Rattle.run_theory.proofs.Runs.{log_of-other, log_of-own, logs_of_run}
+use Rattle.run_theory.specs.Along.{Comes, IsKept}
+use Rattle.run_theory.specs.Lists.{IsPast}
+use Rattle.run_theory.specs.Runs.{IsWithin, log_of}
+use Rattle.sig_core.specs.declared.view.View.{View}
+use Rattle.world_core.specs.Hosts.{hosts}
+use Rattle.world_core.specs.Start.{Start}
+use Rattle.world_core.specs.Steps.{HostStep}
+use Rattle.world_views.proofs.SentFacts.{is_stamped}
+use Rattle.world_views.specs.Machine.{machine}
+use Rattle.view_laws.specs.Runs.{AreOfCluster, WasInstalled}
+use Rattle.view_laws.proofs.runs.Headers.{AreInstalled, HasInstalled, kept, old_taken}
+use Rattle.view_laws.proofs.runs.ChosenViews.{past_none, within_less}
+
+-- there are right logs in which the host has this log, and the view was installed
+pub record IsHeaded (start : Start) (h : ℕ) (log : List HostStep) (view : View) : Type 0 where
+  pub old : ℕ → List HostStep
+  pub are : AreOfCluster start old
+  pub own : old h ≡ log
+  pub was : WasInstalled start old view
+
+module _ (start : Start) (shape : IsShape start.shape) where
+  -- so it is with each step of a log
+  abbrev AreHeaded : (ℕ → List HostStep) → Type 0
+  AreHeaded logs =
+      IsWithin (hosts start) logs → (h : ℕ) (log : List HostStep) (e : HostStep) → IsPast (e ∷ log) (logs h)
+      → IsHeaded start h log e.step.taken.view
+
+  abbrev AreBoth : (ℕ → List HostStep) → Type 0
+  AreBoth logs = AreInstalled start logs × AreHeaded logs
+
+  module _ (es : List HostStep) (e : HostStep) (come : Comes (machine start) (HasInstalled start) AreBoth es e) where
+    comes : Comes (machine start) (HasInstalled start) (AreInstalled start) es e
+    comes = record {
+      run = come.run;
+      happens = come.happens;
+      all = record {
+        law = come.all.law.0;
+        sent_hold = come.all.sent_hold;
+        closing_hold = come.all.closing_hold;
+      };
+      told = come.told;
+    }
+
+    now_headed : IsWithin (hosts start) (log_of (machine start) (e ∷ es)) → (h : ℕ) (log : List HostStep) (f : HostStep)
+        → e ∷ log_of (machine start) es h ≡ f ∷ log → IsHeaded start h log f.step.taken.view
+    now_headed within h log f is = record {
+      old = log_of (machine start) es;
+      are = record {
+        shape = shape;
+        right = logs_of_run (machine start) es come.run;
+        within = within_less start e es within;
+      };
+      own = cc is;
+      was =
+          let same : e ≡ f = cc is in
+          subst (λ (f : HostStep). WasInstalled start (log_of (machine start) es) f.step.taken.view) same
+          (old_taken start es e comes within);
+    }
+
+    headed_next : AreHeaded (log_of (machine start) (e ∷ es))
+    headed_next within h log f past = by (cases_eq e.host h)
+      where
+        before : IsPast (f ∷ log) (log_of (machine start) es h) → IsHeaded start h log f.step.taken.view
+        before = come.all.law.1 (within_less start e es within) h log f
+
+        own : (e ∷ log_of (machine start) es h ≡ f ∷ log) ⊎ IsPast (f ∷ log) (log_of (machine start) es h)
+            → IsHeaded start h log f.step.taken.view
+        own (inl is) = now_headed within h log f is
+        own (inr older) = before older
+
+        by : (e.host ≡ h) ⊎ (e.host ≢ h) → IsHeaded start h log f.step.taken.view
+        by (inl at) = own (past_cases e (subst (IsPast (f ∷ log)) (log_of-own (machine start) e es h at) past))
+        by (inr other) = before (subst (IsPast (f ∷ log)) (log_of-other (machine start) e es h other) past)
+
+  both_kept : IsKept (machine start) (HasInstalled start) AreBoth
+  both_kept = record {
+    start = ((kept start).start, λ within h log e past. absurd (cc (past_none (e ∷ log) past)));
+    step = λ es e come. ((kept start).step es e (comes es e come), headed_next es e come);
+    sends = λ es e come. (kept start).sends es e (comes es e come);
+    closing = λ es e come. (kept start).closing es e (comes es e come);
+    stays = λ es e x come. (kept start).stays es e x (comes es e come);
+  }
+
+  pub headed : (all : ℕ → List HostStep) → AreOfCluster start all → (h : ℕ) (log : List HostStep) (e : HostStep)
+      → IsPast (e ∷ log) (all h) → IsHeaded start h log e.step.taken.view
+  headed all are =
+      (along_signals_of_logs (machine start) (is_stamped start) (HasInstalled start) AreBoth both_kept (hosts start) all
+      are.within are.right).law.1
+      are.within

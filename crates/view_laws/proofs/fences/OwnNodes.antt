@@ -1,0 +1,218 @@
+-- The blocks of a host that runs no membership know its member's node, and stay of it.
+use Rattle.std.proofs.Common.{◌≡◌, ◌%◌, ℕ, zero, suc, Bool, true, false, List, [], ◌∷◌, refl, ap, ◌∙◌}
+use Rattle.sig_core.specs.declared.member.Member.{Member}
+use Rattle.sig_core.specs.declared.place.BlockId.{BlockId}
+use Rattle.sig_core.specs.declared.place.BlockId.TheVariants as block
+use Rattle.sig_core.specs.declared.reply.ApiReply.{ApiReply}
+use Rattle.sig_core.specs.declared.signal.Body.{Body}
+use Rattle.sig_core.specs.declared.signal.Signal.{Signal}
+use Rattle.sig_core.specs.declared.view.View.{View}
+use Rattle.tc_block.proofs.TurnRows.{tells}
+use Rattle.tc_block.specs.declared.transaction.Transaction.{Transaction}
+use Rattle.tc_block.specs.Live.{turned_if}
+use Rattle.tc_block.specs.State.{TcState}
+use Rattle.tc_block.specs.Turn.{Turn}
+use Rattle.lqh_block.proofs.LqhForms.{lqh_forms}
+use Rattle.lqh_block.specs.Lqh.{lqh_table}
+use Rattle.lqh_block.specs.State.{LqhState}
+use Rattle.lqh_views.specs.Replica.{replica_row}
+use Rattle.lqh_views.specs.State.{ReplicaState}
+use Rattle.node_views.specs.Blocks.{parts_row}
+use Rattle.node_views.specs.declared.host.Host as hosts
+use Rattle.node_views.specs.declared.ldm_part.LdmPart.{LdmPart}
+use Rattle.node_views.specs.declared.parts.Parts.{Parts}
+use Rattle.node_views.specs.declared.parts.Parts.TheVariants.{Shell, Main, Tc, Ldm}
+use Rattle.node_views.specs.declared.tc_part.TcPart.{TcPart}
+use Rattle.node_views.specs.Parts.{ldm_row, tc_row}
+use Rattle.node_views.specs.Replies.{giving}
+use Rattle.node_views.specs.Row.{entered}
+use Rattle.qmgr_block.specs.Laws.{Event}
+use Rattle.tc_views.specs.Coordinator.{coordinator_row}
+use Rattle.tc_views.specs.State.{CoordinatorState}
+use Rattle.world_core.specs.Hosts.{member_at, part_by}
+use Rattle.world_core.specs.Start.{Start, made}
+use Rattle.world_core.specs.Steps.{HostStep}
+use Rattle.world_views.specs.Hosts.{part_started, started}
+use Rattle.world_views.specs.Machine.{after}
+use Rattle.sig_core.specs.declared.member.TxId.{TxId}
+use Rattle.lqh_views.proofs.Walk.{replica_outcomes}
+use Rattle.tc_views.proofs.Walk.{coordinator_outcomes}
+use Rattle.view_laws.specs.HostEvents.{events_of}
+use Rattle.view_laws.proofs.fences.Rows.{dih_node}
+use Rattle.view_laws.proofs.follow.Hosts.{started_behind}
+use Rattle.view_laws.proofs.follow.Walk.{IsSeen, along, log_goes}
+use Rattle.view_laws.proofs.votes.Others.{still_node}
+use Rattle.view_laws.proofs.votes.Parts.{own_node}
+
+-- a coordinator's
+turned_node : (s : TcState) (at : ℕ) (turn : Turn) (b : Bool) → (turned_if s at turn b).state.node ≡ s.node
+turned_node s at turn true = refl
+turned_node s at turn false = refl
+
+-- whatever turn is taken
+abbrev AnyTurn : TxId → Transaction → Turn → Type 0
+AnyTurn tx t turn = Unit {0}
+
+coordinator_node : (s : CoordinatorState) (x : Signal) → (coordinator_row s x).state.tc.node ≡ s.tc.node
+coordinator_node s x =
+    coordinator_outcomes AnyTurn (λ step. step.state.node ≡ s.tc.node) s x (record {
+      calm = record {
+        turns = λ tx t at split. record {
+          goes_on = λ at is. tt;
+          operates = λ op is. tt;
+          decides = λ is. tt;
+          rolls_back = λ is. tt;
+          waits = λ is. tt;
+          answers = λ key answer is. tt;
+          refuses = λ key why is. tt;
+          committed = λ key is. tt;
+          completed = λ key is. tt;
+          aborted = λ key is. tt;
+          commits = λ epoch is. tt;
+        };
+        turned = λ tx t at split turn own. turned_node s.tc at turn turn.over;
+        stays = refl;
+        full = λ name. refl;
+        begins = λ name. refl;
+        passes = λ tx ahead. refl;
+      };
+      resumes = λ tx t at split. record {
+        stays = tt;
+        fails = λ number is. record { enters = λ some. tt; ends = λ none. tt };
+        anew = λ why verifying awaited at b. tt;
+        recommits = λ epoch awaited at. tt;
+        recompletes = λ epoch awaited at. tt;
+      };
+      promises = refl;
+      goes_on = λ step node b same. same;
+    })
+
+-- that of the rows
+rows_node : (s : LqhState) (body : Body) → (lqh_table s body).state.node ≡ s.node
+rows_node s body =
+    lqh_forms (λ body step. step.state.node ≡ s.node) s (record {
+      asks = λ r. record { granted = λ is. refl; queued = λ ahead is. refl };
+      grants = λ at. record { none = λ is. refl; some = λ place r is here. refl };
+      commits = λ tx key epoch chain at. record {
+        last = λ had st markers applies first. refl;
+        passes = λ had st markers applies first. refl;
+      };
+      completes = λ tx key chain at. record { last = λ first. refl; passes = λ first. refl };
+      aborts = λ tx key. record {
+        none = λ had st gives none. refl;
+        some = λ had st gives at r there here. refl;
+      };
+      acknowledges = λ tx markers. refl;
+      waits = λ tx key. record { none = λ is. refl; some = λ ahead is. refl };
+      dumps = λ at rows next. refl;
+      ages = record {
+        rests = λ is. refl;
+        none = λ tx key is none. refl;
+        some = λ tx key is at r there here. refl;
+      };
+      expires = λ at. record {
+        rests = λ is. refl;
+        none = λ tx key is none. refl;
+        some = λ tx key is place r there here. refl;
+      };
+      rests = λ body is. refl;
+    }) body
+
+replica_node : (s : ReplicaState) (x : Signal) → (replica_row s x).state.lqh.node ≡ s.lqh.node
+replica_node s x =
+    replica_outcomes s x (λ step. step.state.lqh.node ≡ s.lqh.node) (record {
+      passes = λ of_rows. rows_node s.lqh x.body;
+      stales = λ of_waits stale. refl;
+      unasked = λ at is none. refl;
+      ignores = λ signal is. refl;
+      promises = λ proposal is. refl;
+      closes = λ epoch is. refl;
+      saves = λ epoch is. refl;
+      states = λ is. refl;
+      tells_record = λ r is at one last left. refl;
+      tells_marker = λ r is at m none last left. refl;
+      ends = λ r is none no_marker. refl;
+    })
+
+-- that of each block
+tc_takes : (p : TcPart) (to b : BlockId) (x : Signal) → own_node (Tc (tc_row p to x).state) b ≡ own_node (Tc p) b
+unfolding tc_row
+tc_takes p block.Tc block.Dih x = refl
+tc_takes p block.Tc _ x = coordinator_node p.coordinator x
+tc_takes p block.Takeover block.Dih x = refl
+tc_takes p block.Takeover _ x = refl
+tc_takes p block.Dih block.Dih x = dih_node p.dih x
+tc_takes p block.Dih _ x = refl
+tc_takes p _ b x = refl
+
+ldm_takes : (p : LdmPart) (to b : BlockId) (x : Signal) → own_node (Ldm (ldm_row p to x).state) b ≡ own_node (Ldm p) b
+unfolding ldm_row
+ldm_takes p block.Lqh b x = replica_node p.replica x
+ldm_takes p _ b x = refl
+
+node_takes : (parts : Parts) (b : BlockId) (x : Signal) → own_node (parts_row parts x).state b ≡ own_node parts b
+node_takes (Shell p) b x = refl
+node_takes (Main p) b x = refl
+node_takes (Tc p) b x = tc_takes p x.to.block b x
+node_takes (Ldm p) b x = ldm_takes p x.to.block b x
+
+node_tells : (parts : Parts) (b : BlockId) (replies : List ApiReply)
+    → own_node (giving parts replies) b ≡ own_node parts b
+node_tells (Shell p) b replies = refl
+node_tells (Main p) b replies = refl
+node_tells (Tc p) b replies = refl
+node_tells (Ldm p) b replies = refl
+
+node_entered : (b : BlockId) (s : hosts.Host) (view : View)
+    → own_node (entered s view).state.parts b ≡ own_node s.parts b
+unfolding entered
+node_entered b s view = still_node s.parts view b
+
+-- no event changes it
+no_block : BlockId → Bool
+no_block block = false
+
+stays_node : ℕ → Event → ℕ
+stays_node node event = node
+
+node_seen : BlockId → hosts.Host → ℕ
+node_seen b s = own_node s.parts b
+
+node_is_seen : (b : BlockId) → IsSeen no_block (node_seen b) stays_node
+unfolding no_block stays_node node_seen
+node_is_seen b = record {
+  enters = node_entered b;
+  takes_by = λ s x. node_takes s.parts b x;
+  stands = λ s standing same. refl;
+  tells = λ s replies. node_tells s.parts b replies;
+}
+
+along_stays : (node : ℕ) (events : List Event) → along stays_node node events ≡ node
+unfolding stays_node
+along_stays node [] = refl
+along_stays node (event ∷ events) = along_stays node events
+
+module _ (start : Start) (k left : ℕ) (part : k % 3 ≡ suc left) where
+  begun_node : (m : Member) (left : ℕ) (b : BlockId)
+      → own_node (part_started start (part_by (suc left)) m).parts b ≡ m.node
+  begun_node m zero block.Dih = refl
+  begun_node m zero _ = refl
+  begun_node m (suc left) b = refl
+
+  begins : (b : BlockId) → node_seen b (started start (suc k)) ≡ (member_at (made start) (suc k)).node
+  unfolding node_seen
+  begins b =
+      let m = member_at (made start) (suc k) in
+      ap (λ (s : hosts.Host). own_node s.parts b) (started_behind start k)
+      ∙ ap (λ r. own_node (part_started start (part_by r) m).parts b) part
+      ∙ begun_node m left b
+
+  -- so it is along the log of a host that runs neither a membership nor the arbitrator
+  pub node_after : (log : List HostStep) (b : BlockId)
+      → own_node (after start (suc k) log).parts b ≡ (member_at (made start) (suc k)).node
+  unfolding node_seen
+  node_after log b =
+      let events = events_of no_block start (suc k) log in
+      log_goes no_block (node_seen b) stays_node (node_is_seen b) start (suc k) log
+      ∙ along_stays (node_seen b (started start (suc k))) events
+      ∙ begins b

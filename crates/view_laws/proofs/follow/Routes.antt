@@ -1,0 +1,58 @@
+-- What a host of a node sends goes to the shell's host, or to one of a member of its view.
+use Rattle.std.proofs.Common.{◌≡◌, ◌==◌, ◌⊎◌, ◌<◌, ℕ, zero, suc, Bool, true, false, filter, sym, subst, refl, arith, inl, inr}
+use Rattle.std.specs.Prelude.{if◌then◌else◌, Option, None, Some}
+use Rattle.run_theory.specs.Lists.{IsIn}
+use Rattle.run_theory.proofs.EachSent.{each_get}
+use Rattle.run_theory.proofs.Pasts.{each_from, each_map}
+use Rattle.sig_core.specs.declared.member.Member.{Member}
+use Rattle.sig_core.specs.declared.place.Place.{Place}
+use Rattle.sig_core.specs.declared.view.View.{View}
+use Rattle.sig_core.specs.Part.{part_of}
+use Rattle.world_core.proofs.HostNumbers.{members_length}
+use Rattle.world_core.specs.Hosts.{host_by, hosts, member_of}
+use Rattle.world_core.specs.Start.{Start, made}
+use Rattle.world_core.specs.Steps.{Addressed}
+use Rattle.world_views.specs.Hosts.{known, reached}
+use Rattle.world_views.specs.Machine.{signals_of}
+use Rattle.view_laws.specs.Sets.{all_of}
+use Rattle.view_laws.specs.Standing.{IsForMember, SignalsGoToMembers}
+use Rattle.view_laws.proofs.follow.Senders.{each_sent}
+use Rattle.view_laws.proofs.memberships.SetTests.{filter_in}
+
+-- who is known of a node in a view is of that view
+pub known_in : (view : View) (node : ℕ) (member : Member) → member_of view node ≡ Some member
+    → IsIn member (all_of view)
+known_in view node member is =
+    each_get (λ m. IsIn m (all_of view)) (filter (λ (m : Member). m.node == node) (all_of view)) 0 member
+    (each_from _ (filter (λ (m : Member). m.node == node) (all_of view))
+    (λ m there. (filter_in (λ (m : Member). m.node == node) (all_of view) m there).0))
+    is
+
+module _ (start : Start) where
+  -- what goes from a part of a node, in this view, to where a place is reached
+  goes : (k : ℕ) (view : View) (to : Place) (x : Addressed) → x.signal.view ≡ view
+      → x.to ≡ reached (made start) (suc k) view to → x.to < hosts start → (x.to ≡ 0) ⊎ IsForMember start x
+  unfolding reached
+  goes k view to x view_is at low = by (to.node == 0) at
+    where
+      found : (member : Option Member) → member_of view to.node ≡ member
+          → x.to ≡ host_by (made start) (part_of to.block) member → IsForMember start x
+      found None e is = absurd (omega (arith, low, is, members_length start.shape.nodes))
+      found (Some member) e is = record {
+        member = member;
+        of = subst (λ (v : View). IsIn member (all_of v)) (sym view_is) (known_in view to.node member e);
+        part = part_of to.block;
+        is = is;
+      }
+
+      by : (b : Bool)
+          → x.to ≡ (if b then 0 else host_by (made start) (part_of to.block) (known (made start) (suc k) view to.node))
+          → (x.to ≡ 0) ⊎ IsForMember start x
+      by true is = inl is
+      by false is = inr (found (member_of view to.node) refl is)
+
+pub go_to_members : SignalsGoToMembers
+go_to_members start zero log e some = absurd (omega (arith, some))
+go_to_members start (suc k) log e some =
+    each_map _ _ (signals_of start (suc k) log e)
+    (λ x one. goes start k _ one.sent.to x one.view_is one.to) (each_sent start (suc k) log e)
