@@ -13,7 +13,6 @@ pub fn orderly_rows_stay_so()
 
 /// A law, which does nothing: the pieces of a walk lie one behind the other in its file, and are as many
 /// bytes as it says.
-#[tactic(auto, using(crate::proofs::LawLemmas::pieces_are))]
 pub fn pieces_lie_in_order()
     ensures { PiecesLieInOrder }
 {}
@@ -29,7 +28,6 @@ pub fn checkpoints_restore()
 
 /// A law, which does nothing: where rows are locked while an image of them is prepared, a walk may begin at
 /// any moment, with any position from which on the log has the prepare of what is prepared.
-#[tactic(auto, using(crate::proofs::LockLemmas::may_begin))]
 pub fn walks_may_begin()
     ensures { WalksMayBegin }
 {}
