@@ -8,7 +8,7 @@ use Rattle.sig_core.specs.Same.{same_key}
 use Rattle.sig_core.proofs.Firsts.{place_by, position-cons}
 use Rattle.local_ckpt.specs.Laws.{IsReadable, IsRowIf}
 use Rattle.local_ckpt.specs.Orderly.{AreApart, has_place}
-use Rattle.local_ckpt.specs.Passing.{epoch_or}
+use Rattle.sig_core.specs.Passing.{epoch_or}
 use Rattle.local_ckpt.proofs.PlaceLemmas.{no_place, row_at, same}
 
 -- the first place with a row: its row is that of its key, and all others stand behind it
