@@ -258,7 +258,7 @@ module _ (s : ClientState) where
   request_told request.Pending = pending_told
   request_told (request.Batch lines) = asked s.api (request.Batch lines)
   request_told request.Lcp = asked s.api request.Lcp
-  request_told (request.Start node) = asked s.api (request.Start node)
+  request_told (request.Start node own) = asked s.api (request.Start node own)
   request_told request.Crash = asked s.api request.Crash
   request_told request.Restart = asked s.api request.Restart
   request_told r = command_told r

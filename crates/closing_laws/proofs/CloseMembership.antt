@@ -106,7 +106,7 @@ promote_none k member =
     (is_settled k && is_among k.layout.view.starting member && presides k && has_number k)
 
 joining_none : (k : Known) (signal : JoiningSignal) → ClosesNone (joining_table k signal)
-joining_none k (StartReq member) = start_none k member
+joining_none k (StartReq member own) = start_none k member
 joining_none k (PromoteReq member) = promote_none k member
 joining_none k (StartGone member) = close_none k member
 joining_none k _ = tt

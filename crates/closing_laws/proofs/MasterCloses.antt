@@ -270,7 +270,7 @@ module _ (s : MasterState) (voice : Voice) (body : Body) where
       by _ is = tt
 
   epochs_mark : (signal : EpochSignal) → body ≡ Epoch signal → Marks (epoch_table s voice signal)
-  epochs_mark GcpReq is =
+  epochs_mark (GcpReq by) is =
       quiet (asked_row s (global_asked s.asked voice.member.node))
       (asked_none s (global_asked s.asked voice.member.node))
   epochs_mark MicroReq is = quiet (asked_row s (micro_asked s.asked)) (asked_none s (micro_asked s.asked))

@@ -303,7 +303,7 @@ module _ (Late : ℕ → Type 0) (Knows : Known → Type 0) where
             (learns : (t : Told) → body ≡ state_body t → (known : Known) → Knows known → Knows (learned known t))
           where
             epochs : (signal : EpochSignal) → body ≡ Epoch signal → Now (epoch_table s voice signal)
-            epochs GcpReq is =
+            epochs (GcpReq by) is =
                 unmarked (asked_row s (global_asked s.asked voice.member.node))
                 (asks (global_asked s.asked voice.member.node))
             epochs MicroReq is = unmarked (asked_row s (micro_asked s.asked)) (asks (micro_asked s.asked))

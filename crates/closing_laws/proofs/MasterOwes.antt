@@ -209,7 +209,7 @@ module _ (owes : Bool) where
 
   epochs_owe : (s : MasterState) (voice : Voice) (signal : EpochSignal) → s.owed ≡ owes
       → Owes (epoch_table s voice signal)
-  epochs_owe s voice GcpReq is = asked_owes s (global_asked s.asked voice.member.node) is
+  epochs_owe s voice (GcpReq by) is = asked_owes s (global_asked s.asked voice.member.node) is
   epochs_owe s voice MicroReq is = asked_owes s (micro_asked s.asked) is
   epochs_owe s voice GcpOrd is = ordered s is
   epochs_owe s voice (GcpStateConf current prepared next closed saved durable) is =

@@ -117,7 +117,7 @@ promote_quiet k member =
     (is_settled k && is_among k.layout.view.starting member && presides k && has_number k)
 
 joining_quiet : (k : Known) (signal : JoiningSignal) → EndsNothing (joining_table k signal)
-joining_quiet k (StartReq member) = start_quiet k member
+joining_quiet k (StartReq member own) = start_quiet k member
 joining_quiet k (PromoteReq member) = promote_quiet k member
 joining_quiet k (StartGone member) = close_quiet k member
 joining_quiet k _ = (tt, tt)

@@ -233,7 +233,7 @@ module _ (s : ClientState) where
   asked_stays request.Pending = pending_stays
   asked_stays (request.Batch lines) = api_takes (request.Batch lines)
   asked_stays request.Lcp = api_takes request.Lcp
-  asked_stays (request.Start node) = api_takes (request.Start node)
+  asked_stays (request.Start node own) = api_takes (request.Start node own)
   asked_stays request.Crash = api_takes request.Crash
   asked_stays request.Restart = api_takes request.Restart
   asked_stays r = command_stays r

@@ -259,7 +259,7 @@ module _ (x : Signal) where
   asked_fine s request.Pending = pending_fine s
   asked_fine s (request.Batch lines) = api_takes s (request.Batch lines)
   asked_fine s request.Lcp = api_takes s request.Lcp
-  asked_fine s (request.Start node) = api_takes s (request.Start node)
+  asked_fine s (request.Start node own) = api_takes s (request.Start node own)
   asked_fine s request.Crash = api_takes s request.Crash
   asked_fine s request.Restart = api_takes s request.Restart
   asked_fine s r = command_fine s r

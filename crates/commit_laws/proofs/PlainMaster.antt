@@ -206,7 +206,7 @@ module _ (P : Mark → Type 0) (own : IsOfMaster P) where
       by _ = tt
 
   epochs_plain : (s : MasterState) (voice : Voice) (signal : EpochSignal) → Marked (epoch_table s voice signal)
-  epochs_plain s voice GcpReq = asked_plain s (global_asked s.asked voice.member.node)
+  epochs_plain s voice (GcpReq by) = asked_plain s (global_asked s.asked voice.member.node)
   epochs_plain s voice MicroReq = asked_plain s (micro_asked s.asked)
   epochs_plain s voice GcpOrd = ordered s
   epochs_plain s voice (GcpStateConf current prepared next closed saved durable) =

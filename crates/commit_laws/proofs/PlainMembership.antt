@@ -107,7 +107,7 @@ promote_plain k member =
     (is_settled k && is_among k.layout.view.starting member && presides k && has_number k)
 
 joining_plain : (k : Known) (signal : JoiningSignal) → MarksPlainly (joining_table k signal)
-joining_plain k (StartReq member) = start_plain k member
+joining_plain k (StartReq member own) = start_plain k member
 joining_plain k (PromoteReq member) = promote_plain k member
 joining_plain k (StartGone member) = close_plain k member
 joining_plain k _ = tt

@@ -238,7 +238,7 @@ module _ (x : Signal) (s : ClientState) where
   asked_good request.Pending = pending_good
   asked_good (request.Batch lines) = api_takes (request.Batch lines)
   asked_good request.Lcp = api_takes request.Lcp
-  asked_good (request.Start node) = api_takes (request.Start node)
+  asked_good (request.Start node own) = api_takes (request.Start node own)
   asked_good request.Crash = api_takes request.Crash
   asked_good request.Restart = api_takes request.Restart
   asked_good r = command_good r

@@ -388,7 +388,7 @@ module _ (s : MasterState) (v : Voice) (body : Body) where
 -- each signal of epochs, and each signal
 epochs_goes : (s : MasterState) (v : Voice) (signal : EpochSignal)
     → Goes s v (Epoch signal) (epoch_table s v signal).state
-epochs_goes s v GcpReq = asked_goes s v _ (global_asked s.asked v.member.node)
+epochs_goes s v (GcpReq by) = asked_goes s v _ (global_asked s.asked v.member.node)
 epochs_goes s v MicroReq = asked_goes s v _ (micro_asked s.asked)
 epochs_goes s v GcpOrd = order_goes s v _ refl
 epochs_goes s v (GcpStateConf current prepared next closed saved durable) =

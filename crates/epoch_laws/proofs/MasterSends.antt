@@ -294,7 +294,7 @@ copies_say s voice epoch = by s.phase
     by _ = tt
 
 epochs_say : (s : MasterState) (voice : Voice) (signal : EpochSignal) → SaysOf (epoch_table s voice signal)
-epochs_say s voice GcpReq = asked_says s (global_asked s.asked voice.member.node)
+epochs_say s voice (GcpReq by) = asked_says s (global_asked s.asked voice.member.node)
 epochs_say s voice MicroReq = asked_says s (micro_asked s.asked)
 epochs_say s voice GcpOrd = ordered s
 epochs_say s voice (GcpStateConf current prepared next closed saved durable) =

@@ -71,7 +71,7 @@ use Rattle.outcome_laws.specs.Counts.{is_committing}
 abbrev pub is_plain : Body → Bool
 is_plain (Host (Continue (Transaction tx) at)) = false
 is_plain (Host told) = true
-is_plain (Epoch GcpReq) = true
+is_plain (Epoch (GcpReq by)) = true
 is_plain (Epoch MicroReq) = true
 is_plain (Client (TcBeginReq name)) = true
 is_plain (Client (TcKeyReq tx op)) = true
@@ -405,7 +405,7 @@ module _ (s : ClientState) (body : Body) (R : List OpenTransaction → List Outg
   asked_goes request.Pending = pending_goes
   asked_goes (request.Batch lines) = api_takes (request.Batch lines)
   asked_goes request.Lcp = api_takes request.Lcp
-  asked_goes (request.Start node) = api_takes (request.Start node)
+  asked_goes (request.Start node own) = api_takes (request.Start node own)
   asked_goes request.Crash = api_takes request.Crash
   asked_goes request.Restart = api_takes request.Restart
   asked_goes r = command_goes r

@@ -243,7 +243,7 @@ copies s voice epoch = by s.phase
     by _ = (tt, tt)
 
 epochs_quiet : (s : MasterState) (voice : Voice) (signal : EpochSignal) → TellsNothing (epoch_table s voice signal)
-epochs_quiet s voice GcpReq = asked_quiet s (global_asked s.asked voice.member.node)
+epochs_quiet s voice (GcpReq by) = asked_quiet s (global_asked s.asked voice.member.node)
 epochs_quiet s voice MicroReq = asked_quiet s (micro_asked s.asked)
 epochs_quiet s voice GcpOrd = ordered s
 epochs_quiet s voice (GcpStateConf current prepared next closed saved durable) =

@@ -472,7 +472,7 @@ module _ (s : ClientState) (body : Body) (R : Talk) (forms : TalkForms s.api.ope
   asked_goes request.Pending is = pending_goes
   asked_goes (request.Batch lines) is = api_takes (request.Batch lines) (asked_as _ is)
   asked_goes request.Lcp is = api_takes request.Lcp (asked_as _ is)
-  asked_goes (request.Start node) is = api_takes (request.Start node) (asked_as _ is)
+  asked_goes (request.Start node own) is = api_takes (request.Start node own) (asked_as _ is)
   asked_goes request.Crash is = api_takes request.Crash (asked_as _ is)
   asked_goes request.Restart is = api_takes request.Restart (asked_as _ is)
   asked_goes r is = command_goes r is

@@ -225,7 +225,7 @@ host_off k member number (Continue Installation at) = work_off k number
 host_off k member number _ = tt
 
 joining_off : (k : Known) (signal : JoiningSignal) → Off (joining_table k signal)
-joining_off k (StartReq member) = start_off k member
+joining_off k (StartReq member own) = start_off k member
 joining_off k (PromoteReq member) = promote_off k member
 joining_off k (StartGone member) = close_off k member
 joining_off k _ = tt

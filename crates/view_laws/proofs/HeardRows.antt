@@ -345,7 +345,7 @@ host_turns k member number (Continue Installation at) = work_turns k number
 host_turns k member number _ = inl (rests_stay k)
 
 joining_turns : (k : Known) (signal : JoiningSignal) → Turns k (joining_table k signal)
-joining_turns k (StartReq member) = start_turns k member
+joining_turns k (StartReq member own) = start_turns k member
 joining_turns k (PromoteReq member) = promote_turns k member
 joining_turns k (StartGone member) = close_turns k member
 joining_turns k _ = inl (rests_stay k)

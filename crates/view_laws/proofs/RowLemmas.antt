@@ -284,7 +284,7 @@ module _ (A : Type 0) where
 
   pub joining_goes : (k : Known) (signal : JoiningSignal) → (A → IsSound k.me (Joining signal))
       → Goes k (joining_table k signal)
-  joining_goes k (StartReq member) sound = start_goes k member sound
+  joining_goes k (StartReq member own) sound = start_goes k member sound
   joining_goes k (PromoteReq member) sound = promote_goes k member
   joining_goes k (StartGone member) sound = close_goes k member
   joining_goes k _ sound = moves_stay A k

@@ -215,7 +215,7 @@ stays_work k false = λ none. none
 
 -- nobody asks to join
 abbrev pub IsNoStart : Body → Type 0
-IsNoStart (Joining (StartReq member)) = ⊥
+IsNoStart (Joining (StartReq member own)) = ⊥
 IsNoStart body = Unit {0}
 
 -- the tables
@@ -231,7 +231,7 @@ stays_host k member number _ = λ none. none
 stays_joining : (k : Known) (signal : JoiningSignal) → IsNoStart (Joining signal)
     → Stays k (joining_table k signal).state
 unfolding promote_row
-stays_joining k (StartReq member) plain = absurd plain
+stays_joining k (StartReq member own) plain = absurd plain
 stays_joining k (PromoteReq member) plain = stays_proposed_if k k _ _ (λ none. none)
 stays_joining k (StartGone member) plain = stays_close k member
 stays_joining k _ plain = λ none. none

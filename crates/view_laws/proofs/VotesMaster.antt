@@ -250,7 +250,7 @@ copies s voice epoch = by s.phase
     by _ = tt
 
 epochs_none : (s : MasterState) (voice : Voice) (signal : EpochSignal) → SendsNoVote (epoch_table s voice signal)
-epochs_none s voice GcpReq = asked_none s (global_asked s.asked voice.member.node)
+epochs_none s voice (GcpReq by) = asked_none s (global_asked s.asked voice.member.node)
 epochs_none s voice MicroReq = asked_none s (micro_asked s.asked)
 epochs_none s voice GcpOrd = ordered s
 epochs_none s voice (GcpStateConf current prepared next closed saved durable) =

@@ -48,7 +48,7 @@ fn show_send(text: &mut String, sent: &Outgoing) -> Result<(), AllocError> {
     match &sent.body {
         Body::Client(signal) => show_client(text, signal),
         Body::Host(signal) => show_host(text, signal),
-        Body::Epoch(EpochSignal::GcpReq) => text.push_str(" gcp"),
+        Body::Epoch(EpochSignal::GcpReq { by: _ }) => text.push_str(" gcp"),
         Body::Epoch(EpochSignal::MicroReq) => text.push_str(" micro"),
         _ => text.push_str(" another"),
     }

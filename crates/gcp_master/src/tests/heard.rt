@@ -1,6 +1,6 @@
 //! What a master hears, in short.
 use crate::MICROS;
-use sig_core::{Body, EpochSignal, HostId, HostSignal, Member, TakeoverSignal, Work};
+use sig_core::{BlockId, Body, EpochSignal, HostId, HostSignal, Member, TakeoverSignal, Work};
 
 /// An epoch: its checkpoint number and its micro number.
 pub type Epoch = (u8, u8);
@@ -103,7 +103,7 @@ fn epoch_body(heard: Heard) -> EpochSignal {
             epoch: epoch_of(e),
             next: epoch_of(e),
         },
-        _ => EpochSignal::GcpReq,
+        _ => EpochSignal::GcpReq { by: BlockId::Api },
     }
 }
 

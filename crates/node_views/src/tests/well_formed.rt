@@ -1,7 +1,7 @@
 //! Signals that aren't well formed in a cluster of two nodes with four fragments.
 use crate::is_well_formed;
 use sig_core::{
-    Body, CLIENT, Chain, ChainSignal, EpochSignal, Held, HostId, HostSignal, JoiningSignal, Key,
+    Body, CLIENT, Chain, ChainSignal, CopyingSignal, EpochSignal, Held, HostId, HostSignal, Key,
     Member, Members, MembershipSignal, Shape, Signal, TakeoverSignal, TxId, View,
 };
 use std::alloc::Global;
@@ -92,7 +92,7 @@ fn masks_and_fragments_are_of_the_cluster(rt: HostRuntime) -> Result<(), Fail> {
         assert_eq!(rt; is_fine(alloc, 1, 1, body)?, expected);
     }
     for (fragment, expected) in [(3, true), (4, false)] {
-        let body = Body::Joining(JoiningSignal::LqhScanReq { fragment, at: 0 });
+        let body = Body::Copying(CopyingSignal::LqhScanReq { fragment, at: 0 });
         assert_eq!(rt; is_fine(alloc, 1, 1, body)?, expected);
     }
     Ok(())

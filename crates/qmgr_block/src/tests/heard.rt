@@ -105,7 +105,7 @@ pub fn body_of(alloc: Global, heard: Heard) -> Result<Body, Fail> {
         Heard::Order(_, at) => Ok(go_on(Work::Members, at)),
         Heard::Work(_) => Ok(go_on(Work::Installation, 0)),
         Heard::Gone(member) => Ok(Body::Joining(JoiningSignal::StartGone { member })),
-        Heard::Start(member) => Ok(Body::Joining(JoiningSignal::StartReq { member })),
+        Heard::Start(member) => Ok(Body::Joining(JoiningSignal::StartReq { member, own: None })),
         Heard::Promote(member) => Ok(Body::Joining(JoiningSignal::PromoteReq { member })),
         _ => Ok(Body::Membership(membership_of(alloc, heard)?)),
     }

@@ -97,7 +97,7 @@ fn show_joining(text: &mut String, signal: &JoiningSignal) -> Result<(), AllocEr
     match signal {
         JoiningSignal::StartRep { member } => put_member(text, "started ", member),
         JoiningSignal::StartEnd { member } => put_member(text, "ended ", member),
-        JoiningSignal::CopyOrd { member } => put_member(text, "copy ", member),
+        JoiningSignal::CopyOrd { member, own: _ } => put_member(text, "copy ", member),
         _ => text.push_str("another"),
     }
 }

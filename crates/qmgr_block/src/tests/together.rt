@@ -313,7 +313,7 @@ fn a_stop_a_join_and_a_promotion(rt: HostRuntime) -> Result<(), Fail> {
         1,
         SHELL,
         0,
-        Body::Joining(JoiningSignal::StartReq { member }),
+        Body::Joining(JoiningSignal::StartReq { member, own: None }),
     )?;
     let text = all.drive(alloc)?;
     assert_eq!(rt;
