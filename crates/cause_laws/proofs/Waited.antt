@@ -26,7 +26,7 @@ use Rattle.row_locks.specs.Rounds.{expired}
 use Rattle.row_locks.specs.Rows.{RowLock, asked}
 use Rattle.row_locks.specs.Tables.{lock_at, or_unlocked}
 use Rattle.api_block.proofs.EachApi.{api_marks_each}
-use Rattle.lqh_block.proofs.IndexLemmas.{same as same_key-is}
+use Rattle.row_records.proofs.KeyLemmas.{same as same_key-is}
 use Rattle.lqh_block.specs.declared.request.Request.{Request}
 use Rattle.lqh_block.specs.Expire.{aged}
 use Rattle.lqh_block.specs.Operate.{is_granted}

@@ -25,7 +25,7 @@ use Rattle.row_locks.specs.Rounds.{expired, expired_in, first_expired, found_at,
 use Rattle.row_locks.specs.Rows.{RowLock, Served, asked, asked_anew, asked_by}
 use Rattle.row_locks.specs.Rows.{is_quiet, may_hold, released, served, served_if}
 use Rattle.row_locks.specs.Tables.{Locks, kept, lock_at, or_unlocked, unwaited_at}
-use Rattle.lqh_block.proofs.IndexLemmas.{same as same_key-is}
+use Rattle.row_records.proofs.KeyLemmas.{same as same_key-is}
 use Rattle.lqh_block.proofs.LqhForms.{ExpireForms, expiring, is_for_rows, lqh_forms}
 use Rattle.lqh_block.specs.declared.request.Request.{Request}
 use Rattle.lqh_block.specs.Expire as expire

@@ -25,8 +25,8 @@ use Rattle.api_block.specs.State.{ApiState, about, replied, with_dump}
 use Rattle.lqh_block.specs.Dump as lqh
 use Rattle.lqh_block.specs.Lqh.{lqh_table}
 use Rattle.lqh_block.specs.State.{LqhState}
-use Rattle.key_laws.proofs.PlacesAt.{row_at, row_of-at}
-use Rattle.key_laws.specs.Placed.{AreApart}
+use Rattle.row_records.proofs.PlaceLemmas.{row_at, row_of-at}
+use Rattle.row_records.specs.Places.{AreApart}
 use Rattle.node_core.specs.Blocks.{api_of, lqh_of}
 use Rattle.node_core.specs.Committed as committed
 use Rattle.node_core.specs.Replies.{replies_of}

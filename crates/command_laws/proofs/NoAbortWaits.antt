@@ -76,7 +76,7 @@ use Rattle.run_laws.proofs.TcTokens.{IsOwned}
 use Rattle.world_core.proofs.HostNumbers.{host_below, rows_run}
 use Rattle.order_laws.specs.Unanswered.{asks_on, is_on_key, waiting_on}
 use Rattle.order_laws.proofs.Unanswered.{parts_are_unanswered}
-use Rattle.lqh_block.proofs.IndexLemmas as keys
+use Rattle.row_records.proofs.KeyLemmas as keys
 use Rattle.sig_core.specs.Place.{rows_of}
 use Rattle.std.proofs.lemmas.Bool.{and_parts, cases_lt}
 use Rattle.std.specs.Prelude.{◌&&◌, if◌then◌else◌, is_some}

@@ -11,10 +11,10 @@ use Rattle.sig_core.proofs.Keys.{same_key-self}
 use Rattle.sig_core.specs.declared.rows.Slot.{Slot}
 use Rattle.sig_core.specs.Rows.{RowsState, has_row, next_by, next_place}
 use Rattle.sig_core.specs.Same.{same_key}
-use Rattle.lqh_block.proofs.IndexLemmas.{same}
+use Rattle.row_records.proofs.KeyLemmas.{same}
 use Rattle.lqh_block.specs.Dump.{Dumped, dumped, dumped_from, more, one_more_by, row_of_slot, row_with}
-use Rattle.key_laws.proofs.PlacesAt.{row_at}
-use Rattle.key_laws.specs.Placed.{AreApart, has_place}
+use Rattle.row_records.proofs.PlaceLemmas.{row_at}
+use Rattle.row_records.specs.Places.{AreApart, has_place}
 use Rattle.command_laws.proofs.GatheredRows.{AreDistinct, KeyedRow}
 
 -- the rows of these places, in their order

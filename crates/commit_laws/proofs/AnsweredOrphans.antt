@@ -20,7 +20,7 @@ use Rattle.sig_core.specs.Same.{same_key, same_tx}
 use Rattle.sig_core.proofs.Keys.{same_key-self, same_tx-self}
 use Rattle.frag_map.specs.Layout.{Layout}
 use Rattle.lqh_block.specs.Views.{is_coordinated}
-use Rattle.lqh_block.proofs.IndexLemmas.{same as same_key-is}
+use Rattle.row_records.proofs.KeyLemmas.{same as same_key-is}
 use Rattle.takeover_block.specs.declared.gathered.Gathered.{Gathered}
 use Rattle.takeover_block.specs.declared.stage.Stage.{Stage}
 use Rattle.takeover_block.specs.declared.stage.Stage.TheVariants.{Committing, Resting}

@@ -23,7 +23,7 @@ use Rattle.sig_core.specs.Place.{takeover}
 use Rattle.sig_core.specs.Portion.{portion_effects, rest_if}
 use Rattle.sig_core.specs.Same.{same_key}
 use Rattle.frag_map.specs.Layout.{Layout, chain_of}
-use Rattle.lqh_block.proofs.IndexLemmas.{same as same_key-is}
+use Rattle.row_records.proofs.KeyLemmas.{same as same_key-is}
 use Rattle.takeover_block.specs.declared.gathered.Gathered.{Gathered}
 use Rattle.takeover_block.specs.declared.stage.Stage.{Stage}
 use Rattle.takeover_block.specs.declared.stage.Stage.TheVariants.{Aborting, Committing, Completing, Gathering, Resting}

@@ -19,7 +19,7 @@ use Rattle.tc_block.specs.declared.phase.Phase.TheVariants.{Committing, Completi
 use Rattle.tc_block.specs.declared.touched.Touched.{Touched}
 use Rattle.tc_block.specs.Part.{part_effects, rest_if}
 use Rattle.tc_block.specs.Sends.{commit_of, complete_if, complete_of, front_sends, key_sends, phase_sends, reported}
-use Rattle.lqh_block.proofs.IndexLemmas.{same as same_keys}
+use Rattle.row_records.proofs.KeyLemmas.{same as same_keys}
 use Rattle.run_laws.specs.Keyed.{AreApart}
 use Rattle.outcome_laws.specs.Counts.{count_sent, one_if}
 use Rattle.outcome_laws.proofs.TcLists.{count_both, count_more, none_counted}

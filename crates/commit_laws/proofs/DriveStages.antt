@@ -6,7 +6,7 @@ use Rattle.run_theory.specs.Lists.{Each}
 use Rattle.sig_core.specs.declared.outs.Outgoing.{Outgoing}
 use Rattle.sig_core.specs.Same.{same_key, same_tx}
 use Rattle.frag_map.specs.Layout.{Layout, chain_of}
-use Rattle.lqh_block.proofs.IndexLemmas.{same as same_keys}
+use Rattle.row_records.proofs.KeyLemmas.{same as same_keys}
 use Rattle.takeover_block.specs.declared.gathered.Gathered.{Gathered}
 use Rattle.takeover_block.specs.declared.stage.Stage.{Stage}
 use Rattle.takeover_block.specs.declared.stage.Stage.TheVariants.{Aborting, Committing, Completing, Gathering, Resting}

@@ -26,7 +26,7 @@ use Rattle.row_locks.specs.Holders.{holds_enough}
 use Rattle.row_locks.specs.Modes.{is_enough}
 use Rattle.row_locks.specs.Orderly.{IsOrderly}
 use Rattle.row_locks.specs.Rounds.{expired}
-use Rattle.lqh_block.proofs.IndexLemmas.{same}
+use Rattle.row_records.proofs.KeyLemmas.{same}
 use Rattle.lqh_block.specs.declared.request.Request.{Request}
 use Rattle.lqh_block.specs.Operate.{is_granted}
 use Rattle.lqh_block.specs.State.{LqhState, storage_of}

@@ -26,7 +26,7 @@ use Rattle.tc_block.specs.declared.phase.Asked.{Asked}
 use Rattle.tc_block.specs.declared.transaction.Transaction.{Transaction}
 use Rattle.tc_block.specs.Doom.{is_undecided}
 use Rattle.tc_block.specs.Operate.{fresh}
-use Rattle.lqh_block.proofs.IndexLemmas as index
+use Rattle.row_records.proofs.KeyLemmas as index
 use Rattle.lqh_block.specs.declared.request.Request.{Request}
 use Rattle.lqh_views.specs.State.{ReplicaState}
 use Rattle.key_laws.specs.OneKey.{AreRight, ops_on, row_after_all}

@@ -23,7 +23,7 @@ use Rattle.sig_core.specs.Same.{same_key, same_tx}
 use Rattle.sig_core.specs.Work.{work_key}
 use Rattle.sig_core.proofs.Keys.{same_key-self, same_tx-self}
 use Rattle.tc_block.specs.declared.transaction.Transaction.{Transaction}
-use Rattle.lqh_block.proofs.IndexLemmas as index
+use Rattle.row_records.proofs.KeyLemmas as index
 use Rattle.lqh_block.specs.declared.request.Request.{Request}
 use Rattle.lqh_block.specs.Operate.{is_granted}
 use Rattle.lqh_block.specs.State.{storage_of}

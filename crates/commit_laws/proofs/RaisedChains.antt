@@ -21,7 +21,7 @@ use Rattle.tc_block.specs.declared.touched.Touched.{Touched}
 use Rattle.tc_block.specs.declared.transaction.Transaction.{Transaction}
 use Rattle.tc_block.specs.Doom.{is_among, is_undecided}
 use Rattle.tc_block.specs.Touched.{is_on}
-use Rattle.lqh_block.proofs.IndexLemmas as index
+use Rattle.row_records.proofs.KeyLemmas as index
 use Rattle.key_laws.specs.OneKey.{ops_on}
 use Rattle.host_laws.proofs.OfLive.{each_found}
 use Rattle.run_laws.specs.Keyed.{HasTouched, IsTouchedRightly, IsWrittenRightly}

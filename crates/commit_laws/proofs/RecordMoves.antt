@@ -14,7 +14,7 @@ use Rattle.sig_core.specs.declared.signal.host.Work.TheVariants as work
 use Rattle.sig_core.specs.Firsts.{first}
 use Rattle.sig_core.specs.Same.{same_key, same_tx}
 use Rattle.sig_core.specs.Work.{work_key}
-use Rattle.lqh_block.proofs.IndexLemmas.{same}
+use Rattle.row_records.proofs.KeyLemmas.{same}
 use Rattle.sig_core.proofs.TxLemmas.{same_tx-is}
 use Rattle.row_locks.specs.Rounds.{expired}
 use Rattle.lqh_block.specs.declared.request.Request.{Request}

@@ -27,7 +27,7 @@ use Rattle.sig_core.specs.declared.signal.membership.MembershipSignal.TheVariant
 use Rattle.sig_core.specs.declared.signal.takeover.TakeoverSignal.TheVariants.{LqhTransReq}
 use Rattle.sig_core.specs.declared.view.View.{View}
 use Rattle.row_locks.specs.Rounds.{expired}
-use Rattle.lqh_block.proofs.IndexLemmas.{same}
+use Rattle.row_records.proofs.KeyLemmas.{same}
 use Rattle.lqh_block.specs.declared.request.Request.{Request}
 use Rattle.lqh_block.specs.Operate.{is_granted}
 use Rattle.lqh_block.specs.State.{LqhState, storage_of}

@@ -33,7 +33,7 @@ use Rattle.host_laws.specs.ReplicaLaws.{IsWell}
 use Rattle.key_laws.proofs.CellsAt.{cell-storing}
 use Rattle.key_laws.proofs.RecordLemmas.{committed_keeps, found-stored, if_keeps, none-edited, unless_keeps}
 use Rattle.run_theory.specs.Lists.{Each}
-use Rattle.lqh_block.proofs.IndexLemmas.{same}
+use Rattle.row_records.proofs.KeyLemmas.{same}
 use Rattle.sig_core.proofs.TxLemmas.{same_tx-is}
 use Rattle.sig_core.specs.declared.member.Member.{Member}
 use Rattle.sig_core.specs.declared.signal.Signal.{Signal}

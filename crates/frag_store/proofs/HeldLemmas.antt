@@ -12,7 +12,7 @@ use Rattle.sig_core.proofs.Firsts.{place_by, position-cons}
 use Rattle.tuple_pages.specs.Free.{first_free}
 use Rattle.frag_store.specs.HeldPlaces.{AreHeld, HeldState, held_at, records_on}
 use Rattle.frag_store.proofs.PlaceLemmas.{at-same, at-within, free-there, get-placed, nowhere, one_place, placed_place, there}
-use Rattle.frag_store.proofs.SameLemmas.{same}
+use Rattle.row_records.proofs.KeyLemmas.{same}
 
 -- a test that lists pass at the same places is passed first at the same place
 same_positions : {X : Type 0} (p : X → Bool) (d : X) → p d ≡ false → (xs ys : List X)

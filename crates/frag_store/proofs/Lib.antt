@@ -1,9 +1,4 @@
 pub mod AheadLemmas
-pub mod CountLemmas
-pub mod EntryLemmas
 pub mod HeldLemmas
 pub mod LeadLemmas
 pub mod PlaceLemmas
-pub mod RecordLemmas
-pub mod RowLemmas
-pub mod SameLemmas

@@ -17,7 +17,7 @@ use Rattle.sig_core.proofs.Keys.{same_key-self}
 use Rattle.tuple_pages.specs.Free.{first_free}
 use Rattle.tuple_pages.specs.Places.{rewritten}
 use Rattle.frag_store.specs.Places.{IsIndexed, ahead_of, is_spare}
-use Rattle.frag_store.proofs.SameLemmas.{same}
+use Rattle.row_records.proofs.KeyLemmas.{same}
 
 -- the first item that passes a test, by its place
 module _ {X : Type 0} (p : X → Bool) (d : X) where

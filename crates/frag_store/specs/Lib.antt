@@ -1,5 +1,4 @@
 pub mod HeldPlaces
 pub mod Leads
 pub mod Places
-pub mod Records
 pub mod Store

@@ -3,7 +3,7 @@ use Rattle.std.specs.Prelude.{◌≡◌, ℕ, Bool, true, List}
 use Rattle.std.specs.List.{count_by}
 use Rattle.sig_core.specs.Rows.{RowsState, is_on}
 use Rattle.frag_store.specs.HeldPlaces.{HasPlace, HeldState, records_on}
-use Rattle.frag_store.specs.Records.{RecordsState}
+use Rattle.row_records.specs.Records.{RecordsState}
 
 -- the number of records on each key is kept with its place
 abbrev pub IsCounted : HeldState → RecordsState → Type 0

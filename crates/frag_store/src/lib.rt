@@ -5,8 +5,6 @@ mod held_places;
 mod key_index;
 mod lead;
 mod places;
-mod record_id;
-mod records;
 mod store;
 
 pub use store::Store;

@@ -2,12 +2,11 @@
 ghost use Rattle.std.specs.Prelude.{◌≡◌, IfOk, IsOk, List, MatchOption, None, OnOk, Some, true, ℕ};
 ghost use Rattle.sig_core.specs.Rows.{drop_by, no_rows, prepared, record_at, record_of, recorded_by, with_place};
 ghost use Rattle.frag_store.specs.HeldPlaces.{HasPlace, records_on};
-ghost use Rattle.frag_store.specs.Records.{record_by};
 ghost use Rattle.frag_store.specs.Store.{IsCounted};
+ghost use Rattle.row_records.specs.Records.{record_by};
 
 use crate::held_places::HeldPlaces;
-use crate::record_id::Version;
-use crate::records::Records;
+use row_records::{Records, Version};
 use sig_core::{
     Answer, Key, NoMemory, Op, PLACES, PendingRecord, Rows, RowsFault, Slot, TxId, Value,
 };

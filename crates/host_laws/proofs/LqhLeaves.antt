@@ -17,7 +17,7 @@ use Rattle.sig_core.specs.Work.{work_key}
 use Rattle.row_locks.specs.Queues.{waits}
 use Rattle.row_locks.specs.Rows.{RowLock, Served}
 use Rattle.row_locks.specs.Tables.{kept, lock_at, unwaited_at}
-use Rattle.lqh_block.proofs.IndexLemmas.{same as same_key-is}
+use Rattle.row_records.proofs.KeyLemmas.{same as same_key-is}
 use Rattle.lqh_block.proofs.LqhForms.{AbortForms, CommitForms, CompleteForms, ExpireForms, expiring, is_for_rows}
 use Rattle.lqh_block.proofs.LqhForms.{lqh_forms}
 use Rattle.lqh_block.specs.declared.request.Request.{Request}

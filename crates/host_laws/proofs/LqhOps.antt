@@ -22,7 +22,7 @@ use Rattle.lqh_block.specs.State.{LqhState}
 use Rattle.lqh_block.specs.Storage as storage
 use Rattle.lqh_block.specs.Storage.{StorageState}
 use Rattle.lqh_block.specs.Work.{is_for}
-use Rattle.lqh_block.proofs.IndexLemmas.{same as same_key-is}
+use Rattle.row_records.proofs.KeyLemmas.{same as same_key-is}
 use Rattle.lqh_block.proofs.LqhForms.{perform_forms}
 use Rattle.host_laws.proofs.RequestCounts.{CountStep, asked_by, count_step, ends, is_work, performs, refuses, rests}
 use Rattle.host_laws.proofs.TcMoves.{same_tx-is}

@@ -28,7 +28,7 @@ use Rattle.lqh_block.specs.State.{LqhState, go_on_if, with_waiting}
 use Rattle.lqh_block.specs.Storage as storage
 use Rattle.lqh_block.specs.Storage.{StorageState}
 use Rattle.lqh_block.specs.Work.{is_for, work_mode}
-use Rattle.lqh_block.proofs.IndexLemmas.{same as same_key-is}
+use Rattle.row_records.proofs.KeyLemmas.{same as same_key-is}
 use Rattle.lqh_block.proofs.LqhForms.{GrantedForms, RequestForms, perform_forms}
 use Rattle.key_laws.proofs.LocksAt.{lock-inserted}
 use Rattle.run_theory.proofs.Focus.{IsTakenAt, none_placed, taken_at, tally_taken}

@@ -21,7 +21,7 @@ use Rattle.row_locks.specs.Rounds.{expired, expired_in, first_expired, found_at,
 use Rattle.row_locks.specs.Rows.{Asked, RowLock, Served, asked, asked_anew, asked_by, is_quiet, may_hold, released, served, served_if, unwaited}
 use Rattle.row_locks.specs.Tables.{Locks, lock_at, or_unlocked}
 use Rattle.sig_core.proofs.TxLemmas.{same_tx-is}
-use Rattle.lqh_block.proofs.IndexLemmas.{same as same_key-is}
+use Rattle.row_records.proofs.KeyLemmas.{same as same_key-is}
 use Rattle.sig_core.proofs.Keys.{same_key-self, tied-same_key, same_tx-self}
 
 or_true : (a : Bool) → (a || true) ≡ true

@@ -29,7 +29,7 @@ use Rattle.row_locks.specs.Tables.{or_unlocked}
 use Rattle.row_locks.proofs.LocksLemmas.{key_cmp}
 use Rattle.row_locks.proofs.TableLawLemmas.{age_round_orderly, empty_orderly, release_orderly, request_orderly}
 use Rattle.row_locks.proofs.TableLawLemmas.{unwait_orderly}
-use Rattle.lqh_block.proofs.IndexLemmas.{same as same_key-is}
+use Rattle.row_records.proofs.KeyLemmas.{same as same_key-is}
 use Rattle.lqh_block.specs.declared.request.Request.{Request}
 use Rattle.lqh_block.specs.Dump as dump
 use Rattle.lqh_block.specs.Expire as expire
@@ -53,7 +53,8 @@ use Rattle.frag_map.specs.Replicas.{first_start}
 use Rattle.world_core.specs.Hosts.{member_at, part_by, started}
 use Rattle.world_core.proofs.HostNumbers.{rows_started}
 use Rattle.world_core.specs.Start.{Start, made}
-use Rattle.key_laws.specs.Placed.{AreApart, IsPlaced, has_place}
+use Rattle.row_records.specs.Places.{AreApart, has_place}
+use Rattle.key_laws.specs.Placed.{IsPlaced}
 use Rattle.key_laws.specs.Replica.{at_key, key_after}
 use Rattle.host_laws.specs.ReplicaLaws.{KeysHaveRows, LogsFollowEvents, NodesBeginAtRest, event_for, event_in, key_in}
 use Rattle.host_laws.specs.ReplicaLaws.{IsWell, IsWellHost, KeysBeginAtRest, LogsKeepWell, SignalsAreEvents}
@@ -65,8 +66,8 @@ use Rattle.key_laws.proofs.EpochLemmas.{epochless}
 use Rattle.key_laws.proofs.KeyEnds.{abort_event, commit_event, committed_rows, complete_event, expire_event}
 use Rattle.key_laws.proofs.KeyEnds.{given_up_rows, round_event}
 use Rattle.sig_core.proofs.Keys.{same_key-swap, tied-same_key}
-use Rattle.key_laws.proofs.PlacesAt.{apart-set_row, apart-with_place, has-own_place, row-set_row, row-with_place}
-use Rattle.key_laws.proofs.PlacesAt.{row_at, row_of-at}
+use Rattle.row_records.proofs.PlaceLemmas.{apart-set_row, apart-with_place, has-own_place, row-set_row, row-with_place}
+use Rattle.row_records.proofs.PlaceLemmas.{row_at, row_of-at}
 use Rattle.key_laws.proofs.RecordsAt.{on}
 
 acknowledged_same : (s : LqhState) (tx : TxId) (key : List ℕ) → at_key key (wait.acknowledged s tx) ≡ at_key key s
@@ -174,7 +175,7 @@ put_placed s [] epoch apart none = record {
       subst (Each (λ (r : PendingRecord). has_place s.places r.key ≡ true)) (sym none) tt;
 }
 put_placed s (r ∷ rows) epoch apart none =
-    put_placed (put_row s r.0 r.1 epoch) rows epoch (apart-set_row (with_place s.places r.0) r.0 (Some r.1) epoch
+    put_placed (put_row s r.0 r.1 epoch) rows epoch (apart-set_row r.0 (Some r.1) epoch (with_place s.places r.0)
     (apart-with_place s.places r.0 apart)) none
 
 -- a key of the group has of its rows what it has of all rows
@@ -201,7 +202,7 @@ started_row shape node epoch s table (r ∷ rows) key held same =
     put : row_at (put_row s r.0 r.1 epoch).places key ≡ map.get (map.insert table r.0 r.1) key
     put =
         row-set_row (with_place s.places r.0) r.0 key (Some r.1) epoch (has-own_place s.places r.0)
-        ∙ ap (λ w. if same_key r.0 key then Some r.1 else w) (row-with_place s.places r.0 key) ∙ by (same_key r.0 key)
+        ∙ ap (λ w. if same_key r.0 key then Some r.1 else w) (row-with_place 0 s.places r.0 key) ∙ by (same_key r.0 key)
         ∙ sym inserted
 
     -- a row of another group isn't the key's

@@ -11,15 +11,16 @@ use Rattle.sig_core.specs.declared.rows.Slot.{Slot}
 use Rattle.sig_core.specs.Rows as rows
 use Rattle.sig_core.specs.Rows.{RowsState, abort_record, commit_by, commit_if, commit_record, complete_record, drop_if, dropping, freed, get_at, is_as, is_full, is_idle, is_of, is_on, record_at, record_of, row_of, seen, set_row, with_place}
 use Rattle.sig_core.specs.Same.{same_key, same_tx}
-use Rattle.lqh_block.proofs.IndexLemmas.{same}
+use Rattle.row_records.proofs.KeyLemmas.{same}
 use Rattle.sig_core.specs.Firsts.{first}
-use Rattle.key_laws.specs.Placed.{AreApart, IsPlaced, has_place}
+use Rattle.row_records.specs.Places.{AreApart, has_place}
+use Rattle.key_laws.specs.Placed.{IsPlaced}
 use Rattle.key_laws.specs.Records.{as_committed, committed_row, edited, found, if_committed, put_back, unless_committed, without_epoch}
 use Rattle.key_laws.specs.Replica.{Cell, aborting, cell_at, committing, completing, storing}
 use Rattle.sig_core.proofs.Firsts.{drop_by, first-drop, first-get, first-set, get_by, set_by}
 use Rattle.sig_core.proofs.Keys.{same_key-swap}
 use Rattle.key_laws.proofs.EpochLemmas.{AreAlike, committed_row-without, edited-epochless, epochless, found-epochless, stored-epochless, without}
-use Rattle.key_laws.proofs.PlacesAt.{apart-freed, apart-set_row, apart-with_place, has-freed, has-own_place, has-set_row, has-with_place, row-freed, row-set_row, row-with_place, row_at, row_of-at}
+use Rattle.row_records.proofs.PlaceLemmas.{apart-freed, apart-set_row, apart-with_place, has-freed, has-own_place, has-set_row, has-with_place, row-freed, row-set_row, row-with_place, row_at, row_of-at}
 use Rattle.key_laws.proofs.RecordsAt.{KeepsKey, each-edited_in, each-first, each-recorded, edited_in, edited_in-drop, edited_in-keep, edited_in-none, edited_in-set, first-found, on, on-edited, on-edited_other, on-storing, on-storing_other, record_of-first}
 
 -- a cell, from the row and the records
@@ -41,7 +42,7 @@ unfolding rows.storing
 cell-storing s tx key image q = cell_if (same_key key q) (cell_at q (rows.storing s tx key image)) (storing (cell_at q s) tx key image false) (cell_at q s) own other
   where
     row : row_of (rows.storing s tx key image) q ≡ row_of s q
-    row = row_of-at (rows.storing s tx key image) q ∙ row-with_place s.places key q ∙ sym (row_of-at s q)
+    row = row_of-at (rows.storing s tx key image) q ∙ row-with_place 0 s.places key q ∙ sym (row_of-at s q)
 
     own : same_key key q ≡ true → cell_at q (rows.storing s tx key image) ≡ storing (cell_at q s) tx key image false
     own e = cell_is (cell_at q (rows.storing s tx key image)) (storing (cell_at q s) tx key image false) row
@@ -191,7 +192,7 @@ placed-committed s tx key epoch is = record {
       where
         by : (b : Bool) → AreApart (if b then s.places else set_row s.places r.key r.image epoch)
         by true = is.apart
-        by false = apart-set_row s.places r.key r.image epoch is.apart
+        by false = apart-set_row r.key r.image epoch s.places is.apart
 
     there_still : (q : List ℕ) (o : Option PendingRecord) → has_place (committed_places s.places epoch o) q ≡ has_place s.places q
     there_still q None = refl
@@ -199,7 +200,7 @@ placed-committed s tx key epoch is = record {
       where
         by : (b : Bool) → has_place (if b then s.places else set_row s.places r.key r.image epoch) q ≡ has_place s.places q
         by true = refl
-        by false = has-set_row s.places r.key q r.image epoch
+        by false = has-set_row r.key r.image epoch q s.places
 
 -- a record is dropped, or not, as its state is asked for
 drops : Bool → PendingRecord → Option PendingRecord
@@ -264,7 +265,7 @@ module _ (done : Bool) (s after : RowsState) (is : IsPlaced s) (tx : TxId) (key 
   row-dropped q (Some r) = by (is_as done r.committed)
     where
       by : (b : Bool) → row_at (if b then freed s.places after.pending r.key else s.places) q ≡ row_at s.places q
-      by true = row-freed s.places after.pending r.key q is.apart
+      by true = row-freed s.places after.pending r.key is.apart 0 q
       by false = refl
 
   cell-dropped : (q : List ℕ) → cell_at q after ≡ (if same_key key q then record { row = row_of s q; pending = edited (drops done) tx (epochless (on q s.pending)) } else cell_at q s)

@@ -10,7 +10,7 @@ use Rattle.row_locks.specs.Holders.{first_other}
 use Rattle.row_locks.specs.Queues.{waits}
 use Rattle.row_locks.specs.Rows.{asked}
 use Rattle.row_locks.specs.Tables.{ahead_of, lock_at, some_if}
-use Rattle.lqh_block.proofs.IndexLemmas.{same}
+use Rattle.row_records.proofs.KeyLemmas.{same}
 use Rattle.lqh_block.proofs.LqhForms.{granted_forms, request_forms}
 use Rattle.lqh_block.specs.declared.request.Request.{Request}
 use Rattle.lqh_block.specs.Operate as operate

@@ -12,7 +12,7 @@ use Rattle.sig_core.specs.Same.{same_key, same_tx}
 use Rattle.row_locks.specs.Rounds.{expired}
 use Rattle.row_locks.specs.Rows.{released, unwaited}
 use Rattle.row_locks.specs.Tables.{kept, lock_at, released_at, unwaited_at}
-use Rattle.lqh_block.proofs.IndexLemmas.{same}
+use Rattle.row_records.proofs.KeyLemmas.{same}
 use Rattle.lqh_block.proofs.LqhForms.{Applies, GivesUp, abort_forms, commit_forms, complete_forms, expire_forms}
 use Rattle.lqh_block.specs.declared.request.Marker.{Marker}
 use Rattle.lqh_block.specs.declared.request.Request.{Request}

@@ -11,7 +11,7 @@ use Rattle.sig_core.specs.Same.{same_key}
 use Rattle.sig_core.specs.Table.{Rows}
 use Rattle.serial_model.specs.Legal.{AreAnswered, after_ops}
 use Rattle.serial_model.specs.Serial.{perform, perform_on}
-use Rattle.lqh_block.proofs.IndexLemmas.{same}
+use Rattle.row_records.proofs.KeyLemmas.{same}
 use Rattle.key_laws.specs.Joined.{KeysJoin, RowsJoin}
 use Rattle.key_laws.specs.OneKey.{AreRight, IsRightAt, ops_on, row_after, row_after_all, row_at_end}
 use Rattle.sig_core.proofs.Keys.{same_key-self, same_key-swap, tied-same_key}

@@ -10,7 +10,6 @@ pub mod LockHolding
 pub mod LockWaiting
 pub mod LocksAt
 pub mod PerformedAt
-pub mod PlacesAt
 pub mod PrimaryGood
 pub mod PrimaryOrder
 pub mod PrimaryValue

@@ -13,7 +13,7 @@ use Rattle.sig_core.specs.Op.{answer_to, image_of, key_of}
 use Rattle.sig_core.specs.Rows as rows
 use Rattle.sig_core.specs.Rows.{RowsState, is_full, record_of, row_of, seen}
 use Rattle.sig_core.specs.Same.{same_key}
-use Rattle.lqh_block.proofs.IndexLemmas.{same}
+use Rattle.row_records.proofs.KeyLemmas.{same}
 use Rattle.lqh_block.proofs.LqhForms.{perform_forms}
 use Rattle.lqh_block.specs.declared.request.Request.{Request}
 use Rattle.lqh_block.specs.Storage as storage

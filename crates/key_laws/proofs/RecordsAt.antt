@@ -7,7 +7,7 @@ use Rattle.sig_core.specs.declared.member.TxId.{TxId}
 use Rattle.sig_core.specs.declared.rows.PendingRecord.{PendingRecord}
 use Rattle.sig_core.specs.Rows.{RowsState, get_at, is_of, is_on, record_at, record_of, recorded_by}
 use Rattle.sig_core.specs.Same.{same_key, same_tx}
-use Rattle.lqh_block.proofs.IndexLemmas.{same}
+use Rattle.row_records.proofs.KeyLemmas.{same}
 use Rattle.sig_core.specs.Firsts.{drop_first, first}
 use Rattle.key_laws.specs.Records.{edited, found, put_back, stored}
 use Rattle.sig_core.proofs.Keys.{same_key-self}

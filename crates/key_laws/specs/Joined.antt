@@ -1,7 +1,7 @@
 -- Lists of entries, key by key.
 use Rattle.std.specs.Prelude.{◌≡◌, ℕ, List}
 use Rattle.std.specs.FinMap as map
-use Rattle.serial_model.specs.Legal.{IsLegal, fold, rows_of}
+use Rattle.serial_model.specs.Legal.{IsLegal, fold}
 use Rattle.sig_core.specs.declared.entry.Entry.{Entry}
 use Rattle.sig_core.specs.Table.{Rows}
 use Rattle.key_laws.specs.OneKey.{IsRightAt, row_at_end}

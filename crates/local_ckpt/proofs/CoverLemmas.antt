@@ -18,7 +18,7 @@ use Rattle.local_ckpt.specs.Laws.{IsReadable, IsRowIf}
 use Rattle.local_ckpt.specs.Orderly.{IsOrderly}
 use Rattle.sig_core.specs.Passing.{Passed, epoch_or, pass, pass_by, row_in, row_with}
 use Rattle.local_ckpt.proofs.FirstRows.{IsFirstRow, each_at, epoch_fits, first_row}
-use Rattle.local_ckpt.proofs.PlaceLemmas.{apart_behind, row_at, row_behind}
+use Rattle.row_records.proofs.PlaceLemmas.{apart_behind, row_at, row_behind}
 use Rattle.local_ckpt.proofs.RedoLemmas.{over, redone}
 
 -- the log makes nothing of a key's row, or what it is

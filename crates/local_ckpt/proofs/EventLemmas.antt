@@ -11,10 +11,12 @@ use Rattle.sig_core.specs.Rows.{RowsState, abort_record, commit_record, complete
 use Rattle.sig_core.specs.Same.{same_key}
 use Rattle.sig_core.proofs.Firsts.{first_passes, set_first}
 use Rattle.local_ckpt.specs.Laws.{IsImage, IsReadable}
-use Rattle.local_ckpt.specs.Orderly.{AreApart, IsOrderly, has_place, image_in, prepared_in}
+use Rattle.local_ckpt.specs.Orderly.{IsOrderly, image_in, prepared_in}
+use Rattle.row_records.specs.Places.{AreApart, has_place}
 use Rattle.local_ckpt.proofs.EditLemmas.{Edits, drops_one, edit_images, puts, sets}
 use Rattle.local_ckpt.proofs.Firsts.{put_first}
-use Rattle.local_ckpt.proofs.PlaceLemmas.{apart-freed, apart-set_row, apart-with_place, by_freed, by_place, has-freed, has-own_place, has-set_row, has-with_place, other-set_row, own-set_row, row-freed, row-with_place, row_at, same, set_row-first}
+use Rattle.row_records.proofs.KeyLemmas.{same}
+use Rattle.row_records.proofs.PlaceLemmas.{apart-freed, apart-set_row, apart-with_place, by_freed, by_place, has-freed, has-own_place, has-set_row, has-with_place, other-set_row, own-set_row, row-freed, row-with_place, row_at, set_row-first}
 use Rattle.local_ckpt.proofs.RecordLemmas.{by_record, commits_image, drops_it, drops_nothing, drops_other, idle_none, is_same, key_of_first, own_record, recorded-put, rows_with}
 
 -- after an event on a record the rows are orderly, and what was prepared still is, but for that record

@@ -7,9 +7,10 @@ use Rattle.sig_core.specs.Rows.{RowsState, epoch_by, epoch_if, epoch_in, has_row
 use Rattle.sig_core.specs.Same.{same_key}
 use Rattle.sig_core.proofs.Firsts.{place_by, position-cons}
 use Rattle.local_ckpt.specs.Laws.{IsReadable, IsRowIf}
-use Rattle.local_ckpt.specs.Orderly.{AreApart, has_place}
+use Rattle.row_records.specs.Places.{AreApart, has_place}
 use Rattle.sig_core.specs.Passing.{epoch_or}
-use Rattle.local_ckpt.proofs.PlaceLemmas.{no_place, row_at, same}
+use Rattle.row_records.proofs.KeyLemmas.{same}
+use Rattle.row_records.proofs.PlaceLemmas.{no_place, row_at}
 
 -- the first place with a row: its row is that of its key, and all others stand behind it
 pub record IsFirstRow (places : List (Option Slot)) (n : ℕ) : Type 0 where

@@ -26,7 +26,7 @@ use Rattle.sig_core.specs.Walk.{WalkState, next_piece}
 use Rattle.local_ckpt.proofs.CoverLemmas.{Fits, IsCovered, later_rows}
 use Rattle.local_ckpt.proofs.EventLemmas.{Prepared, aborts, commits, completes, stores}
 use Rattle.local_ckpt.proofs.FirstRows.{no_rows_left}
-use Rattle.local_ckpt.proofs.PlaceLemmas.{apart-set_row, apart-with_place, has-set_row, has-with_place, row_at, row_of-at}
+use Rattle.row_records.proofs.PlaceLemmas.{apart-set_row, apart-with_place, has-set_row, has-with_place, row_at, row_of-at}
 use Rattle.local_ckpt.proofs.RecordLemmas.{commits_nothing}
 use Rattle.local_ckpt.proofs.RedoLemmas.{get-replayed, over, redone}
 use Rattle.local_ckpt.proofs.StepLemmas.{pieces_more, steps}

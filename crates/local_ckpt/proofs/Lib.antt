@@ -6,7 +6,6 @@ pub mod Firsts
 pub mod LawLemmas
 pub mod LockLemmas
 mod PassingLemmas
-pub mod PlaceLemmas
 pub mod RecordLemmas
 pub mod RedoLemmas
 pub mod StepLemmas

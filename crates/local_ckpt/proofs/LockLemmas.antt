@@ -21,7 +21,8 @@ use Rattle.local_ckpt.specs.Laws.{IsImage, last_image}
 use Rattle.local_ckpt.specs.Orderly.{IsOrderly, image_in, prepared_in}
 use Rattle.local_ckpt.proofs.CoverLemmas.{Fits, over_fits}
 use Rattle.local_ckpt.proofs.EventLemmas.{LeavesRows, Prepared, Rewrites, aborts, commits, commits_row, completes, stores, stores_rows}
-use Rattle.local_ckpt.proofs.PlaceLemmas.{row_at, row_of-at, same}
+use Rattle.row_records.proofs.KeyLemmas.{same}
+use Rattle.row_records.proofs.PlaceLemmas.{row_at, row_of-at}
 use Rattle.local_ckpt.proofs.RecordLemmas.{by_record, commits_nothing, is_same}
 use Rattle.local_ckpt.proofs.RedoLemmas.{get-replayed, redoing, redone}
 

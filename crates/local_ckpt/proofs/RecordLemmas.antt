@@ -15,7 +15,7 @@ use Rattle.sig_core.proofs.Keys.{same_key-self, same_tx-self}
 use Rattle.sig_core.proofs.TxLemmas.{same_tx-is}
 use Rattle.local_ckpt.specs.Orderly.{prepared_in}
 use Rattle.local_ckpt.proofs.Firsts.{Disjoint, put_first}
-use Rattle.local_ckpt.proofs.PlaceLemmas.{same}
+use Rattle.row_records.proofs.KeyLemmas.{same}
 
 -- the two are of one transaction and one key
 abbrev pub is_same : TxId → List ℕ → TxId → List ℕ → Bool

@@ -23,7 +23,8 @@ use Rattle.local_ckpt.specs.Orderly.{IsOrderly, image_in, prepared_in}
 use Rattle.sig_core.specs.Walk.{noting}
 use Rattle.local_ckpt.proofs.CoverLemmas.{Fits, HasCome, IsCovered, later_places, later_rows}
 use Rattle.local_ckpt.proofs.EventLemmas.{LeavesRows, Prepared, Rewrites, aborts, commits, commits_row, completes, stores, stores_rows}
-use Rattle.local_ckpt.proofs.PlaceLemmas.{row_at, same}
+use Rattle.row_records.proofs.KeyLemmas.{same}
+use Rattle.row_records.proofs.PlaceLemmas.{row_at}
 use Rattle.local_ckpt.proofs.RecordLemmas.{by_record, commits_nothing, is_same}
 use Rattle.local_ckpt.proofs.RedoLemmas.{get-with_image, over, redoing, redone}
 

@@ -1,21 +1,10 @@
 -- What is true of the rows of a node at all times.
-use Rattle.std.specs.Prelude.{◌≡◌, if◌then◌else◌, ℕ, Bool, true, false, List, [], ◌∷◌, Option, None, Some}
+use Rattle.std.specs.Prelude.{◌≡◌, if◌then◌else◌, ℕ, true, List, Option, None, Some}
 use Rattle.sig_core.specs.declared.member.TxId.{TxId}
 use Rattle.sig_core.specs.declared.rows.PendingRecord.{PendingRecord}
-use Rattle.sig_core.specs.declared.rows.Slot.{Slot}
 use Rattle.sig_core.specs.Firsts.{drop_first, first}
-use Rattle.sig_core.specs.Rows.{RowsState, is_at, is_of}
-
--- the key has a place
-abbrev pub has_place : List (Option Slot) → List ℕ → Bool
-has_place [] key = false
-has_place (slot ∷ places) key = if is_at key slot then true else has_place places key
-
--- no key has two
-abbrev pub AreApart : List (Option Slot) → Type 0
-AreApart [] = Unit {0}
-AreApart (None ∷ places) = AreApart places
-AreApart (Some slot ∷ places) = (has_place places slot.key ≡ false) × AreApart places
+use Rattle.sig_core.specs.Rows.{RowsState, is_of}
+use Rattle.row_records.specs.Places.{AreApart, has_place}
 
 -- the image of a record that isn't committed
 abbrev pub prepared_in : Option PendingRecord → Option (Option (List ℕ))

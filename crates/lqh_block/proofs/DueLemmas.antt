@@ -1,6 +1,7 @@
 -- What a journal keeps free covers the ends of prepared records, whatever becomes of them.
 use Rattle.std.proofs.Common.{◌≡◌, ℕ, zero, suc, ◌+◌, ◌≤◌, Bool, true, false, ◌&&◌, List, [], ◌∷◌, ◌++◌, length, slice_set, slice_get, get_or, remove, refl, ap, sym, ◌∙◌, arith, subst}
 use Rattle.std.specs.Prelude.{Option, None, Some}
+use Rattle.std.specs.Cmp.Lexicographic.{bytes_decides}
 use Rattle.std.proofs.lemmas.List.Quantifiers.{position-Some}
 use Rattle.std.proofs.lemmas.Option.{slice_get-get_or}
 use Rattle.sig_core.specs.declared.member.TxId.{TxId}
@@ -12,7 +13,6 @@ use Rattle.sig_core.specs.Rows.{RowsState, abort_record, commit_by, commit_if, c
 use Rattle.sig_core.specs.Same.{same_key, same_tx}
 use Rattle.lqh_block.specs.Due.{IsCovered, due, due_if, due_of}
 use Rattle.lqh_block.specs.Storage.{prepared_journal}
-use Rattle.lqh_block.proofs.IndexLemmas.{same}
 
 size_of-Commit : (tx : TxId) (epoch : ℕ) (key : List ℕ) → size_of (redo.Commit tx epoch key) ≡ 25 + length key
 unfolding size_of
@@ -52,7 +52,9 @@ found_at pending tx key at d is =
     let passes = position-Some (is_of tx key) pending at d is in
     record {
       there = slice_get-get_or pending at d passes.0;
-      on_key = same _ _ (second (same_tx (get_or pending at d).tx tx) (same_key (get_or pending at d).key key) passes.1);
+      on_key =
+          (bytes_decides (get_or pending at d).key key).0
+          (second (same_tx (get_or pending at d).tx tx) (same_key (get_or pending at d).key key) passes.1);
     }
 
 due-prepared : (r : PendingRecord) (key : List ℕ) → r.key ≡ key → r.committed ≡ false → due r ≡ 25 + length key

@@ -1,14 +1,6 @@
-pub mod CountLemmas
 pub mod DueLemmas
 pub mod DumpLemmas
 pub mod EachLqh
 pub mod EachWaiting
 pub mod EffectLemmas
-pub mod EntryLemmas
-pub mod FreeLemmas
-pub mod IndexLemmas
 pub mod LqhForms
-pub mod PlaceLemmas
-pub mod RecordLemmas
-pub mod RowLemmas
-pub mod SpotLemmas

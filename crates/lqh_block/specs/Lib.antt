@@ -6,14 +6,9 @@ pub mod Counting
 pub mod Due
 pub mod Dump
 pub mod Expire
-pub mod Free
-pub mod Index
 pub mod Lqh
-pub mod MapRows
 pub mod Operate
-pub mod Places
 pub mod Ready
-pub mod Records
 pub mod State
 pub mod Storage
 pub mod Views

@@ -6,14 +6,9 @@ mod commit;
 mod count_journal;
 mod dump;
 mod expire;
-mod index;
 mod lqh;
-mod map_rows;
 mod operate;
-mod places;
 mod ready;
-mod record_id;
-mod records;
 mod request;
 mod storage;
 mod views;
@@ -22,9 +17,5 @@ mod work;
 
 pub use count_journal::CountJournal;
 pub use lqh::Lqh;
-pub use map_rows::MapRows;
 pub use request::{Marker, Request};
 pub use views::is_coordinated;
-
-#[cfg(test)]
-mod tests;

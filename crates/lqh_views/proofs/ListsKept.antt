@@ -25,7 +25,7 @@ use Rattle.lqh_block.specs.State.{LqhState, storage_of, with_markers, with_rows,
 use Rattle.lqh_block.specs.Storage as storage
 use Rattle.lqh_block.specs.Storage.{StorageState}
 use Rattle.lqh_block.specs.Wait.{acknowledged, is_other}
-use Rattle.lqh_block.proofs.IndexLemmas.{same as same_key-is}
+use Rattle.row_records.proofs.KeyLemmas.{same as same_key-is}
 use Rattle.lqh_block.proofs.LqhForms.{Applies, GivesUp, LqhForms, lqh_forms, perform_forms}
 use Rattle.lqh_views.proofs.Below.{NoneFrom, no_place, none_behind, none_changed, none_kept, none_removed, none_unchanged}
 

@@ -29,7 +29,7 @@ use Rattle.lqh_block.specs.declared.request.Request.{Request}
 use Rattle.lqh_block.specs.Commit.{is_marker}
 use Rattle.lqh_block.specs.Lqh.{lqh_row}
 use Rattle.lqh_block.proofs.EachLqh.{RequestSends, RowsSend, lqh_sends_each}
-use Rattle.lqh_block.proofs.IndexLemmas.{same as same_key-is}
+use Rattle.row_records.proofs.KeyLemmas.{same as same_key-is}
 use Rattle.lqh_views.specs.declared.report.Report.{Report}
 use Rattle.lqh_views.specs.Address.{addressed}
 use Rattle.lqh_views.specs.Epochs.{epoch_table}

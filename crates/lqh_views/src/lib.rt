@@ -13,6 +13,3 @@ pub use laws::{
 };
 pub use replica::Replica;
 pub use report::Report;
-
-#[cfg(test)]
-mod tests;

@@ -3,7 +3,8 @@
 use crate::main_part::MainPart;
 use crate::tc_part::TcPart;
 use api_block::Api;
-use lqh_block::{CountJournal, Lqh, MapRows};
+use frag_store::Store;
+use lqh_block::{CountJournal, Lqh};
 
 /// A unit that takes signals, one after the other: the shell's, or a part of a data node.
 #[derive(Drop)]
@@ -13,5 +14,5 @@ pub enum Host {
     Main(MainPart),
     Tc(TcPart),
     /// The rows of a node.
-    Ldm(Lqh<MapRows, CountJournal>),
+    Ldm(Lqh<Store, CountJournal>),
 }

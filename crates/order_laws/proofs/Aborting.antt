@@ -24,7 +24,7 @@ use Rattle.sig_core.specs.Same.{same_key, same_tx}
 use Rattle.sig_core.specs.Step.{Effects, Step}
 use Rattle.sig_core.specs.Work.{work_key}
 use Rattle.frag_map.specs.Layout.{Layout, first_layout}
-use Rattle.lqh_block.proofs.IndexLemmas as keys
+use Rattle.row_records.proofs.KeyLemmas as keys
 use Rattle.lqh_block.specs.Work.{is_for}
 use Rattle.tc_block.proofs.TurnRows.{turn_for}
 use Rattle.tc_block.specs.declared.transaction.Transaction.{Transaction}

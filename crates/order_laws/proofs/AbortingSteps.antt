@@ -27,7 +27,7 @@ use Rattle.sig_core.specs.Step.{Effects, Step}
 use Rattle.sig_core.specs.Work.{work_key}
 use Rattle.frag_map.proofs.FirstReplicas.{few_replicas}
 use Rattle.frag_map.specs.Layout.{Layout, first_layout}
-use Rattle.lqh_block.proofs.IndexLemmas as keys
+use Rattle.row_records.proofs.KeyLemmas as keys
 use Rattle.lqh_block.specs.State.{LqhState}
 use Rattle.tc_block.specs.Abort.{replica_count}
 use Rattle.tc_block.specs.declared.phase.Phase.{Phase}

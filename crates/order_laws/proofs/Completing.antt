@@ -22,7 +22,7 @@ use Rattle.sig_core.specs.Chain.{node_at}
 use Rattle.sig_core.specs.Same.{same_key, same_tx}
 use Rattle.sig_core.specs.Step.{Effects}
 use Rattle.frag_map.specs.Layout.{Layout, first_layout}
-use Rattle.lqh_block.proofs.IndexLemmas as keys
+use Rattle.row_records.proofs.KeyLemmas as keys
 use Rattle.lqh_block.proofs.LqhForms.{complete_forms}
 use Rattle.lqh_block.specs.Lqh.{lqh_table}
 use Rattle.lqh_block.specs.State.{LqhState}

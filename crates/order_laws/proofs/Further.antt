@@ -13,7 +13,7 @@ use Rattle.sig_core.specs.declared.signal.Body.TheVariants.{Chain}
 use Rattle.sig_core.specs.declared.signal.chain.ChainSignal.TheVariants.{LqhKeyConf, LqhKeyRef, LqhKeyReq}
 use Rattle.sig_core.specs.Same.{same_key, same_tx}
 use Rattle.sig_core.specs.Work.{work_key}
-use Rattle.lqh_block.proofs.IndexLemmas as keys
+use Rattle.row_records.proofs.KeyLemmas as keys
 use Rattle.lqh_block.proofs.LqhForms.{perform_forms}
 use Rattle.lqh_block.specs.declared.request.Request.{Request}
 use Rattle.lqh_block.specs.Lqh.{lqh_table}

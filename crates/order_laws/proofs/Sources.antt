@@ -21,7 +21,7 @@ use Rattle.sig_core.specs.Same.{same_key}
 use Rattle.sig_core.specs.Step.{Step}
 use Rattle.sig_core.specs.Work.{work_key}
 use Rattle.lqh_block.proofs.EachLqh.{RequestSends, lqh_sends_each}
-use Rattle.lqh_block.proofs.IndexLemmas.{same}
+use Rattle.row_records.proofs.KeyLemmas.{same}
 use Rattle.lqh_block.specs.declared.request.Request.{Request}
 use Rattle.lqh_block.specs.Lqh.{lqh_table}
 use Rattle.lqh_block.specs.State.{LqhState}

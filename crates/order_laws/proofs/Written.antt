@@ -38,7 +38,7 @@ use Rattle.tc_block.specs.Touched.{fits, is_on}
 use Rattle.tc_block.specs.Turn.{Turn, asking}
 use Rattle.tc_block.proofs.EachTurn.{AbortForms, TurnForms, may_ask, ready_is, rows_of}
 use Rattle.tc_block.proofs.TurnRows.{turn_for}
-use Rattle.lqh_block.proofs.IndexLemmas as keys
+use Rattle.row_records.proofs.KeyLemmas as keys
 use Rattle.node_core.proofs.HostCases.{IsTcStep, tc_step}
 use Rattle.node_core.specs.Blocks.{tc_of}
 use Rattle.node_core.specs.declared.host.Host.{Host}

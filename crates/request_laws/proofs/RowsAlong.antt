@@ -30,8 +30,9 @@ use Rattle.world_views.specs.Machine.{after, step_by, told}
 use Rattle.moment_laws.specs.Places.{ldm_of}
 use Rattle.moment_laws.proofs.MomentHosts.{ldm_started}
 use Rattle.moment_laws.proofs.StepWalk.{IsTaken, Saying, next_comes}
-use Rattle.key_laws.specs.Placed.{AreApart, IsPlaced, has_place}
-use Rattle.key_laws.proofs.PlacesAt.{apart-set_row, apart-with_place}
+use Rattle.row_records.specs.Places.{AreApart, has_place}
+use Rattle.key_laws.specs.Placed.{IsPlaced}
+use Rattle.row_records.proofs.PlaceLemmas.{apart-set_row, apart-with_place}
 use Rattle.host_laws.specs.ReplicaLaws.{IsWell}
 use Rattle.request_laws.specs.Blocks.{no_replica, rows_after, rows_in}
 use Rattle.request_laws.specs.Waiting.{RowsAreWell}
@@ -114,7 +115,7 @@ put_placed s [] epoch apart none = record {
 }
 put_placed s (r ∷ rows) epoch apart none =
     put_placed (put_row s r.0 r.1 epoch) rows epoch
-    (apart-set_row (with_place s.places r.0) r.0 (Some r.1) epoch (apart-with_place s.places r.0 apart)) none
+    (apart-set_row r.0 (Some r.1) epoch (with_place s.places r.0) (apart-with_place s.places r.0 apart)) none
 
 pub first_well : (start : Start) (member : Member) → IsWell (first_rows start member).lqh
 first_well start member = record {

@@ -16,7 +16,7 @@ use Rattle.sig_core.specs.Same.{same_tx}
 use Rattle.sig_core.specs.Step.{Effects, Step, nothing, stay}
 use Rattle.sig_core.proofs.Keys.{same_tx-self}
 use Rattle.sig_core.proofs.TxLemmas.{same_tx-is}
-use Rattle.lqh_block.proofs.IndexLemmas as index
+use Rattle.row_records.proofs.KeyLemmas as index
 use Rattle.lqh_block.specs.declared.request.Request.{Request}
 use Rattle.lqh_block.specs.State.{LqhState, storage_of}
 use Rattle.sig_core.specs.Work.{work_key}

@@ -28,7 +28,7 @@ use Rattle.row_locks.specs.declared.mode.Lock.TheVariants.{Granted, Queued}
 use Rattle.row_locks.specs.Rounds.{expired}
 use Rattle.row_locks.specs.Rows.{asked}
 use Rattle.row_locks.specs.Tables.{lock_at, unwaited_at}
-use Rattle.lqh_block.proofs.IndexLemmas.{same}
+use Rattle.row_records.proofs.KeyLemmas.{same}
 use Rattle.lqh_block.specs.Abort as abort
 use Rattle.lqh_block.specs.Commit as commit
 use Rattle.lqh_block.specs.Complete as complete

@@ -16,7 +16,7 @@ use Rattle.sig_core.specs.declared.signal.host.HostSignal.TheVariants.{Round, Co
 use Rattle.sig_core.specs.declared.signal.host.Work.TheVariants.{Granted, Expired}
 use Rattle.sig_core.specs.Same.{same_key}
 use Rattle.row_locks.specs.Rounds.{expired}
-use Rattle.lqh_block.proofs.IndexLemmas.{same as same_key-is}
+use Rattle.row_records.proofs.KeyLemmas.{same as same_key-is}
 use Rattle.lqh_block.specs.declared.request.Request.{Request}
 use Rattle.lqh_block.specs.Operate.{is_granted}
 use Rattle.lqh_block.specs.State.{LqhState, storage_of}

@@ -20,7 +20,7 @@ use Rattle.sig_core.specs.Op.{key_of}
 use Rattle.sig_core.specs.Place.{coordinator, rows_of}
 use Rattle.sig_core.specs.Same.{same_key, same_tx}
 use Rattle.sig_core.specs.Step.{to_place}
-use Rattle.lqh_block.proofs.IndexLemmas.{same}
+use Rattle.row_records.proofs.KeyLemmas.{same}
 use Rattle.node_core.specs.Requests.{is_request}
 use Rattle.tc_block.specs.declared.phase.Asked.{Asked}
 use Rattle.tc_block.specs.declared.phase.Phase.TheVariants.{Open, Verifying}

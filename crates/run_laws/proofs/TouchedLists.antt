@@ -12,7 +12,7 @@ use Rattle.sig_core.specs.declared.op.Answer.{Answer}
 use Rattle.sig_core.specs.declared.op.Op.{Op}
 use Rattle.sig_core.specs.Op.{key_of}
 use Rattle.sig_core.specs.Same.{same_key}
-use Rattle.lqh_block.proofs.IndexLemmas.{same as same_key-is}
+use Rattle.row_records.proofs.KeyLemmas.{same as same_key-is}
 use Rattle.tc_block.specs.declared.touched.Touched.{Touched}
 use Rattle.tc_block.specs.Touched.{is_on, place_of, touch, touched_by, unwritten, write, written, written_by}
 use Rattle.world_core.specs.History.{is_done}

@@ -1,7 +1,8 @@
-//! Random calls, on the row store and on rows in memory.
+//! Random calls, on the row store and on rows as they are defined.
+use crate::call::{Call, Outcome, RowAt, Told};
+use crate::plain::Plain;
 use crate::random::Random;
 use frag_store::Store;
-use lqh_block::MapRows;
 use sig_core::{Answer, Key, NoMemory, Op, PLACES, PendingRecord, Rows, RowsFault, TxId, Value};
 use std::test::Fail;
 
@@ -12,51 +13,6 @@ const TRANSACTIONS: u64 = 5;
 
 /// All places and records are compared after so many calls each time.
 const STRETCH: u64 = 1_000;
-
-/// A call, of a transaction on a key, with a value and an epoch where it takes them.
-#[derive(Clone, Copy)]
-enum Call {
-    Room,
-    Insert,
-    Update,
-    Delete,
-    Read,
-    Write,
-    Erase,
-    Put,
-    Commit,
-    Abort,
-    Complete,
-}
-
-/// What a call came to.
-#[derive(Clone, Copy, PartialEq, Eq)]
-enum Outcome {
-    Done,
-    Answered(Answer),
-    Refused(RowsFault),
-    Starved,
-}
-
-/// What is told of a key, and of how much there is.
-#[derive(Clone, Copy, PartialEq, Eq)]
-struct Told {
-    outcome: Outcome,
-    row: Option<Value>,
-    epoch: Option<u64>,
-    seen: Option<Value>,
-    state: Option<bool>,
-    records: usize,
-}
-
-/// A row, by its place.
-#[derive(Clone, Copy, PartialEq, Eq)]
-struct RowAt {
-    at: u64,
-    key: Key,
-    value: Value,
-    epoch: Option<u64>,
-}
 
 fn after(call: Result<(), NoMemory>) -> Outcome {
     match call {
@@ -79,14 +35,7 @@ fn written(call: Result<(), RowsFault>) -> Outcome {
     }
 }
 
-fn make<R: Rows>(
-    rows: &mut R,
-    tx: TxId,
-    key: &Key,
-    call: Call,
-    value: &Value,
-    epoch: u64,
-) -> Outcome {
+fn make(rows: &mut Store, tx: TxId, key: &Key, call: Call, value: &Value, epoch: u64) -> Outcome {
     match call {
         Call::Room => after(rows.make_room(key)),
         Call::Insert => answered(rows.prepare(tx, &Op::Ins(*key, *value))),
@@ -111,7 +60,7 @@ fn make<R: Rows>(
     }
 }
 
-fn tell<R: Rows>(rows: &mut R, tx: TxId, key: &Key, call: Call, value: &Value, epoch: u64) -> Told {
+fn tell(rows: &mut Store, tx: TxId, key: &Key, call: Call, value: &Value, epoch: u64) -> Told {
     Told {
         outcome: make(rows, tx, key, call, value, epoch),
         row: rows.row(key).copied(),
@@ -124,7 +73,7 @@ fn tell<R: Rows>(rows: &mut R, tx: TxId, key: &Key, call: Call, value: &Value, e
 
 // The row at the least place at or above this one that has one.
 #[tactic(auto, unfolding(sig_core::specs::Rows::next_place), using(crate::proofs::NextLemmas::row_place))]
-fn row_from<R: Rows>(rows: &R, from: u64) -> Option<RowAt> {
+fn row_from(rows: &Store, from: u64) -> Option<RowAt> {
     match rows.place_from(from) {
         Some(at) => {
             let (key, value) = rows.at_place(at);
@@ -148,11 +97,11 @@ fn same_record(one: &PendingRecord, other: &PendingRecord) -> bool {
 }
 
 // Whether both have the same rows at the same places.
-fn same_rows<A: Rows, B: Rows>(one: &A, other: &B) -> bool {
+fn same_rows(store: &Store, plain: &Plain) -> bool {
     let mut from = 0u64;
     for _ in 0..=PLACES {
-        let row = row_from(one, from);
-        if row != row_from(other, from) {
+        let row = row_from(store, from);
+        if row != plain.row_from(from) {
             return false;
         }
         match row {
@@ -163,24 +112,15 @@ fn same_rows<A: Rows, B: Rows>(one: &A, other: &B) -> bool {
     true
 }
 
-// Whether there is the same record at both places, or none.
-fn alike(one: &Option<PendingRecord>, other: &Option<PendingRecord>) -> bool {
-    match (one, other) {
-        (Some(record), Some(twin)) => same_record(record, twin),
-        (None, None) => true,
-        _ => false,
-    }
-}
-
 // Whether both have the same records in the same order.
-fn same_records<A: Rows, B: Rows>(one: &A, other: &B) -> bool {
-    let count = one.records();
-    for at in 0..count {
-        if !alike(&one.record_at(at), &other.record_at(at)) {
-            return false;
+fn same_records(store: &Store, plain: &Plain) -> bool {
+    for (at, record) in plain.records().iter().enumerate() {
+        match store.record_at(at) {
+            Some(twin) if same_record(&twin, record) => {}
+            _ => return false,
         }
     }
-    other.records() == count
+    store.records() == plain.records().len()
 }
 
 fn key_of(number: u64) -> Result<Key, Fail> {
@@ -213,7 +153,7 @@ fn call_of(random: &mut Random) -> Call {
 fn turn(
     random: &mut Random,
     store: &mut Store,
-    rows: &mut MapRows,
+    plain: &mut Plain,
     epoch: u64,
 ) -> Result<bool, Fail> {
     let tx = TxId {
@@ -225,34 +165,34 @@ fn turn(
     let value = value_of(random)?;
     let call = call_of(random);
     let told = tell(store, tx, &key, call, &value, epoch);
-    Ok(told == tell(rows, tx, &key, call, &value, epoch))
+    Ok(told == plain.tell(tx, &key, call, &value, epoch)?)
 }
 
 // Some calls, and whether both tell the same after each, and have the same rows and records at last.
 fn stretch(
     random: &mut Random,
     store: &mut Store,
-    rows: &mut MapRows,
+    plain: &mut Plain,
     count: u64,
 ) -> Result<bool, Fail> {
     for epoch in 0..count {
-        if !turn(random, store, rows, epoch)? {
+        if !turn(random, store, plain, epoch)? {
             return Ok(false);
         }
     }
-    Ok(same_rows(store, rows) && same_records(store, rows))
+    Ok(same_rows(store, plain) && same_records(store, plain))
 }
 
 /// Makes so many calls on both, and tells whether they told the same.
 pub fn try_all(rt: &HostRuntime, seed: u64, count: u64) -> Result<bool, Fail> {
     let mut random = Random(seed);
     let mut store = Store::new(rt.alloc())?;
-    let mut rows = MapRows::new(rt.alloc());
+    let mut plain = Plain::new(rt.alloc());
     for made in (0..count).step_by(STRETCH as usize) {
         if !stretch(
             &mut random,
             &mut store,
-            &mut rows,
+            &mut plain,
             STRETCH.min(count.saturating_sub(made)),
         )? {
             println!(rt;
@@ -264,7 +204,7 @@ pub fn try_all(rt: &HostRuntime, seed: u64, count: u64) -> Result<bool, Fail> {
     }
     println!(rt;
         "{count} calls: the same, {} records at last",
-        rows.records()
+        store.records()
     )?;
     Ok(true)
 }

@@ -1,11 +1,13 @@
-//! The row store beside rows in memory: whether both tell the same under random calls, and how long
-//! these and other stores take. The words are `calls SEED COUNT`; `rows COUNT`, which prints for each
+//! The row store beside rows as they are defined: whether both tell the same under random calls, and how
+//! long it and other stores take. The words are `calls SEED COUNT`; `rows COUNT`, which prints for each
 //! store how many insertions, look-ups and deletions it does in a second; or `formats COUNT`, which
 //! prints how many bytes of redo and of a checkpoint are written and read in a second.
 #![tactic(auto)]
 
+mod call;
 mod calls;
 mod formats;
+mod plain;
 mod random;
 mod row_map;
 mod stores;

@@ -1,6 +1,5 @@
 //! What stores of rows have in common.
 use frag_store::Store;
-use lqh_block::MapRows;
 use sig_core::{Key, NoMemory, Rows, TxId, Value};
 use std::collections::{BTreeMap, HashMap};
 
@@ -55,34 +54,16 @@ impl RowMap for Store {
     }
 
     fn take_out(&mut self, key: &Key) -> Result<(), NoMemory> {
-        delete(self, key)
+        // By a transaction, which commits and is done.
+        let tx = TxId {
+            tc: 1,
+            start: 0,
+            seq: 1,
+        };
+        self.make_room(key)?;
+        let _answer = self.prepare_image(tx, key, &None);
+        self.commit(tx, key, 2);
+        self.complete(tx, key);
+        Ok(())
     }
-}
-
-impl RowMap for MapRows {
-    fn put(&mut self, key: &Key, value: &Value) -> Result<(), NoMemory> {
-        self.put_row(key, value, 1)
-    }
-
-    fn find(&self, key: &Key) -> Option<Value> {
-        self.row(key).copied()
-    }
-
-    fn take_out(&mut self, key: &Key) -> Result<(), NoMemory> {
-        delete(self, key)
-    }
-}
-
-// A row is deleted by a transaction, which commits and is done.
-fn delete<R: Rows>(rows: &mut R, key: &Key) -> Result<(), NoMemory> {
-    let tx = TxId {
-        tc: 1,
-        start: 0,
-        seq: 1,
-    };
-    rows.make_room(key)?;
-    let _answer = rows.prepare_image(tx, key, &None);
-    rows.commit(tx, key, 2);
-    rows.complete(tx, key);
-    Ok(())
 }

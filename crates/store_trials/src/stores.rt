@@ -2,7 +2,6 @@
 use crate::row_map::RowMap;
 use crate::watch::{Watch, a_second};
 use frag_store::Store;
-use lqh_block::MapRows;
 use sig_core::{Key, Value};
 use std::alloc::Global;
 use std::collections::{BTreeMap, HashMap};
@@ -101,19 +100,16 @@ pub fn time_all(rt: &HostRuntime, count: u64) -> Result<bool, Fail> {
         find: 0,
         take_out: 0,
     };
-    let (mut store, mut map, mut sorted, mut hashed) = (none, none, none, none);
+    let (mut store, mut sorted, mut hashed) = (none, none, none);
     for _ in 0..filled {
         let mut rows = Store::new(rt.alloc())?;
         all_found = all_found && time(rt, &mut rows, &keys, &mut store)?;
-        let mut rows = MapRows::new(rt.alloc());
-        all_found = all_found && time(rt, &mut rows, &keys, &mut map)?;
         let mut rows = BTreeMap::new(rt.alloc());
         all_found = all_found && time(rt, &mut rows, &keys, &mut sorted)?;
         let mut rows = HashMap::new(rt.alloc());
         all_found = all_found && time(rt, &mut rows, &keys, &mut hashed)?;
     }
     tell(rt, "frag_store", count, filled, &store)?;
-    tell(rt, "MapRows", count, filled, &map)?;
     tell(rt, "BTreeMap", count, filled, &sorted)?;
     tell(rt, "HashMap", count, filled, &hashed)?;
     Ok(all_found)

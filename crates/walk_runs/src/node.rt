@@ -3,7 +3,7 @@
 use crate::dice::Dice;
 use crate::fault::RunFault;
 use crate::plain::Commit;
-use lqh_block::MapRows;
+use frag_store::Store;
 use redo_log::Log;
 use sig_core::{Journal, Key, Redo, Rows, TxId, Value};
 use std::alloc::Global;
@@ -18,7 +18,7 @@ pub struct Prepared {
 
 #[derive(Drop)]
 pub struct Node {
-    pub rows: MapRows,
+    pub rows: Store,
     pub log: Log,
     /// The bytes of the log from its first on.
     pub bytes: Vec<u8>,
@@ -40,7 +40,7 @@ impl Node {
             return Err(RunFault::NoMemory);
         };
         let mut node = Node {
-            rows: MapRows::new(alloc),
+            rows: Store::new(alloc)?,
             log,
             bytes: Vec::new(alloc),
             commits: Vec::new(alloc),

@@ -107,3 +107,26 @@ fn a_transaction_sees_its_own_image(rt: HostRuntime) -> Result<(), Fail> {
     assert_eq!(rt; record.epoch, 3);
     Ok(())
 }
+
+// What is told of the record at a place: whether it is committed, and in which epoch.
+fn record_told(rows: &Store, at: usize) -> Option<(bool, u64)> {
+    match &rows.record_at(at) {
+        Some(record) => Some((record.committed, record.epoch)),
+        None => None,
+    }
+}
+
+#[test]
+fn a_record_tells_the_epoch_of_its_first_commit(rt: HostRuntime) -> Result<(), Fail> {
+    let mut rows = Store::new(rt.alloc())?;
+    let (a, b, image) = (Key::new(b"a")?, Key::new(b"b")?, Some(Value::new(b"x")?));
+    assert!(rt; rows.prepare_image(TX, &a, &image).is_ok());
+    assert!(rt; rows.prepare_image(TX, &b, &image).is_ok());
+    rows.commit(TX, &a, 6);
+    rows.commit(TX, &a, 7);
+    assert_eq!(rt; rows.records(), 2);
+    assert_eq!(rt; record_told(&rows, 0), Some((true, 6)));
+    assert_eq!(rt; record_told(&rows, 1), Some((false, 0)));
+    assert_eq!(rt; record_told(&rows, 2), None);
+    Ok(())
+}

@@ -3,9 +3,9 @@ use Rattle.std.specs.List.{count_by}
 use Rattle.std.proofs.lemmas.List.Sums.{count_by-le-length}
 use Rattle.sig_core.specs.Rows.{is_on, place_of}
 use Rattle.sig_core.specs.Same.{same_key}
-use Rattle.frag_store.proofs.CountLemmas.{made_counts, stored_counts, stored_some}
+use Rattle.row_records.proofs.CountLemmas.{made_counts, stored_counts, stored_some}
 use Rattle.frag_store.proofs.HeldLemmas.{held_placed}
-use Rattle.frag_store.proofs.RowLemmas.{placed_keeps}
+use Rattle.row_records.proofs.RowLemmas.{placed_keeps}
 use Rattle.frag_store.proofs.store.hold_image.Goals as goal
 
 pub hold-requires-clause-few : goal.hold-requires-clause-few

@@ -2,9 +2,9 @@ use Rattle.std.proofs.Common.{◌≡◌, ◌∙◌, ap, arith, refl, subst}
 use Rattle.std.specs.List.{count_by}
 use Rattle.sig_core.specs.Rows.{RowsState, drop_by, is_on, record_at, record_of}
 use Rattle.frag_store.specs.HeldPlaces.{records_on}
-use Rattle.frag_store.specs.Records.{record_by}
-use Rattle.frag_store.proofs.CountLemmas.{count-remove, count-some}
-use Rattle.frag_store.proofs.RowLemmas.{drop_found, drop_kept}
+use Rattle.row_records.specs.Records.{record_by}
+use Rattle.row_records.proofs.CountLemmas.{count-remove, count-some}
+use Rattle.row_records.proofs.RowLemmas.{drop_found, drop_kept}
 use Rattle.frag_store.proofs.store.Store.drop_record.Goals as goal
 
 pub let_go-requires : goal.let_go-requires

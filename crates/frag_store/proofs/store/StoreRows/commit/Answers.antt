@@ -1,9 +1,9 @@
 use Rattle.std.proofs.Common.{◌≡◌, ◌∙◌, ap, sym, subst}
 use Rattle.std.specs.List.{count_by}
 use Rattle.sig_core.specs.Rows.{RowsState, commit_record, is_on}
-use Rattle.frag_store.specs.Records.{record_by}
-use Rattle.frag_store.proofs.CountLemmas.{count-commit}
-use Rattle.frag_store.proofs.RowLemmas.{commit_found, commit_kept}
+use Rattle.row_records.specs.Records.{record_by}
+use Rattle.row_records.proofs.CountLemmas.{count-commit}
+use Rattle.row_records.proofs.RowLemmas.{commit_found, commit_kept}
 use Rattle.frag_store.proofs.store.StoreRows.commit.Goals as goal
 
 pub invariant_of-self : goal.invariant_of-self

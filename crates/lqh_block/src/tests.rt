@@ -1,4 +1,0 @@
-mod conversation;
-mod heard;
-mod stores;
-mod text;

@@ -1,3 +1,0 @@
-mod conversation;
-mod heard;
-mod text;
