@@ -1,5 +1,6 @@
 pub mod ChainLemmas
 pub mod Firsts
+pub mod KeyLemmas
 pub mod Keys
 pub mod PortionLemmas
 pub mod TableLemmas

@@ -1,7 +1,7 @@
 -- Where the blocks are.
 use Rattle.std.specs.Prelude.{ℕ}
 use Rattle.sig_core.specs.declared.member.TxId.{TxId}
-use Rattle.sig_core.specs.declared.place.BlockId.TheVariants.{Api, Arbiter, Qmgr, Tc, Takeover, Dih, GcpMaster, Lqh}
+use Rattle.sig_core.specs.declared.place.BlockId.TheVariants.{Api, Arbiter, Qmgr, Tc, Takeover, Dih, GcpMaster, Lqh, Copy, Files, Suma, Backup}
 use Rattle.sig_core.specs.declared.place.Place.{Place}
 
 -- the interface to clients, on the shell host
@@ -39,3 +39,19 @@ takeover node = record { node = node; block = Takeover }
 -- the block of a node that drives checkpoints
 abbrev pub checkpoints : ℕ → Place
 checkpoints node = record { node = node; block = GcpMaster }
+
+-- the block of a node that copies rows to a node that starts
+abbrev pub copying : ℕ → Place
+copying node = record { node = node; block = Copy }
+
+-- the disk of a node
+abbrev pub files : ℕ → Place
+files node = record { node = node; block = Files }
+
+-- the block of a node that tells subscribers what changed
+abbrev pub subscriptions : ℕ → Place
+subscriptions node = record { node = node; block = Suma }
+
+-- the block of a node that takes backups
+abbrev pub backups : ℕ → Place
+backups node = record { node = node; block = Backup }

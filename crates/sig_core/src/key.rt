@@ -7,9 +7,11 @@ ghost use Rattle.std.specs.Cmp.{partial_equiv_from_equiv};
 ghost use Rattle.std.specs.Cmp.Lexicographic.{pointwise, slice_cmp, nat_list_eq_equiv, nat_list_cmp_total, texts_ties, texts_po};
 ghost use Rattle.std.specs.Prelude.{nat_eq};
 ghost use Rattle.std.specs.Cmp.Rules.{hashing};
+ghost use Rattle.sig_core.specs.IndexKey.{index_of, is_index};
 ghost use Rattle.sig_core.specs.Word.{if_word};
 ghost use Rattle.sig_core.specs.declared.key.TheConstants.{KEY_BYTES};
 
+use crate::value::Value;
 use crate::word::{WordFault, check, put_front};
 use std::cmp::Ordering;
 use std::fmt;
@@ -19,7 +21,12 @@ use std::marker::Model;
 /// The most bytes that a key has.
 pub const KEY_BYTES: usize = 32;
 
-/// The primary key of a row: 1 to 32 bytes, each from 0x21 to 0x7e. Keys compare as lists of bytes.
+/// The byte that a key of the index begins with. No word has it.
+pub const SPACE: u8 = 0x20;
+
+/// The primary key of a row: 1 to 32 bytes, each from 0x21 to 0x7e. Where values are unique, there are
+/// also the keys of the index: a space, and then the 1 to 31 bytes of a value. Keys compare as lists of
+/// bytes.
 #[derive(Clone, Copy)]
 pub struct Key {
     bytes: [u8; KEY_BYTES],
@@ -29,14 +36,14 @@ pub struct Key {
 impl Model for Key {
     ghost use Rattle.std.specs.Prelude.{List, ℕ, take, length};
     ghost use Rattle.sig_core.specs.Filled.{filled, filled-held, length-held};
-    ghost use Rattle.sig_core.specs.Word.{IsWord};
+    ghost use Rattle.sig_core.specs.IndexKey.{IsKeyBytes};
     ghost use Rattle.sig_core.specs.declared.key.TheConstants.{KEY_BYTES};
 
     ghost Value = { List ℕ };
 
     ghost view = { λ k. take k.len k.bytes };
 
-    ghost invariant = { λ k. IsWord 1 KEY_BYTES k.bytes k.len };
+    ghost invariant = { λ k. IsKeyBytes k.bytes k.len };
 
     ghost inverse = { λ bytes. record { bytes = filled 0 KEY_BYTES bytes; len = length bytes } };
 
@@ -49,7 +56,7 @@ impl Key {
     /// # Errors
     /// `Length` where there are none or more than 32, else `BadByte` at the first that is not from
     /// 0x21 to 0x7e.
-    #[tactic(auto, using(crate::proofs::WordLemmas::stored_word))]
+    #[tactic(auto, using(crate::proofs::KeyLemmas::stored_key))]
     pub fn new(bytes: &[u8]) -> Result<Key, WordFault>
         ensures { result ≡ if_word 1 KEY_BYTES bytes.now bytes.now }
     {
@@ -62,7 +69,34 @@ impl Key {
         })
     }
 
+    /// The key of the index by which the row with this value is found. None where the value is empty
+    /// or has more than 31 bytes.
+    #[tactic(auto, using(crate::proofs::KeyLemmas::indexes))]
+    pub fn index(value: &Value) -> Option<Key>
+        ensures { result ≡ index_of value.now }
+    {
+        let bytes = value.bytes();
+        if bytes.is_empty() || bytes.len() >= KEY_BYTES {
+            return None;
+        }
+        let mut stored = [0; KEY_BYTES];
+        put_front(&mut stored[1..], bytes);
+        stored[0] = SPACE;
+        Some(Key {
+            bytes: stored,
+            len: bytes.len() as u8 + 1,
+        })
+    }
+
+    /// Whether it is a key of the index.
+    pub fn is_index(&self) -> bool
+        ensures { result ≡ is_index self.now }
+    {
+        self.bytes()[0] == SPACE
+    }
+
     /// The key's bytes.
+    #[tactic(auto, using(crate::proofs::KeyLemmas::some_bytes))]
     pub fn bytes(&self) -> &[u8]
         ensures value { result.now ≡ self.now }
         ensures least { 1 ≤ length self.now }

@@ -5,6 +5,7 @@ use crate::mark::Marks;
 use crate::member::HostId;
 use crate::seq::Seq;
 use crate::signal::Signal;
+use crate::slots::Slots;
 use crate::value::Value;
 
 /// One step of a host: the signal that it took, and what the step is known by.
@@ -33,4 +34,6 @@ pub struct Life {
     /// The rows that it restored, with distinct keys.
     pub start_rows: Seq<(Key, Value)>,
     pub logs: Seq<HostLog>,
+    /// What each host that was made with a disk found there, in the order of hosts.
+    pub slots: Seq<Slots>,
 }

@@ -25,8 +25,6 @@ pub enum Mark {
     Installed { view: Held<View> },
     /// The client was told the transaction's outcome.
     Reported { tx: TxId, outcome: Outcome },
-    /// No transaction up to this epoch is unfinished at any member.
-    Closed { epoch: u64 },
     /// Every transaction up to this epoch survives a stop of all nodes.
     Durable { epoch: u64 },
     /// The host discards what it would send to that host, and what comes from it.
@@ -35,6 +33,8 @@ pub enum Mark {
     Down { group: u8 },
     /// The host stopped. A host's last mark.
     Stopped { cause: StopCause },
+    /// No transaction up to this epoch is unfinished at any member.
+    Closed { epoch: u64 },
 }
 
 /// The marks of one step, in order.

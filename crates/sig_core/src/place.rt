@@ -1,7 +1,7 @@
 //! Where a signal is for.
 ghost use Rattle.std.specs.Prelude.{◌≡◌};
 ghost use Rattle.sig_core.specs.Part.{part_of};
-ghost use Rattle.sig_core.specs.Place.{checkpoints, coordinator, coordinator_of, epochs, membership, rows_of, takeover};
+ghost use Rattle.sig_core.specs.Place.{backups, checkpoints, coordinator, coordinator_of, copying, epochs, files, membership, rows_of, subscriptions, takeover};
 
 use crate::member::TxId;
 
@@ -28,6 +28,10 @@ pub enum BlockId {
     Copy,
     /// The disk of the node.
     Files,
+    /// Tells subscribers the changes of closed epochs (SUMA).
+    Suma,
+    /// Takes backups.
+    Backup,
 }
 
 /// A part of a data node, which has a host of its own.
@@ -37,7 +41,7 @@ pub enum Part {
     Main,
     /// The coordinator, takeover and epochs.
     Tc,
-    /// The rows and the disk.
+    /// The rows and the disk, subscriptions and backups.
     Ldm,
 }
 
@@ -48,7 +52,7 @@ pub fn part_of(block: BlockId) -> Part
 {
     match block {
         BlockId::Tc | BlockId::Takeover | BlockId::Dih => Part::Tc,
-        BlockId::Lqh | BlockId::Files => Part::Ldm,
+        BlockId::Lqh | BlockId::Files | BlockId::Suma | BlockId::Backup => Part::Ldm,
         _ => Part::Main,
     }
 }
@@ -136,5 +140,45 @@ pub fn checkpoints(node: u8) -> Place
     Place {
         node,
         block: BlockId::GcpMaster,
+    }
+}
+
+/// The block of a node that copies rows to a node that starts.
+pub fn copying(node: u8) -> Place
+    ensures { result ≡ copying node }
+{
+    Place {
+        node,
+        block: BlockId::Copy,
+    }
+}
+
+/// The disk of a node.
+pub fn files(node: u8) -> Place
+    ensures { result ≡ files node }
+{
+    Place {
+        node,
+        block: BlockId::Files,
+    }
+}
+
+/// The block of a node that tells subscribers what changed.
+pub fn subscriptions(node: u8) -> Place
+    ensures { result ≡ subscriptions node }
+{
+    Place {
+        node,
+        block: BlockId::Suma,
+    }
+}
+
+/// The block of a node that takes backups.
+pub fn backups(node: u8) -> Place
+    ensures { result ≡ backups node }
+{
+    Place {
+        node,
+        block: BlockId::Backup,
     }
 }

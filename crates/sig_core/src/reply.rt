@@ -2,6 +2,7 @@
 use crate::key::Key;
 use crate::op::Answer;
 use crate::outcome::{Outcome, StopCause};
+use crate::unique::UAnswer;
 use crate::value::Value;
 use crate::view::View;
 
@@ -32,6 +33,9 @@ pub enum Refusal {
     TooManyOpen,
     /// The first name of a batch that is open, declared twice or undeclared, or has too much.
     Batch(u16),
+    NoSubscriber(u16),
+    IsSubscribed(u16),
+    NotSubscribed(u16),
 }
 
 /// A reply: one kind for each line of text.
@@ -57,4 +61,27 @@ pub enum ApiReply {
     Crashed,
     Restarted { epoch: u64 },
     BatchEnd,
+    /// The end of a load: so many transactions, and how many of them were committed and aborted.
+    Loaded { transactions: u32, committed: u32, aborted: u32 },
+    /// The subscriber is handed what is closed after this epoch.
+    Subscribed { subscriber: u16, epoch: u64 },
+    /// The subscriber was handed what was closed up to this epoch.
+    Unsubscribed { subscriber: u16, epoch: u64 },
+    /// The subscriber was handed so many changes of this epoch.
+    Changes { subscriber: u16, epoch: u64, changes: u64 },
+    /// The subscriber failed, and its count of faults is this.
+    SubscriberFailed { subscriber: u16, count: u64 },
+    /// The backup has the transactions up to this epoch.
+    BackedUp { backup: u32, epoch: u64 },
+    /// A view of this number ended the backup.
+    BackupEnded { backup: u32, view: u64 },
+    /// The data of a node would have so many bytes.
+    BackupTooLarge { backup: u32, size: u64 },
+    NoBackup { backup: u32 },
+    /// A row of a backup.
+    DumpRow { key: Key, value: Value },
+    /// All rows of a backup, which has the transactions up to this epoch.
+    Dumped { backup: u32, rows: u64, epoch: u64 },
+    /// The answer of an operation where values are unique.
+    Unique { name: Option<u16>, answer: UAnswer },
 }

@@ -10,10 +10,12 @@ pub enum BatchLine {
     Operate { name: u16, op: Op },
     /// Stop the node when its coordinator's host has taken this many signals after the order.
     Kill { node: u8, after: u32 },
-    /// Close the current epoch, in memory alone.
-    Micro,
     Gcp,
     Lcp,
+    /// Close the current epoch, in memory alone.
+    Micro,
+    /// An operation where values are unique.
+    Unique { name: u16, op: Op },
 }
 
 /// A request of the shell: one kind for each command, and two that ask what is unanswered.
@@ -29,19 +31,28 @@ pub enum ApiReq {
     Cut { one: u8, other: u8 },
     /// A round, from 1, of as many as `of`.
     Tick { round: u8, of: u8 },
-    /// Close the current epoch, in memory alone.
-    Micro,
     /// Close the current epoch, and make it durable.
     Gcp,
     Lcp,
-    Start { node: u8 },
-    View,
-    Rows { node: u8 },
-    Digest { node: u8 },
+    /// `own` is the epoch of the rows that the node has on its disk, where it has rows of its own.
+    Start { node: u8, own: Option<u64> },
     Crash,
     Restart,
+    Rows { node: u8 },
+    Digest { node: u8 },
+    View,
     /// Find out what each unanswered operation waits for.
     Waits,
     /// Reply what is still unanswered.
     Pending,
+    /// Close the current epoch, in memory alone.
+    Micro,
+    /// Hand this subscriber, from 1, the changes of each epoch that is closed from now on.
+    Subscribe { subscriber: u16 },
+    Unsubscribe { subscriber: u16 },
+    Backup { backup: u32 },
+    /// Tell the rows of a backup, of a cluster that crashed.
+    Dump { backup: u32 },
+    /// `Operate` where values are unique. A value is looked up by a read of its key in the index.
+    Unique { name: Option<u16>, op: HeldOp },
 }

@@ -4,25 +4,33 @@ use crate::member::{HostId, Member};
 use crate::place::Place;
 use crate::view::View;
 
+mod backup;
 mod chain;
 mod checkpoint;
 mod client;
+mod copying;
 mod epoch;
 mod file;
 mod host;
 mod joining;
 mod membership;
+mod subscription;
 mod takeover;
+mod unique;
 
+pub use backup::BackupSignal;
 pub use chain::{ChainSignal, RowWork};
 pub use checkpoint::CheckpointSignal;
 pub use client::ClientSignal;
+pub use copying::CopyingSignal;
 pub use epoch::EpochSignal;
 pub use file::FileSignal;
 pub use host::{HostSignal, Work};
 pub use joining::JoiningSignal;
 pub use membership::MembershipSignal;
+pub use subscription::SubscriptionSignal;
 pub use takeover::{RecordState, TakeoverSignal};
+pub use unique::UniqueSignal;
 
 /// What a signal says, by family.
 #[derive(Drop)]
@@ -36,6 +44,10 @@ pub enum Body {
     Checkpoint(CheckpointSignal),
     File(FileSignal),
     Joining(JoiningSignal),
+    Copying(CopyingSignal),
+    Subscription(SubscriptionSignal),
+    Backup(BackupSignal),
+    Unique(UniqueSignal),
 }
 
 /// A signal with its header.

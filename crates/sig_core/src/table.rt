@@ -1,5 +1,5 @@
 //! Tables of rows.
-ghost use Rattle.std.specs.Prelude.{◌≡◌, OnOk, OnErr};
+ghost use Rattle.std.specs.Prelude.{◌≡◌, IfOk, OnOk, OnErr};
 ghost use Rattle.std.specs.FinMap as map;
 
 use crate::key::Key;
@@ -37,6 +37,17 @@ impl Table {
         Table {
             rows: BTreeMap::new(alloc),
         }
+    }
+
+    /// The same rows once more.
+    ///
+    /// # Errors
+    /// `NoMemory`.
+    pub fn copy(&self) -> Result<Table, NoMemory>
+        ensures { IfOk result (λ copy. copy ≡ self.now) }
+    {
+        let rows = self.rows.clone()?;
+        Ok(Table { rows })
     }
 
     /// The row of the key.

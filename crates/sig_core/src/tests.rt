@@ -24,6 +24,20 @@ fn keys_are_1_to_32_printable_bytes(rt: HostRuntime) -> Result<(), Fail> {
 }
 
 #[test]
+fn keys_of_the_index_stand_behind_a_space(rt: HostRuntime) -> Result<(), Fail> {
+    let Some(key) = Key::index(&Value::new(b"x")?) else {
+        return Err(Fail::from("a value of a byte has a key of the index"));
+    };
+    assert_eq!(rt; key.bytes(), b" x".as_slice());
+    assert!(rt; key.is_index());
+    assert!(rt; !Key::new(b"x")?.is_index());
+    assert!(rt; Key::index(&Value::new(&[b'v'; 31])?).is_some());
+    assert_eq!(rt; Key::index(&Value::new(&[b'v'; 32])?), None);
+    assert_eq!(rt; Key::index(&Value::new(b"")?), None);
+    Ok(())
+}
+
+#[test]
 fn values_are_0_to_200_printable_bytes(rt: HostRuntime) -> Result<(), Fail> {
     assert_eq!(rt; Value::new(b"")?.bytes(), [].as_slice());
     assert_eq!(rt; Value::new(&[b'v'; 200])?.bytes(), [b'v'; 200].as_slice());
@@ -45,7 +59,9 @@ fn tables_keep_the_last_value(rt: HostRuntime) -> Result<(), Fail> {
     assert!(rt; table.insert(a, Value::new(b"1")?).is_ok());
     assert!(rt; table.insert(b, Value::new(b"2")?).is_ok());
     assert!(rt; table.insert(a, Value::new(b"3")?).is_ok());
+    let before = table.copy()?;
     table.remove(&b);
+    assert_eq!(rt; before.get(&b), Some(Value::new(b"2")?));
     assert_eq!(rt; table.get(&a), Some(Value::new(b"3")?));
     assert_eq!(rt; table.get(&b), None);
     Ok(())

@@ -1,8 +1,8 @@
 //! The value of a row.
-ghost use Rattle.std.specs.Prelude.{◌≡◌, ◌≤◌, length, nat_eq};
+ghost use Rattle.std.specs.Prelude.{◌≡◌, ◌≤◌, None, length, nat_eq, position};
 ghost use Rattle.std.specs.Cmp.{partial_equiv_from_equiv};
 ghost use Rattle.std.specs.Cmp.Lexicographic.{pointwise, nat_list_eq_equiv};
-ghost use Rattle.sig_core.specs.Word.{if_word};
+ghost use Rattle.sig_core.specs.Word.{if_word, is_unprintable};
 ghost use Rattle.sig_core.specs.declared.value.TheConstants.{VALUE_BYTES};
 
 use crate::word::{WordFault, check, put_front};
@@ -59,6 +59,7 @@ impl Value {
     pub fn bytes(&self) -> &[u8]
         ensures value { result.now ≡ self.now }
         ensures most { length self.now ≤ VALUE_BYTES }
+        ensures printable { position is_unprintable self.now ≡ None }
     {
         &self.bytes[..self.len as usize]
     }

@@ -2,6 +2,7 @@
 use crate::held_answer::HeldAnswer;
 use crate::held_op::HeldOp;
 use crate::member::TxId;
+use crate::place::BlockId;
 use crate::seq::Seq;
 
 /// Signals of epochs and global checkpoints.
@@ -18,7 +19,10 @@ pub enum EpochSignal {
     DiVerifyEnd {
         tx: TxId,
     },
-    GcpReq,
+    /// A global checkpoint is asked for by the client's side, or by this block of the master's node.
+    GcpReq {
+        by: BlockId,
+    },
     GcpRep {
         epoch: u64,
     },

@@ -26,6 +26,8 @@ pub enum Work {
     Flush,
     /// Rows of a local checkpoint.
     Walk,
+    /// Changes of this epoch to tell subscribers.
+    Changes(u64),
 }
 
 /// Signals that any block may take.

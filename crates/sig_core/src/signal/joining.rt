@@ -1,14 +1,13 @@
 //! Signals by which a node that starts joins the others.
-use crate::held::Held;
-use crate::key::Key;
 use crate::member::{Member, TxId};
-use crate::value::Value;
 
-/// Signals by which a node that starts joins the others.
-#[derive(Drop)]
+/// Signals by which a node that starts joins the others. `own` is the epoch of the rows that it has
+/// on its disk, where it has rows of its own.
+#[derive(Clone, Copy)]
 pub enum JoiningSignal {
     StartReq {
         member: Member,
+        own: Option<u64>,
     },
     StartRep {
         member: Member,
@@ -21,30 +20,8 @@ pub enum JoiningSignal {
     },
     CopyOrd {
         member: Member,
+        own: Option<u64>,
     },
-    CopyFragReq {
-        member: Member,
-        fragment: u8,
-    },
-    CopyFragConf,
-    LqhScanReq {
-        fragment: u8,
-        at: u64,
-    },
-    LqhScanConf {
-        row: Option<Held<(Key, Value)>>,
-        epoch: u64,
-        next: Option<u64>,
-    },
-    LqhUnlock {
-        key: Key,
-    },
-    CopyRowReq {
-        key: Key,
-        value: Held<Value>,
-        epoch: u64,
-    },
-    CopyRowConf,
     DrainReq,
     DrainConf,
     DrainWait {
