@@ -9,10 +9,10 @@ use Rattle.std.proofs.lemmas.List.{take_at, drop_at, length-append, append_assoc
 use Rattle.std.proofs.lemmas.Nat.{from_be_bytes-to_be_bytes_8}
 use Rattle.sig_core.specs.Table.{Rows}
 use Rattle.sig_core.specs.Word.{is_unprintable}
-use Rattle.lcp_store.specs.declared.row.StoredRow.{StoredRow}
+use Rattle.sig_core.specs.declared.stored_row.StoredRow.{StoredRow}
 use Rattle.lcp_store.specs.declared.row.Version.{Version}
 use Rattle.lcp_store.specs.declared.row.Version.TheVariants.{First, Second}
-use Rattle.lcp_store.specs.Bytes.{epoch_bytes, head_bytes, row_bytes, word_bytes}
+use Rattle.sig_core.specs.Checkpoint.{epoch_bytes, head_bytes, row_bytes, word_bytes}
 use Rattle.lcp_store.specs.Reading.{epoch_in, or_damage, put_in, read_on, row_in, rows_behind, rows_from, rows_in, version_in, with_epoch, with_key, with_value, word_in, word_len, word_of_len}
 use Rattle.lcp_store.specs.Laws.{AreRowsOf, CheckpointsAreRead, IsEpochOf, IsRowOf, IsWordOf, NoneBeginsAnother, RowsAreRead, all_in}
 
@@ -126,12 +126,12 @@ first_version saved (row ∷ list) are =
 
 pub checkpoints_read : CheckpointsAreRead
 unfolding rows_in version_in
-checkpoints_read saved rows small =
+checkpoints_read file saved rows small =
     let bytes = flat_map row_bytes rows in
     let all = head_bytes ++ bytes in
     let same : length bytes ≤ length bytes = omega arith in
     let behind : length bytes ≤ suc (suc (length bytes)) = omega arith in (
-      (λ are. ap (λ v. or_damage bytes (rows_behind saved bytes v)) (first_version saved rows are)
-          ∙ ap (or_damage bytes) (rows_read (length bytes) First saved map.empty rows small are same)),
-      (λ are. ap (or_damage all) (rows_read (length all) Second saved map.empty rows small are behind)),
+      (λ are. ap (λ v. or_damage file bytes (rows_behind saved bytes v)) (first_version saved rows are)
+          ∙ ap (or_damage file bytes) (rows_read (length bytes) First saved map.empty rows small are same)),
+      (λ are. ap (or_damage file all) (rows_read (length all) Second saved map.empty rows small are behind)),
     )

@@ -6,10 +6,10 @@ use Rattle.sig_core.specs.Table.{Rows}
 use Rattle.sig_core.specs.Word.{is_unprintable}
 use Rattle.sig_core.specs.declared.key.TheConstants.{KEY_BYTES}
 use Rattle.sig_core.specs.declared.value.TheConstants.{VALUE_BYTES}
-use Rattle.lcp_store.specs.declared.row.StoredRow.{StoredRow}
+use Rattle.sig_core.specs.declared.stored_row.StoredRow.{StoredRow}
 use Rattle.lcp_store.specs.declared.row.Version.{Version}
 use Rattle.lcp_store.specs.declared.row.Version.TheVariants.{First, Second}
-use Rattle.lcp_store.specs.Bytes.{head_bytes, row_bytes}
+use Rattle.sig_core.specs.Checkpoint.{head_bytes, row_bytes}
 use Rattle.lcp_store.specs.Reading.{put_in, row_in, rows_in}
 
 -- a word of `least` to `most` bytes, each of them printable
@@ -56,6 +56,6 @@ all_in rows (row ∷ later) = all_in (put_in rows row) later
 -- the bytes of rows, with the head in version 2, are read as these rows
 abbrev pub CheckpointsAreRead : Type 0
 CheckpointsAreRead =
-    (saved : ℕ) (rows : List StoredRow) → saved < 2 ^ 64
-    → (AreRowsOf First saved rows → rows_in saved (flat_map row_bytes rows) ≡ Ok (all_in map.empty rows))
-    × (AreRowsOf Second saved rows → rows_in saved (head_bytes ++ flat_map row_bytes rows) ≡ Ok (all_in map.empty rows))
+    (file saved : ℕ) (rows : List StoredRow) → saved < 2 ^ 64
+    → (AreRowsOf First saved rows → rows_in file saved (flat_map row_bytes rows) ≡ Ok (all_in map.empty rows))
+    × (AreRowsOf Second saved rows → rows_in file saved (head_bytes ++ flat_map row_bytes rows) ≡ Ok (all_in map.empty rows))

@@ -7,11 +7,11 @@ use Rattle.sig_core.specs.Word.{is_unprintable}
 use Rattle.sig_core.specs.Table.{Rows}
 use Rattle.sig_core.specs.declared.key.TheConstants.{KEY_BYTES}
 use Rattle.sig_core.specs.declared.value.TheConstants.{VALUE_BYTES}
-use Rattle.lcp_store.specs.declared.row.StoredRow.{StoredRow}
+use Rattle.sig_core.specs.declared.stored_row.StoredRow.{StoredRow}
 use Rattle.lcp_store.specs.declared.row.Version.{Version}
 use Rattle.lcp_store.specs.declared.row.Version.TheVariants.{First, Second}
-use Rattle.lcp_store.specs.declared.rows.CheckpointFault.{CheckpointFault}
-use Rattle.lcp_store.specs.declared.rows.CheckpointFault.TheVariants.{Damaged, NoMemory}
+use Rattle.sig_core.specs.declared.fault.ReadFault.{ReadFault}
+use Rattle.sig_core.specs.declared.fault.ReadFault.TheVariants.{Damaged, DiskFault, NoMemory}
 
 -- the length of a word whose bytes are the first of `rest`, of which this one is spoilt or none
 abbrev pub len_unless_spoilt : ℕ → List ℕ → Option ℕ → Result ℕ ℕ
@@ -91,20 +91,21 @@ abbrev pub rows_behind : ℕ → List ℕ → Result (Version × ℕ) ℕ → Re
 rows_behind saved bytes (Err left) = Err left
 rows_behind saved bytes (Ok version) = rows_from (length bytes) version.0 saved map.empty (drop version.1 bytes)
 
--- the byte that doesn't fit, where so many are left from it on; 0 where they are cut short
-abbrev pub damage : List ℕ → ℕ → CheckpointFault
-damage bytes left = Damaged (length bytes - left) (slice_index bytes (length bytes - left))
+-- the byte of a file that doesn't fit, where so many are left from it on; 0 where they are cut short
+abbrev pub damage : ℕ → List ℕ → ℕ → ReadFault
+damage file bytes left = Damaged file (length bytes - left) (slice_index bytes (length bytes - left))
 
-abbrev pub or_damage : List ℕ → Result Rows ℕ → Result Rows CheckpointFault
-or_damage bytes (Err left) = Err (damage bytes left)
-or_damage bytes (Ok rows) = Ok rows
+abbrev pub or_damage : ℕ → List ℕ → Result Rows ℕ → Result Rows ReadFault
+or_damage file bytes (Err left) = Err (damage file bytes left)
+or_damage file bytes (Ok rows) = Ok rows
 
--- the rows of a checkpoint, none with a row epoch above the saved one
-unfoldable pub rows_in : ℕ → List ℕ → Result Rows CheckpointFault
-rows_in saved bytes = or_damage bytes (rows_behind saved bytes (version_in bytes))
+-- the rows of a checkpoint in a file, none with a row epoch above the saved one
+unfoldable pub rows_in : ℕ → ℕ → List ℕ → Result Rows ReadFault
+rows_in file saved bytes = or_damage file bytes (rows_behind saved bytes (version_in bytes))
 
 -- the answer is that of the bytes, but for want of memory
-abbrev pub Reads : ℕ → List ℕ → Result Rows CheckpointFault → Type 0
-Reads saved bytes (Err NoMemory) = Unit {0}
-Reads saved bytes (Err (Damaged at byte)) = rows_in saved bytes ≡ Err (Damaged at byte)
-Reads saved bytes (Ok rows) = rows_in saved bytes ≡ Ok rows
+abbrev pub Reads : ℕ → ℕ → List ℕ → Result Rows ReadFault → Type 0
+Reads file saved bytes (Err NoMemory) = Unit {0}
+Reads file saved bytes (Err (DiskFault count)) = ⊥
+Reads file saved bytes (Err (Damaged of at byte)) = rows_in file saved bytes ≡ Err (Damaged of at byte)
+Reads file saved bytes (Ok rows) = rows_in file saved bytes ≡ Ok rows

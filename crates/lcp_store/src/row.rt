@@ -4,7 +4,7 @@ ghost use Rattle.lcp_store.specs.Reading.{row_in};
 ghost use Rattle.lcp_store.specs.declared.row.TheConstants.{ROW_BYTES};
 
 use crate::field::{epoch_in, key_in, value_in};
-use sig_core::{Key, Value};
+use sig_core::StoredRow;
 
 /// The most bytes that a row of a checkpoint takes.
 pub const ROW_BYTES: usize = 242;
@@ -16,15 +16,6 @@ pub enum Version {
     First,
     /// Key, row epoch and value, behind a head.
     Second,
-}
-
-/// A row as a checkpoint has it.
-#[derive(Clone, Copy, Debug, PartialEq, Eq)]
-pub struct StoredRow {
-    pub key: Key,
-    /// The epoch of the entry that wrote the row. Version 1 has none.
-    pub epoch: Option<u64>,
-    pub value: Value,
 }
 
 /// The row in front of the bytes, and how many it takes, at most `ROW_BYTES`. `saved` is the

@@ -3,31 +3,22 @@ ghost use Rattle.std.specs.Prelude.{◌≡◌, ◌≤◌, length, MatchResult};
 ghost use Rattle.lcp_store.specs.Reading.{Reads, damage, version_in};
 
 use crate::row::{Version, row_in};
-use sig_core::Table;
+use sig_core::{ReadFault, Table};
 use std::alloc::Global;
 
-/// Why the rows of a checkpoint aren't read.
-#[derive(Clone, Copy, Debug, PartialEq, Eq)]
-pub enum CheckpointFault {
-    /// The byte at place `at` is the first that fits no checkpoint. Where the bytes end within a
-    /// row or within the head, `at` is their number, and `byte` is 0.
-    Damaged { at: usize, byte: u8 },
-    NoMemory,
-}
-
-/// The rows of a checkpoint of either version. Of the rows of one key the last counts. `saved` is
-/// the saved epoch of the slot that names the checkpoint.
+/// The rows of a checkpoint of either version, which are all bytes of this file. Of the rows of one key
+/// the last counts. `saved` is the saved epoch of the slot that names the checkpoint.
 ///
 /// # Errors
-/// `Damaged` exactly where the bytes are no checkpoint, or have a row epoch above the saved one;
-/// `NoMemory`.
+/// `Damaged` exactly where the bytes are no checkpoint, or have a row epoch above the saved one. Where
+/// they end within a row or within the head, the place is behind them. `NoMemory`.
 #[tactic(auto, using(crate::proofs::RowsLemmas::reading))]
-pub fn rows_in(alloc: Global, saved: u64, bytes: &[u8]) -> Result<Table, CheckpointFault>
-    ensures { Reads saved bytes.now result }
+pub fn rows_in(alloc: Global, file: u8, saved: u64, bytes: &[u8]) -> Result<Table, ReadFault>
+    ensures { Reads file saved bytes.now result }
 {
     let (version, head) = match version_in(bytes) {
         Ok(found) => found,
-        Err(left) => return Err(damage(bytes, left)),
+        Err(left) => return Err(damage(file, bytes, left)),
     };
     let mut rest = &bytes[head..];
     let mut rows = Table::new(alloc);
@@ -35,9 +26,9 @@ pub fn rows_in(alloc: Global, saved: u64, bytes: &[u8]) -> Result<Table, Checkpo
         match row_in(version, saved, rest) {
             Ok((row, taken)) => match rows.insert(row.key, row.value) {
                 Ok(()) => rest = &rest[taken..],
-                Err(_) => return Err(CheckpointFault::NoMemory),
+                Err(_) => return Err(ReadFault::NoMemory),
             },
-            Err(left) => return Err(damage(bytes, left)),
+            Err(left) => return Err(damage(file, bytes, left)),
         }
     }
     Ok(rows)
@@ -57,11 +48,15 @@ fn version_in(bytes: &[u8]) -> Result<(Version, usize), usize>
 }
 
 // The byte that doesn't fit, where so many are left from it on.
-fn damage(bytes: &[u8], left: usize) -> CheckpointFault
+fn damage(file: u8, bytes: &[u8], left: usize) -> ReadFault
     requires { left ≤ length bytes.now }
-    ensures { result ≡ damage bytes.now left }
+    ensures { result ≡ damage file bytes.now left }
 {
     let at = bytes.len() - left;
     let byte = if at < bytes.len() { bytes[at] } else { 0 };
-    CheckpointFault::Damaged { at, byte }
+    ReadFault::Damaged {
+        file,
+        at: at as u64,
+        byte,
+    }
 }

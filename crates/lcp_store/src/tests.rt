@@ -1,5 +1,5 @@
 //! Rows worked out by hand, cut short at every length and with every byte changed.
-use crate::{CheckpointFault, StoredRow, Version, put_head, put_row, put_row2, row_in, rows_in};
+use crate::{Version, put_head, put_row, put_row2, row_in, rows_in};
 use sig_core::{Key, Table, Value};
 use std::alloc::Global;
 use std::process::Abort;
@@ -18,9 +18,9 @@ fn value_of(table: &Table, key: &[u8]) -> Result<Option<Value>, Fail> {
 }
 
 fn expect_damage<R: Abort>(rt: &R, alloc: Global, saved: u64, bytes: &[u8], at: usize, byte: u8) {
-    match rows_in(alloc, saved, bytes) {
+    match rows_in(alloc, 2, saved, bytes) {
         Ok(_) => assert!(rt; false, "damage at {at} isn't seen"),
-        Err(fault) => assert_eq!(rt; fault, CheckpointFault::Damaged { at, byte }),
+        Err(fault) => assert_eq!(rt; fault, ReadFault::Damaged { file: 2, at: at as u64, byte }),
     }
 }
 
@@ -42,7 +42,7 @@ fn a_row_of_each_version_is_these_bytes(rt: HostRuntime) -> Result<(), Fail> {
 
 #[test]
 fn the_last_row_of_a_key_counts(rt: HostRuntime) -> Result<(), Fail> {
-    let Ok(table) = rows_in(rt.alloc(), 1, &FIRST) else {
+    let Ok(table) = rows_in(rt.alloc(), 2, 1, &FIRST) else {
         assert!(rt; false, "the rows are read");
         return Ok(());
     };
@@ -80,8 +80,8 @@ fn rows_have_their_epochs(rt: HostRuntime) -> Result<(), Fail> {
 
 #[test]
 fn an_empty_checkpoint_has_no_rows(rt: HostRuntime) -> Result<(), Fail> {
-    assert!(rt; rows_in(rt.alloc(), 0, b"").is_ok());
-    assert!(rt; rows_in(rt.alloc(), 0, &[0, 2]).is_ok());
+    assert!(rt; rows_in(rt.alloc(), 2, 0, b"").is_ok());
+    assert!(rt; rows_in(rt.alloc(), 2, 0, &[0, 2]).is_ok());
     expect_damage(&rt, rt.alloc(), 0, &[0], 1, 0);
     expect_damage(&rt, rt.alloc(), 0, &[0, 1, 1], 1, 1);
     Ok(())
@@ -91,14 +91,14 @@ fn an_empty_checkpoint_has_no_rows(rt: HostRuntime) -> Result<(), Fail> {
 fn rows_cut_short_are_damaged_at_their_end(rt: HostRuntime) -> Result<(), Fail> {
     for size in 0..FIRST.len() {
         if size == 0 || size == 4 || size == 8 {
-            assert!(rt; rows_in(rt.alloc(), 1, &FIRST[..size]).is_ok(), "{size}");
+            assert!(rt; rows_in(rt.alloc(), 2, 1, &FIRST[..size]).is_ok(), "{size}");
         } else {
             expect_damage(&rt, rt.alloc(), 1, &FIRST[..size], size, 0);
         }
     }
     for size in 0..SECOND.len() {
         if size == 0 || size == 2 || size == 14 {
-            assert!(rt; rows_in(rt.alloc(), 258, &SECOND[..size]).is_ok(), "{size}");
+            assert!(rt; rows_in(rt.alloc(), 2, 258, &SECOND[..size]).is_ok(), "{size}");
         } else {
             expect_damage(&rt, rt.alloc(), 258, &SECOND[..size], size, 0);
         }
@@ -108,7 +108,7 @@ fn rows_cut_short_are_damaged_at_their_end(rt: HostRuntime) -> Result<(), Fail> 
 
 #[test]
 fn a_row_epoch_above_the_saved_one_is_damage(rt: HostRuntime) -> Result<(), Fail> {
-    assert!(rt; rows_in(rt.alloc(), 258, &SECOND).is_ok());
+    assert!(rt; rows_in(rt.alloc(), 2, 258, &SECOND).is_ok());
     expect_damage(&rt, rt.alloc(), 257, &SECOND, 16, 0);
     expect_damage(&rt, rt.alloc(), 0, &SECOND, 4, 0);
     Ok(())
@@ -153,7 +153,7 @@ fn every_changed_byte_is_named(rt: HostRuntime) -> Result<(), Fail> {
                     expect_damage(&rt, rt.alloc(), 0, &bytes, 1, b'a');
                 }
                 (false, _) => expect_damage(&rt, rt.alloc(), 0, &bytes, at, byte),
-                (true, Place::Byte) => assert!(rt; rows_in(rt.alloc(), 0, &bytes).is_ok()),
+                (true, Place::Byte) => assert!(rt; rows_in(rt.alloc(), 2, 0, &bytes).is_ok()),
                 (true, Place::Length { least: _, most: _ }) => {
                     expect_length(&rt, rt.alloc(), &bytes, at, byte);
                 }
@@ -167,7 +167,7 @@ fn every_changed_byte_is_named(rt: HostRuntime) -> Result<(), Fail> {
 /// named, or of the value.
 fn expect_length<R: Abort>(rt: &R, alloc: Global, bytes: &[u8], at: usize, byte: u8) {
     if byte == 1 {
-        assert!(rt; rows_in(alloc, 0, bytes).is_ok());
+        assert!(rt; rows_in(alloc, 2, 0, bytes).is_ok());
     } else if at == 0 {
         expect_damage(rt, alloc, 0, bytes, 2, 1);
     } else if byte == 0 {

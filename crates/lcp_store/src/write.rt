@@ -1,6 +1,6 @@
 //! Writing the bytes of a checkpoint.
 ghost use Rattle.std.specs.Prelude.{◌≡◌, ◌++◌, ◌≤◌, take, length, None, Some, OnOk, OnErr};
-ghost use Rattle.lcp_store.specs.Bytes.{epoch_bytes, head_bytes, row_bytes, word_bytes};
+ghost use Rattle.sig_core.specs.Checkpoint.{epoch_bytes, head_bytes, row_bytes, word_bytes};
 
 use sig_core::{Key, NoMemory, Value};
 

@@ -11,12 +11,12 @@ use Rattle.sig_core.specs.Rows.{RowsState, has_row, next_by, next_place, row_epo
 use Rattle.sig_core.specs.Same.{same_key}
 use Rattle.sig_core.specs.Table.{Rows}
 use Rattle.sig_core.proofs.Keys.{same_key-swap, tied-same_key}
-use Rattle.lcp_store.specs.declared.row.StoredRow.{StoredRow}
+use Rattle.sig_core.specs.declared.stored_row.StoredRow.{StoredRow}
 use Rattle.lcp_store.specs.declared.row.Version.TheVariants.{Second}
 use Rattle.lcp_store.specs.Laws.{AreRowsOf, IsEpochOf, IsRowOf, all_in}
 use Rattle.local_ckpt.specs.Laws.{IsReadable, IsRowIf}
 use Rattle.local_ckpt.specs.Orderly.{IsOrderly}
-use Rattle.local_ckpt.specs.Passing.{Passed, epoch_or, pass, pass_by, row_in, row_with}
+use Rattle.sig_core.specs.Passing.{Passed, epoch_or, pass, pass_by, row_in, row_with}
 use Rattle.local_ckpt.proofs.FirstRows.{IsFirstRow, each_at, epoch_fits, first_row}
 use Rattle.row_records.proofs.PlaceLemmas.{apart_behind, row_at, row_behind}
 use Rattle.local_ckpt.proofs.RedoLemmas.{over, redone}

@@ -8,7 +8,7 @@ use Rattle.sig_core.specs.Same.{same_key}
 use Rattle.sig_core.proofs.Firsts.{place_by, position-cons}
 use Rattle.local_ckpt.specs.Laws.{IsReadable, IsRowIf}
 use Rattle.row_records.specs.Places.{AreApart, has_place}
-use Rattle.local_ckpt.specs.Passing.{epoch_or}
+use Rattle.sig_core.specs.Passing.{epoch_or}
 use Rattle.row_records.proofs.KeyLemmas.{same}
 use Rattle.row_records.proofs.PlaceLemmas.{no_place, row_at}
 

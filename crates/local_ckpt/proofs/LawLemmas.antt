@@ -13,16 +13,16 @@ use Rattle.sig_core.specs.declared.rows.PendingRecord.{PendingRecord}
 use Rattle.sig_core.specs.Firsts.{first}
 use Rattle.sig_core.specs.Rows.{RowsState, commit_record, has_row, is_of, next_by, next_place, storing, abort_record, put_row, with_place}
 use Rattle.sig_core.specs.Table.{Rows}
-use Rattle.lcp_store.specs.declared.row.StoredRow.{StoredRow}
+use Rattle.sig_core.specs.declared.stored_row.StoredRow.{StoredRow}
 use Rattle.lcp_store.specs.declared.row.Version.TheVariants.{Second}
 use Rattle.lcp_store.specs.Laws.{AreRowsOf, CheckpointsAreRead, all_in}
 use Rattle.lcp_store.specs.Reading.{rows_in}
-use Rattle.redo_log.specs.LogState.{Laid}
+use Rattle.sig_core.specs.declared.piece.Piece.{Piece}
 use Rattle.redo_log.specs.Replaying.{applied, replayed}
 use Rattle.local_ckpt.specs.Events.{Abort, Commit, Complete, Event, Moment, Prepare, Step, after, changed, given_by, left, left_by, log_if, logged, next, noting_if, stepped_by}
 use Rattle.local_ckpt.specs.Laws.{AreLaidFrom, Begins, CheckpointsRestore, HasPrepares, IsEvent, OrderlyRowsStaySo, PiecesLieInOrder, at_first, pieces_bytes}
 use Rattle.local_ckpt.specs.Orderly.{IsOrderly, image_in, prepared_in}
-use Rattle.local_ckpt.specs.Walk.{WalkState, next_piece}
+use Rattle.sig_core.specs.Walk.{WalkState, next_piece}
 use Rattle.local_ckpt.proofs.CoverLemmas.{Fits, IsCovered, later_rows}
 use Rattle.local_ckpt.proofs.EventLemmas.{Prepared, aborts, commits, completes, stores}
 use Rattle.local_ckpt.proofs.FirstRows.{no_rows_left}
@@ -72,7 +72,7 @@ orderly = record {
 }
 
 -- pieces lie one behind the other
-laid_more : (file at : ℕ) (pieces : List Laid) (piece : Laid) → AreLaidFrom file at pieces → piece.file ≡ file
+laid_more : (file at : ℕ) (pieces : List Piece) (piece : Piece) → AreLaidFrom file at pieces → piece.file ≡ file
     → piece.at ≡ at + length (pieces_bytes pieces) → AreLaidFrom file at (pieces ++ piece ∷ [])
 laid_more file at [] piece laid own place = (own, place ∙ (let e : at + 0 ≡ at = omega arith in e), tt)
 laid_more file at (front ∷ pieces) piece laid own place = (
@@ -84,17 +84,17 @@ laid_more file at (front ∷ pieces) piece laid own place = (
       omega (arith, length-append front.bytes (pieces_bytes pieces)) in e)),
 )
 
-record IsLaid (file : ℕ) (walk : WalkState) (pieces : List Laid) : Type 0 where
+record IsLaid (file : ℕ) (walk : WalkState) (pieces : List Piece) : Type 0 where
   own_file : walk.file ≡ file
   laid : AreLaidFrom file 0 pieces
   size_is : walk.size ≡ length (pieces_bytes pieces)
 
-step_laid : (file : ℕ) (s : RowsState) (walk : WalkState) (pieces : List Laid) → IsLaid file walk pieces
+step_laid : (file : ℕ) (s : RowsState) (walk : WalkState) (pieces : List Piece) → IsLaid file walk pieces
     → (o : Option ℕ)
     → IsLaid file (stepped_by s walk o) (given_by s walk pieces o)
 step_laid file s walk pieces is None = is
 step_laid file s walk pieces is (Some at) =
-    let piece : Laid = next_piece s walk in
+    let piece : Piece = next_piece s walk in
     record {
       own_file = is.own_file;
       laid =
@@ -105,7 +105,7 @@ step_laid file s walk pieces is (Some at) =
           ∙ sym (ap length (pieces_more pieces piece));
     }
 
-commit_laid : (file : ℕ) (s : RowsState) (walk : WalkState) (pieces : List Laid) (epoch : ℕ)
+commit_laid : (file : ℕ) (s : RowsState) (walk : WalkState) (pieces : List Piece) (epoch : ℕ)
     (o : Option (Option (List ℕ))) → IsLaid file walk pieces
     → IsLaid file (noting_if walk epoch o) pieces
 commit_laid file s walk pieces epoch None is = is
@@ -290,11 +290,11 @@ all_kept epoch rows own (event ∷ events) m is =
     all_kept epoch rows (left_by epoch event m.rows own) events (next event m)
     (kept epoch rows own m.rows m.log is event)
 
-checkpoint_read : CheckpointsAreRead → (saved : ℕ) (written : List StoredRow) → saved < 2 ^ 64
+checkpoint_read : CheckpointsAreRead → (file saved : ℕ) (written : List StoredRow) → saved < 2 ^ 64
     → AreRowsOf Second saved written
-    → rows_in saved (checkpoint_bytes written) ≡ Ok (all_in map.empty written)
-checkpoint_read read saved [] small are = (read saved [] small).0 tt
-checkpoint_read read saved (row ∷ rows) small are = (read saved (row ∷ rows) small).1 are
+    → rows_in file saved (checkpoint_bytes written) ≡ Ok (all_in map.empty written)
+checkpoint_read read file saved [] small are = (read file saved [] small).0 tt
+checkpoint_read read file saved (row ∷ rows) small are = (read file saved (row ∷ rows) small).1 are
 
 pub restore : CheckpointsAreRead → CheckpointsRestore
 restore read s log file from noted saved epoch before meanwhile later begins good none saves small few =
@@ -304,8 +304,8 @@ restore read s log file from noted saved epoch before meanwhile later begins goo
     (at_start s log file from noted before begins) in
     let rows : Rows = all_in map.empty way.written in (
       rows,
-      ap (rows_in saved) way.bytes_are
-          ∙ checkpoint_read read saved way.written small
+      ap (rows_in m.walk.file saved) way.bytes_are
+          ∙ checkpoint_read read m.walk.file saved way.written small
           (later_rows m.walk.epoch saved way.written saves way.come.rows_are),
       all_kept epoch rows (left epoch meanwhile s before) later m
           (record {

@@ -6,10 +6,11 @@ use Rattle.std.proofs.lemmas.List.{get_or-drop}
 use Rattle.std.proofs.lemmas.List.Quantifiers.{position-Some}
 use Rattle.std.proofs.lemmas.Grind.{flat_map-append}
 use Rattle.sig_core.specs.Rows.{RowsState, has_row, next_by, next_place}
-use Rattle.lcp_store.specs.declared.row.StoredRow.{StoredRow}
-use Rattle.lcp_store.specs.Bytes.{row_bytes}
-use Rattle.local_ckpt.specs.declared.passing.TheConstants.{PIECE_ROWS}
-use Rattle.local_ckpt.specs.Passing.{IsRowPlace, Passed, pass, pass_by, pass_one, passed_from, row_in}
+use Rattle.sig_core.specs.declared.stored_row.StoredRow.{StoredRow}
+use Rattle.sig_core.specs.Checkpoint.{row_bytes}
+use Rattle.sig_core.specs.declared.walk.TheConstants.{PIECE_ROWS}
+use Rattle.sig_core.specs.Passing.{Passed, pass, pass_by, pass_one, passed_from, row_in}
+use Rattle.local_ckpt.specs.Passing.{IsRowPlace}
 
 pub row_there : (s : RowsState) (from at : ℕ) → next_place s from ≡ Some at
     → has_row (slice_index_or s.places at None) ≡ true

@@ -8,15 +8,15 @@ use Rattle.std.proofs.lemmas.List.{length-append}
 use Rattle.sig_core.specs.declared.rows.Slot.{Slot}
 use Rattle.sig_core.specs.Rows.{RowsState, has_row, next_place}
 use Rattle.sig_core.specs.Table.{Rows}
-use Rattle.lcp_store.specs.declared.row.StoredRow.{StoredRow}
-use Rattle.lcp_store.specs.Bytes.{head_bytes, row_bytes}
+use Rattle.sig_core.specs.declared.stored_row.StoredRow.{StoredRow}
+use Rattle.sig_core.specs.Checkpoint.{head_bytes, row_bytes}
 use Rattle.redo_log.specs.Laws.{bytes_in}
-use Rattle.redo_log.specs.LogState.{Laid}
-use Rattle.local_ckpt.specs.declared.passing.TheConstants.{PIECE_ROWS}
+use Rattle.sig_core.specs.declared.piece.Piece.{Piece}
+use Rattle.sig_core.specs.declared.walk.TheConstants.{PIECE_ROWS}
 use Rattle.local_ckpt.specs.Events.{Moment, given_by, stepped_by, moment}
 use Rattle.local_ckpt.specs.Laws.{pieces_bytes}
-use Rattle.local_ckpt.specs.Passing.{Passed, pass, pass_by, passed_from, row_in, row_with}
-use Rattle.local_ckpt.specs.Walk.{head_at, next_piece, rows_at}
+use Rattle.sig_core.specs.Passing.{Passed, pass, pass_by, passed_from, row_in, row_with}
+use Rattle.sig_core.specs.Walk.{head_at, next_piece, rows_at}
 use Rattle.local_ckpt.proofs.CoverLemmas.{HasCome, many_passed}
 use Rattle.local_ckpt.proofs.PassingLemmas.{row_there}
 use Rattle.local_ckpt.proofs.WayLemmas.{IsUnderWay, checkpoint_bytes}
@@ -79,7 +79,7 @@ checkpoint_more (w ∷ written) rows size is some =
     ap (λ b. checkpoint_bytes (w ∷ written) ++ ((if b then head_bytes else []) ++ flat_map row_bytes rows)) later
     ∙ ap (λ x. 0 ∷ 2 ∷ x) (sym (flat_map-append row_bytes (w ∷ written) rows))
 
-pub pieces_more : (pieces : List Laid) (piece : Laid)
+pub pieces_more : (pieces : List Piece) (piece : Piece)
     → pieces_bytes (pieces ++ piece ∷ []) ≡ pieces_bytes pieces ++ piece.bytes
 pieces_more pieces piece =
     flat_map-append bytes_in pieces (piece ∷ []) ∙ ap (λ w. pieces_bytes pieces ++ w) (append-nil piece.bytes)
@@ -96,7 +96,7 @@ pub steps : (own : ℕ → Rows) (m : Moment) → IsUnderWay own m → (o : Opti
 steps own m way None e = way
 steps own m way (Some at) e =
     let rows : List StoredRow = (passed_from m.rows m.walk.place).rows in
-    let piece : Laid = next_piece m.rows m.walk in
+    let piece : Piece = next_piece m.rows m.walk in
     record {
       orderly = way.orderly;
       readable = way.readable;

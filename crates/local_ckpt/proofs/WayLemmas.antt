@@ -13,14 +13,14 @@ use Rattle.sig_core.specs.Rows.{RowsState, abort_record, commit_record, complete
 use Rattle.sig_core.specs.Same.{same_key}
 use Rattle.sig_core.specs.Table.{Rows}
 use Rattle.sig_core.proofs.Keys.{same_key-swap}
-use Rattle.lcp_store.specs.declared.row.StoredRow.{StoredRow}
-use Rattle.lcp_store.specs.Bytes.{head_bytes, row_bytes}
+use Rattle.sig_core.specs.declared.stored_row.StoredRow.{StoredRow}
+use Rattle.sig_core.specs.Checkpoint.{head_bytes, row_bytes}
 use Rattle.lcp_store.specs.Laws.{all_in}
 use Rattle.redo_log.specs.Replaying.{applied, with_image}
 use Rattle.local_ckpt.specs.Events.{Moment, log_if, noting_if, moment}
 use Rattle.local_ckpt.specs.Laws.{HasPrepares, IsImage, IsReadable, pieces_bytes, last_image}
 use Rattle.local_ckpt.specs.Orderly.{IsOrderly, image_in, prepared_in}
-use Rattle.local_ckpt.specs.Walk.{noting}
+use Rattle.sig_core.specs.Walk.{noting}
 use Rattle.local_ckpt.proofs.CoverLemmas.{Fits, HasCome, IsCovered, later_places, later_rows}
 use Rattle.local_ckpt.proofs.EventLemmas.{LeavesRows, Prepared, Rewrites, aborts, commits, commits_row, completes, stores, stores_rows}
 use Rattle.row_records.proofs.KeyLemmas.{same}

@@ -5,10 +5,10 @@ use Rattle.sig_core.specs.declared.redo.Redo.{Redo}
 use Rattle.sig_core.specs.declared.redo.Redo.TheVariants as redo
 use Rattle.sig_core.specs.Rows.{RowsState, abort_record, commit_record, complete_record, next_place, storing}
 use Rattle.sig_core.specs.Table.{Rows}
-use Rattle.redo_log.specs.LogState.{Laid}
+use Rattle.sig_core.specs.declared.piece.Piece.{Piece}
 use Rattle.redo_log.specs.Replaying.{applied}
 use Rattle.local_ckpt.specs.Orderly.{image_in}
-use Rattle.local_ckpt.specs.Walk.{WalkState, next_piece, noting, stepped}
+use Rattle.sig_core.specs.Walk.{WalkState, next_piece, noting, stepped}
 
 -- a transaction prepares an image of a row, commits it, gives it up or is done with it; or the walk takes a step
 pub data Event : Type 0 where
@@ -52,12 +52,12 @@ walked (Commit tx key epoch) s w = noting_if w epoch (image_in s tx key)
 walked Step s w = stepped_by s w (next_place s w.place)
 walked event s w = w
 
-abbrev pub given_by : RowsState → WalkState → List Laid → Option ℕ → List Laid
+abbrev pub given_by : RowsState → WalkState → List Piece → Option ℕ → List Piece
 given_by s w pieces None = pieces
 given_by s w pieces (Some at) = pieces ++ next_piece s w ∷ []
 
 -- the pieces that were given out after an event
-abbrev pub given : Event → RowsState → WalkState → List Laid → List Laid
+abbrev pub given : Event → RowsState → WalkState → List Piece → List Piece
 given Step s w pieces = given_by s w pieces (next_place s w.place)
 given event s w pieces = pieces
 
@@ -67,9 +67,9 @@ pub record Moment : Type 0 where
   pub rows : RowsState
   pub log : List Redo
   pub walk : WalkState
-  pub pieces : List Laid
+  pub pieces : List Piece
 
-abbrev pub moment : RowsState → List Redo → WalkState → List Laid → Moment
+abbrev pub moment : RowsState → List Redo → WalkState → List Piece → Moment
 moment rows log walk pieces = record { rows = rows; log = log; walk = walk; pieces = pieces }
 
 -- the moment behind an event

@@ -13,11 +13,11 @@ use Rattle.lcp_store.specs.declared.row.Version.TheVariants.{Second}
 use Rattle.lcp_store.specs.Laws.{IsRowOf, IsWordOf}
 use Rattle.lcp_store.specs.Reading.{rows_in}
 use Rattle.redo_log.specs.Laws.{bytes_in}
-use Rattle.redo_log.specs.LogState.{Laid}
+use Rattle.sig_core.specs.declared.piece.Piece.{Piece}
 use Rattle.redo_log.specs.Replaying.{image_of, replayed}
 use Rattle.local_ckpt.specs.Events.{Event, Moment, Prepare, after, changed, left, moment}
 use Rattle.local_ckpt.specs.Orderly.{IsOrderly, image_in}
-use Rattle.local_ckpt.specs.Walk.{begun}
+use Rattle.sig_core.specs.Walk.{begun}
 
 -- Rows without places and records are orderly, and stay so.
 pub record OrderlyRowsStaySo : Type 0 where
@@ -69,7 +69,7 @@ IsEvent event = Unit {0}
 abbrev pub at_first : RowsState → List Redo → ℕ → ℕ → ℕ → Moment
 at_first s log file from noted = moment s log (begun file from noted) []
 
-abbrev pub pieces_bytes : List Laid → List ℕ
+abbrev pub pieces_bytes : List Piece → List ℕ
 pieces_bytes pieces = flat_map bytes_in pieces
 
 -- The walk has ended behind some events, and others have followed. Then the bytes that it gave out are a checkpoint,
@@ -81,11 +81,11 @@ CheckpointsRestore =
     → Begins s log noted before → AllByRecursion IsEvent meanwhile
     → let m = after meanwhile (at_first s log file from noted) in
     next_place m.rows m.walk.place ≡ None → m.walk.epoch ≤ saved → saved < 2 ^ 64 → m.walk.epoch ≤ epoch
-    → (rows : Rows) × (rows_in saved (pieces_bytes m.pieces) ≡ Ok rows)
+    → (rows : Rows) × (rows_in m.walk.file saved (pieces_bytes m.pieces) ≡ Ok rows)
     × (replayed epoch rows (after later m).log ≡ left epoch later m.rows (left epoch meanwhile s before))
 
 -- from a place in a file on each piece lies where the one before ends
-abbrev pub AreLaidFrom : ℕ → ℕ → List Laid → Type 0
+abbrev pub AreLaidFrom : ℕ → ℕ → List Piece → Type 0
 AreLaidFrom file at [] = Unit {0}
 AreLaidFrom file at (piece ∷ pieces) =
     (piece.file ≡ file) × (piece.at ≡ at) × AreLaidFrom file (at + length piece.bytes) pieces

@@ -3,4 +3,3 @@ pub mod Laws
 pub mod Locking
 pub mod Orderly
 pub mod Passing
-pub mod Walk

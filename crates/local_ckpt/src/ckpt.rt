@@ -1,13 +1,11 @@
 //! A local checkpoint on its way.
 ghost use Rattle.std.specs.Prelude.{◌≡◌, ◌++◌, max, IfOk, Ok, OnErr, OnOk};
-ghost use Rattle.local_ckpt.specs.declared.finished.Finished.{Finished};
-ghost use Rattle.local_ckpt.specs.Walk.{Steps, WalkState, begun, ended, head_at, noting};
+ghost use Rattle.sig_core.specs.declared.walk.Finished.{Finished};
+ghost use Rattle.sig_core.specs.Walk.{Steps, WalkState, begun, ended, head_at, noting};
 
-use crate::finished::Finished;
 use crate::passing::{next_row, put_rows};
 use lcp_store::put_head;
-use redo_log::Piece;
-use sig_core::{NoMemory, Rows};
+use sig_core::{Finished, NoMemory, Piece, Rows, Seq, Walk};
 use std::alloc::Global;
 use std::marker::Model;
 
@@ -27,18 +25,20 @@ pub struct Ckpt {
 }
 
 impl Model for Ckpt {
-    ghost use Rattle.local_ckpt.specs.Walk.{WalkState};
+    ghost use Rattle.sig_core.specs.Walk.{WalkState};
 
     ghost Value = { WalkState };
 
     ghost view = { λ c. record { file = c.file; from = c.from; epoch = c.epoch; place = c.place; size = c.size } };
 }
 
-impl Ckpt {
+impl Walk for Ckpt {
+    ghost walk_of = { λ c. c };
+
     /// A walk from the first place on, into this file. `from` is a position of the log that isn't
     /// above its end, and behind which it has the prepare of each record that is prepared now;
     /// `epoch` is the greatest of the committed rows. Takes no memory.
-    pub fn start(alloc: Global, file: u8, from: u64, epoch: u64) -> Result<Ckpt, NoMemory>
+    fn start(alloc: Global, file: u8, from: u64, epoch: u64) -> Result<Ckpt, NoMemory>
         ensures { (ckpt : WalkState) × (result ≡ Ok ckpt) × (ckpt ≡ begun file from epoch) }
     {
         Ok(Ckpt {
@@ -56,7 +56,7 @@ impl Ckpt {
     ///
     /// # Errors
     /// `NoMemory`, also where the bytes would exceed 2^64; and then the walk is as it was.
-    pub fn step<R: Rows>(&mut self, rows: &R) -> Result<Option<Piece>, NoMemory>
+    fn step<R: Rows>(&mut self, rows: &R) -> Result<Option<Piece>, NoMemory>
         ensures piece { IfOk result (λ given. Steps (R.state_of rows.now) self.old given self.new) }
         ensures err { OnErr result (self.new ≡ self.old) }
     {
@@ -72,7 +72,7 @@ impl Ckpt {
         let piece = Piece {
             file: self.file,
             at: self.size,
-            bytes,
+            bytes: Seq::from_vec(bytes),
         };
         self.place = place;
         self.size = size;
@@ -80,14 +80,14 @@ impl Ckpt {
     }
 
     /// A row was committed in this epoch while the walk was on its way. Takes no memory.
-    pub fn committed(&mut self, epoch: u64)
+    fn committed(&mut self, epoch: u64)
         ensures { self.new ≡ noting self.old epoch }
     {
         self.epoch = self.epoch.max(epoch);
     }
 
     /// What the checkpoint comes to, once a step has given nothing. Takes no memory.
-    pub fn finish(self) -> Finished
+    fn finish(self) -> Finished
         ensures { result ≡ ended self }
     {
         Finished {

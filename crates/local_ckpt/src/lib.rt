@@ -2,11 +2,8 @@
 #![tactic(auto)]
 
 mod ckpt;
-mod finished;
 mod laws;
 mod passing;
 
 pub use ckpt::Ckpt;
-pub use finished::Finished;
 pub use laws::{checkpoints_restore, orderly_rows_stay_so, pieces_lie_in_order, walks_may_begin};
-pub use passing::PIECE_ROWS;

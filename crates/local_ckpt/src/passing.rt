@@ -2,15 +2,12 @@
 ghost use Rattle.std.specs.Prelude.{◌≡◌, ◌++◌, IfOk, IfSome, OnOk, None, slice_index_or};
 ghost use Rattle.std.specs.List.{flat_map};
 ghost use Rattle.sig_core.specs.Rows.{next_place};
-ghost use Rattle.lcp_store.specs.Bytes.{row_bytes};
-ghost use Rattle.local_ckpt.specs.Passing.{IsRowPlace, passed_from, row_in};
+ghost use Rattle.sig_core.specs.Checkpoint.{row_bytes};
+ghost use Rattle.sig_core.specs.Passing.{passed_from, row_in};
+ghost use Rattle.local_ckpt.specs.Passing.{IsRowPlace};
 
 use lcp_store::{ROW_BYTES, put_row2};
-use redo_log::PIECE_BYTES;
-use sig_core::{NoMemory, Rows};
-
-/// How many rows a piece has at most.
-pub const PIECE_ROWS: u64 = 128;
+use sig_core::{NoMemory, PIECE_BYTES, PIECE_ROWS, Rows};
 
 // with the head, they are no more bytes than a piece of the log
 const _: () = prove!(2 + PIECE_ROWS as usize * ROW_BYTES <= PIECE_BYTES);
@@ -20,7 +17,7 @@ const _: () = prove!(2 + PIECE_ROWS as usize * ROW_BYTES <= PIECE_BYTES);
 ///
 /// # Errors
 /// `NoMemory`, and then some were appended.
-#[tactic(auto, using(crate::proofs::PassingLemmas::passes), unfolding(crate::specs::Passing::passed_from))]
+#[tactic(auto, using(crate::proofs::PassingLemmas::passes), unfolding(sig_core::specs::Passing::passed_from))]
 pub fn put_rows<R: Rows>(rows: &R, from: u64, out: &mut Vec<u8>) -> Result<u64, NoMemory>
     ensures place { IfOk result (λ place. place ≡ (passed_from (R.state_of rows.now) from).place) }
     ensures rows { OnOk result (out.new.items ≡ out.old.items ++ flat_map row_bytes (passed_from (R.state_of rows.now) from).rows) }

@@ -7,7 +7,7 @@ use Rattle.std.proofs.lemmas.Bool.Decides.{nat_tests}
 use Rattle.std.proofs.lemmas.List.{take_at, drop_at, take-append-drop, length-append, length-take-le}
 use Rattle.std.proofs.lemmas.Nat.{be_bytes_4, be_bytes_8, from_be_bytes-to_be_bytes_4, from_be_bytes-to_be_bytes_8}
 use Rattle.sig_core.specs.Word.{is_unprintable}
-use Rattle.redo_format.specs.Records.{word}
+use Rattle.sig_core.specs.Redo.{word}
 use Rattle.redo_format.specs.Reading.{Reader, ◌>>=◌, and_then, told, byte_at, number_at, run_at, unless_spoilt, word_at}
 
 abbrev pub IsBytes : List ℕ → Type 0

@@ -12,7 +12,8 @@ use Rattle.sig_core.specs.declared.word.WordFault.{WordFault}
 use Rattle.sig_core.specs.Redo.{size_of, prepare_bytes, commit_bytes}
 use Rattle.sig_core.specs.Word.{if_word, unless_spoilt, is_unprintable}
 use Rattle.redo_format.specs.declared.fault.FormatFault.{FormatFault}
-use Rattle.redo_format.specs.Records.{IsRecord, bytes_of, word, flag, image_bytes}
+use Rattle.sig_core.specs.Redo.{bytes_of, word, flag, image_bytes}
+use Rattle.redo_format.specs.Records.{IsRecord}
 use Rattle.redo_format.specs.Reading.{record_at}
 use Rattle.redo_format.specs.Decoding.{IsDecoded, NoneBeginsAnother, from_read, decoded}
 use Rattle.redo_format.proofs.Readers.{IsBytes, IsWord, Reads}

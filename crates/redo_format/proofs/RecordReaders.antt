@@ -9,7 +9,8 @@ use Rattle.sig_core.specs.declared.member.TxId.{TxId}
 use Rattle.sig_core.specs.declared.redo.Redo.{Redo}
 use Rattle.sig_core.specs.declared.redo.Redo.TheVariants.{Prepare, Commit, Abort}
 use Rattle.sig_core.specs.Redo.{prepare_bytes, commit_bytes, image_size}
-use Rattle.redo_format.specs.Records.{IsTransaction, word, flag, image_bytes}
+use Rattle.sig_core.specs.Redo.{word, flag, image_bytes}
+use Rattle.redo_format.specs.Records.{IsTransaction}
 use Rattle.redo_format.specs.Reading.{and_then, told, byte_at, number_at, word_at, transaction_of, transaction_at, head_at, least_flag, most_flag, image_at, prepared, prepare_at, committed, commit_at, aborted, abort_at, of_kind, record_at}
 use Rattle.redo_format.proofs.Readers.{Reads, reads_then, reads_told, reads_byte, reads_word, reads_number, IsWord, four_bytes, eight_bytes}
 

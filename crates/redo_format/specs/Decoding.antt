@@ -3,7 +3,8 @@ use Rattle.std.specs.Prelude.{◌≡◌, ℕ, ◌-◌, List, ◌++◌, length, t
 use Rattle.sig_core.specs.declared.redo.Redo.{Redo}
 use Rattle.redo_format.specs.declared.fault.FormatFault.{FormatFault}
 use Rattle.redo_format.specs.declared.fault.FormatFault.TheVariants.{NotRecord}
-use Rattle.redo_format.specs.Records.{IsRecord, bytes_of}
+use Rattle.sig_core.specs.Redo.{bytes_of}
+use Rattle.redo_format.specs.Records.{IsRecord}
 use Rattle.redo_format.specs.Reading.{record_at}
 
 -- the record and its length, or the place of the first byte that doesn't fit

@@ -1,7 +1,7 @@
 //! Records as bytes.
 ghost use Rattle.std.specs.Prelude.{◌≡◌, ◌+◌, ◌<◌, ◌≤◌, ◌++◌, take, length, OnOk, OnErr, vec_len, vec_capacity};
 ghost use Rattle.sig_core.specs.Redo.{image_size, size_of};
-ghost use Rattle.redo_format.specs.Records.{bytes_of, head, word, flag, image_bytes};
+ghost use Rattle.sig_core.specs.Redo.{bytes_of, head, word, flag, image_bytes};
 
 use sig_core::{Key, NoMemory, Redo, TxId, Value};
 

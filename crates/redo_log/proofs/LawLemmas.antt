@@ -4,9 +4,10 @@ use Rattle.std.specs.Prelude.{nat_eq, if◌then◌else◌}
 use Rattle.std.specs.List.{flat_map}
 use Rattle.std.proofs.lemmas.Bool.Decides.{nat_tests}
 use Rattle.std.proofs.lemmas.List.{length-take-le, take-append-drop}
-use Rattle.redo_format.specs.Records.{bytes_of}
+use Rattle.sig_core.specs.Redo.{bytes_of}
 use Rattle.redo_log.specs.Laws.{LogCall, Keep, Append, GiveOut, Cut, IsLaidAt, AreLaidFrom, after_all, records_of, pieces_of, bytes_in}
-use Rattle.redo_log.specs.LogState.{LogState, Laid, appended, cut_to, given_out, next_len, next_piece, with_reserved}
+use Rattle.sig_core.specs.declared.piece.Piece.{Piece}
+use Rattle.redo_log.specs.LogState.{LogState, appended, cut_to, given_out, next_len, next_piece, with_reserved}
 
 piece_len : (s : LogState) → length (take (next_len s) s.left) ≡ next_len s
 piece_len s = length-take-le (next_len s) s.left (omega arith)
@@ -16,7 +17,7 @@ is_laid s some =
     let len = piece_len s in
     record { file = refl; at = refl; some = rw len some; few = rw len (omega arith); within = rw len (omega arith) }
 
-placed_by : (s : LogState) (pieces : List Laid) (none : Bool) → nat_eq (next_len s) 0 ≡ none
+placed_by : (s : LogState) (pieces : List Piece) (none : Bool) → nat_eq (next_len s) 0 ≡ none
     → AreLaidFrom s.parity (s.flushed + next_len s) pieces
     → AreLaidFrom s.parity s.flushed ((if none then [] else next_piece s ∷ []) ++ pieces)
 placed_by s pieces true is are =
@@ -35,7 +36,7 @@ placed (GiveOut ∷ calls) s =
 placed (Cut at ∷ calls) s = placed calls (cut_to s at)
 
 -- the bytes of the next piece, if there is one, and of further ones
-given_by : (s : LogState) (pieces : List Laid) (rest : List ℕ) (none : Bool) → nat_eq (next_len s) 0 ≡ none
+given_by : (s : LogState) (pieces : List Piece) (rest : List ℕ) (none : Bool) → nat_eq (next_len s) 0 ≡ none
     → flat_map bytes_in ((if none then [] else next_piece s ∷ []) ++ pieces) ++ rest
     ≡ take (next_len s) s.left ++ (flat_map bytes_in pieces ++ rest)
 given_by s pieces rest true is =

@@ -6,10 +6,10 @@ use Rattle.std.proofs.lemmas.List.{append_cancel_left, length-append}
 use Rattle.sig_core.specs.declared.redo.Redo.{Redo}
 use Rattle.sig_core.specs.Table.{Rows}
 use Rattle.redo_format.specs.declared.fault.FormatFault.TheVariants.{NotRecord}
-use Rattle.redo_format.specs.Records.{bytes_of}
+use Rattle.sig_core.specs.Redo.{bytes_of}
 use Rattle.redo_format.specs.Decoding.{decoded}
 use Rattle.redo_format.proofs.RecordLaws.{decodes, differ}
-use Rattle.redo_log.specs.declared.fault.ReadFault.TheVariants.{Damaged}
+use Rattle.sig_core.specs.declared.fault.ReadFault.TheVariants.{Damaged}
 use Rattle.redo_log.specs.Replaying.{AreRecords, Replays, log_bytes}
 use Rattle.redo_log.proofs.ReplayLemmas.{some_bytes}
 

@@ -9,11 +9,12 @@ use Rattle.host_io.specs.DiskState.{FileState, laid, settled, state_of, written}
 use Rattle.host_io.proofs.LaidLemmas.{laid_elsewhere, laid_here, laid_reaches}
 use Rattle.host_io.proofs.StateLemmas.{laid_grows}
 use Rattle.sig_core.specs.declared.journal.TheConstants.{JOURNAL_BYTES}
-use Rattle.redo_format.specs.Records.{bytes_of}
-use Rattle.redo_log.specs.declared.ring.TheConstants.{LOG_FILE_BYTES}
+use Rattle.sig_core.specs.Redo.{bytes_of}
+use Rattle.sig_core.specs.declared.ring.TheConstants.{LOG_FILE_BYTES}
 use Rattle.redo_log.specs.Laws.{LogCall, Keep, Append, GiveOut, Cut, AreLaidFrom, IsLaidAt, after_all, bytes_in, pieces_of, records_of}
-use Rattle.redo_log.specs.LogState.{Laid, LogState, appended, cut_to, fresh_log, given_out, next_len, next_piece, with_reserved}
-use Rattle.redo_log.specs.Places.{file_of, place_of}
+use Rattle.sig_core.specs.declared.piece.Piece.{Piece}
+use Rattle.redo_log.specs.LogState.{LogState, appended, cut_to, fresh_log, given_out, next_len, next_piece, with_reserved}
+use Rattle.sig_core.specs.Ring.{file_of, place_of}
 use Rattle.redo_log.specs.Stored.{AreStored, IsStored}
 use Rattle.redo_log.specs.StoredLaws.{PiecesAreStored, SyncedBytesStay, WritesLayPieces, with_piece, with_pieces}
 use Rattle.redo_log.proofs.LawLemmas.{given, placed}
@@ -25,7 +26,7 @@ apart : (parity p q : ℕ) → p < q → q < p + JOURNAL_BYTES → file_of parit
 apart parity p q before near files places = omega (arith, before, near, files, places)
 
 -- a later piece lies elsewhere in the file of a position, if it ends less than the ring behind it
-outside : (parity position p : ℕ) (piece : Laid) → IsLaidAt parity position piece → p < position
+outside : (parity position p : ℕ) (piece : Piece) → IsLaidAt parity position piece → p < position
     → position + length piece.bytes ≤ p + JOURNAL_BYTES → file_of parity p ≡ piece.file
     → (place_of p < piece.at) ⊎ (piece.at + length piece.bytes ≤ place_of p)
 outside parity position p piece lies before near file_is =
@@ -48,7 +49,7 @@ outside parity position p piece lies before near file_is =
     ]
 
 -- what stands at the place of a position still stands there after a later piece
-kept_by : (parity position p byte : ℕ) (piece : Laid) (files : ℕ → List ℕ) (same : Bool)
+kept_by : (parity position p byte : ℕ) (piece : Piece) (files : ℕ → List ℕ) (same : Bool)
     → (piece.file == file_of parity p) ≡ same
     → IsLaidAt parity position piece → p < position → position + length piece.bytes ≤ p + JOURNAL_BYTES
     → IsStored files parity p byte → IsStored (with_piece piece files) parity p byte
@@ -73,7 +74,7 @@ kept_by parity position p byte piece files true is lies before near stored =
     }
 
 -- and after many
-kept : (parity position p byte : ℕ) (pieces : List Laid) (files : ℕ → List ℕ) → AreLaidFrom parity position pieces
+kept : (parity position p byte : ℕ) (pieces : List Piece) (files : ℕ → List ℕ) → AreLaidFrom parity position pieces
     → p < position
     → position + length (flat_map bytes_in pieces) ≤ p + JOURNAL_BYTES → IsStored files parity p byte
     → IsStored (with_pieces pieces files) parity p byte
@@ -86,7 +87,7 @@ kept parity position p byte (piece ∷ pieces) files lie before near stored =
     (omega (arith, size, near)) stored)
 
 -- the bytes of a piece stand at their places after it
-put_there : (parity position behind : ℕ) (piece : Laid) (files : ℕ → List ℕ) → IsLaidAt parity position piece
+put_there : (parity position behind : ℕ) (piece : Piece) (files : ℕ → List ℕ) → IsLaidAt parity position piece
     → behind < length piece.bytes
     → IsStored (with_piece piece files) parity (position + behind) (get_or piece.bytes behind 0)
 put_there parity position behind piece files lies below =
@@ -105,7 +106,7 @@ put_there parity position behind piece files lies below =
     (sym (laid_here piece.at piece.bytes old behind below)))
 
 -- the bytes of pieces that lie one behind the other, but for those that are the ring or more behind the last one
-laid_stored : (parity position : ℕ) (pieces : List Laid) (files : ℕ → List ℕ) → AreLaidFrom parity position pieces
+laid_stored : (parity position : ℕ) (pieces : List Piece) (files : ℕ → List ℕ) → AreLaidFrom parity position pieces
     → (behind : ℕ)
     → behind < length (flat_map bytes_in pieces) → length (flat_map bytes_in pieces) ≤ behind + JOURNAL_BYTES
     → IsStored (with_pieces pieces files) parity (position + behind) (get_or (flat_map bytes_in pieces) behind 0)
@@ -136,7 +137,7 @@ laid_stored parity position (piece ∷ pieces) files lie behind below near =
     ]
 
 -- all bytes up to a position are given out in pieces
-flushed_one : (s : LogState) (pieces : List Laid) (none : Bool) → nat_eq (next_len s) 0 ≡ none
+flushed_one : (s : LogState) (pieces : List Piece) (none : Bool) → nat_eq (next_len s) 0 ≡ none
     → s.flushed + next_len s + length (flat_map bytes_in pieces)
     ≡ s.flushed + length (flat_map bytes_in ((if none then [] else next_piece s ∷ []) ++ pieces))
 flushed_one s pieces true is = let zero_len : next_len s ≡ 0 = grind (arith, nat_tests, is) in omega (arith, zero_len)
@@ -175,7 +176,7 @@ from_there files parity from flushed bytes order size each =
 pub pieces_stored : PiecesAreStored
 pieces_stored generation parity from calls files order near =
     let s : LogState = fresh_log generation parity in
-    let pieces : List Laid = pieces_of calls s in
+    let pieces : List Piece = pieces_of calls s in
     let bytes : List ℕ = flat_map bytes_in pieces in
     let flushed : ℕ = (after_all calls s).flushed in
     let size : flushed ≡ length bytes = omega (arith, flushed_by calls s) in
@@ -188,7 +189,7 @@ pieces_stored generation parity from calls files order near =
     (laid_stored parity 0 pieces files (placed calls s) behind below (omega (arith, size, near, reach)))))
 
 -- a write, whether it is of this file or not
-laid_by_write : (piece : Laid) (s : FileState) (same : Bool)
+laid_by_write : (piece : Piece) (s : FileState) (same : Bool)
     → (if same then written s piece.at (length piece.bytes) piece.bytes else s).bytes
     ≡ (if same then laid piece.at piece.bytes s.bytes else s.bytes)
 laid_by_write piece s true = refl

@@ -6,10 +6,11 @@ use Rattle.sig_core.specs.declared.redo.Redo.{Redo}
 use Rattle.sig_core.specs.declared.redo.Redo.TheVariants.{Prepare, Commit, Abort}
 use Rattle.sig_core.specs.Table.{Rows}
 use Rattle.redo_format.specs.declared.fault.FormatFault.TheVariants.{NotRecord}
-use Rattle.redo_format.specs.Records.{IsRecord, bytes_of}
+use Rattle.sig_core.specs.Redo.{bytes_of}
+use Rattle.redo_format.specs.Records.{IsRecord}
 use Rattle.redo_format.specs.Decoding.{IsDecoded, decoded, from_read}
 use Rattle.redo_format.specs.Reading.{record_at}
-use Rattle.redo_log.specs.declared.fault.ReadFault.{ReadFault}
+use Rattle.sig_core.specs.declared.fault.ReadFault.{ReadFault}
 use Rattle.redo_log.specs.declared.image_id.ImageId.{ImageId}
 use Rattle.redo_log.specs.Replaying.{Images, IsReplayed, Replays, applied, damage, id_of, image_at, image_of, log_bytes, prepared_by, same_id}
 

@@ -4,10 +4,10 @@ use Rattle.std.specs.Prelude.{Ok, Err}
 use Rattle.std.proofs.lemmas.Bool.{cases_lt}
 use Rattle.std.proofs.lemmas.List.{get_or-append_right, get_or_append_left, get_or-drop, get_or-take, length-append, length-drop, length-take}
 use Rattle.sig_core.specs.Table.{Rows}
-use Rattle.redo_log.specs.declared.fault.ReadFault.{ReadFault}
-use Rattle.redo_log.specs.declared.fault.ReadFault.TheVariants.{Damaged, DiskFault, NoMemory}
-use Rattle.redo_log.specs.declared.ring.TheConstants.{LOG_FILE_BYTES}
-use Rattle.redo_log.specs.Places.{file_of, place_of}
+use Rattle.sig_core.specs.declared.fault.ReadFault.{ReadFault}
+use Rattle.sig_core.specs.declared.fault.ReadFault.TheVariants.{Damaged, DiskFault, NoMemory}
+use Rattle.sig_core.specs.declared.ring.TheConstants.{LOG_FILE_BYTES}
+use Rattle.sig_core.specs.Ring.{file_of, place_of}
 use Rattle.redo_log.specs.Replaying.{Replays, damage}
 use Rattle.redo_log.specs.Stored.{AreStored, EachIsStored, IsPiece, IsStored, ReplaysStored}
 

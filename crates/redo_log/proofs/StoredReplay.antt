@@ -4,7 +4,7 @@ use Rattle.std.specs.Prelude.{Ok, Err}
 use Rattle.std.proofs.lemmas.Bool.{cases_lt}
 use Rattle.std.proofs.lemmas.List.{ext_get_or}
 use Rattle.sig_core.specs.declared.redo.Redo.{Redo}
-use Rattle.redo_log.specs.declared.fault.ReadFault.TheVariants.{Damaged, DiskFault, NoMemory}
+use Rattle.sig_core.specs.declared.fault.ReadFault.TheVariants.{Damaged, DiskFault, NoMemory}
 use Rattle.redo_log.specs.Replaying.{log_bytes, replayed}
 use Rattle.redo_log.specs.Stored.{AreStored}
 use Rattle.redo_log.specs.StoredLaws.{StoredRecordsAreReplayed}

@@ -1,4 +1,3 @@
-pub mod Places
 pub mod LogState
 pub mod Laws
 pub mod Replaying

@@ -2,13 +2,14 @@
 use Rattle.std.specs.Prelude.{◌≡◌, ℕ, ◌+◌, ◌-◌, ◌^◌, ◌≤◌, ◌<◌, min, List, [], ◌++◌, length, take, drop, Option, None, Some}
 use Rattle.sig_core.specs.declared.journal.TheConstants.{JOURNAL_BYTES}
 use Rattle.sig_core.specs.declared.redo.Redo.{Redo}
-use Rattle.sig_core.specs.Journal.{JournalState}
+use Rattle.sig_core.specs.Journal as outlet
+use Rattle.sig_core.specs.Journal.{JournalState, OutletState}
 use Rattle.sig_core.specs.Redo.{size_of}
-use Rattle.redo_format.specs.Records.{bytes_of}
-use Rattle.redo_log.specs.declared.piece.Piece.{Piece}
-use Rattle.redo_log.specs.declared.piece.TheConstants.{PIECE_BYTES}
-use Rattle.redo_log.specs.declared.ring.TheConstants.{LOG_FILE_BYTES}
-use Rattle.redo_log.specs.Places.{file_of, place_of}
+use Rattle.sig_core.specs.Redo.{bytes_of}
+use Rattle.sig_core.specs.declared.piece.Piece.{Piece}
+use Rattle.sig_core.specs.declared.piece.TheConstants.{PIECE_BYTES}
+use Rattle.sig_core.specs.declared.ring.TheConstants.{LOG_FILE_BYTES}
+use Rattle.sig_core.specs.Ring.{file_of, place_of}
 
 -- The log of a generation in the files of a parity: the position that what is used counts from, the position up to which
 -- all bytes were given out, the bytes from there on, and how many bytes are kept free.
@@ -50,24 +51,17 @@ appended s redo = record s { left = s.left ++ bytes_of redo; reserved = s.reserv
 abbrev pub cut_to : LogState → ℕ → LogState
 cut_to s at = record s { start = at }
 
--- bytes at a place of a file
-pub record Laid : Type 0 where
-  pub file : ℕ
-  pub at : ℕ
-  pub bytes : List ℕ
+-- what it has to give out
+abbrev pub outlet_in : LogState → OutletState
+outlet_in s = record { keeps = true; parity = s.parity; flushed = s.flushed; left = s.left }
 
--- what a piece is to lay down
-abbrev pub laid_by : Piece → Laid
-laid_by piece = record { file = piece.file; at = piece.at; bytes = piece.bytes.items }
-
--- the bytes of the next piece: those that are left, up to a piece's and up to the end of the file
+-- the bytes of the next piece
 abbrev pub next_len : LogState → ℕ
-next_len s = min (min (length s.left) PIECE_BYTES) (LOG_FILE_BYTES - place_of s.flushed)
+next_len s = outlet.next_len (outlet_in s)
 
 -- the next bytes of the log, at their place
-abbrev pub next_piece : LogState → Laid
-next_piece s =
-    record { file = file_of s.parity s.flushed; at = place_of s.flushed; bytes = take (next_len s) s.left }
+abbrev pub next_piece : LogState → Piece
+next_piece s = outlet.next_piece (outlet_in s)
 
 -- the next piece is given out
 abbrev pub given_out : LogState → LogState
@@ -76,7 +70,7 @@ given_out s = record s { flushed = s.flushed + next_len s; left = drop (next_len
 -- what a step gives out of a log, and what it leaves: nothing exactly where all is given out
 abbrev pub GivesOut : LogState → Option Piece → LogState → Type 0
 GivesOut s None t = (s.left ≡ []) × (t ≡ s)
-GivesOut s (Some piece) t = (0 < length s.left) × (laid_by piece ≡ next_piece s) × (t ≡ given_out s)
+GivesOut s (Some piece) t = (0 < length s.left) × (piece ≡ next_piece s) × (t ≡ given_out s)
 
 -- how many bytes can be kept free more, by memory for so many bytes, of which so many are taken, and by positions
 abbrev pub room_of : ℕ → ℕ → ℕ → ℕ → ℕ

@@ -7,12 +7,13 @@ use Rattle.sig_core.specs.declared.redo.Redo.TheVariants.{Prepare, Commit, Abort
 use Rattle.sig_core.specs.Same.{same_key, same_tx}
 use Rattle.sig_core.specs.Table.{Rows}
 use Rattle.redo_format.specs.declared.fault.FormatFault.TheVariants.{NotRecord}
-use Rattle.redo_format.specs.Records.{IsRecord, bytes_of}
+use Rattle.sig_core.specs.Redo.{bytes_of}
+use Rattle.redo_format.specs.Records.{IsRecord}
 use Rattle.redo_format.specs.Decoding.{decoded}
-use Rattle.redo_log.specs.declared.fault.ReadFault.{ReadFault}
-use Rattle.redo_log.specs.declared.fault.ReadFault.TheVariants.{Damaged, DiskFault, NoMemory}
+use Rattle.sig_core.specs.declared.fault.ReadFault.{ReadFault}
+use Rattle.sig_core.specs.declared.fault.ReadFault.TheVariants.{Damaged, DiskFault, NoMemory}
 use Rattle.redo_log.specs.declared.image_id.ImageId.{ImageId}
-use Rattle.redo_log.specs.Places.{file_of, place_of}
+use Rattle.sig_core.specs.Ring.{file_of, place_of}
 
 -- the two are of one transaction and one key
 abbrev pub same_id : ImageId → ImageId → Bool

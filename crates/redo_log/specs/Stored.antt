@@ -4,9 +4,9 @@ use Rattle.host_io.specs.Call.{Call}
 use Rattle.host_io.specs.DiskState.{state_of}
 use Rattle.host_io.specs.Fault.{Rose}
 use Rattle.sig_core.specs.Table.{Rows}
-use Rattle.redo_log.specs.declared.fault.ReadFault.{ReadFault}
-use Rattle.redo_log.specs.declared.fault.ReadFault.TheVariants.{Damaged, DiskFault, NoMemory}
-use Rattle.redo_log.specs.Places.{file_of, place_of}
+use Rattle.sig_core.specs.declared.fault.ReadFault.{ReadFault}
+use Rattle.sig_core.specs.declared.fault.ReadFault.TheVariants.{Damaged, DiskFault, NoMemory}
+use Rattle.sig_core.specs.Ring.{file_of, place_of}
 use Rattle.redo_log.specs.Replaying.{Replays, damage}
 
 -- the bytes of the files of a disk as it reads, after the calls of its record

@@ -7,28 +7,29 @@ use Rattle.host_io.specs.Image.{IsLeft}
 use Rattle.sig_core.specs.declared.journal.TheConstants.{JOURNAL_BYTES}
 use Rattle.sig_core.specs.declared.redo.Redo.{Redo}
 use Rattle.sig_core.specs.Table.{Rows}
-use Rattle.redo_format.specs.Records.{bytes_of}
-use Rattle.redo_log.specs.declared.fault.ReadFault.{ReadFault}
-use Rattle.redo_log.specs.declared.fault.ReadFault.TheVariants.{Damaged, DiskFault, NoMemory}
+use Rattle.sig_core.specs.Redo.{bytes_of}
+use Rattle.sig_core.specs.declared.fault.ReadFault.{ReadFault}
+use Rattle.sig_core.specs.declared.fault.ReadFault.TheVariants.{Damaged, DiskFault, NoMemory}
 use Rattle.redo_log.specs.Laws.{LogCall, after_all, pieces_of, records_of}
-use Rattle.redo_log.specs.LogState.{Laid, fresh_log}
-use Rattle.redo_log.specs.Places.{file_of, place_of}
+use Rattle.sig_core.specs.declared.piece.Piece.{Piece}
+use Rattle.redo_log.specs.LogState.{fresh_log}
+use Rattle.sig_core.specs.Ring.{file_of, place_of}
 use Rattle.redo_log.specs.Replaying.{AreRecords, log_bytes, replayed}
 use Rattle.redo_log.specs.Stored.{AreStored, EachIsStored, ReplaysStored, files_of}
 
 -- the bytes of files after a piece was laid down at its place
-abbrev pub with_piece : Laid → (ℕ → List ℕ) → ℕ → List ℕ
+abbrev pub with_piece : Piece → (ℕ → List ℕ) → ℕ → List ℕ
 with_piece piece files file = if piece.file == file then laid piece.at piece.bytes (files file) else files file
 
 -- after many, the first of them first
-abbrev pub with_pieces : List Laid → (ℕ → List ℕ) → ℕ → List ℕ
+abbrev pub with_pieces : List Piece → (ℕ → List ℕ) → ℕ → List ℕ
 with_pieces [] files = files
 with_pieces (piece ∷ pieces) files = with_pieces pieces (with_piece piece files)
 
 -- a disk reads so after a write of a piece, and a sync leaves what it reads
 abbrev pub WritesLayPieces : Type 0
 WritesLayPieces =
-    (piece : Laid) (calls : List Call) (file synced : ℕ)
+    (piece : Piece) (calls : List Call) (file synced : ℕ)
     → (files_of (Wrote piece.file piece.at piece.bytes ∷ calls) file ≡ with_piece piece (files_of calls) file)
     × (files_of (Synced synced ∷ calls) file ≡ files_of calls file)
 

@@ -1,14 +1,15 @@
 //! The log of redo records.
 ghost use Rattle.std.specs.Prelude.{◌≡◌, ◌≢◌, ◌≤◌, ◌<◌, ◌+◌, ◌-◌, ◌^◌, Ok, Err, IfOk, IsOk, OnOk, OnErr};
 ghost use Rattle.sig_core.specs.declared.journal.JournalFault.TheVariants as fault;
-ghost use Rattle.sig_core.specs.Journal.{Reserves, appending, unreserving};
+ghost use Rattle.sig_core.specs.Journal.{GivesOut as GivesBytes, Reserves, appending, behind, unreserving, used_from};
 ghost use Rattle.sig_core.specs.Redo.{size_of};
-ghost use Rattle.redo_log.specs.LogState.{GivesOut, LogView, appended, cut_to, end_of, fresh_log, journal_of, next_len, with_reserved};
+ghost use Rattle.redo_log.specs.LogState.{GivesOut, LogView, appended, cut_to, end_of, fresh_log, journal_of, next_len, outlet_in, with_reserved};
 
-use crate::piece::{PIECE_BYTES, Piece};
-use crate::ring::{LOG_FILE_BYTES, file_of, place_of};
 use redo_format::encode;
-use sig_core::{JOURNAL_BYTES, Journal, JournalFault, NoMemory, Redo};
+use sig_core::{
+    JOURNAL_BYTES, Journal, JournalFault, LOG_FILE_BYTES, NoMemory, PIECE_BYTES, Piece, Redo, Seq,
+    file_of, place_of,
+};
 use std::alloc::Global;
 use std::marker::Model;
 
@@ -77,49 +78,11 @@ impl Log {
         self.parity
     }
 
-    /// The position behind its last record.
-    pub fn end(&self) -> u64
-        ensures value { result ≡ end_of self.now.log }
-        ensures order { self.now.log.start ≤ self.now.log.flushed }
-    {
-        self.flushed + (self.bytes.len() - self.given) as u64
-    }
-
     /// The bytes that are used: those behind the position of the last cut, at first 0.
     pub fn used(&self) -> u64
         ensures { result ≡ (journal_of self.now.log).used }
     {
         self.end() - self.start
-    }
-
-    /// The next bytes to write, at their place: at most 32,768, and never across the end of a file.
-    /// None exactly where all bytes are given out.
-    ///
-    /// # Errors
-    /// `NoMemory`, and then the log is as it was.
-    pub fn flush_step(&mut self) -> Result<Option<Piece>, NoMemory>
-        ensures piece { IfOk result (λ given. GivesOut self.old.log given self.new.log) }
-        ensures err { OnErr result (self.new.log ≡ self.old.log) }
-        ensures room { self.old.room ≤ self.new.room }
-    {
-        let len = self.next_len();
-        if len == 0 {
-            return Ok(None);
-        }
-        let end = self.given + len;
-        let bytes = Vec::from_slice(self.alloc, &self.bytes[self.given..end])?;
-        let piece = Piece {
-            file: file_of(self.parity, self.flushed),
-            at: place_of(self.flushed),
-            bytes,
-        };
-        self.given = end;
-        self.flushed += len as u64;
-        if self.given == self.bytes.len() {
-            self.bytes.clear();
-            self.given = 0;
-        }
-        Ok(Some(piece))
     }
 
     // How many bytes the next piece has.
@@ -130,20 +93,12 @@ impl Log {
         left.min(PIECE_BYTES)
             .min((LOG_FILE_BYTES - place_of(self.flushed)) as usize)
     }
-
-    /// What is used counts from this position on: what stood before it is given up. Takes no memory.
-    pub fn cut_to(&mut self, at: u64)
-        requires least { self.old.log.start ≤ at }
-        requires most { at ≤ self.old.log.flushed }
-        ensures log { self.new.log ≡ cut_to self.old.log at }
-        ensures room { self.new.room ≡ self.old.room }
-    {
-        self.start = at;
-    }
 }
 
 impl Journal for Log {
     ghost used_of = { λ s. journal_of s.log };
+
+    ghost outlet_of = { λ s. outlet_in s.log };
 
     ghost has_room = { λ s need. need ≤ s.room };
 
@@ -154,6 +109,7 @@ impl Journal for Log {
     fn make_room(&mut self, need: u64) -> Result<(), NoMemory>
         ensures ok { OnOk result (need ≤ self.new.room) }
         ensures same { journal_of self.new.log ≡ journal_of self.old.log }
+        ensures outlet { outlet_in self.new.log ≡ outlet_in self.old.log }
         ensures log { self.new.log ≡ self.old.log }
         ensures succeeds { need ≤ self.old.room → IsOk result }
     {
@@ -174,6 +130,7 @@ impl Journal for Log {
         requires { need < 2 ^ 32 }
         ensures answer { Reserves (journal_of self.old.log) need (journal_of self.new.log) result }
         ensures room { need ≤ self.old.room → result ≢ Err fault.NoMemory }
+        ensures outlet { outlet_in self.new.log ≡ outlet_in self.old.log }
         ensures ok { OnOk result (self.new.log ≡ with_reserved self.old.log (self.old.log.reserved + need)) }
         ensures err { OnErr result (self.new.log ≡ self.old.log) }
     {
@@ -197,7 +154,8 @@ impl Journal for Log {
     /// Appends a record, in bytes that were kept free. Takes no memory.
     fn append(&mut self, redo: &Redo)
         requires { size_of redo.now ≤ (journal_of self.old.log).reserved }
-        ensures journal { journal_of self.new.log ≡ appending (journal_of self.old.log) (size_of redo.now) }
+        ensures used { journal_of self.new.log ≡ appending (journal_of self.old.log) (size_of redo.now) }
+        ensures outlet { outlet_in self.new.log ≡ behind (outlet_in self.old.log) redo.now }
         ensures log { self.new.log ≡ appended self.old.log redo.now }
         ensures room { self.old.room ≤ self.new.room }
     {
@@ -211,9 +169,63 @@ impl Journal for Log {
     /// Keeps so many bytes fewer free.
     fn unreserve(&mut self, bytes: u64)
         requires { bytes ≤ (journal_of self.old.log).reserved }
-        ensures journal { journal_of self.new.log ≡ unreserving (journal_of self.old.log) bytes }
+        ensures used { journal_of self.new.log ≡ unreserving (journal_of self.old.log) bytes }
+        ensures outlet { outlet_in self.new.log ≡ outlet_in self.old.log }
         ensures log { self.new.log ≡ with_reserved self.old.log (self.old.log.reserved - bytes) }
     {
         self.reserved -= bytes;
+    }
+
+    /// The next bytes to write, at their place: at most 32,768, and never across the end of a file.
+    /// None exactly where all bytes are given out.
+    ///
+    /// # Errors
+    /// `NoMemory`, and then the log is as it was.
+    fn flush_step(&mut self) -> Result<Option<Piece>, NoMemory>
+        ensures piece { IfOk result (λ given. GivesBytes (outlet_in self.old.log) given (outlet_in self.new.log)) }
+        ensures err { OnErr result (outlet_in self.new.log ≡ outlet_in self.old.log) }
+        ensures used { journal_of self.new.log ≡ journal_of self.old.log }
+        ensures log { IfOk result (λ given. GivesOut self.old.log given self.new.log) }
+        ensures same { OnErr result (self.new.log ≡ self.old.log) }
+        ensures room { self.old.room ≤ self.new.room }
+    {
+        let len = self.next_len();
+        if len == 0 {
+            return Ok(None);
+        }
+        let end = self.given + len;
+        let bytes = Vec::from_slice(self.alloc, &self.bytes[self.given..end])?;
+        let piece = Piece {
+            file: file_of(self.parity, self.flushed),
+            at: place_of(self.flushed),
+            bytes: Seq::from_vec(bytes),
+        };
+        self.given = end;
+        self.flushed += len as u64;
+        if self.given == self.bytes.len() {
+            self.bytes.clear();
+            self.given = 0;
+        }
+        Ok(Some(piece))
+    }
+
+    /// What is used counts from this position on: what stood before it is given up. Takes no memory.
+    fn cut_to(&mut self, at: u64)
+        requires least { end_of self.old.log ≤ at + (journal_of self.old.log).used }
+        requires most { at ≤ self.old.log.flushed }
+        ensures used { journal_of self.new.log ≡ used_from (journal_of self.old.log) (outlet_in self.old.log) at }
+        ensures outlet { outlet_in self.new.log ≡ outlet_in self.old.log }
+        ensures log { self.new.log ≡ cut_to self.old.log at }
+        ensures room { self.new.room ≡ self.old.room }
+    {
+        self.start = at;
+    }
+
+    /// The position behind its last record.
+    fn end(&self) -> u64
+        ensures value { result ≡ end_of self.now.log }
+        ensures order { self.now.log.start ≤ self.now.log.flushed }
+    {
+        self.flushed + (self.bytes.len() - self.given) as u64
     }
 }

@@ -2,20 +2,19 @@
 ghost use Rattle.std.specs.Prelude.{◌≡◌, ◌≤◌, ◌<◌, ◌+◌, ◌-◌, ◌^◌, ◌++◌, List, Some, Err, MatchResult, OnOk, cond, length};
 ghost use Rattle.host_io.specs.Call.{Call};
 ghost use Rattle.redo_format.specs.declared.fault.FormatFault.TheVariants as format;
-ghost use Rattle.redo_format.specs.Records.{IsRecord, bytes_of};
+ghost use Rattle.sig_core.specs.Redo.{bytes_of};
+ghost use Rattle.redo_format.specs.Records.{IsRecord};
 ghost use Rattle.redo_format.specs.Decoding.{decoded};
 ghost use Rattle.redo_log.specs.declared.image_id.ImageId.{ImageId};
 ghost use Rattle.redo_log.specs.Replaying.{Replays, applied, damage, id_of, image_at, prepared_by, same_id, with_image};
 ghost use Rattle.redo_log.specs.Stored.{HasCause, ReplaysStored, files_of};
 
-use crate::fault::ReadFault;
 use crate::image_id::ImageId;
 use crate::prepared::Prepared;
-use crate::ring::{file_of, place_of};
 use crate::stored::read_log;
 use host_io::Disk;
 use redo_format::{FormatFault, decode};
-use sig_core::{Key, NoMemory, Redo, Table, Value};
+use sig_core::{Key, NoMemory, ReadFault, Redo, Table, Value, file_of, place_of};
 use std::alloc::Global;
 
 /// Replays a log onto rows, from one position up to another, as a disk has it in the files of this

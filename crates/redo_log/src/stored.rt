@@ -1,13 +1,11 @@
 //! The bytes of a log on a disk.
 ghost use Rattle.std.specs.Prelude.{◌≡◌, ◌≤◌, ◌<◌, ◌+◌, ◌-◌, ◌^◌, List, Some, IfOk, MatchResult, length};
 ghost use Rattle.host_io.specs.Call.{Call};
-ghost use Rattle.redo_log.specs.Places.{file_of, place_of};
+ghost use Rattle.sig_core.specs.Ring.{file_of, place_of};
 ghost use Rattle.redo_log.specs.Stored.{AreStored, IsFault, IsPiece, files_of};
 
-use crate::fault::ReadFault;
-use crate::piece::PIECE_BYTES;
-use crate::ring::{LOG_FILE_BYTES, file_of, place_of};
 use host_io::{Disk, Failed};
+use sig_core::{LOG_FILE_BYTES, PIECE_BYTES, ReadFault, file_of, place_of};
 use std::alloc::Global;
 
 /// The bytes of a log between two positions, in the files of this parity. Where a file ends before

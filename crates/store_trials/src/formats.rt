@@ -116,7 +116,7 @@ fn time_checkpoint(rt: &HostRuntime, rows: &[Row]) -> Result<bool, Fail> {
     }
     tell(rt, "checkpoint", bytes.len(), &watch)?;
     let watch = Watch::start(rt)?;
-    let read = rows_in(rt.alloc(), 1, &bytes).is_ok();
+    let read = rows_in(rt.alloc(), 2, 1, &bytes).is_ok();
     tell(rt, "checkpoint_read", bytes.len(), &watch)?;
     Ok(read)
 }

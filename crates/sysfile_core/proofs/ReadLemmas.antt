@@ -2,7 +2,7 @@
 use Rattle.std.proofs.Common.{◌≡◌, ◌∙◌, ℕ, false, refl, ap, nat_lt}
 use Rattle.std.proofs.lemmas.Bool.{le-ltb}
 use Rattle.std.proofs.lemmas.Nat.{from_be_bytes-to_be_bytes_8}
-use Rattle.sysfile_core.specs.declared.control.ControlSlot.{ControlSlot}
+use Rattle.sig_core.specs.declared.slots.ControlSlot.{ControlSlot}
 use Rattle.sysfile_core.specs.Slots.{control_bytes, control_fault, number_at, system_bytes, system_fault}
 use Rattle.sysfile_core.specs.SlotLaws.{ControlSlotsAreRead, SystemSlotsAreRead}
 

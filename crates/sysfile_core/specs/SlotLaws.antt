@@ -1,7 +1,7 @@
 -- What writing and reading a slot are to each other.
 use Rattle.std.specs.Prelude.{◌≡◌, None}
-use Rattle.sysfile_core.specs.declared.control.ControlSlot.{ControlSlot}
-use Rattle.sysfile_core.specs.declared.system.SystemSlot.{SystemSlot}
+use Rattle.sig_core.specs.declared.slots.ControlSlot.{ControlSlot}
+use Rattle.sig_core.specs.declared.slots.SystemSlot.{SystemSlot}
 use Rattle.sysfile_core.specs.Slots.{IsControlSlot, IsSystemSlot, control_bytes, control_fault, control_of, system_bytes, system_fault, system_of}
 
 -- the bytes of a system slot are read as that slot

@@ -1,10 +1,10 @@
 -- The bytes of slots.
 use Rattle.std.specs.Prelude.{◌≡◌, ℕ, ◌-◌, ◌/◌, ◌%◌, ◌^◌, ◌==◌, ◌&&◌, ◌||◌, not, Bool, true, nat_le, nat_lt, ◌<◌, ◌≤◌, List, [], ◌∷◌, ◌++◌, take, drop, slice_index, Option, None, Some, if◌then◌else◌}
 use Rattle.std.specs.Int.{w64, from_be_bytes, to_be_bytes}
-use Rattle.sysfile_core.specs.declared.control.ControlSlot.{ControlSlot}
+use Rattle.sig_core.specs.declared.slots.ControlSlot.{ControlSlot}
 use Rattle.sysfile_core.specs.declared.control.TheConstants.{REDO_BYTES}
 use Rattle.sysfile_core.specs.declared.place.TheConstants.{OPEN, VERSION}
-use Rattle.sysfile_core.specs.declared.system.SystemSlot.{SystemSlot}
+use Rattle.sig_core.specs.declared.slots.SystemSlot.{SystemSlot}
 
 -- the number of eight bytes at a place, the highest first
 abbrev pub number_at : ℕ → List ℕ → ℕ

@@ -4,29 +4,13 @@ ghost use Rattle.sysfile_core.specs.Slots.{are_positions, control_bytes, control
 
 use crate::number::{number_at, put, put_number};
 use crate::place::{OPEN, VERSION};
+use sig_core::ControlSlot;
 
 /// The bytes of a control slot.
 pub const CONTROL_BYTES: usize = 56;
 
 /// The most bytes of redo that a control slot names.
 pub const REDO_BYTES: u64 = 16_777_216;
-
-/// What a node has on disk of its rows.
-#[derive(Clone, Copy, Debug, PartialEq, Eq)]
-pub struct ControlSlot {
-    /// The file of the checkpoint, 2 or 3.
-    pub ckpt_file: u8,
-    /// The parity of the redo files, 0 or 1.
-    pub parity: u8,
-    pub generation: u64,
-    /// Rises by one with each slot that is written, from 1 on in each generation.
-    pub serial: u64,
-    /// The last epoch that is saved.
-    pub saved: u64,
-    pub redo_start: u64,
-    pub redo_end: u64,
-    pub ckpt_size: u64,
-}
 
 /// The bytes of a slot whose gate is open. It is read back where its file and its parity are such,
 /// and its redo ends at most 16,777,216 bytes behind its start.

@@ -3,7 +3,6 @@
 #![tactic(auto)]
 
 mod control;
-mod fault;
 mod laws;
 mod number;
 mod place;
@@ -11,15 +10,14 @@ mod read;
 mod system;
 mod write;
 
-pub use control::{CONTROL_BYTES, ControlSlot, REDO_BYTES, control_bytes};
-pub use fault::SlotFault;
+pub use control::{CONTROL_BYTES, REDO_BYTES, control_bytes};
 pub use laws::{
     a_written_slot_stays, an_open_slot_is_whole, control_slots_are_read, system_slots_are_read,
     the_other_slot_stays, the_steps_are_the_calls,
 };
 pub use place::{CLOSED, CONTROL_FILE, OPEN, SLOT_SPACE, SYSTEM_FILE, VERSION, place_of};
 pub use read::{read_control, read_system};
-pub use system::{SYSTEM_BYTES, SystemSlot, system_bytes};
+pub use system::{SYSTEM_BYTES, system_bytes};
 pub use write::{SlotStep, write_slot, write_step};
 
 #[cfg(test)]

@@ -7,17 +7,17 @@ ghost use Rattle.sysfile_core.specs.declared.place.TheConstants.{SLOT_SPACE};
 ghost use Rattle.sysfile_core.specs.Places.{slot_at};
 ghost use Rattle.sysfile_core.specs.Reading.{HasCause, Reads, control_at, control_in, control_of_file, is_earlier, later_control, later_system, of_generation, system_at, system_in, system_of_file};
 
-use crate::control::{CONTROL_BYTES, ControlSlot, control_fault, control_of};
-use crate::fault::SlotFault;
+use crate::control::{CONTROL_BYTES, control_fault, control_of};
 use crate::place::{CONTROL_FILE, OPEN, SYSTEM_FILE, place_of};
-use crate::system::{SYSTEM_BYTES, SystemSlot, system_fault, system_of};
+use crate::system::{SYSTEM_BYTES, system_fault, system_of};
 use host_io::{Disk, Failed};
+use sig_core::{ControlSlot, ReadFault, SystemSlot};
 
 /// The system slot in use: of the open ones that with the greatest generation and epoch.
 ///
 /// # Errors
 /// `Damaged` exactly where an open slot doesn't fit, at its first byte that doesn't; `DiskFault`.
-pub fn read_system<D: Disk>(disk: &mut D) -> Result<Option<SystemSlot>, SlotFault>
+pub fn read_system<D: Disk>(disk: &mut D) -> Result<Option<SystemSlot>, ReadFault>
     ensures read { (calls : List Call) → D.told disk.old ≡ Some calls → Reads (system_of_file (state_of calls SYSTEM_FILE).bytes) result }
     ensures unrecorded { D.told disk.new ≡ D.told disk.old }
     ensures cause { HasCause (D.faults disk.old) (D.faults disk.new) result }
@@ -35,7 +35,7 @@ pub fn read_system<D: Disk>(disk: &mut D) -> Result<Option<SystemSlot>, SlotFaul
 pub fn read_control<D: Disk>(
     disk: &mut D,
     generation: u64,
-) -> Result<Option<ControlSlot>, SlotFault>
+) -> Result<Option<ControlSlot>, ReadFault>
     ensures read { (calls : List Call) → D.told disk.old ≡ Some calls → Reads (control_of_file generation (state_of calls CONTROL_FILE).bytes) result }
     ensures unrecorded { D.told disk.new ≡ D.told disk.old }
     ensures cause { HasCause (D.faults disk.old) (D.faults disk.new) result }
@@ -49,7 +49,7 @@ pub fn read_control<D: Disk>(
 }
 
 // The system slot at a place.
-fn system_at<D: Disk>(disk: &mut D, which: u8) -> Result<Option<SystemSlot>, SlotFault>
+fn system_at<D: Disk>(disk: &mut D, which: u8) -> Result<Option<SystemSlot>, ReadFault>
     requires { which ≤ 1 }
     ensures read { (calls : List Call) → D.told disk.old ≡ Some calls → Reads (system_at which (state_of calls SYSTEM_FILE).bytes) result }
     ensures unrecorded { D.told disk.new ≡ D.told disk.old }
@@ -60,14 +60,14 @@ fn system_at<D: Disk>(disk: &mut D, which: u8) -> Result<Option<SystemSlot>, Slo
     match read_slot(disk, SYSTEM_FILE, place_of(which), &mut bytes) {
         Ok(true) => system_in(place_of(which), &bytes),
         Ok(false) => Ok(None),
-        Err(Failed) => Err(SlotFault::DiskFault {
+        Err(Failed) => Err(ReadFault::DiskFault {
             count: disk.faults(),
         }),
     }
 }
 
 // The control slot at a place.
-fn control_at<D: Disk>(disk: &mut D, which: u8) -> Result<Option<ControlSlot>, SlotFault>
+fn control_at<D: Disk>(disk: &mut D, which: u8) -> Result<Option<ControlSlot>, ReadFault>
     requires { which ≤ 1 }
     ensures read { (calls : List Call) → D.told disk.old ≡ Some calls → Reads (control_at which (state_of calls CONTROL_FILE).bytes) result }
     ensures unrecorded { D.told disk.new ≡ D.told disk.old }
@@ -78,7 +78,7 @@ fn control_at<D: Disk>(disk: &mut D, which: u8) -> Result<Option<ControlSlot>, S
     match read_slot(disk, CONTROL_FILE, place_of(which), &mut bytes) {
         Ok(true) => control_in(place_of(which), &bytes),
         Ok(false) => Ok(None),
-        Err(Failed) => Err(SlotFault::DiskFault {
+        Err(Failed) => Err(ReadFault::DiskFault {
             count: disk.faults(),
         }),
     }
@@ -97,14 +97,14 @@ fn read_slot<D: Disk>(disk: &mut D, file: u8, at: u64, bytes: &mut [u8]) -> Resu
 }
 
 #[tactic(auto, unfolding(crate::specs::Reading::system_in))]
-fn system_in(at: u64, bytes: &[u8]) -> Result<Option<SystemSlot>, SlotFault>
+fn system_in(at: u64, bytes: &[u8]) -> Result<Option<SystemSlot>, ReadFault>
     requires size { length bytes.now ≡ SYSTEM_BYTES }
     requires place { at ≤ SLOT_SPACE }
     ensures told { result ≡ system_in at bytes.now }
     ensures cause { (before now : ℕ) → HasCause before now result }
 {
     match system_fault(bytes) {
-        Some(first) => Err(SlotFault::Damaged {
+        Some(first) => Err(ReadFault::Damaged {
             file: SYSTEM_FILE,
             at: at + first as u64,
             byte: bytes[first],
@@ -114,14 +114,14 @@ fn system_in(at: u64, bytes: &[u8]) -> Result<Option<SystemSlot>, SlotFault>
 }
 
 #[tactic(auto, unfolding(crate::specs::Reading::control_in))]
-fn control_in(at: u64, bytes: &[u8]) -> Result<Option<ControlSlot>, SlotFault>
+fn control_in(at: u64, bytes: &[u8]) -> Result<Option<ControlSlot>, ReadFault>
     requires size { length bytes.now ≡ CONTROL_BYTES }
     requires place { at ≤ SLOT_SPACE }
     ensures told { result ≡ control_in at bytes.now }
     ensures cause { (before now : ℕ) → HasCause before now result }
 {
     match control_fault(bytes) {
-        Some(first) => Err(SlotFault::Damaged {
+        Some(first) => Err(ReadFault::Damaged {
             file: CONTROL_FILE,
             at: at + first as u64,
             byte: bytes[first],

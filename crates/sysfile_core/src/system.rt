@@ -4,21 +4,10 @@ ghost use Rattle.sysfile_core.specs.Slots.{are_nodes, are_replicas, are_fragment
 
 use crate::number::{number_at, put, put_number};
 use crate::place::{OPEN, VERSION};
-use sig_core::Shape;
+use sig_core::{Shape, SystemSlot};
 
 /// The bytes of a system slot.
 pub const SYSTEM_BYTES: usize = 24;
-
-/// What a node has on disk of the cluster.
-#[derive(Clone, Copy, Debug, PartialEq, Eq)]
-pub struct SystemSlot {
-    pub shape: Shape,
-    /// The full members: bit n - 1 stands for node n.
-    pub mask: u8,
-    pub generation: u64,
-    /// The last epoch that is durable.
-    pub epoch: u64,
-}
 
 /// The bytes of a slot whose gate is open. It is read back where it has a shape of a cluster, and a
 /// mask that names some of its nodes and no other.

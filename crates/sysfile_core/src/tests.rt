@@ -1,11 +1,8 @@
 //! Slots worked out by hand, each byte of them changed, slots that are cut short, and writes that are
 //! stopped at each of their calls.
-use crate::{
-    CONTROL_FILE, ControlSlot, SYSTEM_FILE, SlotFault, SystemSlot, control_bytes, read_control,
-    read_system, system_bytes, write_slot,
-};
+use crate::{CONTROL_FILE, SYSTEM_FILE, control_bytes, read_control, read_system, system_bytes, write_slot};
 use host_io::{Disk, MemDisk};
-use sig_core::Shape;
+use sig_core::{ControlSlot, ReadFault, Shape, SystemSlot};
 use std::test::Fail;
 
 // A system slot of two nodes, generation 1 and epoch 5.
@@ -93,9 +90,9 @@ fn disk_with(
 }
 
 // The place at which a slot was found damaged.
-fn damage_of<S>(read: &Result<Option<S>, SlotFault>) -> Option<u64> {
+fn damage_of<S>(read: &Result<Option<S>, ReadFault>) -> Option<u64> {
     match read {
-        Err(SlotFault::Damaged { at, .. }) => Some(*at),
+        Err(ReadFault::Damaged { at, .. }) => Some(*at),
         _ => None,
     }
 }
@@ -131,7 +128,7 @@ fn each_changed_byte_of_a_system_slot_is_named(rt: HostRuntime) -> Result<(), Fa
         }
     }
     let mut disk = disk_with(&rt, SYSTEM_FILE, &SYSTEM, 5, &[9])?;
-    let damaged = SlotFault::Damaged {
+    let damaged = ReadFault::Damaged {
         file: 0,
         at: 5,
         byte: 9,

@@ -165,7 +165,7 @@ impl Node {
             return Ok(());
         };
         self.bytes
-            .extend_from_slice(&piece.bytes)
+            .extend_from_slice(piece.bytes.as_slice())
             .map_err(|_| RunFault::NoMemory)
     }
 

@@ -4,10 +4,10 @@ use crate::dice::Dice;
 use crate::fault::RunFault;
 use crate::node::Node;
 use crate::plain::{compare, rows_up_to};
-use lcp_store::{CheckpointFault, rows_in};
-use local_ckpt::{Ckpt, Finished};
-use redo_log::{ReadFault, replay_bytes};
-use sig_core::Table;
+use lcp_store::rows_in;
+use local_ckpt::Ckpt;
+use redo_log::replay_bytes;
+use sig_core::{Finished, ReadFault, Table, Walk};
 use std::alloc::Global;
 
 /// How many keys there are at most.
@@ -54,11 +54,11 @@ fn walk(
         let Some(piece) = ckpt.step(&node.rows)? else {
             return Ok(ckpt.finish());
         };
-        if piece.file != 2 || piece.at != written.len() as u64 || piece.bytes.is_empty() {
+        if piece.file != 2 || piece.at != written.len() as u64 || piece.bytes.as_slice().is_empty() {
             return Err(RunFault::Pieces);
         }
         written
-            .extend_from_slice(&piece.bytes)
+            .extend_from_slice(piece.bytes.as_slice())
             .map_err(|_| RunFault::NoMemory)?;
         for _ in 0..dice.roll(CHANGES) {
             let before = node.commits.len();
@@ -105,9 +105,9 @@ fn check(
 }
 
 fn read(alloc: Global, finished: &Finished, written: &[u8]) -> Result<Table, RunFault> {
-    match rows_in(alloc, finished.epoch, written) {
+    match rows_in(alloc, finished.file, finished.epoch, written) {
         Ok(rows) => Ok(rows),
-        Err(CheckpointFault::NoMemory) => Err(RunFault::NoMemory),
+        Err(ReadFault::NoMemory) => Err(RunFault::NoMemory),
         Err(_) => Err(RunFault::Damaged),
     }
 }

@@ -1,5 +1,5 @@
-use crate::{ReadFault, replay_bytes};
-use sig_core::{Key, Table};
+use crate::replay_bytes;
+use sig_core::{Key, ReadFault, Table};
 use std::alloc::Global;
 use std::test::Fail;
 

@@ -1,8 +1,8 @@
 use super::log::{pair, put};
 use super::replaying::PAIR;
-use crate::{Log, ReadFault, replay};
+use crate::{Log, replay};
 use host_io::{Disk, MemDisk};
-use sig_core::{Key, Redo, Table, Value};
+use sig_core::{Journal, Key, ReadFault, Redo, Table, Value};
 use std::test::Fail;
 
 // A disk whose calls with these numbers fail, and of which a crash leaves nothing that isn't synced.
@@ -16,7 +16,7 @@ fn save(log: &mut Log, disk: &mut MemDisk) -> bool {
     for _ in 0..1_000 {
         match log.flush_step() {
             Ok(Some(piece)) => {
-                if disk.write(piece.file, piece.at, &piece.bytes).is_err() {
+                if disk.write(piece.file, piece.at, piece.bytes.as_slice()).is_err() {
                     return false;
                 }
             }

@@ -1,6 +1,6 @@
 use Rattle.std.proofs.Common.{◌≡◌, ◌++◌, ap, ◌∙◌}
 use Rattle.std.proofs.lemmas.List.{append_assoc}
-use Rattle.lcp_store.specs.Bytes.{epoch_bytes, word_bytes}
+use Rattle.sig_core.specs.Checkpoint.{epoch_bytes, word_bytes}
 use Rattle.lcp_store.proofs.FrontLemmas.{kept}
 use Rattle.lcp_store.proofs.write.add_row.Goals as goal
 

@@ -2,7 +2,7 @@ use Rattle.std.proofs.Common.{◌≡◌, ◌∙◌, ◌+◌, ◌-◌, ap, arith,
 use Rattle.std.proofs.lemmas.List.{length-append}
 use Rattle.std.specs.Vec.{vec_capacity}
 use Rattle.sig_core.specs.Redo.{size_of}
-use Rattle.redo_format.specs.Records.{bytes_of}
+use Rattle.sig_core.specs.Redo.{bytes_of}
 use Rattle.redo_log.specs.LogState.{room_of}
 use Rattle.redo_log.proofs.log.LogJournal.append.Goals as goal
 
