@@ -2,6 +2,7 @@ pub mod Abort
 pub mod Codes
 pub mod Commit
 pub mod Complete
+pub mod Counting
 pub mod Due
 pub mod Dump
 pub mod Expire

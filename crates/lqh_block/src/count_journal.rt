@@ -1,46 +1,53 @@
 //! A journal that keeps no records.
-ghost use Rattle.std.specs.Prelude.{◌≡◌, ⊤};
+ghost use Rattle.std.specs.Prelude.{◌≡◌, ◌<◌, ◌+◌, ◌^◌};
+ghost use Rattle.lqh_block.specs.Counting.{CountState, journal_in, outlet_in};
 
-use sig_core::{JOURNAL_BYTES, Journal, JournalFault, NoMemory, Redo};
+use sig_core::{JOURNAL_BYTES, Journal, JournalFault, NoMemory, Piece, Redo};
 use std::marker::Model;
 
-/// A journal that counts the bytes of its records, and keeps none of them.
+/// A journal that counts the bytes of its records, and keeps none of them: it has none to give out.
 #[derive(Drop)]
 pub struct CountJournal {
     used: u64,
     reserved: u64,
+    /// The position behind the last record.
+    end: u64,
 }
 
 impl Model for CountJournal {
-    ghost use Rattle.std.specs.Prelude.{◌+◌, ◌≤◌};
-    ghost use Rattle.sig_core.specs.declared.journal.TheConstants.{JOURNAL_BYTES};
-    ghost use Rattle.sig_core.specs.Journal.{JournalState};
+    ghost use Rattle.lqh_block.specs.Counting.{CountState, IsCount};
 
-    ghost Value = { JournalState };
+    ghost Value = { CountState };
 
-    ghost view = { λ j. record { used = j.used; reserved = j.reserved } };
+    ghost view = { λ j. record { used = j.used; reserved = j.reserved; end = j.end } };
 
-    ghost invariant = { λ j. j.used + j.reserved ≤ JOURNAL_BYTES };
+    ghost invariant = { λ j. IsCount j.used j.reserved j.end };
 }
 
 impl CountJournal {
     /// A journal that has used and keeps free no bytes. Takes no memory.
     pub fn new() -> CountJournal
-        ensures { result ≡ record { used = 0; reserved = 0 } }
+        ensures { result ≡ record { used = 0; reserved = 0; end = 0 } }
     {
         CountJournal {
             used: 0,
             reserved: 0,
+            end: 0,
         }
     }
 }
 
 impl Journal for CountJournal {
-    ghost used_of = { λ j. j };
+    ghost used_of = { journal_in };
 
-    ghost has_room = { λ _ _. ⊤ };
+    ghost outlet_of = { outlet_in };
 
-    fn make_room(&mut self, _need: u64) -> Result<(), NoMemory> {
+    ghost has_room = { λ j need. j.end + j.reserved + need < 2 ^ 64 };
+
+    fn make_room(&mut self, need: u64) -> Result<(), NoMemory> {
+        if need > u64::MAX - self.end - self.reserved {
+            return Err(NoMemory);
+        }
         Ok(())
     }
 
@@ -52,6 +59,9 @@ impl Journal for CountJournal {
                 need,
             });
         }
+        if need > u64::MAX - self.end - self.reserved {
+            return Err(JournalFault::NoMemory);
+        }
         self.reserved += need;
         Ok(())
     }
@@ -60,9 +70,22 @@ impl Journal for CountJournal {
         let size = redo.size();
         self.reserved -= size;
         self.used += size;
+        self.end += size;
     }
 
     fn unreserve(&mut self, bytes: u64) {
         self.reserved -= bytes;
+    }
+
+    fn flush_step(&mut self) -> Result<Option<Piece>, NoMemory> {
+        Ok(None)
+    }
+
+    fn cut_to(&mut self, at: u64) {
+        self.used = self.end - at;
+    }
+
+    fn end(&self) -> u64 {
+        self.end
     }
 }
