@@ -1,9 +1,11 @@
 pub mod AnswerText
+pub mod BackupText
 pub mod DigestText
 pub mod EpochText
 pub mod Fault
 pub mod Keyword
 pub mod Line
+pub mod LoadText
 pub mod Number
 pub mod Operation
 pub mod OutcomeText
@@ -11,6 +13,8 @@ pub mod RefusalText
 pub mod ReplyText
 pub mod Spelling
 pub mod StopText
+pub mod SubscriberText
+pub mod UniqueText
 pub mod ViewText
 pub mod WaitingText
 pub mod Words

@@ -2,7 +2,7 @@
 use Rattle.std.specs.Prelude.{ℕ, List, ◌++◌, codes, Option, None}
 use Rattle.std.specs.Fmt.{decimal}
 use Rattle.sig_core.specs.declared.reply.Refusal.{Refusal}
-use Rattle.sig_core.specs.declared.reply.Refusal.TheVariants.{Down, Running, NotOpen, IsOpen, NoMember, NotRunning, RunningNode, InView, Busy, TooManyOperations, TooManyOpen, Batch}
+use Rattle.sig_core.specs.declared.reply.Refusal.TheVariants.{Down, Running, NotOpen, IsOpen, NoMember, NotRunning, RunningNode, InView, Busy, TooManyOperations, TooManyOpen, Batch, NoSubscriber, IsSubscribed, NotSubscribed}
 
 -- the words of a refusal
 abbrev pub refusal_words : Refusal → List ℕ
@@ -18,6 +18,9 @@ refusal_words Busy = codes "busy"
 refusal_words TooManyOperations = codes "too many operations 64"
 refusal_words TooManyOpen = codes "too many open 64"
 refusal_words (Batch name) = codes "batch refused " ++ decimal name
+refusal_words (NoSubscriber subscriber) = codes "no subscriber " ++ decimal subscriber
+refusal_words (IsSubscribed subscriber) = codes "is subscribed " ++ decimal subscriber
+refusal_words (NotSubscribed subscriber) = codes "not subscribed " ++ decimal subscriber
 
 -- the name that a refusal is told with: none where it isn't about a transaction
 abbrev pub refused_name : Option ℕ → Refusal → Option ℕ

@@ -2,13 +2,17 @@
 use Rattle.std.specs.Prelude.{ℕ, List, [], ◌∷◌, ◌++◌, Option, None, Some, codes}
 use Rattle.std.specs.Fmt.{decimal}
 use Rattle.sig_core.specs.declared.reply.ApiReply.{ApiReply}
-use Rattle.sig_core.specs.declared.reply.ApiReply.TheVariants.{Begun, Answered, Ended, Pending, Refused, Stopped, Ticked, Cut, Closed, Durable, Checkpoint, Started, StartEnded, Row, Rows, Digest, View, Crashed, Restarted, BatchEnd}
+use Rattle.sig_core.specs.declared.reply.ApiReply.TheVariants.{Begun, Answered, Ended, Pending, Refused, Stopped, Ticked, Cut, Closed, Durable, Checkpoint, Started, StartEnded, Row, Rows, Digest, View, Crashed, Restarted, BatchEnd, Loaded, Subscribed, Unsubscribed, Changes, SubscriberFailed, BackedUp, BackupEnded, BackupTooLarge, NoBackup, DumpRow, Dumped, Unique}
 use Rattle.script_lang.specs.AnswerText.{answer_words}
+use Rattle.script_lang.specs.BackupText.{backup_words, dump_words, ended_words, too_large_words}
 use Rattle.script_lang.specs.EpochText.{epoch_words}
+use Rattle.script_lang.specs.LoadText.{load_words}
 use Rattle.script_lang.specs.OutcomeText.{outcome_words}
 use Rattle.script_lang.specs.WaitingText.{waiting_words}
 use Rattle.script_lang.specs.RefusalText.{refusal_words, refused_name}
 use Rattle.script_lang.specs.StopText.{stop_words}
+use Rattle.script_lang.specs.SubscriberText.{changes_words, failed_words, subscribed_words}
+use Rattle.script_lang.specs.UniqueText.{unique_words}
 use Rattle.script_lang.specs.ViewText.{view_words}
 use Rattle.script_lang.specs.DigestText.{digest_words}
 
@@ -38,6 +42,18 @@ name_of (View view) = None
 name_of Crashed = None
 name_of (Restarted epoch) = None
 name_of BatchEnd = None
+name_of (Loaded transactions committed aborted) = None
+name_of (Subscribed subscriber epoch) = None
+name_of (Unsubscribed subscriber epoch) = None
+name_of (Changes subscriber epoch changes) = None
+name_of (SubscriberFailed subscriber count) = None
+name_of (BackedUp backup epoch) = None
+name_of (BackupEnded backup view) = None
+name_of (BackupTooLarge backup size) = None
+name_of (NoBackup backup) = None
+name_of (DumpRow key value) = None
+name_of (Dumped backup rows epoch) = None
+name_of (Unique name answer) = name
 
 -- what a line begins with: the name, if there is one
 abbrev pub name_prefix : Option ℕ → List ℕ
@@ -66,6 +82,18 @@ reply_words (View view) = view_words view
 reply_words Crashed = codes "crashed"
 reply_words (Restarted epoch) = codes "restarted " ++ epoch_words epoch
 reply_words BatchEnd = codes "end"
+reply_words (Loaded transactions committed aborted) = load_words transactions committed aborted
+reply_words (Subscribed subscriber epoch) = subscribed_words (codes "subscribed ") subscriber epoch
+reply_words (Unsubscribed subscriber epoch) = subscribed_words (codes "unsubscribed ") subscriber epoch
+reply_words (Changes subscriber epoch changes) = changes_words subscriber epoch changes
+reply_words (SubscriberFailed subscriber count) = failed_words subscriber count
+reply_words (BackedUp backup epoch) = backup_words backup epoch
+reply_words (BackupEnded backup view) = ended_words backup view
+reply_words (BackupTooLarge backup size) = too_large_words backup size
+reply_words (NoBackup backup) = codes "no backup " ++ decimal backup
+reply_words (DumpRow key value) = codes "put " ++ (key ++ codes " " ++ value)
+reply_words (Dumped backup rows epoch) = dump_words backup rows epoch
+reply_words (Unique name answer) = unique_words answer
 
 -- the line of a reply, with its newline
 abbrev pub reply_text : ApiReply → List ℕ

@@ -5,25 +5,33 @@ ghost use Rattle.script_lang.specs.RefusalText.{refused_name};
 ghost use Rattle.script_lang.specs.ReplyText.{name_of, name_prefix, reply_words, reply_text};
 
 mod answer;
+mod backup;
 mod digest;
 mod epoch;
+mod load;
 mod outcome;
 mod refusal;
 mod row;
 mod stop;
+mod subscriber;
+mod unique;
 mod view;
 mod waiting;
 mod words;
 
 use answer::add_answer;
+use backup::{add_backup, add_dump, add_put, ended_words, too_large_words};
 use digest::add_digest;
 use epoch::add_epoch;
+use load::add_load;
 use outcome::add_outcome;
 use refusal::add_refusal;
 use row::add_row;
 use sig_core::{ApiReply, NoMemory, Refusal};
 use std::alloc::Global;
 use stop::add_stop;
+use subscriber::{add_changes, add_subscribed, failed_words};
+use unique::add_unique;
 use view::add_view;
 use waiting::add_waiting;
 use words::add;
@@ -55,7 +63,8 @@ pub fn name_of(reply: &ApiReply) -> Option<u16>
         ApiReply::Begun { name, .. } => Some(*name),
         ApiReply::Answered { name, .. }
         | ApiReply::Ended { name, .. }
-        | ApiReply::Pending { name, .. } => *name,
+        | ApiReply::Pending { name, .. }
+        | ApiReply::Unique { name, .. } => *name,
         ApiReply::Refused { name, refusal } => refused_name(*name, refusal),
         ApiReply::Stopped { .. }
         | ApiReply::Ticked { .. }
@@ -71,7 +80,18 @@ pub fn name_of(reply: &ApiReply) -> Option<u16>
         | ApiReply::View { .. }
         | ApiReply::Crashed
         | ApiReply::Restarted { .. }
-        | ApiReply::BatchEnd => None,
+        | ApiReply::BatchEnd
+        | ApiReply::Loaded { .. }
+        | ApiReply::Subscribed { .. }
+        | ApiReply::Unsubscribed { .. }
+        | ApiReply::Changes { .. }
+        | ApiReply::SubscriberFailed { .. }
+        | ApiReply::BackedUp { .. }
+        | ApiReply::BackupEnded { .. }
+        | ApiReply::BackupTooLarge { .. }
+        | ApiReply::NoBackup { .. }
+        | ApiReply::DumpRow { .. }
+        | ApiReply::Dumped { .. } => None,
     }
 }
 
@@ -91,7 +111,10 @@ fn refused_name(name: Option<u16>, refusal: &Refusal) -> Option<u16>
         | Refusal::NotRunning(_)
         | Refusal::RunningNode(_)
         | Refusal::InView(_)
-        | Refusal::Batch(_) => None,
+        | Refusal::Batch(_)
+        | Refusal::NoSubscriber(_)
+        | Refusal::IsSubscribed(_)
+        | Refusal::NotSubscribed(_) => None,
     }
 }
 
@@ -130,6 +153,38 @@ fn add_words(alloc: Global, reply: &ApiReply, line: &mut Vec<u8>) -> Result<(), 
         ApiReply::Crashed => add(line, "crashed"),
         ApiReply::Restarted { epoch } => add_epoch(alloc, "restarted ", *epoch, line),
         ApiReply::BatchEnd => add(line, "end"),
+        ApiReply::Loaded {
+            transactions,
+            committed,
+            aborted,
+        } => add_load(alloc, *transactions, *committed, *aborted, line),
+        ApiReply::Subscribed { subscriber, epoch } => {
+            add_subscribed(alloc, "subscribed ", *subscriber, *epoch, line)
+        }
+        ApiReply::Unsubscribed { subscriber, epoch } => {
+            add_subscribed(alloc, "unsubscribed ", *subscriber, *epoch, line)
+        }
+        ApiReply::Changes {
+            subscriber,
+            epoch,
+            changes,
+        } => add_changes(alloc, *subscriber, *epoch, *changes, line),
+        ApiReply::SubscriberFailed { subscriber, count } => {
+            add(line, &failed_words(alloc, *subscriber, *count)?)
+        }
+        ApiReply::BackedUp { backup, epoch } => add_backup(alloc, *backup, *epoch, line),
+        ApiReply::BackupEnded { backup, view } => add(line, &ended_words(alloc, *backup, *view)?),
+        ApiReply::BackupTooLarge { backup, size } => {
+            add(line, &too_large_words(alloc, *backup, *size)?)
+        }
+        ApiReply::NoBackup { backup } => add(line, &format!(in alloc; "no backup {backup}")?),
+        ApiReply::DumpRow { key, value } => add_put(key.bytes(), value.bytes(), line),
+        ApiReply::Dumped {
+            backup,
+            rows,
+            epoch,
+        } => add_dump(alloc, *backup, *rows, *epoch, line),
+        ApiReply::Unique { name: _, answer } => add_unique(alloc, answer, line),
     }
 }
 

@@ -26,5 +26,14 @@ pub fn add_refusal(alloc: Global, refusal: &Refusal, line: &mut Vec<u8>) -> Resu
         Refusal::TooManyOperations => add(line, "too many operations 64"),
         Refusal::TooManyOpen => add(line, "too many open 64"),
         Refusal::Batch(name) => add(line, &format!(in alloc; "batch refused {name}")?),
+        Refusal::NoSubscriber(number) => {
+            add(line, &format!(in alloc; "no subscriber {number}")?)
+        }
+        Refusal::IsSubscribed(number) => {
+            add(line, &format!(in alloc; "is subscribed {number}")?)
+        }
+        Refusal::NotSubscribed(number) => {
+            add(line, &format!(in alloc; "not subscribed {number}")?)
+        }
     }
 }
