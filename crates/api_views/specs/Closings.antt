@@ -1,6 +1,7 @@
 -- The closing of epochs: at most one is asked for at a time, at the president's master of checkpoints.
 use Rattle.std.specs.Prelude.{ℕ, Bool, true, false, is_some, List, [], ◌∷◌, Option, None, Some}
 use Rattle.sig_core.specs.declared.outs.Outgoing.{Outgoing}
+use Rattle.sig_core.specs.declared.place.BlockId.TheVariants.{Api}
 use Rattle.sig_core.specs.declared.reply.ApiReply.{ApiReply}
 use Rattle.sig_core.specs.declared.reply.ApiReply.TheVariants as reply
 use Rattle.sig_core.specs.declared.reply.Refusal.TheVariants.{Busy}
@@ -16,7 +17,7 @@ use Rattle.api_views.specs.Members.{president}
 use Rattle.api_views.specs.State.{ClientState, left, telling, turned_down}
 
 abbrev pub ask_of : Closing → Body
-ask_of Gcp = Epoch GcpReq
+ask_of Gcp = Epoch (GcpReq Api)
 ask_of Micro = Epoch MicroReq
 
 abbrev pub ask_at : Closing → Option ℕ → List Outgoing

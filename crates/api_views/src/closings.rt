@@ -5,7 +5,7 @@ ghost use Rattle.api_views.specs.Closings.{anew, ask_of, asking, closed_reply, c
 
 use crate::client::Client;
 use crate::members::president;
-use sig_core::{ApiReply, Body, EpochSignal, NoMemory, Outs, Refusal, View, checkpoints};
+use sig_core::{ApiReply, BlockId, Body, EpochSignal, NoMemory, Outs, Refusal, View, checkpoints};
 
 /// A closing of the current epoch.
 #[derive(Clone, Copy)]
@@ -20,7 +20,7 @@ fn ask_of(closing: Closing) -> Body
     ensures { result ≡ ask_of closing }
 {
     match closing {
-        Closing::Gcp => Body::Epoch(EpochSignal::GcpReq),
+        Closing::Gcp => Body::Epoch(EpochSignal::GcpReq { by: BlockId::Api }),
         Closing::Micro => Body::Epoch(EpochSignal::MicroReq),
     }
 }

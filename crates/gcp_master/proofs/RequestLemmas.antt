@@ -252,7 +252,7 @@ global_global asked node e = by (node == 0)
     by false = e
 
 epoch_asks : (s : MasterState) (v : Voice) (signal : EpochSignal) → Asks s (epoch_table s v signal).state
-epoch_asks s v GcpReq =
+epoch_asks s v (GcpReq by) =
     record {
       asked = global_asked s.asked v.member.node;
       global = global_global s.asked v.member.node;

@@ -53,7 +53,7 @@ told current prepared next closed saved durable =
 
 -- what the master does at a signal of epochs, by who sent it
 abbrev pub epoch_table : MasterState → Voice → EpochSignal → Step MasterState
-epoch_table s voice GcpReq = asked_row s (global_asked s.asked voice.member.node)
+epoch_table s voice (GcpReq by) = asked_row s (global_asked s.asked voice.member.node)
 epoch_table s voice MicroReq = asked_row s (micro_asked s.asked)
 epoch_table s voice GcpOrd = order_row s
 epoch_table s voice (GcpStateConf current prepared next closed saved durable) =

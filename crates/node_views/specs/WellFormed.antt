@@ -5,23 +5,29 @@ use Rattle.sig_core.specs.declared.member.HostId.{HostId}
 use Rattle.sig_core.specs.declared.member.Member.{Member}
 use Rattle.sig_core.specs.declared.member.TxId.{TxId}
 use Rattle.sig_core.specs.declared.signal.Body.{Body}
-use Rattle.sig_core.specs.declared.signal.Body.TheVariants.{Host, Client, Chain, Membership, Takeover, Epoch, Checkpoint, File, Joining}
+use Rattle.sig_core.specs.declared.signal.Body.TheVariants.{Host, Client, Chain, Membership, Takeover, Epoch, Checkpoint, File, Joining, Copying, Subscription, Backup, Unique}
 use Rattle.sig_core.specs.declared.signal.Signal.{Signal}
 use Rattle.sig_core.specs.declared.signal.chain.ChainSignal.{ChainSignal}
 use Rattle.sig_core.specs.declared.signal.chain.ChainSignal.TheVariants.{LqhKeyReq, LqhKeyConf, LqhKeyRef, Commit, Committed, Complete, Completed, Abort, Aborted}
 use Rattle.sig_core.specs.declared.signal.client.ClientSignal.{ClientSignal}
 use Rattle.sig_core.specs.declared.signal.client.ClientSignal.TheVariants.{TcBeginConf, TcKeyReq, TcKeyConf, TcCommitReq, TcCommitConf, TcCommitAck, TcRollbackReq, TcRollbackRep, TcKeyFailConf, TcKeyFailRef, TcWaitReq, TcWaitConf, LqhWaitReq, LqhWaitConf}
+use Rattle.sig_core.specs.declared.signal.copying.CopyingSignal.{CopyingSignal}
+use Rattle.sig_core.specs.declared.signal.copying.CopyingSignal.TheVariants.{CopyFragReq, LqhScanReq}
 use Rattle.sig_core.specs.declared.signal.epoch.EpochSignal.{EpochSignal}
 use Rattle.sig_core.specs.declared.signal.epoch.EpochSignal.TheVariants.{DiVerifyReq, DiVerifyConf, DiVerifyEnd, CopyGciReq}
 use Rattle.sig_core.specs.declared.signal.host.HostSignal.{HostSignal}
 use Rattle.sig_core.specs.declared.signal.host.HostSignal.TheVariants.{Cut, Continue}
 use Rattle.sig_core.specs.declared.signal.host.Work.TheVariants.{Transaction}
 use Rattle.sig_core.specs.declared.signal.joining.JoiningSignal.{JoiningSignal}
-use Rattle.sig_core.specs.declared.signal.joining.JoiningSignal.TheVariants.{StartReq, StartRep, StartEnd, StartGone, CopyOrd, CopyFragReq, LqhScanReq, DrainWait, PromoteReq}
+use Rattle.sig_core.specs.declared.signal.joining.JoiningSignal.TheVariants.{StartReq, StartRep, StartEnd, StartGone, CopyOrd, DrainWait, PromoteReq}
 use Rattle.sig_core.specs.declared.signal.membership.MembershipSignal.{MembershipSignal}
 use Rattle.sig_core.specs.declared.signal.membership.MembershipSignal.TheVariants.{FailRep, PrepFailReq, PrepFailConf, PrepFailRef, FenceReq, ArbitReq, ArbitConf, ArbitRef}
+use Rattle.sig_core.specs.declared.signal.subscription.SubscriptionSignal.{SubscriptionSignal}
+use Rattle.sig_core.specs.declared.signal.subscription.SubscriptionSignal.TheVariants.{SubData}
 use Rattle.sig_core.specs.declared.signal.takeover.TakeoverSignal.{TakeoverSignal}
 use Rattle.sig_core.specs.declared.signal.takeover.TakeoverSignal.TheVariants.{LqhTransConf}
+use Rattle.sig_core.specs.declared.signal.unique.UniqueSignal.{UniqueSignal}
+use Rattle.sig_core.specs.declared.signal.unique.UniqueSignal.TheVariants.{TcUniqueReq, TcUniqueConf}
 use Rattle.sig_core.specs.declared.view.Shape.{Shape}
 use Rattle.sig_core.specs.declared.view.View.{View}
 
@@ -123,16 +129,27 @@ is_epoch_sound shape (CopyGciReq epoch mask) = is_mask shape mask
 is_epoch_sound shape _ = true
 
 abbrev pub is_joining_sound : Shape → JoiningSignal → Bool
-is_joining_sound shape (StartReq member) = is_member shape member
+is_joining_sound shape (StartReq member own) = is_member shape member
 is_joining_sound shape (StartRep member) = is_member shape member
 is_joining_sound shape (StartEnd member) = is_member shape member
 is_joining_sound shape (StartGone member) = is_member shape member
-is_joining_sound shape (CopyOrd member) = is_member shape member
+is_joining_sound shape (CopyOrd member own) = is_member shape member
 is_joining_sound shape (PromoteReq member) = is_member shape member
-is_joining_sound shape (CopyFragReq member fragment) = is_member shape member && nat_lt fragment shape.fragments
-is_joining_sound shape (LqhScanReq fragment at) = nat_lt fragment shape.fragments
 is_joining_sound shape (DrainWait tx) = is_tx shape tx
 is_joining_sound shape _ = true
+
+abbrev pub is_copying_sound : Shape → CopyingSignal → Bool
+is_copying_sound shape (CopyFragReq member fragment own) = is_member shape member && nat_lt fragment shape.fragments
+is_copying_sound shape (LqhScanReq fragment at) = nat_lt fragment shape.fragments
+is_copying_sound shape _ = true
+
+abbrev pub is_subscription_sound : Shape → SubscriptionSignal → Bool
+is_subscription_sound shape (SubData epoch fragment at changes last) = nat_lt fragment shape.fragments
+is_subscription_sound shape _ = true
+
+abbrev pub is_unique_sound : Shape → UniqueSignal → Bool
+is_unique_sound shape (TcUniqueReq tx op) = is_tx shape tx
+is_unique_sound shape (TcUniqueConf tx answer) = is_tx shape tx
 
 abbrev pub is_body_sound : Shape → Body → Bool
 is_body_sound shape (Host signal) = is_host_sound shape signal
@@ -142,8 +159,12 @@ is_body_sound shape (Membership signal) = is_membership_sound shape signal
 is_body_sound shape (Takeover signal) = is_takeover_sound shape signal
 is_body_sound shape (Epoch signal) = is_epoch_sound shape signal
 is_body_sound shape (Joining signal) = is_joining_sound shape signal
+is_body_sound shape (Copying signal) = is_copying_sound shape signal
+is_body_sound shape (Subscription signal) = is_subscription_sound shape signal
+is_body_sound shape (Unique signal) = is_unique_sound shape signal
 is_body_sound shape (Checkpoint signal) = true
 is_body_sound shape (File signal) = true
+is_body_sound shape (Backup signal) = true
 
 -- a member of the cluster, or the shell's host
 abbrev pub is_sender : Shape → Member → Bool

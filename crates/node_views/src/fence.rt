@@ -1,13 +1,13 @@
 //! Which signals a fence stops.
 ghost use Rattle.std.specs.Prelude.{◌≡◌};
-ghost use Rattle.node_views.specs.Fence.{is_copying_fenced, is_epoch_fenced, is_fenced};
+ghost use Rattle.node_views.specs.Fence.{is_epoch_fenced, is_fenced, is_joining_fenced};
 
 use sig_core::{Body, CheckpointSignal, EpochSignal, JoiningSignal, Signal};
 
 /// Whether signals of this kind are dropped where they come from a view below the fence of the block
-/// that they are for. Those about the rows of transactions, about takeovers, closings of epochs and
-/// copying are. Those of clients and of the membership pass, and so does what a coordinator asks the
-/// epochs of its own node for, and what the shell waits for.
+/// that they are for. Those about the rows of transactions, about takeovers, closings of epochs,
+/// copying and backups are. Those of clients and of the membership pass, and so does what a coordinator
+/// asks the epochs of its own node for, what the shell waits for, and what subscribers are told.
 #[tactic(auto, unfolding(crate::specs::Fence::is_fenced))]
 pub fn is_fenced(signal: &Signal) -> bool
     ensures { result ≡ is_fenced signal.now }
@@ -17,7 +17,8 @@ pub fn is_fenced(signal: &Signal) -> bool
         Body::Epoch(body) => is_epoch_fenced(signal.member.node, signal.to.node, body),
         Body::Checkpoint(CheckpointSignal::LcpReq | CheckpointSignal::LcpRep { epoch: _ }) => false,
         Body::Checkpoint(_) => true,
-        Body::Joining(body) => is_copying_fenced(body),
+        Body::Joining(body) => is_joining_fenced(body),
+        Body::Copying(_) | Body::Backup(_) => true,
         _ => false,
     }
 }
@@ -33,18 +34,18 @@ fn is_epoch_fenced(from: u8, to: u8, signal: &EpochSignal) -> bool
         | EpochSignal::DiVerifyEnd { tx: _ }
         | EpochSignal::MicroReq
         | EpochSignal::MicroRep { epoch: _ } => false,
-        EpochSignal::GcpReq => from != 0,
+        EpochSignal::GcpReq { by: _ } => from != 0,
         EpochSignal::GcpRep { epoch: _ } => to != 0,
         _ => true,
     }
 }
 
-// Of starts and copying: what the shell asks for, and what it is answered, pass.
-fn is_copying_fenced(signal: &JoiningSignal) -> bool
-    ensures { result ≡ is_copying_fenced signal.now }
+// Of starts: what the shell asks for, and what it is answered, pass.
+fn is_joining_fenced(signal: &JoiningSignal) -> bool
+    ensures { result ≡ is_joining_fenced signal.now }
 {
     match signal {
-        JoiningSignal::StartReq { member: _ }
+        JoiningSignal::StartReq { member: _, own: _ }
         | JoiningSignal::StartRep { member: _ }
         | JoiningSignal::StartEnd { member: _ }
         | JoiningSignal::StartGone { member: _ } => false,

@@ -1,11 +1,12 @@
 //! Which signals are well formed in a cluster of a shape.
 ghost use Rattle.std.specs.List.{list_all};
 ghost use Rattle.std.specs.Prelude.{◌≡◌};
-ghost use Rattle.node_views.specs.WellFormed.{are_nodes, is_chain, is_client_sound, is_epoch_sound, is_chain_sound, is_host_sound, is_joining_sound, is_mask, is_member, is_membership_sound, is_node, is_number, is_sender, is_takeover_sound, is_tx, is_ahead, is_view, is_body_sound, is_well_formed};
+ghost use Rattle.node_views.specs.WellFormed.{are_nodes, is_chain, is_client_sound, is_copying_sound, is_epoch_sound, is_chain_sound, is_host_sound, is_joining_sound, is_mask, is_member, is_membership_sound, is_node, is_number, is_sender, is_subscription_sound, is_takeover_sound, is_unique_sound, is_tx, is_ahead, is_view, is_body_sound, is_well_formed};
 
 use sig_core::{
-    Body, Chain, ChainSignal, ClientSignal, EpochSignal, HostSignal, JoiningSignal, Member,
-    MembershipSignal, Shape, Signal, TakeoverSignal, TxId, View, Work,
+    Body, Chain, ChainSignal, ClientSignal, CopyingSignal, EpochSignal, HostSignal, JoiningSignal,
+    Member, MembershipSignal, Shape, Signal, SubscriptionSignal, TakeoverSignal, TxId, UniqueSignal,
+    View, Work,
 };
 
 // A node of the cluster.
@@ -220,18 +221,53 @@ fn is_joining_sound(shape: &Shape, signal: &JoiningSignal) -> bool
     ensures { result ≡ is_joining_sound shape.now signal.now }
 {
     match signal {
-        JoiningSignal::StartReq { member }
+        JoiningSignal::StartReq { member, own: _ }
         | JoiningSignal::StartRep { member }
         | JoiningSignal::StartEnd { member }
         | JoiningSignal::StartGone { member }
-        | JoiningSignal::CopyOrd { member }
+        | JoiningSignal::CopyOrd { member, own: _ }
         | JoiningSignal::PromoteReq { member } => is_member(shape, member),
-        JoiningSignal::CopyFragReq { member, fragment } => {
-            is_member(shape, member) && *fragment < shape.fragments
-        }
-        JoiningSignal::LqhScanReq { fragment, at: _ } => *fragment < shape.fragments,
         JoiningSignal::DrainWait { tx } => is_tx(shape, *tx),
         _ => true,
+    }
+}
+
+fn is_copying_sound(shape: &Shape, signal: &CopyingSignal) -> bool
+    ensures { result ≡ is_copying_sound shape.now signal.now }
+{
+    match signal {
+        CopyingSignal::CopyFragReq {
+            member,
+            fragment,
+            own: _,
+        } => is_member(shape, member) && *fragment < shape.fragments,
+        CopyingSignal::LqhScanReq { fragment, at: _ } => *fragment < shape.fragments,
+        _ => true,
+    }
+}
+
+fn is_subscription_sound(shape: &Shape, signal: &SubscriptionSignal) -> bool
+    ensures { result ≡ is_subscription_sound shape.now signal.now }
+{
+    match signal {
+        SubscriptionSignal::SubData {
+            epoch: _,
+            fragment,
+            at: _,
+            changes: _,
+            last: _,
+        } => *fragment < shape.fragments,
+        _ => true,
+    }
+}
+
+fn is_unique_sound(shape: &Shape, signal: &UniqueSignal) -> bool
+    ensures { result ≡ is_unique_sound shape.now signal.now }
+{
+    match signal {
+        UniqueSignal::TcUniqueReq { tx, op: _ } | UniqueSignal::TcUniqueConf { tx, answer: _ } => {
+            is_tx(shape, *tx)
+        }
     }
 }
 
@@ -246,7 +282,10 @@ fn is_body_sound(shape: &Shape, body: &Body) -> bool
         Body::Takeover(signal) => is_takeover_sound(shape, signal),
         Body::Epoch(signal) => is_epoch_sound(shape, signal),
         Body::Joining(signal) => is_joining_sound(shape, signal),
-        Body::Checkpoint(_) | Body::File(_) => true,
+        Body::Copying(signal) => is_copying_sound(shape, signal),
+        Body::Subscription(signal) => is_subscription_sound(shape, signal),
+        Body::Unique(signal) => is_unique_sound(shape, signal),
+        Body::Checkpoint(_) | Body::File(_) | Body::Backup(_) => true,
     }
 }
 

@@ -34,7 +34,7 @@ is_peaceful_request request = is_calm_request request || is_closing_request requ
 abbrev pub is_order : BlockId → EpochSignal → Bool
 is_order Api (epoch.GcpRep closed) = true
 is_order Api (epoch.MicroRep closed) = true
-is_order GcpMaster epoch.GcpReq = true
+is_order GcpMaster (epoch.GcpReq by) = true
 is_order GcpMaster epoch.MicroReq = true
 is_order GcpMaster (epoch.GcpPrepareConf closed) = true
 is_order GcpMaster (epoch.GcpNodeFinish closed) = true

@@ -24,7 +24,7 @@ use Rattle.peace_laws.specs.Peace.{asks_closing, is_closing, is_for_closing}
 
 -- the body asks a master for a closing
 abbrev pub asks_master : Body → Bool
-asks_master (Epoch GcpReq) = true
+asks_master (Epoch (GcpReq by)) = true
 asks_master (Epoch MicroReq) = true
 asks_master body = false
 

@@ -387,7 +387,7 @@ membership_new s host member _ = tt
 
 joining_new : (k : Known) (signal : JoiningSignal)
     → AreNew k (joining_table k signal).state (joining_table k signal).effects.sends
-joining_new k (StartReq member) = start_new k member
+joining_new k (StartReq member own) = start_new k member
 joining_new k (PromoteReq member) = promote_new k member
 joining_new k (StartGone member) = close_new k member
 joining_new k _ = tt

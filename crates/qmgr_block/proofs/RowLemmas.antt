@@ -366,7 +366,7 @@ membership_kept s host member (StopSet cause) = stop_kept s.known cause
 membership_kept s host member _ = kept_self s.known
 
 pub joining_kept : (k : Known) (signal : JoiningSignal) → Kept k (joining_table k signal).state
-joining_kept k (StartReq member) = start_kept k member
+joining_kept k (StartReq member own) = start_kept k member
 joining_kept k (PromoteReq member) = promote_kept k member
 joining_kept k (StartGone member) = close_kept k member
 joining_kept k _ = kept_self k

@@ -3,8 +3,6 @@ use Rattle.std.specs.Prelude.{ℕ, ◌==◌, ◌&&◌, ◌||◌, Bool, true, fal
 use Rattle.frag_map.specs.Layout.{in_view}
 use Rattle.sig_core.specs.declared.member.Member.{Member}
 use Rattle.sig_core.specs.declared.outs.Outgoing.{Outgoing}
-use Rattle.sig_core.specs.declared.place.BlockId.TheVariants.{Copy}
-use Rattle.sig_core.specs.declared.place.Place.{Place}
 use Rattle.sig_core.specs.declared.signal.Body.TheVariants.{Client, Epoch, Host, Joining, Membership, Takeover}
 use Rattle.sig_core.specs.declared.signal.client.ClientSignal.TheVariants.{ViewRep}
 use Rattle.sig_core.specs.declared.signal.epoch.EpochSignal.TheVariants.{GcpOrd}
@@ -14,7 +12,7 @@ use Rattle.sig_core.specs.declared.signal.joining.JoiningSignal.TheVariants.{Cop
 use Rattle.sig_core.specs.declared.signal.membership.MembershipSignal.TheVariants.{CommitFailReq}
 use Rattle.sig_core.specs.declared.signal.takeover.TakeoverSignal.TheVariants.{TakeoverOrd}
 use Rattle.sig_core.specs.declared.view.View.{View}
-use Rattle.sig_core.specs.Place.{checkpoints, client, membership, takeover}
+use Rattle.sig_core.specs.Place.{checkpoints, client, copying, membership, takeover}
 use Rattle.sig_core.specs.Portion.{portion_effects}
 use Rattle.sig_core.specs.Step.{Effects, Step, nothing, sends_only, stay, to_place}
 use Rattle.qmgr_block.specs.declared.known.Known.{Known}
@@ -83,11 +81,8 @@ installed_row k view =
 abbrev pub commit_of : Member → Outgoing
 commit_of member = to_place (membership member.node) (Membership CommitFailReq)
 
-abbrev pub copying : ℕ → Place
-copying node = record { node = node; block = Copy }
-
 abbrev pub copy_of : ℕ → Member → Outgoing
-copy_of node member = to_place (copying node) (Joining (CopyOrd member))
+copy_of node member = to_place (copying node) (Joining (CopyOrd member None))
 
 -- to the blocks of the node that go on with the view, and to the client
 abbrev pub own_orders : ℕ → List Outgoing

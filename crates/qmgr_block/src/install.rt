@@ -2,13 +2,13 @@
 ghost use Rattle.std.specs.Prelude.{◌≡◌, ◌+◌, ◌≤◌, ◌<◌, ◌^◌, length, map};
 ghost use Rattle.sig_core.specs.Portion.{all_offered, offered, so_far};
 ghost use Rattle.sig_core.specs.Step.{HasRoom, IsTaken, joined};
-ghost use Rattle.qmgr_block.specs.Install.{commit_of, copy_of, copying, installed_row, installing, is_oldest, is_of_view, is_some_suspect, left_of, left_open, order_effects, order_row, orders, own_orders, work_if};
+ghost use Rattle.qmgr_block.specs.Install.{commit_of, copy_of, installed_row, installing, is_oldest, is_of_view, is_some_suspect, left_of, left_open, order_effects, order_row, orders, own_orders, work_if};
 
 use crate::known::{Known, Proposal};
 use crate::sets::{is_in, is_same, members_of, within};
 use sig_core::{
-    BlockId, Body, CLIENT, ClientSignal, EpochSignal, HostSignal, JoiningSignal, Member, Members,
-    MembershipSignal, Outs, PORTION, Place, Portion, TakeoverSignal, View, Work, checkpoints,
+    Body, CLIENT, ClientSignal, EpochSignal, HostSignal, JoiningSignal, Member, Members,
+    MembershipSignal, Outs, PORTION, Portion, TakeoverSignal, View, Work, checkpoints, copying,
     membership, takeover,
 };
 
@@ -182,16 +182,6 @@ fn offer_copy(node: u8, member: Member, portion: &mut Portion, out: &mut Outs)
     ensures offered { so_far portion.new out.new ≡ offered (so_far portion.old out.old) (copy_of node member) }
     ensures fits { length out.new.sends + portion.new.room ≤ 15 }
 {
-    let body = Body::Joining(JoiningSignal::CopyOrd { member });
+    let body = Body::Joining(JoiningSignal::CopyOrd { member, own: None });
     portion.offer(copying(node), body, out);
-}
-
-// The copying of a node.
-fn copying(node: u8) -> Place
-    ensures { result ≡ copying node }
-{
-    Place {
-        node,
-        block: BlockId::Copy,
-    }
 }

@@ -319,7 +319,7 @@ impl Qmgr {
         ensures err { OnErr result (IsUntouched self.old self.new out.old out.new) }
     {
         match signal {
-            JoiningSignal::StartReq { member } => {
+            JoiningSignal::StartReq { member, own: _ } => {
                 let mut next = self.known;
                 let sends = next.start(alloc, member)?;
                 self.settle(&next, sends, out);

@@ -19,7 +19,7 @@ pub record IsSet (set : View) : Type 0 where
 -- a member is asked to promise such a set, of which it is, and who asks to join is of such a node
 abbrev pub IsSound : Member → Body → Type 0
 IsSound me (Membership (PrepFailReq set)) = IsSet set × IsIn me (all_of set)
-IsSound me (Joining (StartReq member)) = (1 ≤ member.node) × (member.node ≤ 8)
+IsSound me (Joining (StartReq member own)) = (1 ≤ member.node) × (member.node ≤ 8)
 IsSound me _ = Unit {0}
 
 -- what is installed is such a set

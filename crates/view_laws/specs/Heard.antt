@@ -103,7 +103,7 @@ IsRightlySent me layout events sent (Membership (PrepFailConf number)) =
     (sent.to ≡ membership sent.to.node) × IsAnswerTo me layout events sent.to.node number
 IsRightlySent me layout events sent (Membership (PrepFailReq set)) =
     (sent.to ≡ membership sent.to.node) × IsRequestOf (proposed_of me layout events) sent.to.node set
-IsRightlySent me layout events sent (Joining (StartReq member)) = ⊥
+IsRightlySent me layout events sent (Joining (StartReq member own)) = ⊥
 IsRightlySent me layout events sent (Joining (PromoteReq member)) = ⊥
 IsRightlySent me layout events sent body = Unit {0}
 

@@ -29,7 +29,7 @@ is_vote (Membership (PrepFailReq set)) = true
 is_vote (Membership (PrepFailConf number)) = true
 is_vote (Membership (ArbitReq number members joining)) = true
 is_vote (Membership (ArbitConf number)) = true
-is_vote (Joining (StartReq member)) = true
+is_vote (Joining (StartReq member own)) = true
 is_vote (Joining (PromoteReq member)) = true
 is_vote body = false
 

@@ -3,8 +3,8 @@ use sig_core::{
     Body, ChainSignal, ClientSignal, EpochSignal, HostSignal, MembershipSignal, TakeoverSignal,
 };
 
-/// The name of what a signal says. Checkpoints of rows, files and joining, which no host of a run
-/// has, have one name each.
+/// The name of what a signal says. Families that no host of a run has, as checkpoints of rows, files and
+/// joining, have one name each.
 pub fn kind_of(body: &Body) -> &'static str {
     match body {
         Body::Host(signal) => host_kind(signal),
@@ -16,6 +16,10 @@ pub fn kind_of(body: &Body) -> &'static str {
         Body::Checkpoint(_) => "Checkpoint",
         Body::File(_) => "File",
         Body::Joining(_) => "Joining",
+        Body::Copying(_) => "Copying",
+        Body::Subscription(_) => "Subscription",
+        Body::Backup(_) => "Backup",
+        Body::Unique(_) => "Unique",
     }
 }
 
@@ -100,7 +104,7 @@ fn epoch_kind(signal: &EpochSignal) -> &'static str {
         EpochSignal::DiVerifyReq { .. } => "DiVerifyReq",
         EpochSignal::DiVerifyConf { .. } => "DiVerifyConf",
         EpochSignal::DiVerifyEnd { .. } => "DiVerifyEnd",
-        EpochSignal::GcpReq => "GcpReq",
+        EpochSignal::GcpReq { .. } => "GcpReq",
         EpochSignal::GcpRep { .. } => "GcpRep",
         EpochSignal::MicroReq => "MicroReq",
         EpochSignal::MicroRep { .. } => "MicroRep",

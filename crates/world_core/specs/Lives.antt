@@ -11,4 +11,4 @@ logs_of life = logs_at life.logs
 
 -- the first life of a fresh world, with these logs
 abbrev pub fresh_life : List HostLog → Life
-fresh_life logs = record { start_epoch = 0; start_rows = []; logs = logs }
+fresh_life logs = record { start_epoch = 0; start_rows = []; logs = logs; slots = [] }

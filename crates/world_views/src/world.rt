@@ -210,6 +210,7 @@ impl World {
             start_epoch: 0,
             start_rows: Seq::new(alloc),
             logs: self.logs.into_seq(),
+            slots: Seq::new(alloc),
         }
     }
 

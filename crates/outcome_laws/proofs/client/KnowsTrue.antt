@@ -39,7 +39,7 @@ module _ (D : TxId → ℕ → Type 0) (B : TxId → Type 0) where
 
   plain_tells : (body : Body) → is_plain body ≡ true → Tells D B body
   plain_tells (Host told) is = tt
-  plain_tells (Epoch GcpReq) is = tt
+  plain_tells (Epoch (GcpReq by)) is = tt
   plain_tells (Epoch MicroReq) is = tt
   plain_tells (Client (TcBeginReq name)) is = tt
   plain_tells (Client (TcKeyReq tx op)) is = tt

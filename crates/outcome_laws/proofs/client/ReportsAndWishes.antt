@@ -86,7 +86,7 @@ module _ {A : Type 0} (q : A → Bool) where
 -- what is plain asks for no commit
 plain_wish : (tx : TxId) (body : Body) → is_plain body ≡ true → is_wish tx body ≡ false
 plain_wish tx (Host told) is = refl
-plain_wish tx (Epoch GcpReq) is = refl
+plain_wish tx (Epoch (GcpReq by)) is = refl
 plain_wish tx (Epoch MicroReq) is = refl
 plain_wish tx (Client (TcBeginReq name)) is = refl
 plain_wish tx (Client (TcKeyReq other op)) is = refl

@@ -261,7 +261,7 @@ module _ (s : MasterState) (voice : Voice) (near : IsMasterNear s) where
   by_signal : (signal : EpochSignal) → is_order block.GcpMaster signal ≡ true
       → (asks_master (Epoch signal) ≡ true → voice.member.node ≡ 0) → MasterSteps (epoch_table s voice signal)
   unfolding prepare_row finish_row note_row save_row copy_row
-  by_signal epoch.GcpReq is client =
+  by_signal (epoch.GcpReq by) is client =
       asks s (global_asked s.asked voice.member.node) near
       (global_copy s.asked voice.member.node (client refl) near.asked)
   by_signal epoch.MicroReq is client = asks s (micro_asked s.asked) near near.asked

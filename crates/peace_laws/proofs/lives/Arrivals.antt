@@ -109,9 +109,9 @@ own_parts false b e = absurd cc
 
 -- a closing is asked for at a master alone
 asks_at : (of : BlockId) (body : Body) → is_for_closing of body ≡ true → asks_master body ≡ true → is_master of ≡ true
-asks_at block.GcpMaster (Epoch epoch.GcpReq) closing asks = refl
+asks_at block.GcpMaster (Epoch (epoch.GcpReq by)) closing asks = refl
 asks_at block.GcpMaster (Epoch epoch.MicroReq) closing asks = refl
-asks_at of (Epoch epoch.GcpReq) closing asks = absurd cc
+asks_at of (Epoch (epoch.GcpReq by)) closing asks = absurd cc
 asks_at of (Epoch epoch.MicroReq) closing asks = absurd cc
 asks_at of body closing asks = absurd cc
 

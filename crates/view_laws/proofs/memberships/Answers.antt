@@ -53,7 +53,7 @@ module _ (me : Member) (layout : Layout) (events : List Event) (x : Signal) wher
       → IsRightlySent me layout (takes x ∷ events) sent body
   plain_body sent (Membership (PrepFailConf number)) e = absurd (true≢false e)
   plain_body sent (Membership (PrepFailReq set)) e = absurd (true≢false e)
-  plain_body sent (Joining (StartReq member)) e = absurd (true≢false e)
+  plain_body sent (Joining (StartReq member own)) e = absurd (true≢false e)
   plain_body sent (Joining (PromoteReq member)) e = absurd (true≢false e)
   plain_body sent body e = tt
 

@@ -230,7 +230,7 @@ module _ (start : Start) (old new : ℕ → List HostStep) (more : (h : ℕ) →
   says_more me x (Membership (PrepFailConf number)) heard = heard_more me x.member number heard
   says_more me x (Membership (ArbitConf number)) granted = granted_to_more me number granted
   says_more me x (Membership other) says = tt
-  says_more me x (Joining (StartReq member)) says = says
+  says_more me x (Joining (StartReq member own)) says = says
   says_more me x (Joining other) says = tt
   says_more me x body says = tt
 

@@ -147,7 +147,7 @@ module _ (start : Start) (logs : ℕ → List HostStep) (is_shape : IsShape star
   sound_body : (me : Member) (x : Signal) (body : Body) → Says start logs me x body → IsSound me body
   sound_body me x (Membership (PrepFailReq set)) says = (says.0, says.1)
   sound_body me x (Membership other) says = tt
-  sound_body me x (Joining (StartReq member)) says = absurd says
+  sound_body me x (Joining (StartReq member own)) says = absurd says
   sound_body me x (Joining other) says = tt
   sound_body me x body says = tt
 
@@ -170,7 +170,7 @@ module _ (start : Start) (logs : ℕ → List HostStep) (is_shape : IsShape star
   }
 
   no_start : (me : Member) (x : Signal) (body : Body) → Says start logs me x body → IsNoStart body
-  no_start me x (Joining (StartReq member)) says = says
+  no_start me x (Joining (StartReq member own)) says = says
   no_start me x (Joining other) says = tt
   no_start me x body says = tt
 

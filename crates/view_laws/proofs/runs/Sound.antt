@@ -76,7 +76,7 @@ module _ (start : Start) (logs : ℕ → List HostStep) where
   Says me x (Membership (PrepFailReq set)) = IsSet set × IsIn me (all_of set) × IsProposedBy x.member set
   Says me x (Membership (PrepFailConf number)) = IsHeard me x.member number
   Says me x (Membership (ArbitConf number)) = IsGrantedTo me number
-  Says me x (Joining (StartReq member)) = ⊥
+  Says me x (Joining (StartReq member own)) = ⊥
   Says me x body = Unit {0}
 
   -- and to the arbitrator

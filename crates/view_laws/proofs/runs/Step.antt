@@ -47,7 +47,7 @@ module _ (start : Start) where
   plain_says logs me x (Membership (PrepFailConf number)) e = absurd (true≢false e)
   plain_says logs me x (Membership (ArbitConf number)) e = absurd (true≢false e)
   plain_says logs me x (Membership other) e = tt
-  plain_says logs me x (Joining (StartReq member)) e = true≢false e
+  plain_says logs me x (Joining (StartReq member own)) e = true≢false e
   plain_says logs me x (Joining other) e = tt
   plain_says logs me x body e = tt
 

@@ -253,7 +253,7 @@ module _ (start : Start) (logs : ℕ → List HostStep) (is_shape : IsShape star
               answer_says me made_me sent.to.node number (node_is me made_me at right.0) right.1
           body_says me made_me at (Membership (ArbitConf number)) right plain = absurd plain
           body_says me made_me at (Membership other) right plain = tt
-          body_says me made_me at (Joining (StartReq member)) right plain = right
+          body_says me made_me at (Joining (StartReq member own)) right plain = right
           body_says me made_me at (Joining other) right plain = tt
           body_says me made_me at body right plain = tt
 
