@@ -5,7 +5,7 @@ ghost use Rattle.sig_core.specs.Same.{same_key};
 ghost use Rattle.frag_store.specs.HeldPlaces.{HasPlace, records_on};
 
 use crate::places::Places;
-use sig_core::{Key, NoMemory, Slot, Value};
+use sig_core::{HashedKey, Key, NoMemory, Slot, Value};
 use std::alloc::Global;
 use std::marker::Model;
 
@@ -71,6 +71,14 @@ impl HeldPlaces {
         ensures { result ≡ place_of self.now.places.slots key.now }
     {
         self.places.place_of(key)
+    }
+
+    /// Notes a key that comes with its number, so that it is found without a digest until another one is
+    /// asked for.
+    pub fn note(&mut self, key: &HashedKey)
+        ensures same { self.new ≡ self.old }
+    {
+        self.places.note(key);
     }
 
     /// Makes the memory for the key's place.

@@ -5,8 +5,8 @@ ghost use Rattle.linear_hash.specs.Places.{no_places};
 ghost use Rattle.sig_core.specs.Same.{same_key};
 
 use crate::lead::Lead;
-use linear_hash::{HashedKey, Index};
-use sig_core::{Key, NoMemory};
+use linear_hash::Index;
+use sig_core::{HashedKey, Key, NoMemory};
 use std::alloc::Global;
 use std::marker::Model;
 
@@ -73,6 +73,15 @@ impl KeyIndex {
                 Lead { key: hashed, at }
             }
         }
+    }
+
+    /// Notes a key that comes with its number as the last that was asked for.
+    #[tactic(auto, using(crate::proofs::LeadLemmas::leads))]
+    pub fn note(&mut self, key: &HashedKey)
+        ensures same { self.new ≡ self.old }
+    {
+        let at = self.index.find(key);
+        self.last = Some(Lead { key: *key, at });
     }
 
     /// Where the key is led, which is then the last that was asked for.

@@ -1,5 +1,5 @@
 //! Where a key is led.
-use linear_hash::HashedKey;
+use sig_core::HashedKey;
 
 /// A key, and the place that an index has of it, if it has one.
 #[derive(Clone, Copy)]

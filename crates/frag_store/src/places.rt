@@ -5,7 +5,7 @@ ghost use Rattle.tuple_pages.specs.Free.{first_free};
 ghost use Rattle.frag_store.specs.Places.{IsAhead, IsReady};
 
 use crate::key_index::KeyIndex;
-use sig_core::{Key, NoMemory, Slot, Value};
+use sig_core::{HashedKey, Key, NoMemory, Slot, Value};
 use std::alloc::Global;
 use std::marker::Model;
 use tuple_pages::Pages;
@@ -93,6 +93,14 @@ impl Places {
             Some(slot) => slot.key == *key,
             None => false,
         }
+    }
+
+    /// Notes a key that comes with its number, so that it is found without a digest until another one is
+    /// asked for.
+    pub fn note(&mut self, key: &HashedKey)
+        ensures same { self.new ≡ self.old }
+    {
+        self.index.note(key);
     }
 
     /// Makes the memory for the key's place.

@@ -8,7 +8,7 @@ ghost use Rattle.row_records.specs.Records.{record_by};
 use crate::held_places::HeldPlaces;
 use row_records::{Records, Version};
 use sig_core::{
-    Answer, Key, NoMemory, Op, PLACES, PendingRecord, Rows, RowsFault, Slot, TxId, Value,
+    Answer, HashedKey, Key, NoMemory, Op, PLACES, PendingRecord, Rows, RowsFault, Slot, TxId, Value,
 };
 use std::alloc::Global;
 use std::marker::Model;
@@ -79,8 +79,9 @@ impl Rows for Store {
 
     ghost has_room = { HasRoom };
 
-    fn make_room(&mut self, key: &Key) -> Result<(), NoMemory> {
-        reserve(&mut self.places, &mut self.records, key)
+    fn make_room(&mut self, key: &HashedKey) -> Result<(), NoMemory> {
+        self.places.note(key);
+        reserve(&mut self.places, &mut self.records, &key.key)
     }
 
     #[tactic(auto, unfolding(sig_core::specs::Rows::seen))]

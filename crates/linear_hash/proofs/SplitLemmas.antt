@@ -9,7 +9,8 @@ use Rattle.std.proofs.lemmas.List.{get_or-set_same, get_or-set_other, get_or_app
 use Rattle.sig_core.specs.Same.{same_key}
 use Rattle.linear_hash.specs.declared.entry.Entry.{Entry}
 use Rattle.linear_hash.specs.declared.growth.Growth.{Growth}
-use Rattle.linear_hash.specs.Growth.{IsGrowth, first_growth, grown, hash_of, home}
+use Rattle.sig_core.specs.Digest.{hash_of}
+use Rattle.linear_hash.specs.Growth.{IsGrowth, first_growth, grown, home}
 use Rattle.linear_hash.specs.Entries.{part_of, place_in, without}
 use Rattle.linear_hash.specs.Places.{PlaceMap, Places, buckets_for, inserted, is_crowded, no_places, places_of, removed}
 use Rattle.linear_hash.proofs.FoundLemmas.{key_cmp, place-added, place-part, place-without, same_key-is, tie-same}

@@ -1,12 +1,7 @@
 -- How many buckets there are, and which one a key is in.
-use Rattle.std.specs.Prelude.{◌≤◌, ◌<◌, ℕ, ◌+◌, ◌*◌, ◌%◌, ◌^◌, nat_lt, if◌then◌else◌, List, [], ◌∷◌, take, drop}
-use Rattle.md5.specs.Md5.{md5}
-use Rattle.sig_core.specs.Digest.{number_from}
+use Rattle.std.specs.Prelude.{◌≤◌, ◌<◌, ℕ, ◌+◌, ◌*◌, ◌%◌, ◌^◌, nat_lt, if◌then◌else◌, List}
+use Rattle.sig_core.specs.Digest.{hash_of}
 use Rattle.linear_hash.specs.declared.growth.Growth.{Growth}
-
--- the number of a key: bytes 4 to 7 of its digest, counted from 0
-unfoldable pub hash_of : List ℕ → ℕ
-hash_of key = number_from 0 (take 4 (drop 4 (md5 key)))
 
 -- the bucket of a number: among the buckets of the next level where that of its own level was split
 abbrev pub home_of : Growth → ℕ → ℕ

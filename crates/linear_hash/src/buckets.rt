@@ -7,9 +7,8 @@ ghost use Rattle.linear_hash.specs.Places.{no_places, removed};
 
 use crate::bucket::Bucket;
 use crate::entry::Entry;
-use crate::growth::{Growth, grown};
-use crate::hashed_key::HashedKey;
-use sig_core::{Key, NoMemory};
+use crate::growth::{Growth, grown, home};
+use sig_core::{HashedKey, Key, NoMemory};
 use std::alloc::Global;
 use std::marker::Model;
 
@@ -65,7 +64,7 @@ impl Buckets {
     pub fn find(&self, key: &HashedKey) -> Option<u64>
         ensures { result ≡ map.get self.now.at key.now.key }
     {
-        let home = key.home(self.growth);
+        let home = home(self.growth, key);
         place_at(&self.buckets, home, &key.key)
     }
 
@@ -79,7 +78,7 @@ impl Buckets {
         ensures ok { OnOk result (self.new ≡ record { at = map.insert self.old.at key.now.key at; buckets = self.old.buckets }) }
         ensures err { OnErr result (self.new ≡ self.old) }
     {
-        let home = key.home(self.growth);
+        let home = home(self.growth, key);
         let entry = Entry::new(key, at);
         add_at(&mut self.buckets, home, entry)?;
         Ok(())
@@ -92,7 +91,7 @@ impl Buckets {
         ensures place { result ≡ map.get self.old.at key.now.key }
         ensures rest { self.new ≡ removed self.old key.now.key }
     {
-        let home = key.home(self.growth);
+        let home = home(self.growth, key);
         let place = place_at(&self.buckets, home, &key.key);
         leave_at(&mut self.buckets, home, &key.key);
         place

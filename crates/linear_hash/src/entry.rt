@@ -1,10 +1,10 @@
 //! An entry of a bucket.
 ghost use Rattle.std.specs.Prelude.{◌≡◌, ◌==◌};
-ghost use Rattle.linear_hash.specs.Growth.{IsGrowth, hash_of, home};
+ghost use Rattle.sig_core.specs.Digest.{hash_of};
+ghost use Rattle.linear_hash.specs.Growth.{IsGrowth, home};
 
 use crate::growth::{Growth, home_of};
-use crate::hashed_key::HashedKey;
-use sig_core::Key;
+use sig_core::{HashedKey, Key};
 
 /// A key, the place that it leads to, and its number, so that no digest is taken where a bucket is split.
 #[derive(Clone, Copy)]

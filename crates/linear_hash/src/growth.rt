@@ -1,9 +1,8 @@
 //! How many buckets there are, and which one a key is in.
 ghost use Rattle.std.specs.Prelude.{◌≡◌, ◌<◌, ◌+◌, MatchOption};
-ghost use Rattle.linear_hash.specs.Growth.{IsGrowth, grown, hash_of, home_of};
+ghost use Rattle.linear_hash.specs.Growth.{IsGrowth, grown, home, home_of};
 
-use md5::{Digest, Md5};
-use sig_core::Key;
+use sig_core::HashedKey;
 
 /// The most buckets of a level: more than any memory holds.
 pub const LEVEL_BUCKETS: usize = 1 << 60;
@@ -14,16 +13,6 @@ pub const LEVEL_BUCKETS: usize = 1 << 60;
 pub struct Growth {
     pub size: usize,
     pub split: usize,
-}
-
-/// The number by which a key is put into a bucket: bytes 4 to 7 of its MD5 digest, counted from 0,
-/// the highest first. The first four bytes give the key's fragment, and so are no help within one.
-#[tactic(auto, unfolding(crate::specs::Growth::hash_of))]
-pub fn hash_of(key: &Key) -> u32
-    ensures { result ≡ hash_of key.now }
-{
-    let digest = Md5::digest(key.bytes());
-    u32::from_be_bytes([digest[4], digest[5], digest[6], digest[7]])
 }
 
 /// The bucket of a number, from 0.
@@ -40,6 +29,16 @@ pub fn home_of(growth: Growth, hash: u32) -> usize
     } else {
         low
     }
+}
+
+/// The bucket of a key, from 0.
+#[tactic(auto, unfolding(crate::specs::Growth::home))]
+pub fn home(growth: Growth, key: &HashedKey) -> usize
+    requires { IsGrowth growth }
+    ensures value { result ≡ home growth key.now.key }
+    ensures below { result < growth.size + growth.split }
+{
+    home_of(growth, key.hash)
 }
 
 /// The buckets after one more was split; none where there would be more than memory holds.

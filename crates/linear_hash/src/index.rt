@@ -4,8 +4,7 @@ ghost use Rattle.std.specs.FinMap as map;
 ghost use Rattle.linear_hash.specs.Places.{inserted, is_crowded, no_places, removed};
 
 use crate::buckets::Buckets;
-use crate::hashed_key::HashedKey;
-use sig_core::NoMemory;
+use sig_core::{HashedKey, NoMemory};
 use std::alloc::Global;
 use std::marker::Model;
 

@@ -5,10 +5,8 @@ mod bucket;
 mod buckets;
 mod entry;
 mod growth;
-mod hashed_key;
 mod index;
 
-pub use hashed_key::HashedKey;
 pub use index::Index;
 
 #[cfg(test)]

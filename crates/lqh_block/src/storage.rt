@@ -37,7 +37,7 @@ impl<R: Rows, J: Journal> Storage<R, J> {
         ensures same { storage (R.state_of self.new.rows) (J.used_of self.new.journal) ≡ storage (R.state_of self.old.rows) (J.used_of self.old.journal) }
     {
         let key = request.work.key();
-        self.rows.make_room(key)?;
+        self.rows.make_room(&request.work.hashed_key())?;
         let need = need_of(request.tx, key, &request.work.image());
         self.journal.make_room(need)?;
         Ok(())

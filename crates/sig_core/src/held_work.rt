@@ -5,6 +5,7 @@ ghost use Rattle.sig_core.specs.Digest.{digest_word};
 ghost use Rattle.sig_core.specs.Op.{image_of, key_of};
 ghost use Rattle.sig_core.specs.Work.{work_image, work_key};
 
+use crate::hashed_key::HashedKey;
 use crate::held_op::HeldOp;
 use crate::key::Key;
 use crate::no_memory::NoMemory;
@@ -96,6 +97,14 @@ impl HeldWork {
         ensures { result ≡ digest_word (work_key self.now) }
     {
         self.op.digest_word()
+    }
+
+    /// The key, with the number by which it is put into a bucket.
+    #[tactic(auto, using(crate::proofs::WorkLemmas::works))]
+    pub fn hashed_key(&self) -> HashedKey
+        ensures { result.key ≡ work_key self.now }
+    {
+        self.op.hashed_key()
     }
 
     /// The image that is stored, where the work takes effect as a write. None is a deletion.

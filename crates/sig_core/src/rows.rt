@@ -4,6 +4,7 @@ ghost use Rattle.sig_core.specs.declared.rows.RowsFault.TheVariants as fault;
 ghost use Rattle.sig_core.specs.Op.{key_of};
 ghost use Rattle.sig_core.specs.Rows.{IsRowAt, Prepares, RowsState, Stores, abort_record, commit_record, complete_record, has_row, next_place, put_row, record_state, row_epoch, row_of, seen};
 
+use crate::hashed_key::HashedKey;
 use crate::key::Key;
 use crate::member::TxId;
 use crate::no_memory::NoMemory;
@@ -56,12 +57,13 @@ pub trait Rows {
     /// There is memory to prepare a write of this key.
     ghost has_room: { Self → List ℕ → Type 0 };
 
-    /// Makes the memory to prepare a write of this key, so that the next one wants none.
+    /// Makes the memory to prepare a write of this key, so that the next one wants none. The key comes
+    /// with its number, so that it is found without a digest until another one is asked for.
     ///
     /// # Errors
     /// `NoMemory`.
-    fn make_room(&mut self, key: &Key) -> Result<(), NoMemory>
-        ensures ok { OnOk result (has_room self.new key.now) }
+    fn make_room(&mut self, key: &HashedKey) -> Result<(), NoMemory>
+        ensures ok { OnOk result (has_room self.new key.now.key) }
         ensures same { state_of self.new ≡ state_of self.old };
 
     /// The row of the key as the transaction sees it: its own image of it, else the committed row.

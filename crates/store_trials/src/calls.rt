@@ -3,7 +3,9 @@ use crate::call::{Call, Outcome, RowAt, Told};
 use crate::plain::Plain;
 use crate::random::Random;
 use frag_store::Store;
-use sig_core::{Answer, Key, NoMemory, Op, PLACES, PendingRecord, Rows, RowsFault, TxId, Value};
+use sig_core::{
+    Answer, HashedKey, Key, NoMemory, Op, PLACES, PendingRecord, Rows, RowsFault, TxId, Value,
+};
 use std::test::Fail;
 
 /// How many keys and transactions there are.
@@ -37,7 +39,7 @@ fn written(call: Result<(), RowsFault>) -> Outcome {
 
 fn make(rows: &mut Store, tx: TxId, key: &Key, call: Call, value: &Value, epoch: u64) -> Outcome {
     match call {
-        Call::Room => after(rows.make_room(key)),
+        Call::Room => after(rows.make_room(&HashedKey::new(key))),
         Call::Insert => answered(rows.prepare(tx, &Op::Ins(*key, *value))),
         Call::Update => answered(rows.prepare(tx, &Op::Upd(*key, *value))),
         Call::Delete => answered(rows.prepare(tx, &Op::Del(*key))),

@@ -1,6 +1,6 @@
 //! What stores of rows have in common.
 use frag_store::Store;
-use sig_core::{Key, NoMemory, Rows, TxId, Value};
+use sig_core::{HashedKey, Key, NoMemory, Rows, TxId, Value};
 use std::collections::{BTreeMap, HashMap};
 
 /// Values by keys.
@@ -60,7 +60,7 @@ impl RowMap for Store {
             start: 0,
             seq: 1,
         };
-        self.make_room(key)?;
+        self.make_room(&HashedKey::new(key))?;
         let _answer = self.prepare_image(tx, key, &None);
         self.commit(tx, key, 2);
         self.complete(tx, key);

@@ -1,6 +1,6 @@
 //! Calls by hand, and what the store tells after each.
 use crate::Store;
-use sig_core::{Answer, Key, Op, Rows, TxId, Value};
+use sig_core::{Answer, HashedKey, Key, Op, Rows, TxId, Value};
 use std::test::Fail;
 
 const TX: TxId = TxId {
@@ -41,7 +41,7 @@ fn make(rows: &mut Store, call: Call) -> Result<Told, Fail> {
     | Call::Complete(letter)) = call;
     let key = Key::new(&[letter])?;
     match call {
-        Call::Room(_) => rows.make_room(&key)?,
+        Call::Room(_) => rows.make_room(&HashedKey::new(&key))?,
         Call::Put(_, epoch) => rows.put_row(&key, &value, epoch)?,
         Call::Prepare(_) => {
             let _answer = rows.prepare_image(TX, &key, &Some(value));

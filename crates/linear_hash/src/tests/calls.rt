@@ -2,8 +2,8 @@
 //! alike, and the buckets are counted by the rule.
 ghost use Rattle.std.specs.Prelude.{◌<◌};
 
-use crate::{HashedKey, Index};
-use sig_core::Key;
+use crate::Index;
+use sig_core::{HashedKey, Key};
 use std::collections::BTreeMap;
 use std::test::Fail;
 

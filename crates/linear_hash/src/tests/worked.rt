@@ -1,6 +1,6 @@
 //! Buckets that were counted by hand.
-use crate::{HashedKey, Index};
-use sig_core::Key;
+use crate::Index;
+use sig_core::{HashedKey, Key};
 use std::process::Abort;
 use std::test::Fail;
 
