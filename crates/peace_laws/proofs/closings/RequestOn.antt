@@ -21,6 +21,7 @@ use Rattle.node_views.specs.declared.main_part.MainPart.{MainPart}
 use Rattle.node_views.specs.declared.parts.Parts.{Parts}
 use Rattle.node_views.specs.declared.parts.Parts.TheVariants.{Shell, Main, Tc, Ldm}
 use Rattle.run_theory.specs.Lists.{Each, IsIn}
+use Rattle.sig_core.specs.declared.place.BlockId.TheVariants.{Api}
 use Rattle.sig_core.specs.declared.member.Member.{Member}
 use Rattle.sig_core.specs.declared.outs.Outgoing.{Outgoing}
 use Rattle.sig_core.specs.declared.place.Place.{Place}
@@ -83,7 +84,7 @@ module _ (start : Start) (c : Course) (voices : List Voice) (voice : Voice) (cli
   abbrev s : MasterState
   s = resting start c.epoch voices
 
-  global_begins : next_of Gcp c.epoch ≡ Some c.next → epoch_table s voice GcpReq ≡ listing (begun_by start c) 0
+  global_begins : next_of Gcp c.epoch ≡ Some c.next → epoch_table s voice (GcpReq Api) ≡ listing (begun_by start c) 0
   unfolding asked_row begins begun
   global_begins next =
       ap (λ n. asked_row s (global_asked s.asked n)) client

@@ -1,7 +1,7 @@
 use crate::print_reply;
 use sig_core::{
-    AbortCause, Answer, ApiReply, HostId, Key, Member, Members, Outcome, Refusal, StopCause, Value,
-    View, Waiting,
+    AbortCause, Answer, ApiReply, HostId, Key, Member, Members, Outcome, Refusal, StopCause, UAnswer,
+    Value, View, Waiting,
 };
 use std::alloc::Global;
 use std::process::Abort;
@@ -301,6 +301,109 @@ fn digests_are_hexadecimal(rt: HostRuntime) -> Result<(), Fail> {
             digest: *digest,
         };
         expect(&rt, rt.alloc(), &reply, b"digest 1 ", digits)?;
+    }
+    Ok(())
+}
+
+#[test]
+fn loads_and_subscriptions_are_told(rt: HostRuntime) -> Result<(), Fail> {
+    let loaded = ApiReply::Loaded {
+        transactions: 16,
+        committed: 15,
+        aborted: 1,
+    };
+    let subscribed = ApiReply::Subscribed {
+        subscriber: 1,
+        epoch: 0,
+    };
+    let unsubscribed = ApiReply::Unsubscribed {
+        subscriber: 1,
+        epoch: 4_294_967_297,
+    };
+    let changes = ApiReply::Changes {
+        subscriber: 1,
+        epoch: 4_294_967_296,
+        changes: 2,
+    };
+    let failed = ApiReply::SubscriberFailed {
+        subscriber: 3,
+        count: 9,
+    };
+    let (alloc, none) = (rt.alloc(), b"".as_slice());
+    expect(&rt, alloc, &loaded, none, b"load 16 committed 15 aborted 1\n")?;
+    expect(&rt, alloc, &subscribed, none, b"subscribed 1 after 0/0\n")?;
+    expect(&rt, alloc, &unsubscribed, none, b"unsubscribed 1 after 1/1\n")?;
+    expect(&rt, alloc, &changes, none, b"sub 1 1/0 changes 2\n")?;
+    expect(&rt, alloc, &failed, none, b"sub 3 failed 9\n")?;
+    let refusals = [
+        (Refusal::NoSubscriber(7), b"no subscriber 7\n".as_slice()),
+        (Refusal::IsSubscribed(7), b"is subscribed 7\n"),
+        (Refusal::NotSubscribed(7), b"not subscribed 7\n"),
+    ];
+    for (refusal, line) in &refusals {
+        let refused = ApiReply::Refused {
+            name: None,
+            refusal: *refusal,
+        };
+        expect(&rt, alloc, &refused, none, line)?;
+    }
+    Ok(())
+}
+
+#[test]
+fn backups_are_told(rt: HostRuntime) -> Result<(), Fail> {
+    let (key, value) = (Key::new(b"a")?, Value::new(b"1")?);
+    let table = [
+        (
+            ApiReply::BackedUp {
+                backup: 1,
+                epoch: 4_294_967_296,
+            },
+            b"backup 1 stop 1/0\n".as_slice(),
+        ),
+        (
+            ApiReply::BackupEnded { backup: 1, view: 2 },
+            b"backup 1 ended 2\n",
+        ),
+        (
+            ApiReply::BackupTooLarge {
+                backup: 1,
+                size: 1_073_741_825,
+            },
+            b"backup 1 too large 1073741825\n",
+        ),
+        (ApiReply::NoBackup { backup: 2 }, b"no backup 2\n"),
+        (ApiReply::DumpRow { key, value }, b"put a 1\n"),
+        (
+            ApiReply::Dumped {
+                backup: 1,
+                rows: 1,
+                epoch: 4_294_967_296,
+            },
+            b"backup 1 rows 1 stop 1/0\n",
+        ),
+    ];
+    for (reply, line) in &table {
+        expect(&rt, rt.alloc(), reply, b"", line)?;
+    }
+    Ok(())
+}
+
+#[test]
+fn answers_where_values_are_unique(rt: HostRuntime) -> Result<(), Fail> {
+    let key = Key::new(b"a")?;
+    let table = [
+        (UAnswer::Plain(Answer::Done), b"ok\n".as_slice()),
+        (UAnswer::Held(key), b"unique held by a\n"),
+        (UAnswer::TooLong(32), b"unique too long 32\n"),
+        (UAnswer::KeyOf(key), b"key a\n"),
+    ];
+    for (answer, line) in &table {
+        let named = ApiReply::Unique {
+            name: Some(2),
+            answer: *answer,
+        };
+        expect(&rt, rt.alloc(), &named, b"@2 ", line)?;
     }
     Ok(())
 }

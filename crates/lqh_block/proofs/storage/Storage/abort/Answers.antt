@@ -12,4 +12,4 @@ pub unreserve-requires : goal.unreserve-requires
 unreserve-requires g c =
     let fits = abort_fits (g.R.Rows.state_of c.args.self.now.rows) (g.J.Journal.used_of c.args.self.now.journal)
     c.args.tx c.args.key.now c.args.self.now.covered c.requires in
-    rw c.append.ensures (omega (arith, fits))
+    rw c.append.ensures.used (omega (arith, fits))
