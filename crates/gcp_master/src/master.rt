@@ -110,7 +110,10 @@ impl GcpMaster {
         ensures { IsTaken (epoch_table self.old voice signal.now) self.new out.old out.new }
     {
         match signal {
-            EpochSignal::GcpReq { by: _ } => self.ask(self.asked.and_global(voice.member.node), out),
+            EpochSignal::GcpReq { by: _ } => self.ask(
+                self.asked.and_global(voice.member.node),
+                out,
+            ),
             EpochSignal::MicroReq => self.ask(self.asked.and_micro(), out),
             EpochSignal::GcpOrd => self.gather(out),
             EpochSignal::GcpStateConf {

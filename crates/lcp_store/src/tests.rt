@@ -1,6 +1,6 @@
 //! Rows worked out by hand, cut short at every length and with every byte changed.
 use crate::{Version, put_head, put_row, put_row2, row_in, rows_in};
-use sig_core::{Key, Table, Value};
+use sig_core::{Key, ReadFault, StoredRow, Table, Value};
 use std::alloc::Global;
 use std::process::Abort;
 use std::test::Fail;
@@ -20,7 +20,14 @@ fn value_of(table: &Table, key: &[u8]) -> Result<Option<Value>, Fail> {
 fn expect_damage<R: Abort>(rt: &R, alloc: Global, saved: u64, bytes: &[u8], at: usize, byte: u8) {
     match rows_in(alloc, 2, saved, bytes) {
         Ok(_) => assert!(rt; false, "damage at {at} isn't seen"),
-        Err(fault) => assert_eq!(rt; fault, ReadFault::Damaged { file: 2, at: at as u64, byte }),
+        Err(fault) => assert_eq!(rt;
+            fault,
+            ReadFault::Damaged {
+                file: 2,
+                at: at as u64,
+                byte
+            }
+        ),
     }
 }
 
@@ -98,7 +105,10 @@ fn rows_cut_short_are_damaged_at_their_end(rt: HostRuntime) -> Result<(), Fail> 
     }
     for size in 0..SECOND.len() {
         if size == 0 || size == 2 || size == 14 {
-            assert!(rt; rows_in(rt.alloc(), 2, 258, &SECOND[..size]).is_ok(), "{size}");
+            assert!(rt;
+                rows_in(rt.alloc(), 2, 258, &SECOND[..size]).is_ok(),
+                "{size}"
+            );
         } else {
             expect_damage(&rt, rt.alloc(), 258, &SECOND[..size], size, 0);
         }

@@ -5,8 +5,8 @@ ghost use Rattle.node_views.specs.WellFormed.{are_nodes, is_chain, is_client_sou
 
 use sig_core::{
     Body, Chain, ChainSignal, ClientSignal, CopyingSignal, EpochSignal, HostSignal, JoiningSignal,
-    Member, MembershipSignal, Shape, Signal, SubscriptionSignal, TakeoverSignal, TxId, UniqueSignal,
-    View, Work,
+    Member, MembershipSignal, Shape, Signal, SubscriptionSignal, TakeoverSignal, TxId,
+    UniqueSignal, View, Work,
 };
 
 // A node of the cluster.

@@ -16,9 +16,15 @@ pub enum ReadFault {
 #[derive(Clone, Copy, Debug, PartialEq, Eq)]
 pub enum RestartFault {
     /// A call on the disk of this node failed, whose count of faults is this.
-    DiskFault { node: u8, count: u64 },
+    DiskFault {
+        node: u8,
+        count: u64,
+    },
     /// The disks have a cluster of another shape than is asked for.
-    OtherShape { found: Shape, asked: Shape },
+    OtherShape {
+        found: Shape,
+        asked: Shape,
+    },
     /// As of `ReadFault`, on the disk of this node.
     Damaged {
         node: u8,
@@ -27,6 +33,9 @@ pub enum RestartFault {
         byte: u8,
     },
     /// No life can follow one of this generation that restores this epoch.
-    UsedUp { generation: u64, epoch: u64 },
+    UsedUp {
+        generation: u64,
+        epoch: u64,
+    },
     NoMemory,
 }

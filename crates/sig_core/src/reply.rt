@@ -41,47 +41,131 @@ pub enum Refusal {
 /// A reply: one kind for each line of text.
 #[derive(Clone, Copy)]
 pub enum ApiReply {
-    Begun { name: u16, node: u8 },
-    Answered { name: Option<u16>, answer: Answer },
-    Ended { name: Option<u16>, outcome: Outcome },
-    Pending { name: Option<u16>, on: Waiting },
-    Refused { name: Option<u16>, refusal: Refusal },
-    Stopped { node: u8, cause: StopCause },
-    Ticked { rounds: u8 },
-    Cut { one: u8, other: u8 },
-    Closed { epoch: u64 },
-    Durable { epoch: u64 },
-    Checkpoint { epoch: u64 },
-    Started { node: u8 },
-    StartEnded { node: u8 },
-    Row { key: Key, value: Value },
-    Rows { node: u8, count: u64 },
-    Digest { node: u8, digest: [u8; 32] },
-    View { view: View },
+    Begun {
+        name: u16,
+        node: u8,
+    },
+    Answered {
+        name: Option<u16>,
+        answer: Answer,
+    },
+    Ended {
+        name: Option<u16>,
+        outcome: Outcome,
+    },
+    Pending {
+        name: Option<u16>,
+        on: Waiting,
+    },
+    Refused {
+        name: Option<u16>,
+        refusal: Refusal,
+    },
+    Stopped {
+        node: u8,
+        cause: StopCause,
+    },
+    Ticked {
+        rounds: u8,
+    },
+    Cut {
+        one: u8,
+        other: u8,
+    },
+    Closed {
+        epoch: u64,
+    },
+    Durable {
+        epoch: u64,
+    },
+    Checkpoint {
+        epoch: u64,
+    },
+    Started {
+        node: u8,
+    },
+    StartEnded {
+        node: u8,
+    },
+    Row {
+        key: Key,
+        value: Value,
+    },
+    Rows {
+        node: u8,
+        count: u64,
+    },
+    Digest {
+        node: u8,
+        digest: [u8; 32],
+    },
+    View {
+        view: View,
+    },
     Crashed,
-    Restarted { epoch: u64 },
+    Restarted {
+        epoch: u64,
+    },
     BatchEnd,
     /// The end of a load: so many transactions, and how many of them were committed and aborted.
-    Loaded { transactions: u32, committed: u32, aborted: u32 },
+    Loaded {
+        transactions: u32,
+        committed: u32,
+        aborted: u32,
+    },
     /// The subscriber is handed what is closed after this epoch.
-    Subscribed { subscriber: u16, epoch: u64 },
+    Subscribed {
+        subscriber: u16,
+        epoch: u64,
+    },
     /// The subscriber was handed what was closed up to this epoch.
-    Unsubscribed { subscriber: u16, epoch: u64 },
+    Unsubscribed {
+        subscriber: u16,
+        epoch: u64,
+    },
     /// The subscriber was handed so many changes of this epoch.
-    Changes { subscriber: u16, epoch: u64, changes: u64 },
+    Changes {
+        subscriber: u16,
+        epoch: u64,
+        changes: u64,
+    },
     /// The subscriber failed, and its count of faults is this.
-    SubscriberFailed { subscriber: u16, count: u64 },
+    SubscriberFailed {
+        subscriber: u16,
+        count: u64,
+    },
     /// The backup has the transactions up to this epoch.
-    BackedUp { backup: u32, epoch: u64 },
+    BackedUp {
+        backup: u32,
+        epoch: u64,
+    },
     /// A view of this number ended the backup.
-    BackupEnded { backup: u32, view: u64 },
+    BackupEnded {
+        backup: u32,
+        view: u64,
+    },
     /// The data of a node would have so many bytes.
-    BackupTooLarge { backup: u32, size: u64 },
-    NoBackup { backup: u32 },
+    BackupTooLarge {
+        backup: u32,
+        size: u64,
+    },
+    NoBackup {
+        backup: u32,
+    },
     /// A row of a backup.
-    DumpRow { key: Key, value: Value },
+    DumpRow {
+        key: Key,
+        value: Value,
+    },
     /// All rows of a backup, which has the transactions up to this epoch.
-    Dumped { backup: u32, rows: u64, epoch: u64 },
+    Dumped {
+        backup: u32,
+        rows: u64,
+        epoch: u64,
+    },
     /// The answer of an operation where values are unique.
-    Unique { name: Option<u16>, answer: UAnswer },
+    Unique {
+        name: Option<u16>,
+        answer: UAnswer,
+    },
 }

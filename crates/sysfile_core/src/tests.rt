@@ -1,6 +1,8 @@
 //! Slots worked out by hand, each byte of them changed, slots that are cut short, and writes that are
 //! stopped at each of their calls.
-use crate::{CONTROL_FILE, SYSTEM_FILE, control_bytes, read_control, read_system, system_bytes, write_slot};
+use crate::{
+    CONTROL_FILE, SYSTEM_FILE, control_bytes, read_control, read_system, system_bytes, write_slot,
+};
 use host_io::{Disk, MemDisk};
 use sig_core::{ControlSlot, ReadFault, Shape, SystemSlot};
 use std::test::Fail;

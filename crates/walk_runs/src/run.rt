@@ -54,7 +54,10 @@ fn walk(
         let Some(piece) = ckpt.step(&node.rows)? else {
             return Ok(ckpt.finish());
         };
-        if piece.file != 2 || piece.at != written.len() as u64 || piece.bytes.as_slice().is_empty() {
+        if piece.file != 2
+            || piece.at != written.len() as u64
+            || piece.bytes.as_slice().is_empty()
+        {
             return Err(RunFault::Pieces);
         }
         written

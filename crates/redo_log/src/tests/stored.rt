@@ -16,7 +16,10 @@ fn save(log: &mut Log, disk: &mut MemDisk) -> bool {
     for _ in 0..1_000 {
         match log.flush_step() {
             Ok(Some(piece)) => {
-                if disk.write(piece.file, piece.at, piece.bytes.as_slice()).is_err() {
+                if disk
+                    .write(piece.file, piece.at, piece.bytes.as_slice())
+                    .is_err()
+                {
                     return false;
                 }
             }

@@ -12,7 +12,12 @@ use std::alloc::Global;
 ///
 /// # Errors
 /// `NoMemory`.
-pub fn add_backup(alloc: Global, backup: u32, epoch: u64, line: &mut Vec<u8>) -> Result<(), NoMemory>
+pub fn add_backup(
+    alloc: Global,
+    backup: u32,
+    epoch: u64,
+    line: &mut Vec<u8>,
+) -> Result<(), NoMemory>
     ensures { OnOk result (line.new.items ≡ line.old.items ++ backup_words backup epoch) }
 {
     add(line, &format!(in alloc; "backup {backup}")?)?;

@@ -1,7 +1,7 @@
 use crate::print_reply;
 use sig_core::{
-    AbortCause, Answer, ApiReply, HostId, Key, Member, Members, Outcome, Refusal, StopCause, UAnswer,
-    Value, View, Waiting,
+    AbortCause, Answer, ApiReply, HostId, Key, Member, Members, Outcome, Refusal, StopCause,
+    UAnswer, Value, View, Waiting,
 };
 use std::alloc::Global;
 use std::process::Abort;
@@ -330,9 +330,21 @@ fn loads_and_subscriptions_are_told(rt: HostRuntime) -> Result<(), Fail> {
         count: 9,
     };
     let (alloc, none) = (rt.alloc(), b"".as_slice());
-    expect(&rt, alloc, &loaded, none, b"load 16 committed 15 aborted 1\n")?;
+    expect(
+        &rt,
+        alloc,
+        &loaded,
+        none,
+        b"load 16 committed 15 aborted 1\n",
+    )?;
     expect(&rt, alloc, &subscribed, none, b"subscribed 1 after 0/0\n")?;
-    expect(&rt, alloc, &unsubscribed, none, b"unsubscribed 1 after 1/1\n")?;
+    expect(
+        &rt,
+        alloc,
+        &unsubscribed,
+        none,
+        b"unsubscribed 1 after 1/1\n",
+    )?;
     expect(&rt, alloc, &changes, none, b"sub 1 1/0 changes 2\n")?;
     expect(&rt, alloc, &failed, none, b"sub 3 failed 9\n")?;
     let refusals = [

@@ -5,32 +5,16 @@ use crate::member::{Member, TxId};
 /// on its disk, where it has rows of its own.
 #[derive(Clone, Copy)]
 pub enum JoiningSignal {
-    StartReq {
-        member: Member,
-        own: Option<u64>,
-    },
-    StartRep {
-        member: Member,
-    },
-    StartEnd {
-        member: Member,
-    },
-    StartGone {
-        member: Member,
-    },
-    CopyOrd {
-        member: Member,
-        own: Option<u64>,
-    },
+    StartReq { member: Member, own: Option<u64> },
+    StartRep { member: Member },
+    StartEnd { member: Member },
+    StartGone { member: Member },
+    CopyOrd { member: Member, own: Option<u64> },
     DrainReq,
     DrainConf,
-    DrainWait {
-        tx: TxId,
-    },
+    DrainWait { tx: TxId },
     CopySaveReq,
     CopySaveConf,
     CopySaved,
-    PromoteReq {
-        member: Member,
-    },
+    PromoteReq { member: Member },
 }
