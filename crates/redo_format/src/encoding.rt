@@ -70,7 +70,7 @@ impl Record {
         self.len = end;
     }
 
-    #[tactic(auto, unfolding(crate::specs::Records::bytes_of))]
+    #[tactic(auto, unfolding(sig_core::specs::Redo::bytes_of))]
     fn put(&mut self, rec: &Redo)
         requires { self.old.len ≡ 0 }
         ensures len { self.new.len ≡ size_of rec.now }
