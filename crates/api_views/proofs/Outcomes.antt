@@ -253,7 +253,7 @@ module _ (s : ClientState) (x : Signal) (R : Step ClientState → Type 0) (forms
   asked_goes request.Pending is = pending_goes is
   asked_goes (request.Batch lines) is = takes_goes (request.Batch lines) is
   asked_goes request.Lcp is = takes_goes request.Lcp is
-  asked_goes (request.Start node) is = takes_goes (request.Start node) is
+  asked_goes (request.Start node own) is = takes_goes (request.Start node own) is
   asked_goes request.Crash is = takes_goes request.Crash is
   asked_goes request.Restart is = takes_goes request.Restart is
   asked_goes r is = command_goes r is

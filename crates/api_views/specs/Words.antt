@@ -29,7 +29,7 @@ is_client_word (Client (TcRollbackReq tx)) = true
 is_client_word (Client (TcWaitReq tx)) = true
 is_client_word (Client (TcCommitAck tx)) = true
 is_client_word (Client (DumpReq at)) = true
-is_client_word (Epoch GcpReq) = true
+is_client_word (Epoch (GcpReq by)) = true
 is_client_word (Epoch MicroReq) = true
 is_client_word _ = false
 

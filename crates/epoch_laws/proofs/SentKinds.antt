@@ -36,7 +36,7 @@ coordinators (Epoch signal) is = absurd cc
 coordinators body is = refl
 
 clients : (body : Body) → is_client_word body ≡ true → is_order body ≡ false
-clients (Epoch GcpReq) is = refl
+clients (Epoch (GcpReq by)) is = refl
 clients (Epoch MicroReq) is = refl
 clients (Epoch signal) is = absurd cc
 clients body is = refl

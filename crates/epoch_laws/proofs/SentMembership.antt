@@ -72,8 +72,8 @@ module _ (s : QmgrState) (x : Signal) where
           orders_stop = λ p member cause stands. none _ refl;
           goes_down = λ group is. tt;
           stops = λ cause is. tt;
-          is_full = λ member is. none _ refl;
-          has_been = λ member is. none _ refl;
+          is_full = λ member own is. none _ refl;
+          has_been = λ member own is. none _ refl;
           orders = λ at is own oldest. orders at is oldest;
         })).0
 

@@ -89,7 +89,7 @@ pub data Resumes (known : Known) : Phase → Type 0 where
 
 -- the signal asks for a closing, and this is asked for then
 pub data IsAsked (s : MasterState) (x : Signal) : Asked → Type 0 where
-  for_global : x.body ≡ Epoch GcpReq → IsAsked s x (global_asked s.asked x.member.node)
+  for_global : (by : BlockId) → x.body ≡ Epoch (GcpReq by) → IsAsked s x (global_asked s.asked x.member.node)
   for_micro : x.body ≡ Epoch MicroReq → IsAsked s x (micro_asked s.asked)
 
 -- a closing has ended: its master rests in the epoch that follows, and is to tell of it
@@ -433,7 +433,7 @@ module _ (s : MasterState) (x : Signal) (R : Step MasterState → Type 0) (forms
       by _ at = forms.stays
 
   takes_epochs : (signal : EpochSignal) → x.body ≡ Epoch signal → R (epoch_table s voice signal)
-  takes_epochs GcpReq is = asked_for (global_asked s.asked x.member.node) (for_global is)
+  takes_epochs (GcpReq by) is = asked_for (global_asked s.asked x.member.node) (for_global by is)
   takes_epochs MicroReq is = asked_for (micro_asked s.asked) (for_micro is)
   takes_epochs GcpOrd is = ordered is
   takes_epochs (GcpStateConf current prepared next closed saved durable) is =

@@ -101,14 +101,14 @@ pub record QmgrOutcomes (s : QmgrState) (x : Signal) (R : Step QmgrState → Typ
       → R (beside s.promises (stopping s.known p (Excluded promised.number)))
   pub stops : (cause : StopCause) → x.body ≡ Membership (StopSet cause) → R (beside s.promises (stop_by s.known cause))
   -- who asks to join is full, has been a member and is none, or is proposed; and a starting member is proposed as full
-  pub is_full : (member : Member) → x.body ≡ Joining (StartReq member)
+  pub is_full : (member : Member) (own : Option ℕ) → x.body ≡ Joining (StartReq member own)
       → is_among s.known.layout.view.full member ≡ true
       → R (beside s.promises (sending s.known client (Joining (StartRep member))))
-  pub has_been : (member : Member) → x.body ≡ Joining (StartReq member)
+  pub has_been : (member : Member) (own : Option ℕ) → x.body ≡ Joining (StartReq member own)
       → has_node (members_of s.known.layout.view) member ≡ false → is_settled s.known ≡ true
       → covers s.known.seen member ≡ true
       → R (beside s.promises (sending s.known client (Joining (StartEnd member))))
-  pub joins : (member : Member) (lost : Option ℕ) → x.body ≡ Joining (StartReq member)
+  pub joins : (member : Member) (own lost : Option ℕ) → x.body ≡ Joining (StartReq member own)
       → is_among s.known.layout.view.full member ≡ false → has_node (members_of s.known.layout.view) member ≡ false
       → is_settled s.known ≡ true → covers s.known.seen member ≡ false
       → (presides s.known && has_number s.known) ≡ true
@@ -324,9 +324,9 @@ module _ (s : QmgrState) (x : Signal) (R : Step QmgrState → Type 0) (forms : Q
   stop_goes cause is = forms.stops cause is
 
   -- joins
-  start_goes : (member : Member) → x.body ≡ Joining (StartReq member) → Goes (start_row k member)
+  start_goes : (member : Member) (own : Option ℕ) → x.body ≡ Joining (StartReq member own) → Goes (start_row k member)
   unfolding start_row proposed_view
-  start_goes member is =
+  start_goes member own is =
       by (is_among k.layout.view.full member) refl (has_node (members_of k.layout.view) member) refl (is_settled k) refl
       (covers k.seen member) refl
     where
@@ -337,16 +337,16 @@ module _ (s : QmgrState) (x : Signal) (R : Step QmgrState → Type 0) (forms : Q
           → is_settled k ≡ true → covers k.seen member ≡ false → (b : Bool) → (presides k && has_number k) ≡ b
           → Goes (proposed_if k set (Some member) b)
       proposed no_full outside settled unseen true may =
-          forms.joins member (lost_group k.layout.shape set) is no_full outside settled unseen may refl
-      proposed no_full outside settled unseen false may = rest (Joining (StartReq member)) is refl
+          forms.joins member own (lost_group k.layout.shape set) is no_full outside settled unseen may refl
+      proposed no_full outside settled unseen false may = rest (Joining (StartReq member own)) is refl
 
       by : (full : Bool) → is_among k.layout.view.full member ≡ full → (in_view : Bool)
           → has_node (members_of k.layout.view) member ≡ in_view → (settled : Bool) → is_settled k ≡ settled
           → (seen : Bool) → covers k.seen member ≡ seen → Goes (start_by k member full in_view settled seen)
-      by true is_full in_view e settled f seen g = forms.is_full member is is_full
-      by false no_full true inside settled f seen g = rest (Joining (StartReq member)) is refl
-      by false no_full false outside false unsettled seen g = rest (Joining (StartReq member)) is refl
-      by false no_full false outside true settled true seen = forms.has_been member is outside settled seen
+      by true is_full in_view e settled f seen g = forms.is_full member own is is_full
+      by false no_full true inside settled f seen g = rest (Joining (StartReq member own)) is refl
+      by false no_full false outside false unsettled seen g = rest (Joining (StartReq member own)) is refl
+      by false no_full false outside true settled true seen = forms.has_been member own is outside settled seen
       by false no_full false outside true settled false unseen =
           proposed no_full outside settled unseen (presides k && has_number k) refl
 
@@ -378,7 +378,7 @@ module _ (s : QmgrState) (x : Signal) (R : Step QmgrState → Type 0) (forms : Q
   table_goes (Membership (ArbitConf number)) is = granted_goes number is
   table_goes (Membership (ArbitRef number members)) is = refused_goes number members is
   table_goes (Membership (StopSet cause)) is = stop_goes cause is
-  table_goes (Joining (StartReq member)) is = start_goes member is
+  table_goes (Joining (StartReq member own)) is = start_goes member own is
   table_goes (Joining (PromoteReq member)) is = promote_goes member is
   table_goes (Joining (StartGone member)) is =
       close_goes member (rest (Joining (StartGone member)) is refl) (forms.gone member is)

@@ -77,8 +77,8 @@ pub record QmgrForms (s : QmgrState) (x : Signal) (P : Outgoing → Type 0) (M :
   pub goes_down : (group : ℕ) → x.body ≡ Membership (StopSet (NoGroup group)) → M (Down group)
   pub stops : (cause : StopCause) → x.body ≡ Membership (StopSet cause) → M (Stopped cause)
   -- who asks to join is answered
-  pub is_full : (member : Member) → x.body ≡ Joining (StartReq member) → P (to_place client (Joining (StartRep member)))
-  pub has_been : (member : Member) → x.body ≡ Joining (StartReq member)
+  pub is_full : (member : Member) (own : Option ℕ) → x.body ≡ Joining (StartReq member own) → P (to_place client (Joining (StartRep member)))
+  pub has_been : (member : Member) (own : Option ℕ) → x.body ≡ Joining (StartReq member own)
       → P (to_place client (Joining (StartEnd member)))
   -- the orders of an installation
   pub orders : (at : ℕ) → x.body ≡ Host (Continue Members at) → is_of_view s.known x.view.number ≡ true
@@ -188,9 +188,9 @@ module _ (s : QmgrState) (x : Signal) (P : Outgoing → Type 0) (M : Mark → Ty
     unlike = λ p promised is stands among. told_only (with_unlike s.known p.view promised);
     excluded = λ p promised is stands among. stopping_each p (Excluded promised.number) stands;
     stops = λ cause is. stops_each cause is;
-    is_full = λ member is full. ((forms.is_full member is, tt), tt);
-    has_been = λ member is outside settled seen. ((forms.has_been member is, tt), tt);
-    joins = λ member lost is no_full outside settled unseen may lacks. (proposal_each _ lost, tt);
+    is_full = λ member own is full. ((forms.is_full member own is, tt), tt);
+    has_been = λ member own is outside settled seen. ((forms.has_been member own is, tt), tt);
+    joins = λ member own lost is no_full outside settled unseen may lacks. (proposal_each _ lost, tt);
     promotes = λ member lost is may lacks. (proposal_each _ lost, tt);
     orders = λ at is own oldest low. (
       portion_each P (membership s.known.me.node) Members (orders s.known) at (forms.orders at is own oldest).goes_on
@@ -239,8 +239,8 @@ qmgr_words = record {
     orders_stop = λ p member cause stands. refl;
     goes_down = λ group is. refl;
     stops = λ cause is. refl;
-    is_full = λ member is. refl;
-    has_been = λ member is. refl;
+    is_full = λ member own is. refl;
+    has_been = λ member own is. refl;
     orders = λ at is own oldest. record {
       commits = λ member there. refl;
       takeover = refl;

@@ -32,7 +32,7 @@ membership_orders_none s x off =
       orders_stop = λ p member cause stands. refl;
       goes_down = λ group is. tt;
       stops = λ cause is. tt;
-      is_full = λ member is. refl;
-      has_been = λ member is. refl;
+      is_full = λ member own is. refl;
+      has_been = λ member own is. refl;
       orders = λ at is own oldest. absurd (true≢false (sym (ap is_going_on is) ∙ off));
     })).0

@@ -58,7 +58,7 @@ use Rattle.outcome_laws.specs.Counts.{is_committing}
 abbrev pub is_plain : Body → Bool
 is_plain (Host (Continue (Transaction tx) at)) = false
 is_plain (Host told) = true
-is_plain (Epoch GcpReq) = true
+is_plain (Epoch (GcpReq by)) = true
 is_plain (Epoch MicroReq) = true
 is_plain (Client (TcBeginReq name)) = true
 is_plain (Client (TcKeyReq tx op)) = true

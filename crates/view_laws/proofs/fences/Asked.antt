@@ -101,8 +101,8 @@ module _ (s : QmgrState) where
           orders_stop = λ p member cause stands. inl refl;
           goes_down = λ group is. tt;
           stops = λ cause is. tt;
-          is_full = λ member is. inl refl;
-          has_been = λ member is. inl refl;
+          is_full = λ member own is. inl refl;
+          has_been = λ member own is. inl refl;
           orders = λ at is own oldest. record {
             commits = λ member there. inl refl;
             takeover = inl refl;

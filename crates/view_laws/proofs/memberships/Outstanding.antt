@@ -303,9 +303,9 @@ module _ (s : QmgrState) (x : Signal) where
             told_only (with_unlike k p.view promised) (unlike_like k p.view promised);
         excluded = λ p promised is stands among. stops_plain p (Excluded promised.number);
         stops = λ cause is. stop_rests cause;
-        is_full = λ member is full. sends_plain k k.promised _ (like_self k) (refl, tt);
-        has_been = λ member is outside settled seen. sends_plain k k.promised _ (like_self k) (refl, tt);
-        joins = λ member lost is no_full outside settled unseen may lacks.
+        is_full = λ member own is full. sends_plain k k.promised _ (like_self k) (refl, tt);
+        has_been = λ member own is outside settled seen. sends_plain k k.promised _ (like_self k) (refl, tt);
+        joins = λ member own lost is no_full outside settled unseen may lacks.
             proposes k (joined_view k.layout.view (next_number k) member) (Some member) lost []
             (above_last k k k.promised (like_self k)) tt;
         promotes = λ member lost is may lacks.

@@ -273,10 +273,10 @@ module _ (s : QmgrState) (x : Signal) where
         excluded = λ p promised is stands among.
             like_steps (stopping k p (Excluded promised.number)) (like_self k) refl;
         stops = λ cause is. stop_steps cause;
-        is_full = λ member is full. like_steps (sending k client (Joining (StartRep member))) (like_self k) refl;
-        has_been = λ member is outside settled seen.
+        is_full = λ member own is full. like_steps (sending k client (Joining (StartRep member))) (like_self k) refl;
+        has_been = λ member own is outside settled seen.
             like_steps (sending k client (Joining (StartEnd member))) (like_self k) refl;
-        joins = λ member lost is no_full outside settled unseen may lacks.
+        joins = λ member own lost is no_full outside settled unseen may lacks.
             proposed_steps (joined_view k.layout.view (next_number k) member) (Some member) lost refl
             (has_one member (λ sound. subst (IsSound k.me) is sound) outside refl refl refl) lacks;
         promotes = λ member lost is may lacks.

@@ -52,7 +52,7 @@ stays_same same none = subst NoneJoins (sym same) none
 
 -- nobody asks to join
 abbrev pub IsNoStart : Body → Type 0
-IsNoStart (Joining (StartReq member)) = ⊥
+IsNoStart (Joining (StartReq member own)) = ⊥
 IsNoStart body = Unit {0}
 
 module _ (s : QmgrState) (x : Signal) (plain : IsNoStart x.body) where
@@ -91,8 +91,8 @@ module _ (s : QmgrState) (x : Signal) (plain : IsNoStart x.body) where
   fence_stays at promise false = stays_all
 
   -- who asks to join doesn't ask here
-  asks_none : (member : Member) → x.body ≡ Joining (StartReq member) → ⊥
-  asks_none member is = subst IsNoStart is plain
+  asks_none : (member : Member) (own : Option ℕ) → x.body ≡ Joining (StartReq member own) → ⊥
+  asks_none member own is = subst IsNoStart is plain
 
   row_stays : Ends (qmgr_row s x)
   row_stays =
@@ -124,9 +124,9 @@ module _ (s : QmgrState) (x : Signal) (plain : IsNoStart x.body) where
             told_only (with_unlike k p.view promised) (unlike_like k p.view promised).outstanding;
         excluded = λ p promised is stands among. stays_all;
         stops = λ cause is. stop_stays cause;
-        is_full = λ member is full. stays_all;
-        has_been = λ member is outside settled seen. stays_all;
-        joins = λ member lost is no_full outside settled unseen may lacks. absurd (asks_none member is);
+        is_full = λ member own is full. stays_all;
+        has_been = λ member own is outside settled seen. stays_all;
+        joins = λ member own lost is no_full outside settled unseen may lacks. absurd (asks_none member own is);
         promotes = λ member lost is may lacks none. refl;
         orders = λ at is own oldest low. stays_all;
       })

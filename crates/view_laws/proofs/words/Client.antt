@@ -17,7 +17,7 @@ use Rattle.view_laws.proofs.words.Sent.{IsOf, SendsOf}
 of_words : (body : Body) → is_client_word body ≡ true → is_of_client body ≡ true
 of_words (Host signal) is = refl
 of_words (Client (TcBeginReq name)) is = is
-of_words (Epoch GcpReq) is = is
+of_words (Epoch (GcpReq by)) is = is
 of_words body is = is
 
 pub client_kinds : (s : ClientState) (x : Signal) → SendsOf is_of_client (client_row s x)
