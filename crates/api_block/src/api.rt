@@ -7,7 +7,7 @@ use crate::lists::push_back;
 use crate::opened::{OpenTransaction, is_unanswered};
 use sig_core::{
     Actor, Answer, ApiReply, ApiReq, Body, ClientSignal, HostSignal, NoMemory, Outs, Refusal,
-    Signal, View, Work,
+    Signal, UAnswer, View, Work,
 };
 use std::alloc::Global;
 use std::collections::VecDeque;
@@ -139,7 +139,7 @@ impl Api {
     {
         // It is only named: the check follows a reply into a list where it has heard of this type,
         // which a reply may hold.
-        let _unused: Option<Answer> = None;
+        let _unused: Option<(Answer, UAnswer)> = None;
         push_back(&mut self.replies, reply)
     }
 

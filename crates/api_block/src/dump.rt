@@ -11,7 +11,7 @@ use crate::api::Api;
 use crate::gathered::GatheredRows;
 use crate::lists::{append, push};
 use sha2::{Digest, Sha256};
-use sig_core::{Answer, ApiReply, Body, ClientSignal, Key, NoMemory, Outs, Value, rows_of};
+use sig_core::{Answer, ApiReply, Body, ClientSignal, Key, NoMemory, Outs, UAnswer, Value, rows_of};
 use std::alloc::Global;
 
 /// A dump that is under way.
@@ -125,7 +125,7 @@ fn row_replies(alloc: Global, node: u8, rows: &[(Key, Value)]) -> Result<Vec<Api
 {
     // It is only named: the check follows a reply into a list where it has heard of this type,
     // which a reply may hold.
-    let _unused: Option<Answer> = None;
+    let _unused: Option<(Answer, UAnswer)> = None;
     let mut replies = Vec::new(alloc);
     for row in rows {
         push(&mut replies, row_reply(row))?;
