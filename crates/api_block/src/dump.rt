@@ -11,7 +11,9 @@ use crate::api::Api;
 use crate::gathered::GatheredRows;
 use crate::lists::{append, push};
 use sha2::{Digest, Sha256};
-use sig_core::{Answer, ApiReply, Body, ClientSignal, Key, NoMemory, Outs, UAnswer, Value, rows_of};
+use sig_core::{
+    Answer, ApiReply, Body, ClientSignal, Key, NoMemory, Outs, UAnswer, Value, rows_of,
+};
 use std::alloc::Global;
 
 /// A dump that is under way.
