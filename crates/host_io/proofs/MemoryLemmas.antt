@@ -39,7 +39,8 @@ one_changed old new file here others =
     (set (map old (range_with_len 0 FILES)) file (new file))
     (map new (range_with_len 0 FILES))
     (length-set (map old (range_with_len 0 FILES)) file (new file))
-    (λ i below. by i (subst (λ (n : ℕ). i < n) (length-set (map old (range_with_len 0 FILES)) file (new file)) below) (cases_eq i file))
+    (λ i below. by i (subst (λ (n : ℕ). i < n) (length-set (map old (range_with_len 0 FILES)) file (new file)) below)
+    (cases_eq i file))
   where
     known : (state : ℕ → FileState) (i : ℕ) → i < FILES
         → get_or (map state (range_with_len 0 FILES)) i fresh_file ≡ state i
@@ -160,11 +161,12 @@ crash_follows calls picks kept from = (
 )
 
 -- one file more has crashed
-pub record CrashesOn (files : List FileState) (i : ℕ) (picks : List ℕ) (new : List FileState) (left : List ℕ) : Type 0 where
-  pub whole
-      : take (i + 1) new ++ map settled (crash (drop (i + 1) new) left).files
-      ≡ take i files ++ map settled (crash (drop i files) picks).files
-  pub rest : (crash (drop (i + 1) new) left).picks ≡ (crash (drop i files) picks).picks
+pub record CrashesOn (files : List FileState) (i : ℕ) (picks : List ℕ) (new : List FileState) (left : List ℕ) : Type 0
+  where
+    pub whole
+        : take (i + 1) new ++ map settled (crash (drop (i + 1) new) left).files
+        ≡ take i files ++ map settled (crash (drop i files) picks).files
+    pub rest : (crash (drop (i + 1) new) left).picks ≡ (crash (drop i files) picks).picks
 
 pub crash_more : (files : List FileState) (i : ℕ) (picks : List ℕ) → i < length files
     → CrashesOn
@@ -242,7 +244,8 @@ pub call_kept : (calls earlier now : List Call) (call : Call) (files : List File
     → MayFollow calls call → set (states calls) file (change (state_of calls file)) ≡ states (call ∷ calls)
     → old ≡ get_or files file old → new ≡ change old → earlier ≡ calls → now ≡ call ∷ earlier → 0 < spare
     → AreTold (set files file new) now spare
-call_kept calls earlier now call files file before spare change old new kept here may changed found made same noted room =
+call_kept calls earlier now call files file before spare change old new kept here may changed found made same noted room
+    =
     subst
     (λ (told : List Call). AreTold (set files file new) told spare)
     (sym (noted ∙ ap (λ (told : List Call). call ∷ told) same)) (

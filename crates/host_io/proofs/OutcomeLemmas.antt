@@ -160,7 +160,8 @@ pub crashed_image : (s : FileState) (picks : List ℕ) → IsSound s → AreByte
 unfolding crashed
 crashed_image s picks sound from =
     let left = spoiled s.dirty s.bytes (drop 1 picks) in
-    let keeps = spoiled_keeps s.dirty s.bytes (drop 1 picks) sound.ranges sound.are_bytes (All-drop IsByte 1 picks from) in
+    let keeps =
+    spoiled_keeps s.dirty s.bytes (drop 1 picks) sound.ranges sound.are_bytes (All-drop IsByte 1 picks from) in
     let extra = share (length s.bytes - s.synced) (next_pick picks) in
     let ends = cut_short s.bytes left.bytes s.synced extra keeps.long sound.to_synced in
     record {

@@ -20,7 +20,8 @@ IsByte byte = byte < 256
 
 pub length_filled : (end : ℕ) (bytes : List ℕ) → length (filled_up end bytes) ≡ length bytes + (end - length bytes)
 length_filled end bytes =
-    rw (length-append bytes (replicate (end - length bytes) 0)) (ap (λ n. length bytes + n) (length-replicate (end - length bytes) 0))
+    rw (length-append bytes (replicate (end - length bytes) 0))
+    (ap (λ n. length bytes + n) (length-replicate (end - length bytes) 0))
 
 -- how long a file is after a piece was laid down
 pub length_put : (at : ℕ) (piece bytes : List ℕ) → at + length piece ≤ length bytes
@@ -47,12 +48,14 @@ laid_bytes at [] bytes new old = old
 laid_bytes at (byte ∷ piece) bytes new old =
     let end = at + length (byte ∷ piece) in
     let full : AreBytes (filled_up end bytes)
-    = All-append IsByte bytes (replicate (end - length bytes) 0) old (All-replicate IsByte (end - length bytes) 0 (omega arith)) in
+    = All-append IsByte bytes (replicate (end - length bytes) 0) old
+    (All-replicate IsByte (end - length bytes) 0 (omega arith)) in
     All-append
     IsByte
     (take at (filled_up end bytes) ++ (byte ∷ piece))
     (drop end (filled_up end bytes))
-    (All-append IsByte (take at (filled_up end bytes)) (byte ∷ piece) (All-take IsByte at (filled_up end bytes) full) new)
+    (All-append IsByte (take at (filled_up end bytes)) (byte ∷ piece) (All-take IsByte at (filled_up end bytes) full)
+    new)
     (All-drop IsByte end (filled_up end bytes) full)
 
 dirtied_within : (at asked before now : ℕ) → before ≤ now → LiesWithin now (dirtied at asked before now)

@@ -16,12 +16,14 @@ use Rattle.sig_core.specs.Checkpoint.{epoch_bytes, head_bytes, row_bytes, word_b
 use Rattle.lcp_store.specs.Reading.{epoch_in, or_damage, put_in, read_on, row_in, rows_behind, rows_from, rows_in, version_in, with_epoch, with_key, with_value, word_in, word_len, word_of_len}
 use Rattle.lcp_store.specs.Laws.{AreRowsOf, CheckpointsAreRead, IsEpochOf, IsRowOf, IsWordOf, NoneBeginsAnother, RowsAreRead, all_in}
 
-len_read : (least most : ℕ) (word rest : List ℕ) → IsWordOf least most word → word_len least most (word_bytes word ++ rest) ≡ Ok (length word)
+len_read : (least most : ℕ) (word rest : List ℕ) → IsWordOf least most word
+    → word_len least most (word_bytes word ++ rest) ≡ Ok (length word)
 unfolding word_len
 len_read least most word rest is =
     let long : nat_lt (length word) least ≡ false = grind (arith, nat_tests, is.long_enough) in
     let short : nat_lt most (length word) ≡ false = grind (arith, nat_tests, is.short_enough) in
-    let whole : nat_lt (length (word ++ rest)) (length word) ≡ false = grind (arith, nat_tests, length-append word rest) in
+    let whole : nat_lt (length (word ++ rest)) (length word) ≡ false =
+    grind (arith, nat_tests, length-append word rest) in
     rw (long, short, take_at word rest (length word) refl, is.printable, whole) refl
 
 word_read : (least most : ℕ) (word rest : List ℕ) → IsWordOf least most word
@@ -32,9 +34,11 @@ word_read least most word rest is =
 
 -- what is said of an epoch in eight bytes, or in fewer
 abbrev epoch_judged : ℕ → List ℕ → Bool → ℕ → Result (Option ℕ × ℕ) ℕ
-epoch_judged saved bytes short epoch = if short then Err 0 else if nat_lt saved epoch then Err (length bytes) else Ok (Some epoch, 8)
+epoch_judged saved bytes short epoch =
+    if short then Err 0 else if nat_lt saved epoch then Err (length bytes) else Ok (Some epoch, 8)
 
-epoch_read : (version : Version) (saved : ℕ) (epoch : Option ℕ) (rest : List ℕ) → saved < 2 ^ 64 → IsEpochOf version saved epoch
+epoch_read : (version : Version) (saved : ℕ) (epoch : Option ℕ) (rest : List ℕ) → saved < 2 ^ 64
+    → IsEpochOf version saved epoch
     → epoch_in version saved (epoch_bytes epoch ++ rest) ≡ Ok (epoch, length (epoch_bytes epoch))
 unfolding epoch_in
 epoch_read First saved None rest small is = refl
@@ -43,7 +47,8 @@ epoch_read Second saved None rest small is = absurd is
 epoch_read Second saved (Some epoch) rest small is =
     let bytes = to_be_bytes w64 epoch ++ rest in
     let eight : length (to_be_bytes w64 epoch) ≡ 8 = refl in
-    let whole : nat_lt (length bytes) 8 ≡ false = grind (arith, nat_tests, length-append (to_be_bytes w64 epoch) rest, eight) in
+    let whole : nat_lt (length bytes) 8 ≡ false =
+    grind (arith, nat_tests, length-append (to_be_bytes w64 epoch) rest, eight) in
     let told : from_be_bytes w64 (take 8 bytes) ≡ epoch =
     ap (from_be_bytes w64) (take_at (to_be_bytes w64 epoch) rest 8 eight)
     ∙ from_be_bytes-to_be_bytes_8 epoch (omega (arith, small, is)) in
@@ -75,7 +80,8 @@ rows_are_read version saved row rest small is =
     ap (with_key version saved bytes) key
     ∙ ap (λ r. with_epoch row.key n r (epoch_in version saved r)) past_key
     ∙ ap (with_epoch row.key n behind_key) (epoch_read version saved row.epoch behind_epoch small is.epoch)
-    ∙ ap (λ r. with_value row.key row.epoch (n + m) (word_in 0 200 r)) (drop_at (epoch_bytes row.epoch) behind_epoch m refl)
+    ∙ ap (λ r. with_value row.key row.epoch (n + m) (word_in 0 200 r))
+    (drop_at (epoch_bytes row.epoch) behind_epoch m refl)
     ∙ ap (with_value row.key row.epoch (n + m)) (word_read 0 200 row.value rest is.value)
     ∙ ap (λ size. Ok (row, size)) sizes
 
@@ -87,9 +93,12 @@ same_ok r a c b d one other =
 pub none_begins : NoneBeginsAnother
 none_begins version saved one other rest small is_one is_other same =
     let to_one = rows_are_read version saved one rest small is_one in
-    let to_other = ap (row_in version saved) (same ∙ sym (append-nil (row_bytes other))) ∙ rows_are_read version saved other [] small is_other in
-    let both = same_ok (row_in version saved (row_bytes one ++ rest)) one other (length (row_bytes one)) (length (row_bytes other)) to_one to_other in
-    let size : length (row_bytes one) + length rest ≡ length (row_bytes other) = sym (length-append (row_bytes one) rest) ∙ ap length same in
+    let to_other = ap (row_in version saved) (same ∙ sym (append-nil (row_bytes other)))
+    ∙ rows_are_read version saved other [] small is_other in
+    let both = same_ok (row_in version saved (row_bytes one ++ rest)) one other (length (row_bytes one))
+    (length (row_bytes other)) to_one to_other in
+    let size : length (row_bytes one) + length rest ≡ length (row_bytes other) =
+    sym (length-append (row_bytes one) rest) ∙ ap length same in
     let none : length rest ≡ 0 = omega (arith, both.1, size) in
     (both.0, nil_from_length rest none)
 
@@ -100,14 +109,18 @@ rows_read zero version saved rows [] small are few = refl
 rows_read (suc more) version saved rows [] small are few = refl
 rows_read zero version saved rows (row ∷ list) small are few =
     let later = flat_map row_bytes list in
-    let some : length (row_bytes row ++ later) ≡ suc (length ((row.key ++ (epoch_bytes row.epoch ++ word_bytes row.value)) ++ later)) = refl in
+    let some : length (row_bytes row ++ later)
+    ≡ suc (length ((row.key ++ (epoch_bytes row.epoch ++ word_bytes row.value)) ++ later)) = refl in
     absurd (omega (arith, few, some))
 rows_read (suc more) version saved rows (row ∷ list) small are few =
     let later = flat_map row_bytes list in
-    let some : length (row_bytes row) ≡ suc (length (row.key ++ (epoch_bytes row.epoch ++ word_bytes row.value))) = refl in
-    let all : length (row_bytes row ++ later) ≡ length (row_bytes row) + length later = length-append (row_bytes row) later in
+    let some : length (row_bytes row) ≡ suc (length (row.key ++ (epoch_bytes row.epoch ++ word_bytes row.value))) =
+    refl in
+    let all : length (row_bytes row ++ later) ≡ length (row_bytes row) + length later =
+    length-append (row_bytes row) later in
     let fewer : length later ≤ more = omega (arith, few, some, all) in
-    ap (read_on (rows_from more version saved) rows (row_bytes row ++ later)) (rows_are_read version saved row later small are.0)
+    ap (read_on (rows_from more version saved) rows (row_bytes row ++ later))
+    (rows_are_read version saved row later small are.0)
     ∙ ap (rows_from more version saved (put_in rows row)) (drop_at (row_bytes row) later (length (row_bytes row)) refl)
     ∙ rows_read more version saved (put_in rows row) list small are.1 fewer
 
@@ -117,11 +130,13 @@ first_byte first rest some =
     let no : (first == 0) ≡ false = grind (arith, nat_tests, some) in
     rw no refl
 
-first_version : (saved : ℕ) (list : List StoredRow) → AreRowsOf First saved list → version_in (flat_map row_bytes list) ≡ Ok (First, 0)
+first_version : (saved : ℕ) (list : List StoredRow) → AreRowsOf First saved list
+    → version_in (flat_map row_bytes list) ≡ Ok (First, 0)
 unfolding version_in
 first_version saved [] are = refl
 first_version saved (row ∷ list) are =
-    first_byte (length row.key) ((row.key ++ (epoch_bytes row.epoch ++ word_bytes row.value)) ++ flat_map row_bytes list)
+    first_byte (length row.key) ((row.key ++ (epoch_bytes row.epoch ++ word_bytes row.value)) ++ flat_map row_bytes
+    list)
     are.0.key.long_enough
 
 pub checkpoints_read : CheckpointsAreRead

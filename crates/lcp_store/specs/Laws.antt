@@ -46,7 +46,8 @@ RowsAreRead =
 abbrev pub NoneBeginsAnother : Type 0
 NoneBeginsAnother =
     (version : Version) (saved : ℕ) (one other : StoredRow) (rest : List ℕ) → saved < 2 ^ 64
-    → IsRowOf version saved one → IsRowOf version saved other → row_bytes one ++ rest ≡ row_bytes other → (one ≡ other) × (rest ≡ [])
+    → IsRowOf version saved one → IsRowOf version saved other → row_bytes one ++ rest ≡ row_bytes other
+    → (one ≡ other) × (rest ≡ [])
 
 -- these rows and then those, of which the last of each key counts
 abbrev pub all_in : Rows → List StoredRow → Rows
@@ -58,4 +59,5 @@ abbrev pub CheckpointsAreRead : Type 0
 CheckpointsAreRead =
     (file saved : ℕ) (rows : List StoredRow) → saved < 2 ^ 64
     → (AreRowsOf First saved rows → rows_in file saved (flat_map row_bytes rows) ≡ Ok (all_in map.empty rows))
-    × (AreRowsOf Second saved rows → rows_in file saved (head_bytes ++ flat_map row_bytes rows) ≡ Ok (all_in map.empty rows))
+    × (AreRowsOf Second saved rows → rows_in file saved (head_bytes ++ flat_map row_bytes rows) ≡ Ok
+    (all_in map.empty rows))

@@ -1,4 +1,5 @@
--- How the bytes of a checkpoint are read. Where they are none, the answer is how many of them are left from the first on that
+-- How the bytes of a checkpoint are read. Where they are none, the answer is how many of them are left from the first
+-- on that
 -- doesn't fit: 0 where they are just cut short.
 use Rattle.std.specs.Prelude.{◌≡◌, ℕ, zero, suc, ◌+◌, ◌-◌, ◌||◌, ◌==◌, nat_lt, if◌then◌else◌, List, [], ◌∷◌, length, take, drop, position, slice_index, Option, None, Some, Result, Ok, Err}
 use Rattle.std.specs.Int.{w64, from_be_bytes}
@@ -41,7 +42,8 @@ epoch_in First saved bytes = Ok (None, 0)
 epoch_in Second saved bytes =
     if nat_lt (length bytes) 8
     then Err 0
-    else if nat_lt saved (from_be_bytes w64 (take 8 bytes)) then Err (length bytes) else Ok (Some (from_be_bytes w64 (take 8 bytes)), 8)
+    else if nat_lt saved (from_be_bytes w64 (take 8 bytes)) then Err (length bytes) else Ok
+    (Some (from_be_bytes w64 (take 8 bytes)), 8)
 
 -- the row of this key and epoch, which take so many bytes, with the value behind them
 abbrev pub with_value : List ℕ → Option ℕ → ℕ → Result (List ℕ × ℕ) ℕ → Result (StoredRow × ℕ) ℕ
@@ -51,12 +53,14 @@ with_value key epoch taken (Ok value) = Ok (record { key = key; epoch = epoch; v
 -- the row of this key, which takes so many bytes, with the epoch in front of the rest and the value behind it
 abbrev pub with_epoch : List ℕ → ℕ → List ℕ → Result (Option ℕ × ℕ) ℕ → Result (StoredRow × ℕ) ℕ
 with_epoch key taken rest (Err left) = Err left
-with_epoch key taken rest (Ok epoch) = with_value key epoch.0 (taken + epoch.1) (word_in 0 VALUE_BYTES (drop epoch.1 rest))
+with_epoch key taken rest (Ok epoch) =
+    with_value key epoch.0 (taken + epoch.1) (word_in 0 VALUE_BYTES (drop epoch.1 rest))
 
 -- the row of the key in front
 abbrev pub with_key : Version → ℕ → List ℕ → Result (List ℕ × ℕ) ℕ → Result (StoredRow × ℕ) ℕ
 with_key version saved bytes (Err left) = Err left
-with_key version saved bytes (Ok key) = with_epoch key.0 key.1 (drop key.1 bytes) (epoch_in version saved (drop key.1 bytes))
+with_key version saved bytes (Ok key) =
+    with_epoch key.0 key.1 (drop key.1 bytes) (epoch_in version saved (drop key.1 bytes))
 
 -- the row in front, and how many bytes it takes
 unfoldable pub row_in : Version → ℕ → List ℕ → Result (StoredRow × ℕ) ℕ

@@ -77,7 +77,8 @@ pub record QmgrForms (s : QmgrState) (x : Signal) (P : Outgoing → Type 0) (M :
   pub goes_down : (group : ℕ) → x.body ≡ Membership (StopSet (NoGroup group)) → M (Down group)
   pub stops : (cause : StopCause) → x.body ≡ Membership (StopSet cause) → M (Stopped cause)
   -- who asks to join is answered
-  pub is_full : (member : Member) (own : Option ℕ) → x.body ≡ Joining (StartReq member own) → P (to_place client (Joining (StartRep member)))
+  pub is_full : (member : Member) (own : Option ℕ) → x.body ≡ Joining (StartReq member own)
+      → P (to_place client (Joining (StartRep member)))
   pub has_been : (member : Member) (own : Option ℕ) → x.body ≡ Joining (StartReq member own)
       → P (to_place client (Joining (StartEnd member)))
   -- the orders of an installation

@@ -14,15 +14,18 @@ abbrev pub IsBytes : List ℕ → Type 0
 IsBytes bytes = (i : ℕ) → get_or bytes i 0 < 256
 
 -- what is read was spelled, and what is spelled is read again, whatever follows it
-pub record Reads {A : Type 0} (Fits : A → Type 0) (spelled : A → List ℕ) (read : List ℕ → Result (A × List ℕ) ℕ) : Type 0 where
-  pub takes : (bytes : List ℕ) (x : A × List ℕ) → IsBytes bytes → read bytes ≡ Ok x → Fits x.0 × (bytes ≡ spelled x.0 ++ x.1)
+pub record Reads {A : Type 0} (Fits : A → Type 0) (spelled : A → List ℕ) (read : List ℕ → Result (A × List ℕ) ℕ) : Type
+    0 where
+  pub takes : (bytes : List ℕ) (x : A × List ℕ) → IsBytes bytes → read bytes ≡ Ok x
+      → Fits x.0 × (bytes ≡ spelled x.0 ++ x.1)
   pub again : (x : A) (rest : List ℕ) → Fits x → read (spelled x ++ rest) ≡ Ok (x, rest)
 
 rest_bytes : (front rest : List ℕ) → IsBytes (front ++ rest) → IsBytes rest
 rest_bytes [] rest h = h
 rest_bytes (b ∷ front) rest h = rest_bytes front rest (λ i. h (suc i))
 
-bind_ok : {A B : Type 0} (r : Result A ℕ) (f : A → Result B ℕ) (y : B) → (r >>= f) ≡ Ok y → (x : A) × (r ≡ Ok x) × (f x ≡ Ok y)
+bind_ok : {A B : Type 0} (r : Result A ℕ) (f : A → Result B ℕ) (y : B) → (r >>= f) ≡ Ok y
+    → (x : A) × (r ≡ Ok x) × (f x ≡ Ok y)
 bind_ok (Ok x) f y e = (x, refl, e)
 bind_ok (Err left) f y e = absurd cc
 
@@ -41,18 +44,25 @@ reads_then {A = A} {B = B} F s r G t q first second = record {
       let one = bind_ok (r bytes) (λ x. q x.0 x.1 >>= λ y. Ok ((x.0, y.0), y.1)) x e in
       let a = first.takes bytes one.0 fits one.1 in
       let two = bind_ok (q one.0.0 one.0.1) (λ y. Ok ((one.0.0, y.0), y.1)) x one.2 in
-      let b = (second one.0.0 a.0).takes one.0.1 two.0 (rest_bytes (s one.0.0) one.0.1 (subst IsBytes a.1 fits)) two.1 in
+      let b =
+      (second one.0.0 a.0).takes one.0.1 two.0 (rest_bytes (s one.0.0) one.0.1 (subst IsBytes a.1 fits)) two.1 in
       let whole : bytes ≡ (s one.0.0 ++ t one.0.0 two.0.0) ++ two.0.1 =
       a.1 ∙ ap (λ (w : List ℕ). s one.0.0 ++ w) b.1 ∙ sym (append_assoc (s one.0.0) (t one.0.0 two.0.0) two.0.1) in
       subst (λ (z : (A × B) × List ℕ). (F z.0.0 × G z.0.0 z.0.1) × (bytes ≡ (s z.0.0 ++ t z.0.0 z.0.1) ++ z.1))
       (ok_is ((one.0.0, two.0.0), two.0.1) x two.2) ((a.0, b.0), whole);
   again = λ x rest fits.
-      rw (append_assoc (s x.0) (t x.0 x.1) rest, first.again x.0 (t x.0 x.1 ++ rest) fits.0, (second x.0 fits.0).again x.1 rest fits.1) refl;
+      rw (
+        append_assoc (s x.0) (t x.0 x.1) rest,
+        first.again x.0 (t x.0 x.1 ++ rest) fits.0,
+        (second x.0 fits.0).again
+            x.1 rest fits.1,
+      ) refl;
 }
 
 pub reads_told : {A B : Type 0} (F : A → Type 0) (s : A → List ℕ) (r : List ℕ → Result (A × List ℕ) ℕ)
     (G : B → Type 0) (t : B → List ℕ) (f : A → B) (g : B → A)
-    → Reads F s r → ((x : A) → F x → G (f x) × (t (f x) ≡ s x)) → ((y : B) → G y → F (g y) × (f (g y) ≡ y)) → Reads G t (told f r)
+    → Reads F s r → ((x : A) → F x → G (f x) × (t (f x) ≡ s x)) → ((y : B) → G y → F (g y) × (f (g y) ≡ y))
+    → Reads G t (told f r)
 reads_told {A = A} {B = B} F s r G t f g reads to from = record {
   takes = λ bytes y fits e.
       let one = bind_ok (r bytes) (λ x. Ok (f x.0, x.1)) y e in
@@ -95,7 +105,8 @@ reads_byte least most = record {
 -- ---- a run of printable bytes, and a word
 
 run_told : (short : Bool) (whole part : Option ℕ) (bytes : List ℕ) (found x : List ℕ × List ℕ)
-    → (if short then unless_spoilt bytes (Err 0) whole else unless_spoilt bytes (Ok found) part) ≡ Ok x → (short ≡ false) × (part ≡ None) × (found ≡ x)
+    → (if short then unless_spoilt bytes (Err 0) whole else unless_spoilt bytes (Ok found) part) ≡ Ok x
+    → (short ≡ false) × (part ≡ None) × (found ≡ x)
 run_told true None part bytes found x e = absurd cc
 run_told true (Some at) part bytes found x e = absurd cc
 run_told false whole None bytes found x e = (refl, refl, ok_is found x e)
@@ -108,12 +119,14 @@ pub reads_run : (len : ℕ) → Reads (λ run. (length run ≡ len) × IsPlain r
 unfolding run_at
 reads_run len = record {
   takes = λ bytes x fits e.
-      let is = run_told (nat_lt (length bytes) len) (position is_unprintable bytes) (position is_unprintable (take len bytes)) bytes (take len bytes, drop len bytes) x e in
+      let is = run_told (nat_lt (length bytes) len) (position is_unprintable bytes)
+      (position is_unprintable (take len bytes)) bytes (take len bytes, drop len bytes) x e in
       let long : len ≤ length bytes = grind (arith, nat_tests, is.0) in
       subst (λ (z : List ℕ × List ℕ). ((length z.0 ≡ len) × IsPlain z.0) × (bytes ≡ z.0 ++ z.1)) is.2
       ((length-take-le len bytes long, is.1), sym (take-append-drop len bytes));
   again = λ run rest fits.
-      let short : nat_lt (length (run ++ rest)) len ≡ false = le-ltb _ _ (omega (arith, length-append run rest, fits.0)) in
+      let short : nat_lt (length (run ++ rest)) len ≡ false =
+      le-ltb _ _ (omega (arith, length-append run rest, fits.0)) in
       rw (short, take_at run rest len fits.0, drop_at run rest len fits.0, fits.1) refl;
 }
 
@@ -127,13 +140,23 @@ unfolding word_at
 reads_word least most =
     reads_told {A = ℕ × List ℕ} {B = List ℕ} _ _ _ (IsWord least most) word (λ x. x.1) (λ w. (length w, w))
     (reads_then {A = ℕ} {B = List ℕ} (λ b. (least ≤ b) × (b ≤ most)) (λ b. b ∷ []) (byte_at least most)
-    (λ len run. (length run ≡ len) × IsPlain run) (λ len run. run) run_at (reads_byte least most) (λ len fits. reads_run len))
-    (λ x fits. (record { long = omega (arith, fits.1.0, fits.0.0); short = omega (arith, fits.1.0, fits.0.1); plain = fits.1.1 }, ap (λ (n : ℕ). n ∷ x.1) fits.1.0))
+    (λ len run. (length run ≡ len) × IsPlain run) (λ len run. run) run_at (reads_byte least most)
+    (λ len fits. reads_run len))
+    (λ x fits. (
+      record {
+        long = omega (arith, fits.1.0, fits.0.0);
+        short = omega (arith, fits.1.0, fits.0.1);
+        plain =
+            fits.1.1;
+      },
+      ap (λ (n : ℕ). n ∷ x.1) fits.1.0,
+    ))
     (λ w fits. (((fits.long, fits.short), (refl, fits.plain)), refl))
 
 -- ---- a number
 
-number_told : (short : Bool) (found x : ℕ × List ℕ) → (if short then Err 0 else good found) ≡ Ok x → (short ≡ false) × (found ≡ x)
+number_told : (short : Bool) (found x : ℕ × List ℕ) → (if short then Err 0 else good found) ≡ Ok x
+    → (short ≡ false) × (found ≡ x)
 number_told true found x e = absurd cc
 number_told false found x e = (refl, ok_is found x e)
 
@@ -145,7 +168,8 @@ front_bytes (b ∷ front) rest h (suc i) = front_bytes front rest (λ j. h (suc 
 -- a width's numbers and their bytes
 pub record IsWidth (w : Width) (limit : ℕ) : Type 0 where
   pub size : (n : ℕ) → length (to_be_bytes w n) ≡ byte_len w
-  pub spelled : (bytes : List ℕ) → length bytes ≡ byte_len w → IsBytes bytes → to_be_bytes w (from_be_bytes w bytes) ≡ bytes
+  pub spelled : (bytes : List ℕ) → length bytes ≡ byte_len w → IsBytes bytes
+      → to_be_bytes w (from_be_bytes w bytes) ≡ bytes
   pub again : (n : ℕ) → n < limit → from_be_bytes w (to_be_bytes w n) ≡ n
   pub below : (bytes : List ℕ) → IsBytes bytes → from_be_bytes w bytes < limit
 
@@ -168,16 +192,26 @@ eight_bytes = record {
 pub reads_number : (w : Width) (limit : ℕ) → IsWidth w limit → Reads (λ n. n < limit) (to_be_bytes w) (number_at w)
 reads_number w limit is = record {
   takes = λ bytes x are e.
-      let told = number_told (nat_lt (length bytes) (byte_len w)) (from_be_bytes w (take (byte_len w) bytes), drop (byte_len w) bytes) x e in
+      let told = number_told (nat_lt (length bytes) (byte_len w))
+      (from_be_bytes w (take (byte_len w) bytes), drop (byte_len w) bytes) x e in
       let long : byte_len w ≤ length bytes = grind (arith, nat_tests, told.0) in
       let whole : take (byte_len w) bytes ++ drop (byte_len w) bytes ≡ bytes = take-append-drop (byte_len w) bytes in
       let front = front_bytes (take (byte_len w) bytes) (drop (byte_len w) bytes) (subst IsBytes (sym whole) are) in
       let spelled : to_be_bytes w (from_be_bytes w (take (byte_len w) bytes)) ≡ take (byte_len w) bytes =
       is.spelled (take (byte_len w) bytes) (length-take-le (byte_len w) bytes long) front in
-      subst (λ (z : ℕ × List ℕ). (z.0 < limit) × (bytes ≡ to_be_bytes w z.0 ++ z.1)) told.1
-      (is.below (take (byte_len w) bytes) front, sym whole ∙ ap (λ (t : List ℕ). t ++ drop (byte_len w) bytes) (sym spelled));
+      subst (λ (z : ℕ × List ℕ). (z.0 < limit) × (bytes ≡ to_be_bytes w z.0 ++ z.1)) told.1 (
+        is.below (take (byte_len w) bytes) front,
+        sym whole
+            ∙ ap (λ (t : List ℕ). t ++ drop (byte_len w) bytes) (sym spelled),
+      );
   again = λ n rest lt.
       let short : nat_lt (length (to_be_bytes w n ++ rest)) (byte_len w) ≡ false =
       le-ltb _ _ (omega (arith, length-append (to_be_bytes w n) rest, is.size n)) in
-      rw (short, take_at (to_be_bytes w n) rest (byte_len w) (is.size n), drop_at (to_be_bytes w n) rest (byte_len w) (is.size n), is.again n lt) refl;
+      rw (
+        short,
+        take_at (to_be_bytes w n) rest (byte_len w) (is.size n),
+        drop_at (to_be_bytes w n) rest (byte_len w)
+            (is.size n),
+        is.again n lt,
+      ) refl;
 }

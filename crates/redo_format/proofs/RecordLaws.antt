@@ -20,7 +20,8 @@ use Rattle.redo_format.proofs.Readers.{IsBytes, IsWord, Reads}
 use Rattle.redo_format.proofs.RecordReaders.{RecordFits, kind_of, behind, flag_fits, reads_record}
 
 worded : (short long : Bool) (spoilt : Option ℕ) (fault : WordFault) (w x : List ℕ)
-    → (if short || long then Err fault else unless_spoilt w spoilt) ≡ Ok x → (short ≡ false) × (long ≡ false) × (spoilt ≡ None)
+    → (if short || long then Err fault else unless_spoilt w spoilt) ≡ Ok x
+    → (short ≡ false) × (long ≡ false) × (spoilt ≡ None)
 worded true long spoilt fault w x e = absurd cc
 worded false true spoilt fault w x e = absurd cc
 worded false false None fault w x e = (refl, refl, refl)
@@ -66,24 +67,28 @@ size_bytes n le = be_bytes_2 (0 ∷ n ∷ []) n refl (small n le) (omega arith)
 spelled : (redo : Redo) → RecordFits redo → bytes_of redo ≡ kind_of redo ∷ behind redo
 unfolding bytes_of size_of
 spelled (Prepare tx fragment key image) fits =
-    ap (λ (w : List ℕ). (1 ∷ w) ++ tx.tc ∷ to_be_bytes w32 tx.start ++ to_be_bytes w64 tx.seq ++ fragment ∷ flag image ∷ word key ++ image_bytes image)
+    ap (λ (w : List ℕ). (1 ∷ w) ++ tx.tc ∷ to_be_bytes w32 tx.start ++ to_be_bytes w64 tx.seq ++ fragment ∷ flag image ∷
+    word key ++ image_bytes image)
     (size_bytes (prepare_bytes key image) (flag_fits key image fits.2 fits.3).1)
 spelled (Commit tx epoch key) fits =
     let most = fits.2.short in
-    ap (λ (w : List ℕ). (2 ∷ w) ++ tx.tc ∷ to_be_bytes w32 tx.start ++ to_be_bytes w64 tx.seq ++ to_be_bytes w64 epoch ++ word key)
+    ap (λ (w : List ℕ). (2 ∷ w) ++ tx.tc ∷ to_be_bytes w32 tx.start ++ to_be_bytes w64 tx.seq ++ to_be_bytes w64 epoch
+    ++ word key)
     (size_bytes (commit_bytes key) (omega arith))
 spelled (Abort tx key) fits =
     let most = fits.1.short in
     ap (λ (w : List ℕ). (3 ∷ w) ++ tx.tc ∷ to_be_bytes w32 tx.start ++ to_be_bytes w64 tx.seq ++ word key)
     (size_bytes (17 + length key) (omega arith))
 
-pub decodes : (redo : Redo) (rest : List ℕ) → IsRecord redo → decoded (bytes_of redo ++ rest) ≡ Ok (redo, length (bytes_of redo))
+pub decodes : (redo : Redo) (rest : List ℕ) → IsRecord redo
+    → decoded (bytes_of redo ++ rest) ≡ Ok (redo, length (bytes_of redo))
 decodes redo rest is =
     let fits = fits_of redo is in
     let same = spelled redo fits in
     let read : record_at (bytes_of redo ++ rest) ≡ Ok (redo, rest) =
     ap (λ (w : List ℕ). record_at (w ++ rest)) same ∙ reads_record.again redo rest fits in
-    let len : length (bytes_of redo ++ rest) - length rest ≡ length (bytes_of redo) = omega (arith, length-append (bytes_of redo) rest) in
+    let len : length (bytes_of redo ++ rest) - length rest ≡ length (bytes_of redo) =
+    omega (arith, length-append (bytes_of redo) rest) in
     ap (from_read (bytes_of redo ++ rest)) read ∙ ap (λ (n : ℕ). Ok (redo, n)) len
 
 ok_is : (x y : Redo × ℕ) (fine : Result (Redo × ℕ) FormatFault) → fine ≡ Ok x → fine ≡ Ok y → x ≡ y
@@ -99,11 +104,13 @@ found_by bytes (Ok y) x are was e =
     ap (λ (w : List ℕ). length w - length y.1) whole ∙ omega (arith, length-append (bytes_of y.0) y.1) in
     let front : take (length (bytes_of y.0)) bytes ≡ bytes_of y.0 =
     ap (take (length (bytes_of y.0))) whole ∙ take_at (bytes_of y.0) y.1 (length (bytes_of y.0)) refl in
-    let x-is : (y.0, length bytes - length y.1) ≡ x = ok_is (y.0, length bytes - length y.1) x (from_read bytes (Ok y)) refl e in
+    let x-is : (y.0, length bytes - length y.1) ≡ x =
+    ok_is (y.0, length bytes - length y.1) x (from_read bytes (Ok y)) refl e in
     subst (IsDecoded bytes) (ap (λ (n : ℕ). (y.0, n)) (sym len) ∙ x-is)
     (record { is = of_fits y.0 is.0; front = front; len = refl })
 
-pub found : (bytes : List ℕ) (r : Result (Redo × ℕ) FormatFault) → IsBytes bytes → r ≡ decoded bytes → IfOk r (IsDecoded bytes)
+pub found : (bytes : List ℕ) (r : Result (Redo × ℕ) FormatFault) → IsBytes bytes → r ≡ decoded bytes
+    → IfOk r (IsDecoded bytes)
 found bytes (Err fault) are e = tt
 found bytes (Ok x) are e = found_by bytes (record_at bytes) x are refl (sym e)
 
@@ -117,5 +124,7 @@ differ one other after more is also same =
     let first : record_at (bytes_of one ++ after) ≡ Ok (one, after) =
     ap (λ (w : List ℕ). record_at (w ++ after)) (spelled one fits) ∙ reads_record.again one after fits in
     let second : record_at (bytes_of one ++ after) ≡ Ok (other, more) =
-    ap record_at same ∙ ap (λ (w : List ℕ). record_at (w ++ more)) (spelled other suits) ∙ reads_record.again other more suits in
-    ap (λ (p : Redo × List ℕ). p.0) (pair_is (one, after) (other, more) (record_at (bytes_of one ++ after)) first second)
+    ap record_at same ∙ ap (λ (w : List ℕ). record_at (w ++ more)) (spelled other suits)
+    ∙ reads_record.again other more suits in
+    ap (λ (p : Redo × List ℕ). p.0) (pair_is (one, after) (other, more) (record_at (bytes_of one ++ after)) first
+    second)

@@ -20,7 +20,8 @@ transaction_bytes tx = (tx.tc ∷ []) ++ (to_be_bytes w32 tx.start ++ to_be_byte
 reads_transaction : Reads IsTransaction transaction_bytes transaction_at
 unfolding transaction_at
 reads_transaction =
-    reads_told {A = ℕ × (ℕ × ℕ)} {B = TxId} _ _ _ IsTransaction transaction_bytes transaction_of (λ tx. (tx.tc, (tx.start, tx.seq)))
+    reads_told {A = ℕ × (ℕ × ℕ)} {B = TxId} _ _ _ IsTransaction transaction_bytes transaction_of
+    (λ tx. (tx.tc, (tx.start, tx.seq)))
     (reads_then {A = ℕ} {B = ℕ × ℕ} (λ b. (1 ≤ b) × (b ≤ 8)) (λ b. b ∷ []) (byte_at 1 8)
     (λ tc p. (p.0 < 2 ^ 32) × (p.1 < 2 ^ 64)) (λ tc p. to_be_bytes w32 p.0 ++ to_be_bytes w64 p.1)
     (λ tc. and_then (number_at w32) (λ start. number_at w64)) (reads_byte 1 8)
@@ -46,7 +47,8 @@ reads_head least most =
     (λ high fits. reads_then {A = ℕ} {B = TxId} (λ b. (least ≤ b) × (b ≤ most)) (λ b. b ∷ []) (byte_at least most)
     (λ size. IsTransaction) (λ size. transaction_bytes) (λ size. transaction_at) (reads_byte least most)
     (λ size fits. reads_transaction)))
-    (λ x fits. let none : 0 ≡ x.0 = omega (arith, fits.0.1) in (fits.1, ap (λ (n : ℕ). n ∷ x.1.0 ∷ transaction_bytes x.1.1) none))
+    (λ x fits. let none : 0 ≡ x.0 = omega (arith, fits.0.1) in
+    (fits.1, ap (λ (n : ℕ). n ∷ x.1.0 ∷ transaction_bytes x.1.1) none))
     (λ x fits. (((omega arith, omega arith), fits), refl))
 
 -- ---- a commit and an abort
@@ -54,7 +56,8 @@ reads_head least most =
 -- what stands behind the kind
 abbrev pub behind : Redo → List ℕ
 behind (Prepare tx fragment key image) =
-    head_bytes (prepare_bytes key image, tx) ++ ((fragment ∷ []) ++ ((flag image ∷ []) ++ (word key ++ image_bytes image)))
+    head_bytes (prepare_bytes key image, tx)
+    ++ ((fragment ∷ []) ++ ((flag image ∷ []) ++ (word key ++ image_bytes image)))
 behind (Commit tx epoch key) = head_bytes (commit_bytes key, tx) ++ (to_be_bytes w64 epoch ++ word key)
 behind (Abort tx key) = head_bytes (17 + length key, tx) ++ word key
 
@@ -75,8 +78,13 @@ commit_parts : (redo : Redo) → CommitFits redo → CommitParts (uncommitted re
 commit_parts (Prepare tx fragment key image) fits = absurd fits
 commit_parts (Commit tx epoch key) fits =
     let least = fits.2.long in
-    let most = fits.2.short in
-    ((((omega arith, omega arith), fits.0), (fits.1, record { long = omega arith; short = omega arith; plain = fits.2.plain })), refl)
+    let most = fits.2.short in (
+      (
+        ((omega arith, omega arith), fits.0),
+        (fits.1, record { long = omega arith; short = omega arith; plain = fits.2.plain }),
+      ),
+      refl,
+    )
 commit_parts (Abort tx key) fits = absurd fits
 
 pub reads_commit : Reads CommitFits behind commit_at
@@ -93,7 +101,15 @@ reads_commit =
     let long = fits.1.1.long in
     let short = fits.1.1.short in
     let size : commit_bytes x.1.1 ≡ x.0.0 = omega (arith, fits.0.0.0, fits.0.0.1, long, short) in (
-      (fits.0.1, fits.1.0, record { long = omega (arith, fits.0.0.0, long); short = omega (arith, fits.0.0.1, short); plain = fits.1.1.plain }),
+      (
+        fits.0.1,
+        fits.1.0,
+        record {
+          long = omega (arith, fits.0.0.0, long);
+          short = omega (arith, fits.0.0.1, short);
+          plain = fits.1.1.plain;
+        },
+      ),
       ap (λ (n : ℕ). head_bytes (n, x.0.1) ++ (to_be_bytes w64 x.1.0 ++ word x.1.1)) size,
     ))
     commit_parts
@@ -116,8 +132,10 @@ abort_parts (Prepare tx fragment key image) fits = absurd fits
 abort_parts (Commit tx epoch key) fits = absurd fits
 abort_parts (Abort tx key) fits =
     let least = fits.1.long in
-    let most = fits.1.short in
-    ((((omega arith, omega arith), fits.0), record { long = omega arith; short = omega arith; plain = fits.1.plain }), refl)
+    let most = fits.1.short in (
+      (((omega arith, omega arith), fits.0), record { long = omega arith; short = omega arith; plain = fits.1.plain }),
+      refl,
+    )
 
 pub reads_abort : Reads AbortFits behind abort_at
 unfolding abort_at
@@ -130,7 +148,14 @@ reads_abort =
     let long = fits.1.long in
     let short = fits.1.short in
     let size : 17 + length x.1 ≡ x.0.0 = omega (arith, fits.0.0.0, fits.0.0.1, long, short) in (
-      (fits.0.1, record { long = omega (arith, fits.0.0.0, long); short = omega (arith, fits.0.0.1, short); plain = fits.1.plain }),
+      (
+        fits.0.1,
+        record {
+          long = omega (arith, fits.0.0.0, long);
+          short = omega (arith, fits.0.0.1, short);
+          plain = fits.1.plain;
+        },
+      ),
       ap (λ (n : ℕ). head_bytes (n, x.0.1) ++ word x.1) size,
     ))
     abort_parts
@@ -138,7 +163,8 @@ reads_abort =
 -- ---- a prepare
 
 abbrev pub ImageFits : ℕ → ℕ → List ℕ × Option (List ℕ) → Type 0
-ImageFits size flags x = IsWord 1 32 x.0 × IfSome x.1 (IsWord 0 200) × (flags ≡ flag x.1) × (size ≡ prepare_bytes x.0 x.1)
+ImageFits size flags x =
+    IsWord 1 32 x.0 × IfSome x.1 (IsWord 0 200) × (flags ≡ flag x.1) × (size ≡ prepare_bytes x.0 x.1)
 
 abbrev image_spelled : List ℕ × Option (List ℕ) → List ℕ
 image_spelled x = word x.0 ++ image_bytes x.1
@@ -198,18 +224,24 @@ reads_image : (size flags : ℕ) → 20 ≤ size → size ≤ 252 → least_flag
 unfolding image_at
 reads_image size zero low high least most =
     let short = bare size least in
-    reads_told {A = List ℕ} {B = List ℕ × Option (List ℕ)} _ _ _ (ImageFits size 0) image_spelled (λ key. (key, None)) (λ x. x.0)
+    reads_told {A = List ℕ} {B = List ℕ × Option (List ℕ)} _ _ _ (ImageFits size 0) image_spelled (λ key. (key, None))
+    (λ x. x.0)
     (reads_word (size - 19) (size - 19))
-    (λ key fits. let a = fits.long in let b = fits.short in
-    ((record { long = omega arith; short = omega arith; plain = fits.plain }, tt, refl, omega arith), append-nil (word key)))
+    (λ key fits. let a = fits.long in let b = fits.short in (
+      (record { long = omega arith; short = omega arith; plain = fits.plain }, tt, refl, omega arith),
+      append-nil (word key),
+    ))
     (λ x fits. no_image size x.0 x.1 fits)
 reads_image size (suc zero) low high least most =
     let long = imaged size most in
-    reads_told {A = List ℕ × List ℕ} {B = List ℕ × Option (List ℕ)} _ _ _ (ImageFits size 1) image_spelled (λ x. (x.0, Some x.1)) (λ x. (x.0, image_or x.1))
-    (reads_then {A = List ℕ} {B = List ℕ} (IsWord (max 1 (size - 220)) (min 32 (size - 20))) word (word_at (max 1 (size - 220)) (min 32 (size - 20)))
+    reads_told {A = List ℕ × List ℕ} {B = List ℕ × Option (List ℕ)} _ _ _ (ImageFits size 1) image_spelled
+    (λ x. (x.0, Some x.1)) (λ x. (x.0, image_or x.1))
+    (reads_then {A = List ℕ} {B = List ℕ} (IsWord (max 1 (size - 220)) (min 32 (size - 20))) word
+    (word_at (max 1 (size - 220)) (min 32 (size - 20)))
     (λ key. IsWord (size - 20 - length key) (size - 20 - length key)) (λ key. word)
     (λ key. word_at (size - 20 - length key) (size - 20 - length key))
-    (reads_word (max 1 (size - 220)) (min 32 (size - 20))) (λ key fits. reads_word (size - 20 - length key) (size - 20 - length key)))
+    (reads_word (max 1 (size - 220)) (min 32 (size - 20)))
+    (λ key fits. reads_word (size - 20 - length key) (size - 20 - length key)))
     (λ x fits. let a = fits.0.long in let b = fits.0.short in let c = fits.1.long in let d = fits.1.short in (
       (
         record { long = omega arith; short = omega arith; plain = fits.0.plain },
@@ -223,7 +255,8 @@ reads_image size (suc zero) low high least most =
 reads_image size (suc (suc more)) low high least most = absurd (omega (arith, one_at_most (nat_lt size 21), most))
 
 abbrev pub PrepareFits : Redo → Type 0
-PrepareFits (Prepare tx fragment key image) = IsTransaction tx × (fragment < 32) × IsWord 1 32 key × IfSome image (IsWord 0 200)
+PrepareFits (Prepare tx fragment key image) =
+    IsTransaction tx × (fragment < 32) × IsWord 1 32 key × IfSome image (IsWord 0 200)
 PrepareFits (Commit tx epoch key) = ⊥
 PrepareFits (Abort tx key) = ⊥
 
@@ -277,15 +310,19 @@ prepare_parts (Abort tx key) fits = absurd fits
 pub reads_prepare : Reads PrepareFits behind prepare_at
 unfolding prepare_at
 reads_prepare =
-    reads_told {A = (ℕ × TxId) × (ℕ × (ℕ × (List ℕ × Option (List ℕ))))} {B = Redo} _ _ _ PrepareFits behind prepared unprepared
+    reads_told {A = (ℕ × TxId) × (ℕ × (ℕ × (List ℕ × Option (List ℕ))))} {B = Redo} _ _ _ PrepareFits behind prepared
+    unprepared
     (reads_then {A = ℕ × TxId} {B = ℕ × (ℕ × (List ℕ × Option (List ℕ)))} (HeadFits 20 252) head_bytes (head_at 20 252)
     (λ head. FragmentFits head.0) (λ head. fragment_spelled)
-    (λ head. and_then (byte_at 0 31) (λ fragment. and_then (byte_at (least_flag head.0) (most_flag head.0)) (image_at head.0)))
+    (λ head. and_then (byte_at 0 31) (λ fragment. and_then (byte_at (least_flag head.0) (most_flag head.0))
+    (image_at head.0)))
     (reads_head 20 252)
-    (λ head fits. reads_then {A = ℕ} {B = ℕ × (List ℕ × Option (List ℕ))} (λ b. (0 ≤ b) × (b ≤ 31)) (λ b. b ∷ []) (byte_at 0 31)
+    (λ head fits. reads_then {A = ℕ} {B = ℕ × (List ℕ × Option (List ℕ))} (λ b. (0 ≤ b) × (b ≤ 31)) (λ b. b ∷ [])
+    (byte_at 0 31)
     (λ fragment. FlagFits head.0) (λ fragment. flag_spelled)
     (λ fragment. and_then (byte_at (least_flag head.0) (most_flag head.0)) (image_at head.0)) (reads_byte 0 31)
-    (λ fragment small. reads_then {A = ℕ} {B = List ℕ × Option (List ℕ)} (λ b. (least_flag head.0 ≤ b) × (b ≤ most_flag head.0)) (λ b. b ∷ [])
+    (λ fragment small. reads_then {A = ℕ} {B = List ℕ × Option (List ℕ)}
+    (λ b. (least_flag head.0 ≤ b) × (b ≤ most_flag head.0)) (λ b. b ∷ [])
     (byte_at (least_flag head.0) (most_flag head.0))
     (ImageFits head.0) (λ flags. image_spelled) (image_at head.0) (reads_byte (least_flag head.0) (most_flag head.0))
     (λ flags range. reads_image head.0 flags fits.0.0 fits.0.1 range.0 range.1))))
@@ -293,7 +330,8 @@ reads_prepare =
     let below = fits.1.0.1 in
     let image = fits.1.1.1 in (
       (fits.0.1, omega (arith, below), image.0, image.1),
-      ap (λ (n : ℕ). head_bytes (n, x.0.1) ++ ((x.1.0 ∷ []) ++ ((flag x.1.1.1.1 ∷ []) ++ image_spelled x.1.1.1))) (sym image.3)
+      ap (λ (n : ℕ). head_bytes (n, x.0.1) ++ ((x.1.0 ∷ []) ++ ((flag x.1.1.1.1 ∷ []) ++ image_spelled x.1.1.1)))
+          (sym image.3)
           ∙ ap (λ (n : ℕ). head_bytes x.0 ++ ((x.1.0 ∷ []) ++ ((n ∷ []) ++ image_spelled x.1.1.1))) (sym image.2),
     ))
     prepare_parts
@@ -306,7 +344,8 @@ kind_of (Commit tx epoch key) = 2
 kind_of (Abort tx key) = 3
 
 abbrev pub RecordFits : Redo → Type 0
-RecordFits (Prepare tx fragment key image) = IsTransaction tx × (fragment < 32) × IsWord 1 32 key × IfSome image (IsWord 0 200)
+RecordFits (Prepare tx fragment key image) =
+    IsTransaction tx × (fragment < 32) × IsWord 1 32 key × IfSome image (IsWord 0 200)
 RecordFits (Commit tx epoch key) = IsTransaction tx × (epoch < 2 ^ 64) × IsWord 1 32 key
 RecordFits (Abort tx key) = IsTransaction tx × IsWord 1 32 key
 
@@ -323,7 +362,8 @@ reads_kind (suc (suc zero)) range = reads_commit
 reads_kind (suc (suc (suc zero))) range = reads_abort
 reads_kind (suc (suc (suc (suc more)))) range = absurd (omega (arith, range.1))
 
-kind_fits : (kind : ℕ) (redo : Redo) → (1 ≤ kind) × (kind ≤ 3) → KindFits kind redo → RecordFits redo × (kind_of redo ≡ kind)
+kind_fits : (kind : ℕ) (redo : Redo) → (1 ≤ kind) × (kind ≤ 3) → KindFits kind redo
+    → RecordFits redo × (kind_of redo ≡ kind)
 kind_fits zero redo range fits = absurd (omega (arith, range.0))
 kind_fits (suc zero) (Prepare tx fragment key image) range fits = (fits, refl)
 kind_fits (suc zero) (Commit tx epoch key) range fits = absurd fits
@@ -344,7 +384,9 @@ fits_kind (Abort tx key) fits = ((omega arith, omega arith), fits)
 pub reads_record : Reads RecordFits (λ redo. kind_of redo ∷ behind redo) record_at
 unfolding record_at
 reads_record =
-    reads_told {A = ℕ × Redo} {B = Redo} _ _ _ RecordFits (λ redo. kind_of redo ∷ behind redo) (λ x. x.1) (λ redo. (kind_of redo, redo))
-    (reads_then {A = ℕ} {B = Redo} (λ b. (1 ≤ b) × (b ≤ 3)) (λ b. b ∷ []) (byte_at 1 3) KindFits (λ kind. behind) of_kind (reads_byte 1 3) reads_kind)
+    reads_told {A = ℕ × Redo} {B = Redo} _ _ _ RecordFits (λ redo. kind_of redo ∷ behind redo) (λ x. x.1)
+    (λ redo. (kind_of redo, redo))
+    (reads_then {A = ℕ} {B = Redo} (λ b. (1 ≤ b) × (b ≤ 3)) (λ b. b ∷ []) (byte_at 1 3) KindFits (λ kind. behind)
+    of_kind (reads_byte 1 3) reads_kind)
     (λ x fits. let is = kind_fits x.0 x.1 fits.0 fits.1 in (is.0, ap (λ (n : ℕ). n ∷ behind x.1) is.1))
     (λ redo fits. (fits_kind redo fits, refl))

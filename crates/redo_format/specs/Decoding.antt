@@ -24,9 +24,11 @@ pub record IsDecoded (bytes : List ℕ) (found : Redo × ℕ) : Type 0 where
 -- where the bytes begin with those of a record, the answer is that record and their number
 abbrev pub IsAnyRecord : List ℕ → Result (Redo × ℕ) FormatFault → Type 0
 IsAnyRecord bytes answer =
-    (redo : Redo) (rest : List ℕ) → IsRecord redo → bytes ≡ bytes_of redo ++ rest → answer ≡ Ok (redo, length (bytes_of redo))
+    (redo : Redo) (rest : List ℕ) → IsRecord redo → bytes ≡ bytes_of redo ++ rest
+    → answer ≡ Ok (redo, length (bytes_of redo))
 
 -- no record's bytes begin with another one's
 abbrev pub NoneBeginsAnother : Type 0
 NoneBeginsAnother =
-    (one other : Redo) (after more : List ℕ) → IsRecord one → IsRecord other → bytes_of one ++ after ≡ bytes_of other ++ more → one ≡ other
+    (one other : Redo) (after more : List ℕ) → IsRecord one → IsRecord other
+    → bytes_of one ++ after ≡ bytes_of other ++ more → one ≡ other

@@ -32,7 +32,8 @@ byte_at least most (byte ∷ rest) =
 -- a number of this width: all bytes are some number's
 abbrev pub number_at : Width → Reader ℕ
 number_at w bytes =
-    if nat_lt (length bytes) (byte_len w) then Err 0 else Ok (from_be_bytes w (take (byte_len w) bytes), drop (byte_len w) bytes)
+    if nat_lt (length bytes) (byte_len w) then Err 0 else Ok
+    (from_be_bytes w (take (byte_len w) bytes), drop (byte_len w) bytes)
 
 -- what is read, where no byte is unprintable
 abbrev pub unless_spoilt : List ℕ → Result (List ℕ × List ℕ) ℕ → Option ℕ → Result (List ℕ × List ℕ) ℕ
@@ -90,7 +91,8 @@ committed x = Commit x.0.1 x.1.0 x.1.1
 
 unfoldable pub commit_at : Reader Redo
 commit_at =
-    told committed (and_then (head_at 26 57) (λ head. and_then (number_at w64) (λ epoch. word_at (head.0 - 25) (head.0 - 25))))
+    told committed (and_then (head_at 26 57) (λ head. and_then (number_at w64)
+    (λ epoch. word_at (head.0 - 25) (head.0 - 25))))
 
 abbrev pub aborted : (ℕ × TxId) × List ℕ → Redo
 aborted x = Abort x.0.1 x.1

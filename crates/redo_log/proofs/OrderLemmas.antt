@@ -18,7 +18,8 @@ pub oldest : List Redo → List Redo → List Redo
 oldest [] later = later
 oldest (redo ∷ older) later = oldest older (redo ∷ later)
 
-pub bytes_oldest : (newest later : List Redo) → log_bytes newest ++ flat_map bytes_of later ≡ flat_map bytes_of (oldest newest later)
+pub bytes_oldest : (newest later : List Redo)
+    → log_bytes newest ++ flat_map bytes_of later ≡ flat_map bytes_of (oldest newest later)
 unfolding oldest
 bytes_oldest [] later = refl
 bytes_oldest (redo ∷ older) later =
@@ -53,7 +54,8 @@ apart (redo ∷ one) (first ∷ other) rest at a b some none e =
     apart one other rest at a.1 b.1 some none further
 
 pub undamaged : (epoch parity from : ℕ) (before rows : Rows) (bytes : List ℕ) (newest : List Redo) (file at byte : ℕ)
-    → AreRecords newest → bytes ≡ log_bytes newest → Replays epoch before parity from bytes rows (Err (Damaged file at byte)) → ⊥
+    → AreRecords newest → bytes ≡ log_bytes newest
+    → Replays epoch before parity from bytes rows (Err (Damaged file at byte)) → ⊥
 undamaged epoch parity from before rows bytes newest file at byte are is (one, (rest, (place, (done, damaged)))) =
     apart (oldest one []) (oldest newest []) rest place (are_oldest one [] done.are tt) (are_oldest newest [] are tt)
     damaged.some damaged.none
@@ -82,7 +84,8 @@ one_list (redo ∷ one) (first ∷ other) a b e =
     ap (λ (w : Redo). w ∷ one) same ∙ ap (λ (w : List Redo). first ∷ w) (one_list one other a.1 b.1 further)
 
 -- and the newest first
-pub one_newest : (one other : List Redo) → AreRecords one → AreRecords other → log_bytes one ≡ log_bytes other → one ≡ other
+pub one_newest : (one other : List Redo) → AreRecords one → AreRecords other → log_bytes one ≡ log_bytes other
+    → one ≡ other
 unfolding oldest
 one_newest one other a b e =
     let bytes : flat_map bytes_of (oldest one []) ≡ flat_map bytes_of (oldest other []) =

@@ -65,7 +65,8 @@ kept_by parity position p byte piece files true is lies before near stored =
     let old : List ℕ = files (file_of parity p) in
     let bytes : with_piece piece files (file_of parity p) ≡ laid piece.at piece.bytes old =
     ap (λ (b : Bool). if b then laid piece.at piece.bytes old else old) is in
-    let elsewhere = outside parity position p piece lies before near (sym (eqb-true piece.file (file_of parity p) is)) in
+    let elsewhere =
+    outside parity position p piece lies before near (sym (eqb-true piece.file (file_of parity p) is)) in
     record {
       there = subst (λ (w : List ℕ). place_of p < length w) (sym bytes)
           (omega (arith, stored.there, laid_grows piece.at piece.bytes old));
@@ -200,8 +201,10 @@ left_by_sync s true = refl
 left_by_sync s false = refl
 
 pub writes_lay : WritesLayPieces
-writes_lay piece calls file synced =
-    (laid_by_write piece (state_of calls file) (piece.file == file), left_by_sync (state_of calls file) (synced == file))
+writes_lay piece calls file synced = (
+  laid_by_write piece (state_of calls file) (piece.file == file),
+  left_by_sync (state_of calls file) (synced == file),
+)
 
 -- the files of a log are files of a disk
 log_file : (parity position : ℕ) → parity ≤ 1 → file_of parity position < FILES

@@ -28,7 +28,8 @@ front_fits bytes found is =
 pub front_some : (bytes : List ℕ) (found : Redo × ℕ) → IsDecoded bytes found → 1 ≤ found.1
 front_some bytes found is = omega (arith, is.len, some_bytes found.0)
 
-pub front_split : (bytes : List ℕ) (found : Redo × ℕ) → IsDecoded bytes found → bytes ≡ bytes_of found.0 ++ drop found.1 bytes
+pub front_split : (bytes : List ℕ) (found : Redo × ℕ) → IsDecoded bytes found
+    → bytes ≡ bytes_of found.0 ++ drop found.1 bytes
 front_split bytes found is =
     sym (take-append-drop found.1 bytes) ∙ ap (λ (w : List ℕ). w ++ drop found.1 bytes) is.front
 
@@ -40,7 +41,8 @@ front_fewer bytes found is rest same =
     let len : length rest ≡ length (take (length bytes - found.1) (drop found.1 bytes)) = ap length same in
     omega (arith, some, fits, len, length-take (length bytes - found.1) (drop found.1 bytes), length-drop found.1 bytes)
 
-fault_by : (bytes : List ℕ) (read : Result (Redo × List ℕ) ℕ) (at : ℕ) → Err (NotRecord at) ≡ from_read bytes read → at ≤ length bytes
+fault_by : (bytes : List ℕ) (read : Result (Redo × List ℕ) ℕ) (at : ℕ) → Err (NotRecord at) ≡ from_read bytes read
+    → at ≤ length bytes
 fault_by bytes (Ok x) at e = absurd cc
 fault_by bytes (Err left) at e = let is : at ≡ length bytes - left = cc in omega (arith, is)
 
@@ -48,7 +50,8 @@ pub fault_within : (bytes : List ℕ) (at : ℕ) → Err (NotRecord at) ≡ deco
 fault_within bytes at e = fault_by bytes (record_at bytes) at e
 
 -- some records were replayed, and these images are prepared behind them
-pub record IsOnTheWay (epoch : ℕ) (before : Rows) (bytes : List ℕ) (rows : Rows) (images : Images) (rest : List ℕ) : Type 0 where
+pub record IsOnTheWay (epoch : ℕ) (before : Rows) (bytes : List ℕ) (rows : Rows) (images : Images) (rest : List ℕ)
+    : Type 0 where
   pub newest : List Redo
   pub done : IsReplayed epoch before bytes rows newest rest
   pub prepared : (q : ImageId) → image_at images q ≡ image_of newest q
@@ -74,11 +77,14 @@ goes_on epoch before bytes rows images rest redo more_rows more less way is spli
       newest = redo ∷ newest;
       done = record {
         are = (is, way.done.are);
-        split = way.done.split ∙ ap (λ (w : List ℕ). log_bytes newest ++ w) split ∙ sym (append_assoc (log_bytes newest) (bytes_of redo) less);
-        made = rows_is ∙ ap (λ (found : Option (Option (List ℕ))). applied epoch redo found rows) (way.prepared (id_of redo))
+        split = way.done.split ∙ ap (λ (w : List ℕ). log_bytes newest ++ w) split
+            ∙ sym (append_assoc (log_bytes newest) (bytes_of redo) less);
+        made = rows_is ∙ ap (λ (found : Option (Option (List ℕ))). applied epoch redo found rows)
+            (way.prepared (id_of redo))
             ∙ ap (λ (w : Rows). applied epoch redo (image_of newest (id_of redo)) w) way.done.made;
       };
-      prepared = λ q. images_are q ∙ ap (λ (found : Option (Option (List ℕ))). cond (same_id (id_of redo) q) (prepared_by redo) found) (way.prepared q);
+      prepared = λ q. images_are q ∙ ap (λ (found : Option (Option (List ℕ))). cond (same_id (id_of redo) q)
+          (prepared_by redo) found) (way.prepared q);
     }
 
 pub shorter : (epoch : ℕ) (before : Rows) (bytes : List ℕ) (rows : Rows) (images : Images) (rest : List ℕ)
@@ -86,15 +92,19 @@ pub shorter : (epoch : ℕ) (before : Rows) (bytes : List ℕ) (rows : Rows) (im
 shorter epoch before bytes rows images rest way =
     omega (arith, ap length way.done.split, length-append (log_bytes way.newest) rest)
 
-pub ends : (epoch : ℕ) (before : Rows) (parity from : ℕ) (bytes : List ℕ) (rows : Rows) (images : Images) (rest : List ℕ)
-    → IsOnTheWay epoch before bytes rows images rest → length rest ≤ 0 → Replays epoch before parity from bytes rows (Ok tt)
+pub ends : (epoch : ℕ) (before : Rows) (parity from : ℕ) (bytes : List ℕ) (rows : Rows) (images : Images)
+    (rest : List ℕ)
+    → IsOnTheWay epoch before bytes rows images rest → length rest ≤ 0
+    → Replays epoch before parity from bytes rows (Ok tt)
 ends epoch before parity from bytes rows images [] way none = (way.newest, way.done)
 ends epoch before parity from bytes rows images (byte ∷ rest) way none = absurd (omega (arith, none))
 
-pub stops : (epoch : ℕ) (before : Rows) (parity from : ℕ) (bytes : List ℕ) (rows : Rows) (images : Images) (rest : List ℕ) (at : ℕ)
+pub stops : (epoch : ℕ) (before : Rows) (parity from : ℕ) (bytes : List ℕ) (rows : Rows) (images : Images)
+    (rest : List ℕ) (at : ℕ)
     (fault : ReadFault)
     → IsOnTheWay epoch before bytes rows images rest → 0 < length rest → decoded rest ≡ Err (NotRecord at)
-    → fault ≡ damage parity from bytes (length bytes - length rest + at) → Replays epoch before parity from bytes rows (Err fault)
+    → fault ≡ damage parity from bytes (length bytes - length rest + at)
+    → Replays epoch before parity from bytes rows (Err fault)
 stops epoch before parity from bytes rows images rest at fault way some none named =
     let place : ℕ = length bytes - length rest + at in
     subst (λ (f : ReadFault). Replays epoch before parity from bytes rows (Err f)) (sym named)

@@ -9,7 +9,8 @@ use Rattle.sig_core.specs.declared.piece.Piece.{Piece}
 use Rattle.redo_log.specs.LogState.{LogState, appended, cut_to, fresh_log, given_out, next_len, next_piece, with_reserved}
 use Rattle.sig_core.specs.Ring.{file_of, place_of}
 
--- a call on a log that changes it: so many bytes are kept free, a record is appended, a piece is given out, a front is cut
+-- a call on a log that changes it: so many bytes are kept free, a record is appended, a piece is given out, a front is
+-- cut
 pub data LogCall : Type 0 where
   Keep : ℕ → LogCall
   Append : Redo → LogCall
@@ -61,7 +62,8 @@ AreLaidFrom parity position (piece ∷ pieces) =
 abbrev pub bytes_in : Piece → List ℕ
 bytes_in piece = piece.bytes
 
--- Whatever the calls on a fresh log: its pieces lie one behind the other from position 0 on, and they and what is left are
+-- Whatever the calls on a fresh log: its pieces lie one behind the other from position 0 on, and they and what is left
+-- are
 -- the bytes of the records that were appended, each once.
 abbrev pub PiecesAreTheRecords : Type 0
 PiecesAreTheRecords =

@@ -11,7 +11,8 @@ use Rattle.sig_core.specs.declared.piece.TheConstants.{PIECE_BYTES}
 use Rattle.sig_core.specs.declared.ring.TheConstants.{LOG_FILE_BYTES}
 use Rattle.sig_core.specs.Ring.{file_of, place_of}
 
--- The log of a generation in the files of a parity: the position that what is used counts from, the position up to which
+-- The log of a generation in the files of a parity: the position that what is used counts from, the position up to
+-- which
 -- all bytes were given out, the bytes from there on, and how many bytes are kept free.
 pub record LogState : Type 0 where
   pub generation : ℕ
@@ -76,7 +77,8 @@ GivesOut s (Some piece) t = (0 < length s.left) × (piece ≡ next_piece s) × (
 abbrev pub room_of : ℕ → ℕ → ℕ → ℕ → ℕ
 room_of capacity len end reserved = min (capacity - len - reserved) (2 ^ 64 - 1 - end - reserved)
 
--- Why the numbers of a log fit: there are two parities, of so many bytes so many were given out, all that is used and kept free is in the ring,
+-- Why the numbers of a log fit: there are two parities, of so many bytes so many were given out, all that is used and
+-- kept free is in the ring,
 -- and the bytes that are kept free have memory and positions.
 pub record IsLog (parity start flushed given len capacity reserved : ℕ) : Type 0 where
   pub two : parity ≤ 1

@@ -71,9 +71,11 @@ abbrev pub AreRecords : List Redo → Type 0
 AreRecords [] = Unit {0}
 AreRecords (redo ∷ older) = IsRecord redo × AreRecords older
 
--- The bytes begin with those of some records, the newest first, and the rest follows. The rows are what these records make
+-- The bytes begin with those of some records, the newest first, and the rest follows. The rows are what these records
+-- make
 -- of the rows before.
-pub record IsReplayed (epoch : ℕ) (before : Rows) (bytes : List ℕ) (rows : Rows) (newest : List Redo) (rest : List ℕ) : Type 0 where
+pub record IsReplayed (epoch : ℕ) (before : Rows) (bytes : List ℕ) (rows : Rows) (newest : List Redo) (rest : List ℕ)
+    : Type 0 where
   pub are : AreRecords newest
   pub split : bytes ≡ log_bytes newest ++ rest
   pub made : rows ≡ replayed epoch before newest
@@ -83,13 +85,15 @@ abbrev pub damage : ℕ → ℕ → List ℕ → ℕ → ReadFault
 damage parity from bytes behind =
     Damaged (file_of parity (from + behind)) (place_of (from + behind)) (slice_index bytes behind)
 
--- something stands behind some records that doesn't begin with one, and the fault names the first byte of it that fits none
+-- something stands behind some records that doesn't begin with one, and the fault names the first byte of it that fits
+-- none
 pub record IsDamaged (parity from : ℕ) (bytes rest : List ℕ) (at : ℕ) (fault : ReadFault) : Type 0 where
   pub some : 0 < length rest
   pub none : decoded rest ≡ Err (NotRecord at)
   pub named : fault ≡ damage parity from bytes (length bytes - length rest + at)
 
--- Bytes of a log from a position on are replayed: they are records, and the rows are what these make of the rows before. Or
+-- Bytes of a log from a position on are replayed: they are records, and the rows are what these make of the rows
+-- before. Or
 -- they are damaged, and then those before the damage have been replayed. Want of memory says no more.
 abbrev pub Replays : ℕ → Rows → ℕ → ℕ → List ℕ → Rows → Result (Unit {0}) ReadFault → Type 0
 Replays epoch before parity from bytes rows (Ok done) =
@@ -104,4 +108,5 @@ Replays epoch before parity from bytes rows (Err (Damaged file at byte)) =
 abbrev pub RecordsAreNotDamaged : Type 0
 RecordsAreNotDamaged =
     (epoch parity from : ℕ) (before rows : Rows) (bytes : List ℕ) (newest : List Redo) (file at byte : ℕ)
-    → AreRecords newest → bytes ≡ log_bytes newest → Replays epoch before parity from bytes rows (Err (Damaged file at byte)) → ⊥
+    → AreRecords newest → bytes ≡ log_bytes newest
+    → Replays epoch before parity from bytes rows (Err (Damaged file at byte)) → ⊥

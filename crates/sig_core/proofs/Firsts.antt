@@ -1,4 +1,5 @@
--- The first item of a list that passes a test: looked up, replaced and taken out by its place, and by going through the list.
+-- The first item of a list that passes a test: looked up, replaced and taken out by its place, and by going through the
+-- list.
 use Prim.Native.Nat.compare
 use Rattle.std.proofs.Common.{◌≡◌, ℕ, suc, ◌+◌, Bool, true, false, cond, not, nat_lt, List, [], ◌∷◌, filter, length, arith, refl, sym, ap, ◌∙◌}
 use Rattle.std.specs.List.{position_or_len}
@@ -15,14 +16,18 @@ place_by false (Some at) = Some (suc at)
 lt-suc-suc : (m n : ℕ) → nat_lt (suc m) (suc n) ≡ nat_lt m n
 lt-suc-suc m n = rw compare.suc-suc
 
-pub position-cons : {X : Type 0} (p : X → Bool) (x : X) (xs : List X) → position p (x ∷ xs) ≡ place_by (p x) (position p xs)
+pub position-cons : {X : Type 0} (p : X → Bool) (x : X) (xs : List X)
+    → position p (x ∷ xs) ≡ place_by (p x) (position p xs)
 position-cons p x xs = by (p x)
   where
-    later : (c : Bool) → cond c (Some (suc (position_or_len p xs))) None ≡ place_by false (cond c (Some (position_or_len p xs)) None)
+    later : (c : Bool)
+        → cond c (Some (suc (position_or_len p xs))) None ≡ place_by false (cond c (Some (position_or_len p xs)) None)
     later true = refl
     later false = refl
 
-    by : (b : Bool) → cond (nat_lt (cond (not b) (1 + position_or_len p xs) 0) (length (x ∷ xs))) (Some (cond (not b) (1 + position_or_len p xs) 0)) None ≡ place_by b (position p xs)
+    by : (b : Bool)
+        → cond (nat_lt (cond (not b) (1 + position_or_len p xs) 0) (length (x ∷ xs)))
+        (Some (cond (not b) (1 + position_or_len p xs) 0)) None ≡ place_by b (position p xs)
     by true =
         let first : nat_lt 0 (suc (length xs)) ≡ true = grind (arith, nat_tests) in
         ap (λ c. cond c (Some 0) None) first
@@ -54,7 +59,8 @@ module _ {X : Type 0} where
   first-get p [] = refl
   first-get p (x ∷ xs) = ap (get_by (x ∷ xs)) (position-cons p x xs) ∙ by (p x) (position p xs) (first-get p xs)
     where
-      by : (b : Bool) (at : Option ℕ) → get_by xs at ≡ first p xs → get_by (x ∷ xs) (place_by b at) ≡ (if b then Some x else first p xs)
+      by : (b : Bool) (at : Option ℕ) → get_by xs at ≡ first p xs
+          → get_by (x ∷ xs) (place_by b at) ≡ (if b then Some x else first p xs)
       by true at more = refl
       by false None more = more
       by false (Some at) more = more
@@ -63,7 +69,8 @@ module _ {X : Type 0} where
   first_passes p [] x is = absurd cc
   first_passes p (y ∷ xs) x is = by (p y) refl is (first_passes p xs x)
     where
-      by : (b : Bool) → p y ≡ b → (if b then Some y else first p xs) ≡ Some x → (first p xs ≡ Some x → p x ≡ true) → p x ≡ true
+      by : (b : Bool) → p y ≡ b → (if b then Some y else first p xs) ≡ Some x → (first p xs ≡ Some x → p x ≡ true)
+          → p x ≡ true
       by true e is more = let one : y ≡ x = cc in ap p (sym one) ∙ e
       by false e is more = more is
 
@@ -71,7 +78,8 @@ module _ {X : Type 0} where
   first-set p y [] = refl
   first-set p y (x ∷ xs) = ap (set_by y (x ∷ xs)) (position-cons p x xs) ∙ by (p x) (position p xs) (first-set p y xs)
     where
-      by : (b : Bool) (at : Option ℕ) → set_by y xs at ≡ set_first p y xs → set_by y (x ∷ xs) (place_by b at) ≡ (if b then y ∷ xs else x ∷ set_first p y xs)
+      by : (b : Bool) (at : Option ℕ) → set_by y xs at ≡ set_first p y xs
+          → set_by y (x ∷ xs) (place_by b at) ≡ (if b then y ∷ xs else x ∷ set_first p y xs)
       by true at more = refl
       by false None more = ap (λ w. x ∷ w) more
       by false (Some at) more = ap (λ w. x ∷ w) more
@@ -80,28 +88,33 @@ module _ {X : Type 0} where
   first-drop p [] = refl
   first-drop p (x ∷ xs) = ap (drop_by (x ∷ xs)) (position-cons p x xs) ∙ by (p x) (position p xs) (first-drop p xs)
     where
-      by : (b : Bool) (at : Option ℕ) → drop_by xs at ≡ drop_first p xs → drop_by (x ∷ xs) (place_by b at) ≡ (if b then xs else x ∷ drop_first p xs)
+      by : (b : Bool) (at : Option ℕ) → drop_by xs at ≡ drop_first p xs
+          → drop_by (x ∷ xs) (place_by b at) ≡ (if b then xs else x ∷ drop_first p xs)
       by true at more = refl
       by false None more = ap (λ w. x ∷ w) more
       by false (Some at) more = ap (λ w. x ∷ w) more
 
   -- those that pass a filter: one that doesn't is taken out, or the first of them is
-  pub filter-drop_other : (q p : X → Bool) (xs : List X) → ((x : X) → p x ≡ true → q x ≡ false) → filter q (drop_first p xs) ≡ filter q xs
+  pub filter-drop_other : (q p : X → Bool) (xs : List X) → ((x : X) → p x ≡ true → q x ≡ false)
+      → filter q (drop_first p xs) ≡ filter q xs
   filter-drop_other q p [] off = refl
   filter-drop_other q p (x ∷ xs) off = by (p x) refl (filter-drop_other q p xs off)
     where
-      by : (b : Bool) → p x ≡ b → filter q (drop_first p xs) ≡ filter q xs → filter q (if b then xs else x ∷ drop_first p xs) ≡ filter q (x ∷ xs)
+      by : (b : Bool) → p x ≡ b → filter q (drop_first p xs) ≡ filter q xs
+          → filter q (if b then xs else x ∷ drop_first p xs) ≡ filter q (x ∷ xs)
       by true e more = sym (ap (λ c. cond c (x ∷ filter q xs) (filter q xs)) (off x e))
       by false e more = ap (λ w. cond (q x) (x ∷ w) w) more
 
   -- here p is a test r on those that pass the filter
-  pub filter-drop_first : (q p r : X → Bool) (xs : List X) → ((x : X) → q x ≡ true → p x ≡ r x) → ((x : X) → p x ≡ true → q x ≡ true) → filter q (drop_first p xs) ≡ drop_first r (filter q xs)
+  pub filter-drop_first : (q p r : X → Bool) (xs : List X) → ((x : X) → q x ≡ true → p x ≡ r x)
+      → ((x : X) → p x ≡ true → q x ≡ true) → filter q (drop_first p xs) ≡ drop_first r (filter q xs)
   filter-drop_first q p r [] same on = refl
   filter-drop_first q p r (x ∷ xs) same on = by (p x) (q x) refl refl (filter-drop_first q p r xs same on)
     where
       by : (b c : Bool) → p x ≡ b → q x ≡ c → filter q (drop_first p xs) ≡ drop_first r (filter q xs)
           → filter q (if b then xs else x ∷ drop_first p xs) ≡ drop_first r (cond c (x ∷ filter q xs) (filter q xs))
-      by true true e f more = sym (ap (λ b. if b then filter q xs else x ∷ drop_first r (filter q xs)) (sym (same x f) ∙ e))
+      by true true e f more =
+          sym (ap (λ b. if b then filter q xs else x ∷ drop_first r (filter q xs)) (sym (same x f) ∙ e))
       by true false e f more = absurd (let both : true ≡ false = sym (on x e) ∙ f in cc)
       by false true e f more =
           ap (λ c. cond c (x ∷ filter q (drop_first p xs)) (filter q (drop_first p xs))) f ∙ ap (λ w. x ∷ w) more

@@ -37,8 +37,10 @@ stored_key bytes good =
     }
 
 -- the bytes behind the space
-behind_space : (value array : List ℕ) → array ≡ value ++ drop (length value) (replicate 31 0) → take (length value) array ≡ value
-behind_space value array is = ap (take (length value)) is ∙ take_at value (drop (length value) (replicate 31 0)) (length value) refl
+behind_space : (value array : List ℕ) → array ≡ value ++ drop (length value) (replicate 31 0)
+    → take (length value) array ≡ value
+behind_space value array is =
+    ap (take (length value)) is ∙ take_at value (drop (length value) (replicate 31 0)) (length value) refl
 
 stored_behind : (value array : List ℕ) → position is_unprintable value ≡ None → 1 ≤ length value → length value ≤ 31
     → array ≡ value ++ drop (length value) (replicate 31 0) → IsKeyBytes (SPACE ∷ array) (suc (length value))
@@ -69,7 +71,8 @@ stored_index value array printable least most is =
     rw (none, one) (stored_behind value array printable least most is)
 
 pub index_held : (value array : List ℕ) → 1 ≤ length value → length value ≤ 31
-    → array ≡ value ++ drop (length value) (replicate 31 0) → Some (take (suc (length value)) (SPACE ∷ array)) ≡ index_of value
+    → array ≡ value ++ drop (length value) (replicate 31 0)
+    → Some (take (suc (length value)) (SPACE ∷ array)) ≡ index_of value
 index_held value array least most is =
     ap (λ bytes. Some (SPACE ∷ bytes)) (behind_space value array is) ∙ grind (arith, nat_tests, least, most)
 

@@ -10,11 +10,13 @@ use Rattle.std.specs.BTreeMap.{BTreeMap, is_at, Updates, UpdatesBy}
 use Rattle.std.specs.FinMap as map
 
 -- a look-up by a key is that of the finite map of the entries
-find-lookup : {K X : Type 0} (R : K → K → Ordering) (q : K) (es : List (K × X)) → map.find R q es ≡ lookup (is_at (R q)) es
+find-lookup : {K X : Type 0} (R : K → K → Ordering) (q : K) (es : List (K × X))
+    → map.find R q es ≡ lookup (is_at (R q)) es
 find-lookup R q [] = refl
 find-lookup R q (e ∷ es) = ap (cond (eq_by_cmp R q e.0) (Some e.1)) (find-lookup R q es)
 
-pub get-rows : (es : List (List ℕ × List ℕ)) (q : List ℕ) → map.get (map.from_entries {R = slice_cmp nat_cmp} es) q ≡ lookup (is_at (slice_cmp nat_cmp q)) es
+pub get-rows : (es : List (List ℕ × List ℕ)) (q : List ℕ)
+    → map.get (map.from_entries {R = slice_cmp nat_cmp} es) q ≡ lookup (is_at (slice_cmp nat_cmp q)) es
 get-rows es q = map.get-from_entries nat_list_cmp_total es q ∙ find-lookup (slice_cmp nat_cmp) q es
 
 -- whichever way round two keys are compared, they are equal or not
@@ -30,7 +32,8 @@ insert-rows m n k v updates =
     ∙ ap (cond (eq_by_cmp (slice_cmp nat_cmp) q k) (Some v)) (sym (get-rows m.entries q))
     ∙ sym (map.get-insert nat_list_cmp_total (map.from_entries m.entries) k v q))
 
-pub remove-rows : (m n : BTreeMap (List ℕ) (List ℕ)) (k : List ℕ) → UpdatesBy (slice_cmp nat_cmp) (slice_cmp nat_cmp k) m n None
+pub remove-rows : (m n : BTreeMap (List ℕ) (List ℕ)) (k : List ℕ)
+    → UpdatesBy (slice_cmp nat_cmp) (slice_cmp nat_cmp k) m n None
     → map.from_entries {R = slice_cmp nat_cmp} n.entries ≡ map.remove (map.from_entries m.entries) k
 remove-rows m n k updates =
     map.same_map nat_list_cmp_total (map.slice_cmp-IsAntisymmetric map.nat_cmp-IsAntisymmetric) _ _

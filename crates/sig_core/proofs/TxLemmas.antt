@@ -18,7 +18,11 @@ pub same_tx-is : (a b : TxId) → same_tx a b ≡ true → a ≡ b
 same_tx-is a b e =
     let parts = and_parts (nat_eq a.tc b.tc) (nat_eq a.start b.start && nat_eq a.seq b.seq) e in
     let more = and_parts (nat_eq a.start b.start) (nat_eq a.seq b.seq) parts.1 in
-    λ i. record { tc = eqb-true a.tc b.tc parts.0 i; start = eqb-true a.start b.start more.0 i; seq = eqb-true a.seq b.seq more.1 i }
+    λ i. record {
+      tc = eqb-true a.tc b.tc parts.0 i;
+      start = eqb-true a.start b.start more.0 i;
+      seq = eqb-true a.seq b.seq more.1 i;
+    }
 
 pub apart_too : (x tx u : TxId) → same_tx x tx ≡ true → same_tx tx u ≡ false → same_tx x u ≡ false
 apart_too x tx u e apart = ap (λ t. same_tx t u) (same_tx-is x tx e) ∙ apart

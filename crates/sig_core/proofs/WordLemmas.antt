@@ -7,7 +7,8 @@ use Rattle.sig_core.specs.declared.word.WordFault.{WordFault}
 use Rattle.sig_core.specs.Word.{IsWord, if_word, unless_spoilt, is_unprintable}
 
 -- what is left of a filler
-pub drop-replicate : {X : Type 0} (n room : ℕ) (filler : X) → drop n (replicate room filler) ≡ replicate (room - n) filler
+pub drop-replicate : {X : Type 0} (n room : ℕ) (filler : X)
+    → drop n (replicate room filler) ≡ replicate (room - n) filler
 drop-replicate zero room filler = let same : room ≡ room - 0 = omega arith in ap (λ n. replicate n filler) same
 drop-replicate (suc n) zero filler = let same : 0 ≡ 0 - suc n = omega arith in ap (λ n. replicate n filler) same
 drop-replicate (suc n) (suc room) filler =
@@ -33,7 +34,8 @@ stored_word least room bytes good =
       filled = record {
         fits = long;
         whole = simp (length-append, length-drop, length-replicate) (omega arith);
-        rest = rw (drop_at bytes (drop (length bytes) (replicate room 0)) (length bytes) refl) (drop-replicate (length bytes) room 0);
+        rest = rw (drop_at bytes (drop (length bytes) (replicate room 0)) (length bytes) refl)
+            (drop-replicate (length bytes) room 0);
       };
       long_enough = short;
       printable = rw (take_at bytes (drop (length bytes) (replicate room 0)) (length bytes) refl) is.2;

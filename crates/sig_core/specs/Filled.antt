@@ -14,10 +14,12 @@ abbrev pub filled : {X : Type 0} → X → ℕ → List X → List X
 filled filler room items = items ++ replicate (room - length items) filler
 
 -- a filled array holds as many items as it says
-pub length-held : {X : Type 0} {filler : X} {room : ℕ} {items : List X} {len : ℕ} → IsFilled filler room items len → length (take len items) ≡ len
+pub length-held : {X : Type 0} {filler : X} {room : ℕ} {items : List X} {len : ℕ} → IsFilled filler room items len
+    → length (take len items) ≡ len
 length-held {items = items} {len = len} is = length-take-le len items (omega (arith, is.fits, is.whole))
 
 -- the items that it holds, filled up, are the array
-pub filled-held : {X : Type 0} {filler : X} {room : ℕ} {items : List X} {len : ℕ} → IsFilled filler room items len → filled filler room (take len items) ≡ items
+pub filled-held : {X : Type 0} {filler : X} {room : ℕ} {items : List X} {len : ℕ} → IsFilled filler room items len
+    → filled filler room (take len items) ≡ items
 filled-held {filler = filler} {room = room} {items = items} {len = len} is =
     rw (length-held is, ← is.rest) (take-append-drop len items)

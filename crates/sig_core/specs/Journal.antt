@@ -32,9 +32,11 @@ abbrev pub Reserves : JournalState → ℕ → JournalState → Result (Unit {0}
 Reserves j need after (Ok done) = (j.used + j.reserved + need ≤ JOURNAL_BYTES) × (after ≡ reserving j need)
 Reserves j need after (Err NoMemory) = after ≡ j
 Reserves j need after (Err (LogFull used reserved asked)) =
-    (JOURNAL_BYTES < j.used + j.reserved + need) × (used ≡ j.used) × (reserved ≡ j.reserved) × (asked ≡ need) × (after ≡ j)
+    (JOURNAL_BYTES < j.used + j.reserved + need) × (used ≡ j.used) × (reserved ≡ j.reserved) × (asked ≡ need)
+    × (after ≡ j)
 
--- What a journal has to give out, for the files of its parity: the position up to which all bytes were given out, and those
+-- What a journal has to give out, for the files of its parity: the position up to which all bytes were given out, and
+-- those
 -- behind it. One that doesn't keep its bytes has none to give out.
 pub record OutletState : Type 0 where
   pub keeps : Bool

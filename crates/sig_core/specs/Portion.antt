@@ -36,9 +36,18 @@ pub record Offered : Type 0 where
 
 -- one more of the list: it is passed over, sent, or left for later
 abbrev pub offered_by : Portion → Effects → Outgoing → Bool → Bool → Offered
-offered_by p effects send true room = record { portion = record { skip = p.skip - 1; room = p.room; more = p.more }; effects = effects }
-offered_by p effects send false true = record { portion = record { skip = p.skip; room = p.room - 1; more = p.more }; effects = and_send effects send.to send.body }
-offered_by p effects send false false = record { portion = record { skip = p.skip; room = p.room; more = true }; effects = effects }
+offered_by p effects send true room = record {
+  portion = record { skip = p.skip - 1; room = p.room; more = p.more };
+  effects = effects;
+}
+offered_by p effects send false true = record {
+  portion = record { skip = p.skip; room = p.room - 1; more = p.more };
+  effects = and_send effects send.to send.body;
+}
+offered_by p effects send false false = record {
+  portion = record { skip = p.skip; room = p.room; more = true };
+  effects = effects;
+}
 
 abbrev pub offered : Offered → Outgoing → Offered
 offered o send = offered_by o.portion o.effects send (nat_lt 0 o.portion.skip) (nat_lt 0 o.portion.room)

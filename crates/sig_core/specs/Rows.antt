@@ -143,25 +143,32 @@ storing s tx key image = record {
 unfoldable pub is_full : RowsState → List ℕ → Bool
 is_full s key = not (is_some (place_of s.places key)) && nat_le PLACES (taken s.places)
 
--- what the answer to an image of a row says: it is refused exactly where the rows are full, with the count of places taken
+-- what the answer to an image of a row says: it is refused exactly where the rows are full, with the count of places
+-- taken
 abbrev pub Stores : RowsState → TxId → List ℕ → Option (List ℕ) → RowsState → Result (Unit {0}) RowsFault → Type 0
 Stores s tx key image after (Ok done) = (is_full s key ≡ false) × (after ≡ storing s tx key image)
 Stores s tx key image after (Err NoMemory) = after ≡ s
 Stores s tx key image after (Err (Full rows)) = (is_full s key ≡ true) × (rows ≡ taken s.places) × (after ≡ s)
 
--- what the answer to an operation says: a write that takes effect stores its image, and all else leaves the rows as they are
+-- what the answer to an operation says: a write that takes effect stores its image, and all else leaves the rows as
+-- they are
 abbrev pub PreparesBy : RowsState → TxId → Op → RowsState → Answer → Answer → Type 0
-PreparesBy s tx op after Done answer = (answer ≡ Done) × (is_full s (key_of op) ≡ false) × (after ≡ storing s tx (key_of op) (image_of op))
+PreparesBy s tx op after Done answer =
+    (answer ≡ Done) × (is_full s (key_of op) ≡ false) × (after ≡ storing s tx (key_of op) (image_of op))
 PreparesBy s tx op after found answer = (answer ≡ found) × (after ≡ s)
 
 abbrev pub Prepares : RowsState → TxId → Op → RowsState → Result Answer RowsFault → Type 0
 Prepares s tx op after (Ok answer) = PreparesBy s tx op after (answer_to op (seen s tx (key_of op))) answer
 Prepares s tx op after (Err NoMemory) = after ≡ s
 Prepares s tx op after (Err (Full rows)) =
-    (answer_to op (seen s tx (key_of op)) ≡ Done) × (is_full s (key_of op) ≡ true) × (rows ≡ taken s.places) × (after ≡ s)
+    (answer_to op (seen s tx (key_of op)) ≡ Done) × (is_full s (key_of op) ≡ true) × (rows ≡ taken s.places)
+    × (after ≡ s)
 
 abbrev pub put_row : RowsState → List ℕ → List ℕ → ℕ → RowsState
-put_row s key value epoch = record { places = set_row (with_place s.places key) key (Some value) epoch; pending = s.pending }
+put_row s key value epoch = record {
+  places = set_row (with_place s.places key) key (Some value) epoch;
+  pending = s.pending;
+}
 
 -- nothing is at work on the key
 abbrev pub is_idle : List PendingRecord → List ℕ → Bool

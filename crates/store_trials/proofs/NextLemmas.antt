@@ -5,7 +5,8 @@ use Rattle.std.proofs.lemmas.List.{get_or-drop}
 use Rattle.std.proofs.lemmas.List.Quantifiers.{position-Some}
 use Rattle.sig_core.specs.Rows.{RowsState, has_row, next_by, next_place}
 
-pub row_place : (s : RowsState) (from at : ℕ) → next_place s from ≡ Some at → has_row (slice_index_or s.places at None) ≡ true
+pub row_place : (s : RowsState) (from at : ℕ) → next_place s from ≡ Some at
+    → has_row (slice_index_or s.places at None) ≡ true
 unfolding next_place
 row_place s from at is = by (position has_row (drop from s.places)) refl is
   where

@@ -82,7 +82,8 @@ least [] at is none = absurd (omega (arith, is))
 least (None ∷ places) zero is none = refl
 least (None ∷ places) (suc at) is none = absurd (omega (arith, none 0 (omega arith)))
 least (Some slot ∷ places) zero is none = absurd (omega (arith, is))
-least (Some slot ∷ places) (suc at) is none = ap suc (least places at is (λ k below. none (suc k) (omega (arith, below))))
+least (Some slot ∷ places) (suc at) is none =
+    ap suc (least places at is (λ k below. none (suc k) (omega (arith, below))))
 
 free_within : (places : List (Option Slot)) (at : ℕ) → 1 ≤ free_at places at → at < length places
 free_within [] at is = absurd (omega (arith, is))
@@ -135,7 +136,8 @@ pub record IsTaken (places : List (Option Slot)) (at : ℕ) : Type 0 where
   pub within : at < length places
   pub taken : free_at places at ≡ 0
 
-pub is_taken : (places : List (Option Slot)) (at : ℕ) → is_some (slice_index_or places at None) ≡ true → IsTaken places at
+pub is_taken : (places : List (Option Slot)) (at : ℕ) → is_some (slice_index_or places at None) ≡ true
+    → IsTaken places at
 is_taken [] at is = cc
 is_taken (None ∷ places) zero is = cc
 is_taken (Some slot ∷ places) zero is = record { within = omega arith; taken = refl }
@@ -217,7 +219,8 @@ module _ {A : Type 0} (places : List (Option Slot)) (free after : BinaryHeap (Re
       popped_holds slot =
           let longer = length-within places slot (omega (arith, top_within, top_least)) in
           record {
-            each = λ q. by q (nat_eq x.0 q) refl (one_less q) ∙ ap (λ n. cond (nat_eq n q) 0 (free_at places q)) top_least
+            each =
+                λ q. by q (nat_eq x.0 q) refl (one_less q) ∙ ap (λ n. cond (nat_eq n q) 0 (free_at places q)) top_least
                 ∙ sym (free_at-placed places slot q);
             many = omega (arith, is.many, pop.fewer, longer, count-placed places slot);
             ordered = (pop.order is.ordered).0;
@@ -273,7 +276,8 @@ module _ {A : Type 0} (places : List (Option Slot)) (free after : BinaryHeap (Re
               ∙ ap (λ n. cond (nat_eq n q) 1 0 + listed (heap_items free) q) here
               ∙ ap (λ n. cond (nat_eq at q) 1 0 + n) (is.each q)
               ∙ by q (nat_eq at q) refl ∙ sym (free_at-freed places at q there.within);
-          many = omega (arith, is.many, more_len, count-freed places at there.within there.taken, length-freed places at);
+          many =
+              omega (arith, is.many, more_len, count-freed places at there.within there.taken, length-freed places at);
           ordered = order is.ordered;
           room = omega (arith, is.room, more_room, length-freed places at);
         }

@@ -32,7 +32,8 @@ abbrev pub AreWhole : List (List (Option Slot)) → Type 0
 AreWhole pages = (page : ℕ) → page < length pages → length (slice_index_or pages page []) ≡ PAGE_SLOTS
 
 -- pages hold so many places, and the heap those that are free
-pub record ArePages {A : Type 0} (pages : List (List (Option Slot))) (len : ℕ) (free : BinaryHeap (Reverse ℕ) A) : Type 0 where
+pub record ArePages {A : Type 0} (pages : List (List (Option Slot))) (len : ℕ) (free : BinaryHeap (Reverse ℕ) A) : Type
+    0 where
   pub whole : AreWhole pages
   pub within : len ≤ PAGE_SLOTS * length pages
   pub holds : HoldsFree (places_in pages len) free

@@ -5,5 +5,9 @@ use Rattle.failing_runs.proofs.run.run_one.Goals as goal
 
 pub live-requires-clause-world : goal.live-requires-clause-world
 live-requires-clause-world g c =
-    begun_world (whole_of c.in_ok-world.world) (record { shape = c.shape_of-shape.result; epoch = 4294967296; rows = [] })
+    begun_world (whole_of c.in_ok-world.world) (record {
+      shape = c.shape_of-shape.result;
+      epoch = 4294967296;
+      rows = [];
+    })
     c.in_ok-world.ensures

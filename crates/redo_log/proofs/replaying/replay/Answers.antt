@@ -7,7 +7,8 @@ use Rattle.redo_log.proofs.replaying.replay.Goals as goal
 -- the bytes aren't records
 pub returns-in_err-replay_bytes-clause-replayed : goal.returns-in_err-replay_bytes-clause-replayed
 returns-in_err-replay_bytes-clause-replayed g c =
-    let p = err_from_is_err_and c.from_residual-in_err-replay_bytes.result c.from_residual-in_err-replay_bytes.ensures.1 in
+    let p =
+    err_from_is_err_and c.from_residual-in_err-replay_bytes.result c.from_residual-in_err-replay_bytes.ensures.1 in
     rw (p.1, p.2)
     (λ calls told.
     stops_stored c.args.epoch c.args.rows.now (files_of calls) c.args.parity c.args.from (c.args.to - c.args.from)

@@ -12,7 +12,8 @@ returns-then-count-len-clause-stored g c =
     short_stored (files_of calls) c.args.parity c.args.from c.pieces.at c.args.to c.pieces.bytes.items
     c.read_piece.new.bytes.items len c.in_ok-count.count c.pieces.invariant.here
     (omega (arith, size, c.piece_len-len.ensures.last)) (omega (arith, size, c.piece_len-len.ensures.file))
-    (c.in_ok-count.ensures.piece calls (c.pieces.invariant.unrecorded ∙ told)) (omega (arith, size, c.if-count-len.true))
+    (c.in_ok-count.ensures.piece calls (c.pieces.invariant.unrecorded ∙ told))
+    (omega (arith, size, c.if-count-len.true))
     (c.pieces.invariant.each calls told)
 
 -- one more piece was read whole
@@ -26,7 +27,9 @@ pieces-preserved g c =
       here = omega (arith, c.in_ok-count.ensures.size, c.pieces.invariant.here);
       within = omega (arith, size, c.in_ok-count.ensures.most, c.piece_len-len.ensures.last);
       each = λ calls told.
-          more_stored (files_of calls) c.args.parity c.args.from c.pieces.at c.pieces.bytes.items c.read_piece.new.bytes.items
+          more_stored (files_of calls) c.args.parity c.args.from c.pieces.at c.pieces.bytes.items
+          c.read_piece.new.bytes.items
           len c.in_ok-count.count c.pieces.invariant.here (omega (arith, size, c.piece_len-len.ensures.file))
-          (c.in_ok-count.ensures.piece calls (c.pieces.invariant.unrecorded ∙ told)) (c.pieces.invariant.each calls told);
+          (c.in_ok-count.ensures.piece calls (c.pieces.invariant.unrecorded ∙ told))
+          (c.pieces.invariant.each calls told);
     }

@@ -3,4 +3,5 @@ use Rattle.worked_runs.proofs.Stays.{driven_stays}
 use Rattle.worked_runs.proofs.cluster.drive.Goals as goal
 
 pub returns : goal.returns
-returns g c = driven_stays c.drive.result (whole_of c.args.world.now) (whole_of c.drive.new.self) c.requires c.drive.ensures.driven
+returns g c = driven_stays c.drive.result (whole_of c.args.world.now) (whole_of c.drive.new.self) c.requires
+    c.drive.ensures.driven

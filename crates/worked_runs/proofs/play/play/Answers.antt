@@ -5,5 +5,9 @@ use Rattle.worked_runs.proofs.play.play.Goals as goal
 
 pub play_lines-requires : goal.play_lines-requires
 play_lines-requires g c =
-    begun_world (whole_of c.in_ok-world.world) (record { shape = c.shape_of-shape.result; epoch = 4294967296; rows = [] })
+    begun_world (whole_of c.in_ok-world.world) (record {
+      shape = c.shape_of-shape.result;
+      epoch = 4294967296;
+      rows = [];
+    })
     c.in_ok-world.ensures

@@ -14,7 +14,8 @@ returns-clause-room c =
     let len : length c.encode.new.out.items ≡ length items + length (bytes_of redo) =
     ap length c.in-Ok.ensures.appended ∙ length-append items (bytes_of redo) in
     let size : length (bytes_of redo) ≡ size_of redo = c.encode.ensures.len in
-    let room : room_of (vec_capacity c.self.inside.bytes) (length items) (c.self.inside.flushed + (length items - c.self.inside.given)) c.self.inside.reserved
+    let room : room_of (vec_capacity c.self.inside.bytes) (length items)
+    (c.self.inside.flushed + (length items - c.self.inside.given)) c.self.inside.reserved
     ≡ c.args.self.now.room = ap (λ v. v.room) c.self.view_is in
     let reserved : c.self.inside.reserved ≡ c.args.self.now.log.reserved = ap (λ v. v.log.reserved) c.self.view_is in
     omega (arith, room, reserved, len, size, c.encode.ensures.capacity, c.size-size.ensures.size)

@@ -10,5 +10,6 @@ returns-clause-value c =
     let starts = c.self.inside.starts in
     let node_inside = length-take-le c.self.inside.len nodes (omega (arith, c.self.invariant, c.self.told.0)) in
     let start_inside = length-take-le c.self.inside.len starts (omega (arith, c.self.invariant, c.self.told.1)) in
-    sym (nodes-members_by (take c.self.inside.len nodes) (take c.self.inside.len starts) (node_inside ∙ sym start_inside))
+    sym (nodes-members_by (take c.self.inside.len nodes) (take c.self.inside.len starts)
+    (node_inside ∙ sym start_inside))
     ∙ ap (λ chain. map (λ (replica : Member). replica.node) chain) c.self.view_is

@@ -11,5 +11,6 @@ invariant_of-result c =
     let value = c.bytes-bytes.result.now in
     let least : 1 ≤ length value = grind (arith, nat_tests, c.if-is_empty.false, c.is_empty.ensures) in
     let most : length value ≤ 31 = grind (arith, nat_tests, c.if-bytes-ge-KEY_BYTES.false) in
-    let printable : position is_unprintable value ≡ None = rw (c.bytes-bytes.ensures.value) c.bytes-bytes.ensures.printable in
+    let printable : position is_unprintable value ≡ None =
+    rw (c.bytes-bytes.ensures.value) c.bytes-bytes.ensures.printable in
     stored_index value c.put_front.new.array printable least most c.put_front.ensures

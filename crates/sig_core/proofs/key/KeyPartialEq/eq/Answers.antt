@@ -12,5 +12,6 @@ returns-then-self-at c =
     let inside = c.loop-at-test.true in
     let here = get_or-take one.len one.bytes at 0 inside in
     let there = get_or-take other.len other.bytes at 0 (omega (arith, inside, c.if-self-other.false)) in
-    sym (same_key-other (take one.len one.bytes) (take other.len other.bytes) at (λ same. c.if-self-at.true (sym here ∙ same ∙ there)))
+    sym (same_key-other (take one.len one.bytes) (take other.len other.bytes) at
+    (λ same. c.if-self-at.true (sym here ∙ same ∙ there)))
     ∙ ap₂ same_key c.self.view_is c.other.view_is

@@ -11,7 +11,8 @@ returns-in-Some c =
     ap (λ (p : PagesState). p.slots) c.self.view_is in
     let free = c.self.inside.free in
     top_first c.self.inside.pages.items c.self.inside.len free c.self.invariant c.in-Some.field-0.now
-    (first_item (heap_items free) c.in-Some.field-0.now c.in-Some.ensures.item.0 c.in-Some.ensures.lookup) (c.in-Some.ensures.greatest c.self.invariant.holds.ordered)
+    (first_item (heap_items free) c.in-Some.field-0.now c.in-Some.ensures.item.0 c.in-Some.ensures.lookup)
+    (c.in-Some.ensures.greatest c.self.invariant.holds.ordered)
     ∙ ap first_free slots
 
 pub returns-in-None : goal.returns-in-None

@@ -9,7 +9,8 @@ use Rattle.tuple_pages.proofs.pages.Pages.set.Goals as goal
 
 pub place_at-requires-clause-page : goal.place_at-requires-clause-page
 place_at-requires-clause-page c =
-    let slots : places_in c.self.inside.pages.items c.self.inside.len ≡ c.args.self.now.slots = ap (λ (p : PagesState). p.slots) c.self.view_is in
+    let slots : places_in c.self.inside.pages.items c.self.inside.len ≡ c.args.self.now.slots =
+    ap (λ (p : PagesState). p.slots) c.self.view_is in
     let there : is_some (get_or (places_in c.self.inside.pages.items c.self.inside.len) c.args.at None) ≡ true =
     ap (λ ps. is_some (get_or ps c.args.at None)) slots ∙ c.requires in
     there_page c.self.inside.pages.items c.self.inside.len c.self.inside.free c.self.invariant c.args.at
@@ -17,7 +18,8 @@ place_at-requires-clause-page c =
 
 pub place_at-requires-clause-slot : goal.place_at-requires-clause-slot
 place_at-requires-clause-slot c =
-    let slots : places_in c.self.inside.pages.items c.self.inside.len ≡ c.args.self.now.slots = ap (λ (p : PagesState). p.slots) c.self.view_is in
+    let slots : places_in c.self.inside.pages.items c.self.inside.len ≡ c.args.self.now.slots =
+    ap (λ (p : PagesState). p.slots) c.self.view_is in
     let there : is_some (get_or (places_in c.self.inside.pages.items c.self.inside.len) c.args.at None) ≡ true =
     ap (λ ps. is_some (get_or ps c.args.at None)) slots ∙ c.requires in
     there_slot c.self.inside.pages.items c.self.inside.len c.self.inside.free c.self.invariant c.args.at
@@ -25,7 +27,8 @@ place_at-requires-clause-slot c =
 
 pub write-requires-clause-page : goal.write-requires-clause-page
 write-requires-clause-page c =
-    let slots : places_in c.self.inside.pages.items c.self.inside.len ≡ c.args.self.now.slots = ap (λ (p : PagesState). p.slots) c.self.view_is in
+    let slots : places_in c.self.inside.pages.items c.self.inside.len ≡ c.args.self.now.slots =
+    ap (λ (p : PagesState). p.slots) c.self.view_is in
     let there : is_some (get_or (places_in c.self.inside.pages.items c.self.inside.len) c.args.at None) ≡ true =
     ap (λ ps. is_some (get_or ps c.args.at None)) slots ∙ c.requires in
     there_page c.self.inside.pages.items c.self.inside.len c.self.inside.free c.self.invariant c.args.at
@@ -33,7 +36,8 @@ write-requires-clause-page c =
 
 pub write-requires-clause-slot : goal.write-requires-clause-slot
 write-requires-clause-slot c =
-    let slots : places_in c.self.inside.pages.items c.self.inside.len ≡ c.args.self.now.slots = ap (λ (p : PagesState). p.slots) c.self.view_is in
+    let slots : places_in c.self.inside.pages.items c.self.inside.len ≡ c.args.self.now.slots =
+    ap (λ (p : PagesState). p.slots) c.self.view_is in
     let there : is_some (get_or (places_in c.self.inside.pages.items c.self.inside.len) c.args.at None) ≡ true =
     ap (λ ps. is_some (get_or ps c.args.at None)) slots ∙ c.requires in
     there_slot c.self.inside.pages.items c.self.inside.len c.self.inside.free c.self.invariant c.args.at
@@ -41,30 +45,36 @@ write-requires-clause-slot c =
 
 pub invariant_of-self : goal.invariant_of-self
 invariant_of-self c =
-    let slots : places_in c.self.inside.pages.items c.self.inside.len ≡ c.args.self.now.slots = ap (λ (p : PagesState). p.slots) c.self.view_is in
+    let slots : places_in c.self.inside.pages.items c.self.inside.len ≡ c.args.self.now.slots =
+    ap (λ (p : PagesState). p.slots) c.self.view_is in
     let there : is_some (get_or (places_in c.self.inside.pages.items c.self.inside.len) c.args.at None) ≡ true =
     ap (λ ps. is_some (get_or ps c.args.at None)) slots ∙ c.requires in
-    row_are c.self.inside.pages.items c.self.inside.len c.self.inside.free c.self.invariant c.write.new.pages.items c.args.at
+    row_are c.self.inside.pages.items c.self.inside.len c.self.inside.free c.self.invariant c.write.new.pages.items
+    c.args.at
     c.rewritten-slot.result c.args.row.now c.args.epoch c.write.ensures
     (c.rewritten-slot.ensures ∙ ap (λ o. rewritten o c.args.row.now c.args.epoch) c.place_at.ensures) there
 
 pub returns-clause-slots : goal.returns-clause-slots
 returns-clause-slots c =
-    let slots : places_in c.self.inside.pages.items c.self.inside.len ≡ c.args.self.now.slots = ap (λ (p : PagesState). p.slots) c.self.view_is in
+    let slots : places_in c.self.inside.pages.items c.self.inside.len ≡ c.args.self.now.slots =
+    ap (λ (p : PagesState). p.slots) c.self.view_is in
     let there : is_some (get_or (places_in c.self.inside.pages.items c.self.inside.len) c.args.at None) ≡ true =
     ap (λ ps. is_some (get_or ps c.args.at None)) slots ∙ c.requires in
-    row_places c.self.inside.pages.items c.self.inside.len c.self.inside.free c.self.invariant c.write.new.pages.items c.args.at
+    row_places c.self.inside.pages.items c.self.inside.len c.self.inside.free c.self.invariant c.write.new.pages.items
+    c.args.at
     c.rewritten-slot.result c.args.row.now c.args.epoch c.write.ensures
     (c.rewritten-slot.ensures ∙ ap (λ o. rewritten o c.args.row.now c.args.epoch) c.place_at.ensures) there
     ∙ ap (λ ps. set ps c.args.at (rewritten (get_or ps c.args.at None) c.args.row.now c.args.epoch)) slots
 
 pub returns-clause-room : goal.returns-clause-room
 returns-clause-room c =
-    let slots : places_in c.self.inside.pages.items c.self.inside.len ≡ c.args.self.now.slots = ap (λ (p : PagesState). p.slots) c.self.view_is in
+    let slots : places_in c.self.inside.pages.items c.self.inside.len ≡ c.args.self.now.slots =
+    ap (λ (p : PagesState). p.slots) c.self.view_is in
     let there : is_some (get_or (places_in c.self.inside.pages.items c.self.inside.len) c.args.at None) ≡ true =
     ap (λ ps. is_some (get_or ps c.args.at None)) slots ∙ c.requires in
     ap (λ n. nat_lt c.self.inside.len (PAGE_SLOTS * n) && nat_lt c.self.inside.len (heap_capacity c.self.inside.free))
-    (row_length c.self.inside.pages.items c.self.inside.len c.self.inside.free c.self.invariant c.write.new.pages.items c.args.at
+    (row_length c.self.inside.pages.items c.self.inside.len c.self.inside.free c.self.invariant c.write.new.pages.items
+    c.args.at
     c.rewritten-slot.result c.args.row.now c.args.epoch c.write.ensures
     (c.rewritten-slot.ensures ∙ ap (λ o. rewritten o c.args.row.now c.args.epoch) c.place_at.ensures) there)
     ∙ ap (λ (p : PagesState). p.roomy) c.self.view_is
