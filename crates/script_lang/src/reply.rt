@@ -23,7 +23,7 @@ use answer::add_answer;
 use backup::{add_backup, add_dump, add_put, ended_words, too_large_words};
 use digest::add_digest;
 use epoch::add_epoch;
-use load::add_load;
+use load::load_words;
 use outcome::add_outcome;
 use refusal::add_refusal;
 use row::add_row;
@@ -157,7 +157,10 @@ fn add_words(alloc: Global, reply: &ApiReply, line: &mut Vec<u8>) -> Result<(), 
             transactions,
             committed,
             aborted,
-        } => add_load(alloc, *transactions, *committed, *aborted, line),
+        } => add(
+            line,
+            &load_words(alloc, *transactions, *committed, *aborted)?,
+        ),
         ApiReply::Subscribed { subscriber, epoch } => {
             add_subscribed(alloc, "subscribed ", *subscriber, *epoch, line)
         }

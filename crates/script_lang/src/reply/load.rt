@@ -1,25 +1,21 @@
 //! The end of a load, in words.
-ghost use Rattle.std.specs.Prelude.{◌≡◌, ◌++◌, OnOk};
+ghost use Rattle.std.specs.Prelude.{◌≡◌, string_bytes, IfOk};
 ghost use Rattle.script_lang.specs.LoadText.{load_words};
 
-use crate::reply::words::add;
 use sig_core::NoMemory;
 use std::alloc::Global;
 
-/// Adds how many transactions a load had, and how many of them were committed and aborted, to a line.
+/// The words of how many transactions a load had, and how many of them were committed and aborted.
 ///
 /// # Errors
 /// `NoMemory`.
-pub fn add_load(
+pub fn load_words(
     alloc: Global,
     transactions: u32,
     committed: u32,
     aborted: u32,
-    line: &mut Vec<u8>,
-) -> Result<(), NoMemory>
-    ensures { OnOk result (line.new.items ≡ line.old.items ++ load_words transactions committed aborted) }
+) -> Result<String, NoMemory>
+    ensures { IfOk result (λ words. string_bytes words ≡ load_words transactions committed aborted) }
 {
-    add(line, &format!(in alloc; "load {transactions}")?)?;
-    add(line, &format!(in alloc; " committed {committed}")?)?;
-    add(line, &format!(in alloc; " aborted {aborted}")?)
+    Ok(format!(in alloc; "load {transactions} committed {committed} aborted {aborted}")?)
 }
