@@ -1,0 +1,32 @@
+//! Why a text has no sessions, or a session no end.
+use sig_core::NoMemory;
+use std::alloc::{AllocError, AllocFailed};
+
+/// Why a text has no sessions, or a session no end.
+#[derive(Clone, Copy, Debug, PartialEq, Eq)]
+pub enum Fault {
+    /// A line is none of a session, or none that may stand there.
+    Line,
+    NoMemory,
+}
+
+impl From<NoMemory> for Fault {
+    fn from(_: NoMemory) -> Fault {
+        Fault::NoMemory
+    }
+}
+
+impl From<AllocError> for Fault {
+    fn from(_: AllocError) -> Fault {
+        Fault::NoMemory
+    }
+}
+
+impl<T> From<AllocFailed<T>> for Fault
+where
+    T: Drop,
+{
+    fn from(_: AllocFailed<T>) -> Fault {
+        Fault::NoMemory
+    }
+}

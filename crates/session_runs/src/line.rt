@@ -1,0 +1,87 @@
+//! What a line of a session says.
+
+/// What a line of a session says.
+#[derive(Clone, Copy)]
+pub enum Line<'a> {
+    /// It is empty, or a comment.
+    Nothing,
+    /// A session of this title begins.
+    Session(&'a str),
+    /// The words behind the program's name.
+    Words(&'a str),
+    /// The script goes on with this, and a newline, so many times.
+    Script { line: &'a str, times: u32 },
+    /// And with this, a carriage return and a newline.
+    Returned(&'a str),
+    /// And with this alone.
+    Last(&'a str),
+    /// And with so many spaces.
+    Spaces(u32),
+    /// The script is read in pieces of at most so many bytes.
+    Read(u32),
+    /// This call of the source fails.
+    NoRead(u64),
+    /// This call of the sink fails.
+    NoWrite(u64),
+    /// The logs are told.
+    Logs,
+}
+
+// The first word of a line, and what stands behind it.
+fn cut_word(line: &str) -> (&str, &str) {
+    match line.split_once(' ') {
+        Some((first, rest)) => (first, rest),
+        None => (line, ""),
+    }
+}
+
+/// What a line says, if it is one of a session.
+pub fn parse<'a>(line: &'a str) -> Option<Line<'a>> {
+    let (first, rest) = cut_word(line);
+    match first {
+        "" if rest.is_empty() => Some(Line::Nothing),
+        "#" => Some(Line::Nothing),
+        "session" => Some(Line::Session(rest)),
+        "words" => Some(Line::Words(rest)),
+        ">" => Some(Line::Script {
+            line: rest,
+            times: 1,
+        }),
+        "crlf" => Some(Line::Returned(rest)),
+        "last" => Some(Line::Last(rest)),
+        "logs" if rest.is_empty() => Some(Line::Logs),
+        "no" => failure(rest),
+        _ => number(first, rest),
+    }
+}
+
+// The line of a call that fails.
+fn failure<'a>(rest: &'a str) -> Option<Line<'a>> {
+    let (call, at) = cut_word(rest);
+    let at = at.parse::<u64>().ok()?;
+    match call {
+        "read" => Some(Line::NoRead(at)),
+        "write" => Some(Line::NoWrite(at)),
+        _ => None,
+    }
+}
+
+// A line with a number in it.
+fn number<'a>(first: &'a str, rest: &'a str) -> Option<Line<'a>> {
+    match first {
+        "spaces" => Some(Line::Spaces(rest.parse::<u32>().ok()?)),
+        "read" => Some(Line::Read(rest.parse::<u32>().ok()?)),
+        _ => repeated(first.parse::<u32>().ok()?, rest),
+    }
+}
+
+// A line of the script that stands there so many times.
+fn repeated<'a>(times: u32, rest: &'a str) -> Option<Line<'a>> {
+    let (word, line) = cut_word(rest);
+    let (sign, line) = cut_word(line);
+    if word == "times" && sign == ">" {
+        Some(Line::Script { line, times })
+    } else {
+        None
+    }
+}
