@@ -14,6 +14,7 @@ pub fn events_at_primary()
 /// At a backup of a key each event leaves its records to exclusive holders, whoever waits attended,
 /// and the row led to the same value, as long as images come one at a time and of transactions that
 /// aren't decided, and commits, completions and aborts of those that they are for.
+#[tactic(auto, using(crate::proofs::BackupOrder::fair_keeps))]
 pub fn events_at_backup()
     ensures { FairEventsKeepAt }
 {}

@@ -2,9 +2,10 @@
 -- operation has come further, and that each step but a turn of its own at its coordinator leaves one of the two.
 use Rattle.std.proofs.Common.{◌≡◌, ◌≢◌, ◌⊎◌, ◌≤◌, ◌<◌, ◌+◌, ◌*◌, ℕ, zero, suc, Bool, true, false, List, [], ◌∷◌, drop, length, refl, sym}
 use Rattle.std.proofs.Common.{ap, ◌∙◌, subst, arith, inl, inr}
-use Rattle.std.proofs.lemmas.Bool.{and_parts, cases_eq, eqb-true, false≢true, true≢false}
+use Rattle.std.proofs.lemmas.Bool.{and_parts, eqb-true, false≢true, true≢false}
 use Rattle.std.proofs.lemmas.Bool.Decides.{nat_tests}
 use Rattle.std.specs.Prelude.{◌-◌, ◌==◌, ◌&&◌, ◌||◌, if◌then◌else◌, nat_le, nat_lt, Option, None, Some}
+use Rattle.run_theory.proofs.EventCases.{event_cases, event_moves, event_own}
 use Rattle.run_theory.proofs.Runs.{log_of-other, log_of-own}
 use Rattle.run_theory.specs.Counts.{one_if, tally, total}
 use Rattle.sig_core.proofs.Keys.{same_tx-self}
@@ -60,7 +61,7 @@ use Rattle.run_laws.specs.Routes.{IsForBlock, IsRequestRouted, IsRouted, replica
 use Rattle.run_laws.specs.Transit.{AreInTransit, Comes, Takes, joined, logs_of}
 use Rattle.run_laws.proofs.routes.Addressed.{comes_below, rows_addressed, tc_addressed}
 use Rattle.run_laws.proofs.hosts.Always.{few_touched}
-use Rattle.run_laws.proofs.hosts.HomeSteps.{IsHome, all_home, away, here_now, here_was}
+use Rattle.run_laws.proofs.hosts.HomeSteps.{IsHome, all_home, here_was, live_leaves}
 use Rattle.run_laws.proofs.routes.Events.{IsPlaced, coming_are_routed, placed, placed_runs}
 use Rattle.run_laws.proofs.routes.Chain.{hosts_are_apart}
 use Rattle.run_laws.proofs.circle.RowsEvents.{event_rows}
@@ -236,19 +237,9 @@ module _ (start : Start) (tx : TxId) (key : List ℕ) (at : ℕ) (inside : at < 
     abbrev Now : Option Transaction → Type 0
     Now o = IsEnding (logs_of start (e ∷ es)) later o
 
-    facts : IsHome tx (tc_of g)
-    facts = all_home start tx e.host (logs_of start es e.host)
-
     same_live : of_host tx next.state ≡ of_host tx g
         → live_at start (logs_of start (e ∷ es)) tx ≡ live_at start (logs_of start es) tx
-    same_live alike = by (cases_eq e.host (home start tx))
-      where
-        by : (e.host ≡ home start tx) ⊎ (e.host ≢ home start tx)
-            → live_at start (logs_of start (e ∷ es)) tx ≡ live_at start (logs_of start es) tx
-        by (inl here) =
-            ap (of_host tx) (here_now start es e come tx here) ∙ alike
-            ∙ sym (ap (of_host tx) (here_was start es e come tx here))
-        by (inr differs) = ap (of_host tx) (away start es e come tx differs)
+    same_live = live_leaves start es e come tx
 
     pub waits_as : lqh_of next.state ≡ lqh_of g → waiting_from next.state ≡ waiting_from g
     waits_as rows = ap (λ (l : LqhState). tally (is_from tx key at) l.waiting) rows
@@ -262,17 +253,11 @@ module _ (start : Start) (tx : TxId) (key : List ℕ) (at : ℕ) (inside : at < 
 
     -- a step at which nothing happens to the key leaves it as it was
     pub stood : event_in key g e.step.taken ≡ rests → Stands (logs_of start (e ∷ es)) → Stands (logs_of start es)
-    stood none is = by (cases_eq e.host (replica_host start key at))
-      where
-        hp : ℕ
-        hp = replica_host start key at
-
-        by : (e.host ≡ hp) ⊎ (e.host ≢ hp) → Stands (logs_of start es)
-        by (inr off) = ap (is_away start key tx hp) (sym (log_of-other (machine start) e es hp off)) ∙ is
-        by (inl own) =
-            sym (ap (λ event. gone_by tx event (is_away start key tx hp (logs_of start es hp)))
-            (subst (λ k. event_in key (after start k (logs_of start es k)) e.step.taken ≡ rests) own none))
-            ∙ ap (is_away start key tx hp) (sym (log_of-own (machine start) e es hp own)) ∙ is
+    stood none =
+        event_moves (machine start) e es
+        (λ h was log. is_away start key tx h log ≡ false → is_away start key tx h was ≡ false)
+        (λ is. sym (ap (λ event. gone_by tx event (is_away start key tx e.host (logs_of start es e.host))) none) ∙ is)
+        (λ h log is. is) (replica_host start key at)
 
     -- a request of it comes to the host of its place, which runs rows
     pub record ComesAt (place : ℕ) : Type 0 where
@@ -530,11 +515,9 @@ module _ (start : Start) (tx : TxId) (key : List ℕ) (at : ℕ) (inside : at < 
 
               gone : is_away start key tx hp (logs_of start (e ∷ es) hp) ≡ true
               gone =
-                  ap (is_away start key tx hp) (log_of-own (machine start) e es hp here)
-                  ∙ ap (λ event. gone_by tx event (is_away start key tx hp (logs_of start es hp)))
-                  (subst (λ k. event_in key (after start k (logs_of start es k)) e.step.taken ≡ aborts tx) here
-                  event_is)
-                  ∙ ap (λ b. b || is_away start key tx hp (logs_of start es hp)) (same_tx-self tx)
+                  let was : Bool = is_away start key tx e.host (logs_of start es e.host) in
+                  event_own (machine start) e es (λ h log. is_away start key tx h log ≡ true) hp here
+                  (ap (λ event. gone_by tx event was) event_is ∙ ap (λ b. b || was) (same_tx-self tx))
           abort other own is true true true false p q r s = refl
           abort other own is true true false d p q r s = refl
           abort other own is true false c d p q r s = refl
@@ -588,7 +571,9 @@ module _ (start : Start) (tx : TxId) (key : List ℕ) (at : ℕ) (inside : at < 
       pub rows_goes : Holds (e ∷ es) later
       rows_goes given stands =
           subst Now (sym (same_live (ap (λ (c : TcState). of_live tx c.live) step.tc)))
-          (by (cases_eq e.host (replica_host start key at)))
+          (event_cases (machine start) e es hp (λ log. is_away start key tx hp log ≡ false → Now o)
+          (λ here now. which here (came_back tx key start hp (logs_of start es hp) e now))
+          (λ off now. stood_before now) stands)
         where
           hp : ℕ
           hp = replica_host start key at
@@ -610,14 +595,7 @@ module _ (start : Start) (tx : TxId) (key : List ℕ) (at : ℕ) (inside : at < 
           stood_before : Stands (logs_of start es) → Now o
           stood_before before_is = on (was (sym rows_same ∙ given) before_is)
 
-          by : (e.host ≡ hp) ⊎ (e.host ≢ hp) → Now o
-          by (inr off) =
-              stood_before (ap (is_away start key tx hp) (sym (log_of-other (machine start) e es hp off)) ∙ stands)
-          by (inl here) =
-              which (came_back tx key start hp (logs_of start es hp) e
-              (ap (is_away start key tx hp) (sym (log_of-own (machine start) e es hp here)) ∙ stands))
-            where
-              which : (is_away start key tx hp (logs_of start es hp) ≡ false)
-                  ⊎ (is_part_on tx key e.step.taken.body ≡ true) → Now o
-              which (inl before_is) = stood_before before_is
-              which (inr part) = inr (omega (arith, rows_keep, rows_ask here part))
+          which : e.host ≡ hp → (is_away start key tx hp (logs_of start es hp) ≡ false)
+              ⊎ (is_part_on tx key e.step.taken.body ≡ true) → Now o
+          which here (inl before_is) = stood_before before_is
+          which here (inr part) = inr (omega (arith, rows_keep, rows_ask here part))

@@ -96,9 +96,6 @@ module _ (layout : Layout) (tx : TxId) where
       all (u ∷ us) = ap (λ os. aborts_of tx u.key (chain_of layout u.key) ++ os) (all us)
 
   module _ (key : List ℕ) (node : ℕ) where
-    abbrev Any : List Outgoing → Bool
-    Any sends = any_sent (is_abort_to tx key node) sends
-
     -- a key is aborted at each of its replicas
     pub any_replica : (own : List ℕ) → same_key own key ≡ true → (chain : List Member) → has_node node chain ≡ true
         → any_sent (is_abort_to tx key node) (aborts_of tx own chain) ≡ true

@@ -1,11 +1,10 @@
 -- Who waits at a replica holds the key's lock as it asked or is in the queue for it, along every run.
-use Rattle.std.proofs.Common.{◌≡◌, ◌≢◌, ◌⊎◌, ◌<◌, ℕ, Bool, true, false, List, [], ◌∷◌, length, refl, sym, ap, ◌∙◌}
-use Rattle.std.proofs.Common.{subst, inl, inr}
-use Rattle.std.proofs.lemmas.Bool.{cases_eq}
+use Rattle.std.proofs.Common.{◌≡◌, ◌<◌, ℕ, Bool, true, false, List, [], ◌∷◌, length, refl, sym, ap, ◌∙◌}
+use Rattle.std.proofs.Common.{subst}
 use Rattle.std.specs.Prelude.{Option, None, Some}
+use Rattle.run_theory.proofs.EventCases.{event_keeps}
 use Rattle.run_theory.specs.Lists.{Each}
 use Rattle.run_theory.proofs.Pasts.{each_append, each_map}
-use Rattle.run_theory.proofs.Runs.{log_of-other, log_of-own}
 use Rattle.sig_core.proofs.TxLemmas.{same_tx-swap}
 use Rattle.sig_core.specs.declared.member.TxId.{TxId}
 use Rattle.sig_core.specs.Firsts.{drop_first, first}
@@ -207,31 +206,17 @@ module _ (start : Start) (key : List ℕ) where
     alone = subst AreAlone (sym (first_waits at run.shape inside)) tt;
   }
   serving_along at inside (e ∷ es) run =
-      by (cases_eq e.host (replica_host start key at)) (serving_along at inside es (earlier start es e run))
+      event_keeps (machine start) e es (λ h log. IsServing (key_in key (after start h log))) here
+      (replica_host start key at) (serving_along at inside es (earlier start es e run))
     where
       old : ℕ → List HostStep
       old = logs_of start es
 
-      now : ℕ → List HostStep
-      now = logs_of start (e ∷ es)
-
       event : Event
       event = event_in key (after start e.host (old e.host)) e.step.taken
 
-      here : IsServing (at_host start old key e.host) → IsServing (at_host start now key e.host)
+      here : IsServing (at_host start old key e.host) → IsServing (key_in key (after start e.host (e ∷ old e.host)))
       here was =
-          subst IsServing
-          (sym (ap (λ log. key_in key (after start e.host log)) (log_of-own (machine start) e es e.host refl)
-          ∙ logs_follow start e.host (old e.host) e key))
+          subst IsServing (sym (logs_follow start e.host (old e.host) e key))
           (serving_after event (at_host start old key e.host) was
           (apart_of old e.host event (events_owed start es e key (comes start es e run))))
-
-      by : (e.host ≡ replica_host start key at) ⊎ (e.host ≢ replica_host start key at)
-          → IsServing (at_host start old key (replica_host start key at))
-          → IsServing (at_host start now key (replica_host start key at))
-      by (inl is) was =
-          subst (λ h. IsServing (at_host start now key h)) is
-          (here (subst (λ h. IsServing (at_host start old key h)) (sym is) was))
-      by (inr off) was =
-          subst (λ log. IsServing (key_in key (after start (replica_host start key at) log)))
-          (sym (log_of-other (machine start) e es (replica_host start key at) off)) was

@@ -1,7 +1,7 @@
 -- Along every run no more of a transaction's commit, completion or abort is under way than its coordinator awaits.
-use Rattle.std.proofs.Common.{◌≡◌, ◌≢◌, ◌⊎◌, ◌≤◌, ◌+◌, ℕ, Bool, true, false, List, [], ◌∷◌, refl, sym, ap, ◌∙◌, subst}
-use Rattle.std.proofs.Common.{arith, inl, inr}
-use Rattle.std.proofs.lemmas.Bool.{cases_eq, false≢true}
+use Rattle.std.proofs.Common.{◌≡◌, ◌≢◌, ◌≤◌, ◌+◌, ℕ, Bool, true, false, List, [], ◌∷◌, refl, sym, ap, ◌∙◌, subst}
+use Rattle.std.proofs.Common.{arith}
+use Rattle.std.proofs.lemmas.Bool.{false≢true}
 use Rattle.std.specs.Prelude.{if◌then◌else◌, Option, None, Some}
 use Rattle.run_theory.specs.Lists.{Each}
 use Rattle.sig_core.proofs.Keys.{same_tx-self}
@@ -42,7 +42,7 @@ use Rattle.host_laws.proofs.coordinator.TurnKinds.{OwnKinds, TurnOnly, own_kinds
 use Rattle.host_laws.specs.Live.{of_live}
 use Rattle.run_laws.specs.Live.{live_at, of_host}
 use Rattle.run_laws.specs.Transit.{Comes, Takes, joined, logs_of}
-use Rattle.run_laws.proofs.hosts.HomeSteps.{IsHome, all_home, away, here_now, here_was, own_home, unborn_absent}
+use Rattle.run_laws.proofs.hosts.HomeSteps.{IsHome, all_home, here_now, here_was, own_home, unborn_absent, live_leaves}
 use Rattle.run_laws.proofs.hosts.LiveOf.{of_each}
 use Rattle.run_laws.proofs.transit.Transit.{along_transit}
 use Rattle.run_laws.proofs.hosts.TxTurns as turn
@@ -269,14 +269,7 @@ module _ (tx : TxId) where
 
     same_live : of_host tx (row g e.step.taken).state ≡ of_host tx g
         → live_at start (logs_of start (e ∷ es)) tx ≡ live_at start (logs_of start es) tx
-    same_live same = by (cases_eq e.host (home start tx))
-      where
-        by : (e.host ≡ home start tx) ⊎ (e.host ≢ home start tx)
-            → live_at start (logs_of start (e ∷ es)) tx ≡ live_at start (logs_of start es) tx
-        by (inl own) =
-            ap (of_host tx) (here_now start es e come tx own) ∙ same
-            ∙ sym (ap (of_host tx) (here_was start es e come tx own))
-        by (inr differs) = ap (of_host tx) (away start es e come tx differs)
+    same_live = live_leaves start es e come tx
 
     awaited_next : Before (live_at start (logs_of start es) tx) → Later (live_at start (logs_of start (e ∷ es)) tx)
     awaited_next was = by (fares tx g e.step.taken facts)

@@ -1,9 +1,10 @@
 -- A transaction that is carried out asks for nothing any more, so it is out of each lock that it has let go of.
 use Rattle.std.proofs.Common.{◌≡◌, ◌≢◌, ◌⊎◌, ℕ, Bool, true, false, List, [], ◌∷◌, refl, sym, ap, ◌∙◌}
 use Rattle.std.proofs.Common.{arith, inl, inr}
-use Rattle.std.proofs.lemmas.Bool.{cases_eq, false≢true, or_cases, or_left, or_right, true≢false}
+use Rattle.std.proofs.lemmas.Bool.{false≢true, or_cases, or_left, or_right, true≢false}
 use Rattle.std.specs.Prelude.{◌==◌, ◌||◌, if◌then◌else◌, Option, None, Some}
-use Rattle.run_theory.proofs.Runs.{log_of-other, log_of-own, log_of-past}
+use Rattle.run_theory.proofs.EventCases.{event_cases}
+use Rattle.run_theory.proofs.Runs.{log_of-past}
 use Rattle.sig_core.specs.declared.member.TxId.{TxId}
 use Rattle.sig_core.specs.declared.signal.Body.{Body}
 use Rattle.sig_core.specs.declared.signal.Body.TheVariants.{Host, Chain}
@@ -133,7 +134,14 @@ module _ (tx : TxId) (key : List ℕ) where
         → (primary_along start h key (logs_of start es h)).ended tx ≡ true
         → has_gone start key tx h (logs_of start es h) ≡ true
     gone_along h [] run carried is = absurd (false≢true is)
-    gone_along h (e ∷ es) run carried is = by (cases_eq e.host h) (gone_along h es before_run)
+    gone_along h (e ∷ es) run carried is =
+        let before = gone_along h es before_run in
+        event_cases (machine start) e es h
+        (λ l. (primary_along start h key l).ended tx ≡ true → has_gone start key tx h l ≡ true)
+        (λ at. gone_still (event_in key (after start h log) e.step.taken) p (has_gone start key tx h log)
+        (λ had. before (carried_before had) had)
+        (λ had. event_off h log e (none_comes es e (comes start es e run) (carried_before had))))
+        (λ off had. before (carried_before had) had) is
       where
         before_run : IsRun start es
         before_run = earlier start es e run
@@ -156,22 +164,6 @@ module _ (tx : TxId) (key : List ℕ) where
                 (λ h. log_of-past (machine start) e es h) given in
                 absurd (true≢false (sym now ∙ none_is_both start (logs_of start (e ∷ es)) tx carried))
             which (inr was) = was
-
-        by : (e.host ≡ h) ⊎ (e.host ≢ h)
-            → (is_carried_out start (logs_of start es) tx ≡ true → p.ended tx ≡ true
-            → has_gone start key tx h log ≡ true)
-            → has_gone start key tx h (logs_of start (e ∷ es) h) ≡ true
-        by (inr off) before =
-            let same_log = log_of-other (machine start) e es h off in
-            let had = ap (λ l. (primary_along start h key l).ended tx) (sym same_log) ∙ is in
-            ap (has_gone start key tx h) same_log ∙ before (carried_before had) had
-        by (inl at) before =
-            let own_log = log_of-own (machine start) e es h at in
-            ap (has_gone start key tx h) own_log
-            ∙ gone_still (event_in key (after start h log) e.step.taken) p (has_gone start key tx h log)
-            (λ had. before (carried_before had) had)
-            (λ had. event_off h log e (none_comes es e (comes start es e run) (carried_before had)))
-            (ap (λ l. (primary_along start h key l).ended tx) (sym own_log) ∙ is)
 
 pub carried_out_stay_out : CarriedOutStayOut
 carried_out_stay_out start es key h tx run carried is =

@@ -1,13 +1,13 @@
 -- A row is completed at a place of its chain behind the place after it, so nobody waits behind the second place for a
 -- transaction that is carried out.
-use Rattle.std.proofs.Common.{◌≡◌, ◌≢◌, ◌⊎◌, ◌<◌, ◌+◌, ℕ, zero, suc, Bool, true, false, List, [], ◌∷◌, length, refl, ap}
-use Rattle.std.proofs.Common.{◌∙◌, subst, arith, inl, inr}
-use Rattle.std.proofs.lemmas.Bool.{cases_eq, or_left, true≢false}
+use Rattle.std.proofs.Common.{◌≡◌, ◌≢◌, ◌<◌, ◌+◌, ℕ, zero, suc, Bool, true, false, List, [], ◌∷◌, length, refl, ap}
+use Rattle.std.proofs.Common.{◌∙◌, subst, arith}
+use Rattle.std.proofs.lemmas.Bool.{or_left, true≢false}
 use Rattle.std.specs.List.{flat_map}
 use Rattle.std.specs.Prelude.{◌-◌, ◌==◌, if◌then◌else◌}
+use Rattle.run_theory.proofs.EventCases.{event_keeps, event_own}
 use Rattle.run_theory.proofs.EachSent.{each_mapped}
 use Rattle.run_theory.proofs.Pasts.{each_append, each_map}
-use Rattle.run_theory.proofs.Runs.{log_of-other, log_of-own}
 use Rattle.run_theory.specs.Lists.{Each}
 use Rattle.sig_core.proofs.Keys.{same_key-self, same_tx-self}
 use Rattle.sig_core.specs.declared.member.Member.{Member}
@@ -140,16 +140,10 @@ module _ (start : Start) where
 
   pub let_go_more : (es : List HostStep) (e : HostStep) (key : List ℕ) (h : ℕ) (tx : TxId)
       → has_let_go start (logs_of start es) key h tx ≡ true → has_let_go start (logs_of start (e ∷ es)) key h tx ≡ true
-  let_go_more es e key h tx is = by (cases_eq e.host h)
-    where
-      log : List HostStep
-      log = logs_of start es h
-
-      by : (e.host ≡ h) ⊎ (e.host ≢ h) → has_let_go start (logs_of start (e ∷ es)) key h tx ≡ true
-      by (inl at) =
-          ap (λ l. (primary_along start h key l).ended tx) (log_of-own (machine start) e es h at)
-          ∙ ended_stays (event_in key (after start h log) e.step.taken) (primary_along start h key log) tx is
-      by (inr off) = ap (λ l. (primary_along start h key l).ended tx) (log_of-other (machine start) e es h off) ∙ is
+  let_go_more es e key h tx =
+      let log = logs_of start es e.host in
+      event_keeps (machine start) e es (λ k l. (primary_along start k key l).ended tx ≡ true)
+      (ended_stays (event_in key (after start e.host log) e.step.taken) (primary_along start e.host key log) tx) h
 
   more_tells : (es : List HostStep) (e : HostStep) (body : Body) → TellsBehind (logs_of start es) body
       → TellsBehind (logs_of start (e ∷ es)) body
@@ -168,9 +162,9 @@ module _ (start : Start) where
       → e.step.taken.body ≡ Chain (Complete tx key chain at)
       → has_let_go start (logs_of start (e ∷ es)) key (rows_host start (node_at chain at)) tx ≡ true
   taken_let_go es e come runs to tx key chain at is =
-      subst (λ h. has_let_go start (logs_of start (e ∷ es)) key h tx ≡ true) host_is
-      (ap (λ l. (primary_along start e.host key l).ended tx) (log_of-own (machine start) e es e.host refl)
-      ∙ ap (λ (event : Event). ended_after event p tx)
+      event_own (machine start) e es (λ h l. (primary_along start h key l).ended tx ≡ true)
+      (rows_host start (node_at chain at)) host_is
+      (ap (λ (event : Event). ended_after event p tx)
       (event_rows key (after start e.host log) e.step.taken runs to
       ∙ ap (event_at key (lqh_of (after start e.host log))) is)
       ∙ ap (λ b. ended_after (if b then completes tx else rests) p tx) (same_key-self key)

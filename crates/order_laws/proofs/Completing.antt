@@ -2,7 +2,7 @@
 -- or the backup has let go, where its coordinator doesn't commit it any more.
 use Rattle.std.proofs.Common.{◌≡◌, ◌≢◌, ◌⊎◌, ◌≤◌, ◌<◌, ◌+◌, ℕ, zero, suc, Bool, true, false, List, [], ◌∷◌, drop, length, refl, sym, ap}
 use Rattle.std.proofs.Common.{◌∙◌, subst, arith, inl, inr}
-use Rattle.std.proofs.lemmas.Bool.{cases_eq, eqb-true, false≢true}
+use Rattle.std.proofs.lemmas.Bool.{eqb-true, false≢true}
 use Rattle.std.specs.List.{list_any}
 use Rattle.std.specs.Prelude.{◌-◌, ◌==◌, ◌&&◌, ◌||◌, if◌then◌else◌, Option, None, Some}
 use Rattle.run_theory.specs.Counts.{one_if}
@@ -64,7 +64,7 @@ use Rattle.run_laws.specs.Transit.{AreInTransit, Comes, IsRun, Takes, joined, lo
 use Rattle.run_laws.proofs.routes.Addressed.{rows_addressed, tc_addressed}
 use Rattle.run_laws.proofs.hosts.Always.{few_touched}
 use Rattle.run_laws.proofs.carried.Begins.{carried_silent, said_silent}
-use Rattle.run_laws.proofs.hosts.HomeSteps.{IsHome, all_home, away, here_now, here_was, own_home, unborn_absent}
+use Rattle.run_laws.proofs.hosts.HomeSteps.{IsHome, all_home, here_now, here_was, own_home, unborn_absent, live_leaves}
 use Rattle.run_laws.proofs.hosts.LiveOf.{of_each}
 use Rattle.run_laws.proofs.routes.Events.{coming_are_routed, placed, placed_runs}
 use Rattle.run_laws.proofs.hosts.TcOwn.{AreSilent}
@@ -257,22 +257,12 @@ module _ (start : Start) (tx : TxId) (key : List ℕ) (inside : 0 + 1 < length (
         (subst (TellsBehind start (logs_of start es)) last.is tells
         (omega (arith, inside, ap length routed.along)))
 
-    abbrev Now : Option Transaction → Type 0
-    Now o = IsOnWay (logs_of start (e ∷ es)) later o
-
     facts : IsHome tx (tc_of g)
     facts = all_home start tx e.host (logs_of start es e.host)
 
     same_live : of_host tx (row g e.step.taken).state ≡ of_host tx g
         → live_at start (logs_of start (e ∷ es)) tx ≡ live_at start (logs_of start es) tx
-    same_live same = by (cases_eq e.host (home start tx))
-      where
-        by : (e.host ≡ home start tx) ⊎ (e.host ≢ home start tx)
-            → live_at start (logs_of start (e ∷ es)) tx ≡ live_at start (logs_of start es) tx
-        by (inl own) =
-            ap (of_host tx) (here_now start es e come tx own) ∙ same
-            ∙ sym (ap (of_host tx) (here_was start es e come tx own))
-        by (inr differs) = ap (of_host tx) (away start es e come tx differs)
+    same_live = live_leaves start es e come tx
 
     -- what goes on with the claim where the transaction stays as it is
     stays_so : live_at start (logs_of start (e ∷ es)) tx ≡ live_at start (logs_of start es) tx

@@ -104,9 +104,6 @@ module _ (layout : Layout) (tx : TxId) where
   unfolding phase_sends front_sends key_sends
   any_completed key epoch n us is = all us is
     where
-      Any : List Outgoing → Bool
-      Any sends = any_sent (is_completion tx key) sends
-
       all : (us : List Touched) → has_written key us ≡ true
           → any_sent (is_completion tx key) (flat_map (key_sends layout tx (Completing epoch n)) us) ≡ true
       all [] is = absurd (false≢true is)

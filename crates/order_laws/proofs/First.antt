@@ -1,10 +1,11 @@
 -- Who is given up is away from the first place of each chain, where nothing is under way: on the link to it the abort
 -- comes behind the last request.
-use Rattle.std.proofs.Common.{◌≡◌, ◌≢◌, ◌⊎◌, ◌≤◌, ◌<◌, ◌+◌, ℕ, zero, suc, Bool, true, false, List, [], ◌∷◌, drop, length, refl, sym}
-use Rattle.std.proofs.Common.{ap, ◌∙◌, subst, arith, inl, inr}
-use Rattle.std.proofs.lemmas.Bool.{cases_eq, eqb-true, false≢true, true≢false}
+use Rattle.std.proofs.Common.{◌≡◌, ◌≢◌, ◌≤◌, ◌<◌, ◌+◌, ℕ, zero, suc, Bool, true, false, List, [], ◌∷◌, drop, length, refl, sym}
+use Rattle.std.proofs.Common.{ap, ◌∙◌, subst, arith, inl}
+use Rattle.std.proofs.lemmas.Bool.{eqb-true, false≢true, true≢false}
 use Rattle.std.specs.List.{list_any}
 use Rattle.std.specs.Prelude.{◌==◌, ◌&&◌, if◌then◌else◌, Option, None, Some}
+use Rattle.run_theory.proofs.EventCases.{event_cases}
 use Rattle.run_theory.proofs.Runs.{log_of-other, log_of-own}
 use Rattle.run_theory.specs.Counts.{one_if}
 use Rattle.run_theory.specs.Links.{sent, taken}
@@ -57,7 +58,7 @@ use Rattle.run_laws.specs.Live.{live_at, of_host}
 use Rattle.run_laws.specs.Routes.{replica_host, replicas}
 use Rattle.run_laws.specs.Transit.{AreInTransit, Comes, IsRun, Takes, joined, logs_of}
 use Rattle.run_laws.proofs.routes.Addressed.{tc_addressed}
-use Rattle.run_laws.proofs.hosts.HomeSteps.{IsHome, all_home, away, here_now, here_was}
+use Rattle.run_laws.proofs.hosts.HomeSteps.{IsHome, all_home, away, here_now, here_was, live_leaves}
 use Rattle.run_laws.proofs.hosts.LiveOf.{of_each}
 use Rattle.run_laws.proofs.routes.Chain.{replicas_are_nodes, replicas_some}
 use Rattle.run_laws.proofs.hosts.TcSaid.{idle_silent, tc_silent, tc_speaks}
@@ -230,9 +231,7 @@ module _ (start : Start) (tx : TxId) (key : List ℕ) (some : 1 ≤ tx.tc) (low 
           (was (sym same ∙ given) (sym (now_asks ∙ mute_in start tx key sends asked_before mute) ∙ asks)))
         where
           same_live : live_at start (logs_of start (e ∷ es)) tx ≡ live_at start (logs_of start es) tx
-          same_live =
-              ap (of_host tx) (here_now start es e come tx here) ∙ alike
-              ∙ sym (ap (of_host tx) (here_was start es e come tx here))
+          same_live = live_leaves start es e come tx alike
 
       -- a turn of the transaction
       module _ (number : ℕ) (home_is : number ≡ tx.tc) (u : Transaction)
@@ -467,11 +466,7 @@ module _ (start : Start) (tx : TxId) (key : List ℕ) (some : 1 ≤ tx.tc) (low 
               (λ is its. none_of tx g e.step.taken.to.block is step.runs)
 
     holds_next : Holds (e ∷ es) later
-    holds_next = by (cases_eq e.host (home start tx))
-      where
-        by : (e.host ≡ home start tx) ⊎ (e.host ≢ home start tx) → Holds (e ∷ es) later
-        by (inl here) = near here
-        by (inr differs) = far differs
+    holds_next = event_cases (machine start) e es (home start tx) (λ log. Holds (e ∷ es) later) near far
 
   holds_along : (es : List HostStep) (xs : List Addressed) → IsRun start es → AreInTransit start es xs → Holds es xs
   holds_along =

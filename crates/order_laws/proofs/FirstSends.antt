@@ -1,10 +1,10 @@
 -- What the host of a transaction's coordinator sends to the first place of a chain: whether the newest is a request or
 -- an abort. Where a request is it still, no abort was sent; and whose request was sent is known.
-use Rattle.std.proofs.Common.{◌≡◌, ◌≢◌, ◌⊎◌, ◌≤◌, ℕ, zero, suc, Bool, true, false, List, [], ◌∷◌, refl, sym}
-use Rattle.std.proofs.Common.{ap, ◌∙◌, arith, inl, inr, eq-eqb}
-use Rattle.std.proofs.lemmas.Bool.{cases_eq, eqb-true, false≢true}
+use Rattle.std.proofs.Common.{◌≡◌, ◌≢◌, ◌≤◌, ℕ, zero, suc, Bool, true, false, List, [], ◌∷◌, refl, sym}
+use Rattle.std.proofs.Common.{ap, ◌∙◌, arith, eq-eqb}
+use Rattle.std.proofs.lemmas.Bool.{eqb-true, false≢true}
 use Rattle.std.specs.Prelude.{◌==◌, ◌&&◌, if◌then◌else◌}
-use Rattle.run_theory.proofs.Runs.{log_of-other, log_of-own}
+use Rattle.run_theory.proofs.EventCases.{event_cases}
 use Rattle.run_theory.specs.Counts.{one_if}
 use Rattle.run_theory.specs.Links.{put, sent}
 use Rattle.run_theory.specs.Lists.{Each}
@@ -257,7 +257,10 @@ module _ (start : Start) (tx : TxId) (key : List ℕ) where
   pub sent_known : (es : List HostStep) → IsRun start es → Asks (logs_of start es (home start tx))
       → IsKnown tx key start (logs_of start es)
   sent_known [] run is = absurd (false≢true is)
-  sent_known (e ∷ es) run is = by (cases_eq e.host at_home) (sent_known es (earlier start es e run))
+  sent_known (e ∷ es) run is =
+      let more = sent_known es (earlier start es e run) in
+      event_cases (machine start) e es at_home (λ l. Asks l → IsKnown tx key start (logs_of start (e ∷ es)))
+      (own more) (λ off asks. known_next tx key start es e come (more asks)) is
     where
       come : Comes start es e
       come = comes start es e run
@@ -271,21 +274,14 @@ module _ (start : Start) (tx : TxId) (key : List ℕ) where
       sends : List Outgoing
       sends = (step_after start (home start tx) log e).effects.sends
 
-      by : (e.host ≡ at_home) ⊎ (e.host ≢ at_home)
-          → (Asks (logs_of start es (home start tx)) → IsKnown tx key start (logs_of start es))
+      own : (Asks log → IsKnown tx key start (logs_of start es)) → e.host ≡ at_home → Asks (e ∷ log)
           → IsKnown tx key start (logs_of start (e ∷ es))
-      by (inr off) more =
-          known_next tx key start es e come
-          (more (ap (λ l. asks_last tx key (sent (machine start) (home start tx) (replica_host start key 0) l))
-          (sym (log_of-other (machine start) e es at_home off)) ∙ is))
-      by (inl here) more =
+      own more here is =
           which (asks_last tx key (sent (machine start) (home start tx) (replica_host start key 0) log)) refl
         where
           now_asks : last_in sends
               (asks_last tx key (sent (machine start) (home start tx) (replica_host start key 0) log)) ≡ true
-          now_asks =
-              sym (ap (λ l. asks_last tx key (sent (machine start) (home start tx) (replica_host start key 0) l))
-              (log_of-own (machine start) e es at_home here) ∙ sent_step (home start tx) e log) ∙ is
+          now_asks = sym (sent_step (home start tx) e log) ∙ is
 
           which : (b : Bool)
               → asks_last tx key (sent (machine start) (home start tx) (replica_host start key 0) log) ≡ b

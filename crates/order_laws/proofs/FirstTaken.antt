@@ -1,9 +1,9 @@
 -- Who isn't away from the first place of a chain was last heard of there with a request.
 use Rattle.std.proofs.Common.{◌≡◌, ◌≢◌, ◌⊎◌, ◌≤◌, ◌<◌, ℕ, Bool, true, false, List, [], ◌∷◌, length, refl, sym}
 use Rattle.std.proofs.Common.{ap, ◌∙◌, subst, inl, inr, eq-eqb, not}
-use Rattle.std.proofs.lemmas.Bool.{and_parts, cases_eq, false≢true, true≢false}
+use Rattle.std.proofs.lemmas.Bool.{and_parts, false≢true, true≢false}
 use Rattle.std.specs.Prelude.{◌==◌, ◌&&◌, ◌||◌, if◌then◌else◌}
-use Rattle.run_theory.proofs.Runs.{log_of-other, log_of-own}
+use Rattle.run_theory.proofs.EventCases.{event_cases}
 use Rattle.run_theory.specs.Links.{taken}
 use Rattle.sig_core.proofs.Keys.{same_tx-self}
 use Rattle.sig_core.proofs.TxLemmas.{same_tx-is}
@@ -75,12 +75,6 @@ module _ (tx : TxId) (key : List ℕ) where
   last_stays _ off = refl
 
 module _ (start : Start) (tx : TxId) (key : List ℕ) (some : 1 ≤ tx.tc) (low : tx.tc ≤ start.shape.nodes) where
-  abbrev at_first : ℕ
-  at_first = replica_host start key 0
-
-  abbrev at_home : ℕ
-  at_home = home start tx
-
   -- what the first place has taken of its coordinator's host
   module _ (es : List HostStep) (e : HostStep) (come : Comes start es e) (here : e.host ≡ replica_host start key 0)
     where
@@ -161,7 +155,9 @@ module _ (start : Start) (tx : TxId) (key : List ℕ) (some : 1 ≤ tx.tc) (low 
   pub taken_asks : (es : List HostStep) → IsRun start es → First (logs_of start es)
       → asks_last tx key (taken (machine start) (home start tx) (logs_of start es (replica_host start key 0))) ≡ true
   taken_asks [] run is = absurd (true≢false is)
-  taken_asks (e ∷ es) run is = by (cases_eq e.host h) (taken_asks es (earlier start es e run))
+  taken_asks (e ∷ es) run is =
+      let more = taken_asks es (earlier start es e run) in
+      event_cases (machine start) e es h (λ l. is_away start key tx h l ≡ false → Asks l) (own more) (λ off. more) is
     where
       come : Comes start es e
       come = comes start es e run
@@ -175,26 +171,10 @@ module _ (start : Start) (tx : TxId) (key : List ℕ) (some : 1 ≤ tx.tc) (low 
       Asks : List HostStep → Type 0
       Asks log = asks_last tx key (taken (machine start) (home start tx) log) ≡ true
 
-      by : (e.host ≡ h) ⊎ (e.host ≢ h)
-          → (First (logs_of start es)
-          → asks_last tx key (taken (machine start) (home start tx) (logs_of start es (replica_host start key 0)))
-          ≡ true)
-          → asks_last tx key (taken (machine start) (home start tx)
-          (logs_of start (e ∷ es) (replica_host start key 0))) ≡ true
-      by (inr off) more =
-          let same = log_of-other (machine start) e es h off in
-          ap (λ l. asks_last tx key (taken (machine start) (home start tx) l)) same
-          ∙ more (ap (is_away start key tx h) (sym same) ∙ is)
-      by (inl here) more =
-          ap (λ l. asks_last tx key (taken (machine start) (home start tx) l)) own_log
-          ∙ which (came_back tx key start h log e now_is)
+      own : (First (logs_of start es) → Asks log) → e.host ≡ h → is_away start key tx h (e ∷ log) ≡ false
+          → Asks (e ∷ log)
+      own more here now_is = which (came_back tx key start h log e now_is)
         where
-          own_log : logs_of start (e ∷ es) h ≡ e ∷ log
-          own_log = log_of-own (machine start) e es h here
-
-          now_is : is_away start key tx h (e ∷ log) ≡ false
-          now_is = ap (is_away start key tx h) (sym own_log) ∙ is
-
           no_abort : is_its_abort tx key e.step.taken.body ≡ false
           no_abort = off (is_its_abort tx key e.step.taken.body) refl
             where
@@ -206,9 +186,6 @@ module _ (start : Start) (tx : TxId) (key : List ℕ) (some : 1 ≤ tx.tc) (low 
                   (subst (λ k. event_in key (after start k (logs_of start es k)) e.step.taken ≡ aborts tx) here
                   (abort_event es e come here is))
                   ∙ ap (λ b. b || is_away start key tx h log) (same_tx-self tx)))
-
-          rest : Bool
-          rest = asks_last tx key (taken (machine start) (home start tx) log)
 
           -- behind the ones before
           behind : asks_last tx key (taken (machine start) (home start tx) log) ≡ true

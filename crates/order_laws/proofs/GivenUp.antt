@@ -1,8 +1,7 @@
 -- Whether a transaction is given up: a step that doesn't take it back leaves that as it was, and one that its
 -- coordinator has is given up just where it is being aborted.
-use Rattle.std.proofs.Common.{◌≡◌, ◌≢◌, ◌⊎◌, ℕ, Bool, true, false, List, [], ◌∷◌, refl, sym}
-use Rattle.std.proofs.Common.{ap, ◌∙◌, subst, inl, inr}
-use Rattle.std.proofs.lemmas.Bool.{cases_eq}
+use Rattle.std.proofs.Common.{◌≡◌, ℕ, Bool, true, false, List, [], ◌∷◌, refl}
+use Rattle.std.proofs.Common.{ap, ◌∙◌}
 use Rattle.std.specs.List.{list_any}
 use Rattle.std.specs.Prelude.{◌||◌, Some}
 use Rattle.sig_core.proofs.Keys.{same_tx-self}
@@ -21,7 +20,7 @@ use Rattle.tc_block.specs.Phases.{is_aborting}
 use Rattle.tc_block.specs.State.{TcState}
 use Rattle.node_core.specs.Blocks.{tc_of}
 use Rattle.world_core.specs.Hosts.{home}
-use Rattle.world_core.specs.Machine.{after}
+use Rattle.world_core.specs.Machine.{after, machine}
 use Rattle.world_core.specs.Start.{Start}
 use Rattle.world_core.specs.Steps.{HostStep}
 use Rattle.host_laws.proofs.coordinator.OfLive.{each_found}
@@ -33,11 +32,11 @@ use Rattle.host_laws.specs.Ways.{back_by, put_ways, sent_ways, tc_sends, way_of}
 use Rattle.run_laws.specs.GivenUp.{is_given_up}
 use Rattle.run_laws.specs.Live.{live_at}
 use Rattle.run_laws.specs.Transit.{Comes, logs_of}
-use Rattle.run_laws.proofs.fades.Steps.{now_other, now_own}
 use Rattle.run_laws.proofs.hosts.TcSound.{log_sound}
 use Rattle.run_laws.proofs.tokens.Coordinator.{IsOwned}
 use Rattle.run_laws.proofs.hosts.TxTurns.{OthersSend, turn_each}
 use Rattle.order_laws.proofs.UnansweredTurns.{AreUnbacked, is_backing}
+use Rattle.run_theory.proofs.EventCases.{event_leaves}
 
 -- what takes no other transaction back
 abbrev is_own : TxId → Body → Bool
@@ -112,30 +111,9 @@ module _ (start : Start) (es : List HostStep) (e : HostStep) (come : Comes start
   -- a step that doesn't take it back leaves it where it was
   pub given_same : AreUnbacked tx said
       → is_given_up start (logs_of start (e ∷ es)) tx ≡ is_given_up start (logs_of start es) tx
-  given_same none = by (cases_eq h at_home)
-    where
-      was : h ≡ at_home → sent_ways start back_by at_home (logs_of start es at_home)
-          ≡ sent_ways start back_by h (logs_of start es h)
-      was same =
-          subst (λ k. sent_ways start back_by k (logs_of start es k) ≡ sent_ways start back_by h (logs_of start es h))
-          same refl
-
-      now : h ≡ at_home → sent_ways start back_by at_home (logs_of start (e ∷ es) at_home)
-          ≡ put_ways back_by said (sent_ways start back_by h (logs_of start es h))
-      now same =
-          subst (λ k. sent_ways start back_by k (logs_of start (e ∷ es) k)
-          ≡ put_ways back_by said (sent_ways start back_by h (logs_of start es h))) same
-          (ap (sent_ways start back_by h) (now_own start es e come))
-
-      by : (h ≡ at_home) ⊎ (h ≢ at_home)
-          → is_given_up start (logs_of start (e ∷ es)) tx ≡ is_given_up start (logs_of start es) tx
-      by (inl same) =
-          ap (list_any (same_tx tx)) (now same)
-          ∙ (back_silent tx said (sent_ways start back_by h (logs_of start es h)) none
-          ∙ ap (list_any (same_tx tx)) (sym (was same)))
-      by (inr differs) =
-          ap (λ log. list_any (same_tx tx) (sent_ways start back_by at_home log))
-          (now_other start es e come at_home differs)
+  given_same none =
+      event_leaves (machine start) e es (λ k log. list_any (same_tx tx) (sent_ways start back_by k log))
+      (back_silent tx said (sent_ways start back_by h (logs_of start es h)) none) at_home
 
 module _ (start : Start) (es : List HostStep) (tx : TxId) (u : Transaction)
     (live_was : live_at start (logs_of start es) tx ≡ Some u) where

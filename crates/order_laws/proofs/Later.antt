@@ -1,8 +1,9 @@
 -- Whom a transaction waits for behind the second place of a chain is given up.
 use Rattle.std.proofs.Common.{◌≡◌, ◌≢◌, ◌⊎◌, ◌<◌, ◌+◌, ℕ, true, List, [], ◌∷◌, length, refl, sym, ap, ◌∙◌, subst}
 use Rattle.std.proofs.Common.{arith, inl, inr, eqb-true}
-use Rattle.std.proofs.lemmas.Bool.{cases_eq, false≢true, true≢false}
-use Rattle.run_theory.proofs.Runs.{log_of-other, log_of-own, log_of-past}
+use Rattle.std.proofs.lemmas.Bool.{false≢true, true≢false}
+use Rattle.run_theory.proofs.EventCases.{event_cases}
+use Rattle.run_theory.proofs.Runs.{log_of-past}
 use Rattle.sig_core.specs.declared.member.TxId.{TxId}
 use Rattle.sig_core.specs.declared.signal.Body.{Body}
 use Rattle.sig_core.specs.declared.signal.Body.TheVariants.{Chain}
@@ -92,7 +93,13 @@ module _ (start : Start) (key : List ℕ) (at : ℕ) (behind : 0 < at) (inside :
   past_along : (tx : TxId) (es : List HostStep) → IsRun start es
       → has_let_go start (logs_of start es) key (replica_host start key at) tx ≡ true → IsPast (logs_of start es) tx
   past_along tx [] run is = absurd (false≢true is)
-  past_along tx (e ∷ es) run is = by (cases_eq e.host h) (past_along tx es (earlier start es e run))
+  past_along tx (e ∷ es) run is =
+      let before = past_along tx es (earlier start es e run) in
+      past_more es e tx
+      (event_cases (machine start) e es h
+      (λ l. (primary_along start h key l).ended tx ≡ true → IsPast (logs_of start es) tx)
+      (λ here now. joined_up before (event_told here now (event_case key (after start h log) e.step.taken)))
+      (λ off. before) is)
     where
       h : ℕ
       h = replica_host start key at
@@ -116,19 +123,6 @@ module _ (start : Start) (key : List ℕ) (at : ℕ) (behind : 0 < at) (inside :
           (ends_told es e (comes start es e run) here e.step.taken.body refl)
           (ap (λ event. ended_after event p tx) (sym at_is) ∙ now)
       event_told here now (no_event at_is) = inl (ap (λ event. ended_after event p tx) (sym at_is) ∙ now)
-
-      by : (e.host ≡ h) ⊎ (e.host ≢ h) → (p.ended tx ≡ true → IsPast (logs_of start es) tx)
-          → IsPast (logs_of start (e ∷ es)) tx
-      by (inl here) before =
-          past_more es e tx
-          (joined_up before
-          (event_told here
-          (ap (λ l. (primary_along start h key l).ended tx) (sym (log_of-own (machine start) e es h here)) ∙ is)
-          (event_case key (after start h log) e.step.taken)))
-      by (inr off) before =
-          past_more es e tx
-          (before
-          (ap (λ l. (primary_along start h key l).ended tx) (sym (log_of-other (machine start) e es h off)) ∙ is))
 
 pub later_holders_are_given_up : LaterHoldersAreGivenUp
 later_holders_are_given_up start es key at holder waiter run behind w =

@@ -1,7 +1,7 @@
 -- Who has let go of a key at a host is given up, or carried out.
-use Rattle.std.proofs.Common.{◌≡◌, ◌≢◌, ◌⊎◌, ℕ, true, List, [], ◌∷◌, sym, ap, ◌∙◌, inl, inr}
-use Rattle.std.proofs.lemmas.Bool.{cases_eq}
-use Rattle.run_theory.proofs.Runs.{log_of-other, log_of-own, log_of-past}
+use Rattle.std.proofs.Common.{◌≡◌, ◌⊎◌, ℕ, true, List, [], ◌∷◌, sym, ap, ◌∙◌, inl, inr}
+use Rattle.run_theory.proofs.EventCases.{event_cases}
+use Rattle.run_theory.proofs.Runs.{log_of-past}
 use Rattle.sig_core.specs.declared.member.TxId.{TxId}
 use Rattle.sig_core.specs.declared.signal.Body.{Body}
 use Rattle.sig_core.specs.declared.signal.Body.TheVariants.{Chain}
@@ -64,7 +64,12 @@ module _ (start : Start) (key : List ℕ) where
   over_along : (h : ℕ) (u : TxId) (es : List HostStep) → IsRun start es
       → (primary_along start h key (logs_of start es h)).ended u ≡ true → IsOver (logs_of start es) u
   over_along h u [] run is = absurd cc
-  over_along h u (e ∷ es) run is = by (cases_eq e.host h) (over_along h u es (earlier start es e run))
+  over_along h u (e ∷ es) run is =
+      let before = over_along h u es (earlier start es e run) in
+      over_more es e u
+      (event_cases (machine start) e es h
+      (λ log. (primary_along start h key log).ended u ≡ true → IsOver (logs_of start es) u)
+      (λ at now. after_all before (let_go (logs_of start es) h (logs_of start es h) e u told now)) (λ off. before) is)
     where
       told : IsTold start (logs_of start es) (way_of e.step.taken.body)
       told =
@@ -77,19 +82,6 @@ module _ (start : Start) (key : List ℕ) where
           → IsOver (logs_of start es) u
       after_all before (inl was) = before was
       after_all before (inr over) = over
-
-      by : (e.host ≡ h) ⊎ (e.host ≢ h)
-          → ((primary_along start h key (logs_of start es h)).ended u ≡ true → IsOver (logs_of start es) u)
-          → IsOver (logs_of start (e ∷ es)) u
-      by (inl at) before =
-          over_more es e u
-          (after_all before
-          (let_go (logs_of start es) h (logs_of start es h) e u told
-          (ap (λ log. (primary_along start h key log).ended u) (sym (log_of-own (machine start) e es h at)) ∙ is)))
-      by (inr off) before =
-          over_more es e u
-          (before (ap (λ log. (primary_along start h key log).ended u) (sym (log_of-other (machine start) e es h off))
-          ∙ is))
 
 pub who_lets_go_is_over : WhoLetsGoIsOver
 who_lets_go_is_over start es key h tx run is = over_along start key h tx es run is

@@ -1,10 +1,11 @@
 -- Whom a replica passed on holds its lock exclusive, or has let go of it; and has let go before another was passed on.
 use Rattle.std.proofs.Common.{◌≡◌, ◌≢◌, ◌⊎◌, ◌<◌, ℕ, Bool, true, false, List, [], ◌∷◌, filter_map, length, refl, sym}
 use Rattle.std.proofs.Common.{ap, ◌∙◌, subst, inl, inr}
-use Rattle.std.proofs.lemmas.Bool.{and_parts, cases_eq, or_cases, or_left, or_right, true≢false}
+use Rattle.std.proofs.lemmas.Bool.{and_parts, or_cases, or_left, or_right, true≢false}
 use Rattle.std.specs.List.{cons_option}
 use Rattle.std.specs.Prelude.{◌==◌, ◌&&◌, if◌then◌else◌, Option, None, Some}
-use Rattle.run_theory.proofs.Runs.{log_of-other, log_of-own}
+use Rattle.run_theory.proofs.EventCases.{event_cases}
+use Rattle.run_theory.proofs.Runs.{log_of-own}
 use Rattle.run_theory.specs.Links.{put, sent}
 use Rattle.run_theory.specs.Lists.{Each}
 use Rattle.sig_core.proofs.TxLemmas.{same_tx-is}
@@ -210,7 +211,8 @@ module _ (start : Start) (key : List ℕ) (j : ℕ) where
       (passed (replica_host start key at) (logs_of start es (replica_host start key at)))
   passed_along at inside [] run = record { among = λ u is. absurd cc; behind = λ u v is apart. absurd cc }
   passed_along at inside (e ∷ es) run =
-      by (cases_eq e.host h) (passed_along at inside es (earlier start es e run))
+      let was = passed_along at inside es (earlier start es e run) in
+      event_cases (machine start) e es h All (λ is. here is was) (λ off. was)
     where
       h : ℕ
       h = replica_host start key at
@@ -260,7 +262,3 @@ module _ (start : Start) (key : List ℕ) (j : ℕ) where
           agreed =
               subst (λ log. are_agreed (key_in key (after start h log)).lock.holders ≡ true)
               (log_of-own (machine start) e es h is) serving_now.orderly.agreed
-
-      by : (e.host ≡ h) ⊎ (e.host ≢ h) → All log → All (logs_of start (e ∷ es) h)
-      by (inl is) was = subst All (sym (log_of-own (machine start) e es h is)) (here is was)
-      by (inr off) was = subst All (sym (log_of-other (machine start) e es h off)) was

@@ -1,11 +1,11 @@
 -- What is asked at a place of a chain behind the first was sent by the host of the place in front.
-use Rattle.std.proofs.Common.{◌≡◌, ◌≢◌, ◌⊎◌, ◌<◌, ◌+◌, ℕ, Bool, true, false, List, [], ◌∷◌, filter_map, length, refl}
-use Rattle.std.proofs.Common.{sym, ap, ◌∙◌, subst, inl, inr, arith, eq-eqb}
-use Rattle.std.proofs.lemmas.Bool.{cases_eq, eqb-true, false≢true}
+use Rattle.std.proofs.Common.{◌≡◌, ◌≢◌, ◌<◌, ◌+◌, ℕ, Bool, true, false, List, [], ◌∷◌, filter_map, length, refl}
+use Rattle.std.proofs.Common.{sym, ap, ◌∙◌, subst, arith, eq-eqb}
+use Rattle.std.proofs.lemmas.Bool.{eqb-true, false≢true}
 use Rattle.std.specs.List.{cons_option}
 use Rattle.std.specs.Prelude.{◌-◌, ◌==◌, ◌&&◌, not, if◌then◌else◌, Option, None, Some}
+use Rattle.run_theory.proofs.EventCases.{event_cases}
 use Rattle.run_theory.proofs.EachSent.{each_get}
-use Rattle.run_theory.proofs.Runs.{log_of-other, log_of-own}
 use Rattle.run_theory.specs.Links.{is_from, taken}
 use Rattle.run_theory.specs.Lists.{Each}
 use Rattle.sig_core.specs.declared.member.Member.{Member}
@@ -258,17 +258,9 @@ module _ (start : Start) where
         → Each IsFromPlace (logs_of start es (replica_host start key (at + 1)))
     all_from [] run = tt
     all_from (e ∷ es) run =
-        by (cases_eq e.host (replica_host start key (at + 1))) (all_from es (earlier start es e run))
-      where
-        h : ℕ
-        h = replica_host start key (at + 1)
-
-        by : (e.host ≡ h) ⊎ (e.host ≢ h) → Each IsFromPlace (logs_of start es h)
-            → Each IsFromPlace (logs_of start (e ∷ es) h)
-        by (inl here) before =
-            subst (Each IsFromPlace) (sym (log_of-own (machine start) e es h here))
-            (from_place es e (comes start es e run) here, before)
-        by (inr off) before = subst (Each IsFromPlace) (sym (log_of-other (machine start) e es h off)) before
+        let before = all_from es (earlier start es e run) in
+        event_cases (machine start) e es (replica_host start key (at + 1)) (Each IsFromPlace)
+        (λ here. (from_place es e (comes start es e run) here, before)) (λ off. before)
 
     -- so who came is who was taken from there
     taken_came : (log : List HostStep) → Each IsFromPlace log

@@ -1,9 +1,9 @@
 -- Who has come to a key and not let go of it since has touched the key at its coordinator.
 use Rattle.std.proofs.Common.{◌≡◌, ◌≢◌, ◌⊎◌, ◌<◌, ℕ, Bool, true, false, List, [], ◌∷◌, refl, sym, ap, ◌∙◌}
 use Rattle.std.proofs.Common.{subst, arith, inl, inr}
-use Rattle.std.proofs.lemmas.Bool.{cases_eq, false≢true, or_right, true≢false}
+use Rattle.std.proofs.lemmas.Bool.{false≢true, or_right, true≢false}
 use Rattle.std.specs.Prelude.{◌==◌, ◌&&◌, if◌then◌else◌, Option, None, Some}
-use Rattle.run_theory.proofs.Runs.{log_of-other, log_of-own}
+use Rattle.run_theory.proofs.EventCases.{event_cases, event_keeps}
 use Rattle.run_theory.specs.Counts.{one_if, tally}
 use Rattle.sig_core.specs.declared.member.TxId.{TxId}
 use Rattle.sig_core.specs.declared.op.Answer.{Answer}
@@ -53,7 +53,7 @@ use Rattle.run_laws.specs.Keyed.{HasTouched, HasTouchedAsked}
 use Rattle.run_laws.specs.Live.{live_at, of_host}
 use Rattle.run_laws.specs.Routes.{replica_host}
 use Rattle.run_laws.specs.Transit.{Comes, IsRun, logs_of}
-use Rattle.run_laws.proofs.hosts.HomeSteps.{IsHome, all_home, away, here_now, here_was, own_home}
+use Rattle.run_laws.proofs.hosts.HomeSteps.{IsHome, all_home, here_now, here_was, own_home, live_leaves}
 use Rattle.run_laws.proofs.hosts.LiveOf.{of_each}
 use Rattle.run_laws.proofs.circle.RowsEvents.{EventCase, event_case, no_event, of_rows}
 use Rattle.run_laws.proofs.hosts.TcSound.{log_sound}
@@ -295,29 +295,13 @@ module _ (tx : TxId) (key : List ℕ) where
         at_home = home start tx
 
         old_now : tx.seq < next_number (after start at_home (logs_of start (e ∷ es) at_home))
-        old_now = which (cases_eq e.host at_home)
-          where
-            which : (e.host ≡ at_home) ⊎ (e.host ≢ at_home)
-                → tx.seq < next_number (after start at_home (logs_of start (e ∷ es) at_home))
-            which (inr differs) = subst (λ x. tx.seq < next_number x) (sym (away start es e come tx differs)) k.old
-            which (inl same) =
-                subst (λ x. tx.seq < next_number x) (sym (here_now start es e come tx same))
-                (omega (
-                  arith,
-                  number_rises g e.step.taken,
-                  subst (λ x. tx.seq < next_number x) (here_was start es e come tx same) k.old,
-                ))
+        old_now =
+            event_keeps (machine start) e es (λ k log. tx.seq < next_number (after start k log))
+            (λ low. omega (arith, number_rises g e.step.taken, low)) at_home k.old
 
         same_live : of_host tx (row g e.step.taken).state ≡ of_host tx g
             → live_at start (logs_of start (e ∷ es)) tx ≡ live_at start (logs_of start es) tx
-        same_live alike = which (cases_eq e.host at_home)
-          where
-            which : (e.host ≡ at_home) ⊎ (e.host ≢ at_home)
-                → live_at start (logs_of start (e ∷ es)) tx ≡ live_at start (logs_of start es) tx
-            which (inl here) =
-                ap (of_host tx) (here_now start es e come tx here) ∙ alike
-                ∙ sym (ap (of_host tx) (here_was start es e come tx here))
-            which (inr differs) = ap (of_host tx) (away start es e come tx differs)
+        same_live = live_leaves start es e come tx
 
         stays : of_host tx (row g e.step.taken).state ≡ of_host tx g → IsKnown start (logs_of start (e ∷ es))
         stays alike = record { old = old_now; touched = λ t live. k.touched t (sym (same_live alike) ∙ live) }
@@ -369,21 +353,16 @@ module _ (tx : TxId) (key : List ℕ) where
       → is_away start key tx h (logs_of start es h) ≡ false → IsKnown start (logs_of start es)
   standers_known start h [] run is = absurd (true≢false is)
   standers_known start h (e ∷ es) run is =
-      known_next start es e come (by (cases_eq e.host h) (standers_known start h es (earlier start es e run)))
+      let more = standers_known start h es (earlier start es e run) in
+      known_next start es e come
+      (event_cases (machine start) e es h (λ log. is_away start key tx h log ≡ false → IsKnown start (logs_of start es))
+      (λ own now. which more (came_back start h (logs_of start es h) e now)) (λ off now. more now) is)
     where
       come : Comes start es e
       come = comes start es e run
 
-      by : (e.host ≡ h) ⊎ (e.host ≢ h)
-          → (is_away start key tx h (logs_of start es h) ≡ false → IsKnown start (logs_of start es))
+      which : (is_away start key tx h (logs_of start es h) ≡ false → IsKnown start (logs_of start es))
+          → (is_away start key tx h (logs_of start es h) ≡ false) ⊎ (is_part_on tx key e.step.taken.body ≡ true)
           → IsKnown start (logs_of start es)
-      by (inr off) more =
-          more (ap (is_away start key tx h) (sym (log_of-other (machine start) e es h off)) ∙ is)
-      by (inl own) more =
-          which (came_back start h (logs_of start es h) e
-          (ap (is_away start key tx h) (sym (log_of-own (machine start) e es h own)) ∙ is))
-        where
-          which : (is_away start key tx h (logs_of start es h) ≡ false)
-              ⊎ (is_part_on tx key e.step.taken.body ≡ true) → IsKnown start (logs_of start es)
-          which (inl was) = more was
-          which (inr part) = part_known start es e come part
+      which more (inl was) = more was
+      which more (inr part) = part_known start es e come part

@@ -1,7 +1,7 @@
 -- Along every run what is under way of operations is of those that coordinators have unanswered.
-use Rattle.std.proofs.Common.{◌≡◌, ◌≢◌, ◌⊎◌, ◌≤◌, ◌+◌, ℕ, zero, suc, Bool, true, false, List, [], ◌∷◌, refl, sym, ap, ◌∙◌, subst}
-use Rattle.std.proofs.Common.{arith, inl, inr}
-use Rattle.std.proofs.lemmas.Bool.{cases_eq, false≢true}
+use Rattle.std.proofs.Common.{◌≡◌, ◌≢◌, ◌≤◌, ◌+◌, ℕ, zero, suc, Bool, true, false, List, [], ◌∷◌, refl, sym, ap, ◌∙◌, subst}
+use Rattle.std.proofs.Common.{arith}
+use Rattle.std.proofs.lemmas.Bool.{false≢true}
 use Rattle.std.specs.Prelude.{◌&&◌, if◌then◌else◌, Option, None, Some}
 use Rattle.run_theory.proofs.Runs.{log_of-other, log_of-own}
 use Rattle.run_theory.specs.Counts.{one_if, tally, total}
@@ -53,7 +53,7 @@ use Rattle.host_laws.specs.Ways.{back_by, sent_ways}
 use Rattle.run_laws.specs.Live.{live_at, of_host}
 use Rattle.run_laws.specs.Transit.{AreInTransit, Comes, Takes, joined, logs_of}
 use Rattle.run_laws.proofs.routes.Addressed.{comes_below}
-use Rattle.run_laws.proofs.hosts.HomeSteps.{IsHome, all_home, away, here_now, here_was, own_home, unborn_absent}
+use Rattle.run_laws.proofs.hosts.HomeSteps.{IsHome, all_home, here_now, here_was, own_home, unborn_absent, live_leaves}
 use Rattle.run_laws.proofs.hosts.LiveOf.{of_each}
 use Rattle.run_laws.proofs.routes.Chain.{replicas_some}
 use Rattle.run_laws.proofs.hosts.TcSound.{log_sound}
@@ -125,14 +125,8 @@ dih_apart tx key (Epoch x) is = refl
 dih_apart tx key _ is = absurd cc
 
 module _ (start : Start) (tx : TxId) (key : List ℕ) where
-  abbrev part : Body → ℕ
-  part body = one_if (is_part_on tx key body)
-
   abbrev parts_in : List Addressed → ℕ
   parts_in xs = tally (λ (x : Addressed). is_part_on tx key x.signal.body) xs
-
-  abbrev waiting_all : (ℕ → List HostStep) → ℕ
-  waiting_all logs = total (hosts start) (λ h. waiting_on tx key (after start h (logs h)))
 
   abbrev Few : List HostStep → List Addressed → Type 0
   Few es xs = parts_on start (logs_of start es) xs tx key ≤ one_if (asks_on key (live_at start (logs_of start es) tx))
@@ -194,14 +188,7 @@ module _ (start : Start) (tx : TxId) (key : List ℕ) where
 
     same_live : of_host tx next.state ≡ of_host tx g
         → live_at start (logs_of start (e ∷ es)) tx ≡ live_at start (logs_of start es) tx
-    same_live alike = by (cases_eq e.host (home start tx))
-      where
-        by : (e.host ≡ home start tx) ⊎ (e.host ≢ home start tx)
-            → live_at start (logs_of start (e ∷ es)) tx ≡ live_at start (logs_of start es) tx
-        by (inl here) =
-            ap (of_host tx) (here_now start es e come tx here) ∙ alike
-            ∙ sym (ap (of_host tx) (here_was start es e come tx here))
-        by (inr differs) = ap (of_host tx) (away start es e come tx differs)
+    same_live = live_leaves start es e come tx
 
     -- where the transaction stays as it is, and no more is sent and waits than came and waited
     stays : of_host tx next.state ≡ of_host tx g

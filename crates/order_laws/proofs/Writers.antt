@@ -1,10 +1,10 @@
 -- Behind the first place of a chain all that hold or wait for a lock do so to write; so nobody who holds it waits.
 use Rattle.std.proofs.Common.{◌≡◌, ◌≢◌, ◌⊎◌, ◌<◌, ◌+◌, ℕ, Bool, true, false, List, [], ◌∷◌, ◌++◌, length, refl, sym, ap, ◌∙◌}
 use Rattle.std.proofs.Common.{subst, arith, inl, inr}
-use Rattle.std.proofs.lemmas.Bool.{and_parts, cases_eq, false≢true, or_cases, or_left, or_right}
+use Rattle.std.proofs.lemmas.Bool.{and_parts, false≢true, or_cases, or_left, or_right}
 use Rattle.std.specs.Prelude.{◌&&◌, ◌||◌, not, Option, None, Some}
+use Rattle.run_theory.proofs.EventCases.{event_cases}
 use Rattle.run_theory.proofs.Pasts.{each_append}
-use Rattle.run_theory.proofs.Runs.{log_of-other, log_of-own}
 use Rattle.run_theory.specs.Lists.{Each}
 use Rattle.sig_core.specs.declared.member.TxId.{TxId}
 use Rattle.sig_core.specs.declared.signal.chain.RowWork.{RowWork}
@@ -202,7 +202,9 @@ module _ (start : Start) (key : List ℕ) (at : ℕ) (inside : at + 1 < length (
   writers_along : (es : List HostStep) → IsRun start es → Write (logs_of start es)
   writers_along [] run =
       subst AreWriters (sym (first_idle start key (at + 1) run.shape inside)) (record { holding = tt; waiting = tt })
-  writers_along (e ∷ es) run = by (cases_eq e.host h) (writers_along es (earlier start es e run))
+  writers_along (e ∷ es) run =
+      let was = writers_along es (earlier start es e run) in
+      event_cases (machine start) e es h (λ l. AreWriters (key_in key (after start h l)).lock) (here was) (λ off. was)
     where
       come : Comes start es e
       come = comes start es e run
@@ -218,19 +220,13 @@ module _ (start : Start) (key : List ℕ) (at : ℕ) (inside : at + 1 < length (
                 (replicas_some start run.shape key) same,
           ))
 
-      by : (e.host ≡ h) ⊎ (e.host ≢ h) → Write (logs_of start es) → Write (logs_of start (e ∷ es))
-      by (inr off) was =
-          subst (λ log. AreWriters (key_in key (after start (replica_host start key (at + 1)) log)).lock)
-          (sym (log_of-other (machine start) e es h off)) was
-      by (inl here) was =
-          subst AreWriters
-          (sym (ap (λ log. (key_in key (after start (replica_host start key (at + 1)) log)).lock)
-          (log_of-own (machine start) e es h here)
-          ∙ ap (λ (r : Replica). r.lock) (logs_follow start h log e key)))
+      here : Write (logs_of start es) → e.host ≡ h → AreWriters (key_in key (after start h (e ∷ log))).lock
+      here was own =
+          subst (λ (r : Replica). AreWriters r.lock) (sym (logs_follow start h log e key))
           (writers_after (event_in key (after start h log) e.step.taken) (key_in key (after start h log))
           (owed_write (logs_of start es) (event_in key (after start h log) e.step.taken) behind
           (subst (λ k. IsOwed start (logs_of start es) key k
-          (event_in key (after start k (logs_of start es k)) e.step.taken)) here (events_owed start es e key come)))
+          (event_in key (after start k (logs_of start es k)) e.step.taken)) own (events_owed start es e key come)))
           was)
 
 -- who holds a lock to write, and waits for it to write, has enough

@@ -1,11 +1,12 @@
 -- A transaction whose commit was asked for has written each key whose lock it holds at a backup.
 use Rattle.std.proofs.Common.{◌≡◌, ◌≢◌, ◌⊎◌, ◌<◌, ◌+◌, ℕ, Bool, true, false, ◌||◌, List, [], ◌∷◌, length, refl, sym, ap}
 use Rattle.std.proofs.Common.{◌∙◌, cond, subst, arith, inl, inr}
-use Rattle.std.proofs.lemmas.Bool.{and_parts, cases_eq, false≢true, or_cases, or_left, or_right, true≢false}
+use Rattle.std.proofs.lemmas.Bool.{and_parts, false≢true, or_cases, or_left, or_right, true≢false}
 use Rattle.std.specs.List.{list_any}
 use Rattle.std.specs.Prelude.{◌&&◌, if◌then◌else◌, is_some, Option, None, Some}
+use Rattle.run_theory.proofs.EventCases.{event_cases}
 use Rattle.run_theory.proofs.Pasts.{each_map}
-use Rattle.run_theory.proofs.Runs.{log_of-other, log_of-own, log_of-past}
+use Rattle.run_theory.proofs.Runs.{log_of-past}
 use Rattle.run_theory.specs.Counts.{one_if}
 use Rattle.run_theory.specs.Lists.{Each}
 use Rattle.sig_core.proofs.Keys.{same_tx-self}
@@ -61,7 +62,7 @@ use Rattle.run_laws.specs.Live.{live_at, of_host}
 use Rattle.run_laws.specs.Routes.{replica_host, replicas}
 use Rattle.run_laws.specs.Tokens.{budget_by, is_token, tokens_in}
 use Rattle.run_laws.specs.Transit.{AreInTransit, Comes, IsRun, Passes, logs_of}
-use Rattle.run_laws.proofs.hosts.HomeSteps.{IsHome, all_home, away, here_now, here_was}
+use Rattle.run_laws.proofs.hosts.HomeSteps.{IsHome, all_home, away, here_now, here_was, live_leaves}
 use Rattle.run_laws.proofs.hosts.Keyed.{transactions_are_keyed}
 use Rattle.run_laws.proofs.tokens.OneAtATime.{one_at_a_time}
 use Rattle.run_laws.proofs.hosts.TcOwn.{beside_silent, others_silent}
@@ -262,7 +263,10 @@ module _ (start : Start) (tx : TxId) where
     }
 
     was_before : WasBefore es t
-    was_before = by (cases_eq e.host (home start tx))
+    was_before =
+        event_cases (machine start) e es (home start tx) (λ log. WasBefore es t)
+        (λ own. which own (tc_step g e.step.taken))
+        (λ differs. same_was (ap (of_host tx) (away start es e come tx differs)))
       where
         facts : IsHome tx (tc_of g)
         facts = all_home start tx e.host (logs_of start es e.host)
@@ -277,14 +281,7 @@ module _ (start : Start) (tx : TxId) where
             (tc_turn (λ (o : Outgoing). is_sign tx o.body ≡ false) tx (tc_of g) (beside_silent tx (tc_of g)) facts.own
             facts.once e.step.taken.body (others_silent tx (tc_of g) e.step.taken.body))
         which own (inr same) =
-            same_was
-            (ap (of_host tx) (here_now start es e come tx own)
-            ∙ (ap (λ (c : TcState). of_live tx c.live) same
-            ∙ sym (ap (of_host tx) (here_was start es e come tx own))))
-
-        by : (e.host ≡ home start tx) ⊎ (e.host ≢ home start tx) → WasBefore es t
-        by (inl own) = which own (tc_step g e.step.taken)
-        by (inr differs) = same_was (ap (of_host tx) (away start es e come tx differs))
+            same_was (live_leaves start es e come tx (ap (λ (c : TcState). of_live tx c.live) same))
 
     -- the step sends no part of an operation of it
     pub none_sent : Each (λ (o : Outgoing). is_token tx o.body ≡ false)
@@ -327,7 +324,8 @@ module _ (start : Start) (tx : TxId) where
         (step_after start e.host (logs_of start es e.host) e).effects.sends
         → is_among tx (passed_on (logs_of start (e ∷ es) (replica_host start key at))) ≡ true
         → is_among tx (passed_on (logs_of start es (replica_host start key at))) ≡ true
-    passed_before es e none is = by (cases_eq e.host front)
+    passed_before es e none =
+        event_cases (machine start) e es front (λ l. is_among tx (passed_on l) ≡ true → Before) here (λ off is. is)
       where
         log : List HostStep
         log = logs_of start es (replica_host start key at)
@@ -338,13 +336,12 @@ module _ (start : Start) (tx : TxId) where
         sends : List Outgoing
         sends = (step_after start front log e).effects.sends
 
-        here : e.host ≡ front → Before
-        here own =
+        here : e.host ≡ front → is_among tx (passed_on (e ∷ log)) ≡ true → Before
+        here own is =
             passed_all start key (replica_host start key (at + 1)) (λ u. u ≡ tx → ⊥)
             (λ us. is_among tx us ≡ true → Before) more sends (λ u. others u) (passed_on log) (λ before. before)
             (subst (λ us. is_among tx us ≡ true)
-            (ap passed_on (log_of-own (machine start) e es front own)
-            ∙ passed_step start key (replica_host start key (at + 1)) front e log) is)
+            (passed_step start key (replica_host start key (at + 1)) front e log) is)
           where
             others : (u : TxId) → Each (λ (o : Outgoing). asker key o.body ≡ Some u → u ≡ tx → ⊥) sends
             others u =
@@ -362,11 +359,6 @@ module _ (start : Start) (tx : TxId) where
                 which : (same_tx u tx ≡ true) ⊎ (is_among tx us ≡ true) → Before
                 which (inl same) = absurd (differs (same_tx-is u tx same))
                 which (inr rest) = was rest
-
-        by : (e.host ≡ front) ⊎ (e.host ≢ front) → Before
-        by (inl own) = here own
-        by (inr off) =
-            subst (λ l. is_among tx (passed_on l) ≡ true) (log_of-other (machine start) e es front off) is
 
     verified_written : (es : List HostStep) (t : Transaction) → IsRun start es
         → is_given_up start (logs_of start es) tx ≡ false → live_at start (logs_of start es) tx ≡ Some t

@@ -20,6 +20,7 @@ pub fn holders_have_let_go()
 
 /// So where its coordinator hasn't forgotten it, it is decided there or being aborted: nobody waits at
 /// a backup for a transaction that takes operations or waits for its epoch.
+#[tactic(auto, using(crate::proofs::Ending::holders_are_ending))]
 pub fn holders_are_ending()
     ensures { HoldersAreEnding }
 {}
@@ -43,6 +44,7 @@ pub fn carried_out_stay_out()
 
 /// Whom a transaction waits for at a place of a key's chain behind the second is given up by its
 /// coordinator: a row is completed at each place behind the place after it.
+#[tactic(auto, using(crate::proofs::Later::later_holders_are_given_up))]
 pub fn later_holders_are_given_up()
     ensures { LaterHoldersAreGivenUp }
 {}

@@ -2,6 +2,7 @@
 ghost use Rattle.run_laws.specs.Laws.{CommitsAreOfDecided, EpochsNeverFall, GreatestViewIsFirst, GreatestViewIsViable, HistoriesAreStrict, KeysMakeSerial};
 
 /// Epochs never fall along the history of a closed cut.
+#[tactic(auto, using(crate::proofs::history::Epochs::epochs_ordered))]
 pub fn epochs_never_fall()
     ensures { EpochsNeverFall }
 {}

@@ -30,6 +30,7 @@ pub fn coming_signals_are_routed()
 /// Of each transaction of a coordinator no two of the keys that it has touched are the same, each of
 /// its operations is on one of them, and a key counts as written just where an operation on it was
 /// answered by `Done`.
+#[tactic(auto, using(crate::proofs::hosts::Keyed::transactions_are_keyed))]
 pub fn transactions_are_keyed()
     ensures { TransactionsAreKeyed }
 {}

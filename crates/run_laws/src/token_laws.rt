@@ -7,6 +7,7 @@ ghost use Rattle.run_laws.specs.Undecided.{CarriedOutHaveNone, DecidedHaveNone};
 /// After every run, of what asks a replica for a part of one operation of a transaction, or answers
 /// it, no more is in transit or waits for a lock than there may be: one where its coordinator has an
 /// operation unanswered, or aborts it or has aborted it, and else none.
+#[tactic(auto, using(crate::proofs::tokens::OneAtATime::one_at_a_time))]
 pub fn operations_come_one_at_a_time()
     ensures { OneAtATime }
 {}

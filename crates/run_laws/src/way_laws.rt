@@ -6,6 +6,7 @@ ghost use Rattle.run_laws.specs.Transit.{RunsHaveTransit};
 
 /// After each run some signals are in transit: of each link those that were sent on it and weren't
 /// taken.
+#[tactic(auto, using(crate::proofs::transit::Runs::runs_have_transit))]
 pub fn runs_have_transit()
     ensures { RunsHaveTransit }
 {}
@@ -23,11 +24,13 @@ pub fn transactions_go_one_way()
 
 /// What asks for an epoch is of a transaction that waits for it with these operations, unless that
 /// is given up.
+#[tactic(auto, using(crate::proofs::causes::WhoAsks::who_asks_waits))]
 pub fn who_asks_waits()
     ensures { WhoAsksWaits }
 {}
 
 /// Where a commit of a row comes, the node of the coordinator has decided the transaction.
+#[tactic(auto, using(crate::proofs::causes::Decided::commits_are_decided))]
 pub fn commits_are_decided()
     ensures { CommitsAreDecided }
 {}

@@ -58,9 +58,6 @@ module _ (n : ℕ) (tx : TxId) where
       (true_and (is_good n t.chain) (nat_lt (last_place t.chain) (length t.chain)) chain
       (grind (arith, nat_tests, low))))
 
-  commits : Layout → ℕ → ℕ → List Touched → List Outgoing
-  commits layout epoch awaited touched = flat_map (key_sends layout tx (Committing epoch awaited)) touched
-
   all_commits : (layout : Layout) (epoch awaited : ℕ) (touched : List Touched)
       → Each (λ (t : Touched). is_chain n t.chain ≡ true) touched
       → (Each (λ x. passes x ≡ true) (flat_map (key_sends layout tx (Committing epoch awaited)) touched))

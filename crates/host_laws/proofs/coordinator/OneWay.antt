@@ -307,7 +307,8 @@ module _ (s : TcState) (cs bs : List TxId) (n : IsOneWay s cs bs) where
           (put_ways back_by step.effects.sends bs))) (sym (split.set step.state))
           (each_append (IsLive s.node s.next_seq (put_ways forth_by step.effects.sends cs)
           (put_ways back_by step.effects.sends bs)) split.front ((tx, step.state) ∷ split.back)
-          (front_now tx t at split step.state.phase step.effects.sends ways.sends ways.forward ways.backward ways.told) (
+          (front_now tx t at split step.state.phase step.effects.sends ways.sends ways.forward ways.backward
+          ways.told) (
             own_now tx t at split step.state.phase step.effects.sends ways.sends ways.forward ways.backward ways.told
                 step.state refl,
             back_now tx t at split step.state.phase step.effects.sends ways.sends ways.forward ways.backward ways.told,

@@ -225,12 +225,6 @@ module _ (start : Start) where
       → sends_of (to_host start (tc_host start node) test) sends ≡ sends_of (to_node node test) sends
   sent_to_tc node some low test only sends = sent_to_part (coordinator node) some low test only sends
 
-  pub sent_to_rows : (node : ℕ) → 1 ≤ node → node ≤ start.shape.nodes → (test : Place → Body → Bool)
-      → ((to : Place) (body : Body) → test to body ≡ true → part_of to.block ≡ part.Ldm)
-      → (sends : List Outgoing)
-      → sends_of (to_host start (rows_host start node) test) sends ≡ sends_of (to_node node test) sends
-  sent_to_rows node some low test only sends = sent_to_part (rows_of node) some low test only sends
-
   -- what is for a node that is there, or for the shell, goes to a host that is there
   pub reaches : (to : Place) → to.node ≤ start.shape.nodes → host_for start to < hosts start
   reaches to low = go (cases_lt 0 to.node)

@@ -58,9 +58,6 @@ pub part_is : (test : Place → Body → Bool) (node : ℕ) (tx : TxId) (xs : Li
 unfolding part_effects
 part_is test node tx xs at home all = go (nat_lt (at + PORTION) (length xs)) refl
   where
-    passes : Outgoing → Bool
-    passes x = test x.to x.body
-
     part_count : tally (λ (x : Outgoing). test x.to x.body) (take PORTION (drop at xs)) ≡ min PORTION (length xs - at)
     part_count =
         all_counted (λ (x : Outgoing). test x.to x.body) (take PORTION (drop at xs))

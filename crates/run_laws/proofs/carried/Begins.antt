@@ -1,9 +1,9 @@
 -- The step by which a transaction comes to be carried out: its coordinator sends the first commits, or all is over at
 -- once. Before
 -- it, and unless the transaction is given up, nothing is on its way that commits or completes its rows.
-use Rattle.std.proofs.Common.{◌≡◌, ◌≢◌, ◌⊎◌, ℕ, true, false, ◌||◌, List, [], ◌∷◌, refl, sym, ap, ◌∙◌, subst, inl, inr}
+use Rattle.std.proofs.Common.{◌≡◌, ℕ, true, false, ◌||◌, List, [], ◌∷◌, refl, sym, ap, ◌∙◌, subst}
 use Rattle.std.specs.List.{list_any}
-use Rattle.std.proofs.lemmas.Bool.{cases_eq, or_left}
+use Rattle.std.proofs.lemmas.Bool.{or_left}
 use Rattle.world_core.specs.Steps.{HostStep}
 use Rattle.sig_core.specs.declared.member.TxId.{TxId}
 use Rattle.sig_core.specs.declared.outs.Outgoing.{Outgoing}
@@ -17,17 +17,17 @@ use Rattle.sig_core.proofs.TxLemmas.{same_tx-swap}
 use Rattle.node_core.specs.declared.host.Host.{Host}
 use Rattle.node_core.specs.Row.{row}
 use Rattle.world_core.specs.Hosts.{home}
-use Rattle.world_core.specs.Machine.{after}
+use Rattle.world_core.specs.Machine.{after, machine}
 use Rattle.world_core.specs.Start.{Start}
 use Rattle.host_laws.specs.Ways.{Way, back_by, forth_by, put_ways, sent_ways, tc_sends, way_of}
 use Rattle.host_laws.proofs.coordinator.OneWay.{back_more, forth_more}
 use Rattle.run_laws.specs.GivenUp.{is_carried_out, is_given_up}
 use Rattle.run_laws.specs.Transit.{Comes, logs_of}
 use Rattle.run_laws.proofs.carried.CommitBegins.{Aborts, is_back}
-use Rattle.run_laws.proofs.fades.Steps.{now_other, now_own}
 use Rattle.run_laws.proofs.hosts.TcSaid.{TcSays, rests, takes, tc_says}
 use Rattle.run_laws.proofs.fades.Signals.{is_commit, is_sign}
 use Rattle.run_laws.proofs.hosts.TcOwn.{AreSilent}
+use Rattle.run_theory.proofs.EventCases.{event_leaves, event_own}
 
 module _ (tx : TxId) where
   -- what says nothing of the transaction takes it nowhere
@@ -85,34 +85,12 @@ module _ (start : Start) (es : List HostStep) (e : HostStep) (come : Comes start
   abbrev said : List Outgoing
   said = tc_sends g e.step.taken
 
-  -- the transactions that its coordinator took this way, before and behind the step
-  ways_was : (f : Way → List TxId → List TxId) → h ≡ at_home
-      → sent_ways start f at_home (logs_of start es at_home) ≡ sent_ways start f h (logs_of start es h)
-  ways_was f same =
-      subst (λ k. sent_ways start f k (logs_of start es k) ≡ sent_ways start f h (logs_of start es h)) same refl
-
-  ways_now : (f : Way → List TxId → List TxId) → h ≡ at_home
-      → sent_ways start f at_home (logs_of start (e ∷ es) at_home)
-      ≡ put_ways f said (sent_ways start f h (logs_of start es h))
-  ways_now f same =
-      subst (λ k. sent_ways start f k (logs_of start (e ∷ es) k)
-      ≡ put_ways f said (sent_ways start f h (logs_of start es h))) same
-      (ap (sent_ways start f h) (now_own start es e come))
-
   -- a step that says nothing of it takes it nowhere
   pub carried_silent : AreSilent tx said
       → is_carried_out start (logs_of start (e ∷ es)) tx ≡ is_carried_out start (logs_of start es) tx
-  carried_silent silent = by (cases_eq h at_home)
-    where
-      by : (h ≡ at_home) ⊎ (h ≢ at_home)
-          → is_carried_out start (logs_of start (e ∷ es)) tx ≡ is_carried_out start (logs_of start es) tx
-      by (inl same) =
-          ap (list_any (same_tx tx)) (ways_now forth_by same)
-          ∙ (silent_forth tx said (sent_ways start forth_by h (logs_of start es h)) silent
-          ∙ ap (list_any (same_tx tx)) (sym (ways_was forth_by same)))
-      by (inr differs) =
-          ap (λ log. list_any (same_tx tx) (sent_ways start forth_by at_home log))
-          (now_other start es e come at_home differs)
+  carried_silent silent =
+      event_leaves (machine start) e es (λ k log. list_any (same_tx tx) (sent_ways start forth_by k log))
+      (silent_forth tx said (sent_ways start forth_by h (logs_of start es h)) silent) at_home
 
   -- where nothing of it is sent nothing is said of it
   pub said_silent : AreSilent tx (row g e.step.taken).effects.sends → AreSilent tx said
@@ -124,11 +102,11 @@ module _ (start : Start) (es : List HostStep) (e : HostStep) (come : Comes start
 
   pub given_first : h ≡ at_home → Aborts tx said → is_given_up start (logs_of start (e ∷ es)) tx ≡ true
   given_first same aborts =
-      ap (list_any (same_tx tx)) (ways_now back_by same)
-      ∙ back_first tx said (sent_ways start back_by h (logs_of start es h)) aborts
+      event_own (machine start) e es (λ k log. list_any (same_tx tx) (sent_ways start back_by k log) ≡ true) at_home
+      same (back_first tx said (sent_ways start back_by h (logs_of start es h)) aborts)
 
   pub carried_first : h ≡ at_home → (first : Outgoing) (more : List Outgoing) → said ≡ first ∷ more
       → is_commit tx first.body ≡ true → is_carried_out start (logs_of start (e ∷ es)) tx ≡ true
   carried_first same first more is commits =
-      ap (list_any (same_tx tx)) (ways_now forth_by same)
-      ∙ forth_first tx said first more (sent_ways start forth_by h (logs_of start es h)) is commits
+      event_own (machine start) e es (λ k log. list_any (same_tx tx) (sent_ways start forth_by k log) ≡ true) at_home
+      same (forth_first tx said first more (sent_ways start forth_by h (logs_of start es h)) is commits)

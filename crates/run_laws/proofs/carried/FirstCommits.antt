@@ -3,7 +3,6 @@
 use Rattle.std.proofs.Common.{◌≡◌, ◌≤◌, ◌<◌, ◌+◌, ℕ, Bool, true, false, length, List, [], ◌∷◌, refl, sym, ap, ◌∙◌}
 use Rattle.std.proofs.Common.{subst, arith, inl}
 use Rattle.std.specs.Prelude.{if◌then◌else◌, None, Some}
-use Rattle.std.proofs.lemmas.Bool.{cases_eq}
 use Rattle.run_theory.specs.Lists.{Each}
 use Rattle.run_theory.proofs.Pasts.{each_map}
 use Rattle.world_core.specs.Steps.{Addressed, HostStep}
@@ -209,7 +208,7 @@ module _ (start : Start) (es : List HostStep) (e : HostStep) (come : Comes start
           (subst (λ (r : Replica). HasPrepared tx r.cell.pending) (sym (at_same key (primary_host start key))) p);
       committed = λ key one own_key epoch chain place body_is rows_at same_one same_own p. absurd
           (let other : block.Tc ≡ block.Lqh = sym step.at ∙ rows_at in cc);
-      marks = λ k. marks_at start es e come tx k (cases_eq h k);
+      marks = marks_at start es e come tx;
     }
 
     -- it is settled for each key that it touched

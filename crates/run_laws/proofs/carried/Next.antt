@@ -4,6 +4,7 @@ use Rattle.std.specs.Prelude.{◌==◌, ◌&&◌, Option, None, Some}
 use Rattle.std.proofs.lemmas.Bool.{cases_eq, cases_lt, eqb-true}
 use Rattle.std.proofs.lemmas.Bool.Decides.{nat_tests}
 use Rattle.row_records.proofs.KeyLemmas as keys
+use Rattle.run_theory.proofs.EventCases.{event_keeps}
 use Rattle.run_theory.specs.Lists.{Each}
 use Rattle.run_theory.proofs.Pasts.{each_map}
 use Rattle.world_core.specs.Steps.{Addressed, HostStep}
@@ -30,7 +31,7 @@ use Rattle.node_core.specs.Requests.{is_request}
 use Rattle.node_core.specs.Row.{row}
 use Rattle.world_core.proofs.HostNumbers.{rows_run}
 use Rattle.world_core.specs.Hosts.{home, rows_host, tc_host}
-use Rattle.world_core.specs.Machine.{after, signals_of, step_after}
+use Rattle.world_core.specs.Machine.{after, signals_of, step_after, machine}
 use Rattle.world_core.specs.Start.{Start}
 use Rattle.key_laws.specs.Primary.{HasPrepared}
 use Rattle.host_laws.proofs.rows.Operations.{is_lqh}
@@ -50,7 +51,7 @@ use Rattle.run_laws.proofs.routes.Addressed.{rows_addressed, tc_addressed}
 use Rattle.run_laws.proofs.carried.Out.{IsAhead, IsCarried, IsDone, IsLiveAhead, IsSpread, IsUpTo, TellsOf, committed_stays, tells_stay, tells_too}
 use Rattle.run_laws.proofs.carried.Turn.{TurnLeaves, ahead_stays, parts_tell, silent_parts, silent_stays, turn_leaves}
 use Rattle.run_laws.proofs.ways.GivenUp.{aborts_are_of_given_up, none_is_both}
-use Rattle.run_laws.proofs.hosts.HomeSteps.{IsHome, all_home, away, here_now, here_was, own_home}
+use Rattle.run_laws.proofs.hosts.HomeSteps.{IsHome, all_home, away, here_now, here_was, own_home, live_leaves}
 use Rattle.run_laws.proofs.hosts.TxSteps.{IsMissed, TxStep, aside, aside_cover, away_cover, begins, next_number, number_rises, rows, rows_cover, turns, tx_step}
 use Rattle.run_laws.proofs.hosts.LiveOf.{of_each}
 use Rattle.run_laws.proofs.fades.RowsPass.{IsLast, lqh_covers, lqh_tells, lqh_weighs}
@@ -106,12 +107,6 @@ module _ (start : Start) (es : List HostStep) (e : HostStep) (come : Comes start
       (none : tokens start (logs_of start es) before tx ≡ 0) where
     abbrev h : ℕ
     h = e.host
-
-    abbrev logs : ℕ → List HostStep
-    logs k = logs_of start es k
-
-    abbrev now : ℕ → List HostStep
-    now k = logs_of start (e ∷ es) k
 
     abbrev g : Host
     g = after start h (logs_of start es h)
@@ -183,19 +178,9 @@ module _ (start : Start) (es : List HostStep) (e : HostStep) (come : Comes start
               between is takes c.told
 
       old_now : tx.seq < next_number (after start at_home (logs_of start (e ∷ es) at_home))
-      old_now = by (cases_eq h at_home)
-        where
-          by : (h ≡ at_home) ⊎ (h ≢ at_home)
-              → tx.seq < next_number (after start at_home (logs_of start (e ∷ es) at_home))
-          by (inr differs) = subst (λ x. tx.seq < next_number x) (sym (away start es e come tx differs)) c.old
-          by (inl same) =
-              subst (λ x. tx.seq < next_number x) (sym (here_now start es e come tx same))
-              (omega (
-                arith,
-                number_rises g e.step.taken,
-                subst (λ x. tx.seq < next_number x)
-                    (here_was start es e come tx same) c.old,
-              ))
+      old_now =
+          event_keeps (machine start) e es (λ k log. tx.seq < next_number (after start k log))
+          (λ low. omega (arith, number_rises g e.step.taken, low)) at_home c.old
 
       all_told : Each (λ (o : Outgoing). TellsOf start (logs_of start (e ∷ es)) tx o.body) sends
           → Each (λ (x : Addressed). TellsOf start (logs_of start (e ∷ es)) tx x.signal.body) later
@@ -309,7 +294,7 @@ module _ (start : Start) (es : List HostStep) (e : HostStep) (come : Comes start
                   (subst (λ j. HasPrepared tx (at_host start (logs_of start (e ∷ es)) own j).cell.pending) here p))
 
       rows_now : IsRowsStep g e.step.taken (row g e.step.taken) → IsCarried start (logs_of start (e ∷ es)) later tx
-      rows_now step = carried_now told (same_live (is_same (cases_eq h at_home)) stays_so)
+      rows_now step = carried_now told (same_live (live_leaves start es e come tx same) stays_so)
         where
           s : LqhState
           s = lqh_of g
@@ -334,11 +319,6 @@ module _ (start : Start) (es : List HostStep) (e : HostStep) (come : Comes start
               (λ key d. committed_stays start (logs_of start es) (logs_of start (e ∷ es)) e tx fades key d)
               e.step.taken.body told_taken)
               (commit_before rows_at))
-
-          is_same : (h ≡ at_home) ⊎ (h ≢ at_home)
-              → live_at start (logs_of start (e ∷ es)) tx ≡ live_at start (logs_of start es) tx
-          is_same (inl own) = live_now own ∙ (same ∙ sym (live_was own))
-          is_same (inr differs) = live_far differs
 
           leads : (key : List ℕ) (i : ℕ)
               → (cover tx key i e.step.taken.to e.step.taken.body ≤ in_sends (cover tx key i) sends)
@@ -376,7 +356,7 @@ module _ (start : Start) (es : List HostStep) (e : HostStep) (come : Comes start
               (λ t there key i. missed_cover missed
               (λ off k p. away_cover tx k p e.step.taken.to e.step.taken.body off (far_test differs)) key i)
           by (inl own) =
-              quiet_now silent (live_now own ∙ (same ∙ sym (live_was own)))
+              quiet_now silent (live_leaves start es e come tx same)
               (λ t there key i. missed_cover missed
               (λ off k p. aside_cover tx k p e.step.taken.to e.step.taken.body off
               (λ next tc. some_none t (of_host tx g) (sym (live_was own) ∙ there) (missed.next next tc))) key i)

@@ -1,8 +1,8 @@
 -- Along every run: a transaction is decided behind its beginning, and reported behind its decision.
-use Rattle.std.proofs.Common.{◌≡◌, ◌≢◌, ◌⊎◌, ◌≤◌, ℕ, ◌+◌, Bool, true, false, List, [], ◌∷◌, refl, sym, ap, ◌∙◌, subst, inl, inr, arith, true≢false}
-use Rattle.std.proofs.lemmas.Bool.{cases_eq}
+use Rattle.std.proofs.Common.{◌≡◌, ◌≢◌, ◌≤◌, ℕ, ◌+◌, Bool, true, false, List, [], ◌∷◌, refl, sym, ap, ◌∙◌, subst, inl, arith, true≢false}
 use Rattle.std.specs.List.{list_any}
 use Rattle.std.specs.Prelude.{Option, None, Some}
+use Rattle.run_theory.proofs.EventCases.{event_cases, event_each}
 use Rattle.run_theory.specs.Along.{Comes, IsKept}
 use Rattle.run_theory.specs.Lists.{Each, IsIn, IsPast}
 use Rattle.run_theory.specs.Runs.{log_of}
@@ -10,7 +10,7 @@ use Rattle.run_theory.proofs.Along.{along_signals_of_cuts}
 use Rattle.run_theory.proofs.Links.{signal_below, step_above}
 use Rattle.run_theory.proofs.Orders.{each_next}
 use Rattle.run_theory.proofs.Pasts.{each_map}
-use Rattle.run_theory.proofs.Runs.{log_of-other, log_of-own, log_of-past, logs_of_run}
+use Rattle.run_theory.proofs.Runs.{log_of-own, log_of-past, logs_of_run}
 use Rattle.world_core.specs.Steps.{HostStep}
 use Rattle.sig_core.specs.declared.member.TxId.{TxId}
 use Rattle.sig_core.specs.declared.outs.Outgoing.{Outgoing}
@@ -202,19 +202,15 @@ module _ (start : Start) where
     own_marks = come.happens.step.fits.marks
 
     knows_now : (g : ℕ) → KnowsBy now g (now g)
-    knows_now g = by (cases_eq h g)
-      where
-        by : (h ≡ g) ⊎ (h ≢ g) → KnowsBy now g (now g)
-        by (inl at) = subst (λ g. KnowsBy now g (now g)) at (subst (KnowsBy now h) (sym own_log) goes.knows)
-        by (inr off) =
-            subst (KnowsBy now g) (sym (log_of-other (machine start) e es g off))
-            (knows_more (node_at start g) (ToldBy before (before g)) (DecidedBy before (before g))
-            (ToldBy now (before g)) (DecidedBy now (before g)) (after start g (before g))
-            (sent_kinds begun_by g (before g)) (sent_kinds verified_by g (before g))
-            (λ tx is. told_more before now tx (last_stamp (before g) + 1) (last_stamp (before g) + 1) grown
-            (omega arith) is)
-            (λ tx is. decided_more before now tx (last_stamp (before g) + 1) (last_stamp (before g) + 1) grown
-            (omega arith) is) (come.all.law.knows g))
+    knows_now =
+        event_each (machine start) e es (KnowsBy now) goes.knows
+        (λ g off. knows_more (node_at start g) (ToldBy before (before g)) (DecidedBy before (before g))
+        (ToldBy now (before g)) (DecidedBy now (before g)) (after start g (before g))
+        (sent_kinds begun_by g (before g)) (sent_kinds verified_by g (before g))
+        (λ tx is. told_more before now tx (last_stamp (before g) + 1) (last_stamp (before g) + 1) grown
+        (omega arith) is)
+        (λ tx is. decided_more before now tx (last_stamp (before g) + 1) (last_stamp (before g) + 1) grown
+        (omega arith) is) (come.all.law.knows g))
 
     decides_now : DecidesRightly start now e
     decides_now tx marked =
@@ -252,17 +248,13 @@ module _ (start : Start) where
         (taken_says (kind.ended tx) took (λ same. absurd cc))
 
     reports_now : Each (ReportsRightly now) (now 0)
-    reports_now = by (cases_eq h 0)
+    reports_now =
+        event_cases (machine start) e es 0 (Each (ReportsRightly now)) (λ at. (report_now at, old)) (λ off. old)
       where
         old : Each (ReportsRightly now) (before 0)
         old = each_map (ReportsRightly before) (ReportsRightly now) (before 0)
             (λ f rightly tx marked. decided_more before now tx f.step.stamp f.step.stamp grown (omega arith)
             (rightly tx marked)) come.all.law.reports
-
-        by : (h ≡ 0) ⊎ (h ≢ 0) → Each (ReportsRightly now) (now 0)
-        by (inl at) =
-            subst (Each (ReportsRightly now)) (sym (log_of-own (machine start) e es 0 at)) (report_now at, old)
-        by (inr off) = subst (Each (ReportsRightly now)) (sym (log_of-other (machine start) e es 0 off)) old
 
     begins_now : Each (BeginsRightly start) (now 0)
     begins_now =

@@ -1,13 +1,13 @@
 -- A row is committed of a transaction that the node of its coordinator has decided.
-use Rattle.std.proofs.Common.{◌≡◌, ◌≢◌, ◌⊎◌, ◌<◌, ℕ, Bool, true, false, List, [], ◌∷◌, refl, sym, ap, ◌∙◌, subst, inl, inr, arith}
-use Rattle.std.proofs.lemmas.Bool.{cases_eq}
+use Rattle.std.proofs.Common.{◌≡◌, ◌<◌, ℕ, Bool, true, false, List, [], ◌∷◌, refl, sym, ap, ◌∙◌, subst, inl, inr, arith}
 use Rattle.std.specs.List.{list_any}
 use Rattle.std.specs.Prelude.{◌||◌}
+use Rattle.run_theory.proofs.EventCases.{event_moves}
 use Rattle.run_theory.specs.Lists.{Each, IsIn}
 use Rattle.run_theory.specs.Logs.{IsLog}
 use Rattle.run_theory.proofs.Cuts.{closed_of_logs}
 use Rattle.run_theory.proofs.Pasts.{each_in, past_self}
-use Rattle.run_theory.proofs.Runs.{log_of-other, log_of-own, logs_of_run}
+use Rattle.run_theory.proofs.Runs.{log_of-own, logs_of_run}
 use Rattle.world_core.specs.Steps.{HostStep}
 use Rattle.sig_core.specs.declared.mark.Mark.{Mark}
 use Rattle.sig_core.specs.declared.member.TxId.{TxId}
@@ -71,15 +71,12 @@ module _ (start : Start) (es : List HostStep) (e : HostStep) (come : Comes start
 
   -- a step with a lesser stamp isn't the newest one
   before_it : (step : HostStep) (g : ℕ) → step.step.stamp < e.step.stamp → IsIn step (now g) → IsIn step (old g)
-  before_it step g below inside = by (cases_eq h g)
+  before_it step g below =
+      event_moves (machine start) e es (λ k was log. IsIn step log → IsIn step was) own (λ k log is. is) g
     where
-      own : IsIn step (e ∷ old g) → IsIn step (old g)
+      own : IsIn step (e ∷ old h) → IsIn step (old h)
       own (inl same) = absurd (omega (arith, below, ap (λ (f : HostStep). f.step.stamp) same))
       own (inr is) = is
-
-      by : (h ≡ g) ⊎ (h ≢ g) → IsIn step (old g)
-      by (inl at) = own (subst (IsIn step) (log_of-own (machine start) e es g at) inside)
-      by (inr off) = subst (IsIn step) (log_of-other (machine start) e es g off) inside
 
   -- a decision below the newest step is one that came before
   below_decided : IsDecidedBelow now tx e.step.stamp → is_decided start old tx ≡ true

@@ -39,7 +39,7 @@ use Rattle.run_laws.specs.Live.{live_at, of_host}
 use Rattle.run_laws.specs.Transit.{AreInTransit, Comes, IsRun, Takes, joined, logs_of}
 use Rattle.run_laws.proofs.causes.Hosts as asks
 use Rattle.run_laws.proofs.causes.Hosts.{HostAsks, Leaves, OpsOf, host_asks, none_ops, zero_ops}
-use Rattle.run_laws.proofs.hosts.HomeSteps.{IsHome, IsUnborn, all_home, away, here_now, here_was, own_home}
+use Rattle.run_laws.proofs.hosts.HomeSteps.{IsHome, IsUnborn, all_home, here_now, here_was, own_home, live_leaves, unborn_leaves}
 use Rattle.host_laws.proofs.coordinator.Steps.{live_none, left_of_turn}
 use Rattle.host_laws.specs.Live.{of_live}
 use Rattle.run_laws.proofs.hosts.LiveAfter.{strange_none, unborn_none}
@@ -168,8 +168,8 @@ module _ (start : Start) (tx : TxId) where
     -- a step that leaves it alone
     leaves_hold : Leaves tx s e.step.taken.body later sends → Holds now then_is
     leaves_hold is = record {
-      unborn = λ low. omega (arith, fewer, held.unborn (unborn_old (cases_eq h at_home) low));
-      free = λ off. subst (λ o. Allowed o then_is) (sym (live_same (cases_eq h at_home)))
+      unborn = λ low. omega (arith, fewer, held.unborn (unborn_leaves start es e come tx is.unborn low));
+      free = λ off. subst (λ o. Allowed o then_is) (sym (live_leaves start es e come tx is.live))
           (less_allowed (live_at start old tx) before then_is fewer
           (λ ops all. ops_now ops (is.passes.ops ops)
           (each_between (λ (x : Addressed). OpsOf tx ops x.signal.body) e before between takes all))
@@ -178,17 +178,6 @@ module _ (start : Start) (tx : TxId) where
       where
         fewer : asking then_is ≤ asking before
         fewer = omega (arith, taken_weighs, now_weighs, is.passes.few)
-
-        unborn_old : (h ≡ at_home) ⊎ (h ≢ at_home) → IsUnborn tx (after start at_home (now at_home))
-            → IsUnborn tx (after start at_home (old at_home))
-        unborn_old (inl at) low = subst (IsUnborn tx) (sym (here_was start es e come tx at))
-            (is.unborn (subst (IsUnborn tx) (here_now start es e come tx at) low))
-        unborn_old (inr off) low = subst (IsUnborn tx) (away start es e come tx off) low
-
-        live_same : (h ≡ at_home) ⊎ (h ≢ at_home) → live_at start now tx ≡ live_at start old tx
-        live_same (inl at) = ap (of_host tx) (here_now start es e come tx at)
-            ∙ (is.live ∙ ap (of_host tx) (sym (here_was start es e come tx at)))
-        live_same (inr off) = ap (of_host tx) (away start es e come tx off)
 
     -- its beginning
     begun_holds : has_tc s ≡ true → next_tx (tc_of s) ≡ tx → of_host tx later ≡ Some fresh → in_sends (ask tx) sends ≡ 0

@@ -2,6 +2,7 @@
 use Rattle.std.proofs.Common.{◌≡◌, ◌⊎◌, ◌≢◌, ℕ, false, List, [], ◌∷◌, refl, sym, ap, ◌∙◌, subst, inl, inr}
 use Rattle.std.proofs.lemmas.Bool.{cases_eq}
 use Rattle.std.specs.Prelude.{Some}
+use Rattle.run_theory.proofs.EventCases.{event_leaves}
 use Rattle.run_theory.proofs.Runs.{log_of-other, log_of-own}
 use Rattle.world_core.specs.Steps.{HostStep}
 use Rattle.sig_core.specs.declared.member.TxId.{TxId}
@@ -69,8 +70,11 @@ module _ (start : Start) (es : List HostStep) (e : HostStep) (tx : TxId) (key : 
   other_log : (h : ℕ) → host_of ≢ h → now h ≡ logs h
   other_log h off = log_of-other (machine start) e es h off
 
+  key_next : key_in key (after start host_of (e ∷ logs host_of)) ≡ key_after event_here before_here
+  key_next = logs_follow start host_of (logs host_of) e key
+
   pub key_here : at_host start now key host_of ≡ key_after event_here before_here
-  key_here = ap (λ log. key_in key (after start host_of log)) own_log ∙ logs_follow start host_of (logs host_of) e key
+  key_here = ap (λ log. key_in key (after start host_of log)) own_log ∙ key_next
 
   pub key_other : (h : ℕ) → host_of ≢ h → at_host start now key h ≡ at_host start logs key h
   key_other h off = ap (λ log. key_in key (after start h log)) (other_log h off)
@@ -113,29 +117,33 @@ module _ (start : Start) (es : List HostStep) (e : HostStep) (tx : TxId) (key : 
   ended_other off = ap (λ log. (primary_along start (primary_host start key) key log).ended tx)
       (other_log (primary_host start key) off)
 
+  made_same : made_after event_here answered_here tx ≡ (at_primary start logs key).made tx
+      → view_now.made ≡ view_before.made
+  made_same made_is = by (cases_eq host_of (primary_host start key))
+    where
+      by : (host_of ≡ primary_host start key) ⊎ (host_of ≢ primary_host start key) → view_now.made ≡ view_before.made
+      by (inl is) = made_here is ∙ made_is
+      by (inr off) = made_other off
+
+  pub ended_same : ended_after event_here answered_here tx ≡ (at_primary start logs key).ended tx
+      → view_now.ended ≡ view_before.ended
+  ended_same ended_is = by (cases_eq host_of (primary_host start key))
+    where
+      by : (host_of ≡ primary_host start key) ⊎ (host_of ≢ primary_host start key)
+          → view_now.ended ≡ view_before.ended
+      by (inl is) = ended_here is ∙ ended_is
+      by (inr off) = ended_other off
+
   -- where the event leaves alone what is here of the transaction, but for the requests that wait
   pub view_as : found tx (key_after event_here before_here).cell.pending ≡ found tx before_here.cell.pending
       → made_after event_here answered_here tx ≡ (at_primary start logs key).made tx
       → ended_after event_here answered_here tx ≡ (at_primary start logs key).ended tx → IsAs view_before view_now
   view_as found_is made_is ended_is = record {
-    made = made (cases_eq host_of (primary_host start key));
-    ended = ended (cases_eq host_of (primary_host start key));
-    rec = λ h. rec h (cases_eq host_of h);
+    made = made_same made_is;
+    ended = ended_same ended_is;
+    rec = event_leaves (machine start) e es (λ h log. found tx (key_in key (after start h log)).cell.pending)
+        (ap (λ (r : Replica). found tx r.cell.pending) key_next ∙ found_is);
   }
-    where
-      made : (host_of ≡ primary_host start key) ⊎ (host_of ≢ primary_host start key) → view_now.made ≡ view_before.made
-      made (inl is) = made_here is ∙ made_is
-      made (inr off) = made_other off
-
-      ended : (host_of ≡ primary_host start key) ⊎ (host_of ≢ primary_host start key)
-          → view_now.ended ≡ view_before.ended
-      ended (inl is) = ended_here is ∙ ended_is
-      ended (inr off) = ended_other off
-
-      rec : (h : ℕ) → (host_of ≡ h) ⊎ (host_of ≢ h) → view_now.rec h ≡ view_before.rec h
-      rec h (inl is) = subst (λ h. view_now.rec h ≡ view_before.rec h) is
-          (ap (λ (r : Replica). found tx r.cell.pending) key_here ∙ found_is)
-      rec h (inr off) = ap (λ (r : Replica). found tx r.cell.pending) (key_other h off)
 
   pub waits_other : (h : ℕ) → host_of ≢ h → view_now.waits h ≡ view_before.waits h
   waits_other h off = ap (waits_of tx) (key_other h off)
@@ -147,12 +155,9 @@ module _ (start : Start) (es : List HostStep) (e : HostStep) (tx : TxId) (key : 
       → ended_after event_here answered_here tx ≡ (at_primary start logs key).ended tx → IsLike view_before view_now
   view_like found_is waits_are made_is ended_is = record {
     likewise = view_as found_is made_is ended_is;
-    waits = λ h. waits h (cases_eq host_of h);
+    waits = event_leaves (machine start) e es (λ h log. waits_of tx (key_in key (after start h log)))
+        (ap (waits_of tx) key_next ∙ waits_are);
   }
-    where
-      waits : (h : ℕ) → (host_of ≡ h) ⊎ (host_of ≢ h) → view_now.waits h ≡ view_before.waits h
-      waits h (inl is) = subst (λ h. view_now.waits h ≡ view_before.waits h) is (ap (waits_of tx) key_here ∙ waits_are)
-      waits h (inr off) = waits_other h off
 
   -- an event of another transaction, or of none
   pub others_like : is_of tx (event_of event_here before_here) ≡ false → IsLike view_before view_now

@@ -36,7 +36,7 @@ use Rattle.run_laws.specs.Tokens.{is_token}
 use Rattle.run_laws.specs.Transit.{AreInTransit, Comes, Takes, joined, logs_of}
 use Rattle.run_laws.proofs.circle.Kept.{IsGoing, SignalTells, queued_going, rests_going, sent_going}
 use Rattle.run_laws.proofs.circle.View.{IsAs, IsAskedHere, Tells, settles_as}
-use Rattle.run_laws.proofs.circle.KeyMoves.{answered_here, before_here, event_here, ended_here, ended_other, expired_as, host_of, key_here, key_other, made_here, made_other, others_like, view_as, view_before, view_now, waits_other}
+use Rattle.run_laws.proofs.circle.KeyMoves.{answered_here, before_here, event_here, ended_same, expired_as, host_of, key_here, key_other, made_here, made_other, others_like, view_as, view_before, view_now, waits_other}
 use Rattle.run_laws.proofs.tokens.Signals.{Token, asked_tokens, event_tokens, if_by, performed_token, performs, refuses, served_tokens, token_of, tokens_of, work_token}
 use Rattle.run_laws.proofs.tokens.OnlyToken.{IsOnly, one_sent}
 use Rattle.run_laws.proofs.circle.OthersStay.{event_of, filter-end, is_of, of_first, waits_of}
@@ -121,16 +121,6 @@ module _ (start : Start) (es : List HostStep) (e : HostStep) (tx : TxId) (key : 
       (subst (λ k. 1 ≤ k) (sym (tally_headed (is_token tx) (first_membership start) n e.step.stamp
       (sent_count start n (logs_of start es n)) sends)) (sent_some tx key sends token [] is))
 
-  ended_same : ended_after event (answered_here start es e tx key) tx
-      ≡ (at_primary start (logs_of start es) key).ended tx
-      → (view_now start es e tx key).ended ≡ (view_before start es e tx key).ended
-  ended_same is = by (cases_eq n (primary_host start key))
-    where
-      by : (n ≡ primary_host start key) ⊎ (n ≢ primary_host start key)
-          → (view_now start es e tx key).ended ≡ (view_before start es e tx key).ended
-      by (inl at) = ended_here start es e tx key at ∙ is
-      by (inr off) = ended_other start es e tx key off
-
   -- an event that isn't of the transaction
   pub off_going : is_of tx (event_of event r) ≡ false → token_of tx key e.step.taken.to e.step.taken.body ≡ None
       → tokens_of tx key sends ≡ event_tokens tx event r → Going → GoesOn
@@ -176,7 +166,7 @@ module _ (start : Start) (es : List HostStep) (e : HostStep) (tx : TxId) (key : 
         here = ap (λ (r : Replica). found tx r.cell.pending) (key_here start es e tx key) ∙ here;
         elsewhere = λ g off. ap (λ (r : Replica). found tx r.cell.pending)
             (key_other start es e tx key g (λ at. off (sym at)));
-        ended = ended_same ended_is;
+        ended = ended_same start es e tx key ended_is;
         answered = refl;
         made = λ at. made_here start es e tx key at ∙ made_is;
         unmade = made_other start es e tx key;

@@ -50,7 +50,7 @@ use Rattle.run_laws.proofs.circle.Kept.{IsGoing, rests_going}
 use Rattle.run_laws.proofs.circle.Circle.{IsCircling, IsPristine, pristine_as}
 use Rattle.run_laws.proofs.circle.View.{View}
 use Rattle.run_laws.proofs.ways.GivenUp.{aborts_are_of_given_up, commits_are_of_carried_out, completions_are_of_carried_out}
-use Rattle.run_laws.proofs.hosts.HomeSteps.{IsHome, IsUnborn, all_home, away, away_absent, here_now, here_was, unborn_absent}
+use Rattle.run_laws.proofs.hosts.HomeSteps.{IsHome, IsUnborn, all_home, away, away_absent, here_now, here_was, unborn_absent, live_leaves, unborn_leaves}
 use Rattle.run_laws.proofs.hosts.TxSteps.{none_of, number_rises, runs_rows}
 use Rattle.run_laws.proofs.circle.KeyMoves.{IsLike, before_here, event_here, expired_as, host_of, others_like, view_before, view_now}
 use Rattle.run_laws.proofs.circle.KeySends.{is_abort, lqh_tokens}
@@ -142,24 +142,11 @@ module _ (start : Start) (es : List HostStep) (e : HostStep) (tx : TxId) (key : 
   -- the transaction at its coordinator
   live_same : of_host tx (row here x).state ≡ of_host tx here
       → live_at start (logs_of start (e ∷ es)) tx ≡ live_at start (logs_of start es) tx
-  live_same is = by (cases_eq n own_home)
-    where
-      by : (n ≡ own_home) ⊎ (n ≢ own_home)
-          → live_at start (logs_of start (e ∷ es)) tx ≡ live_at start (logs_of start es) tx
-      by (inl at) =
-          ap (of_host tx) (here_now start es e come tx at) ∙ is ∙ ap (of_host tx) (sym (here_was start es e come tx at))
-      by (inr apart) = ap (of_host tx) (away start es e come tx apart)
+  live_same = live_leaves start es e come tx
 
   unborn_same : (IsUnborn tx (row here x).state → IsUnborn tx here) → IsUnborn tx (host_after start (e ∷ es) own_home)
       → IsUnborn tx (host_after start es own_home)
-  unborn_same is = by (cases_eq n own_home)
-    where
-      by : (n ≡ own_home) ⊎ (n ≢ own_home) → IsUnborn tx (host_after start (e ∷ es) own_home)
-          → IsUnborn tx (host_after start es own_home)
-      by (inl at) =
-          λ unborn. subst (IsUnborn tx) (sym (here_was start es e come tx at))
-          (is (subst (IsUnborn tx) (here_now start es e come tx at) unborn))
-      by (inr apart) = subst (IsUnborn tx) (away start es e come tx apart)
+  unborn_same = unborn_leaves start es e come tx
 
   quiet : event ≡ rests → IsLike v w
   quiet is = others_like start es e tx key (ap (λ event. is_of tx (event_of event r)) is)

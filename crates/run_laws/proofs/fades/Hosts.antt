@@ -156,9 +156,6 @@ module _ (tx : TxId) where
       had_marked None is = cc
       had_marked (Some committed) is = or_left (same_tx one tx) false same
 
-  AreMarked : List Mark → Type 0
-  AreMarked marks = list_any (is_applied tx) marks ≡ true
-
   lqh_primary : (s : LqhState) (body : Body) (key : List ℕ)
       → Fading tx (event_at key s body) (at_key key s).cell.pending
       (key_after (event_at key s body) (at_key key s)).cell.pending

@@ -240,25 +240,6 @@ module _ (tx : TxId) where
       by None e = absurd (let both : None ≡ Some h.record_is = sym (is ∙ ap now_completed e) ∙ h.there in cc)
       by (Some r) e = record { record_is = r; there = e }
 
-  -- what is prepared stays so, but for a commit
-  pub fades_keeps : (event : Event) (before after : List PendingRecord)
-      → ((v : TxId) (last : Bool) → event ≡ commits v last → same_tx v tx ≡ false) → Fading tx event before after
-      → HasPrepared tx before → HasPrepared tx after
-  fades_keeps event before after none (stays is) h = record {
-    record_is = h.record_is;
-    there = is ∙ h.there;
-    prepared = h.prepared;
-  }
-  fades_keeps event before after none (is_committed v last event_is own is) h =
-      absurd (let both : true ≡ false = sym own ∙ none v last event_is in cc)
-  fades_keeps event before after none (is_completed is) h =
-      record {
-        record_is = h.record_is;
-        there = is ∙ ap now_completed h.there
-            ∙ ap (λ b. if b then None else Some h.record_is) h.prepared;
-        prepared = h.prepared;
-      }
-
   -- a commit leaves nothing prepared
   pub commit_ends : (v : TxId) (last : Bool) (r : Replica) → same_tx v tx ≡ true
       → HasPrepared tx (key_after (commits v last) r).cell.pending → ⊥

@@ -1,10 +1,9 @@
 -- What a step of a run makes of the records of a transaction of which nothing more is asked.
-use Rattle.std.proofs.Common.{◌≡◌, ◌≢◌, ◌⊎◌, ℕ, Bool, true, false, List, ◌∷◌, refl, sym, ap, ◌∙◌, subst, arith, inl, inr}
+use Rattle.std.proofs.Common.{◌≡◌, ◌⊎◌, ℕ, Bool, true, false, List, ◌∷◌, refl, sym, ap, ◌∙◌, subst, arith, inl, inr}
 use Rattle.std.specs.Prelude.{◌==◌}
 use Rattle.std.specs.List.{list_any}
-use Rattle.std.proofs.lemmas.Bool.{cases_eq, or_left, or_right}
+use Rattle.std.proofs.lemmas.Bool.{or_left, or_right}
 use Rattle.std.proofs.lemmas.Bool.Decides.{nat_tests}
-use Rattle.run_theory.proofs.Runs.{log_of-other, log_of-own}
 use Rattle.world_core.specs.Steps.{Addressed, HostStep}
 use Rattle.sig_core.specs.declared.member.Member.{Member}
 use Rattle.sig_core.specs.declared.member.TxId.{TxId}
@@ -12,6 +11,7 @@ use Rattle.sig_core.specs.declared.place.BlockId.TheVariants as block
 use Rattle.sig_core.specs.declared.signal.Body.TheVariants.{Chain}
 use Rattle.sig_core.specs.declared.signal.chain.ChainSignal.TheVariants.{Abort, Commit}
 use Rattle.sig_core.specs.Same.{same_key, same_tx}
+use Rattle.node_core.specs.Row.{row}
 use Rattle.node_core.specs.declared.host.Host as host
 use Rattle.node_core.specs.Requests.{is_request}
 use Rattle.world_core.specs.History.{is_applied}
@@ -32,6 +32,7 @@ use Rattle.run_laws.proofs.fades.Hosts.{harmless_in, last_step, primary_step, re
 use Rattle.run_laws.proofs.routes.Addressed.{comes_below}
 use Rattle.run_laws.proofs.fades.Records.{Fading, HasRecord, fades_prepared, fades_there, fading, once_at}
 use Rattle.run_laws.proofs.transit.Weighing.{each_taken, none_passes}
+use Rattle.run_theory.proofs.EventCases.{event_moves, event_keeps, event_own}
 
 -- No record of the transaction comes, and none comes to be prepared; the primary marks the commit of one; where the
 -- last commit of
@@ -62,21 +63,12 @@ module _ (start : Start) (es : List HostStep) (e : HostStep) (come : Comes start
   abbrev h : ℕ
   h = e.host
 
-  pub now_own : logs_of start (e ∷ es) h ≡ e ∷ logs_of start es h
-  now_own = log_of-own (machine start) e es h refl
-
-  pub now_other : (k : ℕ) → h ≢ k → logs_of start (e ∷ es) k ≡ logs_of start es k
-  now_other k differs = log_of-other (machine start) e es k differs
-
   -- marks stay
-  pub marks_at : (tx : TxId) (k : ℕ) → (h ≡ k) ⊎ (h ≢ k) → has_mark (is_applied tx) (logs_of start es k) ≡ true
+  pub marks_at : (tx : TxId) (k : ℕ) → has_mark (is_applied tx) (logs_of start es k) ≡ true
       → has_mark (is_applied tx) (logs_of start (e ∷ es) k) ≡ true
-  marks_at tx k (inl same) is =
-      subst (λ j. has_mark (is_applied tx) (logs_of start (e ∷ es) j) ≡ true) same
-      (subst (λ log. has_mark (is_applied tx) log ≡ true) (sym now_own)
-      (or_right (list_any (is_applied tx) e.step.marks) (has_mark (is_applied tx) (logs_of start es h))
-      (subst (λ j. has_mark (is_applied tx) (logs_of start es j) ≡ true) (sym same) is)))
-  marks_at tx k (inr differs) is = subst (λ log. has_mark (is_applied tx) log ≡ true) (sym (now_other k differs)) is
+  marks_at tx =
+      event_keeps (machine start) e es (λ k log. has_mark (is_applied tx) log ≡ true)
+      (or_right (list_any (is_applied tx) e.step.marks) (has_mark (is_applied tx) (logs_of start es h)))
 
   module _ (before between : List Addressed) (takes : Takes e before between) (tx : TxId)
       (none : tokens start (logs_of start es) before tx ≡ 0) (no_abort : NoAbort e tx) (ends : EndsAtPrimary start e)
@@ -110,42 +102,34 @@ module _ (start : Start) (es : List HostStep) (e : HostStep) (come : Comes start
           fading tx (event key) (key_in key g) (harmless_in tx key g e.step.taken token_none wait_none no_abort)
           (once_at start key h (logs_of start es h))
 
-      now_is : (key : List ℕ) → at_host start (logs_of start (e ∷ es)) key h ≡ key_after (event key) (key_in key g)
-      now_is key = ap (λ log. key_in key (after start h log)) now_own ∙ logs_follow start h (logs_of start es h) e key
+      now_is : (key : List ℕ) → key_in key (row g e.step.taken).state ≡ key_after (event key) (key_in key g)
+      now_is key = logs_follow start h (logs_of start es h) e key
 
-      now_same : (key : List ℕ) (k : ℕ) → h ≢ k
-          → at_host start (logs_of start (e ∷ es)) key k ≡ at_host start (logs_of start es) key k
-      now_same key k differs = ap (λ log. key_in key (after start k log)) (now_other k differs)
+      key_now : (key : List ℕ) → at_host start (logs_of start (e ∷ es)) key h ≡ key_after (event key) (key_in key g)
+      key_now key = event_own (machine start) e es
+          (λ k log. key_in key (after start k log) ≡ key_after (event key) (key_in key g)) h refl (now_is key)
 
-      marks_own : list_any (is_applied tx) (step_after start h (logs_of start es h) e).effects.marks ≡ true
-          → has_mark (is_applied tx) (logs_of start (e ∷ es) h) ≡ true
-      marks_own is =
-          subst (λ log. has_mark (is_applied tx) log ≡ true) (sym now_own)
-          (or_left (list_any (is_applied tx) e.step.marks) (has_mark (is_applied tx) (logs_of start es h))
-          (ap (list_any (is_applied tx)) come.happens.step.fits.marks ∙ is))
-
-      prepared_at : (key : List ℕ) (k : ℕ) → (h ≡ k) ⊎ (h ≢ k)
+      prepared_at : (key : List ℕ) (k : ℕ)
           → HasPrepared tx (at_host start (logs_of start (e ∷ es)) key k).cell.pending
           → HasPrepared tx (at_host start (logs_of start es) key k).cell.pending
-      prepared_at key k (inl same) p =
-          subst (λ j. HasPrepared tx (at_host start (logs_of start es) key j).cell.pending) same
-          (fades_prepared tx (event key) (key_in key g).cell.pending (key_after (event key) (key_in key g)).cell.pending
-          (fading_at key)
-          (subst (λ (r : Replica). HasPrepared tx r.cell.pending) (now_is key)
-          (subst (λ j. HasPrepared tx (at_host start (logs_of start (e ∷ es)) key j).cell.pending) (sym same) p)))
-      prepared_at key k (inr differs) p =
-          subst (λ (r : Replica). HasPrepared tx r.cell.pending) (now_same key k differs) p
+      prepared_at key =
+          event_moves (machine start) e es
+          (λ k was log. HasPrepared tx (key_in key (after start k log)).cell.pending
+          → HasPrepared tx (key_in key (after start k was)).cell.pending)
+          (λ p. fades_prepared tx (event key) (key_in key g).cell.pending
+          (key_after (event key) (key_in key g)).cell.pending (fading_at key)
+          (subst (λ (r : Replica). HasPrepared tx r.cell.pending) (now_is key) p)) (λ k log p. p)
 
-      there_at : (key : List ℕ) (k : ℕ) → (h ≡ k) ⊎ (h ≢ k)
+      there_at : (key : List ℕ) (k : ℕ)
           → HasRecord tx (at_host start (logs_of start (e ∷ es)) key k).cell.pending
           → HasRecord tx (at_host start (logs_of start es) key k).cell.pending
-      there_at key k (inl same) p =
-          subst (λ j. HasRecord tx (at_host start (logs_of start es) key j).cell.pending) same
-          (fades_there tx (event key) (key_in key g).cell.pending (key_after (event key) (key_in key g)).cell.pending
-          (fading_at key)
-          (subst (λ (r : Replica). HasRecord tx r.cell.pending) (now_is key)
-          (subst (λ j. HasRecord tx (at_host start (logs_of start (e ∷ es)) key j).cell.pending) (sym same) p)))
-      there_at key k (inr differs) p = subst (λ (r : Replica). HasRecord tx r.cell.pending) (now_same key k differs) p
+      there_at key =
+          event_moves (machine start) e es
+          (λ k was log. HasRecord tx (key_in key (after start k log)).cell.pending
+          → HasRecord tx (key_in key (after start k was)).cell.pending)
+          (λ p. fades_there tx (event key) (key_in key g).cell.pending
+          (key_after (event key) (key_in key g)).cell.pending (fading_at key)
+          (subst (λ (r : Replica). HasRecord tx r.cell.pending) (now_is key) p)) (λ k log p. p)
 
       is_first : (key : List ℕ) → h ≡ primary_host start key
           → (one : TxId) (own : List ℕ) (epoch : ℕ) (chain : List Member) (at : ℕ)
@@ -156,33 +140,33 @@ module _ (start : Start) (es : List HostStep) (e : HostStep) (come : Comes start
           here : h ≡ primary_host start key → (h == primary_host start key) ≡ true
           here q = grind (arith, nat_tests, q)
 
-      primary_at : (key : List ℕ) → (h ≡ primary_host start key) ⊎ (h ≢ primary_host start key)
+      primary_at : (key : List ℕ)
           → HasPrepared tx (at_host start (logs_of start es) key (primary_host start key)).cell.pending
           → HasPrepared tx (at_host start (logs_of start (e ∷ es)) key (primary_host start key)).cell.pending
           ⊎ (has_mark (is_applied tx) (logs_of start (e ∷ es) (primary_host start key)) ≡ true)
-      primary_at key (inr differs) p = inl (subst (λ (r : Replica). HasPrepared tx r.cell.pending)
-          (sym (now_same key (primary_host start key) differs)) p)
-      primary_at key (inl same) p =
-          which (primary_step tx g e.step.taken key (fading_at key) (is_first key same)
-          (subst (λ j. HasPrepared tx (at_host start (logs_of start es) key j).cell.pending) (sym same) p))
+      primary_at key =
+          event_moves (machine start) e es
+          (λ k was log. k ≡ primary_host start key → HasPrepared tx (key_in key (after start k was)).cell.pending
+          → HasPrepared tx (key_in key (after start k log)).cell.pending ⊎ (has_mark (is_applied tx) log ≡ true))
+          (λ same p. which (primary_step tx g e.step.taken key (fading_at key) (is_first key same) p))
+          (λ k log same p. inl p) (primary_host start key) refl
         where
           which : HasPrepared tx (key_after (event key) (key_in key g)).cell.pending
               ⊎ (list_any (is_applied tx) (step_after start h (logs_of start es h) e).effects.marks ≡ true)
-              → HasPrepared tx (at_host start (logs_of start (e ∷ es)) key (primary_host start key)).cell.pending
-              ⊎ (has_mark (is_applied tx) (logs_of start (e ∷ es) (primary_host start key)) ≡ true)
-          which (inl q) =
-              inl (subst (λ j. HasPrepared tx (at_host start (logs_of start (e ∷ es)) key j).cell.pending) same
-              (subst (λ (r : Replica). HasPrepared tx r.cell.pending) (sym (now_is key)) q))
-          which (inr q) =
-              inr (subst (λ j. has_mark (is_applied tx) (logs_of start (e ∷ es) j) ≡ true) same (marks_own q))
+              → HasPrepared tx (key_in key (row g e.step.taken).state).cell.pending
+              ⊎ (has_mark (is_applied tx) (e ∷ logs_of start es h) ≡ true)
+          which (inl q) = inl (subst (λ (r : Replica). HasPrepared tx r.cell.pending) (sym (now_is key)) q)
+          which (inr q) = inr
+              (or_left (list_any (is_applied tx) e.step.marks) (has_mark (is_applied tx) (logs_of start es h))
+              (ap (list_any (is_applied tx)) come.happens.step.fits.marks ∙ q))
 
       pub step_fades : StepFades start (logs_of start es) (logs_of start (e ∷ es)) e tx
       step_fades = record {
-        prepared = λ key k. prepared_at key k (cases_eq h k);
-        there = λ key k. there_at key k (cases_eq h k);
-        at_primary = λ key. primary_at key (cases_eq h (primary_host start key));
+        prepared = prepared_at;
+        there = there_at;
+        at_primary = primary_at;
         committed = λ key one own epoch chain at is home same same_own p.
             last_step tx g e.step.taken one own key epoch chain at is home same same_own
-            (subst (λ (r : Replica). HasPrepared tx r.cell.pending) (now_is key) p);
-        marks = λ k. marks_at tx k (cases_eq h k);
+            (subst (λ (r : Replica). HasPrepared tx r.cell.pending) (key_now key) p);
+        marks = marks_at tx;
       }

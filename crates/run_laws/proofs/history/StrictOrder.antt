@@ -126,7 +126,8 @@ module _ (start : Start) where
       by (plain all) before =
           plain_entries (IsEntryOf h (e ∷ log)) h e.step.stamp (e ∷ log) e.step.marks (entries_of h log) all before
       by (decides tx is) before =
-          subst (λ w. Each (IsEntryOf h (e ∷ log)) (entries_in h e.step.stamp (e ∷ log) w (entries_of h log))) (sym is) (
+          subst (λ w. Each (IsEntryOf h (e ∷ log)) (entries_in h e.step.stamp (e ∷ log) w (entries_of h log)))
+          (sym is) (
             record {
               view = view_stays h (e ∷ log) l;
               step = e;

@@ -1,7 +1,7 @@
 -- Laws that each step of a host keeps, and what is known of a coordinator after a log.
 use Rattle.std.proofs.Common.{◌≡◌, ◌≢◌, ◌⊎◌, ℕ, ◌+◌, ◌≤◌, ◌<◌, List, [], ◌∷◌, ◌++◌, Bool, true, false, refl, ap, sym, ◌∙◌, subst, arith, inl, inr}
 use Rattle.std.specs.Prelude.{◌==◌, ◌&&◌, nat_lt, None, Some}
-use Rattle.std.proofs.lemmas.Bool.{cases_lt, eqb-true, false≢true}
+use Rattle.std.proofs.lemmas.Bool.{cases_eq, cases_lt, eqb-true, false≢true}
 use Rattle.std.proofs.lemmas.Bool.Decides.{nat_tests}
 use Rattle.node_core.proofs.HostCases.{IsRowsStep}
 use Rattle.node_core.specs.Blocks.{has_lqh, tc_of}
@@ -90,6 +90,15 @@ module _ (start : Start) where
     pub takes : is_request e.step.taken.body ≡ false
         → IsGiven (machine start) e.step.taken.from.0 h (logs e.step.taken.from.0)
         (record { to = e.host; signal = e.step.taken } ∷ taken (machine start) e.step.taken.from.0 (logs h))
+
+  -- host k makes it, or its log stays
+  pub goes_cases : {P : Type 0} (logs now : ℕ → List HostStep) (h : ℕ) (e : HostStep) → Goes logs now h e → (k : ℕ)
+      → (Goes logs now k e → P) → (h ≢ k → now k ≡ logs k → P) → P
+  goes_cases {P} logs now h e g k own other = by (cases_eq h k)
+    where
+      by : (h ≡ k) ⊎ (h ≢ k) → P
+      by (inl at) = own (subst (λ j. Goes logs now j e) at g)
+      by (inr off) = other off (g.others k (λ same. off (sym same)))
 
   log_nil : (newer log : List HostStep) → [] ≡ newer ++ log → log ≡ []
   log_nil [] log is = sym is

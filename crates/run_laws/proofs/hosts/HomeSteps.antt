@@ -1,7 +1,8 @@
 -- A step at the host of a transaction's coordinator, and one elsewhere.
 use Rattle.std.proofs.Common.{◌≡◌, ◌≢◌, ◌≤◌, ◌<◌, ℕ, Bool, true, false, List, ◌∷◌, refl, sym, ap, ◌∙◌, subst, arith}
 use Rattle.std.specs.Prelude.{None}
-use Rattle.run_theory.proofs.Runs.{log_of-other, log_of-own}
+use Rattle.run_theory.proofs.EventCases.{event_moves, event_leaves, event_own}
+use Rattle.run_theory.proofs.Runs.{log_of-other}
 use Rattle.run_theory.specs.Lists.{Each}
 use Rattle.sig_core.specs.declared.member.TxId.{TxId}
 use Rattle.tc_block.specs.declared.transaction.Transaction.{Transaction}
@@ -80,9 +81,21 @@ module _ (start : Start) (es : List HostStep) (e : HostStep) (come : Comes start
 
   pub here_now : h ≡ at_home → after start at_home (logs_of start (e ∷ es) at_home) ≡ (row s e.step.taken).state
   here_now at =
-      subst (λ k. after start k (logs_of start (e ∷ es) k) ≡ (row s e.step.taken).state) at
-      (ap (after start h) (log_of-own (machine start) e es h refl))
+      event_own (machine start) e es (λ k log. after start k log ≡ (row s e.step.taken).state) at_home at refl
 
   pub away : h ≢ at_home
       → after start at_home (logs_of start (e ∷ es) at_home) ≡ after start at_home (logs_of start es at_home)
   away off = ap (after start at_home) (log_of-other (machine start) e es at_home off)
+
+  -- a step that leaves it at its own host leaves it at its home
+  pub live_leaves : of_host tx (row s e.step.taken).state ≡ of_host tx s
+      → of_host tx (after start at_home (logs_of start (e ∷ es) at_home))
+      ≡ of_host tx (after start at_home (logs_of start es at_home))
+  live_leaves same = event_leaves (machine start) e es (λ k log. of_host tx (after start k log)) same at_home
+
+  -- where it isn't given yet it wasn't before
+  pub unborn_leaves : (IsUnborn tx (row s e.step.taken).state → IsUnborn tx s)
+      → IsUnborn tx (after start at_home (logs_of start (e ∷ es) at_home))
+      → IsUnborn tx (after start at_home (logs_of start es at_home))
+  unborn_leaves was = event_moves (machine start) e es
+      (λ k old now. IsUnborn tx (after start k now) → IsUnborn tx (after start k old)) was (λ k log low. low) at_home

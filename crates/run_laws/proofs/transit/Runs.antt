@@ -3,7 +3,8 @@ use Rattle.std.proofs.Common.{◌≡◌, ◌≢◌, ◌⊎◌, ℕ, Bool, true, 
 use Rattle.std.proofs.lemmas.Bool.{cases_eq, eq-eqb, ne_eqb}
 use Rattle.std.specs.Prelude.{◌==◌, ◌&&◌, if◌then◌else◌}
 use Rattle.std.proofs.lemmas.List.{append_assoc, append_cancel_right}
-use Rattle.run_theory.proofs.Runs.{if_false, if_true, log_of-other, log_of-own, taken-asked, taken-other, taken-step}
+use Rattle.run_theory.proofs.EventCases.{event_each, event_moves}
+use Rattle.run_theory.proofs.Runs.{if_false, if_true, log_of-own, taken-asked, taken-other, taken-step}
 use Rattle.run_theory.specs.Links.{put, sent, taken}
 use Rattle.run_theory.specs.Lists.{Each, IsPast}
 use Rattle.world_core.specs.Steps.{Addressed, HostStep}
@@ -136,12 +137,10 @@ module _ (start : Start) where
     -- what a host took from a link that the step took nothing from
     taken_same : (i j : ℕ) → (h ≡ j → taken (machine start) i (e ∷ old h) ≡ taken (machine start) i (old h))
         → taken (machine start) i (now j) ≡ taken (machine start) i (old j)
-    taken_same i j none = by (cases_eq h j)
-      where
-        by : (h ≡ j) ⊎ (h ≢ j) → taken (machine start) i (now j) ≡ taken (machine start) i (old j)
-        by (inl at) = subst (λ k. taken (machine start) i (now k) ≡ taken (machine start) i (old k)) at
-            (ap (taken (machine start) i) own_now ∙ none at)
-        by (inr off) = ap (taken (machine start) i) (log_of-other (machine start) e es j off)
+    taken_same i =
+        event_moves (machine start) e es
+        (λ k was log. (h ≡ k → taken (machine start) i (e ∷ old h) ≡ taken (machine start) i (old h))
+        → taken (machine start) i log ≡ taken (machine start) i was) (λ none. none refl) (λ k log none. refl)
 
     asks : is_request e.step.taken.body ≡ true → IsBetween es e before before
     asks request = record {
@@ -226,26 +225,17 @@ module _ (start : Start) where
         (step_after start h (old h) e).effects.sends
 
     sends_join : (between : List Addressed) → IsBetween es e before between → HaveLinks now (joined sends between)
-    sends_join between is = record { links = λ i j. by i j (cases_eq h i) }
-      where
-        own : (j : ℕ)
-            → sent (machine start) h j (now h)
-            ≡ chosen (is_on h j) (joined sends between) ++ taken (machine start) h (now j)
-        own j =
-            ap (sent (machine start) h j) own_now
-            ∙ (ap (put (machine start) j sends) (is.links h j)
-            ∙ (put_behind j sends (chosen (is_on h j) between) (taken (machine start) h (now j))
-            ∙ ap (λ w. w ++ taken (machine start) h (now j)) (sym (joined_own h j sends between from_here))))
-
-        by : (i j : ℕ) → (h ≡ i) ⊎ (h ≢ i)
-            → sent (machine start) i j (now i)
-            ≡ chosen (is_on i j) (joined sends between) ++ taken (machine start) i (now j)
-        by i j (inl at) = subst (λ k. sent (machine start) k j (now k) ≡ chosen (is_on k j) (joined sends between) ++
-            taken (machine start) k (now j)) at (own j)
-        by i j (inr off) =
-            ap (sent (machine start) i j) (log_of-other (machine start) e es i off)
-            ∙ (is.links i j
-            ∙ ap (λ w. w ++ taken (machine start) i (now j)) (sym (joined_other h i j sends between off from_here)))
+    sends_join between is = record {
+      links = λ i j. event_each (machine start) e es
+          (λ i log. sent (machine start) i j log
+          ≡ chosen (is_on i j) (joined sends between) ++ taken (machine start) i (now j))
+          (ap (put (machine start) j sends) (is.links h j)
+          ∙ (put_behind j sends (chosen (is_on h j) between) (taken (machine start) h (now j))
+          ∙ ap (λ w. w ++ taken (machine start) h (now j)) (sym (joined_own h j sends between from_here))))
+          (λ i off. is.links i j
+          ∙ ap (λ w. w ++ taken (machine start) i (now j)) (sym (joined_other h i j sends between off from_here)))
+          i;
+    }
 
   -- some list that has the links in it
   pub record HasTransit (es : List HostStep) : Type 0 where

@@ -1,10 +1,11 @@
 -- Along every run: what is in transit, and what was marked, is of a transaction that its coordinator took that way.
 use Rattle.std.proofs.Common.{◌≡◌, ℕ, Bool, true, false, List, [], ◌∷◌, ◌++◌, refl, sym, ap, ◌∙◌, subst}
 use Rattle.std.specs.List.{list_any}
+use Rattle.run_theory.proofs.EventCases.{event_own}
 use Rattle.run_theory.specs.Lists.{Each, IsPast}
 use Rattle.run_theory.proofs.Orders.{each_next}
 use Rattle.run_theory.proofs.Pasts.{each_map}
-use Rattle.run_theory.proofs.Runs.{log_of-own, log_of-past}
+use Rattle.run_theory.proofs.Runs.{log_of-past}
 use Rattle.world_core.specs.Steps.{Addressed, HostStep}
 use Rattle.sig_core.specs.declared.mark.Mark.{Mark}
 use Rattle.sig_core.specs.declared.mark.Mark.TheVariants.{Applied, Reported}
@@ -146,9 +147,6 @@ module _ (start : Start) where
     past : (g : ℕ) → IsPast (old g) (now g)
     past g = log_of-past (machine start) e es g
 
-    own_now : now h ≡ e ∷ old h
-    own_now = log_of-own (machine start) e es h refl
-
     taken_old : IsTold old (way_of e.step.taken.body)
     taken_old = by (is_request e.step.taken.body) refl
       where
@@ -168,9 +166,9 @@ module _ (start : Start) where
         here : (f : Way → List TxId → List TxId) (tx : TxId) → tx.tc ≡ node
             → list_any (same_tx tx) (sent_ways start f h (e ∷ old h)) ≡ true
             → list_any (same_tx tx) (sent_ways start f (home start tx) (now (home start tx))) ≡ true
-        here f tx own is =
-            subst (λ g. list_any (same_tx tx) (sent_ways start f g (now g)) ≡ true) (sym (ap (tc_host start) own ∙ at))
-            (subst (λ log. list_any (same_tx tx) (sent_ways start f h log) ≡ true) (sym own_now) is)
+        here f tx own =
+            event_own (machine start) e es (λ g log. list_any (same_tx tx) (sent_ways start f g log) ≡ true)
+            (home start tx) (sym (ap (tc_host start) own ∙ at))
 
         by : (w : Way) → IsSaid node (sent_ways start forth_by h (e ∷ old h)) (sent_ways start back_by h (e ∷ old h)) w
             → IsTold now w
