@@ -202,9 +202,6 @@ module _ (own : EndsAreOwn) (start : Start) (all : ℕ → List HostStep) (e : H
           → IsOverIn start new member (master_of start new member).view
       over_next none = by (master_does start all e es moment member)
         where
-          owes : MasterState → Type 0
-          owes s = s.owed ≡ false
-
           took : e.host ≡ main_of start member → IsTakenNow start all e es moment block.GcpMaster
               → (between : MasterState) → master_of start new member ≡ (master_row between x).state
               → (between.owed ≡ false → IsOverIn start old member between.view)

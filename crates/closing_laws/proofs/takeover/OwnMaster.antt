@@ -218,9 +218,6 @@ module _ (start : Start) (all : ℕ → List HostStep) (e : HostStep) (es : List
     abbrev stood : View
     stood = view_after start e.host (e ∷ old e.host)
 
-    abbrev all_sends : List Outgoing
-    all_sends = (step_after start e.host (old e.host) e).effects.sends
-
     module _ (me : Member) (there : IsIn me (made start)) (at : e.host ≡ tc_of start me) where
       run : RunsTakeover start e.host me.node (old e.host)
       run = subst (λ h. RunsTakeover start h me.node (old h)) (sym at)

@@ -120,9 +120,6 @@ module _ (hosts_level : HostsAreLevel) (start : Start) (shape : IsShape start.sh
             (subst (λ k. P k (e ∷ log_of (machine start) es k)) at own)
         go (inr apart) = subst (P h) (sym (log_of-other (machine start) e es h apart)) (before h)
 
-    Here : Type 0
-    Here = IsGood start was e.host (e ∷ log) × StaysIn start e.host epoch (after start e.host (e ∷ log)).parts
-
     here : (b : Bool) → is_beating e.host ≡ b → IsGood start was e.host (e ∷ log)
         × StaysIn start e.host epoch (after start e.host (e ∷ log)).parts
     here true beats =
