@@ -29,7 +29,7 @@ use Rattle.node_views.specs.WellFormed.{is_well_formed}
 use Rattle.world_core.specs.Start.{Start, made}
 use Rattle.world_core.specs.Steps.{Addressed, HostStep}
 use Rattle.world_views.specs.Hosts.{reached, started}
-use Rattle.world_views.specs.Machine.{after, machine, signals_of, step_after, step_by, told}
+use Rattle.world_views.specs.Machine.{after, machine, signals_of, step_after, told}
 use Rattle.view_laws.specs.Order.{is_sound, sound_machine}
 use Rattle.view_laws.proofs.eras.Shapes.{shape_stays}
 use Rattle.view_laws.proofs.eras.SoundLogs.{each_filter}
@@ -37,7 +37,7 @@ use Rattle.view_laws.proofs.fences.Hosts.{own_reaches}
 use Rattle.view_laws.proofs.follow.Senders.{IsSentBy, each_sent}
 use Rattle.moment_laws.specs.Moments.{IsMoment, logs_of}
 use Rattle.moment_laws.specs.Places.{tc_of}
-use Rattle.moment_laws.proofs.MomentHosts.{HasNoTc, TcHost, of_none, of_tc, tc_host_is, tc_number, tc_started}
+use Rattle.moment_laws.proofs.MomentHosts.{HasNoTc, TcHost, never_tc, of_none, of_tc, tc_host_is, tc_number, tc_started}
 use Rattle.moment_laws.proofs.MomentSignals.{EachSent, epoch_told, sent_next}
 use Rattle.moment_laws.proofs.MomentTurns.{host_low}
 use Rattle.moment_laws.proofs.MomentViews.{moment_less}
@@ -93,24 +93,6 @@ module _ (start : Start) where
     asks = λ i j. tt;
   }
 
-  -- a host that doesn't run a coordinator never does
-  given_none : (h : ℕ) (t : Step node.Host) → HasNoTc t.state.parts → HasNoTc (told h t).parts
-  given_none zero t none = by t.state.parts none
-    where
-      by : (parts : Parts) → HasNoTc parts → HasNoTc (giving parts [])
-      by (Shell p) none = tt
-      by (Main p) none = tt
-      by (Ldm p) none = tt
-      by (Tc p) none = absurd none
-  given_none (suc h) t none = none
-
-  never_tc : (h : ℕ) (log : List HostStep) → HasNoTc (started start h).parts → HasNoTc (after start h log).parts
-  never_tc h [] none = none
-  never_tc h (e ∷ log) none =
-      given_none h (step_by h (after start h log) e.step.taken)
-      (step_keeps HasNoTc (AreSo NoneAsk NoneOf) (so_effects NoneAsk NoneOf) e.step.taken h (after start h log)
-      (λ sound. others_so NoneAsk NoneOf e.step.taken) (never_tc h log none)).0
-
   given_own : (me : Member) (h : ℕ) (t : Step node.Host) → OwnParts me t.state.parts → OwnParts me (told h t).parts
   given_own me zero t own = by t.state.parts own
     where
@@ -162,7 +144,7 @@ module _ (start : Start) where
       comes_none : HasNoTc (started start e.host).parts → AreSo NoneAsk NoneOf step.effects
       comes_none none =
           (step_keeps HasNoTc (AreSo NoneAsk NoneOf) (so_effects NoneAsk NoneOf) x e.host
-          (after start e.host (old e.host)) (λ sound. others_so NoneAsk NoneOf x) (never_tc e.host (old e.host) none)).1
+          (after start e.host (old e.host)) (λ sound. others_so NoneAsk NoneOf x) (never_tc start e.host (old e.host) none)).1
 
       parts_next : (me : Member) → IsIn me (made start)
           → OwnParts me (after start (tc_of start me) (new (tc_of start me))).parts
