@@ -34,15 +34,15 @@ use Rattle.epoch_laws.specs.Stand.{AllStand}
 use Rattle.epoch_laws.proofs.DihSends.{IsGivenBy}
 use Rattle.epoch_laws.proofs.FallMarks.{DecidesLow, tc_low}
 use Rattle.moment_laws.proofs.MomentRuns.{are_moments}
-use Rattle.epoch_laws.proofs.MarkNone.{DecidesNone, IsNoDecision}
+use Rattle.view_laws.proofs.eras.DecisionMarks.{DecidesNone, IsUndecided}
 use Rattle.epoch_laws.proofs.MarkSteps.{others_decide_none, tc_steps_give}
-use Rattle.moment_laws.proofs.MomentHosts.{TcHost, of_none, of_tc, part_some, tc_host_is, tc_member, tc_started}
+use Rattle.moment_laws.proofs.MomentHosts.{TcHost, never_tc, of_none, of_tc, part_some, tc_host_is, tc_member, tc_started}
 use Rattle.moment_laws.proofs.MomentMembers.{current_host}
 use Rattle.moment_laws.proofs.MomentTurns.{host_low, own_behind, taker_stands}
 use Rattle.moment_laws.proofs.MomentViews.{moment_less}
 use Rattle.epoch_laws.proofs.OrderKeeps.{AreGivenTo}
 use Rattle.epoch_laws.proofs.StandAll.{epochs_stand}
-use Rattle.epoch_laws.proofs.StandMarks.{full_before, marks_are, never_tc}
+use Rattle.epoch_laws.proofs.StandMarks.{full_before, marks_are}
 use Rattle.epoch_laws.proofs.StepKinds.{RunsTc, runs_tc}
 
 -- no entry has a later epoch than those in front of it
@@ -108,7 +108,7 @@ module _ (h stamp : ℕ) (log : List HostStep) where
       )
   in_down epoch (_ ∷ marks) before all low down = in_down epoch marks before all.1 low down
 
-  in_none : (marks : List Mark) (before : List Entry) → Each IsNoDecision marks
+  in_none : (marks : List Mark) (before : List Entry) → Each IsUndecided marks
       → entries_in h stamp log marks before ≡ before
   in_none [] before none = refl
   in_none (Decided tx given ∷ marks) before none = let no = none.0 in absurd cc
@@ -126,12 +126,12 @@ told_view (suc h) t = refl
 record HasGiven (s : DihState) (marks : List Mark) : Type 0 where
   rest : s.next ≤ s.current
 
-some_given : (s : DihState) (marks : List Mark) → Each (IsGivenBy s) marks → Each IsNoDecision marks ⊎ HasGiven s marks
+some_given : (s : DihState) (marks : List Mark) → Each (IsGivenBy s) marks → Each IsUndecided marks ⊎ HasGiven s marks
 some_given s [] all = inl tt
 some_given s (Decided tx given ∷ marks) all = let is = all.0 in inr (record { rest = is.1 })
 some_given s (mark ∷ marks) all = by (some_given s marks all.1)
   where
-    by : Each IsNoDecision marks ⊎ HasGiven s marks → Each IsNoDecision (mark ∷ marks) ⊎ HasGiven s (mark ∷ marks)
+    by : Each IsUndecided marks ⊎ HasGiven s marks → Each IsUndecided (mark ∷ marks) ⊎ HasGiven s (mark ∷ marks)
     by (inl none) = inl (refl, none)
     by (inr has) = inr (record { rest = has.rest })
 
@@ -160,7 +160,7 @@ module _ (start : Start) (all : ℕ → List HostStep) where
       none_down none down =
           subst AreDown
           (sym (in_none e.host e.step.stamp (e ∷ old e.host) e.step.marks (decisions start es)
-          (subst (Each IsNoDecision) (sym (marks_are start all e es moment stand)) none)))
+          (subst (Each IsUndecided) (sym (marks_are start all e es moment stand)) none)))
           down
 
       -- a full member that isn't prepared gives the last epoch
@@ -251,11 +251,11 @@ module _ (start : Start) (all : ℕ → List HostStep) where
           where
             by : DecidesNone (step_after start e.host (old e.host) e)
                 ⊎ (e.step.taken.view.number ≤ (view_after start e.host (e ∷ old e.host)).number)
-                → Each IsNoDecision e.step.marks ⊎ HasGiven (epochs_of start old me) e.step.marks
+                → Each IsUndecided e.step.marks ⊎ HasGiven (epochs_of start old me) e.step.marks
                 → AreDown (decisions start (e ∷ es))
             by (inl none) given = none_down none down
             by (inr low) (inl none) =
-                none_down (subst (Each IsNoDecision) (marks_are start all e es moment stand) none) down
+                none_down (subst (Each IsUndecided) (marks_are start all e es moment stand) none) down
             by (inr low) (inr has) = given_down me (decider_full low) has.rest gives down
 
       decisions_next : AreDown (decisions start es) → AreDown (decisions start (e ∷ es))

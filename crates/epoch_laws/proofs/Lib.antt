@@ -3,7 +3,6 @@ pub mod DihRows
 pub mod DihSends
 pub mod FallAll
 mod FallMarks
-mod MarkNone
 pub mod MarkSteps
 pub mod MasterHears
 pub mod MasterKeeps

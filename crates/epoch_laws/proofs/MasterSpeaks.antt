@@ -1,5 +1,5 @@
 -- What a master in the current view has said stays so, and what it sends is true.
-use Rattle.std.proofs.Common.{◌≡◌, ◌≤◌, ◌<◌, ◌⊎◌, ℕ, List, [], refl, sym, ◌∙◌, subst, inl, inr, arith}
+use Rattle.std.proofs.Common.{◌≡◌, ◌≤◌, ◌<◌, ◌⊎◌, ℕ, List, [], refl, sym, subst, inl, inr, arith}
 use Rattle.run_theory.proofs.Pasts.{each_map}
 use Rattle.sig_core.specs.declared.member.Member.{Member}
 use Rattle.sig_core.specs.declared.signal.Body.{Body}
@@ -47,22 +47,6 @@ late_speaks run (Gathering known) late silent = late
 late_speaks run _ late silent = silent
 
 module _ (s : MasterState) (voice : Voice) (body : Body) (phase : Phase) (voices : List Voice) where
-  -- a master that does nothing goes on so, but where it is ordered
-  pub unordered_stays : s.phase ≡ Unordered → (body ≡ Epoch GcpOrd → ⊥) → Moved s voice body phase voices
-      → phase ≡ Unordered
-  unordered_stays at none (stays same heard) = same ∙ at
-  unordered_stays at none (is_ordered ord is now empty) = absurd (none ord)
-  unordered_stays at none (learns known told is_body is new now more) = absurd cc
-  unordered_stays at none (resumes known told is_body is new all goes empty) = absurd cc
-  unordered_stays at none (hears_prepared run is_body is new now more) = absurd cc
-  unordered_stays at none (commits run is_body is new all now empty) = absurd cc
-  unordered_stays at none (hears_finished run is_body is new now more) = absurd cc
-  unordered_stays at none (closes run is_body is new all now empty) = absurd cc
-  unordered_stays at none (closes_owed run is all now empty) = absurd cc
-  unordered_stays at none (goes_late run late now) = absurd (subst (IsLate run) at late)
-  unordered_stays at none (ends run late begins empty) = absurd (subst (IsLate run) at late)
-  unordered_stays at none (takes_up epoch is begins empty) = absurd cc
-
   -- a master that has ordered something goes on so
   pub speaks_on : (IsSilent s.phase → ⊥) → Moved s voice body phase voices → IsSilent phase → ⊥
   speaks_on loud (stays same heard) silent = loud (subst IsSilent same silent)

@@ -4,16 +4,9 @@ use Rattle.run_theory.proofs.Pasts.{each_map}
 use Rattle.sig_core.specs.declared.signal.Body.{Body}
 use Rattle.sig_core.specs.declared.signal.Body.TheVariants.{Epoch}
 use Rattle.sig_core.specs.declared.signal.Signal.{Signal}
-use Rattle.sig_core.specs.declared.signal.epoch.EpochSignal.TheVariants.{DiVerifyEnd, DiVerifyReq, GcpReq, MicroReq}
+use Rattle.sig_core.specs.declared.signal.epoch.EpochSignal.TheVariants.{DiVerifyEnd, DiVerifyReq}
 use Rattle.sig_core.specs.declared.view.View.{View}
 use Rattle.step_forms.specs.Does.{IsWord}
-use Rattle.api_views.specs.Client.{client_row}
-use Rattle.api_views.specs.State.{ClientState}
-use Rattle.api_views.specs.Words.{is_client_word}
-use Rattle.api_views.proofs.Walk.{client_words}
-use Rattle.arbiter_block.specs.Arbiter.{ArbiterState, arbiter_row}
-use Rattle.arbiter_block.specs.Words.{is_arbiter_word}
-use Rattle.arbiter_block.proofs.Walk.{arbiter_words}
 use Rattle.takeover_block.specs.State.{TakeoverState}
 use Rattle.takeover_block.specs.Takeover.{takeover_row}
 use Rattle.takeover_block.specs.Words.{is_takeover_word}
@@ -35,16 +28,6 @@ coordinators (Epoch (DiVerifyEnd tx)) is = refl
 coordinators (Epoch signal) is = absurd cc
 coordinators body is = refl
 
-clients : (body : Body) → is_client_word body ≡ true → is_order body ≡ false
-clients (Epoch (GcpReq by)) is = refl
-clients (Epoch MicroReq) is = refl
-clients (Epoch signal) is = absurd cc
-clients body is = refl
-
-arbiters : (body : Body) → is_arbiter_word body ≡ true → is_order body ≡ false
-arbiters (Epoch signal) is = absurd cc
-arbiters body is = refl
-
 pub takeover_none : (s : TakeoverState) (x : Signal) → SendsNoOrder (takeover_row s x)
 takeover_none s x =
     each_map (IsWord is_takeover_word) IsNoOrder _ (λ send is. takeovers send.body is) (takeover_words.takes s x).0
@@ -58,10 +41,3 @@ pub coordinator_installs_none : (s : CoordinatorState) (view : View) → SendsNo
 coordinator_installs_none s view =
     each_map (IsWord is_coordinator_word) IsNoOrder _ (λ send is. coordinators send.body is)
     (coordinator_words.installs s view).0
-
-pub client_none : (s : ClientState) (x : Signal) → SendsNoOrder (client_row s x)
-client_none s x = each_map (IsWord is_client_word) IsNoOrder _ (λ send is. clients send.body is) (client_words s x).0
-
-pub arbiter_none : (s : ArbiterState) (x : Signal) → SendsNoOrder (arbiter_row s x)
-arbiter_none s x =
-    each_map (IsWord is_arbiter_word) IsNoOrder _ (λ send is. arbiters send.body is) (arbiter_words s x).0

@@ -1,28 +1,32 @@
 -- What the blocks of a host send of the orders of epochs: where a view is installed nothing, the shell nothing, the
 -- rows only what they don't know.
-use Rattle.std.proofs.Common.{◌≡◌, ℕ, false, refl}
+use Rattle.std.proofs.Common.{◌≡◌, ℕ, false, true, refl}
 use Rattle.run_theory.specs.Lists.{Each}
 use Rattle.run_theory.proofs.Pasts.{each_append, each_map}
+use Rattle.sig_core.specs.declared.mark.Mark.{Mark}
 use Rattle.sig_core.specs.declared.outs.Outgoing.{Outgoing}
 use Rattle.sig_core.specs.declared.place.BlockId.{BlockId}
 use Rattle.sig_core.specs.declared.place.BlockId.TheVariants as block
 use Rattle.sig_core.specs.declared.signal.Body.{Body}
-use Rattle.sig_core.specs.declared.signal.Body.TheVariants.{Host}
+use Rattle.sig_core.specs.declared.signal.Body.TheVariants.{Epoch, Host}
+use Rattle.sig_core.specs.declared.signal.epoch.EpochSignal.TheVariants.{GcpReq, MicroReq}
 use Rattle.sig_core.specs.declared.signal.Signal.{Signal}
 use Rattle.sig_core.specs.declared.view.View.{View}
 use Rattle.dih_node.specs.Orders as dih
 use Rattle.dih_node.specs.State.{DihState}
-use Rattle.node_views.specs.Blocks.{parts_entered, parts_row}
-use Rattle.node_views.specs.Parts.{ldm_row, shell_row}
+use Rattle.node_views.specs.Blocks.{parts_entered}
+use Rattle.node_views.specs.Parts.{ldm_row}
 use Rattle.node_views.specs.declared.host.Host as hosts
 use Rattle.node_views.specs.declared.ldm_part.LdmPart.{LdmPart}
 use Rattle.node_views.specs.declared.parts.Parts.{Parts}
 use Rattle.node_views.specs.declared.parts.Parts.TheVariants.{Shell, Main, Tc, Ldm}
 use Rattle.node_views.specs.declared.shell_part.ShellPart.{ShellPart}
 use Rattle.tc_views.specs.Views as coordinator
+use Rattle.node_views.specs.Words.{parts_words}
 use Rattle.world_views.specs.Machine.{step_by}
+use Rattle.world_views.proofs.StepEach.{step_words}
 use Rattle.epoch_laws.proofs.DihSends.{IsOwn, dih_installs_own}
-use Rattle.epoch_laws.proofs.SentKinds.{arbiter_none, client_none, coordinator_installs_none}
+use Rattle.epoch_laws.proofs.SentKinds.{coordinator_installs_none}
 use Rattle.epoch_laws.proofs.SentMembership.{membership_installs_none}
 use Rattle.epoch_laws.proofs.SentNone.{AreNoOrders, IsNoOrder, SendsNoOrder, is_order}
 use Rattle.epoch_laws.proofs.SentRows.{IsOfRows, SendsOfRows, replica_tell}
@@ -52,39 +56,21 @@ entered_none (Tc p) view =
 entered_none (Ldm p) view = tt
 
 -- the shell's host
-shell_none : (p : ShellPart) (b : BlockId) (x : Signal) → SendsNoOrder (shell_row p b x)
-unfolding shell_row
-shell_none p block.Api x = client_none p.client x
-shell_none p block.Arbiter x = arbiter_none p.arbiter x
-shell_none p _ x = tt
-
-shell_sent : (p : ShellPart) (x : Signal) → IsSent IsNoOrder x (Shell p)
-shell_sent p x =
-    record {
-      row = shell_none p x.to.block x;
-      settles = λ view is. entered_none (parts_row (Shell p) x).state view;
-    }
+shell_words : (parts : Parts) (p : ShellPart) → parts ≡ Shell p → (body : Body) → parts_words parts body ≡ true
+    → is_order body ≡ false
+shell_words (Shell q) p is (Epoch (GcpReq by)) word = refl
+shell_words (Shell q) p is (Epoch MicroReq) word = refl
+shell_words (Shell q) p is (Epoch signal) word = absurd cc
+shell_words (Shell q) p is body word = refl
+shell_words (Main q) p is body word = absurd cc
+shell_words (Tc q) p is body word = absurd cc
+shell_words (Ldm q) p is body word = absurd cc
 
 pub shell_sends_none : (h : ℕ) (s : hosts.Host) (x : Signal) (p : ShellPart) → s.parts ≡ Shell p
     → AreNoOrders (step_by h s x).effects.sends
 shell_sends_none h s x p is =
-    step_sends IsNoOrder h s x (record {
-      goes = λ newer barred. by s.parts is;
-      enters = entered_none s.parts x.view;
-      behind = λ newer excluded barred. behind s.parts is;
-    })
-  where
-    by : (parts : Parts) → parts ≡ Shell p → IsSent IsNoOrder x parts
-    by (Shell q) is = shell_sent q x
-    by (Main q) is = absurd cc
-    by (Tc q) is = absurd cc
-    by (Ldm q) is = absurd cc
-
-    behind : (parts : Parts) → parts ≡ Shell p → IsSent IsNoOrder x (parts_entered parts x.view).state
-    behind (Shell q) is = shell_sent _ x
-    behind (Main q) is = absurd cc
-    behind (Tc q) is = absurd cc
-    behind (Ldm q) is = absurd cc
+    (step_words (λ body. is_order body ≡ false) (λ (mark : Mark). Unit {0}) h s x (shell_words s.parts p is)
+    (λ mark is. tt)).0
 
 -- a host of rows
 ldm_rows : (p : LdmPart) (b : BlockId) (x : Signal) → SendsOfRows (ldm_row p b x)

@@ -1,5 +1,5 @@
 -- No decision of an event gives a later epoch than its member does; so the members of the current view stay alike.
-use Rattle.std.proofs.Common.{◌≡◌, ◌≤◌, ℕ, zero, suc, List, [], ◌∷◌, sym, ap, subst, inl, inr, arith}
+use Rattle.std.proofs.Common.{◌≡◌, ◌≤◌, ℕ, List, [], ◌∷◌, sym, ap, subst, inl, inr, arith}
 use Rattle.run_theory.proofs.Orders.{each_next}
 use Rattle.run_theory.proofs.Pasts.{each_from, each_in, each_map}
 use Rattle.run_theory.specs.Lists.{Each, IsIn}
@@ -7,20 +7,14 @@ use Rattle.run_theory.specs.Runs.{Happens}
 use Rattle.sig_core.specs.declared.mark.Mark.{Mark}
 use Rattle.sig_core.specs.declared.mark.Mark.TheVariants.{Decided}
 use Rattle.sig_core.specs.declared.member.Member.{Member}
-use Rattle.sig_core.specs.declared.signal.Signal.{Signal}
-use Rattle.sig_core.specs.declared.view.Shape.{Shape}
 use Rattle.sig_core.specs.declared.view.View.{View}
 use Rattle.dih_node.specs.Dih.{fresh_dih}
 use Rattle.dih_node.specs.State.{DihState}
-use Rattle.node_views.specs.Blocks.{parts_entered, parts_row}
 use Rattle.node_views.specs.declared.host.Host as hosts
-use Rattle.node_views.specs.declared.parts.Parts.{Parts}
 use Rattle.node_views.specs.declared.parts.Parts.TheVariants as part
-use Rattle.node_views.specs.Replies.{giving}
 use Rattle.world_core.specs.Start.{Start, made}
 use Rattle.world_core.specs.Steps.{HostStep}
-use Rattle.world_views.specs.Hosts.{started}
-use Rattle.world_views.specs.Machine.{after, machine, step_after, step_by, told}
+use Rattle.world_views.specs.Machine.{after, machine, step_after}
 use Rattle.view_laws.specs.Order.{sound_machine}
 use Rattle.epoch_laws.specs.Alike.{AreAlike, AreTogether, AreUpTo, EachFull, GivesUpTo, IsAcross, Waits}
 use Rattle.epoch_laws.specs.Members.{dih_in, epochs_of, master_of}
@@ -29,73 +23,22 @@ use Rattle.moment_laws.specs.Moments.{IsMoment, current, logs_of}
 use Rattle.epoch_laws.specs.Stand.{AllStand}
 use Rattle.epoch_laws.proofs.DihMoves.{Stays}
 use Rattle.epoch_laws.proofs.DihSends.{IsGivenBy}
-use Rattle.epoch_laws.proofs.MarkNone.{IsNoDecision}
-use Rattle.moment_laws.proofs.MomentHosts.{HasNoTc}
+use Rattle.view_laws.proofs.eras.DecisionMarks.{IsUndecided}
 use Rattle.epoch_laws.proofs.MarkSteps.{others_decide_none, tc_steps_give}
 use Rattle.epoch_laws.proofs.MemberStays.{across_stays, waits_stays}
-use Rattle.moment_laws.proofs.MomentHosts.{TcHost, of_none, of_tc, tc_host_is, tc_started}
+use Rattle.moment_laws.proofs.MomentHosts.{TcHost, never_tc, of_none, of_tc, tc_host_is, tc_started}
 use Rattle.moment_laws.proofs.MomentMembers.{full_less}
 use Rattle.moment_laws.proofs.MomentTurns.{Turn, host_low, keeps, raises, turn}
-use Rattle.moment_laws.proofs.MomentWalk.{Moves, Passes, entering, leaves, plainly, settles, step_moves, takes}
 use Rattle.epoch_laws.proofs.OrderKeeps.{AreGivenTo, commit_keeps, prepare_keeps}
 use Rattle.epoch_laws.proofs.StandTakes.{Carries, carries, commits, one_taker, others_same, prepares, stay, taker_made}
 use Rattle.epoch_laws.proofs.StepKinds.{RunsTc, runs_tc}
-
--- a host without a coordinating part never runs one
-row_none : (parts : Parts) (x : Signal) → HasNoTc parts → HasNoTc (parts_row parts x).state
-row_none (part.Shell p) x none = tt
-row_none (part.Main p) x none = tt
-row_none (part.Ldm p) x none = tt
-row_none (part.Tc p) x none = absurd none
-
-entered_none : (parts : Parts) (view : View) → HasNoTc parts → HasNoTc (parts_entered parts view).state
-entered_none (part.Shell p) view none = tt
-entered_none (part.Main p) view none = tt
-entered_none (part.Ldm p) view none = tt
-entered_none (part.Tc p) view none = absurd none
-
-giving_none : (parts : Parts) → HasNoTc parts → HasNoTc (giving parts [])
-giving_none (part.Shell p) none = tt
-giving_none (part.Main p) none = tt
-giving_none (part.Ldm p) none = tt
-giving_none (part.Tc p) none = absurd none
-
-module _ (shape : Shape) (x : Signal) where
-  passes_none : (parts : Parts) (view : View) (now : Parts) (seen : View) → HasNoTc parts
-      → Passes shape parts view x now seen → HasNoTc now
-  passes_none parts view now seen none (leaves is stands) = subst HasNoTc (sym is) none
-  passes_none parts view now seen none (takes passed settled is stands) = subst HasNoTc (sym is) (row_none parts x none)
-  passes_none parts view now seen none (settles passed settled is) =
-      subst HasNoTc (sym is) (entered_none (parts_row parts x).state seen (row_none parts x none))
-
-  moves_none : (parts : Parts) (view : View) (now : Parts) (seen : View) → HasNoTc parts
-      → Moves shape parts view x now seen → HasNoTc now
-  moves_none parts view now seen none (plainly passes) = passes_none parts view now seen none passes
-  moves_none parts view now seen none (entering above passes) =
-      passes_none (parts_entered parts x.view).state x.view now seen (entered_none parts x.view none) passes
-
-step_none : (h : ℕ) (s : hosts.Host) (x : Signal) → HasNoTc s.parts → HasNoTc (step_by h s x).state.parts
-step_none h s x none =
-    moves_none s.standing.shape x s.parts s.standing.view (step_by h s x).state.parts
-    (step_by h s x).state.standing.view
-    none (step_moves x h s)
-
-next_none : (h : ℕ) (s : hosts.Host) (x : Signal) → HasNoTc s.parts → HasNoTc (told h (step_by h s x)).parts
-next_none zero s x none = giving_none (step_by zero s x).state.parts (step_none zero s x none)
-next_none (suc h) s x none = step_none (suc h) s x none
-
-pub never_tc : (start : Start) (h : ℕ) (log : List HostStep) → HasNoTc (started start h).parts
-    → HasNoTc (after start h log).parts
-never_tc start h [] none = none
-never_tc start h (e ∷ log) none =
-    next_none h (after start h log) e.step.taken (never_tc start h log none)
 
 -- what a member gives, and what is no decision
 up_to_own : (epoch : ℕ) (s : DihState) → s.current ≤ epoch → (mark : Mark) → IsGivenBy s mark → GivesUpTo epoch mark
 up_to_own epoch s low (Decided tx given) is = let same = is.0 in omega (arith, low, same)
 up_to_own epoch s low _ is = tt
 
-up_to_none : (epoch : ℕ) (mark : Mark) → IsNoDecision mark → GivesUpTo epoch mark
+up_to_none : (epoch : ℕ) (mark : Mark) → IsUndecided mark → GivesUpTo epoch mark
 up_to_none epoch (Decided tx given) none = absurd cc
 up_to_none epoch _ none = tt
 
@@ -143,7 +86,7 @@ module _ (start : Start) (all : ℕ → List HostStep) (e : HostStep) (es : List
           by : TcHost start e.host → Each (GivesUpTo epoch) (step_after start e.host (old e.host) e).effects.marks
           by (of_tc me there at) = tc_given me there at
           by (of_none none) =
-              each_map IsNoDecision (GivesUpTo epoch) _ (up_to_none epoch)
+              each_map IsUndecided (GivesUpTo epoch) _ (up_to_none epoch)
               (others_decide_none e.host (after start e.host (old e.host)) e.step.taken
               (never_tc start e.host (old e.host) none))
 

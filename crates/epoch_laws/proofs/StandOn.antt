@@ -5,6 +5,7 @@ use Rattle.frag_map.specs.Layout.{first_layout}
 use Rattle.run_theory.proofs.Pasts.{each_in, each_map}
 use Rattle.run_theory.specs.Links.{sent}
 use Rattle.run_theory.specs.Lists.{Each, IsIn}
+use Rattle.run_theory.proofs.EventCases.{event_cases}
 use Rattle.sig_core.specs.declared.member.Member.{Member}
 use Rattle.sig_core.specs.declared.place.Part.TheVariants.{Main}
 use Rattle.sig_core.specs.declared.signal.Body.{Body}
@@ -183,17 +184,14 @@ module _ (start : Start) (all : ℕ → List HostStep) (e : HostStep) (es : List
       -- where epochs take an order the masters stay
       masters_same : (m : Member) → e.host ≡ tc_of start m → (p : Member)
           → master_of start old p ≡ master_of start new p
-      masters_same m at p = by (cases_eq e.host (main_of start p))
-        where
-          by : (e.host ≡ main_of start p) ⊎ (e.host ≢ main_of start p) → master_of start old p ≡ master_of start new p
-          by (inl own) =
-              let there = host_made start Main p (subst (λ h. h < hosts start) own (host_low start all e es moment)) in
-              absurd (not_tc start all e es moment stand p there own m at)
-          by (inr other) =
-              sym (ap (λ log. master_in (fresh_master p (first_layout start.shape).view 0)
-              (after start (main_of start p) log).parts)
-              (other_log start all e es moment (main_of start p) other))
-
+      masters_same m at p =
+          event_cases (machine start) e es (main_of start p)
+          (λ log. master_of start old p
+          ≡ master_in (fresh_master p (first_layout start.shape).view 0) (after start (main_of start p) log).parts)
+          (λ own.
+          let there = host_made start Main p (subst (λ h. h < hosts start) own (host_low start all e es moment)) in
+          absurd (not_tc start all e es moment stand p there own m at))
+          (λ other. refl)
       loud : (m : Member) → e.host ≡ tc_of start m → (next : ℕ) (U : Phase → Type 0) → IsOrdered start old next U
           → IsAllSilent start new → ⊥
       loud m at next U order silent =

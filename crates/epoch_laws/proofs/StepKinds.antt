@@ -7,7 +7,6 @@ use Rattle.world_core.specs.Start.{Start}
 use Rattle.world_core.specs.Steps.{HostStep}
 use Rattle.world_views.specs.Hosts.{started}
 use Rattle.world_views.specs.Machine.{after}
-use Rattle.epoch_laws.proofs.StepMain.{main_steps}
 use Rattle.epoch_laws.proofs.StepTc.{tc_steps}
 
 module _ (start : Start) (h : ℕ) where
@@ -27,10 +26,3 @@ module _ (start : Start) (h : ℕ) where
   pub record RunsMain (log : List HostStep) : Type 0 where
     pub part : MainPart
     pub is : (after start h log).parts ≡ Main part
-
-  pub runs_main : (p : MainPart) → (started start h).parts ≡ Main p → (log : List HostStep) → RunsMain log
-  runs_main p is [] = record { part = p; is = is }
-  runs_main p is (e ∷ log) =
-      let before = runs_main p is log in
-      let step = main_steps (after start h log) e.step.taken before.part h before.is in
-      record { part = step.part; is = step.is }

@@ -1,5 +1,6 @@
 -- The hosts of a member that was made: where they stand among all, whose they are, and how they begin.
-use Rattle.std.proofs.Common.{◌≡◌, ◌≤◌, ◌<◌, ◌+◌, ◌-◌, ◌*◌, ◌/◌, ◌%◌, ℕ, zero, suc, length, refl, sym, ap, subst, ◌∙◌, arith}
+use Rattle.std.proofs.Common.{◌≡◌, ◌≤◌, ◌<◌, ◌+◌, ◌-◌, ◌*◌, ◌/◌, ◌%◌, ℕ, zero, suc, List, length, false, refl, sym, ap, subst, ◌∙◌, arith}
+use Rattle.std.proofs.lemmas.Bool.{true≢false}
 use Rattle.std.proofs.lemmas.Nat.{div-mul-add, mod-mul-add}
 use Rattle.std.specs.Prelude.{slice_index_or, Option, None, Some, position}
 use Rattle.frag_map.specs.Replicas.{first_start, is_member}
@@ -14,8 +15,12 @@ use Rattle.node_views.specs.declared.parts.Parts.TheVariants as part
 use Rattle.world_core.proofs.HostNumbers.{members_at, members_length}
 use Rattle.world_core.specs.Hosts.{host_at, host_of, hosts, member_at, part_by}
 use Rattle.world_core.specs.Start.{Start, made}
+use Rattle.world_core.specs.Steps.{HostStep}
 use Rattle.world_views.specs.Hosts.{part_started, started}
+use Rattle.world_views.specs.Machine.{after}
 use Rattle.view_laws.specs.Votes.{main_of}
+use Rattle.view_laws.proofs.eras.Deciders.{still}
+use Rattle.view_laws.proofs.eras.Parts.{has_coordinator}
 use Rattle.view_laws.proofs.fences.Hosts.{any_found, block_host, number_some}
 use Rattle.view_laws.proofs.follow.Hosts.{first_of, started_behind}
 use Rattle.view_laws.proofs.runs.FirstMembers.{first_in, made_tested, node_low, node_some}
@@ -101,6 +106,23 @@ module _ (start : Start) (me : Member) (there : IsIn me (made start)) where
 abbrev pub HasNoTc : Parts → Type 0
 HasNoTc (part.Tc p) = ⊥
 HasNoTc parts = Unit {0}
+
+-- one that begins so never has one
+pub never_tc : (start : Start) (h : ℕ) (log : List HostStep) → HasNoTc (started start h).parts
+    → HasNoTc (after start h log).parts
+never_tc start h log none = lacks (after start h log).parts (still start h log ∙ has_none (started start h).parts none)
+  where
+    has_none : (parts : Parts) → HasNoTc parts → has_coordinator parts ≡ false
+    has_none (part.Shell p) none = refl
+    has_none (part.Main p) none = refl
+    has_none (part.Ldm p) none = refl
+    has_none (part.Tc p) none = absurd none
+
+    lacks : (parts : Parts) → has_coordinator parts ≡ false → HasNoTc parts
+    lacks (part.Shell p) none = tt
+    lacks (part.Main p) none = tt
+    lacks (part.Ldm p) none = tt
+    lacks (part.Tc p) none = absurd (true≢false none)
 
 -- a host of a part that isn't a coordinating one, or that of a member
 pub data TcHost (start : Start) (h : ℕ) : Type 0 where

@@ -56,10 +56,6 @@ module _ (start : Start) (all : ℕ → List HostStep) (are : AreOfCluster start
   full_made view was member there = each_in _ member view.full (installed_made view was).made there
 
 module _ (start : Start) (all : ℕ → List HostStep) (es : List HostStep) (moment : IsMoment start all es) where
-  pub current_apart : AreApart (current start (logs_of start es)).full
-  current_apart =
-      full_apart start all moment.cluster (current start (logs_of start es)) (moment_installed start all es moment)
-
   pub current_made : (member : Member) → IsIn member (current start (logs_of start es)).full → IsIn member (made start)
   current_made =
       full_made start all moment.cluster (current start (logs_of start es)) (moment_installed start all es moment)

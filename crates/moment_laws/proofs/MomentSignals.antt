@@ -1,16 +1,16 @@
 -- Signals at an event: what was sent before has no greater view than the current one, what is sent has that of its
 -- host,
 -- and what is told of each that was sent is told of the one that the event takes.
-use Rattle.std.proofs.Common.{◌≡◌, ◌≢◌, ◌≤◌, ◌<◌, ◌⊎◌, ◌||◌, ℕ, Bool, true, false, filter, List, [], ◌∷◌, refl, sym, ap, subst, ◌∙◌, inl, inr, arith}
-use Rattle.std.proofs.lemmas.Bool.{cases_eq, cases_lt}
+use Rattle.std.proofs.Common.{◌≡◌, ◌≤◌, ◌<◌, ◌⊎◌, ◌||◌, ℕ, Bool, true, false, filter, List, [], ◌∷◌, refl, sym, ap, subst, ◌∙◌, inl, inr, arith}
+use Rattle.std.proofs.lemmas.Bool.{cases_lt}
 use Rattle.std.specs.Prelude.{not}
 use Rattle.run_theory.proofs.Links.{put_each, sent_by_each}
 use Rattle.run_theory.proofs.Pasts.{each_map, each_past}
-use Rattle.run_theory.proofs.Runs.{log_of-other, log_of-own}
 use Rattle.run_theory.specs.Links.{IsGiven, sent, sent_by}
 use Rattle.run_theory.specs.Lists.{Each}
 use Rattle.run_theory.specs.Machine.{Machine}
 use Rattle.run_theory.specs.Runs.{Happens}
+use Rattle.run_theory.proofs.EventCases.{event_each}
 use Rattle.sig_core.specs.declared.outcome.StopCause.{StopCause}
 use Rattle.sig_core.specs.declared.signal.Body.{Body}
 use Rattle.sig_core.specs.declared.signal.Body.TheVariants.{Epoch, Host}
@@ -128,20 +128,12 @@ module _ (start : Start) where
           → (stops_by e.step.marks ≡ false
           → Each K (filter (is_sound start) (signals_of start e.host (logs_of start es e.host) e)))
           → EachSent (logs_of start (e ∷ es))
-      sent_next old new i j = by (cases_eq e.host i)
-        where
-          own : (k : ℕ) → e.host ≡ k → Each K (sent_by n k (logs_of start es k) e)
-          own k at =
-              subst (λ h. Each K (sent_by n h (logs_of start es h) e)) at
-              (sent_by_each n K e.host (logs_of start es e.host) e new)
-
-          by : (e.host ≡ i) ⊎ (e.host ≢ i) → Each K (sent n i j (logs_of start (e ∷ es) i))
-          by (inl at) =
-              subst (λ log. Each K (sent n i j log)) (sym (log_of-own n e es i at))
-              (put_each n K j (sent_by n i (logs_of start es i) e) (sent n i j (logs_of start es i)) (own i at)
-              (old i j))
-          by (inr other) = subst (λ log. Each K (sent n i j log)) (sym (log_of-other n e es i other)) (old i j)
-
+      sent_next old new =
+          event_each n e es (λ i log. (j : ℕ) → Each K (sent n i j log))
+          (λ j.
+          put_each n K j (sent_by n e.host (logs_of start es e.host) e) (sent n e.host j (logs_of start es e.host))
+          (sent_by_each n K e.host (logs_of start es e.host) e new) (old e.host j))
+          (λ i other. old i)
 -- nothing that was sent at a moment has a greater header than the current view
 pub sent_below : (start : Start) (all : ℕ → List HostStep) (es : List HostStep) → IsMoment start all es → (i j : ℕ)
     → Each (λ (x : Addressed). x.signal.view.number ≤ current_number start (logs_of start es))

@@ -1,10 +1,11 @@
 -- At an event the current view stays and the host of the event stands in it, or stops; or the host enters a greater
 -- one.
 use Rattle.std.proofs.Common.{◌≡◌, ◌≢◌, ◌≤◌, ◌<◌, ◌⊎◌, ℕ, Bool, true, false, List, ◌∷◌, refl, sym, ap, subst, ◌∙◌, inl, inr, arith}
-use Rattle.std.proofs.lemmas.Bool.{cases_eq, cases_lt}
+use Rattle.std.proofs.lemmas.Bool.{cases_lt}
 use Rattle.std.specs.Prelude.{if◌then◌else◌}
 use Rattle.frag_map.specs.Layout.{first_layout}
 use Rattle.run_theory.proofs.Runs.{log_of-other, log_of-own}
+use Rattle.run_theory.proofs.EventCases.{event_cases, event_moves}
 use Rattle.sig_core.specs.declared.view.View.{View}
 use Rattle.world_core.specs.Hosts.{hosts}
 use Rattle.world_core.specs.Start.{Start}
@@ -59,34 +60,17 @@ module _ (start : Start) (all : ℕ → List HostStep) (e : HostStep) (es : List
 
     -- the view of each host rises
     pub number_rises : (h : ℕ) → number_in start before h ≤ number_in start behind h
-    number_rises h = by (cases_eq e.host h)
-      where
-        own : number_in start before e.host ≤ number_in start behind e.host
-        own =
-            let up = view_rises start e.host (before e.host) e in
-            let is = own_number_is in
-            omega (arith, up, is)
-
-        by : (e.host ≡ h) ⊎ (e.host ≢ h) → number_in start before h ≤ number_in start behind h
-        by (inl at) = subst (λ (h : ℕ). number_in start before h ≤ number_in start behind h) at own
-        by (inr other) =
-            let same = ap (λ (log : List HostStep). (view_after start h log).number) (other_log h other) in
-            omega (arith, same)
-
+    number_rises =
+        event_moves (machine start) e es
+        (λ h old log. (view_after start h old).number ≤ (view_after start h log).number)
+        (view_rises start e.host (before e.host) e) (λ h log. omega arith)
     -- each host stands below what is above the current view before it and above the view of its host behind it
     others_below : (number h : ℕ) → h < hosts start → current_number start before ≤ number → own_number ≤ number
         → number_in start behind h ≤ number
-    others_below number h low old new = by (cases_eq e.host h)
-      where
-        by : (e.host ≡ h) ⊎ (e.host ≢ h) → number_in start behind h ≤ number
-        by (inl at) =
-            subst (λ (h : ℕ). number_in start behind h ≤ number) at
-            (let is = own_number_is in omega (arith, is, new))
-        by (inr other) =
-            let same = ap (λ (log : List HostStep). (view_after start h log).number) (other_log h other) in
-            let up = current_above start before h low in
-            omega (arith, same, up, old)
-
+    others_below number h low old new =
+        event_cases (machine start) e es h (λ log. (view_after start h log).number ≤ number)
+        (λ at. subst (λ h. (view_after start h (e ∷ before h)).number ≤ number) at new)
+        (λ other. let up = current_above start before h low in omega (arith, up, old))
     current_below : (number : ℕ) → current_number start before ≤ number → own_number ≤ number
         → current_number start behind ≤ number
     current_below number old new = by (current start behind) (current_is start behind)

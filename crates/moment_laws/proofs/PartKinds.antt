@@ -12,7 +12,6 @@ use Rattle.node_views.specs.declared.parts.Parts.{Parts}
 use Rattle.node_views.specs.declared.parts.Parts.TheVariants as part
 use Rattle.node_views.specs.declared.shell_part.ShellPart.{ShellPart}
 use Rattle.node_views.specs.declared.tc_part.TcPart.{TcPart}
-use Rattle.node_views.specs.Replies.{giving}
 use Rattle.world_core.specs.Start.{Start}
 use Rattle.world_core.specs.Steps.{HostStep}
 use Rattle.world_views.specs.Machine.{after, step_after}
@@ -155,7 +154,3 @@ module _ (start : Start) (log : List HostStep) (e : HostStep) where
       (step_after start 0 log e).state.parts (step_after start 0 log e).state.standing.view
       (step_after start 0 log e).effects.sends)
       runs (step_do start 0 log e))
-
-  -- and behind it
-  pub shell_told : (after start 0 (e ∷ log)).parts ≡ giving (step_after start 0 log e).state.parts []
-  shell_told = refl

@@ -100,9 +100,6 @@ module _ (s : hosts.Host) (x : Signal) where
   unfolding entered host_row
   parts_do h = by (is_well_formed s.standing.shape x) refl
     where
-      inside : Parts
-      inside = (parts_entered s.parts x.view).state
-
       newer : nat_lt s.standing.view.number x.view.number ≡ true
           → Enters s.parts s.standing.view x (parts_entered s.parts x.view).state x.view
           (parts_entered s.parts x.view).effects.sends

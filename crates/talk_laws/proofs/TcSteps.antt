@@ -147,9 +147,3 @@ module _ (tx : TxId) where
                 (subst (Talked tx (install_row s view).state told took)
                 (sym (mute_picks tx (verified_by tx) (mute_verified tx) sends gave mute))
                 (record { unborn = talked.unborn; fits = talked.fits; gives = talked.gives; few = talked.few }))
-
-  pub installs_verify_none : (s : CoordinatorState) (view : View) (gave : List (List (Op × Answer)))
-      → pick_sends (verified_by tx) (install_row s view).effects.sends gave ≡ gave
-  unfolding install_row
-  installs_verify_none s view gave =
-      mute_picks tx (verified_by tx) (mute_verified tx) (go_on_if s.tc.node _) gave (more_mute s.tc.node _)

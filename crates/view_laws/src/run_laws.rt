@@ -3,6 +3,7 @@ ghost use Rattle.view_laws.specs.Runs.{OneViewOfANumber, RunsHaveOrderlyBallots,
 
 /// What members promise, propose and are granted in a run is orderly, and each host stands in a view
 /// that is chosen by it.
+#[tactic(auto, using(crate::proofs::runs::AllSound::have_orderly))]
 pub fn runs_have_orderly_ballots()
     ensures { RunsHaveOrderlyBallots }
 {}

@@ -2,11 +2,13 @@
 ghost use Rattle.view_laws.specs.Votes.{ArbitersFollowTheirSignals, ArbitersVote, HostsFollowTheirEvents, MembershipsVote, OthersDontVote};
 
 /// The main host of a member has the membership to which happened what its log says.
+#[tactic(auto, using(crate::proofs::follow::Hosts::hosts_follow))]
 pub fn hosts_follow_their_events()
     ensures { HostsFollowTheirEvents }
 {}
 
 /// The shell's host has the arbitrator to which came what its log says.
+#[tactic(auto, using(crate::proofs::follow::Hosts::arbiters_follow))]
 pub fn arbiters_follow_their_signals()
     ensures { ArbitersFollowTheirSignals }
 {}
@@ -22,6 +24,7 @@ pub fn arbiters_vote()
 {}
 
 /// Nobody else sends any of these.
+#[tactic(auto, using(crate::proofs::votes::Others::others_dont_vote))]
 pub fn others_dont_vote()
     ensures { OthersDontVote }
 {}

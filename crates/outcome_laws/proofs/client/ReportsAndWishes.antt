@@ -326,12 +326,6 @@ pub wishes_or_downs_few : (tx : TxId) (s : ClientState) (x : Signal)
     ≤ count_unwished tx s + one_if (is_begin tx x.body) + one_if (is_down_answer tx x.body)
 wishes_or_downs_few tx s x = (few_wishes tx s x).both
 
--- the commit of one that is reported so wasn't asked for, unless a coordinator said so
-pub down_unwished : (tx : TxId) (s : ClientState) (x : Signal)
-    → IsIn (Reported tx (outcome.Aborted Down)) (client_row s x).effects.marks
-    → (x.body ≡ Client (TcRollbackRep tx Down)) ⊎ (1 + count_unwished tx (client_row s x).state ≤ count_unwished tx s)
-down_unwished tx s x down = (few_wishes tx s x).down down
-
 -- where a view is installed nothing is reported or asked for, and as many are open
 pub noted_open : (tx : TxId) (s : ClientState) (view : View) → count_open tx (noted s view) ≡ count_open tx s
 unfolding noted

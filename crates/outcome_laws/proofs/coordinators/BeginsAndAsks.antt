@@ -429,15 +429,6 @@ module _ (tx : TxId) (s : CoordinatorState) (view : View) where
   abbrev more : Bool
   more = nat_lt 0 (length (tasks_at s view.number))
 
-  -- where a view is installed none is told to have begun, and no epoch is asked for
-  pub installs_begin_none : count_sent (is_begin tx) (install_row s view).effects.sends ≡ 0
-  unfolding install_row
-  installs_begin_none = quiet_begins tx (go_on_if s.tc.node more) (more_quiet s.tc.node more)
-
-  pub installs_ask_none : count_sent (is_asking tx) (install_row s view).effects.sends ≡ 0
-  unfolding install_row
-  installs_ask_none = quiet_asks tx (go_on_if s.tc.node more) (more_quiet s.tc.node more)
-
   pub begins_once_installed : count_sent (is_begin tx) (install_row s view).effects.sends
       + one_if (is_unborn (install_row s view).state tx) ≤ one_if (is_unborn s tx)
   unfolding install_row

@@ -1,11 +1,10 @@
 -- In all right logs nobody is told that a transaction was aborted since the cluster is down.
 use Rattle.std.proofs.Common.{◌≡◌, ◌==◌, ◌&&◌, ℕ, zero, suc, ◌%◌, Bool, true, false, List, [], ◌∷◌, refl, sym, subst}
 use Rattle.run_theory.proofs.Along.{along_signals_of_logs}
-use Rattle.run_theory.proofs.Links.{put_each, sent_by_each}
 use Rattle.run_theory.proofs.Orders.{each_next}
-use Rattle.run_theory.proofs.Pasts.{each_in, each_map, each_past}
+use Rattle.run_theory.proofs.Pasts.{each_in, each_map}
 use Rattle.run_theory.specs.Along.{Comes, IsKept}
-use Rattle.run_theory.specs.Links.{sent, sent_by}
+use Rattle.run_theory.specs.Links.{sent}
 use Rattle.run_theory.specs.Lists.{Each}
 use Rattle.run_theory.specs.Runs.{log_of}
 use Rattle.sig_core.specs.declared.place.Part.{Part}
@@ -25,11 +24,7 @@ use Rattle.world_views.proofs.SentFacts.{is_stamped}
 use Rattle.world_views.specs.Hosts.{part_started, started}
 use Rattle.world_views.specs.Machine.{after, machine, signals_of, step_after, told}
 use Rattle.world_views.specs.Sending.{is_asked, is_own_work}
-use Rattle.view_laws.specs.Order.{is_sound, sound_machine}
-use Rattle.view_laws.proofs.eras.SoundLogs.{each_filter}
 use Rattle.view_laws.proofs.follow.Senders.{each_sent}
-use Rattle.moment_laws.specs.Moments.{IsMoment, logs_of}
-use Rattle.moment_laws.proofs.MomentSignals.{EachSent}
 use Rattle.outcome_laws.specs.Down.{NoDownIsTold, PartsHaveNoDown, TakesNoDown, TellsNoDown}
 use Rattle.outcome_laws.proofs.downfall.Parts.{step_down_none}
 use Rattle.outcome_laws.proofs.downfall.Sends.{SendsNoDown}
@@ -116,28 +111,7 @@ module _ (start : Start) where
     stays = λ es e x come says. says;
   }
 
-  -- nor does what was sent
-  sent_none : (i j : ℕ) (log : List HostStep) → Each TakesNoDown log → Each Says (sent (sound_machine start) i j log)
-  sent_none i j [] takes = tt
-  sent_none i j (e ∷ log) takes =
-      put_each (sound_machine start) Says j (sent_by (sound_machine start) i log e)
-      (sent (sound_machine start) i j log)
-      (sent_by_each (sound_machine start) Says i log e
-      (λ goes. each_filter Says (is_sound start) (signals_of start i log e) (signals_none i log e takes)))
-      (sent_none i j log takes.1)
-
 pub no_down_is_told : NoDownIsTold
 no_down_is_told start logs are =
     (along_signals_of_logs (machine start) (is_stamped start) (λ x logs. Says x) (HaveNone start) (kept start)
     (hosts start) logs are.within are.right).law
-
--- and so at each moment of them
-pub no_down_told : (start : Start) (all : ℕ → List HostStep) (es : List HostStep) → IsMoment start all es → (h : ℕ)
-    → Each TakesNoDown (logs_of start es h)
-no_down_told start all es moment h =
-    each_past TakesNoDown (moment.inside h) (no_down_is_told start all moment.cluster h)
-
-pub no_down_sent : (start : Start) (all : ℕ → List HostStep) (es : List HostStep) → IsMoment start all es
-    → EachSent start Says (logs_of start es)
-no_down_sent start all es moment i j =
-    sent_none start i j (logs_of start es i) (no_down_told start all es moment i)

@@ -19,8 +19,8 @@ use Rattle.dih_node.specs.Dih.{dih_row}
 use Rattle.dih_node.specs.Orders.{install_row}
 use Rattle.dih_node.specs.State.{DihState}
 use Rattle.dih_node.specs.Verify.{given}
-use Rattle.outcome_laws.specs.Counts.{count_held, is_asking, is_decision, is_report, one_if}
-use Rattle.outcome_laws.proofs.epochs.Steps.{HoldsNoMore, IsQuiet, dih_each, dih_installs_hold, dih_installs_quiet}
+use Rattle.outcome_laws.specs.Counts.{count_held, is_asking, is_decision, one_if}
+use Rattle.outcome_laws.proofs.epochs.Steps.{HoldsNoMore, IsQuiet, dih_each, dih_installs_hold}
 
 -- counts of what was removed are at most those of the whole
 removed_count : (p : TxId → Bool) (held : List TxId) (place : ℕ) → count_by p (remove held place) ≤ count_by p held
@@ -113,22 +113,7 @@ decides_few tx s x =
           omega (arith, few);
     })
 
--- they report no transaction
-pub epochs_report_none : (tx : TxId) (s : DihState) (x : Signal)
-    → count_by (is_report tx) (dih_row s x).effects.marks ≡ 0
-unfolding given
-epochs_report_none tx s x =
-    dih_each s (λ step. count_by (is_report tx) step.effects.marks ≡ 0) x (record {
-      quiet = λ step is. ap (count_by (is_report tx)) is.marks;
-      gives_it = λ u ops is. refl;
-      holds_it = λ u ops is. refl;
-      serves_it = λ u first. refl;
-    })
-
 -- a view that is installed leaves what is held, and decides none
 pub installs_count_held : (tx : TxId) (s : DihState) (number : ℕ)
     → count_held tx (install_row s number).state ≡ count_held tx s
 installs_count_held tx s number = ap (count_by (same_tx tx)) (dih_installs_hold s number)
-
-pub installs_decide_none : (s : DihState) (number : ℕ) → (install_row s number).effects.marks ≡ []
-installs_decide_none s number = (dih_installs_quiet s number).marks

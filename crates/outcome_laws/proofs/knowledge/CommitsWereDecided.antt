@@ -1,11 +1,10 @@
 -- Whoever is reported committed was decided, in the epoch that is reported, and so has an entry.
-use Rattle.std.proofs.Common.{◌≡◌, ◌≢◌, ◌⊎◌, ◌++◌, ℕ, List, [], ◌∷◌, reverse, refl, sym, subst, inl, inr}
-use Rattle.std.proofs.lemmas.Bool.{cases_eq}
+use Rattle.std.proofs.Common.{◌++◌, ℕ, List, [], ◌∷◌, reverse, refl, sym, subst, inl, inr}
 use Rattle.std.proofs.lemmas.List.{reverse-append}
 use Rattle.run_theory.proofs.Pasts.{each_in, in_append}
-use Rattle.run_theory.proofs.Runs.{log_of-other, log_of-own}
 use Rattle.run_theory.specs.Lists.{Each, IsIn}
 use Rattle.run_theory.specs.Ranks.{in_order}
+use Rattle.run_theory.proofs.EventCases.{event_cases}
 use Rattle.sig_core.specs.declared.entry.Entry.{Entry}
 use Rattle.sig_core.specs.declared.mark.Mark.{Mark}
 use Rattle.sig_core.specs.declared.mark.Mark.TheVariants.{Decided, Reported}
@@ -76,7 +75,11 @@ module _ (start : Start) where
   pub decided_entry : (tx : TxId) (epoch h : ℕ) (es : List HostStep) → IsMarked (Decided tx epoch) (logs_of start es h)
       → HasEntry tx epoch (decisions start es)
   decided_entry tx epoch h [] is = absurd is
-  decided_entry tx epoch h (e ∷ es) is = by (cases_eq e.host h) (decided_entry tx epoch h es)
+  decided_entry tx epoch h (e ∷ es) is =
+      let older = decided_entry tx epoch h es in
+      event_cases (machine start) e es h
+      (λ log. IsMarked (Decided tx epoch) log → HasEntry tx epoch (decisions start (e ∷ es)))
+      (λ at is. own is older) (λ other is. more (older is)) is
     where
       more : HasEntry tx epoch (decisions start es) → HasEntry tx epoch (decisions start (e ∷ es))
       more has = record {
@@ -93,13 +96,6 @@ module _ (start : Start) where
       own (inl there) older =
           one_entry e.host e.step.stamp (e ∷ logs_of start es e.host) tx epoch e.step.marks (decisions start es) there
       own (inr is) older = more (older is)
-
-      by : (e.host ≡ h) ⊎ (e.host ≢ h)
-          → (IsMarked (Decided tx epoch) (logs_of start es h) → HasEntry tx epoch (decisions start es))
-          → HasEntry tx epoch (decisions start (e ∷ es))
-      by (inl at) older = own (subst (IsMarked (Decided tx epoch)) (log_of-own (machine start) e es h at) is) older
-      by (inr other) older =
-          more (older (subst (IsMarked (Decided tx epoch)) (log_of-other (machine start) e es h other) is))
 
   -- at a moment who was reported committed has one
   pub reported_entry : (all : ℕ → List HostStep) (es : List HostStep) → IsMoment start all es → (tx : TxId) (epoch : ℕ)

@@ -1,11 +1,9 @@
 -- At each moment a transaction was decided only at the host of its coordinator's member, if anywhere.
-use Rattle.std.proofs.Common.{◌≡◌, ◌≢◌, ◌⊎◌, ◌∙◌, ◌+◌, ◌-◌, ◌*◌, ℕ, zero, suc, true, List, [], ◌∷◌, sym, ap, subst, inl}
-use Rattle.std.proofs.Common.{inr}
-use Rattle.std.proofs.lemmas.Bool.{cases_eq}
+use Rattle.std.proofs.Common.{◌≡◌, ◌∙◌, ◌+◌, ◌-◌, ◌*◌, ℕ, zero, suc, true, List, [], ◌∷◌, sym, ap, subst}
 use Rattle.run_theory.proofs.Pasts.{each_in, each_map}
-use Rattle.run_theory.proofs.Runs.{log_of-other, log_of-own}
 use Rattle.run_theory.specs.Lists.{Each, IsIn}
 use Rattle.run_theory.specs.Runs.{Happens}
+use Rattle.run_theory.proofs.EventCases.{event_cases, event_each}
 use Rattle.sig_core.specs.declared.mark.Mark.{Mark}
 use Rattle.sig_core.specs.declared.mark.Mark.TheVariants.{Decided}
 use Rattle.sig_core.specs.declared.member.Member.{Member}
@@ -31,7 +29,7 @@ use Rattle.node_views.specs.WellFormed.{is_well_formed}
 use Rattle.world_core.specs.Start.{Start, made}
 use Rattle.world_core.specs.Steps.{Addressed, HostStep}
 use Rattle.world_views.specs.Hosts.{reached, started}
-use Rattle.world_views.specs.Machine.{after, machine, signals_of, step_after, step_by, told}
+use Rattle.world_views.specs.Machine.{after, machine, signals_of, step_after, told}
 use Rattle.view_laws.specs.Order.{is_sound, sound_machine}
 use Rattle.view_laws.proofs.eras.Shapes.{shape_stays}
 use Rattle.view_laws.proofs.eras.SoundLogs.{each_filter}
@@ -39,7 +37,7 @@ use Rattle.view_laws.proofs.fences.Hosts.{own_reaches}
 use Rattle.view_laws.proofs.follow.Senders.{IsSentBy, each_sent}
 use Rattle.moment_laws.specs.Moments.{IsMoment, logs_of}
 use Rattle.moment_laws.specs.Places.{tc_of}
-use Rattle.moment_laws.proofs.MomentHosts.{HasNoTc, TcHost, of_none, of_tc, tc_host_is, tc_number, tc_started}
+use Rattle.moment_laws.proofs.MomentHosts.{HasNoTc, TcHost, never_tc, of_none, of_tc, tc_host_is, tc_number, tc_started}
 use Rattle.moment_laws.proofs.MomentSignals.{EachSent, epoch_told, sent_next}
 use Rattle.moment_laws.proofs.MomentTurns.{host_low}
 use Rattle.moment_laws.proofs.MomentViews.{moment_less}
@@ -95,24 +93,6 @@ module _ (start : Start) where
     asks = λ i j. tt;
   }
 
-  -- a host that doesn't run a coordinator never does
-  given_none : (h : ℕ) (t : Step node.Host) → HasNoTc t.state.parts → HasNoTc (told h t).parts
-  given_none zero t none = by t.state.parts none
-    where
-      by : (parts : Parts) → HasNoTc parts → HasNoTc (giving parts [])
-      by (Shell p) none = tt
-      by (Main p) none = tt
-      by (Ldm p) none = tt
-      by (Tc p) none = absurd none
-  given_none (suc h) t none = none
-
-  never_tc : (h : ℕ) (log : List HostStep) → HasNoTc (started start h).parts → HasNoTc (after start h log).parts
-  never_tc h [] none = none
-  never_tc h (e ∷ log) none =
-      given_none h (step_by h (after start h log) e.step.taken)
-      (step_keeps HasNoTc (AreSo NoneAsk NoneOf) (so_effects NoneAsk NoneOf) e.step.taken h (after start h log)
-      (λ sound. others_so NoneAsk NoneOf e.step.taken) (never_tc h log none)).0
-
   given_own : (me : Member) (h : ℕ) (t : Step node.Host) → OwnParts me t.state.parts → OwnParts me (told h t).parts
   given_own me zero t own = by t.state.parts own
     where
@@ -164,29 +144,17 @@ module _ (start : Start) where
       comes_none : HasNoTc (started start e.host).parts → AreSo NoneAsk NoneOf step.effects
       comes_none none =
           (step_keeps HasNoTc (AreSo NoneAsk NoneOf) (so_effects NoneAsk NoneOf) x e.host
-          (after start e.host (old e.host)) (λ sound. others_so NoneAsk NoneOf x) (never_tc e.host (old e.host) none)).1
+          (after start e.host (old e.host)) (λ sound. others_so NoneAsk NoneOf x) (never_tc start e.host (old e.host) none)).1
 
       parts_next : (me : Member) → IsIn me (made start)
           → OwnParts me (after start (tc_of start me) (new (tc_of start me))).parts
-      parts_next me there = by (cases_eq e.host (tc_of start me))
-        where
-          h : ℕ
-          h = tc_of start me
-
-          now : (k : ℕ) → e.host ≡ k → OwnParts me (step_after start e.host (old e.host) e).state.parts
-              → OwnParts me (after start k (e ∷ old k)).parts
-          now k at comes =
-              subst (λ k. OwnParts me (after start k (e ∷ old k)).parts) at
-              (given_own me e.host (step_after start e.host (old e.host) e) comes)
-
-          by : (e.host ≡ h) ⊎ (e.host ≢ h) → OwnParts me (after start h (new h)).parts
-          by (inl at) =
-              subst (λ (log : List HostStep). OwnParts me (after start h log).parts)
-              (sym (log_of-own (machine start) e es h at)) (now h at (comes_own me there at).0)
-          by (inr other) =
-              subst (λ (log : List HostStep). OwnParts me (after start h log).parts)
-              (sym (log_of-other (machine start) e es h other)) (own.parts me there)
-
+      parts_next me there =
+          event_cases (machine start) e es (tc_of start me)
+          (λ log. OwnParts me (after start (tc_of start me) log).parts)
+          (λ at.
+          subst (λ k. OwnParts me (after start k (e ∷ old k)).parts) at
+          (given_own me e.host (step_after start e.host (old e.host) e) (comes_own me there at).0))
+          (λ other. own.parts me there)
       -- what the step decides
       decides_here : Each (IsDecidedHere e.host) step.effects.marks
       decides_here = by (tc_host_is start e.host (host_low start all e es moment))
@@ -209,19 +177,10 @@ module _ (start : Start) where
               (comes_none none).decide
 
       decided_next : (h : ℕ) → Each (AreDecidedHere h) (new h)
-      decided_next h = by (cases_eq e.host h)
-        where
-          marked : AreDecidedHere e.host e
-          marked = subst (Each (IsDecidedHere e.host)) (sym happens.step.fits.marks) decides_here
-
-          by : (e.host ≡ h) ⊎ (e.host ≢ h) → Each (AreDecidedHere h) (new h)
-          by (inl at) =
-              subst (λ (log : List HostStep). Each (AreDecidedHere h) log) (sym (log_of-own (machine start) e es h at))
-              (subst (λ k. AreDecidedHere k e) at marked, own.decided h)
-          by (inr other) =
-              subst (λ (log : List HostStep). Each (AreDecidedHere h) log)
-              (sym (log_of-other (machine start) e es h other)) (own.decided h)
-
+      decided_next =
+          event_each (machine start) e es (λ h log. Each (AreDecidedHere h) log)
+          (subst (Each (IsDecidedHere e.host)) (sym happens.step.fits.marks) decides_here, own.decided e.host)
+          (λ h other. own.decided h)
       -- and whom it asks
       abbrev SentNow : Addressed → Type 0
       SentNow = IsSentBy (made start) e.host (after start e.host (e ∷ old e.host)).standing.view step.effects.sends

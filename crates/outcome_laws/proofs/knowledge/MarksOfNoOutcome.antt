@@ -6,8 +6,8 @@ use Rattle.sig_core.specs.declared.mark.Mark.{Mark}
 use Rattle.sig_core.specs.declared.mark.Mark.TheVariants.{Decided, Reported}
 use Rattle.sig_core.specs.declared.member.TxId.{TxId}
 use Rattle.sig_core.specs.Step.{Step}
-use Rattle.outcome_laws.specs.Counts.{is_decision, is_report}
-use Rattle.outcome_laws.specs.Tells.{Decides, IsRightMark}
+use Rattle.outcome_laws.specs.Counts.{is_decision}
+use Rattle.outcome_laws.specs.Tells.{IsRightMark}
 
 abbrev pub is_outcome : Mark → Bool
 is_outcome (Decided tx epoch) = true
@@ -26,17 +26,9 @@ pub none_decided : (tx : TxId) (mark : Mark) → IsNoOutcome mark → is_decisio
 none_decided tx (Decided other epoch) none = absurd (true≢false none)
 none_decided tx mark none = refl
 
-pub none_reported : (tx : TxId) (mark : Mark) → IsNoOutcome mark → is_report tx mark ≡ false
-none_reported tx (Reported other outcome) none = absurd (true≢false none)
-none_reported tx mark none = refl
-
 -- it is a right one, and decides nothing
 module _ (D : TxId → ℕ → Type 0) (B : TxId → Type 0) where
   pub none_right : (mark : Mark) → IsNoOutcome mark → IsRightMark D B mark
   none_right (Decided tx epoch) none = absurd (true≢false none)
   none_right (Reported tx outcome) none = absurd (true≢false none)
   none_right mark none = tt
-
-  pub none_decides : (mark : Mark) → IsNoOutcome mark → Decides D B mark
-  none_decides (Decided tx epoch) none = absurd (true≢false none)
-  none_decides mark none = tt

@@ -1,11 +1,11 @@
 -- At each moment all that hosts know, tell and mark of transactions is true.
-use Rattle.std.proofs.Common.{◌≡◌, ◌≢◌, ◌⊎◌, ◌∙◌, ◌%◌, ℕ, zero, suc, Bool, true, false, List, [], ◌∷◌, refl, sym, ap}
+use Rattle.std.proofs.Common.{◌≡◌, ◌∙◌, ◌%◌, ℕ, zero, suc, Bool, true, false, List, [], ◌∷◌, refl, sym, ap}
 use Rattle.std.proofs.Common.{subst, inl, inr}
-use Rattle.std.proofs.lemmas.Bool.{cases_eq}
 use Rattle.run_theory.proofs.Pasts.{each_from, each_in, each_map}
-use Rattle.run_theory.proofs.Runs.{log_of-other, log_of-own}
+use Rattle.run_theory.proofs.Runs.{log_of-own}
 use Rattle.run_theory.specs.Lists.{Each, IsIn}
 use Rattle.run_theory.specs.Runs.{Happens}
+use Rattle.run_theory.proofs.EventCases.{event_each, event_keeps}
 use Rattle.sig_core.specs.declared.mark.Mark.{Mark}
 use Rattle.sig_core.specs.declared.mark.Mark.TheVariants.{Decided}
 use Rattle.sig_core.specs.declared.member.TxId.{TxId}
@@ -111,12 +111,7 @@ module _ (start : Start) where
       -- what is so of a log also with a step more
       grows : (P : List HostStep → Type 0) → ((log : List HostStep) → P log → P (e ∷ log)) → (h : ℕ) → P (old h)
           → P (new h)
-      grows P more h so = by (cases_eq e.host h)
-        where
-          by : (e.host ≡ h) ⊎ (e.host ≢ h) → P (new h)
-          by (inl at) = subst P (sym (log_of-own (machine start) e es h at)) (more (old h) so)
-          by (inr other) = subst P (sym (log_of-other (machine start) e es h other)) so
-
+      grows P more = event_keeps (machine start) e es (λ h. P) (more (old e.host))
       decided_more : (tx : TxId) (epoch : ℕ) → IsDecided start old tx epoch → D tx epoch
       decided_more tx epoch =
           grows (IsMarked (Decided tx epoch)) (λ log is. inr is) (tc_of start (coordinator_member tx))
@@ -207,29 +202,14 @@ module _ (start : Start) where
       sends_true = step_true.effects.tell (subst (Each (Decides D B)) marks_are decides)
 
       parts_next : (h : ℕ) → HostKnows start new h
-      parts_next h = by (cases_eq e.host h)
-        where
-          by : (e.host ≡ h) ⊎ (e.host ≢ h) → HostKnows start new h
-          by (inl at) =
-              subst (λ (log : List HostStep). PartsKnow D B (after start h log).parts)
-              (sym (log_of-own (machine start) e es h at))
-              (subst (λ k. PartsKnow D B (after start k (e ∷ old k)).parts) at step_true.knows)
-          by (inr other) =
-              subst (λ (log : List HostStep). PartsKnow D B (after start h log).parts)
-              (sym (log_of-other (machine start) e es h other)) (old_parts h)
-
+      parts_next =
+          event_each (machine start) e es (λ h log. PartsKnow D B (after start h log).parts) step_true.knows
+          (λ h other. old_parts h)
       right_next : (h : ℕ) → Each (MarksRightly start new) (new h)
-      right_next h = by (cases_eq e.host h)
-        where
-          right : MarksRightly start new e
-          right = subst (Each (IsRightMark D B)) (sym marks_are) step_true.effects.right
-
-          by : (e.host ≡ h) ⊎ (e.host ≢ h) → Each (MarksRightly start new) (new h)
-          by (inl at) =
-              subst (Each (MarksRightly start new)) (sym (log_of-own (machine start) e es h at)) (right, old_right h)
-          by (inr other) =
-              subst (Each (MarksRightly start new)) (sym (log_of-other (machine start) e es h other)) (old_right h)
-
+      right_next =
+          event_each (machine start) e es (λ h log. Each (MarksRightly start new) log)
+          (subst (Each (IsRightMark D B)) (sym marks_are) step_true.effects.right, old_right e.host)
+          (λ h other. old_right h)
       sent_true : (y : Addressed)
           → IsSentBy (made start) e.host (after start e.host (e ∷ old e.host)).standing.view
           (step_after start e.host (old e.host) e).effects.sends y → TellsTruly start new y

@@ -1,20 +1,15 @@
 -- Steps that tell nothing of transactions: no signal that they send does, none counts, and no mark is of an outcome.
-use Rattle.std.proofs.Common.{◌≡◌, ◌+◌, ℕ, Bool, true, false, List, take, drop, length, nat_lt, refl}
+use Rattle.std.proofs.Common.{◌≡◌, Bool, true, false, List, refl}
 use Rattle.run_theory.specs.Lists.{Each}
-use Rattle.run_theory.proofs.EachSent.{each_drop, each_take}
-use Rattle.run_theory.proofs.Pasts.{each_append, each_map}
+use Rattle.run_theory.proofs.Pasts.{each_map}
 use Rattle.sig_core.specs.declared.outs.Outgoing.{Outgoing}
-use Rattle.sig_core.specs.declared.place.Place.{Place}
-use Rattle.sig_core.specs.declared.portion.TheConstants.{PORTION}
 use Rattle.sig_core.specs.declared.signal.Body.{Body}
 use Rattle.sig_core.specs.declared.signal.Body.TheVariants.{Chain, Client, Epoch, Host, Takeover}
 use Rattle.sig_core.specs.declared.signal.client.ClientSignal.TheVariants.{ViewRep}
 use Rattle.sig_core.specs.declared.signal.epoch.EpochSignal.TheVariants.{DiVerifyConf, DiVerifyEnd, DiVerifyReq}
 use Rattle.sig_core.specs.declared.signal.host.HostSignal.TheVariants.{Continue}
-use Rattle.sig_core.specs.declared.signal.host.Work.{Work}
 use Rattle.sig_core.specs.declared.signal.host.Work.TheVariants.{Transaction}
 use Rattle.sig_core.specs.declared.signal.takeover.TakeoverSignal.TheVariants.{LqhTransConf, LqhTransEnd, LqhTransReq}
-use Rattle.sig_core.specs.Portion.{portion_effects, rest_if}
 use Rattle.sig_core.specs.Step.{Step}
 use Rattle.outcome_laws.proofs.epochs.Silent.{AreSilent, IsSilent, is_telling}
 use Rattle.outcome_laws.proofs.once.Counted.{AreUncounted, IsUncounted, is_counted}
@@ -72,18 +67,3 @@ untold_silent sends none = each_map IsUntold IsSilent sends (λ sent is. body_si
 
 pub untold_uncounted : (sends : List Outgoing) → AreUntold sends → AreUncounted sends
 untold_uncounted sends none = each_map IsUntold IsUncounted sends (λ sent is. body_uncounted sent.body is) none
-
--- so it is of a part of a list that tells nothing, if to go on with the list does
-pub portion_untold : (by : Place) (work : Work) (sends : List Outgoing) (at : ℕ)
-    → ((left : ℕ) → is_tale (Host (Continue work left)) ≡ false) → AreUntold sends
-    → AreUntold (portion_effects by work sends at).sends
-portion_untold by work sends at goes_on all =
-    each_append IsUntold (take PORTION (drop at sends)) (rest_if by work at more)
-    (each_take IsUntold PORTION (drop at sends) (each_drop IsUntold at sends all)) (rest more)
-  where
-    more : Bool
-    more = nat_lt (at + PORTION) (length sends)
-
-    rest : (b : Bool) → AreUntold (rest_if by work at b)
-    rest true = (goes_on (at + PORTION), tt)
-    rest false = tt

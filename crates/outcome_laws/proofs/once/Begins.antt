@@ -199,10 +199,6 @@ module _ (tx : TxId) (start : Start) (logs : ℕ → List HostStep) (are : AreOf
   only_asks (Host signal) own = refl
   only_asks body own = absurd cc
 
-  pub begins_elsewhere : (h : ℕ) → h ≢ tc_of start (coordinator_member tx)
-      → sends_in (is_begin tx) start h (logs h) ≡ 0
-  begins_elsewhere = others_send (is_begin tx) begins_are
-
   pub asks_elsewhere : (h : ℕ) → h ≢ tc_of start (coordinator_member tx)
       → sends_in (is_asking tx) start h (logs h) ≡ 0
   asks_elsewhere = others_send (is_asking tx) asks_are

@@ -34,12 +34,6 @@ is_counted (Epoch (DiVerifyEnd tx)) = true
 is_counted (Chain (LqhKeyRef tx key cause)) = is_down_cause cause
 is_counted body = false
 
--- it tells a client, or a coordinator, that a transaction is aborted since the cluster is down
-abbrev pub is_downfall : Body → Bool
-is_downfall (Client (TcRollbackRep tx cause)) = is_down_cause cause
-is_downfall (Chain (LqhKeyRef tx key cause)) = is_down_cause cause
-is_downfall body = false
-
 -- it is none of them
 abbrev pub IsUncounted : Outgoing → Type 0
 IsUncounted send = is_counted send.body ≡ false
@@ -69,8 +63,3 @@ uncounted_wish tx body none = refl
 pub uncounted_asking : (tx : TxId) (body : Body) → is_counted body ≡ false → is_asking tx body ≡ false
 uncounted_asking tx (Epoch (DiVerifyReq other ops)) none = absurd cc
 uncounted_asking tx body none = refl
-
-pub uncounted_downfall : (body : Body) → is_counted body ≡ false → is_downfall body ≡ false
-uncounted_downfall (Client (TcRollbackRep tx cause)) none = absurd cc
-uncounted_downfall (Chain (LqhKeyRef tx key cause)) none = none
-uncounted_downfall body none = refl

@@ -11,11 +11,9 @@ use Rattle.sig_core.specs.declared.place.BlockId.{BlockId}
 use Rattle.sig_core.specs.declared.place.BlockId.TheVariants as block
 use Rattle.sig_core.specs.declared.place.Place.{Place}
 use Rattle.sig_core.specs.declared.signal.Body.{Body}
-use Rattle.sig_core.specs.declared.signal.Body.TheVariants.{Chain, Client, Epoch}
-use Rattle.sig_core.specs.declared.signal.chain.ChainSignal.TheVariants.{LqhKeyRef}
-use Rattle.sig_core.specs.declared.signal.client.ClientSignal.TheVariants.{TcBeginConf, TcCommitReq, TcKeyConf}
-use Rattle.sig_core.specs.declared.signal.client.ClientSignal.TheVariants.{TcRollbackRep}
-use Rattle.sig_core.specs.declared.signal.epoch.EpochSignal.TheVariants.{DiVerifyEnd, DiVerifyReq}
+use Rattle.sig_core.specs.declared.signal.Body.TheVariants.{Client, Epoch}
+use Rattle.sig_core.specs.declared.signal.client.ClientSignal.TheVariants.{TcBeginConf, TcCommitReq}
+use Rattle.sig_core.specs.declared.signal.epoch.EpochSignal.TheVariants.{DiVerifyReq}
 use Rattle.sig_core.specs.declared.signal.Signal.{Signal}
 use Rattle.sig_core.specs.declared.view.View.{View}
 use Rattle.sig_core.specs.Same.{same_tx}
@@ -93,16 +91,6 @@ module _ (tx : TxId) (me : Member) (other : coordinator_member tx ≡ me → ⊥
 pub wishes_apart : (tx : TxId) (me : Member) (to : Place) (body : Body) → IsOwnAt me to body → is_wish tx body ≡ false
 wishes_apart tx me to (Client (TcCommitReq u)) own = absurd own
 wishes_apart tx me to body own = refl
-
--- signals that only coordinators send, and only they and clients
-pub counted_coordinators : (body : Body) → is_counted body ≡ false → is_coordinators body ≡ false
-counted_coordinators (Client (TcBeginConf name tx)) none = absurd cc
-counted_coordinators (Client (TcKeyConf tx answer)) none = absurd cc
-counted_coordinators (Client (TcRollbackRep tx cause)) none = absurd cc
-counted_coordinators (Epoch (DiVerifyReq tx ops)) none = absurd cc
-counted_coordinators (Epoch (DiVerifyEnd tx)) none = absurd cc
-counted_coordinators (Chain (LqhKeyRef tx key cause)) none = none
-counted_coordinators body none = refl
 
 pub begin_coordinators : (tx : TxId) (body : Body) → is_coordinators body ≡ false → is_begin tx body ≡ false
 begin_coordinators tx (Client (TcBeginConf name other)) none = absurd cc

@@ -1,30 +1,25 @@
 -- Scales: what the blocks of a host weigh, with what they send and mark of a kind, grows in a step of the host by no
 -- more than where they take its signal.
-use Rattle.std.proofs.Common.{◌≡◌, ◌≤◌, ◌+◌, ◌||◌, ℕ, zero, suc, Bool, true, false, nat_lt, List, [], ◌∷◌, ap, arith}
-use Rattle.std.specs.List.{count_by, list_any}
-use Rattle.std.specs.Prelude.{not, Option, None, Some}
+use Rattle.std.proofs.Common.{◌≡◌, ◌≤◌, ◌+◌, ◌++◌, ℕ, zero, suc, Bool, false, List, [], ◌∷◌, ap, arith}
+use Rattle.std.specs.List.{count_by}
 use Rattle.sig_core.specs.declared.mark.Mark.{Mark}
 use Rattle.sig_core.specs.declared.mark.Mark.TheVariants.{CutOff, Installed, Stopped}
 use Rattle.sig_core.specs.declared.member.HostId.{HostId}
 use Rattle.sig_core.specs.declared.outcome.StopCause.{StopCause}
 use Rattle.sig_core.specs.declared.outs.Outgoing.{Outgoing}
 use Rattle.sig_core.specs.declared.signal.Body.{Body}
-use Rattle.sig_core.specs.declared.signal.Body.TheVariants.{Host}
 use Rattle.sig_core.specs.declared.signal.Signal.{Signal}
-use Rattle.sig_core.specs.declared.signal.host.HostSignal.TheVariants.{Closed, Cut, Kill}
 use Rattle.sig_core.specs.declared.view.View.{View}
-use Rattle.sig_core.specs.Step.{Effects, Step, joined}
-use Rattle.api_views.specs.Members.{same_member}
-use Rattle.node_views.specs.Blocks.{parts_entered, parts_row, settled_at}
+use Rattle.sig_core.specs.Step.{Effects, joined, nothing}
+use Rattle.node_views.specs.Blocks.{parts_entered, parts_row}
 use Rattle.node_views.specs.declared.host.Host as hosts
 use Rattle.node_views.specs.declared.parts.Parts.{Parts}
+use Rattle.node_views.specs.declared.standing.Standing.{Standing}
 use Rattle.node_views.specs.Replies.{giving}
-use Rattle.node_views.specs.Row.{blocks_row, closed_if, counted_row, cut_if, entered, entering_if, headed_if}
-use Rattle.node_views.specs.Row.{headed_row, host_row, host_table, hushed, is_barred, is_cut, is_excluded, is_stop}
-use Rattle.node_views.specs.Row.{kill_row, killed_after, marks_only, passed_if, passed_row, settle, standing_at}
-use Rattle.node_views.specs.Row.{taken_if, unless_stopped, with_parts}
-use Rattle.node_views.specs.WellFormed.{is_first, is_well_formed}
-use Rattle.world_views.specs.Machine.{own_stop, step_by, step_if, told}
+use Rattle.node_views.specs.Row.{cut_marks, marks_only}
+use Rattle.node_views.proofs.HostWalk.{Saying, StaysSo, TakesSo}
+use Rattle.world_views.specs.Machine.{step_by, told}
+use Rattle.world_views.proofs.StepWalk.{step_so}
 use Rattle.outcome_laws.specs.Counts.{count_sent, one_if}
 use Rattle.outcome_laws.proofs.coordinators.Lists.{count_both, count_more}
 
@@ -74,165 +69,89 @@ module _ (scale : Scale) (Q : Parts → Type 0) where
   }
 
   module _ (light : AreLight) where
-    quiet : (more : ℕ) (parts : Parts) → Q parts
-        → IsLight (scale.may parts + more) (record { sends = []; marks = [] }) parts
-    quiet more parts keeps = record { keeps = keeps; below = omega arith }
-
     unmarked : (mark : Mark) → scale.marked mark ≡ false → (more : List Mark)
         → count_marked scale.marked (mark ∷ more) ≡ count_marked scale.marked more
     unmarked mark none more =
         omega (arith, count_more scale.marked mark more, ap one_if none)
 
-    stopped : (more : ℕ) (cause : StopCause) (parts : Parts) → Q parts
-        → IsLight (scale.may parts + more) (marks_only (Stopped cause ∷ [])) parts
-    stopped more cause parts keeps = record {
-      keeps = keeps;
-      below = let none = unmarked (Stopped cause) (light.stops cause) [] in omega (arith, none);
+    -- what was sent and marked, with blocks behind it
+    abbrev AreWithin : ℕ → Saying
+    AreWithin limit standing parts sends marks = IsLight limit (record { sends = sends; marks = marks }) parts
+
+    -- also where the host marks something of its own behind it
+    marked : (limit : ℕ) (parts : Parts) (sends : List Outgoing) (marks more : List Mark)
+        → count_marked scale.marked more ≡ 0 → IsLight limit (record { sends = sends; marks = marks }) parts
+        → IsLight limit (record { sends = sends; marks = marks ++ more }) parts
+    marked limit parts sends marks more none is = record {
+      keeps = is.keeps;
+      below = let all = count_both scale.marked marks more in omega (arith, all, none, is.below);
+    }
+
+    cuts_none : (first : HostId) → count_marked scale.marked (cut_marks first) ≡ 0
+    cuts_none first =
+        let second : HostId = record { 0 = first.0 + 1 } in
+        let third : HostId = record { 0 = first.0 + 2 } in
+        let one = unmarked (CutOff first) (light.cuts first) (CutOff second ∷ CutOff third ∷ []) in
+        let two = unmarked (CutOff second) (light.cuts second) (CutOff third ∷ []) in
+        let three = unmarked (CutOff third) (light.cuts third) [] in
+        omega (arith, one, two, three)
+
+    stays : (limit : ℕ) → StaysSo (AreWithin limit)
+    stays limit = record {
+      counts = λ standing parts sends marks left so. so;
+      cuts = λ standing parts sends marks first so. marked limit parts sends marks _ (cuts_none first) so;
+      stops = λ standing parts sends marks cause so.
+          marked limit parts sends marks _ (unmarked (Stopped cause) (light.stops cause) []) so;
+      hushes = λ standing parts sends marks stops so.
+          record { keeps = so.keeps; below = let below = so.below in omega (arith, below) };
     }
 
     module _ (x : Signal) where
       abbrev gain : ℕ
       gain = one_if (scale.taken x.body)
 
-      module _ (s : hosts.Host) (keeps : Q s.parts) where
-        abbrev Rightly : Step hosts.Host → Type 0
-        Rightly t = IsLight (scale.may s.parts + one_if (scale.taken x.body)) t.effects t.state.parts
-
-        blocks_are : Rightly (blocks_row s x)
-        unfolding blocks_row entered
-        blocks_are = by (settled_at s.parts x)
-          where
-            row : IsLight (scale.may s.parts + one_if (scale.taken x.body)) (parts_row s.parts x).effects
-                (parts_row s.parts x).state
-            row = light.row s.parts x keeps
-
-            entering : (view : View)
-                → IsLight (scale.may (parts_row s.parts x).state + 0)
-                (parts_entered (parts_row s.parts x).state view).effects
-                (parts_entered (parts_row s.parts x).state view).state
-            entering view =
-                let enters = light.enters (parts_row s.parts x).state view row.keeps in
-                record { keeps = enters.keeps; below = omega (arith, enters.below) }
-
-            settles : (view : View)
-                → IsLight (scale.may s.parts + one_if (scale.taken x.body) + 0)
-                (joined (parts_row s.parts x).effects (parts_entered (parts_row s.parts x).state view).effects)
-                (parts_entered (parts_row s.parts x).state view).state
-            settles view =
-                both (scale.may s.parts + one_if (scale.taken x.body)) 0 (parts_row s.parts x).effects
-                (parts_entered (parts_row s.parts x).state view).effects (parts_row s.parts x).state
-                (parts_entered (parts_row s.parts x).state view).state row (entering view)
-
-            by : (o : Option View) → Rightly (settle (with_parts s (parts_row s.parts x)) o)
-            by None = row
-            by (Some view) =
-                let is = settles view in record { keeps = is.keeps; below = omega (arith, is.below) }
-
-        killed : (after : ℕ) → Rightly (kill_row s after)
-        killed zero = stopped gain _ s.parts keeps
-        killed (suc after) = quiet gain s.parts keeps
-
-        cut : (first : HostId) (b : Bool) → Rightly (cut_if s first b)
-        cut first true = quiet gain s.parts keeps
-        cut first false = record {
-          keeps = keeps;
-          below =
-              let second : HostId = record { 0 = first.0 + 1 } in
-              let third : HostId = record { 0 = first.0 + 2 } in
-              let one = unmarked (CutOff first) (light.cuts first) (CutOff second ∷ CutOff third ∷ []) in
-              let two = unmarked (CutOff second) (light.cuts second) (CutOff third ∷ []) in
-              let three = unmarked (CutOff third) (light.cuts third) [] in
-              omega (arith, one, two, three);
-        }
-
-        closed : (b : Bool) → Rightly (closed_if s x b)
-        closed true = stopped gain _ s.parts keeps
-        closed false = blocks_are
-
-        table_is : (body : Body) → Rightly (host_table s x body)
-        table_is (Host (Kill after)) = killed after
-        table_is (Host (Cut node first)) = cut first (is_cut s.standing first || not (is_first first))
-        table_is (Host (Closed cause)) = closed (same_member s.standing.member x.member)
-        table_is body = blocks_are
-
-        passed : Rightly (passed_row s x)
-        unfolding passed_row
-        passed = by (is_barred s x)
-          where
-            by : (b : Bool) → Rightly (passed_if s x b)
-            by true = quiet gain s.parts keeps
-            by false = table_is x.body
-
-      headed : (s : hosts.Host) (keeps : Q s.parts) → Rightly s keeps (headed_row s x)
-      unfolding headed_row entered
-      headed s keeps = by (nat_lt s.standing.view.number x.view.number)
-        where
-          behind : Parts
-          behind = (parts_entered s.parts x.view).state
-
-          installed : IsLight (scale.may s.parts + 0) (marks_only (Installed x.view ∷ [])) s.parts
-          installed = record {
-            keeps = keeps;
-            below = let none = unmarked (Installed x.view) (light.installs x.view) [] in omega (arith, none);
+      -- where blocks take the signal behind what was done before
+      taken : (limit : ℕ) (standing : Standing) (parts : Parts) (before : Effects) → IsLight limit before parts
+          → TakesSo (AreWithin (limit + one_if (scale.taken x.body))) x standing parts before.sends before.marks
+      taken limit standing parts before was =
+          let row = light.row parts x was.keeps in
+          let now = (parts_row parts x).state in
+          let does = (parts_row parts x).effects in record {
+            row = λ none. both limit gain before does parts now was row;
+            settles = λ view at.
+                let enters = light.enters now view row.keeps in
+                let later = parts_entered now view in
+                let all =
+                both (scale.may parts + gain) 0 does later.effects now later.state row
+                (record { keeps = enters.keeps; below = omega (arith, enters.below) }) in
+                both limit gain before (joined does later.effects) parts later.state was
+                (record { keeps = all.keeps; below = omega (arith, all.below) });
           }
 
-          entering : IsLight (scale.may s.parts + 0) (parts_entered s.parts x.view).effects behind
-          entering =
-              let enters = light.enters s.parts x.view keeps in
-              record { keeps = enters.keeps; below = omega (arith, enters.below) }
-
-          enters : Rightly s keeps (entering_if s x false)
-          enters =
-              let first =
-              both (scale.may s.parts + 0) 0 (marks_only (Installed x.view ∷ []))
-              (parts_entered s.parts x.view).effects s.parts behind installed entering in
-              let all =
-              both (scale.may s.parts + 0 + 0) gain
+      step_is : (h : ℕ) (s : hosts.Host) → Q s.parts
+          → IsLight (scale.may s.parts + one_if (scale.taken x.body)) (step_by h s x).effects (step_by h s x).state.parts
+      step_is h s keeps =
+          step_so (AreWithin (scale.may s.parts + one_if (scale.taken x.body))) x h s (record {
+            own = stays (scale.may s.parts + gain);
+            stays = record { keeps = keeps; below = omega arith };
+            goes = λ sound old barred left.
+                taken (scale.may s.parts) _ s.parts nothing (record { keeps = keeps; below = omega arith });
+            enters = λ sound newer among left.
+                record { keeps = entering.keeps; below = omega (arith, entering.below) };
+            behind = λ sound newer among barred left. taken (scale.may s.parts) _ _ _ entering;
+          })
+        where
+          entering : IsLight (scale.may s.parts)
               (joined (marks_only (Installed x.view ∷ [])) (parts_entered s.parts x.view).effects)
-              (passed_row (entered s x.view).state x).effects behind
-              (passed_row (entered s x.view).state x).state.parts first
-              (passed (entered s x.view).state entering.keeps) in
-              record { keeps = all.keeps; below = omega (arith, all.below) }
-
-          unless_excluded : (b : Bool) → Rightly s keeps (entering_if s x b)
-          unless_excluded true = stopped gain _ s.parts keeps
-          unless_excluded false = enters
-
-          by : (b : Bool) → Rightly s keeps (headed_if s x b)
-          by true = unless_excluded (is_excluded s.standing x.view)
-          by false = passed s keeps
-
-      counted : (s : hosts.Host) (keeps : Q s.parts) (left : Option ℕ) → Rightly s keeps (counted_row s x left)
-      counted s keeps None = headed s keeps
-      counted s keeps (Some zero) = stopped gain _ s.parts keeps
-      counted s keeps (Some (suc zero)) = stopped gain _ s.parts keeps
-      counted s keeps (Some (suc (suc left))) = headed (standing_at s (killed_after s.standing (Some (suc left)))) keeps
-
-      hushes : (s : hosts.Host) (keeps : Q s.parts) (step : Step hosts.Host) → Rightly s keeps step
-          → Rightly s keeps (hushed step)
-      hushes s keeps step is = record { keeps = is.keeps; below = by (list_any is_stop step.effects.marks) }
-        where
-          by : (b : Bool)
-              → count_marked scale.marked step.effects.marks
-              + (count_sent scale.sent (unless_stopped step.effects.sends b) + scale.may step.state.parts)
-              ≤ scale.may s.parts + one_if (scale.taken x.body)
-          by true = let below = is.below in omega (arith, below)
-          by false = is.below
-
-      row_is : (s : hosts.Host) (keeps : Q s.parts) → Rightly s keeps (host_row s x)
-      unfolding host_row
-      row_is s keeps = by (is_well_formed s.standing.shape x)
-        where
-          by : (b : Bool) → Rightly s keeps (taken_if s x b)
-          by true = hushes s keeps (counted_row s x s.standing.left) (counted s keeps s.standing.left)
-          by false = quiet gain s.parts keeps
-
-      step_is : (h : ℕ) (s : hosts.Host) (keeps : Q s.parts) → Rightly s keeps (step_by h s x)
-      step_is h s keeps = by (own_stop h x)
-        where
-          by : (o : Option StopCause) → Rightly s keeps (step_if s x o)
-          by (Some cause) = stopped gain cause s.parts keeps
-          by None = row_is s keeps
+              (parts_entered s.parts x.view).state
+          entering =
+              let enters = light.enters s.parts x.view keeps in record {
+                keeps = enters.keeps;
+                below =
+                    let none =
+                    unmarked (Installed x.view) (light.installs x.view) (parts_entered s.parts x.view).effects.marks in
+                    omega (arith, none, enters.below);
+              }
 
       -- also behind the replies that are told
       pub step_light : (h : ℕ) (s : hosts.Host) → Q s.parts

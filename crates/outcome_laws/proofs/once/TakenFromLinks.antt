@@ -23,9 +23,6 @@ abbrev pub AreSentOnly : (Body → Bool) → Type 0
 AreSentOnly p = (body : Body) → is_own_work body ≡ true → p body ≡ false
 
 module _ (p : Body → Bool) where
-  abbrev passes : Addressed → Bool
-  passes x = p x.signal.body
-
   past_count : (xs ys : List Addressed) → IsPast xs ys → count_on p xs ≤ count_on p ys
   past_count xs ys past =
       omega (arith, ap (count_on p) past.is, count_both (λ (x : Addressed). p x.signal.body) past.newer xs)
@@ -95,9 +92,6 @@ module _ (p : Body → Bool) where
         where
           from : ℕ
           from = e.step.taken.from.0
-
-          Few : Bool → Type 0
-          Few b = one_if b + takes_in p log ≤ count_on p (taken (machine start) c (e ∷ log))
 
           by : (b : Bool) → p e.step.taken.body ≡ b → (e.step.taken.from.0 ≡ c) ⊎ (e.step.taken.from.0 ≢ c)
               → takes_in p log ≤ count_on p (taken (machine start) c log)

@@ -1,9 +1,9 @@
 -- Events up to a step of a host, and what was decided up to it.
-use Rattle.std.proofs.Common.{◌≡◌, ◌≢◌, ◌⊎◌, ◌∙◌, ◌++◌, ℕ, List, [], ◌∷◌, refl, sym, ap, subst, inl, inr}
-use Rattle.std.proofs.lemmas.Bool.{cases_eq}
+use Rattle.std.proofs.Common.{◌≡◌, ◌⊎◌, ◌++◌, ℕ, List, [], ◌∷◌, refl, sym, ap, subst, inl, inr}
 use Rattle.run_theory.proofs.Pasts.{past_more, past_self, past_trans}
-use Rattle.run_theory.proofs.Runs.{log_of-other, log_of-own}
+use Rattle.run_theory.proofs.Runs.{log_of-own}
 use Rattle.run_theory.specs.Lists.{IsIn, IsPast}
+use Rattle.run_theory.proofs.EventCases.{event_cases, event_keeps}
 use Rattle.sig_core.specs.declared.entry.Entry.{Entry}
 use Rattle.sig_core.specs.declared.mark.Mark.{Mark}
 use Rattle.sig_core.specs.declared.mark.Mark.TheVariants.{Decided}
@@ -65,17 +65,10 @@ module _ (start : Start) where
       (entry_decided a es)
     where
       more : IsDecidedThere a (logs_of start es) → IsDecidedThere a (logs_of start (e ∷ es))
-      more older = record { host = older.host; is = at (cases_eq e.host older.host) }
-        where
-          at : (e.host ≡ older.host) ⊎ (e.host ≢ older.host)
-              → IsMarked (Decided a.tx a.epoch) (logs_of start (e ∷ es) older.host)
-          at (inl same) =
-              subst (IsMarked (Decided a.tx a.epoch)) (sym (log_of-own (machine start) e es older.host same))
-              (inr older.is)
-          at (inr other) =
-              subst (IsMarked (Decided a.tx a.epoch)) (sym (log_of-other (machine start) e es older.host other))
-              older.is
-
+      more older = record {
+        host = older.host;
+        is = event_keeps (machine start) e es (λ h. IsMarked (Decided a.tx a.epoch)) (λ was. inr was) older.host older.is;
+      }
       by : IsIn (Decided a.tx a.epoch) e.step.marks ⊎ IsIn a (decisions start es)
           → (IsIn a (decisions start es) → IsDecidedThere a (logs_of start es))
           → IsDecidedThere a (logs_of start (e ∷ es))
@@ -99,7 +92,10 @@ module _ (start : Start) where
   pub events_up_to : (h : ℕ) (step : HostStep) (log newer es : List HostStep)
       → logs_of start es h ≡ newer ++ step ∷ log → IsUpTo h step log es
   events_up_to h step log newer [] is = absurd (nothing_split step newer log is)
-  events_up_to h step log newer (e ∷ es) is = by (cases_eq e.host h) (λ newer is. events_up_to h step log newer es is)
+  events_up_to h step log newer (e ∷ es) is =
+      event_cases (machine start) e es h (λ all. all ≡ newer ++ step ∷ log → IsUpTo h step log (e ∷ es))
+      (λ at is. own newer is (λ newer is. events_up_to h step log newer es is))
+      (λ other is. more (events_up_to h step log newer es is)) is
     where
       more : IsUpTo h step log es → IsUpTo h step log (e ∷ es)
       more up = record {
@@ -117,12 +113,6 @@ module _ (start : Start) where
           let same : logs_of start es h ≡ log = cc in
           record { newer = []; before = es; is = ap (λ (f : HostStep). f ∷ es) first; older = same }
       own (f ∷ newer) is rest = let same : logs_of start es h ≡ newer ++ step ∷ log = cc in more (rest newer same)
-
-      by : (e.host ≡ h) ⊎ (e.host ≢ h)
-          → ((newer : List HostStep) → logs_of start es h ≡ newer ++ step ∷ log → IsUpTo h step log es)
-          → IsUpTo h step log (e ∷ es)
-      by (inl at) rest = own newer (sym (log_of-own (machine start) e es h at) ∙ is) rest
-      by (inr other) rest = more (rest newer (sym (log_of-other (machine start) e es h other) ∙ is))
 
   -- a moment before
   pub moment_before : (all : ℕ → List HostStep) (newer es : List HostStep) → IsMoment start all (newer ++ es)

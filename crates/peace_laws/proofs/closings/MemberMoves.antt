@@ -68,9 +68,6 @@ serving_is t none =
     (ap (λ (held : List TxId). gives t.state && nat_lt 0 (length held)) none ∙ and_right (gives t.state) false refl)
 
 module _ (c : Course) (d : DihState) (member : IsMember c d) (from : ℕ) where
-  same_at : (t : DihState) → t.current ≡ d.current → t.next ≡ d.next → HasGoneOn c d → HasGoneOn c t
-  same_at t current next gone = (current ∙ gone.0, next ∙ gone.1)
-
   prepares : (epoch next : ℕ) → next ≡ c.next
       → EpochsMove c from (order.Prepare epoch next) d (prepare_row d from epoch next)
   unfolding prepare_row

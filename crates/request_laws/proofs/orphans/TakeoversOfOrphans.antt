@@ -1,10 +1,9 @@
 -- At each moment takeovers are told only of transactions whose coordinator isn't a full member of the view, and have
 -- gathered only such.
-use Rattle.std.proofs.Common.{◌≡◌, ◌≢◌, ◌⊎◌, ◌++◌, ℕ, true, List, [], ◌∷◌, inl, inr, refl, sym, ap, ◌∙◌, subst, ⊎_elim}
-use Rattle.std.proofs.lemmas.Bool.{cases_eq}
+use Rattle.std.proofs.Common.{◌≡◌, ◌⊎◌, ◌++◌, ℕ, true, List, [], ◌∷◌, inl, inr, refl, sym, ap, ◌∙◌, subst, ⊎_elim}
 use Rattle.run_theory.specs.Lists.{Each, IsIn}
 use Rattle.run_theory.proofs.Pasts.{each_append, each_map}
-use Rattle.run_theory.proofs.Runs.{log_of-other, log_of-own}
+use Rattle.run_theory.proofs.EventCases.{event_cases}
 use Rattle.sig_core.specs.declared.member.Member.{Member}
 use Rattle.sig_core.specs.declared.outs.Outgoing.{Outgoing}
 use Rattle.sig_core.specs.declared.place.BlockId.{BlockId}
@@ -202,17 +201,9 @@ module _ (start : Start) where
           at behind
 
       gathered_next : (member : Member) → IsIn member (made start) → HasOrphans member (new (tc_of start member))
-      gathered_next member there = by (cases_eq e.host (tc_of start member))
-        where
-          by : (e.host ≡ tc_of start member) ⊎ (e.host ≢ tc_of start member)
-              → HasOrphans member (new (tc_of start member))
-          by (inl at) =
-              subst (HasOrphans member) (sym (log_of-own (machine start) e es (tc_of start member) at))
-              (gathered_own member there at)
-          by (inr other) =
-              subst (HasOrphans member) (sym (log_of-other (machine start) e es (tc_of start member) other))
-              (own.gathered member there)
-
+      gathered_next member there =
+          event_cases (machine start) e es (tc_of start member) (HasOrphans member) (gathered_own member there)
+          (λ other. own.gathered member there)
       -- and what its host sends
       both_tell : (front rest : List Outgoing) → AreOrphans view front → AreOrphans view rest
           → (sends ≡ front ++ rest) ⊎ (sends ≡ []) → AreOrphans view sends

@@ -4,13 +4,14 @@ use Rattle.std.proofs.lemmas.Bool.{cases_eq, cases_lt}
 use Rattle.run_theory.proofs.LinkFacts.{stamps_rise}
 use Rattle.run_theory.proofs.Links.{sent_by_each, stamps_below, step_above}
 use Rattle.run_theory.proofs.Pasts.{each_append, each_in, each_map, entry_past, in_past, past_cases}
-use Rattle.run_theory.proofs.Runs.{log_of-other, log_of-own}
+use Rattle.run_theory.proofs.Runs.{log_of-own}
 use Rattle.run_theory.specs.LinkLaws.{IsSentBy}
 use Rattle.run_theory.specs.Links.{sent_by}
 use Rattle.run_theory.specs.Lists.{Each, HasEntry, IsIn, IsPast}
 use Rattle.run_theory.specs.Logs.{IsLog}
 use Rattle.run_theory.specs.Machine.{Machine}
 use Rattle.run_theory.specs.Runs.{Happens}
+use Rattle.run_theory.proofs.EventCases.{event_cases}
 use Rattle.sig_core.specs.declared.mark.Mark.TheVariants.{Decided}
 use Rattle.sig_core.specs.declared.member.Member.{Member}
 use Rattle.sig_core.specs.declared.member.TxId.{TxId}
@@ -358,13 +359,6 @@ module _ (start : Start) (all : ℕ → List HostStep) (member : Member) (there 
       → Heard start member (logs_of start es (tc_of start member))
   heard_at [] moment = tt
   heard_at (e ∷ es) moment =
-      by (cases_eq e.host (tc_of start member)) (heard_at es (moment_less start all e es moment))
-    where
-      by : (e.host ≡ tc_of start member) ⊎ (e.host ≢ tc_of start member)
-          → Heard start member (logs_of start es (tc_of start member))
-          → Heard start member (logs_of start (e ∷ es) (tc_of start member))
-      by (inl at) heard =
-          subst (Heard start member) (sym (log_of-own (machine start) e es (tc_of start member) at))
-          (step_heard e es moment at, heard)
-      by (inr other) heard =
-          subst (Heard start member) (sym (log_of-other (machine start) e es (tc_of start member) other)) heard
+      let heard = heard_at es (moment_less start all e es moment) in
+      event_cases (machine start) e es (tc_of start member) (Heard start member)
+      (λ at. (step_heard e es moment at, heard)) (λ other. heard)

@@ -236,9 +236,6 @@ module _ (member : Member) (s : CoordinatorState) (of : IsCoordinatorOf member s
   last : (begun s.tc).live ≡ s.tc.live ++ (next_tx s.tc, fresh) ∷ []
   last = put_last s.tc.live (next_tx s.tc) fresh others
 
-  next_member : coordinator_member (next_tx s.tc) ≡ member
-  next_member = λ i. record { node = of.node_is i; start = of.start_is i }
-
   -- another one of the member has another number
   other_number : same_tx (next_tx s.tc) tx ≡ false → coordinator_member tx ≡ member → s.tc.next_seq ≡ tx.seq → ⊥
   other_number off own same =

@@ -41,7 +41,7 @@ use Rattle.request_laws.specs.Replicas.{event_under}
 use Rattle.request_laws.proofs.replicas.KeyEvents.{installations_are_events, installations_keep_well, signals_are_events, signals_keep_well}
 use Rattle.request_laws.proofs.replicas.AlongLogs.{always, first_rows, first_well}
 use Rattle.request_laws.specs.Waiting.{AreAttended, EventsKeepAttended, EventsKeepRequests, HaveRequests}
-use Rattle.request_laws.specs.Waiting.{InstallationsKeepAttended, InstallationsKeepRequests, InstalledAreAttended}
+use Rattle.request_laws.specs.Waiting.{InstalledAreAttended}
 use Rattle.request_laws.specs.Waiting.{SignalsKeepAttended, WaitsHaveRequests}
 
 -- what is so of each wait, whatever its mode and its rounds
@@ -222,9 +222,6 @@ events_keep_requests (expires tx) r all = expire_has r all tx
 events_keep_requests (ages None) r all = age_has r all
 events_keep_requests (ages (Some tx)) r all = expire_has (ageing r) (age_has r all) tx
 
-pub installations_keep_requests : InstallationsKeepRequests
-installations_keep_requests stays r = tt
-
 -- one request of a transaction at a time
 
 abbrev Attended : RowLock → List Request → Type 0
@@ -325,9 +322,6 @@ events_keep_attended (expires tx) r orderly one all = expire_attends r orderly a
 events_keep_attended (ages None) r orderly one all = age_attends r orderly all
 events_keep_attended (ages (Some tx)) r orderly one all =
     expire_attends (ageing r) (grown_old_orderly r.lock orderly) (age_attends r orderly all) tx
-
-pub installations_keep_attended : InstallationsKeepAttended
-installations_keep_attended stays r = record { attended = tt; alone = tt }
 
 pub signals_keep_attended : SignalsKeepAttended
 signals_keep_attended s x key well one all =

@@ -1,11 +1,12 @@
 -- What an event adds to what transactions were asked for, and driven, in a view: at the host of their coordinator, what
 -- it
 -- sends in this view, and elsewhere nothing.
-use Rattle.std.proofs.Common.{◌≡◌, ◌≢◌, ◌⊎◌, ◌==◌, ◌||◌, ◌&&◌, ℕ, Bool, true, false, List, [], ◌∷◌, inl, inr, refl, sym, ap, ◌∙◌, subst}
-use Rattle.std.proofs.lemmas.Bool.{cases_eq, eq-eqb, true≢false}
+use Rattle.std.proofs.Common.{◌≡◌, ◌⊎◌, ◌==◌, ◌||◌, ◌&&◌, ℕ, Bool, true, false, List, [], ◌∷◌, inl, inr, refl, sym, ap, ◌∙◌, subst}
+use Rattle.std.proofs.lemmas.Bool.{eq-eqb, true≢false}
 use Rattle.run_theory.specs.Lists.{Each, IsIn}
 use Rattle.run_theory.proofs.Pasts.{each_from, each_in}
-use Rattle.run_theory.proofs.Runs.{log_of-other, log_of-own}
+use Rattle.run_theory.proofs.Runs.{log_of-own}
+use Rattle.run_theory.proofs.EventCases.{event_keeps}
 use Rattle.sig_core.specs.declared.member.Member.{Member}
 use Rattle.sig_core.specs.declared.member.TxId.{TxId}
 use Rattle.sig_core.specs.declared.outs.Outgoing.{Outgoing}
@@ -70,12 +71,7 @@ module _ (start : Start) (e : HostStep) (es : List HostStep) where
 
   -- what is so of a log, and stays so, stays so behind the event
   more : (P : List HostStep → Type 0) → ((log : List HostStep) → P log → P (e ∷ log)) → (h : ℕ) → P (old h) → P (new h)
-  more P stays h was = by (cases_eq e.host h)
-    where
-      by : (e.host ≡ h) ⊎ (e.host ≢ h) → P (new h)
-      by (inl at) = subst P (sym (log_of-own (machine start) e es h at)) (stays (old h) was)
-      by (inr other) = subst P (sym (log_of-other (machine start) e es h other)) was
-
+  more P stays = event_keeps (machine start) e es (λ h. P) (stays (old e.host))
   sent_stays : (member : Member) (p : Body → Bool) (number : ℕ) (log : List HostStep)
       → was_sent_in start member p number log ≡ true → was_sent_in start member p number (e ∷ log) ≡ true
   sent_stays member p number log was = or_right _ (was_sent_in start member p number log) was

@@ -1,5 +1,5 @@
 -- The requests and commits that a turn of a transaction sends are its own.
-use Rattle.std.proofs.Common.{◌≡◌, ◌||◌, Bool, true, false, List, [], ◌∷◌, length, nat_lt, refl, ap, ◌∙◌, subst}
+use Rattle.std.proofs.Common.{◌≡◌, ◌||◌, Bool, true, false, List, [], ◌∷◌, refl, ap, ◌∙◌, subst}
 use Rattle.std.proofs.lemmas.Bool.{true≢false}
 use Rattle.std.specs.Prelude.{not, ℕ}
 use Rattle.run_theory.specs.Lists.{Each}
@@ -11,7 +11,6 @@ use Rattle.sig_core.specs.declared.signal.Body.{Body}
 use Rattle.sig_core.specs.declared.signal.Body.TheVariants.{Chain}
 use Rattle.sig_core.specs.declared.signal.chain.ChainSignal.TheVariants.{Commit, LqhKeyReq}
 use Rattle.sig_core.specs.declared.signal.Signal.{Signal}
-use Rattle.sig_core.specs.declared.view.View.{View}
 use Rattle.sig_core.specs.Same.{same_tx}
 use Rattle.sig_core.proofs.Keys.{same_tx-self}
 use Rattle.sig_core.proofs.TxLemmas.{same_tx-is, same_tx-swap}
@@ -24,7 +23,6 @@ use Rattle.tc_block.proofs.EachTurn.{RowsAre, rows_of}
 use Rattle.tc_block.proofs.LiveSplit.{Split}
 use Rattle.tc_views.specs.Coordinator.{coordinator_row}
 use Rattle.tc_views.specs.State.{CoordinatorState, go_on_if}
-use Rattle.tc_views.specs.Views.{install_row, tasks_at}
 use Rattle.outcome_laws.specs.Counts.{coordinator_member}
 use Rattle.outcome_laws.proofs.coordinators.Steps.{ResumeForms, coordinator_each}
 use Rattle.request_laws.specs.Drives.{is_commit, is_request}
@@ -158,8 +156,3 @@ module _ (member : Member) where
           (each_after (λ (e : TxId × Transaction). coordinator_member e.0 ≡ member) split.front
           ((tx, t) ∷ split.back)
           (subst (Each (λ (e : TxId × Transaction). coordinator_member e.0 ≡ member)) split.is own)).0
-
-  -- and where a view is installed it does neither
-  pub installs_of_member : (s : CoordinatorState) (view : View) → AreOfMember member (install_row s view).effects.sends
-  unfolding install_row
-  installs_of_member s view = more_of s.tc.node (nat_lt 0 (length (tasks_at s view.number)))

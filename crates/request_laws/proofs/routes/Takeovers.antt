@@ -22,7 +22,7 @@ use Rattle.takeover_block.specs.declared.stage.Stage.TheVariants.{Resting, Gathe
 use Rattle.takeover_block.specs.Gathered.{first_of, noted, told_epoch, told_first, told_more}
 use Rattle.takeover_block.specs.Rule.{entering, finishing, ruling, ruling_by, way_of}
 use Rattle.takeover_block.specs.Sends.{abort_at, ask_effects, ask_of, asks_of, front_sends, key_sends, key_sends_along, stage_effects, stage_sends}
-use Rattle.takeover_block.specs.State.{TakeoverState, in_view, with_gathered}
+use Rattle.takeover_block.specs.State.{TakeoverState, with_gathered}
 use Rattle.takeover_block.specs.Takeover.{takeover_row}
 use Rattle.takeover_block.proofs.EachTakeover.{takeover_each}
 use Rattle.takeover_block.proofs.LawLemmas.{first_found}
@@ -98,10 +98,6 @@ module _ (D : TxId → Type 0) where
         all_abort = λ tx key g n is first at last. finishes_stay s all;
         goes_on = λ tx place g is due at first. all;
       })
-
-  -- and of a view that is installed it has gathered nothing
-  pub none_gathered : (s : TakeoverState) (view : View) → GatheredAre D (in_view s view)
-  none_gathered s view = tt
 
 module _ (layout : Layout) (A D G : TxId → Type 0) (some : ChainsAreSome layout) where
   abbrev IsSent : Outgoing → Type 0

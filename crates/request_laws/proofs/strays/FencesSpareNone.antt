@@ -1,13 +1,14 @@
 -- A coordinator that is fenced above its view is so by a set that its member has promised, to which all keep that are
 -- undecided, aren't doomed and have no operation unanswered.
-use Rattle.std.proofs.Common.{◌≡◌, ◌≢◌, ◌⊎◌, ◌≤◌, ◌<◌, ℕ, true, List, [], ◌∷◌, sym, subst, arith, inl, inr}
-use Rattle.std.proofs.lemmas.Bool.{cases_eq, cases_lt}
+use Rattle.std.proofs.Common.{◌≡◌, ◌⊎◌, ◌≤◌, ◌<◌, ℕ, true, List, [], ◌∷◌, subst, arith, inl, inr}
+use Rattle.std.proofs.lemmas.Bool.{cases_lt}
 use Rattle.frag_map.specs.Layout.{first_layout}
 use Rattle.run_theory.proofs.Links.{put_each, sent_by_each}
 use Rattle.run_theory.proofs.Pasts.{in_past, past_less, past_self}
 use Rattle.run_theory.proofs.Runs.{log_of-past}
 use Rattle.run_theory.specs.Links.{sent, sent_by}
 use Rattle.run_theory.specs.Lists.{Each, IsIn, IsPast}
+use Rattle.run_theory.proofs.EventCases.{event_cases}
 use Rattle.sig_core.specs.declared.member.Member.{Member}
 use Rattle.sig_core.specs.declared.place.BlockId.TheVariants as block
 use Rattle.sig_core.specs.declared.place.Part.TheVariants.{Tc}
@@ -29,7 +30,6 @@ use Rattle.moment_laws.specs.Moments.{IsMoment, logs_of}
 use Rattle.moment_laws.specs.Places.{tc_of}
 use Rattle.moment_laws.proofs.MomentHosts.{part_some}
 use Rattle.moment_laws.proofs.MomentSignals.{taken_told}
-use Rattle.moment_laws.proofs.MomentTurns.{other_log, own_log}
 use Rattle.moment_laws.proofs.MomentViews.{moment_less, moment_within}
 use Rattle.request_laws.specs.Strays.{FencesSpareNoStrays}
 use Rattle.request_laws.proofs.strays.Numbers.{begins_standing, stands_of}
@@ -98,24 +98,16 @@ module _ (start : Start) (all : ℕ → List HostStep) where
     pub stands_at : (es : List HostStep) → IsMoment start all es → StandsAt es (logs_of start es h)
     stands_at [] moment = begins_standing (Asked []) start member there
     stands_at (e ∷ es) moment =
-        by (cases_eq e.host (tc_of start member)) (stands_at es (moment_less start all e es moment))
+        let before = stands_at es (moment_less start all e es moment) in
+        event_cases (machine start) e es h (StandsAt (e ∷ es))
+        (λ at.
+        more (e ∷ logs_of start es h)
+        (step_stands (Asked es) start h (part_some start Tc member) (logs_of start es h) e (asks e es moment at) before))
+        (λ other. more (logs_of start es h) before)
       where
         more : (log : List HostStep) → StandsAt es log → StandsAt (e ∷ es) log
         more log = stands_more (Asked es) (Asked (e ∷ es)) (asked_more e es moment) (view_after start h log)
             (after start h log).parts
-
-        by : (e.host ≡ tc_of start member) ⊎ (e.host ≢ tc_of start member) → StandsAt es (logs_of start es h)
-            → StandsAt (e ∷ es) (logs_of start (e ∷ es) h)
-        by (inl at) before =
-            let log : logs_of start (e ∷ es) h ≡ e ∷ logs_of start es h =
-            subst (λ k. logs_of start (e ∷ es) k ≡ e ∷ logs_of start es k) at (own_log start all e es moment) in
-            subst (StandsAt (e ∷ es)) (sym log)
-            (more (e ∷ logs_of start es h)
-            (step_stands (Asked es) start h (part_some start Tc member) (logs_of start es h) e (asks e es moment at)
-            before))
-        by (inr other) before =
-            subst (StandsAt (e ∷ es)) (sym (other_log start all e es moment h other))
-            (more (logs_of start es h) before)
 
 pub fences_spare : FencesSpareNoStrays
 fences_spare start all es moment member there high =

@@ -1,13 +1,13 @@
 -- The view of a signal that a host takes was installed before: in right logs in which the host is about to take it.
-use Rattle.std.proofs.Common.{◌≡◌, ◌≢◌, ◌⊎◌, ℕ, List, ◌∷◌, subst, inl, inr}
-use Rattle.std.proofs.lemmas.Bool.{cases_eq}
+use Rattle.std.proofs.Common.{◌≡◌, ◌⊎◌, ℕ, List, ◌∷◌, subst, inl, inr}
 use Rattle.frag_map.specs.Shape.{IsShape}
 use Rattle.run_theory.proofs.Along.{along_signals_of_logs}
 use Rattle.run_theory.proofs.Pasts.{past_cases}
-use Rattle.run_theory.proofs.Runs.{log_of-other, log_of-own, logs_of_run}
+use Rattle.run_theory.proofs.Runs.{logs_of_run}
 use Rattle.run_theory.specs.Along.{Comes, IsKept}
 use Rattle.run_theory.specs.Lists.{IsPast}
 use Rattle.run_theory.specs.Runs.{IsWithin, log_of}
+use Rattle.run_theory.proofs.EventCases.{event_cases}
 use Rattle.sig_core.specs.declared.view.View.{View}
 use Rattle.world_core.specs.Hosts.{hosts}
 use Rattle.world_core.specs.Start.{Start}
@@ -65,7 +65,9 @@ module _ (start : Start) (shape : IsShape start.shape) where
     }
 
     headed_next : AreHeaded (log_of (machine start) (e ∷ es))
-    headed_next within h log f past = by (cases_eq e.host h)
+    headed_next within h log f =
+        event_cases (machine start) e es h (λ all. IsPast (f ∷ log) all → IsHeaded start h log f.step.taken.view)
+        (λ at past. own (past_cases e past)) (λ other. before)
       where
         before : IsPast (f ∷ log) (log_of (machine start) es h) → IsHeaded start h log f.step.taken.view
         before = come.all.law.1 (within_less start e es within) h log f
@@ -74,10 +76,6 @@ module _ (start : Start) (shape : IsShape start.shape) where
             → IsHeaded start h log f.step.taken.view
         own (inl is) = now_headed within h log f is
         own (inr older) = before older
-
-        by : (e.host ≡ h) ⊎ (e.host ≢ h) → IsHeaded start h log f.step.taken.view
-        by (inl at) = own (past_cases e (subst (IsPast (f ∷ log)) (log_of-own (machine start) e es h at) past))
-        by (inr other) = before (subst (IsPast (f ∷ log)) (log_of-other (machine start) e es h other) past)
 
   both_kept : IsKept (machine start) (HasInstalled start) AreBoth
   both_kept = record {

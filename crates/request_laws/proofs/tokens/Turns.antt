@@ -79,11 +79,6 @@ module _ (node : ℕ) (layout : Layout) (tx : TxId) where
   right_none : (asked : Option Asked) (phase : Phase) → asked ≡ None → is_right asked phase ≡ true
   right_none asked phase none = ap (λ o. is_right o phase) none
 
-  right_aborting : (asked : Option Asked) (why : AbortCause) (verifying : Bool) (awaited : ℕ)
-      → is_right asked (Aborting why verifying awaited) ≡ true
-  right_aborting None why verifying awaited = refl
-  right_aborting (Some a) why verifying awaited = refl
-
   -- in these phases nothing is unanswered
   verifying_none : (asked : Option Asked) (phase : Phase) → is_right asked phase ≡ true → phase ≡ Verifying
       → asked ≡ None

@@ -63,7 +63,7 @@ has_is_seen = record {
 }
 
 module _ (start : Start) where
-  still : (h : ℕ) (log : List HostStep)
+  pub still : (h : ℕ) (log : List HostStep)
       → has_coordinator (after start h log).parts ≡ has_coordinator (started start h).parts
   still h log =
       log_goes no_block has_seen the_same has_is_seen start h log

@@ -3,7 +3,7 @@ use Rattle.std.proofs.Common.{◌≡◌, ◌≢◌, ◌⊎◌, ◌≤◌, ◌<�
 use Rattle.std.proofs.lemmas.Bool.{cases_eq, cases_lt, eq-eqb, eqb-true, ltb-true, ne_eqb, true≢false}
 use Rattle.std.proofs.lemmas.Bool.Decides.{nat_tests}
 use Rattle.frag_map.specs.Shape.{IsShape}
-use Rattle.run_theory.proofs.Runs.{log_of-other, log_of-own, logs_of_run}
+use Rattle.run_theory.proofs.Runs.{logs_of_run}
 use Rattle.run_theory.specs.Lists.{Each}
 use Rattle.run_theory.specs.Logs.{IsLog}
 use Rattle.run_theory.specs.Machine.{Machine}
@@ -19,6 +19,7 @@ use Rattle.world_core.specs.Start.{Start}
 use Rattle.world_core.specs.Steps.{Addressed, HostStep}
 use Rattle.view_laws.specs.Order.{EntriesStandInOrder, by_views, decisions, entries_along, era, sound_machine}
 use Rattle.run_theory.specs.Ranks.{IsByRank, in_order}
+use Rattle.run_theory.proofs.EventCases.{event_cases}
 use Rattle.view_laws.proofs.eras.Deciders.{decides_here}
 use Rattle.view_laws.proofs.eras.DecisionMarks.{IsUndecided}
 use Rattle.view_laws.proofs.eras.Order.{run_in_views}
@@ -107,19 +108,14 @@ module _ (start : Start) where
   -- the entries of a host are those of its log
   own_decisions : (h : ℕ) (es : List HostStep) → of_host h (decisions start es) ≡ entries_of h (log_of n es h)
   own_decisions h [] = refl
-  own_decisions h (e ∷ es) = by (cases_eq e.host h) (own_decisions h es)
-    where
-      by : (e.host ≡ h) ⊎ (e.host ≢ h) → of_host h (decisions start es) ≡ entries_of h (log_of n es h)
-          → of_host h (decisions start (e ∷ es)) ≡ entries_of h (log_of n (e ∷ es) h)
-      by (inl same) rest =
-          own_step e.host e.step.stamp (log_with e es) h same e.step.marks (decisions start es)
-          ∙ ap (entries_in e.host e.step.stamp (log_with e es) e.step.marks) rest
-          ∙ ap (λ k. entries_in k e.step.stamp (e ∷ log_of n es k) e.step.marks (entries_of h (log_of n es h))) same
-          ∙ sym (ap (entries_of h) (log_of-own n e es h same))
-      by (inr apart) rest =
-          other_step e.host e.step.stamp (log_with e es) h apart e.step.marks (decisions start es)
-          ∙ rest ∙ sym (ap (entries_of h) (log_of-other n e es h apart))
-
+  own_decisions h (e ∷ es) =
+      let rest = own_decisions h es in
+      event_cases n e es h (λ log. of_host h (decisions start (e ∷ es)) ≡ entries_of h log)
+      (λ same.
+      own_step e.host e.step.stamp (log_with e es) h same e.step.marks (decisions start es)
+      ∙ ap (entries_in e.host e.step.stamp (log_with e es) e.step.marks) rest
+      ∙ ap (λ k. entries_in k e.step.stamp (e ∷ log_of n es k) e.step.marks (entries_of h (log_of n es h))) same)
+      (λ apart. other_step e.host e.step.stamp (log_with e es) h apart e.step.marks (decisions start es) ∙ rest)
   -- the view of the entries of each event is its number
   abbrev AreFaithful : List (ℕ × HostStep) → Type 0
   AreFaithful [] = Unit {0}

@@ -1,9 +1,7 @@
 -- Right logs run in the order of views, and each event comes in the greatest view that there is by then.
-use Rattle.std.proofs.Common.{◌≡◌, ◌≢◌, ◌≤◌, ◌⊎◌, ℕ, List, [], ◌∷◌, ◌++◌, sym, ap, subst, ◌∙◌, arith, inl, inr}
-use Rattle.std.proofs.lemmas.Bool.{cases_eq}
+use Rattle.std.proofs.Common.{◌≡◌, ◌≤◌, ◌⊎◌, ℕ, List, [], ◌∷◌, ◌++◌, sym, ap, subst, ◌∙◌, arith, inl, inr}
 use Rattle.frag_map.specs.Layout.{first_view}
 use Rattle.run_theory.proofs.Pasts.{past_cases}
-use Rattle.run_theory.proofs.Runs.{log_of-other, log_of-own}
 use Rattle.run_theory.specs.Lists.{Each, IsPast}
 use Rattle.run_theory.specs.Machine.{Machine}
 use Rattle.run_theory.specs.Runs.{log_of}
@@ -18,6 +16,7 @@ use Rattle.view_laws.proofs.eras.Causal.{era_going, era_is_causal, view_below}
 use Rattle.view_laws.proofs.eras.Rises.{view_rises}
 use Rattle.view_laws.proofs.eras.SoundLogs.{sound_logs, sound_stamped}
 use Rattle.run_theory.proofs.Ranking.{ranked_run}
+use Rattle.run_theory.proofs.EventCases.{event_cases}
 use Rattle.view_laws.proofs.runs.Step.{started_view}
 use Rattle.view_laws.proofs.runs.ChosenViews.{past_none}
 
@@ -62,7 +61,10 @@ module _ (start : Start) where
     stands_low : (ps : List (ℕ × HostStep)) → IsInOrder ps → Each (λ q. q.0 ≤ k) ps → (log : List HostStep)
         → IsPast log (log_of n (in_order ps) h) → number_after h log ≤ k
     stands_low [] o low log past = subst (λ log. number_after h log ≤ k) (sym (past_none log past)) first
-    stands_low (q ∷ ps) o low log past = by (cases_eq q.1.host h) (stands_low ps o.1 low.1 log)
+    stands_low (q ∷ ps) o low log past =
+        let before = stands_low ps o.1 low.1 log in
+        event_cases n q.1 (in_order ps) h (λ all. IsPast log all → number_after h log ≤ k)
+        (λ same past. own same (past_cases q.1 past) before) (λ other. before) past
       where
         own : q.1.host ≡ h → (q.1 ∷ log_of n (in_order ps) h ≡ log) ⊎ IsPast log (log_of n (in_order ps) h)
             → (IsPast log (log_of n (in_order ps) h) → number_after h log ≤ k) → number_after h log ≤ k
@@ -71,12 +73,6 @@ module _ (start : Start) where
             (newest_low q.1 (log_of n (in_order ps) h) q.0 same
             (subst (λ i. q.0 ≡ era start q.1.host (q.1 ∷ log_of n (in_order ps) i)) same o.0.is) low.0)
         own same (inr older) before = before older
-
-        by : (q.1.host ≡ h) ⊎ (q.1.host ≢ h) → (IsPast log (log_of n (in_order ps) h) → number_after h log ≤ k)
-            → number_after h log ≤ k
-        by (inl same) before =
-            own same (past_cases q.1 (subst (IsPast log) (log_of-own n q.1 (in_order ps) h same) past)) before
-        by (inr other) before = before (subst (IsPast log) (log_of-other n q.1 (in_order ps) h other) past)
 
 pub act_in_greatest : ActorsHaveTheGreatestView
 act_in_greatest start logs are newer older k e is = record {

@@ -206,7 +206,3 @@ module _ (A : Type 0) where
       → (changed : Bool) → Moves k promised (told_if l changed)
   moves_told_if k l promised like rises true = moves_told k l promised like rises
   moves_told_if k l promised like rises false = moves_like k promised (stay l) like refl
-
-  -- where the last promise is as before
-  pub told_on : (k l : Known) (changed : Bool) → Like k l k.promised → Moves k k.promised (told_if l changed)
-  told_on k l changed like = moves_told_if k l k.promised like (omega arith) changed

@@ -2,7 +2,7 @@
 -- matters.
 use Rattle.std.proofs.Common.{◌≡◌, ◌≤◌, ◌&&◌, ℕ, Bool, true, false, refl, subst, ◌∙◌}
 use Rattle.std.proofs.lemmas.Bool.{false≢true}
-use Rattle.std.specs.Prelude.{if◌then◌else◌, Option, None, Some}
+use Rattle.std.specs.Prelude.{if◌then◌else◌, None, Some}
 use Rattle.sig_core.specs.declared.member.Member.{Member}
 use Rattle.sig_core.specs.declared.view.View.{View}
 use Rattle.sig_core.specs.Step.{Step, stay}
@@ -10,8 +10,8 @@ use Rattle.qmgr_block.specs.declared.known.Known.{Known}
 use Rattle.qmgr_block.specs.declared.known.Proposal.{Proposal}
 use Rattle.qmgr_block.specs.Decide.{heard, with_unlike}
 use Rattle.qmgr_block.specs.Promise.{promising, with_absent, with_missing_from}
-use Rattle.qmgr_block.specs.Ring.{heartbeat_by, with_missing, with_round}
-use Rattle.qmgr_block.specs.Sets.{is_special, members_of, same_member}
+use Rattle.qmgr_block.specs.Ring.{with_missing, with_round}
+use Rattle.qmgr_block.specs.Sets.{is_special, members_of}
 use Rattle.qmgr_block.specs.Starts.{all_noted, noted}
 use Rattle.qmgr_block.specs.Suspects.{presides, with_closed, with_closing, with_suspect}
 use Rattle.sig_core.specs.declared.signal.Body.TheVariants.{Membership}
@@ -36,11 +36,6 @@ pub missed_like : (k : Known) (before : Member) → Like k (with_missing (with_r
 missed_like k before =
     let rounded = with_round k in
     like_on k rounded (with_missing rounded before) k.promised (round_if k _ _) (missing_if rounded before _)
-
-pub heartbeat_by_like : (k : Known) (member : Member) (before : Option Member)
-    → Like k (heartbeat_by k member before) k.promised
-heartbeat_by_like k member None = like_self k
-heartbeat_by_like k member (Some before) = round_if k 0 (same_member member before)
 
 pub closing_like : (k : Known) (member : Member) → Like k (with_closing k member) k.promised
 closing_like k member =

@@ -1,14 +1,14 @@
 -- From the ballots of runs to the views in all right logs: each that was installed is chosen.
-use Rattle.std.proofs.Common.{◌≡◌, ◌≢◌, ◌<◌, ◌⊎◌, ℕ, suc, Bool, true, false, if◌then◌else◌, nat_lt, List, [], ◌∷◌, ◌++◌, ap, sym, subst, ◌∙◌, inl, inr, lt-suc_self}
-use Rattle.std.proofs.lemmas.Bool.{cases_eq}
+use Rattle.std.proofs.Common.{◌≡◌, ◌<◌, ◌⊎◌, ℕ, suc, Bool, true, false, if◌then◌else◌, nat_lt, List, [], ◌∷◌, ◌++◌, ap, sym, subst, ◌∙◌, inl, inr, lt-suc_self}
 use Rattle.frag_map.proofs.FirstReplicas.{first_viable}
 use Rattle.frag_map.specs.Groups.{is_viable}
 use Rattle.frag_map.specs.Shape.{IsShape}
 use Rattle.run_theory.proofs.Along.{of_runs}
 use Rattle.run_theory.proofs.Pasts.{past_cases}
-use Rattle.run_theory.proofs.Runs.{log_of-other, log_of-own, log_of-past}
+use Rattle.run_theory.proofs.Runs.{log_of-own, log_of-past}
 use Rattle.run_theory.specs.Lists.{IsPast}
 use Rattle.run_theory.specs.Runs.{IsWithin, Run, log_of}
+use Rattle.run_theory.proofs.EventCases.{event_cases}
 use Rattle.sig_core.specs.declared.view.View.{View}
 use Rattle.api_views.specs.Members.{greater_view}
 use Rattle.world_core.specs.Hosts.{hosts}
@@ -76,7 +76,10 @@ module _ (start : Start) where
         → IsPast log (log_of (machine start) es h) → IsChosenAfter es h log
     was_chosen [] run h log low past =
         subst (IsChosenAfter [] h) (sym (past_none log past)) ((runs start [] run).chosen h low)
-    was_chosen (e ∷ es) run h log low past = by (cases_eq e.host h) (was_chosen es (run_less e es run) h log low)
+    was_chosen (e ∷ es) run h log low past =
+        let before = was_chosen es (run_less e es run) h log low in
+        event_cases (machine start) e es h (λ all. IsPast log all → IsChosenAfter (e ∷ es) h log)
+        (λ at past. own at (past_cases e past) before) (λ apart past. still_chosen e es h log (before past)) past
       where
         own : e.host ≡ h → (e ∷ log_of (machine start) es h ≡ log) ⊎ IsPast log (log_of (machine start) es h)
             → (IsPast log (log_of (machine start) es h) → IsChosenAfter es h log) → IsChosenAfter (e ∷ es) h log
@@ -84,13 +87,6 @@ module _ (start : Start) where
             subst (IsChosenAfter (e ∷ es) h) (log_of-own (machine start) e es h at ∙ is)
             ((runs start (e ∷ es) run).chosen h low)
         own at (inr older) before = still_chosen e es h log (before older)
-
-        by : (e.host ≡ h) ⊎ (e.host ≢ h) → (IsPast log (log_of (machine start) es h) → IsChosenAfter es h log)
-            → IsChosenAfter (e ∷ es) h log
-        by (inl at) before =
-            own at (past_cases e (subst (IsPast log) (log_of-own (machine start) e es h at) past)) before
-        by (inr apart) before =
-            still_chosen e es h log (before (subst (IsPast log) (log_of-other (machine start) e es h apart) past))
 
     run_chosen : IsShape start.shape → (es : List HostStep) → Run (machine start) es
         → IsWithin (hosts start) (log_of (machine start) es) → AreChosen (log_of (machine start) es)

@@ -1,13 +1,14 @@
 -- All stays sound when a host takes a true signal.
-use Rattle.std.proofs.Common.{◌≡◌, ◌≢◌, ◌⊎◌, ◌<◌, ◌≤◌, ◌%◌, ℕ, zero, suc, Bool, true, false, List, [], ◌∷◌, ◌++◌, refl, sym, subst, ◌∙◌, inl, inr}
-use Rattle.std.proofs.lemmas.Bool.{cases_eq, cases_lt, true≢false}
+use Rattle.std.proofs.Common.{◌≡◌, ◌⊎◌, ◌<◌, ◌≤◌, ◌%◌, ℕ, zero, suc, Bool, true, false, List, [], ◌∷◌, refl, sym, subst, ◌∙◌, inl, inr}
+use Rattle.std.proofs.lemmas.Bool.{cases_lt, true≢false}
 use Rattle.std.specs.Prelude.{None}
 use Rattle.frag_map.specs.Layout.{Layout, first_layout, first_view, members}
 use Rattle.frag_map.specs.Shape.{IsShape}
 use Rattle.run_theory.specs.Lists.{Each, IsIn, IsPast}
 use Rattle.run_theory.specs.Runs.{IsWithin, log_of}
 use Rattle.run_theory.proofs.Pasts.{each_append, each_from, each_in, each_map, past_self}
-use Rattle.run_theory.proofs.Runs.{log_of-other, log_of-own, log_of-past}
+use Rattle.run_theory.proofs.Runs.{log_of-own, log_of-past}
+use Rattle.run_theory.proofs.EventCases.{event_cases}
 use Rattle.sig_core.specs.declared.member.Member.{Member}
 use Rattle.sig_core.specs.declared.place.Part.{Part}
 use Rattle.sig_core.specs.declared.place.Part.TheVariants.{Ldm, Main, Tc}
@@ -156,35 +157,28 @@ module _ (start : Start) where
         }
 
         member_now : (me : Member) → IsIn me (made start) → IsSoundMember start new me (events_in start new me)
-        member_now me there = by (cases_eq e.host (main_of start me))
-          where
-            before : IsSoundMember start new me (events_in start old me)
-            before = member_more start old new more me (events_in start old me) (sound.members me there)
-
-            by : (e.host ≡ main_of start me) ⊎ (e.host ≢ main_of start me)
-                → IsSoundMember start new me (events_in start new me)
-            by (inl at) =
-                let k = main_of start me in
-                let same : new k ≡ e ∷ old k = log_of-own (machine start) e es k at in
-                let s = after start k (old k) in
-                let events = events_at is_membership k s x in
-                let past : IsPast (events ++ events_in start old me) (events_in start new me) =
-                subst (λ (log : List HostStep). IsPast (events ++ events_in start old me)
-                (events_of is_membership start k log))
-                (sym same) (past_self (events ++ events_in start old me)) in
-                subst (λ (log : List HostStep). IsSoundMember start new me (events_of is_membership start k log))
-                (sym same)
-                (steps_sound start new is_shape me there x true_now.view (true_now.says me there at)
-                (events_in start old me)
-                events (membership_of start me (old k)).known.layout.view past before
-                (member_steps start me (old k) x there))
-            by (inr apart) =
-                subst (λ (log : List HostStep). IsSoundMember start new me
-                (events_of is_membership start (main_of start me) log))
-                (sym (log_of-other (machine start) e es (main_of start me) apart)) before
-
+        member_now me there =
+            let k = main_of start me in
+            let before = member_more start old new more me (events_in start old me) (sound.members me there) in
+            event_cases (machine start) e es k
+            (λ log. IsPast (events_of is_membership start k log) (events_in start new me)
+            → IsSoundMember start new me (events_of is_membership start k log))
+            (λ at past.
+            steps_sound start new is_shape me there x true_now.view (true_now.says me there at)
+            (events_in start old me) (events_at is_membership k (after start k (old k)) x)
+            (membership_of start me (old k)).known.layout.view past before (member_steps start me (old k) x there))
+            (λ apart past. before) (past_self (events_in start new me))
         asked_now : Each (λ x. Asks start new x x.body) (taken_in (events_of is_arbiter start 0 (new 0)))
-        asked_now = by (cases_eq e.host 0)
+        asked_now =
+            event_cases (machine start) e es 0
+            (λ log. Each (λ x. Asks start new x x.body) (taken_in (events_of is_arbiter start 0 log)))
+            (λ at.
+            let events = events_at is_arbiter 0 (after start 0 (old 0)) x in
+            subst (Each (λ x. Asks start new x x.body))
+            (sym (taken_append events (events_of is_arbiter start 0 (old 0))))
+            (each_append _ (taken_in events) (taken_in (events_of is_arbiter start 0 (old 0)))
+            (once (taken_in events) (true_now.asks at) (taken_once is_arbiter 0 (after start 0 (old 0)) x)) before))
+            (λ apart. before)
           where
             before : Each (λ x. Asks start new x x.body) (taken_in (events_of is_arbiter start 0 (old 0)))
             before =
@@ -195,23 +189,6 @@ module _ (start : Start) where
                 → Each (λ x. Asks start new x x.body) xs
             once xs asks (inl none) = subst (Each (λ x. Asks start new x x.body)) (sym none) tt
             once xs asks (inr one) = subst (Each (λ x. Asks start new x x.body)) (sym one.0) (asks, tt)
-
-            by : (e.host ≡ 0) ⊎ (e.host ≢ 0)
-                → Each (λ x. Asks start new x x.body) (taken_in (events_of is_arbiter start 0 (new 0)))
-            by (inl at) =
-                let s = after start 0 (old 0) in
-                let events = events_at is_arbiter 0 s x in
-                subst (λ (log : List HostStep). Each (λ x. Asks start new x x.body)
-                (taken_in (events_of is_arbiter start 0 log)))
-                (sym (log_of-own (machine start) e es 0 at))
-                (subst (Each (λ x. Asks start new x x.body))
-                (sym (taken_append events (events_of is_arbiter start 0 (old 0))))
-                (each_append _ (taken_in events) (taken_in (events_of is_arbiter start 0 (old 0)))
-                (once (taken_in events) (true_now.asks at) (taken_once is_arbiter 0 s x)) before))
-            by (inr apart) =
-                subst (λ (log : List HostStep). Each (λ x. Asks start new x x.body)
-                (taken_in (events_of is_arbiter start 0 log)))
-                (sym (log_of-other (machine start) e es 0 apart)) before
 
         -- the host of a membership stands in the view that it has installed last
         main_view : (me : Member) → IsIn me (made start)
@@ -224,7 +201,9 @@ module _ (start : Start) where
         -- another one where it stood, or in the view of the signal
         other_view : (k : ℕ) → k < hosts start → membership_in (after start k (old k)).parts ≡ None
             → IsGood start new (view_after start k (new k))
-        other_view k low none = by (cases_eq e.host k)
+        other_view k low none =
+            event_cases (machine start) e es k (λ log. IsGood start new (view_after start k log))
+            (λ at. moved (others_move k (after start k (old k)) x none)) (λ apart. before)
           where
             before : IsGood start new (view_after start k (old k))
             before = good_more start old new more (view_after start k (old k)) (sound.views k low)
@@ -234,15 +213,6 @@ module _ (start : Start) where
                 → IsGood start new (view_after start k (e ∷ old k))
             moved (inl same) = subst (IsGood start new) (sym same) before
             moved (inr entered) = subst (IsGood start new) (sym entered.1) true_now.view
-
-            by : (e.host ≡ k) ⊎ (e.host ≢ k) → IsGood start new (view_after start k (new k))
-            by (inl at) =
-                subst (λ (log : List HostStep). IsGood start new (view_after start k log))
-                (sym (log_of-own (machine start) e es k at))
-                (moved (others_move k (after start k (old k)) x none))
-            by (inr apart) =
-                subst (λ (log : List HostStep). IsGood start new (view_after start k log))
-                (sym (log_of-other (machine start) e es k apart)) before
 
         view_now : (k : ℕ) → k < hosts start → IsGood start new (view_after start k (new k))
         view_now k low = by (host_is start k low)
