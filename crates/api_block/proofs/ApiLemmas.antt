@@ -52,10 +52,6 @@ given_row given s (Client (TcWaitConf tx ahead)) = ap (λ (state : ApiState). st
 given_row given s (Client (DumpConf rows next)) = dumped_given given s rows next
 given_row given s _ = refl
 
--- nor does it whether a command is left open
-pub given_open : (given : List ApiReply) (s : ApiState) → is_left_open (in_given given s) ≡ is_left_open s
-given_open given s = refl
-
 -- the API sends no request of the shell
 pub api_asks : (s : ApiState) (body : Body) → AsksNothing (api_table s body)
 api_asks s body =

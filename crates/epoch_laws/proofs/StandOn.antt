@@ -192,6 +192,7 @@ module _ (start : Start) (all : ℕ → List HostStep) (e : HostStep) (es : List
           let there = host_made start Main p (subst (λ h. h < hosts start) own (host_low start all e es moment)) in
           absurd (not_tc start all e es moment stand p there own m at))
           (λ other. refl)
+
       loud : (m : Member) → e.host ≡ tc_of start m → (next : ℕ) (U : Phase → Type 0) → IsOrdered start old next U
           → IsAllSilent start new → ⊥
       loud m at next U order silent =

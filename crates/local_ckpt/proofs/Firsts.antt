@@ -74,9 +74,6 @@ module _ {X : Type 0} where
     passed_over : (x : X) (xs : List X) → p x ≡ true → first q (x ∷ xs) ≡ first q xs
     passed_over x xs e = ap (λ b. if b then Some x else first q xs) (two x e)
 
-    stays_over : (x : X) (xs : List X) → p x ≡ true → drop_first q (x ∷ xs) ≡ x ∷ drop_first q xs
-    stays_over x xs e = ap (λ b. if b then xs else x ∷ drop_first q xs) (two x e)
-
     pub first-put_other : (y : X) → q y ≡ false → (xs : List X) → first q (put_first p y xs) ≡ first q xs
     first-put_other y off [] = ap (λ b. if b then Some y else None) off
     first-put_other y off (x ∷ xs) = by (p x) refl (first-put_other y off xs)

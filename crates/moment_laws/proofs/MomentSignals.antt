@@ -134,6 +134,7 @@ module _ (start : Start) where
           put_each n K j (sent_by n e.host (logs_of start es e.host) e) (sent n e.host j (logs_of start es e.host))
           (sent_by_each n K e.host (logs_of start es e.host) e new) (old e.host j))
           (λ i other. old i)
+
 -- nothing that was sent at a moment has a greater header than the current view
 pub sent_below : (start : Start) (all : ℕ → List HostStep) (es : List HostStep) → IsMoment start all es → (i j : ℕ)
     → Each (λ (x : Addressed). x.signal.view.number ≤ current_number start (logs_of start es))

@@ -64,6 +64,7 @@ module _ (start : Start) (all : ℕ → List HostStep) (e : HostStep) (es : List
         event_moves (machine start) e es
         (λ h old log. (view_after start h old).number ≤ (view_after start h log).number)
         (view_rises start e.host (before e.host) e) (λ h log. omega arith)
+
     -- each host stands below what is above the current view before it and above the view of its host behind it
     others_below : (number h : ℕ) → h < hosts start → current_number start before ≤ number → own_number ≤ number
         → number_in start behind h ≤ number
@@ -71,6 +72,7 @@ module _ (start : Start) (all : ℕ → List HostStep) (e : HostStep) (es : List
         event_cases (machine start) e es h (λ log. (view_after start h log).number ≤ number)
         (λ at. subst (λ h. (view_after start h (e ∷ before h)).number ≤ number) at new)
         (λ other. let up = current_above start before h low in omega (arith, up, old))
+
     current_below : (number : ℕ) → current_number start before ≤ number → own_number ≤ number
         → current_number start behind ≤ number
     current_below number old new = by (current start behind) (current_is start behind)

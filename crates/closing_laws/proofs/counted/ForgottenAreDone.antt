@@ -152,6 +152,7 @@ module _ (start : Start) (all : ℕ → List HostStep) (e : HostStep) (es : List
         (λ i before now. IsPast (sent (sound_machine start) i j before) (sent (sound_machine start) i j now))
         (sent_more (sound_machine start) e.host j (old e.host) e)
         (λ i log. past_self (sent (sound_machine start) i j log)) i
+
     ended_stays : is_decided start old tx ≡ true → HasEnded start old tx → HasEnded start new tx
     ended_stays decided (nothing none) =
         nothing (λ key written. none key (written_before start all e es moment tx key decided written))
@@ -402,6 +403,7 @@ module _ (start : Start) (all : ℕ → List HostStep) (e : HostStep) (es : List
         (λ at here left. own_ended (forth_made start all (e ∷ es) moment tx forth) at here left rest)
         (λ other was left.
         ended_stays (forth_decided start all es (moment_less start all e es moment) tx was) (rest was left)) forth gone
+
 forgotten_ended : (start : Start) (all : ℕ → List HostStep) (es : List HostStep) → IsMoment start all es → (tx : TxId)
     → is_forth start (logs_of start es) tx ≡ true → own_live start (logs_of start es) tx ≡ None
     → HasEnded start (logs_of start es) tx

@@ -355,6 +355,7 @@ module _ (start : Start) (all : ℕ → List HostStep) (e : HostStep) (es : List
           (tells_here at
           (subst (λ k. (view_after start k (e ∷ old k)).number ≡ current_number start new) (sym at) stands)))
           (λ other stands. was_tells (still_by (number_in start old h) stands (omega arith)))
+
       abbrev Told : Addressed → Type 0
       Told y =
           y.signal.body ≡ Takeover TakeoverEnd → y.signal.view.number ≡ current_number start (logs_of start (e ∷ es))
@@ -389,8 +390,6 @@ module _ (start : Start) (all : ℕ → List HostStep) (e : HostStep) (es : List
               sent_so start e.host (old e.host) e
               (λ (v : View) (to : Place) (body : Body).
               body ≡ Takeover TakeoverEnd → v.number ≡ current_number start new → AreSeenTo start new) (all_seen at)))
-
-
 
     sees_next : SeesToAll start old → SeesToAll start new
     sees_next was = record {

@@ -126,6 +126,7 @@ module _ (own : EndsAreOwn) (start : Start) (all : ℕ → List HostStep) (e : H
         body = told.body;
         number_is = told.number_is;
       }
+
       pub still : (view : View) → IsOverIn start old member view → IsOverIn start new member view
       still view (inl first) = inl first
       still view (inr told) = inr (told_still view.number told)

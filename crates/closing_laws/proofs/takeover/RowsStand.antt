@@ -339,6 +339,7 @@ module _ (start : Start) (all : ℕ → List HostStep) (e : HostStep) (es : List
           let one = still (omega (arith, number)) in
           let same_number : current_number start new ≡ current_number start old = ap (λ (v : View). v.number) one in
           standing_more one (was.work member there (omega (arith, number, same_number)) is))
+
       old_over : (j : ℕ) → Each Told (sent n h j log)
       old_over j =
           each_from Told (sent n h j log)

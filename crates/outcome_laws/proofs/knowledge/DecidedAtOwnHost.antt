@@ -155,6 +155,7 @@ module _ (start : Start) where
           subst (λ k. OwnParts me (after start k (e ∷ old k)).parts) at
           (given_own me e.host (step_after start e.host (old e.host) e) (comes_own me there at).0))
           (λ other. own.parts me there)
+
       -- what the step decides
       decides_here : Each (IsDecidedHere e.host) step.effects.marks
       decides_here = by (tc_host_is start e.host (host_low start all e es moment))
@@ -181,6 +182,7 @@ module _ (start : Start) where
           event_each (machine start) e es (λ h log. Each (AreDecidedHere h) log)
           (subst (Each (IsDecidedHere e.host)) (sym happens.step.fits.marks) decides_here, own.decided e.host)
           (λ h other. own.decided h)
+
       -- and whom it asks
       abbrev SentNow : Addressed → Type 0
       SentNow = IsSentBy (made start) e.host (after start e.host (e ∷ old e.host)).standing.view step.effects.sends

@@ -247,6 +247,7 @@ module _ (hosts_level : HostsAreLevel) (start : Start) (shape : IsShape start.sh
   same_taken a =
       event_leaves (machine start) e es (λ b. taken (machine start) a)
       (taken-asked (machine start) a e (log e.host) asked)
+
   mids : (a b : ℕ) → OnLink start log a b (log a) (now b)
   mids a b = record { under = []; gone = []; sent_is = refl; taken_is = same_taken a b }
 

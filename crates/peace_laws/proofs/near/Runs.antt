@@ -134,6 +134,7 @@ module _ (hosts_level : HostsAreLevel) (start : Start) (shape : IsShape start.sh
   mirrored_next : IsMirrored start e.host (e ∷ log) → (h : ℕ) → IsMirrored start h (log_of (machine start) (e ∷ es) h)
   mirrored_next own =
       event_each (machine start) e es (λ h log. IsMirrored start h log) own (λ h apart. kept.mirrored h)
+
   -- a step that the plain machine doesn't make
   pub left_next : is_left e ≡ true → IsLeftOut start e.host log e before → IsKept start (e ∷ es)
   left_next out left =

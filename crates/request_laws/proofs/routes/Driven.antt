@@ -72,6 +72,7 @@ module _ (start : Start) (e : HostStep) (es : List HostStep) where
   -- what is so of a log, and stays so, stays so behind the event
   more : (P : List HostStep → Type 0) → ((log : List HostStep) → P log → P (e ∷ log)) → (h : ℕ) → P (old h) → P (new h)
   more P stays = event_keeps (machine start) e es (λ h. P) (stays (old e.host))
+
   sent_stays : (member : Member) (p : Body → Bool) (number : ℕ) (log : List HostStep)
       → was_sent_in start member p number log ≡ true → was_sent_in start member p number (e ∷ log) ≡ true
   sent_stays member p number log was = or_right _ (was_sent_in start member p number log) was

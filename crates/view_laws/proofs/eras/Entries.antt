@@ -116,6 +116,7 @@ module _ (start : Start) where
       ∙ ap (entries_in e.host e.step.stamp (log_with e es) e.step.marks) rest
       ∙ ap (λ k. entries_in k e.step.stamp (e ∷ log_of n es k) e.step.marks (entries_of h (log_of n es h))) same)
       (λ apart. other_step e.host e.step.stamp (log_with e es) h apart e.step.marks (decisions start es) ∙ rest)
+
   -- the view of the entries of each event is its number
   abbrev AreFaithful : List (ℕ × HostStep) → Type 0
   AreFaithful [] = Unit {0}

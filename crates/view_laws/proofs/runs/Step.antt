@@ -168,6 +168,7 @@ module _ (start : Start) where
             (events_in start old me) (events_at is_membership k (after start k (old k)) x)
             (membership_of start me (old k)).known.layout.view past before (member_steps start me (old k) x there))
             (λ apart past. before) (past_self (events_in start new me))
+
         asked_now : Each (λ x. Asks start new x x.body) (taken_in (events_of is_arbiter start 0 (new 0)))
         asked_now =
             event_cases (machine start) e es 0
