@@ -14,7 +14,6 @@ use Rattle.sig_core.specs.Step.{stay}
 use Rattle.api_block.specs.Api.{api_table, request_row}
 use Rattle.api_block.specs.declared.opened.OpenTransaction.{OpenTransaction}
 use Rattle.api_block.specs.Given.{in_given, step_in_given}
-use Rattle.api_block.specs.Opened.{is_left_open}
 use Rattle.api_block.specs.State.{ApiState}
 use Rattle.api_block.proofs.EachApi.{api_each, opened_any}
 use Rattle.api_block.proofs.Quiet.{AsksNone, AsksNothing, each_asks_none}
