@@ -6,7 +6,7 @@ ghost use Rattle.world_views.specs.WorldOf.{whole_of};
 
 use crate::fault::RunFault;
 use life_judge::{Dice, NodeRows};
-use sig_core::{Answer, ApiReply, ApiReq, HostId, NoMemory, Shape};
+use sig_core::{Answer, ApiReply, ApiReq, HostId, NoMemory, Shape, UAnswer};
 use std::alloc::Global;
 use std::sync::Wait;
 use world_views::{PARTS, Pick, ScheduleFault, World};
@@ -69,7 +69,7 @@ fn next_reply(world: &mut World) -> Option<ApiReply>
     ensures { IsWorld (whole_of world.new) }
 {
     // Names the type of the answers, which the check of this function wants to have seen.
-    let _answer: Option<&Answer> = None;
+    let _unused: Option<(Answer, UAnswer)> = None;
     world.next_reply()
 }
 

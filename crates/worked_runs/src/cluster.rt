@@ -6,7 +6,7 @@ ghost use Rattle.world_views.specs.WorldOf.{whole_of};
 use crate::fault::Fault;
 use crate::request::{request_of, requests};
 use script_lang::{Command, print_reply};
-use sig_core::{Answer, ApiReply, ApiReq, HostId, NoMemory};
+use sig_core::{Answer, ApiReply, ApiReq, HostId, NoMemory, UAnswer};
 use std::alloc::Global;
 use std::sync::Wait;
 use world_views::{Pick, ScheduleFault, World};
@@ -169,6 +169,6 @@ fn next_reply(world: &mut World) -> Option<ApiReply>
     ensures { IsWorld (whole_of world.new) }
 {
     // Names the type of the answers, which the check of this function wants to have seen.
-    let _answer: Option<&Answer> = None;
+    let _unused: Option<(Answer, UAnswer)> = None;
     world.next_reply()
 }

@@ -7,7 +7,7 @@ ghost use Rattle.world_views.specs.Machine.{replies_at, told};
 
 use api_views::Client;
 use node_views::{Host, Parts};
-use sig_core::{Answer, ApiReply, NoMemory};
+use sig_core::{Answer, ApiReply, NoMemory, UAnswer};
 use std::collections::VecDeque;
 
 /// The replies that this host has to give, if it is the shell's, go behind these.
@@ -44,7 +44,7 @@ fn tell_next(client: &mut Client, replies: &mut VecDeque<ApiReply>) -> Result<bo
     ensures none { IfOk result (λ more. more ≡ false → client.new.api.replies ≡ []) }
 {
     // names the type of the answers, which the check of this function wants to have seen
-    let _answer: Option<&Answer> = None;
+    let _unused: Option<(Answer, UAnswer)> = None;
     pass(client.next_reply(), replies)
 }
 

@@ -7,7 +7,7 @@ ghost use Rattle.world_views.specs.WorldOf.{whole_of};
 use crate::World;
 use gcp_master::MICROS;
 use script_lang::{Command, parse_line, print_reply};
-use sig_core::{Answer, ApiReq, HeldOp, NoMemory, Shape};
+use sig_core::{Answer, ApiReq, HeldOp, NoMemory, Shape, UAnswer};
 use std::alloc::Global;
 use std::sync::Wait;
 
@@ -99,7 +99,7 @@ fn print_next(alloc: Global, world: &mut World, text: &mut Vec<u8>) -> Result<bo
     ensures { OnOk result (IsWorld (whole_of world.new)) }
 {
     // names the type of the answers, which the check of this function wants to have seen
-    let _answer: Option<&Answer> = None;
+    let _unused: Option<(Answer, UAnswer)> = None;
     let Some(reply) = world.next_reply() else {
         return Ok(false);
     };
