@@ -18,6 +18,3 @@ mod writer;
 
 pub use ended::Ended;
 pub use run::run_shell;
-
-#[cfg(test)]
-mod tests;
