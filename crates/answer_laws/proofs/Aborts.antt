@@ -2,7 +2,7 @@
 use Rattle.std.proofs.Common.{◌≡◌, ◌≢◌, ◌⊎◌, ℕ, ◌+◌, ◌*◌, ◌≤◌, ◌<◌, List, [], ◌∷◌, length, Bool, true, false, refl, ap}
 use Rattle.std.proofs.Common.{sym, ◌∙◌, subst, arith, inl, inr}
 use Rattle.std.specs.Prelude.{◌==◌, ◌&&◌, if◌then◌else◌, None, Some}
-use Rattle.std.proofs.lemmas.Bool.{cases_eq, true≢false}
+use Rattle.std.proofs.lemmas.Bool.{true≢false}
 use Rattle.frag_map.proofs.FirstReplicas.{few_replicas}
 use Rattle.frag_map.specs.Layout.{Layout, chain_of, first_layout}
 use Rattle.frag_map.specs.Shape.{IsShape}
@@ -33,7 +33,7 @@ use Rattle.world_core.specs.Steps.{HostStep}
 use Rattle.run_theory.specs.Counts.{one_if}
 use Rattle.answer_laws.proofs.AbortCounts.{abort_low, answer_turn, cont_place, cont_turn, few_answers, few_rows}
 use Rattle.answer_laws.proofs.AbortCounts.{lqh_aborts, none_at}
-use Rattle.run_laws.proofs.hosts.AlongSteps.{Goes, addressed, along, at_home, at_tc, first_none, heard_rows, home_place}
+use Rattle.run_laws.proofs.hosts.AlongSteps.{Goes, addressed, along, at_home, at_tc, first_none, heard_rows, home_place, goes_cases}
 use Rattle.run_laws.proofs.hosts.AlongSteps.{live_tx, no_transaction, other_turn, the_transaction, turn_at, tx_at}
 use Rattle.run_laws.proofs.hosts.Always.{few_touched}
 use Rattle.answer_laws.proofs.FirstChains.{good_chain}
@@ -54,9 +54,6 @@ use Rattle.tc_block.specs.Phases.{is_aborting}
 
 module _ (start : Start) (shape : IsShape start.shape) (tx : TxId) (some_node : 1 ≤ tx.tc)
     (few_nodes : tx.tc ≤ start.shape.nodes) where
-  abbrev layout : Layout
-  layout = first_layout start.shape
-
   -- the first number behind those of the nodes, and the host of the transaction's coordinator
   abbrev nodes : ℕ
   nodes = start.shape.nodes + 1
@@ -303,11 +300,9 @@ module _ (start : Start) (shape : IsShape start.shape) (tx : TxId) (some_node : 
           )
 
   step : (logs now : ℕ → List HostStep) (h : ℕ) (e : HostStep) → Goes start logs now h e → AllDue logs → AllDue now
-  step logs now h e g all = by (cases_eq h at)
-    where
-      by : (h ≡ at) ⊎ (h ≢ at) → AllDue now
-      by (inl same) = own_step logs now e (subst (λ j. Goes start logs now j e) same g) all
-      by (inr differs) = other_step logs now h e g differs all
+  step logs now h e g all =
+      goes_cases start logs now h e g at (λ own. own_step logs now e own all)
+      (λ differs same. other_step logs now h e g differs all)
 
   first : AllDue (log_of (machine start) [])
   first t why v k there is = no_transaction t (sym (first_none start tx at) ∙ there)

@@ -2,7 +2,7 @@
 use Rattle.std.proofs.Common.{◌≡◌, ◌≢◌, ◌⊎◌, ℕ, zero, suc, ◌+◌, ◌≤◌, ◌<◌, List, [], ◌∷◌, ◌++◌, Bool, true, false, refl, ap, sym, ◌∙◌, subst, arith, inl, inr}
 use Rattle.std.specs.Prelude.{◌==◌, ◌&&◌, ◌||◌, ◌/◌, not, Option}
 use Rattle.std.specs.List.{list_any}
-use Rattle.std.proofs.lemmas.Bool.{cases_eq, cases_lt, eqb-true, false≢true, true≢false}
+use Rattle.std.proofs.lemmas.Bool.{cases_lt, eqb-true, false≢true, true≢false}
 use Rattle.std.proofs.lemmas.Bool.Decides.{nat_tests}
 use Rattle.std.proofs.lemmas.List.Folds.{list_any-append}
 use Rattle.api_block.specs.declared.opened.OpenTransaction.{OpenTransaction}
@@ -35,7 +35,7 @@ use Rattle.world_core.specs.Hosts.{hosts, tc_host}
 use Rattle.world_core.specs.Machine.{after, machine, step_after}
 use Rattle.world_core.specs.Start.{Start}
 use Rattle.world_core.specs.Steps.{Addressed, HostStep}
-use Rattle.run_laws.proofs.hosts.AlongSteps.{Goes, along, few_taken}
+use Rattle.run_laws.proofs.hosts.AlongSteps.{Goes, along, few_taken, goes_cases}
 use Rattle.host_laws.proofs.rows.Operations.{left_of, right_of}
 use Rattle.host_laws.proofs.api.Begins.{IsDue, IsGood, same_name-self}
 use Rattle.host_laws.proofs.hosts.ShellHost.{TellsHome, host_replies, host_wishes, opened_first, opened_next, shell_after, shell_count, shell_sends, told}
@@ -322,24 +322,17 @@ module _ (start : Start) where
 
       next : (logs now : ℕ → List HostStep) (h : ℕ) (e : HostStep) → Goes start logs now h e → AreBalanced start logs
           → AreBalanced start now
-      next logs now h e g balanced name node some low = record { balance = go (cases_eq h 0) }
+      next logs now h e g balanced name node some low = record {
+        balance = goes_cases start logs now h e g 0
+            (λ own. subst Holds (sym own.own)
+            (shell_next e logs own.before own.was_within balanced own.takes name node some low))
+            (λ other same. subst Holds (sym same) (balanced name node some low).balance);
+      }
         where
           Holds : List HostStep → Type 0
           Holds log = tally (begins_at name node) (opened_in (after start 0 log))
               + signals (is_reply name) (taken (machine start) (tc_host start node) log)
               ≡ signals (is_wish name) (sent (machine start) 0 (tc_host start node) log)
-
-          go : (h ≡ 0) ⊎ (h ≢ 0) → Holds (now 0)
-          go (inr other) =
-              subst Holds (sym (g.others 0 (λ same. other (sym same)))) (balanced name node some low).balance
-          go (inl at) =
-              subst Holds (sym (subst (λ k. now k ≡ e ∷ logs k) at g.own))
-              (shell_next e logs g.before
-              (λ k high. sym (g.others k (λ same. omega (arith, same, high, g.low))) ∙ g.within k high) balanced
-              (λ plain. subst (λ j. IsGiven (machine start) e.step.taken.from.0 j (logs e.step.taken.from.0)
-              (record { to = e.host; signal = e.step.taken } ∷ taken (machine start) e.step.taken.from.0 (logs j)))
-              at (g.takes plain))
-              name node some low)
 
   -- at quiet
   none_begins : (logs : ℕ → List HostStep) (t : OpenTransaction) → AreQuiet start logs

@@ -2,7 +2,7 @@
 use Rattle.std.proofs.Common.{◌≡◌, ◌≢◌, ◌⊎◌, ℕ, ◌+◌, ◌-◌, ◌≤◌, ◌<◌, List, [], ◌∷◌, length, Bool, true, false, refl, ap}
 use Rattle.std.proofs.Common.{sym, ◌∙◌, subst, arith, inl, inr}
 use Rattle.std.specs.Prelude.{◌==◌, ◌&&◌, nat_lt, Option, None, Some}
-use Rattle.std.proofs.lemmas.Bool.{cases_eq, eqb-true, true≢false}
+use Rattle.std.proofs.lemmas.Bool.{eqb-true, true≢false}
 use Rattle.std.proofs.lemmas.Bool.Decides.{nat_tests}
 use Rattle.frag_map.specs.Layout.{Layout, chain_of, first_layout}
 use Rattle.frag_map.specs.Shape.{IsShape}
@@ -43,7 +43,7 @@ use Rattle.world_core.specs.Start.{Start}
 use Rattle.world_core.specs.Steps.{HostStep}
 use Rattle.run_theory.proofs.Tally.{and_few}
 use Rattle.run_theory.specs.Counts.{one_if}
-use Rattle.run_laws.proofs.hosts.AlongSteps.{Goes, addressed, along, at_home, at_tc, heard_rows, home_place, live_tx, tx_at}
+use Rattle.run_laws.proofs.hosts.AlongSteps.{Goes, addressed, along, at_home, at_tc, heard_rows, home_place, live_tx, tx_at, goes_cases}
 use Rattle.answer_laws.proofs.FirstChains.{chain_some, good_chain}
 use Rattle.host_laws.proofs.hosts.BlocksAlong.{IsHome, first_live, reaches, tc_layout}
 use Rattle.host_laws.proofs.coordinator.HostTurns.{rows_turn, tc_turn}
@@ -365,11 +365,10 @@ module _ (start : Start) (shape : IsShape start.shape) (tx : TxId) where
             (λ a. cont_block tx a e.step.taken.to e.step.taken.body other.1)
 
     step : (logs now : ℕ → List HostStep) (h : ℕ) (e : HostStep) → Goes start logs now h e → AllOwed logs → AllOwed now
-    step logs now h e g all = by (cases_eq h at)
+    step logs now h e g all = goes_cases start logs now h e g at (λ own. own_step logs now e own all) other
       where
-        by : (h ≡ at) ⊎ (h ≢ at) → AllOwed now
-        by (inl same) = own_step logs now e (subst (λ j. Goes start logs now j e) same g) all
-        by (inr differs) = λ u epoch k live is.
+        other : h ≢ at → now at ≡ logs at → AllOwed now
+        other differs log_is = λ u epoch k live is.
             stays_owed start tx (is_commit nodes tx) logs now (length u.touched) 0 k
             (omega (
               arith,
@@ -386,9 +385,6 @@ module _ (start : Start) (shape : IsShape start.shape) (tx : TxId) where
             ))
             (all u epoch k (subst (λ log. IsLiveAs tx u (after start at log)) log_is live) is)
           where
-            log_is : now at ≡ logs at
-            log_is = g.others at (λ z. differs (sym z))
-
             away : (b : Bool) → (is_tc e.step.taken.to.block && (e.step.taken.to.node == tx.tc)) ≡ b
                 → (is_tc e.step.taken.to.block && (e.step.taken.to.node == tx.tc)) ≡ false
             away false q = q

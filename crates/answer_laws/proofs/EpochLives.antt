@@ -106,9 +106,6 @@ given_phase t body w (refused tx key why asked p about on is) =
     (ap (λ (x : Transaction). x.phase) is, ap is_counted p ∙ sym (ap abort.is_verifying p))
 
 module _ (s : TcState) (tx : TxId) (t : Transaction) (body : Body) (turn : Turn) where
-  Counted : Turn → Type 0
-  Counted x = TurnCounts s.node tx t x
-
   back_to : (other : Turn) → turn ≡ other → TurnCounts s.node tx t other → TurnCounts s.node tx t turn
   back_to other is c = subst (TurnCounts s.node tx t) (sym is) c
 

@@ -2,7 +2,6 @@
 use Rattle.std.proofs.Common.{◌≡◌, ◌≢◌, ◌⊎◌, ℕ, ◌+◌, ◌≤◌, ◌<◌, List, [], length, Bool, true, false, refl, ap, sym, ◌∙◌}
 use Rattle.std.proofs.Common.{subst, arith, inl, inr}
 use Rattle.std.specs.Prelude.{◌&&◌, is_some, if◌then◌else◌, Option, None, Some}
-use Rattle.std.proofs.lemmas.Bool.{cases_eq}
 use Rattle.api_block.specs.declared.operate.TheConstants.{OPERATIONS}
 use Rattle.api_block.specs.declared.opened.OpenTransaction.{OpenTransaction}
 use Rattle.api_block.specs.Opened.{has_tx}
@@ -33,7 +32,7 @@ use Rattle.world_core.specs.Hosts.{home, hosts}
 use Rattle.world_core.specs.Machine.{after, machine, step_after}
 use Rattle.world_core.specs.Start.{Start}
 use Rattle.world_core.specs.Steps.{HostStep}
-use Rattle.run_laws.proofs.hosts.AlongSteps.{Goes, along, at_tc, first_none, no_transaction, the_transaction, turn_at, tx_at}
+use Rattle.run_laws.proofs.hosts.AlongSteps.{Goes, along, at_tc, first_none, no_transaction, the_transaction, turn_at, tx_at, goes_cases}
 use Rattle.run_laws.proofs.hosts.Always.{Touches, turn_touches}
 use Rattle.answer_laws.proofs.ApiEntries.{IsEntryRight, is_commit_req, of_opened, shell_entry}
 use Rattle.answer_laws.proofs.Begins.{wish_part}
@@ -531,7 +530,15 @@ module _ (start : Start) (tx : TxId) (some : 1 ≤ tx.tc) (low : tx.tc ≤ start
         by (turning step) = of_turned step
 
   step : (logs now : ℕ → List HostStep) (i : ℕ) (e : HostStep) → Goes start logs now i e → AllHeard logs → AllHeard now
-  step logs now i e g q = by (cases_eq i 0)
+  step logs now i e g q =
+      goes_cases start logs now i e g 0
+      (λ own. let same = home_same (own.others h not_zero) in
+      record { asking = api_next logs now e own q; heard = same.0; unborn = same.1 })
+      (λ other none. goes_cases start logs now i e g h
+      (λ own. let next = coordinator_next logs now e own q in
+      record { asking = api_same none; heard = next.0; unborn = next.1 })
+      (λ differs is. let same = home_same is in
+      record { asking = api_same none; heard = same.0; unborn = same.1 }))
     where
       -- where neither log is longer
       home_same : now h ≡ logs h → CoordinatorHeard now
@@ -553,22 +560,6 @@ module _ (start : Start) (tx : TxId) (some : 1 ≤ tx.tc) (low : tx.tc ≤ start
 
       not_zero : h ≡ 0 → ⊥
       not_zero z = omega (arith, z, home_some)
-
-      by : (i ≡ 0) ⊎ (i ≢ 0) → AllHeard now
-      by (inl zero_i) =
-          let g0 = subst (λ j. Goes start logs now j e) zero_i g in
-          let same = home_same (g0.others h not_zero) in
-          record { asking = api_next logs now e g0 q; heard = same.0; unborn = same.1 }
-      by (inr other) = where_at (cases_eq i h)
-        where
-          where_at : (i ≡ h) ⊎ (i ≢ h) → AllHeard now
-          where_at (inl same) =
-              let gh = subst (λ j. Goes start logs now j e) same g in
-              let next = coordinator_next logs now e gh q in
-              record { asking = api_same (gh.others 0 (λ z. not_zero (sym z))); heard = next.0; unborn = next.1 }
-          where_at (inr differs) =
-              let same = home_same (g.others h (λ z. differs (sym z))) in
-              record { asking = api_same (g.others 0 (λ z. other (sym z))); heard = same.0; unborn = same.1 }
 
   first : AllHeard (log_of (machine start) [])
   first = record {

@@ -1,7 +1,7 @@
 -- No more than one request of a transaction for a key waits, or is on its way.
-use Rattle.std.proofs.Common.{◌≡◌, ◌≢◌, ◌⊎◌, ℕ, zero, suc, ◌+◌, ◌≤◌, ◌<◌, List, [], ◌∷◌, Bool, true, false, refl, ap, sym, ◌∙◌, subst, arith, inl, inr}
+use Rattle.std.proofs.Common.{◌≡◌, ◌≢◌, ◌⊎◌, ℕ, zero, suc, ◌+◌, ◌≤◌, ◌<◌, List, [], ◌∷◌, Bool, true, false, refl, ap, sym, ◌∙◌, arith, inl, inr}
 use Rattle.std.specs.Prelude.{◌&&◌, not, if◌then◌else◌, None, Some}
-use Rattle.std.proofs.lemmas.Bool.{cases_eq, false≢true}
+use Rattle.std.proofs.lemmas.Bool.{false≢true}
 use Rattle.std.specs.Cmp.Lexicographic.{slice_cmp}
 use Rattle.std.specs.FinMap as finite
 use Rattle.std.specs.Ordering.{nat_cmp}
@@ -33,7 +33,7 @@ use Rattle.world_core.specs.Start.{Start}
 use Rattle.world_core.specs.Steps.{HostStep}
 use Rattle.host_laws.proofs.hosts.Sums.{total_at, total_one, total_zero}
 use Rattle.run_theory.specs.Counts.{one_if, total}
-use Rattle.run_laws.proofs.hosts.AlongSteps.{Goes, along, at_tc, first_none, no_transaction, other_turn, the_transaction, turn_at, tx_at}
+use Rattle.run_laws.proofs.hosts.AlongSteps.{Goes, along, at_tc, first_none, no_transaction, other_turn, the_transaction, turn_at, tx_at, goes_cases}
 use Rattle.answer_laws.proofs.Flows.{flow_few, flow_sent, flow_taken, flow_took}
 use Rattle.host_laws.proofs.coordinator.HostTurns.{HostTurn, IsAside, aside, in_rows, is_aside, starting, turning}
 use Rattle.host_laws.proofs.rows.Leaves.{lqh_waits}
@@ -327,11 +327,9 @@ module _ (start : Start) (tx : TxId) (key : List ℕ) where
 
   pub lone_step : (logs now : ℕ → List HostStep) (h : ℕ) (e : HostStep) → Goes start logs now h e → IsLone logs
       → IsLone now
-  lone_step logs now h e g k = by (cases_eq h (home start tx))
-    where
-      by : (h ≡ home start tx) ⊎ (h ≢ home start tx) → IsLone now
-      by (inl same) = own_lone logs now e (subst (λ j. Goes start logs now j e) same g) k
-      by (inr differs) = other_lone logs now h e g differs k
+  lone_step logs now h e g k =
+      goes_cases start logs now h e g (home start tx) (λ own. own_lone logs now e own k)
+      (λ differs same. other_lone logs now h e g differs k)
 
   pub first_lone : IsLone (log_of (machine start) [])
   first_lone =
@@ -344,9 +342,6 @@ module _ (start : Start) (tx : TxId) (key : List ℕ) where
             (sym (first_none start tx (home start tx)) ∙ at);
         unborn = λ early. omega (arith, s, w);
       }
-
-  pub is_lone : (logs : ℕ → List HostStep) → IsWithin (hosts start) logs → AreLogs (machine start) logs → IsLone logs
-  is_lone logs within right = along start IsLone first_lone lone_step logs within right
 
   -- so no more than one waits at a host
   pub one_waits : (logs : ℕ → List HostStep) → AreLogs (machine start) logs → IsLone logs → (i : ℕ) → i < hosts start

@@ -1,5 +1,5 @@
 -- An open transaction that has nothing unanswered misses neither an operation nor its commit.
-use Rattle.std.proofs.Common.{◌≡◌, ℕ, ◌+◌, ◌≤◌, ◌<◌, List, [], ◌∷◌, length, Bool, true, false, refl, ap, sym, ◌∙◌}
+use Rattle.std.proofs.Common.{◌≡◌, ◌+◌, ◌≤◌, ◌<◌, List, [], ◌∷◌, length, Bool, true, false, refl, ap, sym, ◌∙◌}
 use Rattle.std.proofs.Common.{arith}
 use Rattle.std.specs.Prelude.{◌&&◌, ◌||◌, nat_lt, is_some, if◌then◌else◌, Option, None, Some}
 use Rattle.std.proofs.lemmas.Bool.{false≢true}
@@ -52,9 +52,6 @@ pub shell_stays : (s : ApiState) (at : BlockId) (x : Signal) → is_api at ≡ f
 unfolding shell_row
 shell_stays s block.Api x e = cc
 shell_stays s _ x e = refl
-
-pub has_asked : Transaction → ℕ
-has_asked t = one_if (is_some t.asked)
 
 pub commit_at : (tx : TxId) (to : Place) (body : Body)
     → is_commit_req tx to body ≡ (is_tc to.block && commit_body tx body)

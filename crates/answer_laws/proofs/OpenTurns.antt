@@ -54,9 +54,6 @@ part_keyless tx = record {
 }
 
 module _ (s : TcState) (tx : TxId) (t : Transaction) (body : Body) (turn : Turn) where
-  Open_turn : Type 0
-  Open_turn = (t.phase ≡ Open) × OpenTurn tx t body turn.step.state turn.step.effects.sends
-
   other_phase : {A : Type 0} (other : Turn) (phase : Phase) → turn ≡ other → other.step.state.phase ≡ phase
       → (phase ≡ Open → ⊥) → turn.step.state.phase ≡ Open → A
   other_phase other phase is p differs e =

@@ -1,7 +1,7 @@
 -- At quiet an operation that a coordinator's transaction has unanswered waits in the queue of a lock.
 use Rattle.std.proofs.Common.{◌≡◌, ◌≢◌, ◌⊎◌, ℕ, ◌+◌, ◌≤◌, ◌<◌, List, [], ◌∷◌, Bool, true, false, refl, ap, sym, ◌∙◌, subst, arith, inl, inr}
 use Rattle.std.specs.Prelude.{◌==◌, ◌&&◌, not, Some}
-use Rattle.std.proofs.lemmas.Bool.{cases_eq, eq-eqb, eqb-true, false≢true}
+use Rattle.std.proofs.lemmas.Bool.{eq-eqb, eqb-true, false≢true}
 use Rattle.lqh_block.specs.declared.request.Request.{Request}
 use Rattle.lqh_block.specs.Lqh.{lqh_table}
 use Rattle.lqh_block.specs.State.{LqhState}
@@ -30,7 +30,7 @@ use Rattle.world_core.specs.Steps.{HostStep}
 use Rattle.sig_core.proofs.Keys.{same_key-self, same_tx-self}
 use Rattle.run_theory.proofs.Tally.{tally_in}
 use Rattle.run_theory.specs.Counts.{one_if}
-use Rattle.run_laws.proofs.hosts.AlongSteps.{Goes, along, at_home, few_taken, live_tx, rows_place, tx_at}
+use Rattle.run_laws.proofs.hosts.AlongSteps.{Goes, along, at_home, few_taken, live_tx, rows_place, tx_at, goes_cases}
 use Rattle.answer_laws.proofs.Flows.{flow_grows}
 use Rattle.host_laws.proofs.coordinator.HostTurns.{rows_turn}
 use Rattle.host_laws.proofs.hosts.LinkCounts.{sent_signals, signals, taken_signals, to_host}
@@ -225,26 +225,19 @@ module _ (start : Start) (tx : TxId) (key : List ℕ) (node : ℕ) (some_node : 
       → GoesOnWithWaiting now
   step logs now j e g k = record {
     lone = lone_step start tx key logs now j e g k.lone;
-    served = λ none. by (cases_eq j at)
-        (before_none logs now j e g none);
+    served = λ none some off. let was = before_none logs now j e g none in
+        goes_cases start logs now j e g at
+        (λ own. own_served logs now e own k was
+        (subst (λ log. 1 ≤ waiting tx key (lqh_of (after start at log))) own.own some)
+        (ap (λ log. queued tx key (lqh_of (after start at log))) (sym own.own) ∙ off))
+        (λ differs log_is. omega (
+          arith,
+          k.served was (subst (λ log. 1 ≤ waiting tx key (lqh_of (after start at log))) log_is some)
+              (ap (λ log. queued tx key (lqh_of (after start at log))) (sym log_is) ∙ off),
+          ap more_taken log_is,
+          ap more_sent log_is,
+        ));
   }
-    where
-      by : (j ≡ at) ⊎ (j ≢ at) → F start tx logs ≡ 0 → 1 ≤ waiting tx key (lqh_of (after start at (now at)))
-          → queued tx key (lqh_of (after start at (now at))) ≡ false → more_taken (now at) + 1 ≤ more_sent (now at)
-      by (inl same) none some off =
-          let own = subst (λ m. Goes start logs now m e) same g in
-          own_served logs now e own k none
-          (subst (λ log. 1 ≤ waiting tx key (lqh_of (after start at log))) own.own some)
-          (ap (λ log. queued tx key (lqh_of (after start at log))) (sym own.own) ∙ off)
-      by (inr differs) none some off =
-          let log_is = g.others at (λ z. differs (sym z)) in
-          omega (
-            arith,
-            k.served none (subst (λ log. 1 ≤ waiting tx key (lqh_of (after start at log))) log_is some)
-                (ap (λ log. queued tx key (lqh_of (after start at log))) (sym log_is) ∙ off),
-            ap more_taken log_is,
-            ap more_sent log_is,
-          )
 
   first_waits : waiting tx key (lqh_of (started start at)) ≡ 0
   unfolding fresh_part

@@ -1,7 +1,7 @@
 -- Of a transaction that isn't decided no row is committed or completed.
-use Rattle.std.proofs.Common.{◌≡◌, ◌≢◌, ◌⊎◌, ℕ, ◌≤◌, List, [], Bool, true, false, refl, ap, sym, ◌∙◌, subst, arith, inl, inr}
+use Rattle.std.proofs.Common.{◌≡◌, ◌≢◌, ◌⊎◌, ℕ, ◌≤◌, List, [], Bool, true, false, refl, ap, sym, ◌∙◌, arith, inl, inr}
 use Rattle.std.specs.Prelude.{not, if◌then◌else◌, None, Some}
-use Rattle.std.proofs.lemmas.Bool.{cases_eq, false≢true}
+use Rattle.std.proofs.lemmas.Bool.{false≢true}
 use Rattle.lqh_block.specs.Lqh.{lqh_table}
 use Rattle.node_core.proofs.HostCases.{IsRowsStep}
 use Rattle.node_core.specs.Blocks.{lqh_of, tc_of}
@@ -21,7 +21,7 @@ use Rattle.world_core.specs.Machine.{after, machine, step_after}
 use Rattle.world_core.specs.Start.{Start}
 use Rattle.world_core.specs.Steps.{HostStep}
 use Rattle.host_laws.proofs.hosts.Sums.{total_zero}
-use Rattle.run_laws.proofs.hosts.AlongSteps.{Goes, along, at_tc, no_transaction, other_turn, the_transaction, turn_at, tx_at}
+use Rattle.run_laws.proofs.hosts.AlongSteps.{Goes, along, at_tc, no_transaction, other_turn, the_transaction, turn_at, tx_at, goes_cases}
 use Rattle.answer_laws.proofs.Flows.{flow_came, flow_sent}
 use Rattle.host_laws.proofs.coordinator.HostTurns.{HostTurn, IsAside, aside, in_rows, is_aside, starting, turning}
 use Rattle.answer_laws.proofs.LqhForth.{is_back, lqh_back}
@@ -161,22 +161,16 @@ module _ (start : Start) (tx : TxId) where
               (ap (sends_of (forth_at tx)) step.told ∙ back_none tx step.turn.step.effects.sends o.1)
 
   step : (logs now : ℕ → List HostStep) (h : ℕ) (e : HostStep) → Goes start logs now h e → IsBack logs → IsBack now
-  step logs now h e g k = by (cases_eq h (home start tx))
+  step logs now h e g k =
+      goes_cases start logs now h e g (home start tx) (λ own. own_back logs now e own k) away
     where
-      by : (h ≡ home start tx) ⊎ (h ≢ home start tx) → IsBack now
-      by (inl same) = own_back logs now e (subst (λ j. Goes start logs now j e) same g) k
-      by (inr differs) =
-          let log_is = g.others (home start tx) (λ z. differs (sym z)) in
-          record {
-            undecided = λ t at off. none (k.undecided t (ap (λ log. tx_at tx (after start (home start tx) log))
-                (sym log_is) ∙ at) off);
-            unborn = λ early. none (k.unborn (omega (
-              arith,
-              early,
-              ap
-                  (λ log. (tc_of (after start (home start tx) log)).next_seq) log_is,
-            )));
-          }
+      away : h ≢ home start tx → now (home start tx) ≡ logs (home start tx) → IsBack now
+      away differs log_is = record {
+        undecided = λ t at off. none (k.undecided t (ap (λ log. tx_at tx (after start (home start tx) log))
+            (sym log_is) ∙ at) off);
+        unborn = λ early. none
+            (k.unborn (omega (arith, early, ap (λ log. (tc_of (after start (home start tx) log)).next_seq) log_is)));
+      }
         where
           none : F logs ≡ 0 → F now ≡ 0
           none was = go (other_turn start tx h (logs h) e g.low differs)

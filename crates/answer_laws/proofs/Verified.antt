@@ -1,7 +1,7 @@
 -- At quiet no transaction waits for its epoch.
-use Rattle.std.proofs.Common.{◌≡◌, ◌≢◌, ◌⊎◌, ℕ, ◌+◌, ◌≤◌, ◌<◌, List, [], length, Bool, true, false, refl, ap, sym, ◌∙◌, subst, arith, inl, inr}
+use Rattle.std.proofs.Common.{◌≡◌, ◌≢◌, ℕ, ◌+◌, ◌≤◌, ◌<◌, List, [], length, Bool, true, false, refl, ap, sym, ◌∙◌, subst, arith}
 use Rattle.std.specs.Prelude.{◌-◌, ◌&&◌, not, if◌then◌else◌, None, Some}
-use Rattle.std.proofs.lemmas.Bool.{cases_eq, eq-eqb, false≢true}
+use Rattle.std.proofs.lemmas.Bool.{eq-eqb, false≢true}
 use Rattle.node_core.specs.Blocks.{tc_of}
 use Rattle.node_core.specs.declared.host.Host.{Host}
 use Rattle.run_theory.specs.Links.{is_from}
@@ -31,7 +31,7 @@ use Rattle.world_core.specs.Steps.{HostStep}
 use Rattle.sig_core.proofs.Keys.{same_tx-self}
 use Rattle.run_theory.proofs.Tally.{none_if}
 use Rattle.run_theory.specs.Counts.{one_if}
-use Rattle.run_laws.proofs.hosts.AlongSteps.{Goes, along, at_home, at_tc, few_taken, first_none, is_dih, live_tx, no_transaction, the_transaction, turn_at, tx_at}
+use Rattle.run_laws.proofs.hosts.AlongSteps.{Goes, along, at_home, at_tc, few_taken, first_none, is_dih, live_tx, no_transaction, the_transaction, turn_at, tx_at, goes_cases}
 use Rattle.answer_laws.proofs.EpochCounts.{AreFew, is_epochless}
 use Rattle.answer_laws.proofs.EpochFlow.{at_place, is_conf, is_req}
 use Rattle.answer_laws.proofs.EpochGiven.{DihIs, all_own, dih_is, epochs_host, here, own_sent, own_taken, sent_counts, tc_no_rows}
@@ -356,20 +356,16 @@ module _ (start : Start) (tx : TxId) (some_node : 1 ≤ tx.tc) (few_nodes : tx.t
               }
 
   step : (logs now : ℕ → List HostStep) (i : ℕ) (e : HostStep) → Goes start logs now i e → IsAsked logs → IsAsked now
-  step logs now i e g k = by (cases_eq at i)
-    where
-      by : (at ≡ i) ⊎ (at ≢ i) → IsAsked now
-      by (inl same) = own_step logs now e (subst (λ j. Goes start logs now j e) (sym same) g) k
-      by (inr differs) =
-          let log_is = g.others at differs in
-          record {
-            opened = λ t there p. ap reqs log_is
-                ∙ k.opened t (ap (λ log. tx_at tx (after start at log)) (sym log_is) ∙ there) p;
-            verifying = λ t there p. subst (λ log. (1 ≤ reqs log) × (confs log ≡ 0)) (sym log_is)
-                (k.verifying t (ap (λ log. tx_at tx (after start at log)) (sym log_is) ∙ there) p);
-            unborn = λ early. ap reqs log_is
-                ∙ k.unborn (omega (arith, early, ap (λ log. (tc_of (after start at log)).next_seq) log_is));
-          }
+  step logs now i e g k =
+      goes_cases start logs now i e g at (λ own. own_step logs now e own k)
+      (λ differs log_is. record {
+        opened = λ t there p. ap reqs log_is
+            ∙ k.opened t (ap (λ log. tx_at tx (after start at log)) (sym log_is) ∙ there) p;
+        verifying = λ t there p. subst (λ log. (1 ≤ reqs log) × (confs log ≡ 0)) (sym log_is)
+            (k.verifying t (ap (λ log. tx_at tx (after start at log)) (sym log_is) ∙ there) p);
+        unborn = λ early. ap reqs log_is
+            ∙ k.unborn (omega (arith, early, ap (λ log. (tc_of (after start at log)).next_seq) log_is));
+      })
 
   first : IsAsked (log_of (machine start) [])
   first = record {

@@ -25,6 +25,7 @@ pub fn each_asks_where_operating()
 {}
 
 /// When nothing is under way, no coordinator waits for the keys of a transaction to be committed.
+#[tactic(auto, using(crate::proofs::Commits::no_commit))]
 pub fn no_commit_is_awaited()
     ensures { NoCommitIsAwaited }
 {}
@@ -73,6 +74,7 @@ pub fn each_is_answered()
 {}
 
 /// All that together, of each transaction whose end isn't reported.
+#[tactic(auto, using(crate::proofs::Serves::each_served))]
 pub fn each_is_kept_by_its_coordinator()
     ensures { EachIsKeptByCoordinator }
 {}

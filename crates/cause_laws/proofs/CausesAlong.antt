@@ -2,11 +2,12 @@
 -- aborted, each report and each reply.
 use Rattle.std.proofs.Common.{◌≡◌, ◌≢◌, ◌⊎◌, ℕ, zero, suc, ◌%◌, Bool, true, false, List, [], ◌∷◌, refl, sym, ap, ◌∙◌}
 use Rattle.std.proofs.Common.{subst, inl, inr}
-use Rattle.std.proofs.lemmas.Bool.{cases_eq, true≢false}
+use Rattle.std.proofs.lemmas.Bool.{true≢false}
 use Rattle.std.specs.List.{list_any}
+use Rattle.run_theory.proofs.EventCases.{event_cases, event_each, event_own}
 use Rattle.run_theory.proofs.Orders.{each_next}
 use Rattle.run_theory.proofs.Pasts.{each_append, each_from, each_in, each_map, past_self}
-use Rattle.run_theory.proofs.Runs.{log_of-other, log_of-own, log_of-past}
+use Rattle.run_theory.proofs.Runs.{log_of-past}
 use Rattle.run_theory.specs.Lists.{Each, IsIn, IsPast}
 use Rattle.sig_core.specs.declared.mark.Mark.{Mark}
 use Rattle.sig_core.specs.declared.mark.Mark.TheVariants.{Expired, Reported}
@@ -211,9 +212,6 @@ module _ (start : Start) where
     past : (k : ℕ) → IsPast (old k) (now k)
     past k = log_of-past (machine start) e es k
 
-    own_now : now h ≡ e ∷ old h
-    own_now = log_of-own (machine start) e es h refl
-
     -- all that the step sends
     abbrev sends : List Outgoing
     sends = (row g x).effects.sends
@@ -227,7 +225,7 @@ module _ (start : Start) where
 
     -- this step, in the logs
     inside : IsPast (e ∷ old h) (now h)
-    inside = subst (IsPast (e ∷ old h)) (sym own_now) (past_self (e ∷ old h))
+    inside = event_own (machine start) e es (λ k. IsPast (e ∷ old h)) h refl (past_self (e ∷ old h))
 
     old_told : Tells old x.body
     old_told = by (is_request x.body) refl
@@ -395,7 +393,10 @@ module _ (start : Start) where
 
     -- who is aborted at each host
     live_now : (k : ℕ) → AllCaused (Caused now) (tc_of (after start k (now k))).live
-    live_now k = by (cases_eq h k)
+    live_now =
+        event_each (machine start) e es (λ k log. AllCaused (Caused now) (tc_of (after start k log)).live)
+        (live_more old now past (tc_of (row g x).state).live (kept (tc_step g x)))
+        (λ k off. live_more old now past (tc_of (after start k (old k))).live (held.all.live k))
       where
         kept : IsTcStep g x (row g x) ⊎ (tc_of (row g x).state ≡ tc_of g)
             → AllCaused (Caused old) (tc_of (row g x).state).live
@@ -403,17 +404,6 @@ module _ (start : Start) where
             subst (λ (s : TcState). AllCaused (Caused old) s.live) (sym step.state)
             (tc_caused (Caused old) (tc_of g) x.body (tells_tc step.runs) (held.all.live h)).live
         kept (inr same) = subst (λ (s : TcState). AllCaused (Caused old) s.live) (sym same) (held.all.live h)
-
-        own : AllCaused (Caused now) (tc_of (after start h (now h))).live
-        own = subst (λ log. AllCaused (Caused now) (tc_of (after start h log)).live) (sym own_now)
-            (live_more old now past (tc_of (row g x).state).live (kept (tc_step g x)))
-
-        by : (h ≡ k) ⊎ (h ≢ k) → AllCaused (Caused now) (tc_of (after start k (now k))).live
-        by (inl same) = subst (λ i. AllCaused (Caused now) (tc_of (after start i (now i))).live) same own
-        by (inr other) =
-            subst (λ log. AllCaused (Caused now) (tc_of (after start k log)).live)
-            (sym (log_of-other (machine start) e es k other))
-            (live_more old now past (tc_of (after start k (old k))).live (held.all.live k))
 
     -- what is replied there
     reply_told : (reply : ApiReply) → IsToldBy x.body reply → IsReplyCaused start now reply
@@ -423,7 +413,10 @@ module _ (start : Start) where
     reply_told _ is = tt
 
     replies_now : (k : ℕ) → Each (IsReplyCaused start now) (api_of (after start k (now k))).replies
-    replies_now k = by (cases_eq h k)
+    replies_now =
+        event_each (machine start) e es (λ k log. Each (IsReplyCaused start now) (api_of (after start k log)).replies)
+        (kept (api_step g x))
+        (λ k off. replies_more old now past (api_of (after start k (old k))).replies (held.all.replies k))
       where
         was : Each (IsReplyCaused start now) (api_of g).replies
         was = replies_more old now past (api_of g).replies (held.all.replies h)
@@ -437,17 +430,6 @@ module _ (start : Start) where
             (each_append (IsReplyCaused start now) (api_of g).replies added.more was
             (each_map (IsToldBy x.body) (IsReplyCaused start now) added.more reply_told added.told)))
         kept (inr same) = subst (λ (s : ApiState). Each (IsReplyCaused start now) s.replies) (sym same) was
-
-        own : Each (IsReplyCaused start now) (api_of (after start h (now h))).replies
-        own = subst (λ log. Each (IsReplyCaused start now) (api_of (after start h log)).replies) (sym own_now)
-            (kept (api_step g x))
-
-        by : (h ≡ k) ⊎ (h ≢ k) → Each (IsReplyCaused start now) (api_of (after start k (now k))).replies
-        by (inl same) = subst (λ i. Each (IsReplyCaused start now) (api_of (after start i (now i))).replies) same own
-        by (inr other) =
-            subst (λ log. Each (IsReplyCaused start now) (api_of (after start k log)).replies)
-            (sym (log_of-other (machine start) e es k other))
-            (replies_more old now past (api_of (after start k (old k))).replies (held.all.replies k))
 
     -- and what is marked
     mark_told : (m : Mark) → IsMarkedBy x.body m → IsMarkCaused now (old 0) m
@@ -467,14 +449,11 @@ module _ (start : Start) where
         }))
 
     marks_now : AreMarksCaused now (now 0)
-    marks_now = by (cases_eq h 0)
+    marks_now =
+        event_cases (machine start) e es 0 (AreMarksCaused now) (λ at. (step_marks, was)) (λ off. was)
       where
         was : AreMarksCaused now (old 0)
         was = marks_more old now past (old 0) held.all.marks
-
-        by : (h ≡ 0) ⊎ (h ≢ 0) → AreMarksCaused now (now 0)
-        by (inl same) = subst (AreMarksCaused now) (sym (log_of-own (machine start) e es 0 same)) (step_marks, was)
-        by (inr other) = subst (AreMarksCaused now) (sym (log_of-other (machine start) e es 0 other)) was
 
     next_holds : Holds now (joined (signals_of start h (old h) e) between)
     next_holds = record {

@@ -7,18 +7,21 @@ ghost use Rattle.cause_laws.specs.Waited.{TimeOutsTakeEightRounds, WaitsHaveThei
 
 /// The rows of a node mark a wait to have stood too long only where it stands in the queue of its
 /// key, and has stood there for eight rounds, that of the signal included.
+#[tactic(auto, using(crate::proofs::RowReasons::long_waits))]
 pub fn only_long_waits_expire()
     ensures { OnlyLongWaitsExpire }
 {}
 
 /// Whoever waits in the queue of a key, after any log of a host, was asked for at a step of it, and
 /// at least as many rounds of time have come since as the queue counts.
+#[tactic(auto, using(crate::proofs::Waited::have_rounds))]
 pub fn waits_have_their_rounds()
     ensures { WaitsHaveTheirRounds }
 {}
 
 /// Where a host marks a wait to have stood too long, that was asked for at a step of its log, and at
 /// least eight rounds of time have come since, that of the step included.
+#[tactic(auto, using(crate::proofs::Waited::take_eight_rounds))]
 pub fn time_outs_take_eight_rounds()
     ensures { TimeOutsTakeEightRounds }
 {}
@@ -40,17 +43,20 @@ pub fn turned_away_are_too_many()
 
 /// The API replies that too many transactions are open only upon that signal, and an abort only upon
 /// the report of one, with its cause; and it takes back no reply.
+#[tactic(auto, using(crate::proofs::ApiReplies::replies_told))]
 pub fn replies_are_told()
     ensures { RepliesAreTold }
 {}
 
 /// Of all replies in a closed cut each that tells of an abort has its cause in the cut, and each that
 /// tells that too many are open has a coordinator there that had too many.
+#[tactic(auto, using(crate::proofs::Causes::replies_caused))]
 pub fn replies_are_caused()
     ensures { RepliesAreCaused }
 {}
 
 /// There is a closed cut in which an abort was reported, at the client's request.
+#[tactic(auto, using(crate::proofs::SampleAborted::sample_aborted))]
 pub fn closed_cuts_have_aborts()
     ensures { SampleIsAborted }
 {}

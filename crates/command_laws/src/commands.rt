@@ -31,6 +31,7 @@ pub fn operations_come_to_something()
 {}
 
 /// Each commit is turned down for the reason that the API's state gives, or reported.
+#[tactic(auto, using(crate::proofs::operations::ComesTo::commits_come_to))]
 pub fn commits_come_to_something()
     ensures { CommitsComeTo }
 {}
@@ -70,11 +71,13 @@ pub fn no_abort_waits()
 
 /// As no host stops, no reply tells of one that did: no transaction ends for the failure of a node or
 /// of the cluster, none in an unknown way, and nothing is refused since the cluster is down.
+#[tactic(auto, using(crate::proofs::ends::RepliesLive::replies_live))]
 pub fn no_reply_tells_of_a_stopped_host()
     ensures { RepliesAreOfTheLiving }
 {}
 
 /// There are logs between which a commit was served, of a transaction that takes commands.
+#[tactic(auto, using(crate::proofs::hosts::SampleServed::sample_served))]
 pub fn a_commit_is_served()
     ensures { SampleIsServed }
 {}

@@ -93,10 +93,6 @@ pub part_listed : (s : RowsState) (at : ℕ)
 unfolding dumped_from
 part_listed s at = more_listed s 8 (dumped [] (next_place s at)) ∙ next_listed s at
 
-not_both : (b : Bool) {c : Bool} → (if b then true else c) ≡ false → c ≡ false
-not_both true off = cc
-not_both false off = off
-
 -- a row is that of a key with a place
 listed_has : (places : List (Option Slot)) (q : KeyedRow) → IsIn q (rows_at places) → has_place places q.0 ≡ true
 listed_has [] q inside = absurd inside

@@ -1,9 +1,8 @@
 -- No reply tells of a host that stopped.
 use Rattle.std.proofs.Common.{◌≡◌, ◌≢◌, ◌⊎◌, ℕ, zero, suc, Bool, true, false, List, [], ◌∷◌, refl, sym, subst, inl, inr, true≢false}
-use Rattle.std.proofs.lemmas.Bool.{cases_eq}
 use Rattle.std.specs.Prelude.{◌%◌}
+use Rattle.run_theory.proofs.EventCases.{event_each}
 use Rattle.run_theory.proofs.Along.{along_signals_of_logs}
-use Rattle.run_theory.proofs.Runs.{log_of-other, log_of-own}
 use Rattle.run_theory.specs.Along.{Comes, IsKept}
 use Rattle.run_theory.specs.Lists.{Each}
 use Rattle.run_theory.specs.Runs.{log_of}
@@ -141,14 +140,8 @@ module _ (start : Start) where
     lives = row_lives (after start h log) e.step.taken sound (come.all.law h)
 
     now_lives : AllHosts (log_of (machine start) (e ∷ es))
-    now_lives g = by (cases_eq h g)
-      where
-        by : (h ≡ g) ⊎ (h ≢ g) → HostLives (after start g (log_of (machine start) (e ∷ es) g))
-        by (inl same) =
-            subst (λ k. HostLives (after start k (log_of (machine start) (e ∷ es) k))) same
-            (subst (λ l. HostLives (after start h l)) (sym (log_of-own (machine start) e es h refl)) lives.state)
-        by (inr other) =
-            subst (λ l. HostLives (after start g l)) (sym (log_of-other (machine start) e es g other)) (come.all.law g)
+    now_lives =
+        event_each (machine start) e es (λ g l. HostLives (after start g l)) lives.state (λ g off. come.all.law g)
 
     sends_sound : Each (λ (x : Addressed). is_sound x.signal.body ≡ true) (signals_of start h log e)
     sends_sound = addressed_sound (first_membership start) h e.step.stamp (sent_count start h log)

@@ -64,9 +64,6 @@ pub named_found : (opened : List OpenTransaction) (name : ℕ) (t : OpenTransact
     → IsNamed opened name t
 named_found opened name t = go (nat_lt n (length opened)) refl
   where
-    p : OpenTransaction → Bool
-    p = is_named (Some name)
-
     n : ℕ
     n = prefix_len (λ (x : OpenTransaction). not (is_named (Some name) x)) opened
 

@@ -1,14 +1,15 @@
 -- Where no commit or abort of an open transaction is wished for, nobody reports its commit, or its abort but for want
 -- of room or of time.
-use Rattle.std.proofs.Common.{◌≡◌, ◌≢◌, ◌⊎◌, ◌<◌, ◌≤◌, ℕ, Bool, true, false, List, [], ◌∷◌, ◌++◌, refl, sym, ap, ◌∙◌, subst, inl, inr, append_assoc, arith}
-use Rattle.std.proofs.lemmas.Bool.{cases_eq, cases_lt}
+use Rattle.std.proofs.Common.{◌≡◌, ◌⊎◌, ◌<◌, ◌≤◌, ℕ, Bool, true, false, List, [], ◌∷◌, ◌++◌, ◌==◌, if◌then◌else◌, refl, sym, ap, ◌∙◌, subst, inl, inr, append_assoc, arith}
+use Rattle.std.proofs.lemmas.Bool.{cases_lt}
 use Rattle.std.proofs.lemmas.List.{append_cancel_right}
 use Rattle.std.specs.Prelude.{Some, not}
+use Rattle.run_theory.proofs.EventCases.{event_cases}
 use Rattle.run_theory.proofs.Along.{within_cut}
 use Rattle.run_theory.proofs.Cuts.{taken_past}
 use Rattle.run_theory.proofs.Growth.{along_cuts}
 use Rattle.run_theory.proofs.Pasts.{each_in, past_self, past_trans}
-use Rattle.run_theory.proofs.Runs.{log_of-other, log_of-own, log_of-past}
+use Rattle.run_theory.proofs.Runs.{log_of-own, log_of-past}
 use Rattle.run_theory.specs.Cuts.{IsCut}
 use Rattle.run_theory.specs.Links.{sent, taken}
 use Rattle.run_theory.specs.Lists.{Each, IsIn, IsPast}
@@ -167,23 +168,19 @@ module _ (start : Start) (was now : ℕ → List HostStep) (before : AreQuiet st
             is_true (is_fair tx e.step.taken.body) (signal is (is_loss tx e.step.taken.to e.step.taken.body) refl)
 
     log_more : (h : ℕ) → log_of (machine start) (e ∷ es) h ≡ newer_in (e ∷ all.more) h ++ was h
-    log_more h = by (cases_eq e.host h)
+    log_more h = by (e.host == h)
       where
-        by : (e.host ≡ h) ⊎ (e.host ≢ h) → log_of (machine start) (e ∷ es) h ≡ newer_in (e ∷ all.more) h ++ was h
-        by (inl at) = log_of-own (machine start) e es h at ∙ ap (λ w. e ∷ w) (all.is h)
-            ∙ ap (λ w. w ++ was h) (sym (log_of-own (machine start) e all.more h at))
-        by (inr other) = log_of-other (machine start) e es h other ∙ all.is h
-            ∙ ap (λ w. w ++ was h) (sym (log_of-other (machine start) e all.more h other))
+        by : (b : Bool) → (if b then e ∷ log_of (machine start) es h else log_of (machine start) es h)
+            ≡ (if b then e ∷ newer_in all.more h else newer_in all.more h) ++ was h
+        by true = ap (λ w. e ∷ w) (all.is h)
+        by false = all.is h
 
     -- a claim of each host's steps that its own step keeps
     each_host : (P : (h : ℕ) → List HostStep → Type 0) → ((h : ℕ) → P h (newer_in all.more h))
         → ((h : ℕ) → e.host ≡ h → P h (newer_in all.more h) → P h (e ∷ newer_in all.more h)) → (h : ℕ)
         → P h (newer_in (e ∷ all.more) h)
-    each_host P old step h = by (cases_eq e.host h)
-      where
-        by : (e.host ≡ h) ⊎ (e.host ≢ h) → P h (newer_in (e ∷ all.more) h)
-        by (inl at) = subst (P h) (sym (log_of-own (machine start) e all.more h at)) (step h at (old h))
-        by (inr other) = subst (P h) (sym (log_of-other (machine start) e all.more h other)) (old h)
+    each_host P old step h =
+        event_cases (machine start) e all.more h (P h) (λ at. step h at (old h)) (λ off. old h)
 
     -- the host of the step before it
     abbrev g : Host

@@ -1,6 +1,7 @@
 -- Of two quiet moments of the same logs, the one that comes first in host 0's log is a cut of the other.
 use Rattle.std.proofs.Common.{◌≡◌, ◌≢◌, ◌⊎◌, ◌<◌, ◌≤◌, ℕ, Bool, true, false, List, [], ◌∷◌, ◌++◌, length, refl, sym, ap, ◌∙◌, subst, inl, inr, length-append, arith}
-use Rattle.std.proofs.lemmas.Bool.{cases_eq, cases_lt, false≢true}
+use Rattle.std.proofs.lemmas.Bool.{cases_lt, false≢true}
+use Rattle.run_theory.proofs.EventCases.{event_each}
 use Rattle.run_theory.specs.Cuts.{IsCut}
 use Rattle.run_theory.specs.Links.{IsGiven, sent, taken}
 use Rattle.run_theory.specs.Lists.{IsPast}
@@ -12,7 +13,7 @@ use Rattle.run_theory.proofs.Cuts.{taken_past}
 use Rattle.run_theory.proofs.Links.{sent_more}
 use Rattle.run_theory.proofs.Merging.{logs_merged, merged_run}
 use Rattle.run_theory.proofs.Pasts.{past_cases, past_nil, past_self, past_trans, past_whole}
-use Rattle.run_theory.proofs.Runs.{log_of-other, log_of-own, log_of-past}
+use Rattle.run_theory.proofs.Runs.{log_of-own, log_of-past}
 use Rattle.world_core.specs.Quiet.{IsQuiet}
 
 -- an older part is no longer than the whole
@@ -120,20 +121,12 @@ module _ {E X : Type 0} (m : Machine E X) where
 
     next : (es : List E) (e : E) → Run m es → Happens m es e → (IsCut (log_of m es) was → IsCut (log_of m es) now)
         → IsCut (log_of m (e ∷ es)) was → IsCut (log_of m (e ∷ es)) now
-    next es e run happens before inside h = by (cases_eq (m.host e) h)
-      where
-        old : IsCut (log_of m es) now
-        old = before (λ k. past_trans (log_of-past m e es k) (inside k))
-
-        own : IsPast (log_of m (e ∷ es) (m.host e)) (now (m.host e))
-        own =
-            let is = log_of-own m e es (m.host e) refl in
-            subst (λ w. IsPast w (now (m.host e))) (sym is)
-            (own_next es e happens old (subst (λ w. IsPast w (was (m.host e))) is (inside (m.host e))))
-
-        by : (m.host e ≡ h) ⊎ (m.host e ≢ h) → IsPast (log_of m (e ∷ es) h) (now h)
-        by (inl at) = subst (λ k. IsPast (log_of m (e ∷ es) k) (now k)) at own
-        by (inr other) = subst (λ w. IsPast w (now h)) (sym (log_of-other m e es h other)) (old h)
+    next es e run happens before inside =
+        let old : IsCut (log_of m es) now = before (λ k. past_trans (log_of-past m e es k) (inside k)) in
+        event_each m e es (λ h log. IsPast log (now h))
+        (own_next es e happens old
+        (subst (λ w. IsPast w (was (m.host e))) (log_of-own m e es (m.host e) refl) (inside (m.host e))))
+        (λ h off. old h)
 
     -- the earlier moment is a cut of the later one
     pub quiet_cut : IsCut was now

@@ -84,22 +84,28 @@ module _ (start : Start) (P : Addressed → (ℕ → List HostStep) → Type 0) 
     abbrev AllTaken : Type 0
     AllTaken = (i j : ℕ) → i < hosts start → j < hosts start → taken m i (after j) ≡ sent m i j (before i)
 
-    sent_other : (i j : ℕ) → e.host ≢ i → sent m i j (after i) ≡ sent m i j (before i)
-    sent_other i j apart = ap (sent m i j) (next.others i apart)
+    -- what is so of the log of its host, and of the others as they were
+    next_each : (Q : ℕ → List HostStep → Type 0) → Q e.host (e ∷ before e.host)
+        → ((h : ℕ) → e.host ≢ h → Q h (before h)) → (h : ℕ) → Q h (after h)
+    next_each Q own others h = by (cases_eq e.host h)
+      where
+        by : (e.host ≡ h) ⊎ (e.host ≢ h) → Q h (after h)
+        by (inl at) = subst (λ k. Q k (after k)) at (subst (Q e.host) (sym next.own) own)
+        by (inr off) = subst (Q h) (sym (next.others h off)) (others h off)
+
+    -- what it sends to a host
+    sent_put : (os : List Outgoing) → sends ≡ os → (j : ℕ) → sent m e.host j (e ∷ before e.host)
+        ≡ put m j
+        (all_addressed (first_membership start) e.host e.step.stamp (sent_count start e.host (before e.host)) os)
+        (sent m e.host j (before e.host))
+    sent_put os is j =
+        ap (λ (os : List Outgoing). put m j
+        (all_addressed (first_membership start) e.host e.step.stamp (sent_count start e.host (before e.host)) os)
+        (sent m e.host j (before e.host))) is
 
     sent_none : sends ≡ [] → (i j : ℕ) → sent m i j (after i) ≡ sent m i j (before i)
-    sent_none none i j = by (cases_eq e.host i)
-      where
-        own : (k : ℕ) → e.host ≡ k → sent m k j (after k) ≡ sent m k j (before k)
-        own k same = subst (λ h. sent m h j (after h) ≡ sent m h j (before h)) same
-            (ap (sent m e.host j) next.own
-            ∙ ap (λ (os : List Outgoing). put m j
-            (all_addressed (first_membership start) e.host e.step.stamp (sent_count start e.host (before e.host)) os)
-            (sent m e.host j (before e.host))) none)
-
-        by : (e.host ≡ i) ⊎ (e.host ≢ i) → sent m i j (after i) ≡ sent m i j (before i)
-        by (inl same) = own i same
-        by (inr apart) = sent_other i j apart
+    sent_none none i j =
+        next_each (λ k log. sent m k j log ≡ sent m k j (before k)) (sent_put [] none j) (λ k off. refl) i
 
     ends_quiet : AllTaken → sends ≡ [] → IsQuiet m (hosts start) after
     ends_quiet all none i j under low = all i j under low ∙ sym (sent_none none i j)
@@ -112,25 +118,17 @@ module _ (start : Start) (P : Addressed → (ℕ → List HostStep) → Type 0) 
       sent_own : (j : ℕ) → sent m e.host j (after e.host)
           ≡ (if host_for start out.to == j then y ∷ sent m e.host j (before e.host) else sent m e.host j
           (before e.host))
-      sent_own j = ap (sent m e.host j) next.own
-          ∙ ap (λ (os : List Outgoing). put m j
-          (all_addressed (first_membership start) e.host e.step.stamp (sent_count start e.host (before e.host)) os)
-          (sent m e.host j (before e.host))) one
+      sent_own j = ap (sent m e.host j) next.own ∙ sent_put (out ∷ []) one j
 
       sent_apart : (i j : ℕ) → (i ≡ e.host → j ≡ host_for start out.to → ⊥)
           → sent m i j (after i) ≡ sent m i j (before i)
-      sent_apart i j apart = by (cases_eq e.host i)
-        where
-          own : (k : ℕ) → e.host ≡ k → (k ≡ e.host → j ≡ host_for start out.to → ⊥)
-              → sent m k j (after k) ≡ sent m k j (before k)
-          own k same = subst (λ h. (h ≡ e.host → j ≡ host_for start out.to → ⊥)
-              → sent m h j (after h) ≡ sent m h j (before h)) same
-              (λ other. sent_own j ∙ if_false (y ∷ sent m e.host j (before e.host)) (sent m e.host j (before e.host))
-              (ne_eqb (host_for start out.to) j (λ at. other refl (sym at))))
-
-          by : (e.host ≡ i) ⊎ (e.host ≢ i) → sent m i j (after i) ≡ sent m i j (before i)
-          by (inl same) = own i same apart
-          by (inr differs) = sent_other i j differs
+      sent_apart i j =
+          next_each
+          (λ k log. (k ≡ e.host → j ≡ host_for start out.to → ⊥) → sent m k j log ≡ sent m k j (before k))
+          (λ apart. sent_put (out ∷ []) one j
+          ∙ if_false (y ∷ sent m e.host j (before e.host)) (sent m e.host j (before e.host))
+          (ne_eqb (host_for start out.to) j (λ at. apart refl (sym at))))
+          (λ k off apart. refl) i
 
       pub goes_under_way : AllTaken → host_for start out.to < hosts start → IsUnderWay start after y
       goes_under_way all there = record {
@@ -154,15 +152,10 @@ module _ (start : Start) (P : Addressed → (ℕ → List HostStep) → Type 0) 
 
     -- a request takes nothing from a link
     pub asked_all : is_request e.step.taken.body ≡ true → IsQuiet m (hosts start) before → AllTaken
-    asked_all asked quiet i j under below = by (cases_eq e.host j)
-      where
-        own : (k : ℕ) → k < hosts start → e.host ≡ k → taken m i (after k) ≡ sent m i k (before i)
-        own k at same = subst (λ h. h < hosts start → taken m i (after h) ≡ sent m i h (before i)) same
-            (λ there. ap (taken m i) next.own ∙ taken-asked m i e (before e.host) asked ∙ quiet i e.host under there) at
-
-        by : (e.host ≡ j) ⊎ (e.host ≢ j) → taken m i (after j) ≡ sent m i j (before i)
-        by (inl same) = own j below same
-        by (inr apart) = ap (taken m i) (next.others j apart) ∙ quiet i j under below
+    asked_all asked quiet i j under =
+        next_each (λ k log. k < hosts start → taken m i log ≡ sent m i k (before i))
+        (λ below. taken-asked m i e (before e.host) asked ∙ quiet i e.host under below)
+        (λ k off below. quiet i k under below) j
 
     abbrev source : ℕ
     source = e.step.taken.from.0
@@ -202,7 +195,10 @@ module _ (start : Start) (P : Addressed → (ℕ → List HostStep) → Type 0) 
             (subst (IsPast (it ∷ taken m source (before e.host))) ahead_here past)
 
         taken_all : AllTaken
-        taken_all i j under below = by (cases_eq e.host j)
+        taken_all i j under =
+            next_each (λ k log. k < hosts start → taken m i log ≡ sent m i k (before i))
+            (λ below. here (cases_eq source i))
+            (λ k off below. way.others i k under below (λ same at. off (same_host ∙ sym at))) j
           where
             at_link : (k : ℕ) → source ≡ k → taken m k (e ∷ before e.host) ≡ sent m k e.host (before k)
             at_link k same = subst (λ n. taken m n (e ∷ before e.host) ≡ sent m n e.host (before n)) same
@@ -213,15 +209,6 @@ module _ (start : Start) (P : Addressed → (ℕ → List HostStep) → Type 0) 
             here (inl same) = at_link i same
             here (inr apart) = taken-other m i e (before e.host) apart
                 ∙ way.others i e.host under low (λ same at. apart (same_source ∙ sym same))
-
-            own : (k : ℕ) → e.host ≡ k → taken m i (after k) ≡ sent m i k (before i)
-            own k same = subst (λ h. taken m i (after h) ≡ sent m i h (before i)) same
-                (ap (taken m i) next.own ∙ here (cases_eq source i))
-
-            by : (e.host ≡ j) ⊎ (e.host ≢ j) → taken m i (after j) ≡ sent m i j (before i)
-            by (inl same) = own j same
-            by (inr apart) = ap (taken m i) (next.others j apart)
-                ∙ way.others i j under below (λ same at. apart (same_host ∙ sym at))
 
   -- how the command goes on from the request, and from each signal
   pub record IsSteered (was : ℕ → List HostStep) (first : HostStep) : Type 0 where

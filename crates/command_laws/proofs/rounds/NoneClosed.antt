@@ -1,8 +1,8 @@
 -- At quiet no wait is closed: each that stood eight rounds was taken out.
 use Rattle.std.proofs.Common.{◌≡◌, ◌≢◌, ◌⊎◌, ℕ, ◌+◌, ◌≤◌, ◌<◌, List, [], ◌∷◌}
-use Rattle.std.proofs.Common.{Bool, true, false, refl, ap, sym, ◌∙◌, subst, arith, inl, inr}
+use Rattle.std.proofs.Common.{Bool, true, false, refl, ap, sym, ◌∙◌, arith, inl, inr}
 use Rattle.std.specs.Prelude.{◌==◌, ◌&&◌}
-use Rattle.std.proofs.lemmas.Bool.{cases_eq, eq-eqb, eqb-true, false≢true}
+use Rattle.std.proofs.lemmas.Bool.{eq-eqb, eqb-true, false≢true}
 use Rattle.std.specs.FinMap as finite
 use Rattle.run_theory.specs.Links.{is_from, sent, taken}
 use Rattle.run_theory.specs.Runs.{log_of}
@@ -32,7 +32,7 @@ use Rattle.host_laws.proofs.rows.Node.{lqh_node}
 use Rattle.host_laws.proofs.rows.Operations.{is_lqh, left_of, right_of, true_and}
 use Rattle.host_laws.proofs.api.Wishes.{sends_of}
 use Rattle.run_theory.specs.Counts.{one_if}
-use Rattle.run_laws.proofs.hosts.AlongSteps.{Goes, along, few_taken, rows_place}
+use Rattle.run_laws.proofs.hosts.AlongSteps.{Goes, along, few_taken, rows_place, goes_cases}
 use Rattle.answer_laws.proofs.Flows.{flow_grows}
 use Rattle.answer_laws.specs.Answered.{AreQuiet}
 use Rattle.command_laws.proofs.rounds.ClosedWaits.{goes_over, is_closed, is_over, is_timer, rows_go_over, some_closed}
@@ -201,15 +201,9 @@ module _ (start : Start) (key : List ℕ) (node : ℕ) (some_node : 1 ≤ node) 
 
   step : (logs now : ℕ → List HostStep) (j : ℕ) (e : HostStep) → Goes start logs now j e → GoesOnClosed logs
       → GoesOnClosed now
-  step logs now j e g k = by (cases_eq j at)
-    where
-      by : (j ≡ at) ⊎ (j ≢ at) → GoesOnClosed now
-      by (inl same) is =
-          let own = subst (λ m. Goes start logs now m e) same g in
-          own_closed logs now e own k (ap closed (sym own.own) ∙ is)
-      by (inr differs) is =
-          let log_is = g.others at (λ z. differs (sym z)) in
-          omega (arith, k (ap closed (sym log_is) ∙ is), ap over_taken log_is, ap over_sent log_is)
+  step logs now j e g k is =
+      goes_cases start logs now j e g at (λ own. own_closed logs now e own k (ap closed (sym own.own) ∙ is))
+      (λ differs log_is. omega (arith, k (ap closed (sym log_is) ∙ is), ap over_taken log_is, ap over_sent log_is))
 
   first_closed : closed [] ≡ false
   unfolding fresh_part

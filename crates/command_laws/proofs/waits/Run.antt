@@ -1,10 +1,11 @@
 -- Once the shell asked what its own transaction waits for, nothing else is under way until that is told.
-use Rattle.std.proofs.Common.{◌≡◌, ◌≢◌, ◌⊎◌, ◌<◌, ◌≤◌, ℕ, zero, suc, Bool, true, false, List, [], ◌∷◌, ◌++◌, length, refl, sym, ap, ◌∙◌, subst, inl, inr, append_assoc, length-append, arith}
-use Rattle.std.proofs.lemmas.Bool.{cases_eq, cases_lt}
+use Rattle.std.proofs.Common.{◌≡◌, ◌⊎◌, ◌<◌, ◌≤◌, ℕ, zero, suc, Bool, true, false, List, [], ◌∷◌, ◌++◌, ◌==◌, if◌then◌else◌, length, refl, sym, ap, ◌∙◌, inl, inr, append_assoc, length-append, arith}
+use Rattle.std.proofs.lemmas.Bool.{cases_lt}
 use Rattle.std.specs.Prelude.{Option, None, Some, not, option_to_list}
+use Rattle.run_theory.proofs.EventCases.{event_cases}
 use Rattle.run_theory.proofs.Cuts.{taken_past}
 use Rattle.run_theory.proofs.Growth.{along_cuts}
-use Rattle.run_theory.proofs.Runs.{log_of-other, log_of-own, log_of-past}
+use Rattle.run_theory.proofs.Runs.{log_of-own, log_of-past}
 use Rattle.run_theory.specs.Cuts.{IsCut}
 use Rattle.run_theory.specs.Links.{sent, taken}
 use Rattle.run_theory.specs.Lists.{Each, IsIn, IsPast}
@@ -145,40 +146,28 @@ module _ (start : Start) (was : ℕ → List HostStep) (before : AreQuiet start 
       (is : is_wait_of tx e.step.taken.body ≡ true) where
     log_more : (h : ℕ)
         → log_of (machine start) (e ∷ es) h ≡ log_of (machine start) (e ∷ all.more) h ++ with_first was first h
-    log_more h = by (cases_eq e.host h)
+    log_more h = by (e.host == h)
       where
-        by : (e.host ≡ h) ⊎ (e.host ≢ h)
-            → log_of (machine start) (e ∷ es) h ≡ log_of (machine start) (e ∷ all.more) h ++ with_first was first h
-        by (inl at) = log_of-own (machine start) e es h at ∙ ap (λ w. e ∷ w) (all.is h)
-            ∙ ap (λ w. w ++ with_first was first h) (sym (log_of-own (machine start) e all.more h at))
-        by (inr other) = log_of-other (machine start) e es h other ∙ all.is h
-            ∙ ap (λ w. w ++ with_first was first h) (sym (log_of-other (machine start) e all.more h other))
+        by : (b : Bool) → (if b then e ∷ log_of (machine start) es h else log_of (machine start) es h)
+            ≡ (if b then e ∷ log_of (machine start) all.more h else log_of (machine start) all.more h)
+            ++ with_first was first h
+        by true = ap (λ w. e ∷ w) (all.is h)
+        by false = all.is h
 
     shell_more : ShellHas (e ∷ all.more)
-    shell_more = by (cases_eq e.host 0)
-      where
-        by : (e.host ≡ 0) ⊎ (e.host ≢ 0) → ShellHas (e ∷ all.more)
-        by (inl at) =
-            subst (ShellHolds start was tx u asked member unanswered inside live held (first ∷ was 0) front t back own
-            own_tx none) (sym (log_of-own (machine start) e all.more 0 at))
-            (shell_next start was tx u asked member unanswered inside live held (first ∷ was 0) front t back own own_tx
-            none e (log_of (machine start) all.more 0) is all.shell)
-        by (inr other) = subst (ShellHolds start was tx u asked member unanswered inside live held (first ∷ was 0) front
-            t back own own_tx none) (sym (log_of-other (machine start) e all.more 0 other)) all.shell
+    shell_more =
+        event_cases (machine start) e all.more 0
+        (ShellHolds start was tx u asked member unanswered inside live held (first ∷ was 0) front t back own own_tx
+        none)
+        (λ at. shell_next start was tx u asked member unanswered inside live held (first ∷ was 0) front t back own
+        own_tx none e (log_of (machine start) all.more 0) is all.shell) (λ off. all.shell)
 
     nodes_more : NodesHold (e ∷ all.more)
-    nodes_more h = by (cases_eq e.host (suc h))
-      where
-        by : (e.host ≡ suc h) ⊎ (e.host ≢ suc h)
-            → NodeHolds start was tx u asked member unanswered inside live held h
-            (log_of (machine start) (e ∷ all.more) (suc h))
-        by (inl at) =
-            subst (NodeHolds start was tx u asked member unanswered inside live held h)
-            (sym (log_of-own (machine start) e all.more (suc h) at))
-            (node_next start was tx u asked member unanswered inside live held h e
-            (log_of (machine start) all.more (suc h)) is (all.nodes h))
-        by (inr other) = subst (NodeHolds start was tx u asked member unanswered inside live held h)
-            (sym (log_of-other (machine start) e all.more (suc h) other)) (all.nodes h)
+    nodes_more h =
+        event_cases (machine start) e all.more (suc h)
+        (NodeHolds start was tx u asked member unanswered inside live held h)
+        (λ at. node_next start was tx u asked member unanswered inside live held h e
+        (log_of (machine start) all.more (suc h)) is (all.nodes h)) (λ off. all.nodes h)
 
     all_more : AllHold (log_of (machine start) (e ∷ es))
     all_more = record {
