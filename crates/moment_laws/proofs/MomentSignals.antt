@@ -1,7 +1,8 @@
 -- Signals at an event: what was sent before has no greater view than the current one, what is sent has that of its
 -- host,
 -- and what is told of each that was sent is told of the one that the event takes.
-use Rattle.std.proofs.Common.{◌≡◌, ◌≤◌, ◌<◌, ◌⊎◌, ◌||◌, ℕ, Bool, true, false, filter, List, [], ◌∷◌, refl, sym, ap, subst, ◌∙◌, inl, inr, arith}
+use Rattle.std.proofs.Common.{◌≡◌, ◌≤◌, ◌<◌, ◌⊎◌, ◌||◌, ℕ, Bool, true, false, filter, List, [], ◌∷◌, refl, sym, ap}
+use Rattle.std.proofs.Common.{subst, ◌∙◌, inl, inr, arith}
 use Rattle.std.proofs.lemmas.Bool.{cases_lt}
 use Rattle.std.specs.Prelude.{not}
 use Rattle.run_theory.proofs.Links.{put_each, sent_by_each}
@@ -134,6 +135,7 @@ module _ (start : Start) where
           put_each n K j (sent_by n e.host (logs_of start es e.host) e) (sent n e.host j (logs_of start es e.host))
           (sent_by_each n K e.host (logs_of start es e.host) e new) (old e.host j))
           (λ i other. old i)
+
 -- nothing that was sent at a moment has a greater header than the current view
 pub sent_below : (start : Start) (all : ℕ → List HostStep) (es : List HostStep) → IsMoment start all es → (i j : ℕ)
     → Each (λ (x : Addressed). x.signal.view.number ≤ current_number start (logs_of start es))

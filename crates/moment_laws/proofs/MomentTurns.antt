@@ -1,6 +1,7 @@
 -- At an event the current view stays and the host of the event stands in it, or stops; or the host enters a greater
 -- one.
-use Rattle.std.proofs.Common.{◌≡◌, ◌≢◌, ◌≤◌, ◌<◌, ◌⊎◌, ℕ, Bool, true, false, List, ◌∷◌, refl, sym, ap, subst, ◌∙◌, inl, inr, arith}
+use Rattle.std.proofs.Common.{◌≡◌, ◌≢◌, ◌≤◌, ◌<◌, ◌⊎◌, ℕ, Bool, true, false, List, ◌∷◌, refl, sym, ap, subst, ◌∙◌, inl}
+use Rattle.std.proofs.Common.{inr, arith}
 use Rattle.std.proofs.lemmas.Bool.{cases_lt}
 use Rattle.std.specs.Prelude.{if◌then◌else◌}
 use Rattle.frag_map.specs.Layout.{first_layout}
@@ -19,7 +20,8 @@ use Rattle.view_laws.proofs.runs.AllSound.{have_orderly}
 use Rattle.view_laws.proofs.runs.Step.{host_there}
 use Rattle.view_laws.proofs.runs.ChosenViews.{of_greater, one_view}
 use Rattle.moment_laws.specs.Moments.{IsMoment, current, logs_of}
-use Rattle.moment_laws.proofs.MomentViews.{IsSome, current_above, current_is, current_number, first_below, moment_installed, moment_less, moment_within, number_in, stands_in_current}
+use Rattle.moment_laws.proofs.MomentViews.{IsSome, current_above, current_is, current_number, first_below}
+use Rattle.moment_laws.proofs.MomentViews.{moment_installed, moment_less, moment_within, number_in, stands_in_current}
 
 module _ (start : Start) (all : ℕ → List HostStep) (e : HostStep) (es : List HostStep)
     (moment : IsMoment start all (e ∷ es))
@@ -64,6 +66,7 @@ module _ (start : Start) (all : ℕ → List HostStep) (e : HostStep) (es : List
         event_moves (machine start) e es
         (λ h old log. (view_after start h old).number ≤ (view_after start h log).number)
         (view_rises start e.host (before e.host) e) (λ h log. omega arith)
+
     -- each host stands below what is above the current view before it and above the view of its host behind it
     others_below : (number h : ℕ) → h < hosts start → current_number start before ≤ number → own_number ≤ number
         → number_in start behind h ≤ number
@@ -71,6 +74,7 @@ module _ (start : Start) (all : ℕ → List HostStep) (e : HostStep) (es : List
         event_cases (machine start) e es h (λ log. (view_after start h log).number ≤ number)
         (λ at. subst (λ h. (view_after start h (e ∷ before h)).number ≤ number) at new)
         (λ other. let up = current_above start before h low in omega (arith, up, old))
+
     current_below : (number : ℕ) → current_number start before ≤ number → own_number ≤ number
         → current_number start behind ≤ number
     current_below number old new = by (current start behind) (current_is start behind)

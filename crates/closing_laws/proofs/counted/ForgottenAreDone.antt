@@ -1,6 +1,7 @@
 -- Whoever was committed and is forgotten is done: its coordinator has heard that its last key is completed, or nothing
 -- was written.
-use Rattle.std.proofs.Common.{◌≡◌, ◌≤◌, ◌⊎◌, ◌==◌, ◌∙◌, ◌++◌, ℕ, true, false, List, [], ◌∷◌, arith, inl, inr, refl, sym, ap, subst}
+use Rattle.std.proofs.Common.{◌≡◌, ◌≤◌, ◌⊎◌, ◌==◌, ◌∙◌, ◌++◌, ℕ, true, false, List, [], ◌∷◌, arith, inl, inr, refl, sym}
+use Rattle.std.proofs.Common.{ap, subst}
 use Rattle.std.proofs.lemmas.Bool.{eqb-true, true≢false}
 use Rattle.std.specs.Prelude.{if◌then◌else◌, None, Option, Some}
 use Rattle.run_theory.specs.Links.{sent}
@@ -152,6 +153,7 @@ module _ (start : Start) (all : ℕ → List HostStep) (e : HostStep) (es : List
         (λ i before now. IsPast (sent (sound_machine start) i j before) (sent (sound_machine start) i j now))
         (sent_more (sound_machine start) e.host j (old e.host) e)
         (λ i log. past_self (sent (sound_machine start) i j log)) i
+
     ended_stays : is_decided start old tx ≡ true → HasEnded start old tx → HasEnded start new tx
     ended_stays decided (nothing none) =
         nothing (λ key written. none key (written_before start all e es moment tx key decided written))
@@ -402,6 +404,7 @@ module _ (start : Start) (all : ℕ → List HostStep) (e : HostStep) (es : List
         (λ at here left. own_ended (forth_made start all (e ∷ es) moment tx forth) at here left rest)
         (λ other was left.
         ended_stays (forth_decided start all es (moment_less start all e es moment) tx was) (rest was left)) forth gone
+
 forgotten_ended : (start : Start) (all : ℕ → List HostStep) (es : List HostStep) → IsMoment start all es → (tx : TxId)
     → is_forth start (logs_of start es) tx ≡ true → own_live start (logs_of start es) tx ≡ None
     → HasEnded start (logs_of start es) tx

@@ -164,6 +164,7 @@ module _ (start : Start) (all : ℕ → List HostStep) (e : HostStep) (es : List
 
     pub marked_grows : (mark : Mark) (h : ℕ) → IsMarked mark (old h) → IsMarked mark (new h)
     marked_grows mark = event_keeps (machine start) e es (λ h. IsMarked mark) (λ was. inr was)
+
     pub closed_grows : (epoch : ℕ) → WasClosed start old epoch → WasClosed start new epoch
     closed_grows epoch is =
         record { host = is.host; below = is.below; marked = marked_grows _ is.host is.marked }

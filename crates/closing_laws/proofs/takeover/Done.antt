@@ -1,5 +1,6 @@
 -- Once a takeover is over, whoever commits and has no coordinator in the current view is done.
-use Rattle.std.proofs.Common.{◌≡◌, ◌≤◌, ◌⊎◌, ◌==◌, ◌+◌, ◌∙◌, nat_lt, ℕ, true, false, List, [], ◌∷◌, arith, inl, inr, length, refl, sym, ap, subst}
+use Rattle.std.proofs.Common.{◌≡◌, ◌≤◌, ◌⊎◌, ◌==◌, ◌+◌, ◌∙◌, nat_lt, ℕ, true, false, List, [], ◌∷◌, arith, inl, inr}
+use Rattle.std.proofs.Common.{length, refl, sym, ap, subst}
 use Rattle.std.proofs.lemmas.Bool.{eqb-true}
 use Rattle.std.specs.Prelude.{Option, None, Some, slice_get}
 use Rattle.run_theory.specs.Links.{sent, sent_by, taken}
@@ -355,6 +356,7 @@ module _ (start : Start) (all : ℕ → List HostStep) (e : HostStep) (es : List
           (tells_here at
           (subst (λ k. (view_after start k (e ∷ old k)).number ≡ current_number start new) (sym at) stands)))
           (λ other stands. was_tells (still_by (number_in start old h) stands (omega arith)))
+
       abbrev Told : Addressed → Type 0
       Told y =
           y.signal.body ≡ Takeover TakeoverEnd → y.signal.view.number ≡ current_number start (logs_of start (e ∷ es))
@@ -389,8 +391,6 @@ module _ (start : Start) (all : ℕ → List HostStep) (e : HostStep) (es : List
               sent_so start e.host (old e.host) e
               (λ (v : View) (to : Place) (body : Body).
               body ≡ Takeover TakeoverEnd → v.number ≡ current_number start new → AreSeenTo start new) (all_seen at)))
-
-
 
     sees_next : SeesToAll start old → SeesToAll start new
     sees_next was = record {

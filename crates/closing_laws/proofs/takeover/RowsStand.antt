@@ -1,6 +1,7 @@
 -- While a takeover is at work in the current view, and once it is over, the rows of each full member stand in that
 -- view.
-use Rattle.std.proofs.Common.{◌≡◌, ◌≤◌, ◌==◌, ◌+◌, ◌∙◌, nat_lt, ℕ, true, false, List, [], ◌∷◌, arith, length, refl, sym, ap, subst}
+use Rattle.std.proofs.Common.{◌≡◌, ◌≤◌, ◌==◌, ◌+◌, ◌∙◌, nat_lt, ℕ, true, false, List, [], ◌∷◌, arith, length, refl, sym}
+use Rattle.std.proofs.Common.{ap, subst}
 use Rattle.std.proofs.lemmas.Bool.{eqb-true, true≢false}
 use Rattle.run_theory.specs.Links.{sent, sent_by, taken}
 use Rattle.run_theory.specs.Lists.{Each, IsIn}
@@ -339,6 +340,7 @@ module _ (start : Start) (all : ℕ → List HostStep) (e : HostStep) (es : List
           let one = still (omega (arith, number)) in
           let same_number : current_number start new ≡ current_number start old = ap (λ (v : View). v.number) one in
           standing_more one (was.work member there (omega (arith, number, same_number)) is))
+
       old_over : (j : ℕ) → Each Told (sent n h j log)
       old_over j =
           each_from Told (sent n h j log)

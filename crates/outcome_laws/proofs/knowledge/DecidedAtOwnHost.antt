@@ -42,7 +42,8 @@ use Rattle.moment_laws.proofs.MomentSignals.{EachSent, epoch_told, sent_next}
 use Rattle.moment_laws.proofs.MomentTurns.{host_low}
 use Rattle.moment_laws.proofs.MomentViews.{moment_less}
 use Rattle.outcome_laws.specs.Counts.{coordinator_member}
-use Rattle.outcome_laws.proofs.knowledge.OwnAsks.{AreOwn, AreSo, IsAskedSo, IsDecidedSo, IsOf, IsOfOwn, OwnParts, others_so}
+use Rattle.outcome_laws.proofs.knowledge.OwnAsks.{AreOwn, AreSo, IsAskedSo, IsDecidedSo, IsOf, IsOfOwn, OwnParts}
+use Rattle.outcome_laws.proofs.knowledge.OwnAsks.{others_so}
 use Rattle.outcome_laws.proofs.knowledge.OwnAsks.{own_kept, so_effects}
 use Rattle.outcome_laws.proofs.knowledge.HostSteps.{step_keeps}
 use Rattle.outcome_laws.proofs.coordinators.BeginsAndAsks.{coordinator_of_fresh}
@@ -144,7 +145,8 @@ module _ (start : Start) where
       comes_none : HasNoTc (started start e.host).parts → AreSo NoneAsk NoneOf step.effects
       comes_none none =
           (step_keeps HasNoTc (AreSo NoneAsk NoneOf) (so_effects NoneAsk NoneOf) x e.host
-          (after start e.host (old e.host)) (λ sound. others_so NoneAsk NoneOf x) (never_tc start e.host (old e.host) none)).1
+          (after start e.host (old e.host)) (λ sound. others_so NoneAsk NoneOf x)
+          (never_tc start e.host (old e.host) none)).1
 
       parts_next : (me : Member) → IsIn me (made start)
           → OwnParts me (after start (tc_of start me) (new (tc_of start me))).parts
@@ -155,6 +157,7 @@ module _ (start : Start) where
           subst (λ k. OwnParts me (after start k (e ∷ old k)).parts) at
           (given_own me e.host (step_after start e.host (old e.host) e) (comes_own me there at).0))
           (λ other. own.parts me there)
+
       -- what the step decides
       decides_here : Each (IsDecidedHere e.host) step.effects.marks
       decides_here = by (tc_host_is start e.host (host_low start all e es moment))
@@ -181,6 +184,7 @@ module _ (start : Start) where
           event_each (machine start) e es (λ h log. Each (AreDecidedHere h) log)
           (subst (Each (IsDecidedHere e.host)) (sym happens.step.fits.marks) decides_here, own.decided e.host)
           (λ h other. own.decided h)
+
       -- and whom it asks
       abbrev SentNow : Addressed → Type 0
       SentNow = IsSentBy (made start) e.host (after start e.host (e ∷ old e.host)).standing.view step.effects.sends

@@ -112,6 +112,7 @@ module _ (start : Start) where
       grows : (P : List HostStep → Type 0) → ((log : List HostStep) → P log → P (e ∷ log)) → (h : ℕ) → P (old h)
           → P (new h)
       grows P more = event_keeps (machine start) e es (λ h. P) (more (old e.host))
+
       decided_more : (tx : TxId) (epoch : ℕ) → IsDecided start old tx epoch → D tx epoch
       decided_more tx epoch =
           grows (IsMarked (Decided tx epoch)) (λ log is. inr is) (tc_of start (coordinator_member tx))
@@ -205,11 +206,13 @@ module _ (start : Start) where
       parts_next =
           event_each (machine start) e es (λ h log. PartsKnow D B (after start h log).parts) step_true.knows
           (λ h other. old_parts h)
+
       right_next : (h : ℕ) → Each (MarksRightly start new) (new h)
       right_next =
           event_each (machine start) e es (λ h log. Each (MarksRightly start new) log)
           (subst (Each (IsRightMark D B)) (sym marks_are) step_true.effects.right, old_right e.host)
           (λ h other. old_right h)
+
       sent_true : (y : Addressed)
           → IsSentBy (made start) e.host (after start e.host (e ∷ old e.host)).standing.view
           (step_after start e.host (old e.host) e).effects.sends y → TellsTruly start new y

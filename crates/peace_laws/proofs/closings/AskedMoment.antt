@@ -47,7 +47,8 @@ use Rattle.sig_core.specs.Step.{Step, to_place}
 use Rattle.world_core.specs.Hosts.{host_for, hosts}
 use Rattle.world_core.specs.Start.{Start}
 use Rattle.world_core.specs.Steps.{HostStep}
-use Rattle.world_views.specs.Machine.{IsOwn, after, has_stopped, machine, replies_at, step_after, step_by, stops_by, told}
+use Rattle.world_views.specs.Machine.{IsOwn, after, has_stopped, machine, replies_at, step_after, step_by, stops_by}
+use Rattle.world_views.specs.Machine.{told}
 use Rattle.world_views.specs.Right.{replies_in}
 use Rattle.world_views.specs.Sending.{is_asked, is_own_work}
 use Rattle.calm_laws.specs.Alike.{IsAtEase, first}
@@ -247,6 +248,7 @@ module _ (hosts_level : HostsAreLevel) (start : Start) (shape : IsShape start.sh
   same_taken a =
       event_leaves (machine start) e es (λ b. taken (machine start) a)
       (taken-asked (machine start) a e (log e.host) asked)
+
   mids : (a b : ℕ) → OnLink start log a b (log a) (now b)
   mids a b = record { under = []; gone = []; sent_is = refl; taken_is = same_taken a b }
 

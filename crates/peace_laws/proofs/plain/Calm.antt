@@ -32,6 +32,7 @@ module _ (start : Start) where
       (sent (machine start) e.host j (logs_of start es e.host))
       (plain_sends_calm start es e (comes start es e run)) (before e.host j))
       (λ i apart. before i)
+
   -- what was sent to host j
   pub sent_calm : (es : List HostStep) → IsRun start es → (i j : ℕ) → j < hosts start → (x : Addressed)
       → IsIn x (sent (machine start) i j (logs_of start es i)) → is_calm j x.signal ≡ true

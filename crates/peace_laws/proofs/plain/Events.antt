@@ -114,6 +114,7 @@ module _ (start : Start) where
       other apart false true before = before
       other apart false false before =
           log_of-other (plain.machine start) (levelled start.epoch e) (plain_events start es) h apart ∙ before
+
   -- and within the hosts that there are
   pub plain_within : (n : ℕ) (es : List HostStep) → IsWithin n (log_of (machine start) es)
       → IsWithin n (log_of (plain.machine start) (plain_events start es))

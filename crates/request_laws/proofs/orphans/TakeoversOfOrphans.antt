@@ -204,6 +204,7 @@ module _ (start : Start) where
       gathered_next member there =
           event_cases (machine start) e es (tc_of start member) (HasOrphans member) (gathered_own member there)
           (λ other. own.gathered member there)
+
       -- and what its host sends
       both_tell : (front rest : List Outgoing) → AreOrphans view front → AreOrphans view rest
           → (sends ≡ front ++ rest) ⊎ (sends ≡ []) → AreOrphans view sends

@@ -1,7 +1,8 @@
 -- What an event adds to what transactions were asked for, and driven, in a view: at the host of their coordinator, what
 -- it
 -- sends in this view, and elsewhere nothing.
-use Rattle.std.proofs.Common.{◌≡◌, ◌⊎◌, ◌==◌, ◌||◌, ◌&&◌, ℕ, Bool, true, false, List, [], ◌∷◌, inl, inr, refl, sym, ap, ◌∙◌, subst}
+use Rattle.std.proofs.Common.{◌≡◌, ◌⊎◌, ◌==◌, ◌||◌, ◌&&◌, ℕ, Bool, true, false, List, [], ◌∷◌, inl, inr, refl, sym, ap}
+use Rattle.std.proofs.Common.{◌∙◌, subst}
 use Rattle.std.proofs.lemmas.Bool.{eq-eqb, true≢false}
 use Rattle.run_theory.specs.Lists.{Each, IsIn}
 use Rattle.run_theory.proofs.Pasts.{each_from, each_in}
@@ -72,6 +73,7 @@ module _ (start : Start) (e : HostStep) (es : List HostStep) where
   -- what is so of a log, and stays so, stays so behind the event
   more : (P : List HostStep → Type 0) → ((log : List HostStep) → P log → P (e ∷ log)) → (h : ℕ) → P (old h) → P (new h)
   more P stays = event_keeps (machine start) e es (λ h. P) (stays (old e.host))
+
   sent_stays : (member : Member) (p : Body → Bool) (number : ℕ) (log : List HostStep)
       → was_sent_in start member p number log ≡ true → was_sent_in start member p number (e ∷ log) ≡ true
   sent_stays member p number log was = or_right _ (was_sent_in start member p number log) was

@@ -8,6 +8,7 @@ use Rattle.tc_views.specs.Views.{install_row}
 use Rattle.request_laws.proofs.routes.Coordinators.{AreAnswered}
 
 module _ (node : ℕ) (layout : Layout) (tx : TxId) where
+
 -- and whatever view is installed
 pub answered_installed : (s : CoordinatorState) (view : View) → AreAnswered s → AreAnswered (install_row s view).state
 unfolding install_row

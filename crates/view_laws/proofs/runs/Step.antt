@@ -1,5 +1,6 @@
 -- All stays sound when a host takes a true signal.
-use Rattle.std.proofs.Common.{◌≡◌, ◌⊎◌, ◌<◌, ◌≤◌, ◌%◌, ℕ, zero, suc, Bool, true, false, List, [], ◌∷◌, refl, sym, subst, ◌∙◌, inl, inr}
+use Rattle.std.proofs.Common.{◌≡◌, ◌⊎◌, ◌<◌, ◌≤◌, ◌%◌, ℕ, zero, suc, Bool, true, false, List, [], ◌∷◌, refl, sym, subst}
+use Rattle.std.proofs.Common.{◌∙◌, inl, inr}
 use Rattle.std.proofs.lemmas.Bool.{cases_lt, true≢false}
 use Rattle.std.specs.Prelude.{None}
 use Rattle.frag_map.specs.Layout.{Layout, first_layout, first_view, members}
@@ -15,7 +16,8 @@ use Rattle.sig_core.specs.declared.place.Part.TheVariants.{Ldm, Main, Tc}
 use Rattle.sig_core.specs.declared.signal.Body.{Body}
 use Rattle.sig_core.specs.declared.signal.Body.TheVariants.{Joining, Membership}
 use Rattle.sig_core.specs.declared.signal.joining.JoiningSignal.TheVariants.{StartReq}
-use Rattle.sig_core.specs.declared.signal.membership.MembershipSignal.TheVariants.{ArbitConf, ArbitReq, PrepFailConf, PrepFailReq}
+use Rattle.sig_core.specs.declared.signal.membership.MembershipSignal.TheVariants.{ArbitConf, ArbitReq, PrepFailConf}
+use Rattle.sig_core.specs.declared.signal.membership.MembershipSignal.TheVariants.{PrepFailReq}
 use Rattle.sig_core.specs.declared.signal.Signal.{Signal}
 use Rattle.world_core.specs.Hosts.{hosts, member_at, part_by}
 use Rattle.world_core.specs.Start.{Start, made}
@@ -168,6 +170,7 @@ module _ (start : Start) where
             (events_in start old me) (events_at is_membership k (after start k (old k)) x)
             (membership_of start me (old k)).known.layout.view past before (member_steps start me (old k) x there))
             (λ apart past. before) (past_self (events_in start new me))
+
         asked_now : Each (λ x. Asks start new x x.body) (taken_in (events_of is_arbiter start 0 (new 0)))
         asked_now =
             event_cases (machine start) e es 0
